@@ -1,0 +1,12 @@
+use Rattle.std.proofs.Common.{append_assoc}
+use Rattle.mscp_packet.proofs.writing.put_body.Goals as goal
+
+pub returns-in-Controller : goal.returns-in-Controller
+returns-in-Controller c =
+    rw (
+      c.put_eight.ensures.items,
+      c.put-in-Controller-2.ensures.items,
+      c.put_two-in-Controller.ensures.items,
+      c.put-in-Controller.ensures.items,
+      c.in-Controller.is,
+    ) (simp append_assoc)

@@ -1,0 +1,4 @@
+pub mod Number
+pub mod Opcodes
+pub mod Commands
+pub mod Ends

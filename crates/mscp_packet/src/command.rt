@@ -1,0 +1,87 @@
+// Commands as values.
+
+ghost use Rattle.std.specs.Prelude.{◌≡◌};
+
+/// The five transfers.
+#[derive(Clone, Copy, Debug, PartialEq, Eq)]
+pub enum MoveKind {
+    /// ACCESS
+    Access,
+    /// ERASE
+    Erase,
+    /// COMPARE HOST DATA
+    Compare,
+    /// READ
+    Read,
+    /// WRITE
+    Write,
+}
+
+/// What a command asks for (manual, "Disk MSCP Commands").
+#[derive(Clone, Copy, Debug, PartialEq, Eq)]
+pub enum Order {
+    /// ABORT of the command with this reference number.
+    Abort(u32),
+    /// GET COMMAND STATUS of the command with this reference number.
+    Status(u32),
+    /// GET UNIT STATUS
+    UnitStatus,
+    /// SET CONTROLLER CHARACTERISTICS with this MSCP version.
+    SetController(u16),
+    /// AVAILABLE
+    Available,
+    /// ONLINE
+    Online,
+    /// SET UNIT CHARACTERISTICS
+    SetUnit,
+    /// A transfer of so many bytes from this logical block on.
+    Move(MoveKind, u32, u32),
+    /// A message that is no valid command: its opcode byte, and the status that its end has.
+    Invalid { opcode: u8, status: u16 },
+}
+
+/// A command: its reference number, the unit that it is for, and what it asks for.
+#[derive(Clone, Copy, Debug, PartialEq, Eq)]
+pub struct Command {
+    pub reference: u32,
+    pub unit: u16,
+    pub order: Order,
+}
+
+impl Command {
+    ghost use Rattle.mscp_packet.specs.Commands.{opcode_byte};
+
+    /// The opcode byte that the command is written with.
+    pub fn opcode(&self) -> u8
+        ensures { result ≡ opcode_byte self.now.order }
+    {
+        match self.order {
+            Order::Abort(_) => 1,
+            Order::Status(_) => 2,
+            Order::UnitStatus => 3,
+            Order::SetController(_) => 4,
+            Order::Available => 8,
+            Order::Online => 9,
+            Order::SetUnit => 10,
+            Order::Move(kind, _, _) => kind.opcode(),
+            Order::Invalid { opcode, .. } => opcode,
+        }
+    }
+}
+
+impl MoveKind {
+    ghost use Rattle.mscp_packet.specs.Commands.{move_byte};
+
+    /// The opcode byte of the transfer.
+    pub fn opcode(self) -> u8
+        ensures { result ≡ move_byte self }
+    {
+        match self {
+            MoveKind::Access => 16,
+            MoveKind::Erase => 18,
+            MoveKind::Compare => 32,
+            MoveKind::Read => 33,
+            MoveKind::Write => 34,
+        }
+    }
+}

@@ -1,0 +1,17 @@
+//! Command and end messages of the Mass Storage Control Protocol, as values and as bytes.
+#![tactic(auto)]
+
+mod class;
+mod command;
+mod end;
+mod fields;
+mod reading;
+#[cfg(test)]
+mod tests;
+mod writing;
+
+pub use crate::class::{Class, class_of};
+pub use crate::command::{Command, MoveKind, Order};
+pub use crate::end::{End, EndBody};
+pub use crate::reading::{PacketFault, read_command};
+pub use crate::writing::{write_command, write_end};

@@ -1,0 +1,120 @@
+// Commands and ends to bytes. What is written and not named is zero.
+
+ghost use Rattle.std.specs.Prelude.{◌≡◌, ◌+◌, ◌≤◌, ◌++◌};
+ghost use Rattle.arrayvec.specs.ArrayVec.{array_vec_len};
+ghost use Rattle.mscp_packet.specs.Commands.{command_bytes, parameter_bytes};
+ghost use Rattle.mscp_packet.specs.Ends.{body_bytes, end_bytes, unit_bytes};
+
+use crate::command::{Command, Order};
+use crate::end::{End, EndBody};
+use crate::fields::{put, put_eight, put_four, put_two};
+use arrayvec::ArrayVec;
+
+/// Appends the parameters of an order.
+fn put_parameters(out: &mut ArrayVec<u8, 48>, order: &Order)
+    requires { array_vec_len out.old ≤ 12 }
+    ensures { out.new.items ≡ out.old.items ++ parameter_bytes order.now }
+{
+    match order {
+        Order::Abort(other) | Order::Status(other) => put_four(out, *other),
+        Order::SetController(version) => {
+            put_two(out, *version);
+            put(out, &[0; 4]);
+        }
+        Order::Move(_, count, block) => {
+            put_four(out, *count);
+            put(out, &[0; 12]);
+            put_four(out, *block);
+        }
+        Order::UnitStatus
+        | Order::Available
+        | Order::Online
+        | Order::SetUnit
+        | Order::Invalid { .. } => {}
+    }
+}
+
+/// The message of a command, of 12 to 32 bytes. An `Order::Invalid` writes 12 bytes with its opcode.
+pub fn write_command(command: &Command) -> ArrayVec<u8, 48>
+    ensures { result.items ≡ command_bytes command.now }
+{
+    let mut out = ArrayVec::new();
+    put_four(&mut out, command.reference);
+    put_two(&mut out, command.unit);
+    put(&mut out, &[0, 0, command.opcode(), 0, 0, 0]);
+    put_parameters(&mut out, &command.order);
+    out
+}
+
+/// Appends the fields of a body.
+fn put_body(out: &mut ArrayVec<u8, 48>, body: &EndBody)
+    requires { array_vec_len out.old ≤ 12 }
+    ensures { out.new.items ≡ out.old.items ++ body_bytes body.now }
+{
+    match body {
+        EndBody::Bare => {}
+        EndBody::Abort(other) => put_four(out, *other),
+        EndBody::Status { other, figure } => {
+            put_four(out, *other);
+            put_four(out, *figure);
+        }
+        EndBody::UnitStatus {
+            id,
+            media,
+            track,
+            group,
+            cylinder,
+        } => {
+            put_unit(out, *id, *media);
+            put_two(out, *track);
+            put_two(out, *group);
+            put_two(out, *cylinder);
+            put(out, &[0; 6]);
+        }
+        EndBody::Controller { timeout, id } => {
+            put(out, &[0; 4]);
+            put_two(out, *timeout);
+            put(out, &[0; 2]);
+            put_eight(out, *id);
+        }
+        EndBody::Online {
+            id,
+            media,
+            size,
+            serial,
+        } => {
+            put_unit(out, *id, *media);
+            put_four(out, *size);
+            put_four(out, *serial);
+        }
+        EndBody::Moved(count) => {
+            put_four(out, *count);
+            put(out, &[0; 16]);
+        }
+    }
+}
+
+/// Appends the 24 bytes that tell which unit and medium it is.
+fn put_unit(out: &mut ArrayVec<u8, 48>, id: u64, media: u32)
+    requires { array_vec_len out.old ≤ 12 }
+    ensures items { out.new.items ≡ out.old.items ++ unit_bytes id media }
+    ensures len { array_vec_len out.new ≡ array_vec_len out.old + 24 }
+{
+    put(out, &[0; 8]);
+    put_eight(out, id);
+    put_four(out, media);
+    put(out, &[0; 4]);
+}
+
+/// The message of an end, of 12 to 48 bytes. The body is written as it is, whatever the endcode.
+pub fn write_end(end: &End) -> ArrayVec<u8, 48>
+    ensures { result.items ≡ end_bytes end.now }
+{
+    let mut out = ArrayVec::new();
+    put_four(&mut out, end.reference);
+    put_two(&mut out, end.unit);
+    put(&mut out, &[0, 0, end.code, 0]);
+    put_two(&mut out, end.status);
+    put_body(&mut out, &end.body);
+    out
+}

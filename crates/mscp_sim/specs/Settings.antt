@@ -1,0 +1,49 @@
+-- What is known of a controller and of its unit.
+use Rattle.std.specs.Prelude.{ℕ, ◌+◌, ◌-◌, ◌*◌, ◌^◌, ◌<◌, ◌≤◌, ◌||◌, nat_eq, nat_lt, nat_le, if◌then◌else◌, Option, Some, None, Result, Ok, Err}
+use Rattle.mscp_sim.specs.declared.config.Unit.{Unit}
+use Rattle.mscp_sim.specs.declared.config.ConfigFault.{ConfigFault}
+use Rattle.mscp_sim.specs.declared.config.ConfigFault.TheVariants.{Credits, Longest, Timeout, Figure}
+
+-- the limits of a controller, and its unit (profile)
+pub record Settings : Type 0 where
+  pub credits : ℕ
+  pub passing : ℕ
+  pub longest : ℕ
+  pub timeout : ℕ
+  pub id : ℕ
+  pub unit : Unit
+
+-- no figure is greater: the longest transfer for each other command that may wait, and for each time
+-- that one may be passed (profile)
+abbrev pub bound : Settings → ℕ
+bound c = (c.credits - 1 + c.passing) * c.longest
+
+-- what the limits of each controller meet (profile)
+pub record IsValid (c : Settings) : Type 0 where
+  pub some_credits : 2 ≤ c.credits
+  pub few_credits : c.credits ≤ 64
+  pub some_blocks : 1 ≤ c.longest
+  pub few_blocks : c.longest ≤ 8388608
+  pub some_seconds : 1 ≤ c.timeout
+  pub few_seconds : c.timeout ≤ 255
+  pub small_bound : bound c < 2 ^ 32
+
+-- why limits are refused, the first that holds (profile)
+abbrev pub limit_fault : Settings → Option ConfigFault
+limit_fault c =
+    if nat_lt c.credits 2 || nat_lt 64 c.credits then Some Credits else (
+    if nat_lt c.longest 1 || nat_lt 8388608 c.longest then Some Longest else (
+    if nat_lt c.timeout 1 || nat_lt 255 c.timeout then Some Timeout else (
+    if nat_le (2 ^ 32) (bound c) then Some Figure else None)))
+
+-- what comes of limits (profile)
+abbrev pub configured_unless : Settings → Option ConfigFault → Result Settings ConfigFault
+configured_unless c (Some fault) = Err fault
+configured_unless c None = Ok c
+
+abbrev pub configured : Settings → Result Settings ConfigFault
+configured c = configured_unless c (limit_fault c)
+
+-- the unit of this number, if it is configured (manual)
+abbrev pub unit_found : Settings → ℕ → Option Unit
+unit_found c number = if nat_eq c.unit.number number then Some c.unit else None

@@ -1,0 +1,72 @@
+// The outcome of one block, and what a step reports.
+
+ghost use Rattle.std.specs.Prelude.{◌≡◌, ◌↔◌, ◌≤◌, ◌%◌, IsSome, IfSome};
+
+use mscp_packet::End;
+use std::marker::Model;
+
+/// The status of a bad block: its code, the low five bits, is at least 5 (manual, "Status and Event
+/// Codes"; the lower codes are those of commands that were never served).
+#[derive(Clone, Copy, Debug, PartialEq, Eq)]
+pub struct FaultStatus {
+    status: u16,
+}
+
+// A clause sees the status as a number.
+impl Model for FaultStatus {
+    ghost use Rattle.std.specs.Prelude.{ℕ, ◌%◌, ◌≤◌};
+
+    ghost Value = { ℕ };
+
+    ghost view = { λ s. s.status };
+
+    ghost invariant = { λ s. 5 ≤ s.status % 32 };
+
+    ghost inverse = { λ n. record { status = n } };
+}
+
+impl FaultStatus {
+    /// The status of a bad block, if its code is at least 5.
+    pub fn new(status: u16) -> Option<FaultStatus>
+        ensures some { IsSome result ↔ (5 ≤ status % 32) }
+        ensures value { IfSome result (λ s. s ≡ status) }
+    {
+        if status % 32 < 5 {
+            return None;
+        }
+        Some(FaultStatus { status })
+    }
+
+    /// The status as a number.
+    pub fn get(self) -> u16
+        ensures { result ≡ self }
+    {
+        self.status
+    }
+}
+
+/// How one block was served.
+#[derive(Clone, Copy, Debug, PartialEq, Eq)]
+pub enum Block {
+    Good,
+    /// The command that it was served for ends with this status.
+    Bad(FaultStatus),
+}
+
+/// What a step did.
+#[derive(Clone, Copy, Debug, PartialEq, Eq)]
+pub enum Report {
+    /// Nothing waits.
+    Idle,
+    /// The command with this reference number and unit was served one block. `lbn` is the block that was
+    /// touched, `started` says that it was the command's first step, `seek` is how many cylinders the head
+    /// went, and `ended` is the end that it got.
+    Served {
+        reference: u32,
+        unit: u16,
+        lbn: Option<u32>,
+        started: bool,
+        seek: u32,
+        ended: Option<End>,
+    },
+}

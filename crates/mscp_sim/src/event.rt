@@ -1,0 +1,55 @@
+// What comes to a controller, and what it answers.
+
+use crate::block::{Block, Report};
+use arrayvec::ArrayVec;
+
+/// Why a message is refused: the first that holds, in this order. Nothing is changed.
+#[derive(Clone, Copy, Debug, PartialEq, Eq)]
+pub enum SendFault {
+    /// Under 12 bytes.
+    Short,
+    /// Over 64 bytes.
+    Long,
+    /// The balance is 0.
+    NoCredit,
+    /// The balance is 1, and the class of the opcode byte isn't Immediate.
+    LastCredit,
+    /// A command with this reference number waits, or its end wasn't taken.
+    Doubled,
+}
+
+/// What became of a message: each names its reference number.
+#[derive(Clone, Copy, Debug, PartialEq, Eq)]
+pub enum Sent {
+    /// The command waits for steps.
+    Queued(u32),
+    /// Its end was made at once, after that of the command that it aborted, if it did.
+    Answered {
+        reference: u32,
+        aborted: Option<u32>,
+    },
+}
+
+/// What comes to a controller.
+#[derive(Debug, PartialEq, Drop)]
+pub enum Event {
+    /// A message of the host.
+    Send(ArrayVec<u8, 64>),
+    /// The host takes the oldest end.
+    Take,
+    /// The drive serves one block, with this outcome.
+    Step(Block),
+    /// The figures of all waiting commands are asked for.
+    Look,
+}
+
+/// What a controller answers to an event.
+#[derive(Debug, PartialEq, Drop)]
+pub enum Entry {
+    Sent(Result<Sent, SendFault>),
+    /// The oldest end that wasn't taken before, as bytes.
+    Taken(Option<ArrayVec<u8, 48>>),
+    Stepped(Report),
+    /// Reference number and figure of each waiting command, oldest first.
+    Looked(ArrayVec<(u32, u32), 64>),
+}
