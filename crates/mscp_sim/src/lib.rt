@@ -1,7 +1,11 @@
 //! A disk controller over scripts: its command queue, and what it does with a script's events.
 #![tactic(auto)]
 
+mod arrival;
 pub mod block;
 pub mod config;
+pub mod controller;
 pub mod event;
+mod figure;
+mod outcome;
 pub mod record;
