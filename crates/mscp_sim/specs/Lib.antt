@@ -1,3 +1,5 @@
 pub mod Settings
 pub mod Arrival
 pub mod Outcomes
+pub mod Whole
+pub mod Text

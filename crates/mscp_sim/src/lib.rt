@@ -4,4 +4,9 @@
 pub mod block;
 pub mod config;
 pub mod event;
+pub mod memory;
+pub mod reading;
 pub mod record;
+pub mod report;
+pub mod stream;
+mod totals;
