@@ -1,3 +1,5 @@
 pub mod Sums
 pub mod Judging
 pub mod Keeping
+pub mod Fronts
+pub mod Padded

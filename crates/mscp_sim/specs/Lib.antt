@@ -3,3 +3,5 @@ pub mod Arrival
 pub mod Outcomes
 pub mod Holdings
 pub mod Kept
+pub mod Whole
+pub mod Text
