@@ -9,7 +9,7 @@ use Rattle.mscp_sim.specs.declared.event.Entry.{Entry}
 use Rattle.mscp_sim.specs.declared.event.Entry.TheVariants as entries
 use Rattle.mscp_sim.specs.declared.event.Sent.TheVariants as sents
 use Rattle.mscp_sim.specs.Arrival.{order_weight}
-use Rattle.mscp_sim.specs.History.{Trace, moment, positions, sent_bytes, is_good, queues, Service, service_in}
+use Rattle.mscp_sim.specs.History.{Trace, moment, positions, sent_bytes, is_step, is_good, queues, Service, service_in}
 
 -- ---- what was asked for
 
@@ -108,3 +108,7 @@ in_service t x = nat_lt 0 (done t x)
 -- nothing is in service (profile)
 abbrev pub is_idle : Trace → Bool
 is_idle t = list_all (λ x. nat_eq (done t x) 0) (waiting t)
+
+-- how many steps there were after x (profile)
+abbrev pub steps_after : Trace → ℕ → ℕ
+steps_after t x = count_by (λ m. is_step m.0) (drop (x + 1) t)

@@ -3,12 +3,12 @@
 -- passed more than P times; every waiting command's status figure falls at each step, never rises between
 -- steps, and each queued command ends within (C - 1 + P) * L steps. C is the number of credits, P the
 -- passing limit and L the longest transfer.
-use Rattle.std.specs.Prelude.{◌≡◌, ◌↔◌, ℕ, ◌+◌, ◌<◌, ◌≤◌, true, List, length, take, drop, count_by, zip, Contains}
+use Rattle.std.specs.Prelude.{◌≡◌, ◌↔◌, ℕ, ◌+◌, ◌<◌, ◌≤◌, true, List, length, take, zip, Contains}
 use Rattle.mscp_sim.specs.declared.event.Event.{Event}
 use Rattle.mscp_sim.specs.declared.event.Entry.{Entry}
 use Rattle.mscp_sim.specs.Settings.{Settings, IsValid, bound}
 use Rattle.mscp_sim.specs.History.{Trace, moment, is_step, Service, service_in, WhenStarted}
-use Rattle.mscp_sim.specs.Commands.{reference, waiting}
+use Rattle.mscp_sim.specs.Commands.{reference, waiting, steps_after}
 use Rattle.mscp_sim.specs.Passing.{is_free, passes}
 use Rattle.mscp_sim.specs.Figures.{figure}
 use Rattle.mscp_sim.specs.Ends.{untaken}
@@ -17,10 +17,6 @@ use Rattle.mscp_sim.specs.Legal.{IsLegal}
 -- the waiting command of the reference that is served stays behind no other (manual)
 abbrev pub IsFreeStart : Trace → Service → Type 0
 IsFreeStart t s = (y : ℕ) → Contains (waiting t) y → reference t y ≡ s.reference → is_free t y ≡ true
-
--- how many steps there were after x (profile)
-abbrev pub steps_after : Trace → ℕ → ℕ
-steps_after t x = count_by (λ m. is_step m.0) (drop (x + 1) t)
 
 -- what each legal trace promises, of every part of it from its beginning (profile)
 pub record Promise (c : Settings) (t : Trace) : Type 0 where
