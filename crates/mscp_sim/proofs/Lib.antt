@@ -5,3 +5,7 @@ pub mod Arrivals
 pub mod Apart
 pub mod Among
 pub mod Served
+pub mod Starts
+pub mod Steady
+pub mod Room
+pub mod Passed

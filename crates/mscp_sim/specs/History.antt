@@ -1,5 +1,5 @@
 -- A run as the list of its moments, and what is collected of it by positions.
-use Rattle.std.specs.Prelude.{◌≡◌, ℕ, Bool, true, false, List, [], ◌∷◌, length, take, flat_map, slice_index_or, Option, Some, None, Ok}
+use Rattle.std.specs.Prelude.{◌≡◌, ℕ, Bool, true, false, List, [], length, take, flat_map, slice_index_or, Option, Some, None, Ok}
 use Rattle.std.specs.List.{range_with_len}
 use Rattle.mscp_packet.specs.declared.end.End.{End}
 use Rattle.mscp_sim.specs.declared.block.Block.TheVariants.{Good}
