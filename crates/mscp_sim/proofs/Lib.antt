@@ -9,3 +9,7 @@ pub mod Starts
 pub mod Steady
 pub mod Room
 pub mod Passed
+pub mod Queued
+pub mod Figured
+pub mod Falls
+pub mod Stays

@@ -35,7 +35,7 @@ pub record Room (c : Settings) (t : Trace) : Type 0 where
 
 -- ---- lengths
 
-shorter : (p : ℕ → Bool) (xs : List ℕ) → length (filter p xs) ≤ length xs
+pub shorter : (p : ℕ → Bool) (xs : List ℕ) → length (filter p xs) ≤ length xs
 shorter p [] = omega arith
 shorter p (x ∷ xs) =
     let h = shorter p xs in
