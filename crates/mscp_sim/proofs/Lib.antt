@@ -13,3 +13,9 @@ pub mod Queued
 pub mod Figured
 pub mod Falls
 pub mod Stays
+pub mod Fitted
+pub mod Limited
+pub mod Falling
+pub mod Within
+pub mod Known
+pub mod Progress

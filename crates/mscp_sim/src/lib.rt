@@ -4,4 +4,5 @@
 pub mod block;
 pub mod config;
 pub mod event;
+pub mod law;
 pub mod record;
