@@ -188,6 +188,6 @@ after h (events.Step k) = after_step h k
 after h events.Look = h
 
 -- what is answered to events, one after the other
-abbrev pub answers : Holdings → List Event → List Entry
-answers h [] = []
-answers h (event ∷ events) = entry_of h event ∷ answers (after h event) events
+abbrev pub replies : Holdings → List Event → List Entry
+replies h [] = []
+replies h (event ∷ events) = entry_of h event ∷ replies (after h event) events

@@ -5,3 +5,12 @@ pub mod Holdings
 pub mod Kept
 pub mod Whole
 pub mod Text
+pub mod History
+pub mod Commands
+pub mod Passing
+pub mod Figures
+pub mod Units
+pub mod Ends
+pub mod Credits
+pub mod Legal
+pub mod Headline

@@ -70,3 +70,9 @@ abbrev pub outcome_of : Bool → Command → ℕ → Block → End
 outcome_of online command good k =
     end_with command (outcome_status online command.order k)
     (moved_body command.order (good + cond (touches online command.order && is_good_block k) 1 0))
+
+-- ---- aborted
+
+-- the end of a waiting command that is aborted when so many of its blocks were good (manual)
+abbrev pub aborted_end : Command → ℕ → End
+aborted_end command good = end_with command 0x0002 (moved_body command.order good)

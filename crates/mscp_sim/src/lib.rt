@@ -7,6 +7,7 @@ pub mod config;
 pub mod controller;
 pub mod event;
 mod figure;
+pub mod law;
 pub mod memory;
 mod outcome;
 pub mod reading;

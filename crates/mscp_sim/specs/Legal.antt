@@ -1,0 +1,69 @@
+-- What may be answered after a run, and which runs are legal. No picker is named: any command that may
+-- start may be the one that starts.
+use Rattle.std.specs.Prelude.{◌≡◌, ℕ, ◌<◌, true, ◌||◌, nat_eq, if◌then◌else◌, [], length, map, take, slice_get, Option, Some, None, option_map}
+use Rattle.mscp_packet.specs.declared.end.End.{End}
+use Rattle.mscp_packet.specs.Ends.{end_bytes}
+use Rattle.mscp_sim.specs.declared.block.Block.{Block}
+use Rattle.mscp_sim.specs.declared.block.Report.TheVariants as reports
+use Rattle.mscp_sim.specs.declared.event.Event.{Event}
+use Rattle.mscp_sim.specs.declared.event.Event.TheVariants as events
+use Rattle.mscp_sim.specs.declared.event.Entry.{Entry}
+use Rattle.mscp_sim.specs.declared.event.Entry.TheVariants as entries
+use Rattle.mscp_sim.specs.Settings.{Settings}
+use Rattle.mscp_sim.specs.Outcomes.{block_touched, goes_on}
+use Rattle.mscp_sim.specs.History.{Trace, moment, Service, service_in}
+use Rattle.mscp_sim.specs.Commands.{reference, unit, order, is_waiting, waiting, done, left, in_service}
+use Rattle.mscp_sim.specs.Passing.{is_startable}
+use Rattle.mscp_sim.specs.Figures.{figure}
+use Rattle.mscp_sim.specs.Units.{is_online}
+use Rattle.mscp_sim.specs.Ends.{outcome, untaken}
+use Rattle.mscp_sim.specs.Credits.{arrival}
+
+-- ---- one step
+
+-- the block that a step of y touches (manual)
+unfoldable pub block_of : Trace → ℕ → Option ℕ
+block_of t y = block_touched (is_online t (unit t y)) (order t y) (done t y)
+
+-- the end that a step gives to y: none if it goes on (manual)
+abbrev pub end_of : Trace → Block → ℕ → Option End
+end_of t k y = if goes_on (is_online t (unit t y)) (order t y) k (left t y) then None else Some (outcome t k y)
+
+-- the step serves y (manual, the limits of starts are the profile's)
+pub record IsServed (c : Settings) (t : Trace) (k : Block) (s : Service) (y : ℕ) : Type 0 where
+  -- y waits (manual)
+  pub waits : is_waiting t y ≡ true
+  -- it is in service, or it may start (manual)
+  pub next : (in_service t y || is_startable c t y) ≡ true
+  -- the block that is touched is its next one (manual)
+  pub lbn : s.lbn ≡ block_of t y
+  -- a start is its first step (profile)
+  pub started : s.started ≡ nat_eq (done t y) 0
+  -- the head goes nowhere, until heads are kept (profile)
+  pub seek : s.seek ≡ 0
+  -- it ends unless it goes on (manual)
+  pub ended : s.ended ≡ end_of t k y
+  -- it is named by its reference number (manual)
+  pub reference : s.reference ≡ reference t y
+  -- and by its unit (manual)
+  pub unit : s.unit ≡ unit t y
+
+-- the step serves some command (profile)
+abbrev pub IsStep : Settings → Trace → Block → Option Service → Type 0
+IsStep c t k None = ⊥
+IsStep c t k (Some s) = (y : ℕ) × IsServed c t k s y
+
+-- ---- answers
+
+-- after t, this may be answered to the event (manual)
+abbrev pub IsRight : Settings → Trace → Event → Entry → Type 0
+IsRight c t (events.Send b) (entries.Sent sent) = sent ≡ arrival c t b.items
+IsRight c t (events.Step k) (entries.Stepped reports.Idle) = waiting t ≡ []
+IsRight c t (events.Step k) (entries.Stepped report) = IsStep c t k (service_in (entries.Stepped report))
+IsRight c t events.Take (entries.Taken end) = end ≡ option_map (λ e. record { items = end_bytes e }) (slice_get (untaken c t) 0)
+IsRight c t events.Look (entries.Looked list) = list.items ≡ map (λ x. (reference t x, figure c t x)) (waiting t)
+IsRight c t event entry = ⊥
+
+-- each answer is right after what came before it (manual)
+abbrev pub IsLegal : Settings → Trace → Type 0
+IsLegal c t = (i : ℕ) → i < length t → IsRight c (take i t) (moment t i).0 (moment t i).1
