@@ -1,6 +1,10 @@
 pub mod Sums
 pub mod Judging
 pub mod Keeping
+pub mod Placed
+pub mod Held
+pub mod Quiet
+pub mod Stepped
 pub mod Fronts
 pub mod Padded
 pub mod Lists
