@@ -4,9 +4,10 @@ ghost use Rattle.std.specs.Prelude.{◌≡◌};
 ghost use Rattle.mscp_packet.specs.Ends.{kind_of_code};
 
 /// What an end tells beside its status: one shape for each kind of end message.
-#[derive(Clone, Copy, Debug, PartialEq, Eq)]
+#[derive(Clone, Copy, Debug, Default, PartialEq, Eq)]
 pub enum EndBody {
     /// Nothing: an unknown opcode, AVAILABLE.
+    #[default]
     Bare,
     /// ABORT: the outstanding reference number.
     Abort(u32),
@@ -44,7 +45,7 @@ pub enum EndBody {
 
 /// An end: the reference number and the unit of its command, its endcode, status and body (manual,
 /// "End Messages").
-#[derive(Clone, Copy, Debug, PartialEq, Eq)]
+#[derive(Clone, Copy, Debug, Default, PartialEq, Eq)]
 pub struct End {
     pub reference: u32,
     pub unit: u16,

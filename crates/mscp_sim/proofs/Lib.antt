@@ -1,3 +1,8 @@
+pub mod Sums
+pub mod Judging
+pub mod Keeping
+pub mod Fronts
+pub mod Padded
 pub mod Lists
 pub mod Grows
 pub mod Waits

@@ -24,15 +24,21 @@ is_immediate_class class = false
 abbrev pub holds : List ℕ → ℕ → Bool
 holds references reference = list_any (λ x. nat_eq x reference) references
 
--- why a message is refused, the first that holds, where so many credits are free and commands with these
--- reference numbers wait or have ends that weren't taken (manual, their order is the profile's)
+-- why a command with this opcode byte and reference number is refused, the first that holds, where so many
+-- credits are free and commands with these reference numbers wait or have ends that weren't taken (manual,
+-- their order is the profile's)
+abbrev pub credit_fault : ℕ → List ℕ → ℕ → ℕ → Option SendFault
+credit_fault balance outstanding opcode reference =
+    if balance == 0 then Some NoCredit else (
+    if (balance == 1) && not (is_immediate_class (class opcode)) then Some LastCredit else (
+    if holds outstanding reference then Some Doubled else None))
+
+-- why a message is refused, the first that holds (manual, their order is the profile's)
 abbrev pub refusal : ℕ → List ℕ → List ℕ → Option SendFault
 refusal balance outstanding b =
     if nat_lt (length b) 12 then Some Short else (
-    if nat_lt 64 (length b) then Some Long else (
-    if balance == 0 then Some NoCredit else (
-    if (balance == 1) && not (is_immediate_class (class (slice_index b 8))) then Some LastCredit else (
-    if holds outstanding (num b 0 4) then Some Doubled else None))))
+    if nat_lt 64 (length b) then Some Long else
+    credit_fault balance outstanding (slice_index b 8) (num b 0 4))
 
 -- ---- orders
 

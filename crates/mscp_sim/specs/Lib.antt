@@ -1,6 +1,10 @@
 pub mod Settings
 pub mod Arrival
 pub mod Outcomes
+pub mod Holdings
+pub mod Kept
+pub mod Whole
+pub mod Text
 pub mod History
 pub mod Commands
 pub mod Passing

@@ -1,0 +1,193 @@
+-- What a controller holds, and how each event changes it. The waiting commands are a list of records in
+-- order of arrival, and the oldest is served.
+use Rattle.std.specs.Prelude.{ℕ, ◌+◌, ◌-◌, ◌*◌, Bool, true, nat_eq, nat_lt, if◌then◌else◌, List, [], ◌∷◌, ◌++◌, length, map, take, drop, filter, sum_by, slice_get, slice_index_or, Option, Some, None, option_map, option_to_list, Result, Ok, Err}
+use Rattle.std.specs.List.{position, range_with_len}
+use Rattle.mscp_packet.specs.declared.command.Order.{Order}
+use Rattle.mscp_packet.specs.declared.command.Order.TheVariants as orders
+use Rattle.mscp_packet.specs.declared.command.Command.{Command}
+use Rattle.mscp_packet.specs.declared.end.End.{End}
+use Rattle.mscp_packet.specs.Commands.{command_of}
+use Rattle.mscp_packet.specs.Ends.{end_bytes}
+use Rattle.mscp_sim.specs.declared.block.Block.{Block}
+use Rattle.mscp_sim.specs.declared.block.Report.{Report}
+use Rattle.mscp_sim.specs.declared.block.Report.TheVariants.{Idle, Served}
+use Rattle.mscp_sim.specs.declared.event.SendFault.{SendFault}
+use Rattle.mscp_sim.specs.declared.event.Sent.{Sent}
+use Rattle.mscp_sim.specs.declared.event.Sent.TheVariants.{Queued, Answered}
+use Rattle.mscp_sim.specs.declared.event.Event.{Event}
+use Rattle.mscp_sim.specs.declared.event.Event.TheVariants as events
+use Rattle.mscp_sim.specs.declared.event.Entry.{Entry}
+use Rattle.mscp_sim.specs.declared.event.Entry.TheVariants as entries
+use Rattle.mscp_sim.specs.declared.record.Record.{Record}
+use Rattle.mscp_sim.specs.Settings.{Settings}
+use Rattle.mscp_sim.specs.Arrival.{order_weight, refusal, is_queued}
+use Rattle.mscp_sim.specs.Outcomes.{own_end, block_touched, goes_on, outcome_of}
+
+-- the settings, the waiting commands and the ends that weren't taken, each oldest first
+pub record Holdings : Type 0 where
+  pub settings : Settings
+  pub waiting : List Record
+  pub untaken : List End
+
+-- a controller to which nothing came so far
+abbrev pub fresh : Settings → Holdings
+fresh c = record { settings = c; waiting = []; untaken = [] }
+
+-- ---- credits
+
+-- the credits that are free (manual)
+abbrev pub balance_of : Holdings → ℕ
+balance_of h = h.settings.credits - (length h.waiting + length h.untaken)
+
+-- the reference numbers that wait or whose ends weren't taken (manual)
+abbrev pub outstanding_of : Holdings → List ℕ
+outstanding_of h = map (λ r. r.command.reference) h.waiting ++ map (λ e. e.reference) h.untaken
+
+-- ---- figures
+
+-- how many steps are left of a record (profile)
+abbrev pub left_of : Record → ℕ
+left_of r = r.weight - r.done
+
+-- the record's command was served and waits for its next step (profile)
+abbrev pub is_in_service : Record → Bool
+is_in_service r = nat_lt 0 r.done
+
+-- the record at a place: past the end, one of nothing
+abbrev pub record_at : List Record → ℕ → Record
+record_at rs place =
+    slice_index_or rs place (record { command = record { reference = 0; unit = 0; order = orders.Abort 0 }; weight = 0; done = 0 })
+
+-- the figure of a record between those before it and those after it: how many steps its command may still
+-- wait, at most. Nobody is passed so far, so the whole passing limit counts (profile)
+abbrev pub figure_between : Settings → List Record → Record → List Record → ℕ
+figure_between c front r back =
+    if is_in_service r then left_of r else
+    (sum_by left_of front + sum_by left_of (filter is_in_service back) + c.passing * c.longest + left_of r)
+
+abbrev pub figure_at : Settings → List Record → ℕ → ℕ
+figure_at c rs place = figure_between c (take place rs) (record_at rs place) (drop (place + 1) rs)
+
+abbrev pub has_reference : ℕ → Record → Bool
+has_reference reference r = nat_eq r.command.reference reference
+
+abbrev pub figure_found : Settings → List Record → Option ℕ → ℕ
+figure_found c rs None = 0
+figure_found c rs (Some place) = figure_at c rs place
+
+-- the figure of the waiting command of a reference number, 0 if there is none (profile)
+abbrev pub figure_of_reference : Settings → List Record → ℕ → ℕ
+figure_of_reference c rs reference = figure_found c rs (position (has_reference reference) rs)
+
+-- the reference number and the figure of each waiting command, oldest first (profile)
+abbrev pub figures_from : Settings → List Record → List ℕ → List (ℕ × ℕ)
+figures_from c rs places = map (λ place. ((record_at rs place).command.reference, figure_at c rs place)) places
+
+abbrev pub figures : Settings → List Record → List (ℕ × ℕ)
+figures c rs = figures_from c rs (range_with_len 0 (length rs))
+
+-- ---- a message
+
+-- the figure that an order asks for (manual)
+abbrev pub figure_asked : Settings → List Record → Order → ℕ
+figure_asked c rs (orders.Status other) = figure_of_reference c rs other
+figure_asked c rs order = 0
+
+-- the record of a command that begins to wait
+abbrev pub fresh_record : Command → Record
+fresh_record command = record { command = command; weight = order_weight command.order; done = 0 }
+
+-- what a command becomes that isn't refused: it is queued, or answered at once (manual)
+abbrev pub becomes : Settings → Command → Sent
+becomes c command = if is_queued c command then Queued command.reference else Answered command.reference None
+
+-- what is held once a command waits, or an end was made
+abbrev pub queued : Holdings → Command → Holdings
+queued h command = record { settings = h.settings; waiting = h.waiting ++ fresh_record command ∷ []; untaken = h.untaken }
+
+abbrev pub ended : Holdings → End → Holdings
+ended h end = record { settings = h.settings; waiting = h.waiting; untaken = h.untaken ++ end ∷ [] }
+
+-- what is held after the command
+abbrev pub arrives : Holdings → Command → Holdings
+arrives h command =
+    if is_queued h.settings command then queued h command
+    else ended h (own_end h.settings (figure_asked h.settings h.waiting command.order) command)
+
+abbrev pub sent_unless : Settings → Command → Option SendFault → Result Sent SendFault
+sent_unless c command (Some fault) = Err fault
+sent_unless c command None = Ok (becomes c command)
+
+abbrev pub held_unless : Holdings → Command → Option SendFault → Holdings
+held_unless h command (Some fault) = h
+held_unless h command None = arrives h command
+
+-- what is answered to a message (manual)
+abbrev pub answer_to_message : Holdings → List ℕ → Result Sent SendFault
+answer_to_message h b = sent_unless h.settings (command_of b) (refusal (balance_of h) (outstanding_of h) b)
+
+-- what is held after it. A refusal changes nothing (manual)
+abbrev pub after_message : Holdings → List ℕ → Holdings
+after_message h b = held_unless h (command_of b) (refusal (balance_of h) (outstanding_of h) b)
+
+-- ---- a step
+
+-- the record after a step of its command that doesn't end it
+abbrev pub advanced : Record → Record
+advanced r = record { command = r.command; weight = r.weight; done = r.done + 1 }
+
+-- the end that a step with this block gives to a record's command, if it ends. All earlier blocks of a
+-- waiting command were good, or it would have ended (manual)
+abbrev pub end_of : Block → Record → Option End
+end_of k r = if goes_on true r.command.order k (left_of r) then None else Some (outcome_of true r.command r.done k)
+
+-- what a step with this block reports (manual)
+abbrev pub report_of : Block → List Record → Report
+report_of k [] = Idle
+report_of k (r ∷ rs) = Served r.command.reference r.command.unit (block_touched true r.command.order r.done) (nat_eq r.done 0) 0 (end_of k r)
+
+-- what the step leaves of the record
+abbrev pub remains : Record → Option End → List Record
+remains r None = advanced r ∷ []
+remains r (Some end) = []
+
+-- the waiting commands after it
+abbrev pub waiting_after : Block → List Record → List Record
+waiting_after k [] = []
+waiting_after k (r ∷ rs) = remains r (end_of k r) ++ rs
+
+-- the ends that it makes
+abbrev pub ends_after : Block → List Record → List End
+ends_after k [] = []
+ends_after k (r ∷ rs) = option_to_list (end_of k r)
+
+-- what is held after it
+abbrev pub after_step : Holdings → Block → Holdings
+after_step h k = record { settings = h.settings; waiting = waiting_after k h.waiting; untaken = h.untaken ++ ends_after k h.waiting }
+
+-- ---- a take
+
+-- what is held after the oldest end was taken, if there is one (manual)
+abbrev pub after_take : Holdings → Holdings
+after_take h = record { settings = h.settings; waiting = h.waiting; untaken = drop 1 h.untaken }
+
+-- ---- a run
+
+-- what is answered to an event
+abbrev pub entry_of : Holdings → Event → Entry
+entry_of h (events.Send message) = entries.Sent (answer_to_message h message.items)
+entry_of h events.Take = entries.Taken (option_map (λ e. record { items = end_bytes e }) (slice_get h.untaken 0))
+entry_of h (events.Step k) = entries.Stepped (report_of k h.waiting)
+entry_of h events.Look = entries.Looked (record { items = figures h.settings h.waiting })
+
+-- what is held after it
+abbrev pub after : Holdings → Event → Holdings
+after h (events.Send message) = after_message h message.items
+after h events.Take = after_take h
+after h (events.Step k) = after_step h k
+after h events.Look = h
+
+-- what is answered to events, one after the other
+abbrev pub replies : Holdings → List Event → List Entry
+replies h [] = []
+replies h (event ∷ events) = entry_of h event ∷ replies (after h event) events

@@ -1,0 +1,256 @@
+// A controller: its waiting commands, its untaken ends, and its credits.
+
+ghost use Rattle.std.specs.Prelude.{◌≡◌, ◌+◌, ◌<◌, ◌≤◌, ◌^◌, true, nat_eq, option_map, slice_get};
+ghost use Rattle.std.specs.List.{list_any};
+ghost use Rattle.mscp_packet.specs.Ends.{end_bytes};
+ghost use Rattle.mscp_sim.specs.Arrival.{credit_fault, first_block, holds, is_move, is_queued};
+ghost use Rattle.mscp_sim.specs.Outcomes.{block_touched};
+ghost use Rattle.mscp_sim.specs.Holdings.{after, after_message, after_step, after_take, answer_to_message, arrives, balance_of, becomes, ended, entry_of, figure_of_reference, figures, fresh, outstanding_of, queued, report_of};
+
+use crate::arrival::{fault_of, is_immediate, may_take_last_credit, weight_of};
+use crate::block::{Block, Report};
+use crate::config::Config;
+use crate::event::{Entry, Event, SendFault, Sent};
+use crate::figure::{figure_at, figure_of_reference};
+use crate::outcome::{end_of, own_end};
+use crate::record::Record;
+use arrayvec::ArrayVec;
+use mscp_packet::{Command, End, Order, PacketFault, read_command, write_end};
+use std::marker::Model;
+
+/// The block that the next step of a transfer touches.
+fn touched(record: &Record) -> Option<u32>
+    requires transfer { is_move «record».now.command.order ≡ true }
+    requires small { first_block «record».now.command.order + «record».now.done < 2 ^ 32 }
+    ensures { result ≡ block_touched true «record».now.command.order «record».now.done }
+{
+    match record.command.order {
+        Order::Move(_, _, block) => Some(block + record.done),
+        _ => None,
+    }
+}
+
+/// Whether one of the records has the reference number.
+fn is_waiting(records: &[Record], reference: u32) -> bool
+    ensures { result ≡ list_any (λ r. nat_eq r.command.reference reference) records.now }
+{
+    records
+        .iter()
+        .any(|record| record.command.reference == reference)
+}
+
+/// Whether one of the ends has the reference number.
+fn is_untaken(ends: &[End], reference: u32) -> bool
+    ensures { result ≡ list_any (λ e. nat_eq e.reference reference) ends.now }
+{
+    ends.iter().any(|end| end.reference == reference)
+}
+
+/// A command queue with credits, which serves its oldest command first.
+#[derive(Drop)]
+pub struct Controller {
+    config: Config,
+    waiting: ArrayVec<Record, 64>,
+    untaken: ArrayVec<End, 64>,
+}
+
+// A clause sees the settings, the waiting commands, and the ends that weren't taken, each oldest first.
+impl Model for Controller {
+    ghost use Rattle.mscp_sim.specs.Holdings.{Holdings};
+    ghost use Rattle.mscp_sim.specs.Kept.{IsHeld};
+
+    ghost Value = { Holdings };
+
+    ghost view = { λ h. record { settings = h.config; waiting = h.waiting.items; untaken = h.untaken.items } };
+
+    ghost invariant = { λ h. IsHeld h.config h.waiting.items h.untaken.items };
+}
+
+impl Controller {
+    /// A controller to which nothing came so far.
+    pub fn new(config: Config) -> Controller
+        ensures { result ≡ fresh config }
+    {
+        // Any getter tells that the limits are valid.
+        let _credits = config.credits();
+        Controller {
+            config,
+            waiting: ArrayVec::new(),
+            untaken: ArrayVec::new(),
+        }
+    }
+
+    /// How many credits are free: each waiting command and each untaken end holds one (manual, "Flow
+    /// Control").
+    pub fn balance(&self) -> u32
+        ensures { result ≡ balance_of self.now }
+    {
+        let held = self.waiting.len() + self.untaken.len();
+        self.config.credits().saturating_sub(held as u32)
+    }
+
+    /// The figure of the waiting command with the reference number, 0 if there is none: how many steps it
+    /// may still wait, at most.
+    pub fn figure(&self, reference: u32) -> u32
+        ensures { result ≡ figure_of_reference self.now.settings self.now.waiting reference }
+    {
+        figure_of_reference(&self.config, self.waiting.as_slice(), reference)
+    }
+
+    /// Reference number and figure of each waiting command, oldest first.
+    pub fn look(&self) -> ArrayVec<(u32, u32), 64>
+        ensures { result.items ≡ figures self.now.settings self.now.waiting }
+    {
+        let records = self.waiting.as_slice();
+        let mut list = ArrayVec::new();
+        for place in 0..records.len() {
+            let reference = records[place].command.reference;
+            list.push((reference, figure_at(&self.config, records, place)));
+        }
+        list
+    }
+
+    /// Whether a command with the reference number waits, or has an end that wasn't taken.
+    #[tactic(auto, using(crate::proofs::Judging::holds_either))]
+    fn is_outstanding(&self, reference: u32) -> bool
+        ensures { result ≡ holds (outstanding_of self.now) reference }
+    {
+        let waits = is_waiting(self.waiting.as_slice(), reference);
+        let ended = is_untaken(self.untaken.as_slice(), reference);
+        waits || ended
+    }
+
+    /// Why a command with this opcode byte and reference number is refused, if it is.
+    fn credit_fault(&self, opcode: u8, reference: u32) -> Option<SendFault>
+        ensures { result ≡ credit_fault (balance_of self.now) (outstanding_of self.now) opcode reference }
+    {
+        let balance = self.balance();
+        if balance == 0 {
+            return Some(SendFault::NoCredit);
+        }
+        if balance == 1 && !may_take_last_credit(opcode) {
+            return Some(SendFault::LastCredit);
+        }
+        if self.is_outstanding(reference) {
+            return Some(SendFault::Doubled);
+        }
+        None
+    }
+
+    /// Lets a command wait.
+    fn queue(&mut self, command: Command)
+        requires queued { is_queued self.old.settings command ≡ true }
+        requires free { 2 ≤ balance_of self.old }
+        ensures { self.new ≡ queued self.old command }
+    {
+        self.waiting.push(Record {
+            command,
+            weight: weight_of(&command.order),
+            done: 0,
+        });
+    }
+
+    /// Makes an end.
+    fn end(&mut self, end: End)
+        requires { 1 ≤ balance_of self.old }
+        ensures { self.new ≡ ended self.old end }
+    {
+        self.untaken.push(end);
+    }
+
+    /// Queues a command that isn't refused for want of credit, or answers it at once.
+    fn arrive(&mut self, command: Command) -> Sent
+        requires free { 1 ≤ balance_of self.old }
+        requires spare { is_queued self.old.settings command ≡ true → 2 ≤ balance_of self.old }
+        ensures sent { result ≡ becomes self.old.settings command }
+        ensures after { self.new ≡ arrives self.old command }
+    {
+        let fault = fault_of(&self.config, &command);
+        if !is_immediate(&command.order) && fault.is_none() {
+            self.queue(command);
+            return Sent::Queued(command.reference);
+        }
+        let figure = match command.order {
+            Order::Status(other) => self.figure(other),
+            _ => 0,
+        };
+        self.end(own_end(figure, &command, fault));
+        Sent::Answered {
+            reference: command.reference,
+            aborted: None,
+        }
+    }
+
+    /// Takes a message in, or says why not: the first of the faults that holds. A refusal changes nothing.
+    pub fn send(&mut self, b: &[u8]) -> Result<Sent, SendFault>
+        ensures answer { result ≡ answer_to_message self.old b.now }
+        ensures after { self.new ≡ after_message self.old b.now }
+    {
+        let command = match read_command(b) {
+            Ok(command) => command,
+            Err(PacketFault::Short) => return Err(SendFault::Short),
+            Err(PacketFault::Long) => return Err(SendFault::Long),
+        };
+        match self.credit_fault(b[8], command.reference) {
+            Some(fault) => Err(fault),
+            None => Ok(self.arrive(command)),
+        }
+    }
+
+    /// Takes the oldest end that wasn't taken, as bytes, if there is one.
+    pub fn take(&mut self) -> Option<ArrayVec<u8, 48>>
+        ensures answer { result ≡ option_map (λ e. record { items = end_bytes e }) (slice_get self.old.untaken 0) }
+        ensures after { self.new ≡ after_take self.old }
+    {
+        if self.untaken.is_empty() {
+            return None;
+        }
+        let end = self.untaken.remove(0);
+        Some(write_end(&end))
+    }
+
+    /// Serves one block, with this outcome, to the oldest waiting command, if there is one.
+    pub fn step(&mut self, block: Block) -> Report
+        ensures answer { result ≡ report_of block self.old.waiting }
+        ensures after { self.new ≡ after_step self.old block }
+    {
+        if self.waiting.is_empty() {
+            return Report::Idle;
+        }
+        let record = self.waiting[0];
+        let ended = end_of(&record, block);
+        match ended {
+            None => {
+                self.waiting[0] = Record {
+                    done: record.done + 1,
+                    ..record
+                };
+            }
+            Some(end) => {
+                self.waiting.remove(0);
+                self.untaken.push(end);
+            }
+        }
+        Report::Served {
+            reference: record.command.reference,
+            unit: record.command.unit,
+            lbn: touched(&record),
+            started: record.done == 0,
+            seek: 0,
+            ended,
+        }
+    }
+
+    /// What is answered to an event.
+    pub fn answer(&mut self, event: &Event) -> Entry
+        ensures entry { result ≡ entry_of self.old event.now }
+        ensures after { self.new ≡ after self.old event.now }
+    {
+        match event {
+            Event::Send(message) => Entry::Sent(self.send(message.as_slice())),
+            Event::Take => Entry::Taken(self.take()),
+            Event::Step(block) => Entry::Stepped(self.step(*block)),
+            Event::Look => Entry::Looked(self.look()),
+        }
+    }
+}

@@ -1,0 +1,43 @@
+// The reading of a whole script.
+
+ghost use Rattle.std.specs.Prelude.{◌≡◌, ◌≤◌, ◌↔◌, true, false, vec_len, IfOk};
+ghost use Rattle.mscp_sim.specs.Whole.{IsFront, IsRest};
+
+use crate::stream::Source;
+use std::alloc::Global;
+
+/// How many bytes are read at most: one more than the longest script has.
+pub const LIMIT: usize = 16_777_217;
+
+/// Why not all was read.
+#[derive(Clone, Copy, Debug, PartialEq, Eq)]
+pub enum ReadAllFault {
+    /// A read failed.
+    Read,
+    OutOfMemory,
+}
+
+/// Reads until a read gives no byte, or `LIMIT` bytes were read. What comes after them is left in the reader.
+pub fn read_all<R: Source>(alloc: Global, reader: &mut R) -> Result<Vec<u8>, ReadAllFault>
+    requires { R.has_failed reader.old ≡ false }
+    ensures bytes { IfOk result (λ all. IsFront LIMIT (R.remaining reader.old) all.items) }
+    ensures rest { IfOk result (λ all. IsRest LIMIT (R.remaining reader.old) (R.remaining reader.new)) }
+    ensures bound { IfOk result (λ all. vec_len all ≤ LIMIT) }
+    ensures read { (result ≡ Err ReadAllFault.Read) ↔ (R.has_failed reader.new ≡ true) }
+{
+    let mut all = Vec::new(alloc);
+    let mut buf = [0u8; 4096];
+    while all.len() < LIMIT {
+        let room = (LIMIT - all.len()).min(buf.len());
+        let Ok(count) = reader.read(&mut buf[..room]) else {
+            return Err(ReadAllFault::Read);
+        };
+        if count == 0 {
+            break;
+        }
+        if all.extend_from_slice(&buf[..count]).is_err() {
+            return Err(ReadAllFault::OutOfMemory);
+        }
+    }
+    Ok(all)
+}

@@ -1,0 +1,22 @@
+// A whole run.
+
+ghost use Rattle.std.specs.Prelude.{◌≡◌, IfOk};
+ghost use Rattle.mscp_sim.specs.Holdings.{replies, fresh};
+
+use crate::config::Config;
+use crate::controller::Controller;
+use crate::event::{Entry, Event};
+use crate::memory::OutOfMemory;
+use std::alloc::Global;
+
+/// What a new controller replies to the events, one entry an event.
+pub fn run(alloc: Global, config: Config, events: &[Event]) -> Result<Vec<Entry>, OutOfMemory>
+    ensures { IfOk result (λ entries. entries.items ≡ replies (fresh config) events.now) }
+{
+    let mut controller = Controller::new(config);
+    let mut entries = Vec::new(alloc);
+    for event in events {
+        entries.push(controller.answer(event))?;
+    }
+    Ok(entries)
+}
