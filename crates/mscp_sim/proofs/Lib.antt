@@ -28,3 +28,11 @@ pub mod Falling
 pub mod Within
 pub mod Known
 pub mod Progress
+pub mod Literals
+pub mod Legals
+pub mod RowsPolled
+pub mod RowsBlocks
+pub mod RowsPassing
+pub mod RowsCredits
+pub mod RowsRefused
+pub mod RowsWrong

@@ -1,0 +1,63 @@
+-- Short words for literal runs.
+use Rattle.std.proofs.Common.{ℕ, Bool, List}
+use Rattle.std.specs.Prelude.{Option, Some, None, Result, Ok, Err}
+use Rattle.mscp_packet.specs.declared.command.Order.{Order}
+use Rattle.mscp_packet.specs.declared.command.Order.TheVariants as orders
+use Rattle.mscp_packet.specs.declared.command.MoveKind.TheVariants as moves
+use Rattle.mscp_packet.specs.declared.end.End.{End}
+use Rattle.mscp_packet.specs.declared.end.EndBody.TheVariants as bodies
+use Rattle.mscp_packet.specs.Commands.{command_bytes}
+use Rattle.mscp_sim.specs.declared.block.Block.{Block}
+use Rattle.mscp_sim.specs.declared.block.Block.TheVariants.{Good}
+use Rattle.mscp_sim.specs.declared.block.Report.TheVariants as reports
+use Rattle.mscp_sim.specs.declared.event.SendFault.{SendFault}
+use Rattle.mscp_sim.specs.declared.event.Sent.{Sent}
+use Rattle.mscp_sim.specs.declared.event.Sent.TheVariants as sents
+use Rattle.mscp_sim.specs.declared.event.Event.{Event}
+use Rattle.mscp_sim.specs.declared.event.Event.TheVariants as events
+use Rattle.mscp_sim.specs.declared.event.Entry.TheVariants as entries
+use Rattle.mscp_sim.specs.Settings.{Settings}
+use Rattle.mscp_sim.specs.History.{Moment}
+
+-- so many credits and passes, transfers of at most 8 blocks, and a unit of 1000 blocks, 20 a cylinder
+abbrev pub settings : ℕ → ℕ → Settings
+settings credits passing = record { credits = credits; passing = passing; longest = 8; timeout = 60; id = 1; unit = record { number = 0; track = 10; group = 2; cylinder = 1; size = 1000 } }
+
+-- a read of so many bytes from this block on
+abbrev pub read : ℕ → ℕ → Order
+read count block = orders.Move moves.Read count block
+
+abbrev pub message : ℕ → ℕ → Order → Event
+message r u o = events.Send (record { items = command_bytes (record { reference = r; unit = u; order = o }) })
+
+abbrev pub raw : List ℕ → Result Sent SendFault → Moment
+raw b answer = (events.Send (record { items = b }), entries.Sent answer)
+
+abbrev pub queued : ℕ → ℕ → Order → Moment
+queued r u o = (message r u o, entries.Sent (Ok (sents.Queued r)))
+
+abbrev pub answered : ℕ → ℕ → Order → Moment
+answered r u o = (message r u o, entries.Sent (Ok (sents.Answered r None)))
+
+abbrev pub refused : ℕ → ℕ → Order → SendFault → Moment
+refused r u o fault = (message r u o, entries.Sent (Err fault))
+
+abbrev pub took : List ℕ → Moment
+took b = (events.Take, entries.Taken (Some (record { items = b })))
+
+abbrev pub took_none : Moment
+took_none = (events.Take, entries.Taken None)
+
+abbrev pub idle : Moment
+idle = (events.Step Good, entries.Stepped reports.Idle)
+
+abbrev pub looked : List (ℕ × ℕ) → Moment
+looked l = (events.Look, entries.Looked (record { items = l }))
+
+-- a step that serves this reference and unit, touches this block, and perhaps starts and ends the command
+abbrev pub served : Block → ℕ → ℕ → Option ℕ → Bool → Option End → Moment
+served k r u lbn started ended = (events.Step k, entries.Stepped (reports.Served r u lbn started 0 ended))
+
+-- the end of a read with this reference, unit, status and byte count
+abbrev pub moved : ℕ → ℕ → ℕ → ℕ → Option End
+moved r u status count = Some (record { reference = r; unit = u; code = 0xA1; status = status; body = bodies.Moved count })
