@@ -35,7 +35,7 @@ pub record Known (c : Settings) (t : Trace) : Type 0 where
   pub limited : Limited c t (waiting t)
   pub within : Within c t
 
-known_empty : (c : Settings) → Known c []
+pub known_empty : (c : Settings) → Known c []
 unfolding waiting
 known_empty c = record { steady = steady_empty c; room = room_empty c; short = tt; limited = tt; within = tt }
 

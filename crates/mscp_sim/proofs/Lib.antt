@@ -5,6 +5,8 @@ pub mod Placed
 pub mod Held
 pub mod Quiet
 pub mod Stepped
+pub mod Sending
+pub mod Following
 pub mod Fronts
 pub mod Padded
 pub mod Lists

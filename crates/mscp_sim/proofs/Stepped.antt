@@ -68,7 +68,7 @@ oldest_next c t y B e idle =
 -- ---- the end that it gets
 
 -- a record's end is its command's
-end_held : (t : Trace) (k : Block) (y : ℕ) → good t y ≡ done t y → holdings.end_of k (held_of t y) ≡ end_of t k y
+pub end_held : (t : Trace) (k : Block) (y : ℕ) → good t y ≡ done t y → holdings.end_of k (held_of t y) ≡ end_of t k y
 unfolding outcome is_online
 end_held t k y g = ap (λ n. if goes_on true (order t y) k (left t y) then None else Some (outcome_of true (command t y) n k)) (sym g)
 

@@ -5,6 +5,7 @@ ghost use Rattle.std.specs.List.{list_any};
 ghost use Rattle.mscp_packet.specs.Ends.{end_bytes};
 ghost use Rattle.mscp_sim.specs.Arrival.{credit_fault, first_block, holds, is_move, is_queued};
 ghost use Rattle.mscp_sim.specs.Outcomes.{block_touched};
+ghost use Rattle.mscp_sim.specs.Settings.{IsValid};
 ghost use Rattle.mscp_sim.specs.Holdings.{after, after_message, after_step, after_take, answer_to_message, arrives, balance_of, becomes, ended, entry_of, figure_of_reference, figures, fresh, outstanding_of, queued, report_of};
 
 use crate::arrival::{fault_of, is_immediate, may_take_last_credit, weight_of};
@@ -69,7 +70,8 @@ impl Model for Controller {
 impl Controller {
     /// A controller to which nothing came so far.
     pub fn new(config: Config) -> Controller
-        ensures { result ≡ fresh config }
+        ensures fresh { result ≡ fresh config }
+        ensures valid { IsValid config }
     {
         // Any getter tells that the limits are valid.
         let _credits = config.credits();

@@ -1,0 +1,184 @@
+-- A message: the answer to it is right, and what is held after it.
+use Rattle.std.proofs.Common.{◌≡◌, ℕ, ◌+◌, ◌-◌, ◌≤◌, Bool, true, false, List, [], ◌∷◌, ◌++◌, map, length, refl, ap, sym, ◌∙◌, subst, append-nil, arith}
+use Rattle.std.specs.Prelude.{if◌then◌else◌, Option, Some, None, option_map, slice_get, Result, Ok, Err}
+use Rattle.std.proofs.lemmas.List.{length-map}
+use Rattle.mscp_packet.specs.declared.command.Command.{Command}
+use Rattle.mscp_packet.specs.declared.command.Order.{Order}
+use Rattle.mscp_packet.specs.declared.command.Order.TheVariants as orders
+use Rattle.mscp_packet.specs.declared.end.End.{End}
+use Rattle.mscp_packet.specs.Commands.{command_of}
+use Rattle.mscp_sim.specs.declared.record.Record.{Record}
+use Rattle.mscp_sim.specs.declared.event.SendFault.{SendFault}
+use Rattle.mscp_sim.specs.declared.event.Sent.{Sent}
+use Rattle.mscp_sim.specs.declared.event.Sent.TheVariants as sents
+use Rattle.mscp_sim.specs.declared.event.Event.{Event}
+use Rattle.mscp_sim.specs.declared.event.Entry.TheVariants as entries
+use Rattle.mscp_sim.specs.Settings.{Settings, unit_found}
+use Rattle.mscp_sim.specs.Arrival.{fault_of, is_queued, move_fault, order_fault, refusal}
+use Rattle.mscp_sim.specs.Outcomes.{aborted_end, own_end}
+use Rattle.mscp_sim.specs.History.{Trace, Moment, sent_bytes}
+use Rattle.mscp_sim.specs.Commands.{command, good, reference, waiting}
+use Rattle.mscp_sim.specs.Passing.{passes}
+use Rattle.mscp_sim.specs.Ends.{aborted, aborted_unless, answer, ends_at, named, untaken}
+use Rattle.mscp_sim.specs.Ends as history
+use Rattle.mscp_sim.specs.Credits.{arrival, balance, becomes, becomes_unless, becomes_when, outstanding}
+use Rattle.mscp_sim.specs.Legal.{IsRight}
+use Rattle.mscp_sim.specs.Holdings.{Holdings, after_message, answer_to_message, balance_of, ended, figure_asked, held_unless, outstanding_of, queued, sent_unless}
+use Rattle.mscp_sim.specs.Holdings as holdings
+use Rattle.mscp_sim.proofs.Grows.{untaken_more}
+use Rattle.mscp_sim.proofs.Placed.{map_map}
+use Rattle.mscp_sim.proofs.Held.{held_of, Follows, figure_of_held}
+use Rattle.mscp_sim.proofs.Quiet.{IsQuiet, follows_quiet, follows_queued}
+
+-- ---- credits
+
+balance_held : (c : Settings) (t : Trace) (ws : List Record) (us : List End) → Follows c t ws us → c.credits - (length ws + length us) ≡ balance c t
+unfolding balance
+balance_held c t ws us f =
+    let w = ap length f.waits ∙ length-map (waiting t) (held_of t) in
+    let u = ap length f.ends in
+    omega arith
+
+outstanding_held : (c : Settings) (t : Trace) (ws : List Record) (us : List End) → Follows c t ws us → map (λ r. r.command.reference) ws ++ map (λ e. e.reference) us ≡ outstanding c t
+unfolding outstanding
+outstanding_held c t ws us f =
+    ap (λ xs. map (λ r. r.command.reference) xs ++ map (λ (e : End). e.reference) us) f.waits
+    ∙ (ap (λ xs. xs ++ map (λ (e : End). e.reference) us) (map_map (held_of t) (λ (r : Record). r.command.reference) (waiting t))
+    ∙ ap (λ xs. map (reference t) (waiting t) ++ map (λ (e : End). e.reference) xs) f.ends)
+
+-- a message is refused alike
+refusal_held : (h : Holdings) (t : Trace) (b : List ℕ) → Follows h.settings t h.waiting h.untaken
+    → refusal (balance_of h) (outstanding_of h) b ≡ refusal (balance h.settings t) (outstanding h.settings t) b
+refusal_held h t b f = λ i. refusal (balance_held h.settings t h.waiting h.untaken f i) (outstanding_held h.settings t h.waiting h.untaken f i) b
+
+-- ---- aborts, of which there are none so far
+
+unnamed : (t : Trace) (o : Order) (fault : Option ℕ) → named t o ≡ [] → aborted_unless t o fault ≡ []
+unnamed t o None h = h
+unnamed t o (Some status) h = refl
+
+none_aborted_by : (c : Settings) (t : Trace) (u : ℕ) (o : Order) → aborted_unless t o (order_fault c u o) ≡ []
+none_aborted_by c t u (orders.Abort other) = refl
+none_aborted_by c t u (orders.Status other) = refl
+none_aborted_by c t u orders.UnitStatus = refl
+none_aborted_by c t u (orders.SetController version) = refl
+none_aborted_by c t u orders.Available = refl
+none_aborted_by c t u orders.Online = refl
+none_aborted_by c t u orders.SetUnit = refl
+none_aborted_by c t u (orders.Move kind count block) = unnamed t (orders.Move kind count block) (move_fault c count block (unit_found c u)) refl
+none_aborted_by c t u (orders.Invalid opcode status) = refl
+
+none_aborted : (c : Settings) (t : Trace) (k : Command) → aborted c t k ≡ []
+none_aborted c t k = none_aborted_by c t k.unit k.order
+
+-- ---- its end
+
+asked_held : (c : Settings) (t : Trace) (ws : List Record) (us : List End) (o : Order) → Follows c t ws us → figure_asked c ws o ≡ history.figure_asked c t o
+asked_held c t ws us (orders.Status other) f = ap (λ xs. holdings.figure_of_reference c xs other) f.waits ∙ figure_of_held c t other f.unpassed
+asked_held c t ws us (orders.Abort other) f = refl
+asked_held c t ws us orders.UnitStatus f = refl
+asked_held c t ws us (orders.SetController version) f = refl
+asked_held c t ws us orders.Available f = refl
+asked_held c t ws us orders.Online f = refl
+asked_held c t ws us orders.SetUnit f = refl
+asked_held c t ws us (orders.Move kind count block) f = refl
+asked_held c t ws us (orders.Invalid opcode status) f = refl
+
+answer_held : (c : Settings) (t : Trace) (ws : List Record) (us : List End) (b : List ℕ) → Follows c t ws us
+    → own_end c (figure_asked c ws (command_of b).order) (command_of b) ∷ [] ≡ answer c t b
+unfolding answer
+answer_held c t ws us b f =
+    let k = command_of b in
+    ap (λ n. own_end c n k ∷ []) (asked_held c t ws us k.order f)
+    ∙ ap (λ xs. map (λ x. aborted_end (command t x) (good t x)) xs ++ own_end c (history.figure_asked c t k.order) k ∷ []) (sym (none_aborted c t k))
+
+-- ---- what becomes of it
+
+-- what is answered to a message is right, and what is then held is that of the run
+pub record Sends (c : Settings) (t : Trace) (m : Moment) (h : Holdings) : Type 0 where
+  pub right : IsRight c t m.0 m.1
+  pub follows : Follows c (t ++ m ∷ []) h.waiting h.untaken
+
+-- the moment of a message
+abbrev pub sending : Event → Result Sent SendFault → Moment
+sending e s = (e, entries.Sent s)
+
+refused : (h : Holdings) (t : Trace) (e : Event) (fault : SendFault) → 1 ≤ h.settings.longest → Follows h.settings t h.waiting h.untaken → IsRight h.settings t e (entries.Sent (Err fault))
+    → Sends h.settings t (sending e (Err fault)) h
+refused h t e fault l f r =
+    let m = sending e (Err fault) in
+    record {
+      right = r;
+      follows = follows_quiet h.settings t m h.waiting h.untaken h.untaken l r (record { unserved = refl; kept = λ r. refl }) refl
+          (f.ends ∙ (sym (append-nil (untaken h.settings t)) ∙ sym (untaken_more h.settings t m refl f.known.room.taken))) f;
+    }
+
+waits : (h : Holdings) (t : Trace) (e : Event) → 1 ≤ h.settings.longest → Follows h.settings t h.waiting h.untaken
+    → IsRight h.settings t e (entries.Sent (Ok (sents.Queued (command_of (sent_bytes e)).reference)))
+    → Sends h.settings t (sending e (Ok (sents.Queued (command_of (sent_bytes e)).reference))) (queued h (command_of (sent_bytes e)))
+waits h t e l f r =
+    let m = sending e (Ok (sents.Queued (command_of (sent_bytes e)).reference)) in
+    record {
+      right = r;
+      follows = follows_queued h.settings t m h.waiting h.untaken h.untaken l r (record { unserved = refl; kept = λ r. refl }) refl
+          (f.ends ∙ (sym (append-nil (untaken h.settings t)) ∙ sym (untaken_more h.settings t m refl f.known.room.taken))) f;
+    }
+
+answered : (h : Holdings) (t : Trace) (e : Event) → 1 ≤ h.settings.longest → Follows h.settings t h.waiting h.untaken
+    → IsRight h.settings t e (entries.Sent (Ok (sents.Answered (command_of (sent_bytes e)).reference None)))
+    → Sends h.settings t (sending e (Ok (sents.Answered (command_of (sent_bytes e)).reference None)))
+    (ended h (own_end h.settings (figure_asked h.settings h.waiting (command_of (sent_bytes e)).order) (command_of (sent_bytes e))))
+answered h t e l f r =
+    let c = h.settings in
+    let b = sent_bytes e in
+    let m = sending e (Ok (sents.Answered (command_of b).reference None)) in
+    record {
+      right = r;
+      follows = follows_quiet c t m h.waiting h.untaken (h.untaken ++ own_end c (figure_asked c h.waiting (command_of b).order) (command_of b) ∷ []) l r (record { unserved = refl; kept = λ r. refl }) refl
+          (ap (λ xs. xs ++ own_end c (figure_asked c h.waiting (command_of b).order) (command_of b) ∷ []) f.ends
+          ∙ (ap (λ xs. untaken c t ++ xs) (answer_held c t h.waiting h.untaken b f ∙ sym (append-nil (answer c t b)))
+          ∙ sym (untaken_more c t m refl f.known.room.taken))) f;
+    }
+
+-- ---- every message
+
+becomes_queued : (c : Settings) (t : Trace) (k : Command) → is_queued c k ≡ true → sents.Queued k.reference ≡ becomes c t k
+becomes_queued c t k q = sym (ap (becomes_when c t k) q)
+
+becomes_answered : (c : Settings) (t : Trace) (k : Command) → is_queued c k ≡ false → sents.Answered k.reference None ≡ becomes c t k
+becomes_answered c t k q = ap (λ xs. sents.Answered k.reference (option_map (reference t) (slice_get xs 0))) (sym (none_aborted c t k)) ∙ sym (ap (becomes_when c t k) q)
+
+-- what the history says of a message that is refused so, or isn't
+arrival_when : (c : Settings) (t : Trace) (b : List ℕ) (o : Option SendFault) → refusal (balance c t) (outstanding c t) b ≡ o → becomes_unless c t (command_of b) o ≡ arrival c t b
+unfolding arrival
+arrival_when c t b o e = sym (ap (becomes_unless c t (command_of b)) e)
+
+sends_taken : (h : Holdings) (t : Trace) (e : Event) → 1 ≤ h.settings.longest → Follows h.settings t h.waiting h.untaken
+    → ((s : Result Sent SendFault) → s ≡ arrival h.settings t (sent_bytes e) → IsRight h.settings t e (entries.Sent s))
+    → refusal (balance h.settings t) (outstanding h.settings t) (sent_bytes e) ≡ None
+    → (q : Bool) → is_queued h.settings (command_of (sent_bytes e)) ≡ q
+    → let k = command_of (sent_bytes e) in
+    Sends h.settings t (sending e (Ok (if q then sents.Queued k.reference else sents.Answered k.reference None)))
+    (if q then queued h k else ended h (own_end h.settings (figure_asked h.settings h.waiting k.order) k))
+sends_taken h t e l f right none true q =
+    let c = h.settings in
+    let b = sent_bytes e in
+    waits h t e l f (right (Ok (sents.Queued (command_of b).reference)) (ap Ok (becomes_queued c t (command_of b) q) ∙ arrival_when c t b None none))
+sends_taken h t e l f right none false q =
+    let c = h.settings in
+    let b = sent_bytes e in
+    answered h t e l f (right (Ok (sents.Answered (command_of b).reference None)) (ap Ok (becomes_answered c t (command_of b) q) ∙ arrival_when c t b None none))
+
+sends_when : (h : Holdings) (t : Trace) (e : Event) → 1 ≤ h.settings.longest → Follows h.settings t h.waiting h.untaken
+    → ((s : Result Sent SendFault) → s ≡ arrival h.settings t (sent_bytes e) → IsRight h.settings t e (entries.Sent s))
+    → (o : Option SendFault) → refusal (balance h.settings t) (outstanding h.settings t) (sent_bytes e) ≡ o
+    → Sends h.settings t (sending e (sent_unless h.settings (command_of (sent_bytes e)) o)) (held_unless h (command_of (sent_bytes e)) o)
+sends_when h t e l f right (Some fault) r = refused h t e fault l f (right (Err fault) (arrival_when h.settings t (sent_bytes e) (Some fault) r))
+sends_when h t e l f right None r = sends_taken h t e l f right r (is_queued h.settings (command_of (sent_bytes e))) refl
+
+-- A message is answered right, and what is then held is that of the run.
+pub sends : (h : Holdings) (t : Trace) (e : Event) → 1 ≤ h.settings.longest → Follows h.settings t h.waiting h.untaken
+    → ((s : Result Sent SendFault) → s ≡ arrival h.settings t (sent_bytes e) → IsRight h.settings t e (entries.Sent s))
+    → Sends h.settings t (sending e (answer_to_message h (sent_bytes e))) (after_message h (sent_bytes e))
+sends h t e l f right =
+    sends_when h t e l f right (refusal (balance_of h) (outstanding_of h) (sent_bytes e)) (sym (refusal_held h t (sent_bytes e) f))
