@@ -3,3 +3,4 @@ pub mod Arrival
 pub mod Outcomes
 pub mod Whole
 pub mod Text
+pub mod Requests

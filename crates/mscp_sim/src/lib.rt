@@ -8,5 +8,6 @@ pub mod memory;
 pub mod reading;
 pub mod record;
 pub mod report;
+pub mod script;
 pub mod stream;
 mod totals;

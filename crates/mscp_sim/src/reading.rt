@@ -3,6 +3,9 @@
 ghost use Rattle.std.specs.Prelude.{◌≡◌, ◌≤◌, ◌↔◌, true, false, vec_len, IfOk};
 ghost use Rattle.mscp_sim.specs.Whole.{IsFront, IsRest};
 
+#[cfg(test)]
+mod tests;
+
 use crate::stream::Source;
 use std::alloc::Global;
 
