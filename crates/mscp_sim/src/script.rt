@@ -1,6 +1,6 @@
 // Scripts: a header, which makes a configuration, and then events.
 
-ghost use Rattle.std.specs.Prelude.{◌≡◌, ◌<◌, ◌≤◌, length, vec_len, IfOk};
+ghost use Rattle.std.specs.Prelude.{◌≡◌, ◌↔◌, ◌<◌, ◌≤◌, length, vec_len, IfOk};
 
 mod events;
 mod fault;
@@ -32,8 +32,7 @@ pub struct Script {
 /// What a script stands for, or its first fault. It takes memory for the events alone.
 pub fn read_script(alloc: Global, bytes: &[u8]) -> Result<Script, ReadFault>
     ensures events { IfOk result (λ script. vec_len script.events ≤ 1000000) }
-    ensures size { MOST_BYTES < length bytes.now → result ≡ Err (ReadFault.Script (record { line = 0; cause = Cause.Size })) }
-    ensures read { IfOk result (λ script. length bytes.now ≤ MOST_BYTES) }
+    ensures size { (result ≡ Err (ReadFault.Script (record { line = 0; cause = Cause.Size }))) ↔ (MOST_BYTES < length bytes.now) }
 {
     if bytes.len() > MOST_BYTES {
         return Err(ReadFault::Script(ScriptFault {

@@ -6,6 +6,7 @@ ghost use Rattle.mscp_sim.specs.Requests.{event_total};
 
 use crate::block::Block;
 use crate::event::Event;
+use crate::memory::OutOfMemory;
 use crate::script::fault::{Cause, ReadFault, ScriptFault};
 use crate::script::lines::Lines;
 use crate::script::words::Words;
@@ -32,7 +33,8 @@ pub enum Request {
 
 /// Reads all lines that are left.
 pub fn read_events(alloc: Global, lines: &mut Lines<'_>) -> Result<Vec<Event>, ReadFault>
-    ensures { IfOk result (λ events. vec_len events ≤ 1000000) }
+    ensures events { IfOk result (λ events. vec_len events ≤ MOST_EVENTS) }
+    ensures fault { (fault : ScriptFault) → result ≡ Err (ReadFault.Script fault) → 1 ≤ fault.line }
 {
     let mut events = Vec::new(alloc);
     while let Some(line) = lines.next_line()? {
@@ -112,7 +114,7 @@ fn event_count(request: &Request) -> usize
 }
 
 /// Appends the events of a request.
-fn add_events(events: &mut Vec<Event>, request: &Request) -> Result<(), ReadFault>
+fn add_events(events: &mut Vec<Event>, request: &Request) -> Result<(), OutOfMemory>
     ensures { OnOk result (vec_len events.new ≡ vec_len events.old + event_total request.now) }
 {
     match request {

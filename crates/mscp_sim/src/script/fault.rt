@@ -1,8 +1,9 @@
 // What can be wrong with a script.
 
-ghost use Rattle.std.specs.Prelude.{◌≡◌};
+ghost use Rattle.std.specs.Prelude.{◌≡◌, MatchResult};
+ghost use Rattle.mscp_sim.specs.declared.script.fault.ReadFault.TheVariants as variants;
 
-use std::alloc::AllocFailed;
+use crate::memory::OutOfMemory;
 use thiserror::Error;
 
 /// What is wrong with a line: the first that holds, in this order.
@@ -62,20 +63,26 @@ pub enum ReadFault {
 }
 
 impl From<ScriptFault> for ReadFault {
+    ghost from_gives = { λ fault e. e ≡ variants.Script fault };
+
     fn from(fault: ScriptFault) -> ReadFault {
         ReadFault::Script(fault)
     }
 }
 
-impl<T: Drop> From<AllocFailed<T>> for ReadFault {
-    fn from(_refusal: AllocFailed<T>) -> ReadFault {
+impl From<OutOfMemory> for ReadFault {
+    ghost from_gives = { λ _ e. e ≡ variants.OutOfMemory };
+
+    fn from(_refusal: OutOfMemory) -> ReadFault {
         ReadFault::OutOfMemory
     }
 }
 
 impl ScriptFault {
     /// The outcome of reading this line, with the line in its fault.
-    pub fn at<T>(line: u32, outcome: Result<T, Cause>) -> Result<T, ScriptFault> {
+    pub(super) fn at<T>(line: u32, outcome: Result<T, Cause>) -> Result<T, ScriptFault>
+        ensures { MatchResult outcome (λ value. result ≡ Ok value) (λ cause. result ≡ Err (record { line = line; cause = cause })) }
+    {
         match outcome {
             Ok(value) => Ok(value),
             Err(cause) => Err(ScriptFault { line, cause }),

@@ -1,5 +1,7 @@
 // The header of a script: each line once and in order.
 
+ghost use Rattle.std.specs.Prelude.{◌≤◌, IfErr};
+
 use crate::config::{Config, Unit};
 use crate::script::fault::{Cause, ScriptFault};
 use crate::script::lines::Lines;
@@ -19,7 +21,9 @@ struct Settings {
 }
 
 /// Reads the header, up to its `go`.
-pub fn read_header(lines: &mut Lines<'_>) -> Result<Config, ScriptFault> {
+pub fn read_header(lines: &mut Lines<'_>) -> Result<Config, ScriptFault>
+    ensures { IfErr result (λ fault. 1 ≤ fault.line) }
+{
     let settings = Settings {
         credits: read_wide(lines, b"credits")?,
         passing: read_wide(lines, b"passing")?,
@@ -32,19 +36,25 @@ pub fn read_header(lines: &mut Lines<'_>) -> Result<Config, ScriptFault> {
 }
 
 /// Reads the line of this word and of a number from 0 to 4294967295.
-fn read_wide(lines: &mut Lines<'_>, word: &[u8]) -> Result<u32, ScriptFault> {
+fn read_wide(lines: &mut Lines<'_>, word: &[u8]) -> Result<u32, ScriptFault>
+    ensures { IfErr result (λ fault. 1 ≤ fault.line) }
+{
     let line = lines.header_line()?;
     ScriptFault::at(line.number, wide_setting(line.words, word))
 }
 
 /// Reads the line of this word and of a number from 0 to 65535.
-fn read_narrow(lines: &mut Lines<'_>, word: &[u8]) -> Result<u16, ScriptFault> {
+fn read_narrow(lines: &mut Lines<'_>, word: &[u8]) -> Result<u16, ScriptFault>
+    ensures { IfErr result (λ fault. 1 ≤ fault.line) }
+{
     let line = lines.header_line()?;
     ScriptFault::at(line.number, narrow_setting(line.words, word))
 }
 
 /// Reads the line of a unit.
-fn read_unit(lines: &mut Lines<'_>) -> Result<Unit, ScriptFault> {
+fn read_unit(lines: &mut Lines<'_>) -> Result<Unit, ScriptFault>
+    ensures { IfErr result (λ fault. 1 ≤ fault.line) }
+{
     let line = lines.header_line()?;
     ScriptFault::at(line.number, first_unit(line.words))
 }

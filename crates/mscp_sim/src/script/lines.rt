@@ -1,6 +1,7 @@
 // The lines of a script.
 
-ghost use Rattle.std.specs.Prelude.{◌≡◌, ◌+◌, ◌<◌, ◌≤◌, length, IfSome, IfOk};
+ghost use Rattle.std.specs.Prelude.{◌≡◌, ◌+◌, ◌<◌, ◌≤◌, length, IfSome, IfOk, IfErr};
+ghost use Rattle.mscp_sim.specs.declared.script.TheConstants.{MOST_BYTES};
 
 use crate::script::MOST_BYTES;
 use crate::script::fault::{Cause, ScriptFault};
@@ -17,6 +18,7 @@ const LONGEST_LINE: usize = 200;
 pub struct Line<'a> {
     pub number: u32,
     pub words: Words<'a>,
+    pub ghost counted: { 1 ≤ number },
 }
 
 /// The lines of a script that are left, and how many were cut off.
@@ -24,7 +26,7 @@ pub struct Line<'a> {
 pub struct Lines<'a> {
     rest: &'a [u8],
     number: u32,
-    ghost countable: { number + length rest.now ≤ 16777216 },
+    ghost countable: { number + length rest.now ≤ MOST_BYTES },
 }
 
 impl<'a> Lines<'a> {
@@ -40,7 +42,8 @@ impl<'a> Lines<'a> {
 
     /// The next line that has a word, if one is left. Comments and lines without a word are skipped.
     pub fn next_line(&mut self) -> Result<Option<Line<'a>>, ScriptFault>
-        ensures { IfOk result (λ line. IfSome line (λ _. length self.new.rest.now < length self.old.rest.now)) }
+        ensures shorter { IfOk result (λ line. IfSome line (λ _. length self.new.rest.now < length self.old.rest.now)) }
+        ensures fault { IfErr result (λ fault. 1 ≤ fault.line) }
     {
         while let Some(bytes) = self.cut() {
             if ScriptFault::at(self.number, has_word(self.number, bytes))? {
@@ -54,7 +57,9 @@ impl<'a> Lines<'a> {
     }
 
     /// The next line that has a word, which the header still needs.
-    pub fn header_line(&mut self) -> Result<Line<'a>, ScriptFault> {
+    pub fn header_line(&mut self) -> Result<Line<'a>, ScriptFault>
+        ensures { IfErr result (λ fault. 1 ≤ fault.line) }
+    {
         match self.next_line()? {
             Some(line) => Ok(line),
             None => Err(ScriptFault {
@@ -66,7 +71,8 @@ impl<'a> Lines<'a> {
 
     /// Cuts off the next line: up to a line feed or the end, without a carriage return there.
     fn cut(&mut self) -> Option<&'a [u8]>
-        ensures { IfSome result (λ _. length self.new.rest.now < length self.old.rest.now) }
+        ensures shorter { IfSome result (λ _. length self.new.rest.now < length self.old.rest.now) }
+        ensures counted { IfSome result (λ _. self.new.number ≡ self.old.number + 1) }
     {
         if self.rest.is_empty() {
             return None;
