@@ -58,11 +58,10 @@ shown_at c t A x B k e p l =
     let h = held_of t in
     let rs = map h (waiting t) in
     let cut : rs ≡ map h A ++ h x ∷ map h B = ap (map h) e ∙ map-append h A (x ∷ B) in
-    let at = at_place rs (map h A) (h x) (map h B) k (record_at [] 0) cut (length-map A h ∙ l) in
-    (
+    let at = at_place rs (map h A) (h x) (map h B) k (record_at [] 0) cut (length-map A h ∙ l) in (
       ap (λ (r : Record). r.command.reference) at.item,
       ap (λ r. figure_between c (take k rs) r (drop (k + 1) rs)) at.item
-      ∙ (ap (λ a. figure_between c a (h x) (drop (k + 1) rs)) at.before ∙ (ap (figure_between c (map h A) (h x)) at.behind ∙ figure_held c t A x B e p)),
+          ∙ (ap (λ a. figure_between c a (h x) (drop (k + 1) rs)) at.before ∙ (ap (figure_between c (map h A) (h x)) at.behind ∙ figure_held c t A x B e p)),
     )
 
 figures_part : (c : Settings) (t : Trace) (A B : List ℕ) (k : ℕ) → waiting t ≡ A ++ B → length A ≡ k → AllByRecursion (λ x. passes t x ≡ 0) B
@@ -93,15 +92,15 @@ figure_of_held c t r p =
     let q : ℕ → Bool = λ x. nat_eq (reference t x) r in
     ⊎_elim
     (λ none.
-      ap (holdings.figure_found c rs) (position_none (has_reference r) rs (has_held t r (waiting t) none)) ∙ sym (ap (figure_found c t) (find_none q (waiting t) none)))
+    ap (holdings.figure_found c rs) (position_none (has_reference r) rs (has_held t r (waiting t) none)) ∙ sym (ap (figure_found c t) (find_none q (waiting t) none)))
     (λ some.
-      let A = some.0 in
-      let x = some.1 in
-      let B = some.2 in
-      let f = some.3 in
-      let cut : rs ≡ map h A ++ h x ∷ map h B = ap (map h) f.is ∙ map-append h A (x ∷ B) in
-      let own = (every_parts (λ x. passes t x ≡ 0) A (x ∷ B) (subst (AllByRecursion (λ x. passes t x ≡ 0)) f.is p)).1.0 in
-      ap (holdings.figure_found c rs) (ap (position (has_reference r)) cut ∙ position_first (has_reference r) (map h A) (h x) (map h B) (has_held t r A f.before) f.passes)
-      ∙ ((shown_at c t A x B (length (map h A)) f.is own (sym (length-map A h))).1
-      ∙ sym (ap (figure_found c t) (ap (find q) f.is ∙ find_first q A x B f.before f.passes))))
+    let A = some.0 in
+    let x = some.1 in
+    let B = some.2 in
+    let f = some.3 in
+    let cut : rs ≡ map h A ++ h x ∷ map h B = ap (map h) f.is ∙ map-append h A (x ∷ B) in
+    let own = (every_parts (λ x. passes t x ≡ 0) A (x ∷ B) (subst (AllByRecursion (λ x. passes t x ≡ 0)) f.is p)).1.0 in
+    ap (holdings.figure_found c rs) (ap (position (has_reference r)) cut ∙ position_first (has_reference r) (map h A) (h x) (map h B) (has_held t r A f.before) f.passes)
+    ∙ ((shown_at c t A x B (length (map h A)) f.is own (sym (length-map A h))).1
+    ∙ sym (ap (figure_found c t) (ap (find q) f.is ∙ find_first q A x B f.before f.passes))))
     (find_cases q (waiting t))

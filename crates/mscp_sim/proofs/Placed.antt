@@ -57,9 +57,9 @@ find_cases {X} p (y ∷ ys) =
     λ b. elim b as (λ b. p y ≡ b → AllByRecursion (λ z. p z ≡ false) (y ∷ ys) ⊎ ((front : List X) × (x : X) × (back : List X) × Found p (y ∷ ys) front x back)) [
       | true ↦ λ e. inr ([], y, ys, record { is = refl; before = tt; passes = e })
       | false ↦ λ e. elim rest as (λ r. AllByRecursion (λ z. p z ≡ false) (y ∷ ys) ⊎ ((front : List X) × (x : X) × (back : List X) × Found p (y ∷ ys) front x back)) [
-          | inl h ↦ inl (e, h)
-          | inr h ↦ inr (y ∷ h.0, h.1, h.2, record { is = ap (λ zs. y ∷ zs) h.3.is; before = (e, h.3.before); passes = h.3.passes })
-        ]
+        | inl h ↦ inl (e, h)
+        | inr h ↦ inr (y ∷ h.0, h.1, h.2, record { is = ap (λ zs. y ∷ zs) h.3.is; before = (e, h.3.before); passes = h.3.passes })
+      ]
     ] in
     both (p y) refl
 

@@ -189,8 +189,7 @@ each_behind : (c : Settings) (t : Trace) (k : Block) (y : ℕ) (B : List ℕ) �
 each_behind c t k y B a =
     let t' = t ++ serving t k y ∷ [] in
     let keeps = behind_kept c t k y B a.step in
-    let idle = along (λ x. done t x ≡ 0) (λ x. done t' x ≡ 0) t t' (λ x p g. p.done ∙ g) B keeps a.idle in
-    (
+    let idle = along (λ x. done t x ≡ 0) (λ x. done t' x ≡ 0) t t' (λ x p g. p.done ∙ g) B keeps a.idle in (
       record {
         waits = sym (records_kept t t' B keeps);
         well = along (λ x. good t x ≡ done t x) (λ x. good t' x ≡ done t' x) t t' (λ x p g. p.good ∙ (g ∙ sym p.done)) B keeps a.behind_well;

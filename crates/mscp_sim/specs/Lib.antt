@@ -14,3 +14,5 @@ pub mod Ends
 pub mod Credits
 pub mod Legal
 pub mod Headline
+pub mod Requests
+pub mod Simulated

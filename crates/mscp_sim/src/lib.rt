@@ -14,5 +14,7 @@ pub mod reading;
 pub mod record;
 pub mod report;
 pub mod run;
+pub mod script;
+pub mod simulate;
 pub mod stream;
 mod totals;

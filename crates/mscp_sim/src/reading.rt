@@ -3,11 +3,15 @@
 ghost use Rattle.std.specs.Prelude.{◌≡◌, ◌≤◌, ◌↔◌, true, false, vec_len, IfOk};
 ghost use Rattle.mscp_sim.specs.Whole.{IsFront, IsRest};
 
+#[cfg(test)]
+mod tests;
+
+use crate::script::MOST_BYTES;
 use crate::stream::Source;
 use std::alloc::Global;
 
 /// How many bytes are read at most: one more than the longest script has.
-pub const LIMIT: usize = 16_777_217;
+pub const LIMIT: usize = MOST_BYTES + 1;
 
 /// Why not all was read.
 #[derive(Clone, Copy, Debug, PartialEq, Eq)]

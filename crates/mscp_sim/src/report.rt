@@ -5,6 +5,9 @@ ghost use Rattle.std.specs.List.{flat_map, sum_by};
 ghost use Rattle.std.specs.String.{string_bytes};
 ghost use Rattle.mscp_sim.specs.Text.{aborted_part, block_word, ended_part, entry_lines, figure_line, refusal_word, sent_line, step_line, text, totals_line};
 
+#[cfg(test)]
+mod tests;
+
 use crate::block::Report;
 use crate::event::{Entry, SendFault, Sent};
 use crate::memory::OutOfMemory;

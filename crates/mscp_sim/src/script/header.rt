@@ -1,0 +1,133 @@
+// The header of a script: each line once and in order.
+
+ghost use Rattle.std.specs.Prelude.{◌≤◌, IfErr};
+
+use crate::config::{Config, Unit};
+use crate::script::fault::{Cause, ScriptFault};
+use crate::script::lines::Lines;
+use crate::script::words::Words;
+
+/// What a script's controller is known by.
+const IDENTIFIER: u64 = 1;
+
+/// The settings of a header.
+#[derive(Clone, Copy, Debug)]
+struct Settings {
+    credits: u32,
+    passing: u32,
+    longest: u32,
+    timeout: u16,
+    unit: Unit,
+}
+
+/// Reads the header, up to its `go`.
+pub fn read_header(lines: &mut Lines<'_>) -> Result<Config, ScriptFault>
+    ensures { IfErr result (λ fault. 1 ≤ fault.line) }
+{
+    let settings = Settings {
+        credits: read_wide(lines, b"credits")?,
+        passing: read_wide(lines, b"passing")?,
+        longest: read_wide(lines, b"longest")?,
+        timeout: read_narrow(lines, b"timeout")?,
+        unit: read_unit(lines)?,
+    };
+    let line = lines.header_line()?;
+    ScriptFault::at(line.number, after_units(line.words, settings))
+}
+
+/// Reads the line of this word and of a number from 0 to 4294967295.
+fn read_wide(lines: &mut Lines<'_>, word: &[u8]) -> Result<u32, ScriptFault>
+    ensures { IfErr result (λ fault. 1 ≤ fault.line) }
+{
+    let line = lines.header_line()?;
+    ScriptFault::at(line.number, wide_setting(line.words, word))
+}
+
+/// Reads the line of this word and of a number from 0 to 65535.
+fn read_narrow(lines: &mut Lines<'_>, word: &[u8]) -> Result<u16, ScriptFault>
+    ensures { IfErr result (λ fault. 1 ≤ fault.line) }
+{
+    let line = lines.header_line()?;
+    ScriptFault::at(line.number, narrow_setting(line.words, word))
+}
+
+/// Reads the line of a unit.
+fn read_unit(lines: &mut Lines<'_>) -> Result<Unit, ScriptFault>
+    ensures { IfErr result (λ fault. 1 ≤ fault.line) }
+{
+    let line = lines.header_line()?;
+    ScriptFault::at(line.number, first_unit(line.words))
+}
+
+/// The number of a line, whose first word is this one.
+fn wide_setting(mut words: Words<'_>, word: &[u8]) -> Result<u32, Cause> {
+    if words.next_word() != Some(word) {
+        return Err(Cause::Word);
+    }
+    words.exactly(1)?.wide()
+}
+
+/// The same of a number from 0 to 65535.
+fn narrow_setting(mut words: Words<'_>, word: &[u8]) -> Result<u16, Cause> {
+    if words.next_word() != Some(word) {
+        return Err(Cause::Word);
+    }
+    words.exactly(1)?.narrow()
+}
+
+/// The unit of a line, whose first word is `unit`.
+fn first_unit(mut words: Words<'_>) -> Result<Unit, Cause> {
+    match words.next_word() {
+        Some(b"unit") => unit_of(words),
+        _ => Err(Cause::Word),
+    }
+}
+
+/// The unit of these fields. No size of it may be 0.
+fn unit_of(words: Words<'_>) -> Result<Unit, Cause> {
+    let mut fields = words.exactly(5)?;
+    let unit = Unit {
+        number: fields.narrow()?,
+        track: fields.narrow()?,
+        group: fields.narrow()?,
+        cylinder: fields.narrow()?,
+        size: fields.wide()?,
+    };
+    if unit.track == 0 || unit.group == 0 || unit.cylinder == 0 || unit.size == 0 {
+        return Err(Cause::Unit);
+    }
+    Ok(unit)
+}
+
+/// What a line after the unit brings: the configuration. A second unit is one too many.
+fn after_units(mut words: Words<'_>, settings: Settings) -> Result<Config, Cause> {
+    match words.next_word() {
+        Some(b"go") => {
+            words.exactly(0)?;
+            configured(settings)
+        }
+        Some(b"unit") => {
+            let _unit = unit_of(words)?;
+            Err(Cause::Unit)
+        }
+        _ => Err(Cause::Word),
+    }
+}
+
+/// The configuration of these settings. No command is passed so far.
+fn configured(settings: Settings) -> Result<Config, Cause> {
+    let Settings {
+        credits,
+        passing,
+        longest,
+        timeout,
+        unit,
+    } = settings;
+    if passing != 0 {
+        return Err(Cause::Config);
+    }
+    match Config::new(credits, passing, longest, timeout, IDENTIFIER, unit) {
+        Ok(config) => Ok(config),
+        Err(_) => Err(Cause::Config),
+    }
+}

@@ -1,0 +1,217 @@
+use super::*;
+use crate::block::Block;
+use crate::config::Unit;
+use arrayvec::ArrayVec;
+use std::process::Abort;
+use std::test::Fail;
+
+const HEADER: &str = "credits 4\npassing 0\nlongest 8\ntimeout 60\nunit 0 10 2 1 1000\ngo\n";
+
+/// What a script that must be refused prints.
+fn fault_text(rt: &impl Abort, alloc: Global, bytes: &[u8]) -> String {
+    let Err(fault) = read_script(alloc, bytes) else {
+        panic!(rt; "it is read");
+    };
+    fault.to_string(alloc).expect(rt, "memory")
+}
+
+/// The last line of the fault after a header of these lines and then these.
+fn joined(rt: &impl Abort, alloc: Global, parts: &[&str]) -> String {
+    let mut all = String::new(alloc);
+    for part in parts {
+        all.push_str(part).expect(rt, "memory");
+    }
+    all
+}
+
+fn sent(rt: &impl Abort, bytes: &[u8]) -> Event {
+    let mut message = ArrayVec::new();
+    message.try_extend_from_slice(bytes).expect(rt, "room");
+    Event::Send(message)
+}
+
+#[test]
+fn reads_a_header_and_events(rt: HostRuntime) -> Result<(), Fail> {
+    let text = joined(
+        &rt,
+        rt.alloc(),
+        &[
+            HEADER,
+            "read 1 0 1024 5\nstatus 2 1\ntake\nstep 1\nstatus 3 1\n take \n# no line\n\nstep 2\r\ntake",
+        ],
+    );
+    let script = read_script(rt.alloc(), text.as_bytes())?;
+    let unit = Unit {
+        number: 0,
+        track: 10,
+        group: 2,
+        cylinder: 1,
+        size: 1000,
+    };
+    assert_eq!(rt;
+        script.config,
+        Config::new(4, 0, 8, 60, 1, unit).ok().expect(&rt, "limits")
+    );
+    let wanted = [
+        sent(
+            &rt,
+            b"\x01\0\0\0\0\0\0\0\x21\0\0\0\0\x04\0\0\0\0\0\0\0\0\0\0\0\0\0\0\x05\0\0\0",
+        ),
+        sent(&rt, b"\x02\0\0\0\0\0\0\0\x02\0\0\0\x01\0\0\0"),
+        Event::Take,
+        Event::Step(Block::Good),
+        sent(&rt, b"\x03\0\0\0\0\0\0\0\x02\0\0\0\x01\0\0\0"),
+        Event::Take,
+        Event::Step(Block::Good),
+        Event::Step(Block::Good),
+        Event::Take,
+    ];
+    assert_eq!(rt; script.events.as_slice(), wanted.as_slice());
+    Ok(())
+}
+
+#[test]
+fn tells_the_first_fault(rt: HostRuntime) {
+    let cases = [
+        ("", "line 1: header"),
+        ("\r", "line 2: header"),
+        ("credits 4\npassing 0", "line 3: header"),
+        ("credits 4\n\n# go\n", "line 4: header"),
+        ("credits 4\r\r\n", "line 1: byte"),
+        ("credits\t4\n", "line 1: byte"),
+        ("credits 4\n # a comment\n", "line 2: word"),
+        ("go\n", "line 1: word"),
+        ("credits 4\ncredits 4\n", "line 2: word"),
+        ("Credits 4\n", "line 1: word"),
+        ("credit 4\n", "line 1: word"),
+        ("credits\n", "line 1: count"),
+        ("credits 4 x\n", "line 1: count"),
+        ("credits x\n", "line 1: number"),
+        ("credits +4\n", "line 1: number"),
+        ("credits 4294967296\n", "line 1: number"),
+        ("credits 00000000004\n", "line 1: number"),
+        ("credits 0000000004\n", "line 2: header"),
+        ("credits 4294967295\n", "line 2: header"),
+        (
+            "credits 4\npassing 0\nlongest 8\ntimeout 65536\n",
+            "line 4: number",
+        ),
+    ];
+    for (text, wanted) in cases {
+        let found = fault_text(&rt, rt.alloc(), text.as_bytes());
+        assert_eq!(rt; found.as_str(), wanted, "of {text:?}");
+    }
+}
+
+#[test]
+fn tells_the_fault_of_a_unit_or_of_limits(rt: HostRuntime) {
+    let before = "credits 4\npassing 0\nlongest 8\ntimeout 60\n";
+    let cases = [
+        ("go\n", "line 5: word"),
+        ("unit 0 0 2 1 1000\n", "line 5: unit"),
+        ("unit 0 10 0 1 1000\n", "line 5: unit"),
+        ("unit 0 10 2 0 1000\n", "line 5: unit"),
+        ("unit 0 10 2 1 0\n", "line 5: unit"),
+        ("unit 0 0 2 1\n", "line 5: count"),
+        ("unit 0 0 2 1 4294967296\n", "line 5: number"),
+        ("unit 65536 10 2 1 1000\n", "line 5: number"),
+        ("unit 0 10 2 1 1000\n", "line 6: header"),
+        ("unit 0 10 2 1 1000\ngo now\n", "line 6: count"),
+        ("unit 0 10 2 1 1000\ntake\n", "line 6: word"),
+        ("unit 0 10 2 1 1000\nunit 1 10 2 1 1000\n", "line 6: unit"),
+        ("unit 0 10 2 1 1000\nunit 1 10 2 1\n", "line 6: count"),
+        (
+            "unit 0 10 2 1 1000\nunit 1 65536 2 1 1000\n",
+            "line 6: number",
+        ),
+    ];
+    for (text, wanted) in cases {
+        let all = joined(&rt, rt.alloc(), &[before, text]);
+        let found = fault_text(&rt, rt.alloc(), all.as_bytes());
+        assert_eq!(rt; found.as_str(), wanted, "of {text:?}");
+    }
+    let limits = [
+        "credits 1\npassing 0\nlongest 8\ntimeout 60\n",
+        "credits 65\npassing 0\nlongest 8\ntimeout 60\n",
+        "credits 4\npassing 1\nlongest 8\ntimeout 60\n",
+        "credits 4\npassing 0\nlongest 8388609\ntimeout 60\n",
+        "credits 4\npassing 0\nlongest 8\ntimeout 256\n",
+    ];
+    for text in limits {
+        let all = joined(&rt, rt.alloc(), &[text, "unit 0 10 2 1 1000\ngo\nnothing"]);
+        let found = fault_text(&rt, rt.alloc(), all.as_bytes());
+        assert_eq!(rt; found.as_str(), "line 6: config", "of {text:?}");
+    }
+}
+
+#[test]
+fn tells_the_fault_of_an_event(rt: HostRuntime) {
+    let cases = [
+        ("step 0", "line 7: number"),
+        ("step 1001", "line 7: number"),
+        ("step", "line 7: count"),
+        ("step 1 1", "line 7: count"),
+        ("take 1", "line 7: count"),
+        ("read 1 0 512", "line 7: count"),
+        ("read 1 65536 512 0", "line 7: number"),
+        ("read 1 0 512 4294967296", "line 7: number"),
+        ("status 1 -1", "line 7: number"),
+        ("look", "line 7: word"),
+        ("credits 4", "line 7: word"),
+        ("take\n\ntaken", "line 9: word"),
+        ("take # now", "line 7: count"),
+        ("take \x7f", "line 7: byte"),
+    ];
+    for (text, wanted) in cases {
+        let all = joined(&rt, rt.alloc(), &[HEADER, text]);
+        let found = fault_text(&rt, rt.alloc(), all.as_bytes());
+        assert_eq!(rt; found.as_str(), wanted, "of {text:?}");
+    }
+}
+
+#[test]
+fn tells_a_long_line(rt: HostRuntime) -> Result<(), Fail> {
+    // 200 bytes, of which none but the first says what the line is.
+    for (first, fits) in [(b'#', true), (b' ', true)] {
+        let mut text = vec![in rt.alloc(); first]?;
+        text.extend_from_slice(&[b' '; 199])?;
+        text.extend_from_slice(b"\r\n")?;
+        text.extend_from_slice(HEADER.as_bytes())?;
+        assert_eq!(rt; read_script(rt.alloc(), &text).is_ok(), fits);
+        let mut long = vec![in rt.alloc(); first]?;
+        long.extend_from_slice(&[b' '; 200])?;
+        let found = fault_text(&rt, rt.alloc(), &long);
+        assert_eq!(rt; found.as_str(), "line 1: long");
+    }
+    Ok(())
+}
+
+#[test]
+fn keeps_the_limits(rt: HostRuntime) -> Result<(), Fail> {
+    let cases = [
+        (b'\n', 1_000_000, "line 1000001: header"),
+        (b'\n', 1_000_001, "line 1000001: lines"),
+        (b' ', 16_777_216, "line 1: long"),
+        (b' ', 16_777_217, "line 0: size"),
+    ];
+    for (byte, count, wanted) in cases {
+        let text = vec![in rt.alloc(); byte; count]?;
+        let found = fault_text(&rt, rt.alloc(), &text);
+        assert_eq!(rt; found.as_str(), wanted);
+    }
+    Ok(())
+}
+
+#[test]
+fn keeps_the_limit_of_events(rt: HostRuntime) -> Result<(), Fail> {
+    let mut text = joined(&rt, rt.alloc(), &[HEADER]);
+    for _ in 0..1000 {
+        text.push_str("step 1000\n")?;
+    }
+    let script = read_script(rt.alloc(), text.as_bytes())?;
+    assert_eq!(rt; script.events.len(), 1_000_000);
+    text.push_str("take\n")?;
+    let found = fault_text(&rt, rt.alloc(), text.as_bytes());
+    assert_eq!(rt; found.as_str(), "line 1007: events");
+    Ok(())
+}
