@@ -32,11 +32,14 @@ impl Fault {
 /// another fault.
 fn check_words(rt: &HostRuntime) -> Result<(), Fault> {
     match std::env::args(rt) {
-        Ok(words) if words.skip(1).next().is_none() => Ok(()),
+        Ok(words) => match words.skip(1).next() {
+            Some(_) => Err(Fault::Usage),
+            None => Ok(()),
+        },
         Err(refusal) if refusal.kind() == ErrorKind::OutOfMemory => {
             Err(Fault::Simulation(SimFault::OutOfMemory))
         }
-        _ => Err(Fault::Usage),
+        Err(_) => Err(Fault::Usage),
     }
 }
 
