@@ -14,7 +14,7 @@ use Rattle.mscp_packet.specs.declared.command.Command.{Command}
 -- the opcodes whose messages are read so far: every other counts as unknown (profile)
 abbrev pub is_served : Opcode → Bool
 is_served codes.Status = true
-is_served (codes.Move moves.Read) = true
+is_served (codes.Move kind) = true
 is_served opcode = false
 
 -- the fewest bytes that a command of an opcode has (profile)

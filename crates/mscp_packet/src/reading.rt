@@ -5,7 +5,7 @@ ghost use Rattle.mscp_packet.specs.Opcodes.{opcode_of};
 ghost use Rattle.mscp_packet.specs.Commands.{is_served, least, order_with, parameters, IsCommand};
 
 use crate::class::{Opcode, opcode_of};
-use crate::command::{Command, MoveKind, Order};
+use crate::command::{Command, Order};
 use crate::fields::{four_at, two_at};
 
 /// Why bytes are no message.
@@ -22,7 +22,7 @@ fn is_served(opcode: Opcode) -> bool
     ensures { result ≡ is_served opcode }
 {
     match opcode {
-        Opcode::Status | Opcode::Move(MoveKind::Read) => true,
+        Opcode::Status | Opcode::Move(_) => true,
         _ => false,
     }
 }

@@ -7,4 +7,5 @@ use Rattle.mscp_sim.specs.declared.script.events.Request.TheVariants as requests
 abbrev pub event_total : Request → ℕ
 event_total (requests.Send command) = 1
 event_total requests.Take = 1
+event_total requests.Look = 1
 event_total (requests.Steps count) = count

@@ -29,6 +29,8 @@ pub enum Request {
     Take,
     /// The drive serves so many good blocks.
     Steps(u32),
+    /// The figures of all waiting commands are asked for.
+    Look,
 }
 
 /// Reads all lines that are left.
@@ -54,14 +56,22 @@ pub fn read_events(alloc: Global, lines: &mut Lines<'_>) -> Result<Vec<Event>, R
 fn read_request(mut words: Words<'_>) -> Result<Request, Cause> {
     match words.next_word() {
         Some(b"read") => read_move(MoveKind::Read, words),
+        Some(b"write") => read_move(MoveKind::Write, words),
+        Some(b"access") => read_move(MoveKind::Access, words),
+        Some(b"erase") => read_move(MoveKind::Erase, words),
+        Some(b"compare") => read_move(MoveKind::Compare, words),
         Some(b"status") => read_status(words),
         Some(b"step") => read_steps(words),
-        Some(b"take") => {
-            words.exactly(0)?;
-            Ok(Request::Take)
-        }
+        Some(b"take") => alone(Request::Take, words),
+        Some(b"look") => alone(Request::Look, words),
         _ => Err(Cause::Word),
     }
+}
+
+/// A request that has no fields.
+fn alone(request: Request, words: Words<'_>) -> Result<Request, Cause> {
+    words.exactly(0)?;
+    Ok(request)
 }
 
 /// A transfer: its reference number, its unit, how many bytes, and the first block.
@@ -108,7 +118,7 @@ fn event_count(request: &Request) -> usize
     ensures { result ≡ event_total request.now }
 {
     match request {
-        Request::Send(_) | Request::Take => 1,
+        Request::Send(_) | Request::Take | Request::Look => 1,
         Request::Steps(count) => *count as usize,
     }
 }
@@ -120,6 +130,7 @@ fn add_events(events: &mut Vec<Event>, request: &Request) -> Result<(), OutOfMem
     match request {
         Request::Send(command) => events.push(Event::Send(message(command)))?,
         Request::Take => events.push(Event::Take)?,
+        Request::Look => events.push(Event::Look)?,
         Request::Steps(count) => {
             for _step in 0..*count {
                 events.push(Event::Step(Block::Good))?;

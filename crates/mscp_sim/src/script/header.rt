@@ -114,7 +114,7 @@ fn after_units(mut words: Words<'_>, settings: Settings) -> Result<Config, Cause
     }
 }
 
-/// The configuration of these settings. No command is passed so far.
+/// The configuration of these settings.
 fn configured(settings: Settings) -> Result<Config, Cause> {
     let Settings {
         credits,
@@ -123,9 +123,6 @@ fn configured(settings: Settings) -> Result<Config, Cause> {
         timeout,
         unit,
     } = settings;
-    if passing != 0 {
-        return Err(Cause::Config);
-    }
     match Config::new(credits, passing, longest, timeout, IDENTIFIER, unit) {
         Ok(config) => Ok(config),
         Err(_) => Err(Cause::Config),
