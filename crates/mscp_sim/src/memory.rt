@@ -1,7 +1,5 @@
 // The refusal of memory.
 
-ghost use Rattle.std.specs.Prelude.{◌≡◌};
-
 use std::alloc::{AllocError, AllocFailed};
 use thiserror::Error;
 

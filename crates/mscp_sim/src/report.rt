@@ -1,9 +1,9 @@
 // The text of a report: a line for each entry, one for each command of a look, and the totals.
 
-ghost use Rattle.std.specs.Prelude.{◌≡◌, ◌<◌, ◌≤◌, ◌+◌, ◌*◌, ◌^◌, ◌++◌, List, ℕ, IfOk, OnOk, length};
-ghost use Rattle.std.specs.List.{flat_map, sum_by};
+ghost use Rattle.std.specs.Prelude.{◌≡◌, ◌++◌, IfOk, OnOk};
+ghost use Rattle.std.specs.List.{flat_map};
 ghost use Rattle.std.specs.String.{string_bytes};
-ghost use Rattle.mscp_sim.specs.Text.{aborted_part, block_word, ended_part, entry_lines, figure_line, refusal_word, sent_line, step_line, text, totals_line};
+ghost use Rattle.mscp_sim.specs.Text.{block_word, ended_part, entry_lines, figure_line, refusal_word, sent_line, step_line, text, totals_line};
 
 #[cfg(test)]
 mod tests;

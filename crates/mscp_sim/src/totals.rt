@@ -1,6 +1,6 @@
 // The totals of a report.
 
-ghost use Rattle.std.specs.Prelude.{◌≡◌, ◌≤◌, ◌-◌, ◌*◌, ◌^◌, length};
+ghost use Rattle.std.specs.Prelude.{◌≡◌, ◌≤◌, ◌-◌};
 ghost use Rattle.std.specs.List.{sum_by};
 ghost use Rattle.mscp_sim.specs.Text.{ended_count, queued_count, seek_of, step_count};
 

@@ -7,7 +7,7 @@ use std::test::Fail;
 
 const HEADER: &str = "credits 4\npassing 0\nlongest 8\ntimeout 60\nunit 0 10 2 1 1000\ngo\n";
 
-/// What a script that must be refused prints.
+/// How the fault of a script is printed.
 fn fault_text(rt: &impl Abort, alloc: Global, bytes: &[u8]) -> String {
     let Err(fault) = read_script(alloc, bytes) else {
         panic!(rt; "it is read");
@@ -15,7 +15,7 @@ fn fault_text(rt: &impl Abort, alloc: Global, bytes: &[u8]) -> String {
     fault.to_string(alloc).expect(rt, "memory")
 }
 
-/// The last line of the fault after a header of these lines and then these.
+/// These texts, one after the other.
 fn joined(rt: &impl Abort, alloc: Global, parts: &[&str]) -> String {
     let mut all = String::new(alloc);
     for part in parts {
@@ -78,7 +78,10 @@ fn tells_the_first_fault(rt: HostRuntime) {
         ("credits 4\npassing 0", "line 3: header"),
         ("credits 4\n\n# go\n", "line 4: header"),
         ("credits 4\r\r\n", "line 1: byte"),
+        ("credits 4\r", "line 2: header"),
         ("credits\t4\n", "line 1: byte"),
+        ("\t\n", "line 1: byte"),
+        ("#\t\r\r\ncredits\n", "line 2: count"),
         ("credits 4\n # a comment\n", "line 2: word"),
         ("go\n", "line 1: word"),
         ("credits 4\ncredits 4\n", "line 2: word"),
@@ -134,7 +137,9 @@ fn tells_the_fault_of_a_unit_or_of_limits(rt: HostRuntime) {
         "credits 1\npassing 0\nlongest 8\ntimeout 60\n",
         "credits 65\npassing 0\nlongest 8\ntimeout 60\n",
         "credits 4\npassing 1\nlongest 8\ntimeout 60\n",
+        "credits 4\npassing 0\nlongest 0\ntimeout 60\n",
         "credits 4\npassing 0\nlongest 8388609\ntimeout 60\n",
+        "credits 4\npassing 0\nlongest 8\ntimeout 0\n",
         "credits 4\npassing 0\nlongest 8\ntimeout 256\n",
     ];
     for text in limits {
@@ -171,13 +176,12 @@ fn tells_the_fault_of_an_event(rt: HostRuntime) {
 
 #[test]
 fn tells_a_long_line(rt: HostRuntime) -> Result<(), Fail> {
-    // 200 bytes, of which none but the first says what the line is.
-    for (first, fits) in [(b'#', true), (b' ', true)] {
+    for first in [b'#', b' '] {
         let mut text = vec![in rt.alloc(); first]?;
         text.extend_from_slice(&[b' '; 199])?;
         text.extend_from_slice(b"\r\n")?;
         text.extend_from_slice(HEADER.as_bytes())?;
-        assert_eq!(rt; read_script(rt.alloc(), &text).is_ok(), fits);
+        assert!(rt; read_script(rt.alloc(), &text).is_ok());
         let mut long = vec![in rt.alloc(); first]?;
         long.extend_from_slice(&[b' '; 200])?;
         let found = fault_text(&rt, rt.alloc(), &long);
@@ -189,13 +193,15 @@ fn tells_a_long_line(rt: HostRuntime) -> Result<(), Fail> {
 #[test]
 fn keeps_the_limits(rt: HostRuntime) -> Result<(), Fail> {
     let cases = [
-        (b'\n', 1_000_000, "line 1000001: header"),
-        (b'\n', 1_000_001, "line 1000001: lines"),
-        (b' ', 16_777_216, "line 1: long"),
-        (b' ', 16_777_217, "line 0: size"),
+        (b'\n', 1_000_000, "", "line 1000001: header"),
+        (b'\n', 1_000_000, "#", "line 1000001: lines"),
+        (b'\n', 1_000_000, "\n", "line 1000001: lines"),
+        (b' ', 16_777_216, "", "line 1: long"),
+        (b' ', 16_777_216, " ", "line 0: size"),
     ];
-    for (byte, count, wanted) in cases {
-        let text = vec![in rt.alloc(); byte; count]?;
+    for (byte, count, last, wanted) in cases {
+        let mut text = vec![in rt.alloc(); byte; count]?;
+        text.extend_from_slice(last.as_bytes())?;
         let found = fault_text(&rt, rt.alloc(), &text);
         assert_eq!(rt; found.as_str(), wanted);
     }
@@ -208,10 +214,18 @@ fn keeps_the_limit_of_events(rt: HostRuntime) -> Result<(), Fail> {
     for _ in 0..1000 {
         text.push_str("step 1000\n")?;
     }
+    text.push_str("# no event\n")?;
     let script = read_script(rt.alloc(), text.as_bytes())?;
     assert_eq!(rt; script.events.len(), 1_000_000);
-    text.push_str("take\n")?;
-    let found = fault_text(&rt, rt.alloc(), text.as_bytes());
-    assert_eq!(rt; found.as_str(), "line 1007: events");
+    let cases = [
+        ("take", "line 1008: events"),
+        ("step 0", "line 1008: number"),
+    ];
+    for (last, wanted) in cases {
+        let mut all = text.clone()?;
+        all.push_str(last)?;
+        let found = fault_text(&rt, rt.alloc(), all.as_bytes());
+        assert_eq!(rt; found.as_str(), wanted);
+    }
     Ok(())
 }
