@@ -8,6 +8,9 @@ ghost use Rattle.mscp_sim.specs.Outcomes.{block_touched};
 ghost use Rattle.mscp_sim.specs.Settings.{IsValid};
 ghost use Rattle.mscp_sim.specs.Holdings.{after, after_message, after_step, after_take, answer_to_message, arrives, balance_of, becomes, ended, entry_of, figure_of_reference, figures, fresh, outstanding_of, queued, report_of};
 
+#[cfg(test)]
+mod tests;
+
 use crate::arrival::{fault_of, is_immediate, may_take_last_credit, weight_of};
 use crate::block::{Block, Report};
 use crate::config::Config;

@@ -4,6 +4,9 @@ ghost use Rattle.std.specs.Prelude.{◌≡◌, IfOk};
 ghost use Rattle.mscp_sim.specs.Holdings.{fresh, replies};
 ghost use Rattle.mscp_sim.specs.Headline.{Headline};
 
+#[cfg(test)]
+mod tests;
+
 use crate::config::Config;
 use crate::controller::Controller;
 use crate::event::{Entry, Event};

@@ -3,6 +3,9 @@
 ghost use Rattle.std.specs.Prelude.{◌≡◌, ◌↔◌, true, false, IfOk};
 ghost use Rattle.mscp_sim.specs.Simulated.{IsReport, LeavesRest, WritesReport};
 
+#[cfg(test)]
+mod tests;
+
 use crate::reading::{LIMIT, ReadAllFault, read_all};
 use crate::report::report;
 use crate::run::run;

@@ -136,7 +136,7 @@ fn tells_the_fault_of_a_unit_or_of_limits(rt: HostRuntime) {
     let limits = [
         "credits 1\npassing 0\nlongest 8\ntimeout 60\n",
         "credits 65\npassing 0\nlongest 8\ntimeout 60\n",
-        "credits 4\npassing 1\nlongest 8\ntimeout 60\n",
+        "credits 64\npassing 449\nlongest 8388608\ntimeout 60\n",
         "credits 4\npassing 0\nlongest 0\ntimeout 60\n",
         "credits 4\npassing 0\nlongest 8388609\ntimeout 60\n",
         "credits 4\npassing 0\nlongest 8\ntimeout 0\n",
@@ -161,7 +161,8 @@ fn tells_the_fault_of_an_event(rt: HostRuntime) {
         ("read 1 65536 512 0", "line 7: number"),
         ("read 1 0 512 4294967296", "line 7: number"),
         ("status 1 -1", "line 7: number"),
-        ("look", "line 7: word"),
+        ("look 1", "line 7: count"),
+        ("online 1 0", "line 7: word"),
         ("credits 4", "line 7: word"),
         ("take\n\ntaken", "line 9: word"),
         ("take # now", "line 7: count"),

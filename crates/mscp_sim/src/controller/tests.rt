@@ -1,0 +1,108 @@
+use super::*;
+use crate::block::FaultStatus;
+use crate::config::Unit;
+use mscp_packet::{EndBody, MoveKind, write_command};
+use std::process::Abort;
+
+/// The configuration of these credits and passing limit, with the longest transfer of 8 blocks and a unit of 1000.
+fn config(rt: &impl Abort, credits: u32, passing: u32) -> Config {
+    let unit = Unit {
+        number: 0,
+        track: 10,
+        group: 2,
+        cylinder: 1,
+        size: 1000,
+    };
+    Config::new(credits, passing, 8, 60, 1, unit)
+        .ok()
+        .expect(rt, "limits")
+}
+
+fn transfer(reference: u32, count: u32, block: u32) -> Command {
+    Command {
+        reference,
+        unit: 0,
+        order: Order::Move(MoveKind::Read, count, block),
+    }
+}
+
+fn poll(reference: u32, other: u32) -> Command {
+    Command {
+        reference,
+        unit: 0,
+        order: Order::Status(other),
+    }
+}
+
+fn send(controller: &mut Controller, command: &Command) -> Result<Sent, SendFault> {
+    controller.send(write_command(command).as_slice())
+}
+
+#[test]
+fn messages_of_a_wrong_length_change_nothing(rt: HostRuntime) {
+    let mut controller = Controller::new(config(&rt, 4, 0));
+    assert_eq!(rt; controller.send(&[0; 11]), Err(SendFault::Short));
+    assert_eq!(rt; controller.send(&[0; 65]), Err(SendFault::Long));
+    assert_eq!(rt; controller.balance(), 4);
+}
+
+#[test]
+fn the_last_credit_is_kept_for_immediate_commands(rt: HostRuntime) {
+    let mut controller = Controller::new(config(&rt, 2, 2));
+    let first = send(&mut controller, &transfer(1, 512, 0));
+    assert_eq!(rt; first, Ok(Sent::Queued(1)));
+    let second = send(&mut controller, &transfer(2, 512, 0));
+    assert_eq!(rt; second, Err(SendFault::LastCredit));
+    let asked = send(&mut controller, &poll(3, 1));
+    let answered = Sent::Answered {
+        reference: 3,
+        aborted: None,
+    };
+    assert_eq!(rt; asked, Ok(answered));
+    assert_eq!(rt;
+        send(&mut controller, &poll(4, 1)),
+        Err(SendFault::NoCredit)
+    );
+    let end = [
+        3, 0, 0, 0, 0, 0, 0, 0, 0x82, 0, 0, 0, 1, 0, 0, 0, 0x11, 0, 0, 0,
+    ];
+    let taken = controller.take().expect(&rt, "an end");
+    assert_eq!(rt; taken.as_slice(), end.as_slice());
+    assert_eq!(rt; controller.balance(), 1);
+}
+
+#[test]
+fn a_bad_block_ends_its_transfer(rt: HostRuntime) {
+    let mut controller = Controller::new(config(&rt, 4, 2));
+    let sent = send(&mut controller, &transfer(1, 1024, 0));
+    assert_eq!(rt; sent, Ok(Sent::Queued(1)));
+    assert_eq!(rt; controller.figure(1), 18);
+    let _first = controller.step(Block::Good);
+    let status = FaultStatus::new(0x000B).expect(&rt, "a status");
+    let report = controller.step(Block::Bad(status));
+    let end = End {
+        reference: 1,
+        unit: 0,
+        code: 0xA1,
+        status: 0x000B,
+        body: EndBody::Moved(512),
+    };
+    let wanted = Report::Served {
+        reference: 1,
+        unit: 0,
+        lbn: Some(1),
+        started: false,
+        seek: 0,
+        ended: Some(end),
+    };
+    assert_eq!(rt; report, wanted);
+    assert_eq!(rt; controller.figure(1), 0);
+}
+
+#[test]
+fn a_fault_status_has_a_code_of_at_least_five(rt: HostRuntime) {
+    assert_eq!(rt; FaultStatus::new(0x0004), None);
+    assert_eq!(rt; FaultStatus::new(0x0104), None);
+    let status = FaultStatus::new(0x0105).expect(&rt, "a status");
+    assert_eq!(rt; status.get(), 0x0105);
+}
