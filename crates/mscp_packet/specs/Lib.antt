@@ -1,4 +1,5 @@
 pub mod Number
+pub mod Places
 pub mod Opcodes
 pub mod Commands
 pub mod Ends

@@ -13,5 +13,5 @@ mod writing;
 pub use crate::class::{Class, class_of};
 pub use crate::command::{Command, MoveKind, Order};
 pub use crate::end::{End, EndBody};
-pub use crate::reading::{PacketFault, read_command};
+pub use crate::reading::{EndFault, PacketFault, read_command, read_end};
 pub use crate::writing::{write_command, write_end};

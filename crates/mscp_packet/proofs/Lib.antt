@@ -1,0 +1,4 @@
+pub mod Numbers
+pub mod Blanks
+pub mod Commands
+pub mod Ends
