@@ -1,5 +1,5 @@
 -- How a message is judged when it comes. Nothing here asks what came before it.
-use Rattle.std.specs.Prelude.{ℕ, ◌+◌, ◌/◌, max, Bool, true, false, not, ◌&&◌, nat_eq, nat_lt, nat_le, bit_or, if◌then◌else◌, ◌==◌, List, length, slice_index, Option, Some, None, is_none}
+use Rattle.std.specs.Prelude.{ℕ, Bool, true, false, not, ◌&&◌, nat_eq, nat_lt, bit_or, if◌then◌else◌, ◌==◌, List, length, slice_index, Option, Some, None, is_none}
 use Rattle.std.specs.List.{list_any}
 use Rattle.mscp_packet.specs.declared.class.Class.{Class}
 use Rattle.mscp_packet.specs.declared.class.Class.TheVariants.{Immediate}
@@ -9,7 +9,8 @@ use Rattle.mscp_packet.specs.declared.command.Command.{Command}
 use Rattle.mscp_packet.specs.Number.{num}
 use Rattle.mscp_packet.specs.Opcodes.{class}
 use Rattle.mscp_packet.specs.Commands.{opcode_byte}
-use Rattle.mscp_sim.specs.declared.config.Unit.{Unit}
+use Rattle.mscp_drive.specs.Shape.{Shape}
+use Rattle.mscp_drive.specs.Extent as extent
 use Rattle.mscp_sim.specs.declared.event.SendFault.{SendFault}
 use Rattle.mscp_sim.specs.declared.event.SendFault.TheVariants.{Short, Long, NoCredit, LastCredit, Doubled}
 use Rattle.mscp_sim.specs.Settings.{Settings, unit_found}
@@ -42,13 +43,9 @@ refusal balance outstanding b =
 
 -- ---- orders
 
--- the blocks of 512 bytes that so many bytes take (manual)
-abbrev pub blocks : ℕ → ℕ
-blocks count = (count + 511) / 512
-
 -- how many steps an order takes: one for each block of a transfer, and at least one (profile)
 abbrev pub order_weight : Order → ℕ
-order_weight (orders.Move kind count block) = max 1 (blocks count)
+order_weight (orders.Move kind count block) = extent.weight count
 order_weight order = 1
 
 -- answered when it comes, without a step (manual)
@@ -76,25 +73,26 @@ abbrev pub first_block : Order → ℕ
 first_block (orders.Move kind count block) = block
 first_block order = 0
 
--- where a transfer reaches past its unit, or is too long: 0x1C01 is Invalid Command, logical block
--- number, and 0x0C01 Invalid Command, byte count (manual, the longest is the profile's)
-abbrev pub range_fault : Settings → ℕ → ℕ → Unit → Option ℕ
-range_fault c count block unit =
-    if nat_le unit.size block then Some 0x1C01 else (
-    if nat_lt unit.size (block + blocks count) then Some 0x0C01 else (
-    if nat_lt c.longest (max 1 (blocks count)) then Some 0x0C01 else None))
-
--- the same of a transfer to a unit that may not be configured: 0x0003 is Unit-Offline (manual)
-abbrev pub move_fault : Settings → ℕ → ℕ → Option Unit → Option ℕ
+-- the status that refuses a transfer to a unit that may not be configured: 0x0003 is Unit-Offline (manual)
+abbrev pub move_fault : Settings → ℕ → ℕ → Option Shape → Option ℕ
 move_fault c count block None = Some 0x0003
-move_fault c count block (Some unit) = range_fault c count block unit
+move_fault c count block (Some unit) = extent.range_fault c.longest count block unit
 
--- the status that refuses an order to a unit when it comes, if one does. So far every order but a poll and
--- a transfer is answered as an unknown opcode (manual, the order of the tests is the profile's)
+-- the same of another command to a unit (manual)
+abbrev pub unit_fault : Option Shape → Option ℕ
+unit_fault None = Some 0x0003
+unit_fault (Some unit) = None
+
+-- the status that refuses an order to a unit when it comes, if one does. So far ABORT and SET CONTROLLER
+-- CHARACTERISTICS are answered as unknown opcodes (manual, the order of the tests is the profile's)
 abbrev pub order_fault : Settings → ℕ → Order → Option ℕ
 order_fault c number (orders.Invalid opcode status) = Some status
 order_fault c number (orders.Status other) = None
 order_fault c number (orders.Move kind count block) = move_fault c count block (unit_found c number)
+order_fault c number orders.UnitStatus = unit_fault (unit_found c number)
+order_fault c number orders.Available = unit_fault (unit_found c number)
+order_fault c number orders.Online = unit_fault (unit_found c number)
+order_fault c number orders.SetUnit = unit_fault (unit_found c number)
 order_fault c number order = Some 0x0801
 
 abbrev pub fault_of : Settings → Command → Option ℕ
@@ -108,6 +106,6 @@ is_queued c command = if is_immediate command.order then false else is_none (fau
 -- bit alone (manual, the latter is the profile's)
 abbrev pub endcode : Order → ℕ
 endcode (orders.Invalid opcode status) = if status == 0x0801 then 0x80 else bit_or opcode 0x80
-endcode (orders.Status other) = 0x82
-endcode (orders.Move kind count block) = bit_or (opcode_byte (orders.Move kind count block)) 0x80
-endcode order = 0x80
+endcode (orders.Abort other) = 0x80
+endcode (orders.SetController version) = 0x80
+endcode order = bit_or (opcode_byte order) 0x80

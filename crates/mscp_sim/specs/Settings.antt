@@ -1,17 +1,18 @@
--- What is known of a controller and of its unit.
-use Rattle.std.specs.Prelude.{ℕ, ◌+◌, ◌-◌, ◌*◌, ◌^◌, ◌<◌, ◌≤◌, ◌||◌, nat_eq, nat_lt, nat_le, if◌then◌else◌, Option, Some, None, Result, Ok, Err}
-use Rattle.mscp_sim.specs.declared.config.Unit.{Unit}
+-- What is known of a controller and of its units.
+use Rattle.std.specs.Prelude.{ℕ, ◌+◌, ◌-◌, ◌*◌, ◌^◌, ◌<◌, ◌≤◌, ◌||◌, nat_lt, nat_le, if◌then◌else◌, List, Option, Some, None, unwrap_or, Result, Ok, Err}
+use Rattle.mscp_drive.specs.Shape.{Shape}
+use Rattle.mscp_drive.specs.UnitList as list
 use Rattle.mscp_sim.specs.declared.config.ConfigFault.{ConfigFault}
 use Rattle.mscp_sim.specs.declared.config.ConfigFault.TheVariants.{Credits, Longest, Timeout, Figure}
 
--- the limits of a controller, and its unit (profile)
+-- the limits of a controller, and its units (profile)
 pub record Settings : Type 0 where
   pub credits : ℕ
   pub passing : ℕ
   pub longest : ℕ
   pub timeout : ℕ
   pub id : ℕ
-  pub unit : Unit
+  pub units : List Shape
 
 -- no figure is greater: the longest transfer for each other command that may wait, and for each time
 -- that one may be passed (profile)
@@ -45,5 +46,13 @@ abbrev pub configured : Settings → Result Settings ConfigFault
 configured c = configured_unless c (limit_fault c)
 
 -- the unit of this number, if it is configured (manual)
-abbrev pub unit_found : Settings → ℕ → Option Unit
-unit_found c number = if nat_eq c.unit.number number then Some c.unit else None
+abbrev pub unit_found : Settings → ℕ → Option Shape
+unit_found c number = list.unit_found c.units number
+
+-- a unit of this number and of one block, which stands for one that isn't configured
+abbrev pub one_block : ℕ → Shape
+one_block number = record { number = number; track = 1; group = 1; cylinder = 1; size = 1; id = 0; media = 0; serial = 0 }
+
+-- the unit of this number. No legal run asks for one that isn't configured (profile)
+abbrev pub unit_shape : Settings → ℕ → Shape
+unit_shape c number = unwrap_or (unit_found c number) (one_block number)
