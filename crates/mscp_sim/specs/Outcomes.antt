@@ -104,12 +104,16 @@ outcome_body s status orders.Online good = online_body s status
 outcome_body s status orders.SetUnit good = online_body s status
 outcome_body s status order good = moved_body order good
 
--- the end of a command that the step ends, when so many of its blocks were good before (manual)
+-- the end of a command to a unit of this shape that the step ends, when so many of its blocks were good before
+-- (manual)
+abbrev pub outcome_at : Shape → Bool → Command → ℕ → Block → End
+outcome_at s online command good k =
+    end_with command (outcome_status online command.order k)
+    (outcome_body s (outcome_status online command.order k) command.order (good + cond (touches online command.order && is_good_block k) 1 0))
+
+-- the same of a command to its own unit (manual)
 abbrev pub outcome_of : Settings → Bool → Command → ℕ → Block → End
-outcome_of c online command good k =
-    let status = outcome_status online command.order k in
-    end_with command status
-    (outcome_body (unit_shape c command.unit) status command.order (good + cond (touches online command.order && is_good_block k) 1 0))
+outcome_of c online command good k = outcome_at (unit_shape c command.unit) online command good k
 
 -- ---- what a step changes of its unit
 

@@ -28,6 +28,7 @@ pub record IsValid (c : Settings) : Type 0 where
   pub some_seconds : 1 ≤ c.timeout
   pub few_seconds : c.timeout ≤ 255
   pub small_bound : bound c < 2 ^ 32
+  pub unit_list : list.IsUnitList c.units
 
 -- why limits are refused, the first that holds (profile)
 abbrev pub limit_fault : Settings → Option ConfigFault
@@ -49,10 +50,10 @@ configured c = configured_unless c (limit_fault c)
 abbrev pub unit_found : Settings → ℕ → Option Shape
 unit_found c number = list.unit_found c.units number
 
--- a unit of this number and of one block, which stands for one that isn't configured
-abbrev pub one_block : ℕ → Shape
-one_block number = record { number = number; track = 1; group = 1; cylinder = 1; size = 1; id = 0; media = 0; serial = 0 }
+-- a unit of one block, which stands for one that isn't configured
+abbrev pub one_block : Shape
+one_block = record { number = 0; track = 1; group = 1; cylinder = 1; size = 1; id = 0; media = 0; serial = 0 }
 
 -- the unit of this number. No legal run asks for one that isn't configured (profile)
 abbrev pub unit_shape : Settings → ℕ → Shape
-unit_shape c number = unwrap_or (unit_found c number) (one_block number)
+unit_shape c number = unwrap_or (unit_found c number) one_block

@@ -1,19 +1,9 @@
-// The limits of a controller, and its unit.
+// The limits of a controller, and its units.
 
 ghost use Rattle.std.specs.Prelude.{◌≡◌};
 
+use mscp_drive::Units;
 use std::marker::Model;
-
-/// A unit: its number, its sizes (a track in blocks, a group in tracks, a cylinder in groups), and its
-/// size in blocks.
-#[derive(Clone, Copy, Debug, PartialEq, Eq)]
-pub struct Unit {
-    pub number: u16,
-    pub track: u16,
-    pub group: u16,
-    pub cylinder: u16,
-    pub size: u32,
-}
 
 /// Why limits are refused: the first that holds, in this order.
 #[derive(Clone, Copy, Debug, PartialEq, Eq)]
@@ -28,7 +18,7 @@ pub enum ConfigFault {
     Figure,
 }
 
-/// The limits of a controller, and its unit.
+/// The limits of a controller, and its units.
 #[derive(Clone, Copy, Debug, PartialEq, Eq)]
 pub struct Config {
     credits: u32,
@@ -36,20 +26,20 @@ pub struct Config {
     longest: u32,
     timeout: u16,
     id: u64,
-    unit: Unit,
+    units: Units,
 }
 
-// A clause sees the limits and the unit.
+// A clause sees the limits and the units.
 impl Model for Config {
     ghost use Rattle.mscp_sim.specs.Settings.{IsValid, Settings};
 
     ghost Value = { Settings };
 
-    ghost view = { λ c. record { credits = c.credits; passing = c.passing; longest = c.longest; timeout = c.timeout; id = c.id; unit = c.unit } };
+    ghost view = { λ c. record { credits = c.credits; passing = c.passing; longest = c.longest; timeout = c.timeout; id = c.id; units = c.units } };
 
-    ghost invariant = { λ c. IsValid (record { credits = c.credits; passing = c.passing; longest = c.longest; timeout = c.timeout; id = c.id; unit = c.unit }) };
+    ghost invariant = { λ c. IsValid (record { credits = c.credits; passing = c.passing; longest = c.longest; timeout = c.timeout; id = c.id; units = c.units }) };
 
-    ghost inverse = { λ s. record { credits = s.credits; passing = s.passing; longest = s.longest; timeout = s.timeout; id = s.id; unit = s.unit } };
+    ghost inverse = { λ s. record { credits = s.credits; passing = s.passing; longest = s.longest; timeout = s.timeout; id = s.id; units = s.units } };
 }
 
 impl Config {
@@ -64,11 +54,13 @@ impl Config {
         longest: u32,
         timeout: u16,
         id: u64,
-        unit: Unit,
+        units: Units,
     ) -> Result<Config, ConfigFault>
-        ensures { let s : Settings = record { credits = credits; passing = passing; longest = longest; timeout = timeout; id = id; unit = unit } in
+        ensures { let s : Settings = record { credits = credits; passing = passing; longest = longest; timeout = timeout; id = id; units = units } in
             result ≡ configured s }
     {
+        // The list of the units tells that it is one.
+        let _units = units.list();
         if !(2..=64).contains(&credits) {
             return Err(ConfigFault::Credits);
         }
@@ -88,7 +80,7 @@ impl Config {
             longest,
             timeout,
             id,
-            unit,
+            units,
         })
     }
 
@@ -132,11 +124,11 @@ impl Config {
         self.id
     }
 
-    /// The unit.
-    pub fn unit(&self) -> Unit
-        ensures value { result ≡ self.now.unit }
+    /// The units.
+    pub fn units(&self) -> &Units
+        ensures value { result.now ≡ self.now.units }
         ensures valid { IsValid self.now }
     {
-        self.unit
+        &self.units
     }
 }

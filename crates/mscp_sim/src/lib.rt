@@ -5,6 +5,7 @@ mod arrival;
 pub mod block;
 pub mod config;
 pub mod controller;
+pub mod drive;
 pub mod event;
 mod figure;
 pub mod law;
