@@ -1,0 +1,4 @@
+pub mod Shape
+pub mod Extent
+pub mod Heads
+pub mod UnitList

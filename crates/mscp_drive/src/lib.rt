@@ -1,0 +1,12 @@
+//! The geometry of a unit, its head, and the list of units.
+#![tactic(auto)]
+
+mod head;
+#[cfg(test)]
+mod tests;
+mod unit;
+mod units;
+
+pub use crate::head::Head;
+pub use crate::unit::{Unit, UnitFault};
+pub use crate::units::{Units, UnitsFault};

@@ -1,0 +1,236 @@
+// A unit: its sizes, the cylinder of a block, and whether it has the blocks of a transfer.
+
+ghost use Rattle.std.specs.Prelude.{◌≡◌, ◌≢◌, ◌↔◌, ◌+◌, ◌*◌, ◌/◌, ◌<◌, ◌≤◌, IfOk};
+ghost use Rattle.mscp_drive.specs.Shape.{IsUnit, cylinder_blocks, cylinder_of, last_cylinder};
+ghost use Rattle.mscp_drive.specs.Extent.{blocks, range_fault, weight_unless};
+
+use std::marker::Model;
+
+/// The bytes of a block.
+const BLOCK_BYTES: u32 = 512;
+
+/// Invalid Command: a logical block number that the unit doesn't have.
+const BLOCK_NUMBER: u16 = 0x1C01;
+
+/// Invalid Command: a byte count that reaches past the unit, or past the longest transfer.
+const BYTE_COUNT: u16 = 0x0C01;
+
+/// A unit: its number, its sizes, and its identifiers. No size is zero.
+#[derive(Clone, Copy, Debug, PartialEq, Eq)]
+pub struct Unit {
+    number: u16,
+    track: u16,
+    group: u16,
+    cylinder: u16,
+    size: u32,
+    id: u64,
+    media: u32,
+    serial: u32,
+}
+
+// A clause sees the eight numbers.
+impl Model for Unit {
+    ghost use Rattle.mscp_drive.specs.Shape.{IsUnit, Shape};
+
+    ghost Value = { Shape };
+
+    ghost view = { λ u. record { number = u.number; track = u.track; group = u.group; cylinder = u.cylinder; size = u.size; id = u.id; media = u.media; serial = u.serial } };
+
+    ghost invariant = { λ u. IsUnit (record { number = u.number; track = u.track; group = u.group; cylinder = u.cylinder; size = u.size; id = u.id; media = u.media; serial = u.serial }) };
+
+    ghost inverse = { λ s. record { number = s.number; track = s.track; group = s.group; cylinder = s.cylinder; size = s.size; id = s.id; media = s.media; serial = s.serial } };
+}
+
+/// The least unit: number 0, one block, and identifiers of zero. It fills the places of a list that isn't
+/// full.
+impl Default for Unit {
+    fn default() -> Self
+        ensures { result ≡ record { number = 0; track = 1; group = 1; cylinder = 1; size = 1; id = 0; media = 0; serial = 0 } }
+    {
+        Unit {
+            number: 0,
+            track: 1,
+            group: 1,
+            cylinder: 1,
+            size: 1,
+            id: 0,
+            media: 0,
+            serial: 0,
+        }
+    }
+}
+
+/// Which size of a unit is zero: the first that is, in this order.
+#[derive(Clone, Copy, Debug, PartialEq, Eq)]
+pub enum UnitFault {
+    /// A track of no blocks.
+    ZeroTrack,
+    /// A group of no tracks.
+    ZeroGroup,
+    /// A cylinder of no groups.
+    ZeroCylinder,
+    /// A unit of no blocks.
+    ZeroSize,
+}
+
+impl Unit {
+    /// A unit of this number, with a track of `track` blocks, a group of `group` tracks, a cylinder of
+    /// `cylinder` groups and `size` blocks in all. The identifiers of the unit, of its media and of its
+    /// volume are told to the host. An error where a size is zero.
+    pub fn new(
+        number: u16,
+        track: u16,
+        group: u16,
+        cylinder: u16,
+        size: u32,
+        id: u64,
+        media: u32,
+        serial: u32,
+    ) -> Result<Unit, UnitFault>
+        ensures track { (result ≡ Err UnitFault.ZeroTrack) ↔ (track ≡ 0) }
+        ensures group { (result ≡ Err UnitFault.ZeroGroup) ↔ ((track ≢ 0) × (group ≡ 0)) }
+        ensures cylinder { (result ≡ Err UnitFault.ZeroCylinder) ↔ ((track ≢ 0) × (group ≢ 0) × (cylinder ≡ 0)) }
+        ensures size { (result ≡ Err UnitFault.ZeroSize) ↔ ((track ≢ 0) × (group ≢ 0) × (cylinder ≢ 0) × (size ≡ 0)) }
+        ensures unit { IfOk result (λ u. u ≡ record { number = number; track = track; group = group; cylinder = cylinder; size = size; id = id; media = media; serial = serial }) }
+    {
+        if track == 0 {
+            return Err(UnitFault::ZeroTrack);
+        }
+        if group == 0 {
+            return Err(UnitFault::ZeroGroup);
+        }
+        if cylinder == 0 {
+            return Err(UnitFault::ZeroCylinder);
+        }
+        if size == 0 {
+            return Err(UnitFault::ZeroSize);
+        }
+        Ok(Unit {
+            number,
+            track,
+            group,
+            cylinder,
+            size,
+            id,
+            media,
+            serial,
+        })
+    }
+
+    /// The number of the unit.
+    pub fn number(&self) -> u16
+        ensures value { result ≡ self.now.number }
+        ensures valid { IsUnit self.now }
+    {
+        self.number
+    }
+
+    /// The blocks of a track, at least one.
+    pub fn track(&self) -> u16
+        ensures value { result ≡ self.now.track }
+        ensures some { 0 < result }
+        ensures valid { IsUnit self.now }
+    {
+        self.track
+    }
+
+    /// The tracks of a group, at least one.
+    pub fn group(&self) -> u16
+        ensures value { result ≡ self.now.group }
+        ensures some { 0 < result }
+        ensures valid { IsUnit self.now }
+    {
+        self.group
+    }
+
+    /// The groups of a cylinder, at least one.
+    pub fn cylinder_size(&self) -> u16
+        ensures value { result ≡ self.now.cylinder }
+        ensures some { 0 < result }
+        ensures valid { IsUnit self.now }
+    {
+        self.cylinder
+    }
+
+    /// The blocks of the unit, at least one.
+    pub fn size(&self) -> u32
+        ensures value { result ≡ self.now.size }
+        ensures some { 0 < result }
+        ensures valid { IsUnit self.now }
+    {
+        self.size
+    }
+
+    /// The identifier of the unit.
+    pub fn id(&self) -> u64
+        ensures value { result ≡ self.now.id }
+        ensures valid { IsUnit self.now }
+    {
+        self.id
+    }
+
+    /// The identifier of the media.
+    pub fn media(&self) -> u32
+        ensures value { result ≡ self.now.media }
+        ensures valid { IsUnit self.now }
+    {
+        self.media
+    }
+
+    /// The serial number of the volume.
+    pub fn serial(&self) -> u32
+        ensures value { result ≡ self.now.serial }
+        ensures valid { IsUnit self.now }
+    {
+        self.serial
+    }
+
+    // The product of three sizes may need 48 bits.
+    fn cylinder_blocks(&self) -> u64
+        ensures value { result ≡ cylinder_blocks self.now }
+        ensures some { 0 < result }
+    {
+        u64::from(self.track) * u64::from(self.group) * u64::from(self.cylinder)
+    }
+
+    /// The cylinder of a block, from 0 on: the whole cylinders before it. The block need not be one of the
+    /// unit.
+    #[tactic(auto, using(crate::proofs::Cylinders::cylinder_within))]
+    pub fn cylinder(&self, lbn: u32) -> u32
+        ensures value { result ≡ cylinder_of self.now lbn }
+        ensures within { lbn < self.now.size → result ≤ last_cylinder self.now }
+    {
+        (u64::from(lbn) / self.cylinder_blocks()) as u32
+    }
+
+    /// The cylinder of the unit's last block.
+    pub fn last_cylinder(&self) -> u32
+        ensures { result ≡ last_cylinder self.now }
+    {
+        self.cylinder(self.size() - 1)
+    }
+
+    /// How many steps a transfer of so many bytes from block `lbn` on takes, at most `longest`: one for each
+    /// block of 512 bytes, and at least one. The error is the status that refuses it: 0x1C01 where the unit
+    /// has no such block, else 0x0C01 where the transfer reaches past the unit or takes more steps.
+    pub fn check(&self, lbn: u32, bytes: u32, longest: u32) -> Result<u32, u16>
+        ensures { result ≡ weight_unless (range_fault longest bytes lbn self.now) bytes }
+    {
+        if lbn >= self.size() {
+            return Err(BLOCK_NUMBER);
+        }
+        let count = blocks(bytes);
+        let weight = count.max(1);
+        if count > self.size() - lbn || weight > longest {
+            return Err(BYTE_COUNT);
+        }
+        Ok(weight)
+    }
+}
+
+// The blocks that so many bytes take.
+fn blocks(bytes: u32) -> u32
+    ensures { result ≡ blocks bytes }
+{
+    bytes.div_ceil(BLOCK_BYTES)
+}

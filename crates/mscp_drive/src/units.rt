@@ -1,0 +1,96 @@
+// The units of a controller.
+
+ghost use Rattle.std.specs.Prelude.{◌≡◌, ◌↔◌, ◌<◌, ◌≤◌, [], length, IsTrue, IfOk};
+ghost use Rattle.std.specs.Option.{option_copied};
+ghost use Rattle.mscp_drive.specs.UnitList.{IsUnitList, NumbersRise, unit_found};
+
+use crate::unit::Unit;
+use arrayvec::ArrayVec;
+use std::marker::Model;
+
+/// The most units that a controller may have.
+const MOST_UNITS: usize = 16;
+
+/// The units of a controller: 1 to 16, in rising order of their numbers.
+#[derive(Clone, Debug, Drop, PartialEq)]
+pub struct Units {
+    list: ArrayVec<Unit, 16>,
+}
+
+// A clause sees the list of the units.
+impl Model for Units {
+    ghost use Rattle.std.specs.Prelude.{List};
+    ghost use Rattle.mscp_drive.specs.Shape.{Shape};
+    ghost use Rattle.mscp_drive.specs.UnitList.{IsUnitList};
+
+    ghost Value = { List Shape };
+
+    ghost view = { λ u. u.list.items };
+
+    ghost invariant = { λ u. IsUnitList u.list.items };
+
+    ghost inverse = { λ s. record { list = record { items = s } } };
+}
+
+/// Why a list of units is refused: the first that holds, in this order.
+#[derive(Clone, Copy, Debug, PartialEq, Eq)]
+pub enum UnitsFault {
+    /// More than 16 units.
+    TooMany,
+    /// A unit whose number isn't above that of the unit before it.
+    NotAscending,
+    /// No unit.
+    Empty,
+}
+
+impl Units {
+    /// The units of a list. An error where there are more than 16, where their numbers don't rise, or where
+    /// there is none.
+    pub fn new(units: &[Unit]) -> Result<Units, UnitsFault>
+        ensures many { (result ≡ Err UnitsFault.TooMany) ↔ (16 < length units.now) }
+        ensures ascending { (result ≡ Err UnitsFault.NotAscending) ↔ ((length units.now ≤ 16) × ¬ NumbersRise units.now) }
+        ensures empty { (result ≡ Err UnitsFault.Empty) ↔ (units.now ≡ []) }
+        ensures taken { (result ≡ Ok units.now) ↔ IsUnitList units.now }
+        ensures same { IfOk result (λ list. list ≡ units.now) }
+    {
+        if units.len() > MOST_UNITS {
+            return Err(UnitsFault::TooMany);
+        }
+        if !numbers_rise(units) {
+            return Err(UnitsFault::NotAscending);
+        }
+        if units.is_empty() {
+            return Err(UnitsFault::Empty);
+        }
+        let mut list = ArrayVec::new();
+        let _ = list.try_extend_from_slice(units);
+        Ok(Units { list })
+    }
+
+    /// The units, in rising order of their numbers.
+    pub fn list(&self) -> &[Unit]
+        ensures value { result.now ≡ self.now }
+        ensures valid { IsUnitList self.now }
+    {
+        self.list.as_slice()
+    }
+
+    /// The unit of this number, if there is one.
+    pub fn find(&self, number: u16) -> Option<&Unit>
+        ensures { option_copied result ≡ unit_found self.now number }
+    {
+        self.list().iter().find(|unit| unit.number() == number)
+    }
+}
+
+// Whether the number of each unit is above that of the one before it.
+fn numbers_rise(units: &[Unit]) -> bool
+    ensures { IsTrue result ↔ NumbersRise units.now }
+{
+    for i in 1..units.len() {
+        if units[i].number() <= units[i - 1].number() {
+            return false;
+        }
+    }
+    true
+}
