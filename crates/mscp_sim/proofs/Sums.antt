@@ -4,29 +4,34 @@ use Rattle.std.specs.Prelude.{filter, sum_by, All}
 use Rattle.std.specs.List.{AllByRecursion, range_with_len}
 use Rattle.std.proofs.Math.Nat.{mul-le-mul_right}
 use Rattle.std.proofs.lemmas.List.{length-take-le, length-drop, take_rest}
-use Rattle.std.proofs.lemmas.List.Elements.{recursion_from_All, All-take, All-drop}
+use Rattle.std.proofs.lemmas.List.Elements.{recursion_from_All, All-take, All-drop, All-weaker}
 use Rattle.std.proofs.lemmas.List.FromFn.{map-range_with_len_more}
 use Rattle.std.proofs.lemmas.List.Sums.{sum_by-cons}
 use Rattle.mscp_sim.specs.declared.record.Record.{Record}
 use Rattle.mscp_sim.specs.Settings.{Settings, IsValid, bound}
 use Rattle.mscp_sim.specs.Holdings.{figure_at, figures_from, left_of, is_in_service, record_at}
 use Rattle.mscp_sim.specs.Kept.{IsKept}
+use Rattle.mscp_sim.proofs.Keeping.{servable}
 
-left_small : (c : Settings) (r : Record) → IsKept c r → left_of r ≤ c.longest
-left_small c r h = let short = h.short in omega arith
+-- no more is left than the longest
+abbrev pub IsShort : Settings → Record → Type 0
+IsShort c r = left_of r ≤ c.longest
+
+kept_short : (c : Settings) (r : Record) → 1 ≤ c.longest → IsKept c r → IsShort c r
+kept_short c r l h = let short = (servable c r.command l h.sound).short in let weight = h.weight in omega arith
 
 -- no more is left of the records than the longest for each
-sum_small : (c : Settings) (rs : List Record) → AllByRecursion (IsKept c) rs → sum_by left_of rs ≤ length rs * c.longest
+sum_small : (c : Settings) (rs : List Record) → AllByRecursion (IsShort c) rs → sum_by left_of rs ≤ length rs * c.longest
 sum_small c [] h = omega arith
-sum_small c (r ∷ rs) h = omega (arith, sum_by-cons left_of r rs, left_small c r h.0, sum_small c rs h.1)
+sum_small c (r ∷ rs) h = omega (arith, sum_by-cons left_of r rs, h.0, sum_small c rs h.1)
 
-serving_when : (c : Settings) (r : Record) (rs : List Record) → IsKept c r → sum_by left_of (filter is_in_service rs) ≤ length rs * c.longest → (b : Bool)
+serving_when : (c : Settings) (r : Record) (rs : List Record) → IsShort c r → sum_by left_of (filter is_in_service rs) ≤ length rs * c.longest → (b : Bool)
     → sum_by left_of (cond b (r ∷ filter is_in_service rs) (filter is_in_service rs)) ≤ length (r ∷ rs) * c.longest
-serving_when c r rs h k true = omega (arith, sum_by-cons left_of r (filter is_in_service rs), left_small c r h)
+serving_when c r rs h k true = omega (arith, sum_by-cons left_of r (filter is_in_service rs), h)
 serving_when c r rs h k false = omega arith
 
 -- and no more of those in service
-serving_small : (c : Settings) (rs : List Record) → AllByRecursion (IsKept c) rs → sum_by left_of (filter is_in_service rs) ≤ length rs * c.longest
+serving_small : (c : Settings) (rs : List Record) → AllByRecursion (IsShort c) rs → sum_by left_of (filter is_in_service rs) ≤ length rs * c.longest
 serving_small c [] h = omega arith
 serving_small c (r ∷ rs) h = serving_when c r rs h.0 (serving_small c rs h.1) (is_in_service r)
 
@@ -37,14 +42,15 @@ add_up C P L k n before serving left h g b s l =
     omega (arith, mul-le-mul_right L all)
 
 -- the figure of a command that isn't in service is at most the bound
-pub sum_bounded : (c : Settings) (rs : List Record) (place : ℕ) → All (IsKept c) rs → length rs < c.credits → place < length rs
+pub sum_bounded : (c : Settings) (rs : List Record) (place : ℕ) → 1 ≤ c.longest → All (IsKept c) rs → length rs < c.credits → place < length rs
     → sum_by left_of (take place rs) + sum_by left_of (filter is_in_service (drop (place + 1) rs)) + c.passing * c.longest + left_of (record_at rs place) ≤ bound c
-sum_bounded c rs place h few l =
+sum_bounded c rs place some kept few l =
+    let h : All (IsShort c) rs = All-weaker (IsKept c) (IsShort c) (λ r k. kept_short c r some k) rs kept in
     let n : length (take place rs) ≡ place = length-take-le place rs (omega arith) in
     let m : length (drop (place + 1) rs) ≡ length rs - (place + 1) = length-drop (place + 1) rs in
-    let front = subst (λ (i : ℕ). sum_by left_of (take place rs) ≤ i * c.longest) n (sum_small c (take place rs) (recursion_from_All (IsKept c) (take place rs) (All-take (IsKept c) place rs h))) in
-    let back = subst (λ (i : ℕ). sum_by left_of (filter is_in_service (drop (place + 1) rs)) ≤ i * c.longest) m (serving_small c (drop (place + 1) rs) (recursion_from_All (IsKept c) (drop (place + 1) rs) (All-drop (IsKept c) (place + 1) rs h))) in
-    add_up c.credits c.passing c.longest place (length rs) _ _ _ l few front back (left_small c (record_at rs place) (h place (record_at [] 0) l))
+    let front = subst (λ (i : ℕ). sum_by left_of (take place rs) ≤ i * c.longest) n (sum_small c (take place rs) (recursion_from_All (IsShort c) (take place rs) (All-take (IsShort c) place rs h))) in
+    let back = subst (λ (i : ℕ). sum_by left_of (filter is_in_service (drop (place + 1) rs)) ≤ i * c.longest) m (serving_small c (drop (place + 1) rs) (recursion_from_All (IsShort c) (drop (place + 1) rs) (All-drop (IsShort c) (place + 1) rs h))) in
+    add_up c.credits c.passing c.longest place (length rs) _ _ _ l few front back (h place (record_at [] 0) l)
 
 -- so it fits 32 bits
 pub figure_fits : (c : Settings) (rs : List Record) (place before serving passing longest left : ℕ) → IsValid c → All (IsKept c) rs → length rs < c.credits → place < length rs
@@ -56,7 +62,7 @@ figure_fits c rs place before serving passing longest left v h few l e f p q r =
     let g : serving ≡ sum_by left_of (filter is_in_service (drop (place + 1) rs)) = f ∙ ap (λ xs. sum_by left_of (filter is_in_service xs)) (take_rest rs (place + 1)) in
     let m : passing * longest ≡ c.passing * c.longest = cc in
     let small = v.small_bound in
-    omega (arith, sum_bounded c rs place h few l)
+    omega (arith, sum_bounded c rs place v.some_blocks h few l)
 
 entry_at : Settings → List Record → ℕ → ℕ × ℕ
 entry_at c rs place = ((record_at rs place).command.reference, figure_at c rs place)

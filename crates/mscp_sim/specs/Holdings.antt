@@ -204,8 +204,11 @@ ends_after k ds [] = []
 ends_after k ds (r ∷ rs) = option_to_list (end_of k (drive_of ds r.command.unit) r)
 
 -- the drives after it: that of the command's unit has changed
+abbrev pub served_drive : Block → Record → Drive → Drive
+served_drive k r d = if nat_eq d.unit.number r.command.unit then drive_after k r d else d
+
 abbrev pub served_drives : Block → Record → List Drive → List Drive
-served_drives k r ds = map (λ d. if nat_eq d.unit.number r.command.unit then drive_after k r d else d) ds
+served_drives k r ds = map (served_drive k r) ds
 
 abbrev pub drives_after : Block → List Drive → List Record → List Drive
 drives_after k ds [] = ds

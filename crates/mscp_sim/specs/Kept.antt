@@ -1,15 +1,16 @@
 -- What is true of all that a controller holds, whatever came to it.
-use Rattle.std.specs.Prelude.{◌≡◌, ℕ, ◌+◌, ◌<◌, ◌≤◌, true, List, length, map, All}
+use Rattle.std.specs.Prelude.{◌≡◌, ℕ, ◌+◌, ◌^◌, ◌<◌, ◌≤◌, true, List, length, map, All}
 use Rattle.mscp_packet.specs.declared.end.End.{End}
 use Rattle.mscp_sim.specs.declared.drive.Drive.{Drive}
 use Rattle.mscp_sim.specs.declared.record.Record.{Record}
 use Rattle.mscp_sim.specs.Settings.{Settings, IsValid}
-use Rattle.mscp_sim.specs.Arrival.{is_queued, order_weight}
+use Rattle.mscp_sim.specs.Arrival.{first_block, is_queued, order_weight}
 
--- a waiting command is one that is queued when it comes, with steps left
+-- a waiting command is one that is queued when it comes, with steps left, and its blocks have numbers of 32 bits
 pub record IsKept (c : Settings) (r : Record) : Type 0 where
   pub sound : is_queued c r.command ≡ true
   pub weight : r.weight ≡ order_weight r.command.order
+  pub small : first_block r.command.order + r.weight ≤ 2 ^ 32
   pub unfinished : r.done < r.weight
 
 -- the credits cover what waits and what wasn't taken, and one more than what waits; and each unit has a drive

@@ -1,33 +1,19 @@
 // How a message is judged when it comes.
 
-ghost use Rattle.std.specs.Prelude.{◌≡◌, ◌≤◌, ◌+◌, nat_eq};
+ghost use Rattle.std.specs.Prelude.{◌≡◌, ◌+◌, ◌≤◌, ◌^◌, IfOk};
 ghost use Rattle.mscp_packet.specs.Opcodes.{class};
-ghost use Rattle.mscp_sim.specs.Settings.{IsValid};
-ghost use Rattle.mscp_sim.specs.Arrival.{blocks, endcode, fault_of, is_immediate, is_immediate_class, move_fault, order_weight};
+ghost use Rattle.mscp_sim.specs.Arrival.{endcode, first_block, is_immediate, is_immediate_class, judged, move_fault, unit_fault, weighed};
 ghost use Rattle.mscp_sim.specs.Settings.{unit_found};
+ghost use Rattle.mscp_drive.specs.Extent.{weight};
 
 use crate::config::Config;
 use mscp_packet::{Class, Command, Order, class_of};
 
-/// Bytes in a block.
-const BLOCK_BYTES: u32 = 512;
+/// Unit-Offline: the unit isn't configured.
+const UNIT_OFFLINE: u16 = 0x0003;
 
-/// The blocks that so many bytes take.
-fn blocks_of(count: u32) -> u32
-    ensures { result ≡ blocks count }
-{
-    count.div_ceil(BLOCK_BYTES)
-}
-
-/// How many steps the order takes.
-pub(crate) fn weight_of(order: &Order) -> u32
-    ensures { result ≡ order_weight order.now }
-{
-    match order {
-        Order::Move(_, count, _) => blocks_of(*count).max(1),
-        _ => 1,
-    }
-}
+/// Invalid Command: the opcode.
+const UNKNOWN_OPCODE: u16 = 0x0801;
 
 /// Whether a command with this opcode byte is answered without a step, so that the last credit is enough
 /// for it.
@@ -37,36 +23,40 @@ pub(crate) fn may_take_last_credit(opcode: u8) -> bool
     matches!(class_of(opcode), Class::Immediate)
 }
 
-/// The status that refuses a transfer to the unit, if one does.
-fn move_fault(config: &Config, number: u16, count: u32, block: u32) -> Option<u16>
-    ensures { result ≡ move_fault config.now count block (unit_found config.now number) }
+/// The weight of a transfer to the unit, or the status that refuses it.
+fn judge_move(config: &Config, number: u16, count: u32, block: u32) -> Result<u32, u16>
+    ensures weight { result ≡ weighed (move_fault config.now count block (unit_found config.now number)) (weight count) }
+    ensures small { IfOk result (λ steps. block + steps ≤ 2 ^ 32) }
 {
-    let unit = config.unit();
-    if unit.number != number {
-        return Some(0x0003);
+    match config.units().find(number) {
+        Some(unit) => unit.check(block, count, config.longest()),
+        None => Err(UNIT_OFFLINE),
     }
-    let blocks = blocks_of(count);
-    if block >= unit.size {
-        return Some(0x1C01);
-    }
-    if u64::from(block) + u64::from(blocks) > u64::from(unit.size) {
-        return Some(0x0C01);
-    }
-    if blocks.max(1) > config.longest() {
-        return Some(0x0C01);
-    }
-    None
 }
 
-/// The status that refuses the command, if one does.
-pub(crate) fn fault_of(config: &Config, command: &Command) -> Option<u16>
-    ensures { result ≡ fault_of config.now command.now }
+/// The weight of another command to the unit, or the status that refuses it.
+fn judge_unit(config: &Config, number: u16) -> Result<u32, u16>
+    ensures { result ≡ weighed (unit_fault (unit_found config.now number)) 1 }
+{
+    match config.units().find(number) {
+        Some(_) => Ok(1),
+        None => Err(UNIT_OFFLINE),
+    }
+}
+
+/// How many steps the command takes, or the status that refuses it.
+pub(crate) fn judge(config: &Config, command: &Command) -> Result<u32, u16>
+    ensures steps { result ≡ judged config.now command.now }
+    ensures small { IfOk result (λ steps. first_block command.now.order + steps ≤ 2 ^ 32) }
 {
     match command.order {
-        Order::Invalid { status, .. } => Some(status),
-        Order::Status(_) => None,
-        Order::Move(_, count, block) => move_fault(config, command.unit, count, block),
-        _ => Some(0x0801),
+        Order::Invalid { status, .. } => Err(status),
+        Order::Status(_) => Ok(1),
+        Order::Move(_, count, block) => judge_move(config, command.unit, count, block),
+        Order::UnitStatus | Order::Available | Order::Online | Order::SetUnit => {
+            judge_unit(config, command.unit)
+        }
+        Order::Abort(_) | Order::SetController(_) => Err(UNKNOWN_OPCODE),
     }
 }
 
@@ -86,9 +76,7 @@ pub(crate) fn endcode_of(command: &Command) -> u8
 {
     match command.order {
         Order::Invalid { status: 0x0801, .. } => 0x80,
-        Order::Invalid { opcode, .. } => opcode | 0x80,
-        Order::Status(_) => 0x82,
-        Order::Move(kind, _, _) => kind.opcode() | 0x80,
-        _ => 0x80,
+        Order::Abort(_) | Order::SetController(_) => 0x80,
+        _ => command.opcode() | 0x80,
     }
 }

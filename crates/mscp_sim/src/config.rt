@@ -19,7 +19,7 @@ pub enum ConfigFault {
 }
 
 /// The limits of a controller, and its units.
-#[derive(Clone, Copy, Debug, PartialEq, Eq)]
+#[derive(Debug, Drop, PartialEq)]
 pub struct Config {
     credits: u32,
     passing: u32,

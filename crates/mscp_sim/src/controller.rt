@@ -1,38 +1,27 @@
 // A controller: its waiting commands, its untaken ends, and its credits.
 
-ghost use Rattle.std.specs.Prelude.{◌≡◌, ◌+◌, ◌<◌, ◌≤◌, ◌^◌, true, nat_eq, option_map, slice_get};
+ghost use Rattle.std.specs.Prelude.{◌≡◌, ◌+◌, ◌<◌, ◌≤◌, ◌^◌, true, [], ◌∷◌, ◌++◌, drop, length, None, nat_eq, option_map, slice_get, slice_set};
 ghost use Rattle.std.specs.List.{list_any};
 ghost use Rattle.mscp_packet.specs.Ends.{end_bytes};
-ghost use Rattle.mscp_sim.specs.Arrival.{credit_fault, first_block, holds, is_move, is_queued};
-ghost use Rattle.mscp_sim.specs.Outcomes.{block_touched};
+ghost use Rattle.mscp_sim.specs.Arrival.{credit_fault, fault_of, first_block, holds, is_queued, order_weight};
 ghost use Rattle.mscp_sim.specs.Settings.{IsValid};
-ghost use Rattle.mscp_sim.specs.Holdings.{after, after_message, after_step, after_take, answer_to_message, arrives, balance_of, becomes, ended, entry_of, figure_of_reference, figures, fresh, outstanding_of, queued, report_of};
+ghost use Rattle.mscp_sim.specs.Holdings.{advanced, after, after_message, after_step, after_take, answer_to_message, answered_end, arrives, balance_of, becomes, ended, entry_of, figure_of_reference, figures, fresh, outstanding_of, queued, record_at, report_of, served_drives};
 
 #[cfg(test)]
 mod tests;
 
-use crate::arrival::{fault_of, is_immediate, may_take_last_credit, weight_of};
+use crate::arrival::{is_immediate, judge, may_take_last_credit};
 use crate::block::{Block, Report};
 use crate::config::Config;
+use crate::drive::{Drive, drive_of, drives_of, serve_drive};
 use crate::event::{Entry, Event, SendFault, Sent};
 use crate::figure::{figure_at, figure_of_reference};
-use crate::outcome::{end_of, own_end};
+use crate::outcome::{end_with, refused_end, unit_status_end};
 use crate::record::Record;
+use crate::service::{end_of, seek_to, touched};
 use arrayvec::ArrayVec;
-use mscp_packet::{Command, End, Order, PacketFault, read_command, write_end};
+use mscp_packet::{Command, End, EndBody, Order, PacketFault, read_command, write_end};
 use std::marker::Model;
-
-/// The block that the next step of a transfer touches.
-fn touched(record: &Record) -> Option<u32>
-    requires transfer { is_move «record».now.command.order ≡ true }
-    requires small { first_block «record».now.command.order + «record».now.done < 2 ^ 32 }
-    ensures { result ≡ block_touched true «record».now.command.order «record».now.done }
-{
-    match record.command.order {
-        Order::Move(_, _, block) => Some(block + record.done),
-        _ => None,
-    }
-}
 
 /// Whether one of the records has the reference number.
 fn is_waiting(records: &[Record], reference: u32) -> bool
@@ -56,18 +45,20 @@ pub struct Controller {
     config: Config,
     waiting: ArrayVec<Record, 64>,
     untaken: ArrayVec<End, 64>,
+    drives: ArrayVec<Drive, 16>,
 }
 
-// A clause sees the settings, the waiting commands, and the ends that weren't taken, each oldest first.
+// A clause sees the settings, the waiting commands and the ends that weren't taken, each oldest first, and the drives
+// in the order of their units.
 impl Model for Controller {
     ghost use Rattle.mscp_sim.specs.Holdings.{Holdings};
     ghost use Rattle.mscp_sim.specs.Kept.{IsHeld};
 
     ghost Value = { Holdings };
 
-    ghost view = { λ h. record { settings = h.config; waiting = h.waiting.items; untaken = h.untaken.items } };
+    ghost view = { λ h. record { settings = h.config; waiting = h.waiting.items; untaken = h.untaken.items; drives = h.drives.items } };
 
-    ghost invariant = { λ h. IsHeld h.config h.waiting.items h.untaken.items };
+    ghost invariant = { λ h. IsHeld h.config h.waiting.items h.untaken.items h.drives.items };
 }
 
 impl Controller {
@@ -76,12 +67,12 @@ impl Controller {
         ensures fresh { result ≡ fresh config }
         ensures valid { IsValid config }
     {
-        // Any getter tells that the limits are valid.
-        let _credits = config.credits();
+        let drives = drives_of(config.units().list());
         Controller {
             config,
             waiting: ArrayVec::new(),
             untaken: ArrayVec::new(),
+            drives,
         }
     }
 
@@ -142,15 +133,17 @@ impl Controller {
         None
     }
 
-    /// Lets a command wait.
-    fn queue(&mut self, command: Command)
+    /// Lets a command of this weight wait.
+    fn queue(&mut self, command: Command, weight: u32)
         requires queued { is_queued self.old.settings command ≡ true }
+        requires weight { weight ≡ order_weight command.order }
+        requires small { first_block command.order + weight ≤ 2 ^ 32 }
         requires free { 2 ≤ balance_of self.old }
         ensures { self.new ≡ queued self.old command }
     {
         self.waiting.push(Record {
             command,
-            weight: weight_of(&command.order),
+            weight,
             done: 0,
         });
     }
@@ -163,6 +156,23 @@ impl Controller {
         self.untaken.push(end);
     }
 
+    /// The end of an answered command that isn't refused.
+    fn answered_end(&self, command: &Command) -> End
+        requires { fault_of self.now.settings command.now ≡ None }
+        ensures { result ≡ answered_end self.now command.now }
+    {
+        match command.order {
+            Order::Status(other) => {
+                let figure = self.figure(other);
+                end_with(command, 0, EndBody::Status { other, figure })
+            }
+            Order::UnitStatus => {
+                unit_status_end(command, &drive_of(self.drives.as_slice(), command.unit))
+            }
+            _ => refused_end(command, 0),
+        }
+    }
+
     /// Queues a command that isn't refused for want of credit, or answers it at once.
     fn arrive(&mut self, command: Command) -> Sent
         requires free { 1 ≤ balance_of self.old }
@@ -170,16 +180,14 @@ impl Controller {
         ensures sent { result ≡ becomes self.old.settings command }
         ensures after { self.new ≡ arrives self.old command }
     {
-        let fault = fault_of(&self.config, &command);
-        if !is_immediate(&command.order) && fault.is_none() {
-            self.queue(command);
-            return Sent::Queued(command.reference);
+        match judge(&self.config, &command) {
+            Ok(weight) if !is_immediate(&command.order) => {
+                self.queue(command, weight);
+                return Sent::Queued(command.reference);
+            }
+            Ok(_) => self.end(self.answered_end(&command)),
+            Err(status) => self.end(refused_end(&command, status)),
         }
-        let figure = match command.order {
-            Order::Status(other) => self.figure(other),
-            _ => 0,
-        };
-        self.end(own_end(figure, &command, fault));
         Sent::Answered {
             reference: command.reference,
             aborted: None,
@@ -214,34 +222,60 @@ impl Controller {
         Some(write_end(&end))
     }
 
+    /// Moves the drive of the oldest waiting command as a step with this block does.
+    fn move_drive(&mut self, block: &Block)
+        requires { 0 < length self.old.waiting }
+        ensures { self.new ≡ record self.old { drives = served_drives block.now (record_at self.old.waiting 0) self.old.drives } }
+    {
+        let oldest = self.waiting[0];
+        serve_drive(&mut self.drives, &oldest, block);
+    }
+
+    /// Counts a step of the oldest waiting command, which goes on.
+    fn advance(&mut self)
+        requires some { 0 < length self.old.waiting }
+        requires more { (record_at self.old.waiting 0).done + 1 < (record_at self.old.waiting 0).weight }
+        ensures { self.new ≡ record self.old { waiting = slice_set self.old.waiting 0 (advanced (record_at self.old.waiting 0)) } }
+    {
+        let oldest = self.waiting[0];
+        self.waiting[0] = Record {
+            done: oldest.done + 1,
+            ..oldest
+        };
+    }
+
+    /// Ends the oldest waiting command so.
+    fn finish(&mut self, end: End)
+        requires { 0 < length self.old.waiting }
+        ensures { self.new ≡ record self.old { waiting = drop 1 self.old.waiting; untaken = self.old.untaken ++ end ∷ [] } }
+    {
+        self.waiting.remove(0);
+        self.untaken.push(end);
+    }
+
     /// Serves one block, with this outcome, to the oldest waiting command, if there is one.
     pub fn step(&mut self, block: Block) -> Report
-        ensures answer { result ≡ report_of block self.old.waiting }
+        ensures answer { result ≡ report_of block self.old.drives self.old.waiting }
         ensures after { self.new ≡ after_step self.old block }
     {
         if self.waiting.is_empty() {
             return Report::Idle;
         }
         let record = self.waiting[0];
-        let ended = end_of(&record, block);
+        let drive = drive_of(self.drives.as_slice(), record.command.unit);
+        let lbn = touched(&drive, &record);
+        let ended = end_of(&drive, &record, &block);
+        self.move_drive(&block);
         match ended {
-            None => {
-                self.waiting[0] = Record {
-                    done: record.done + 1,
-                    ..record
-                };
-            }
-            Some(end) => {
-                self.waiting.remove(0);
-                self.untaken.push(end);
-            }
+            None => self.advance(),
+            Some(end) => self.finish(end),
         }
         Report::Served {
             reference: record.command.reference,
             unit: record.command.unit,
-            lbn: touched(&record),
+            lbn,
             started: record.done == 0,
-            seek: 0,
+            seek: seek_to(&drive, lbn),
             ended,
         }
     }

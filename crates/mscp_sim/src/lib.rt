@@ -16,6 +16,7 @@ pub mod record;
 pub mod report;
 pub mod run;
 pub mod script;
+mod service;
 pub mod simulate;
 pub mod stream;
 mod totals;

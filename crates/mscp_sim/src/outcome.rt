@@ -1,17 +1,28 @@
 // The ends that commands get.
 
-ghost use Rattle.std.specs.Prelude.{◌≡◌, ◌<◌, true};
-ghost use Rattle.mscp_sim.specs.Arrival.{is_move};
-ghost use Rattle.mscp_sim.specs.Outcomes.{own_end_with, moved_body, end_with};
-ghost use Rattle.mscp_sim.specs.Holdings.{end_of};
+ghost use Rattle.std.specs.Prelude.{◌≡◌, if◌then◌else◌};
+ghost use Rattle.mscp_sim.specs.Outcomes.{end_with, good_status, bad_status, is_success, moved_body, online_body, outcome_at, outcome_body, refused_end, unit_body};
 
 use crate::arrival::endcode_of;
 use crate::block::Block;
-use crate::record::Record;
+use crate::drive::Drive;
+use mscp_drive::Unit;
 use mscp_packet::{Command, End, EndBody, Order};
 
+/// Success, of which there is a sub-code too.
+const SUCCESS: u16 = 0x0000;
+
+/// Success: the unit was online already.
+const ALREADY_ONLINE: u16 = 0x0100;
+
+/// Unit-Available.
+const UNIT_AVAILABLE: u16 = 0x0004;
+
+/// The bytes of a block.
+const BLOCK_BYTES: u64 = 512;
+
 /// The end of a command with this status and body.
-fn end_with(command: &Command, status: u16, body: EndBody) -> End
+pub(crate) fn end_with(command: &Command, status: u16, body: EndBody) -> End
     ensures { result ≡ end_with command.now status body }
 {
     End {
@@ -23,16 +34,51 @@ fn end_with(command: &Command, status: u16, body: EndBody) -> End
     }
 }
 
-/// The end of a command that is answered when it comes, with the status that refuses it, if one does, and
-/// the figure that it asks for.
-pub(crate) fn own_end(figure: u32, command: &Command, fault: Option<u16>) -> End
-    ensures { result ≡ own_end_with figure command.now fault }
+/// The end of a command that is refused with this status.
+pub(crate) fn refused_end(command: &Command, status: u16) -> End
+    ensures { result ≡ refused_end command.now status }
 {
-    let refused = EndBody::refused(endcode_of(command));
-    match (fault, command.order) {
-        (Some(status), _) => end_with(command, status, refused),
-        (None, Order::Status(other)) => end_with(command, 0, EndBody::Status { other, figure }),
-        (None, _) => end_with(command, 0, refused),
+    end_with(command, status, EndBody::refused(endcode_of(command)))
+}
+
+/// The end of a GET UNIT STATUS about this drive.
+pub(crate) fn unit_status_end(command: &Command, drive: &Drive) -> End
+    ensures { result ≡ end_with command.now (if drive.now.online then 0x0000 else 0x0004) (unit_body drive.now.unit) }
+{
+    let unit = &drive.unit;
+    let status = if drive.online {
+        SUCCESS
+    } else {
+        UNIT_AVAILABLE
+    };
+    let body = EndBody::UnitStatus {
+        id: unit.id(),
+        media: unit.media(),
+        track: unit.track(),
+        group: unit.group(),
+        cylinder: unit.cylinder_size(),
+    };
+    end_with(command, status, body)
+}
+
+/// The status of a command that a good step ends, on a unit that may be online.
+pub(crate) fn good_status(online: bool, order: &Order) -> u16
+    ensures { result ≡ good_status online order.now }
+{
+    match order {
+        Order::Move(..) if !online => UNIT_AVAILABLE,
+        Order::Online if online => ALREADY_ONLINE,
+        _ => SUCCESS,
+    }
+}
+
+/// The same where the block is bad: a transfer on an available unit never gets to it.
+pub(crate) fn bad_status(online: bool, status: u16, order: &Order) -> u16
+    ensures { result ≡ bad_status online status order.now }
+{
+    match order {
+        Order::Move(..) if !online => UNIT_AVAILABLE,
+        _ => status,
     }
 }
 
@@ -42,28 +88,47 @@ fn moved_body(command: &Command, good: u32) -> EndBody
 {
     match command.order {
         Order::Move(_, count, _) => {
-            let whole = 512 * u64::from(good);
-            // Less than 512 times 2^32, so a wider type than the count's.
+            // 2^32 blocks of 512 bytes want a wider type than the count's.
+            let whole = BLOCK_BYTES * u64::from(good);
             EndBody::Moved(u64::from(count).min(whole) as u32)
         }
         _ => EndBody::refused(endcode_of(command)),
     }
 }
 
-/// The end that a step with this block gives to a transfer, if it ends.
-pub(crate) fn end_of(record: &Record, block: Block) -> Option<End>
-    requires transfer { is_move «record».now.command.order ≡ true }
-    requires unfinished { «record».now.done < «record».now.weight }
-    ensures { result ≡ end_of block «record».now }
+/// Whether the status's code, its low five bits, is Success.
+pub(crate) fn is_success(status: u16) -> bool
+    ensures { result ≡ is_success status }
 {
-    let command = &record.command;
-    match block {
-        Block::Good if record.weight - record.done > 1 => None,
-        Block::Good => Some(end_with(command, 0x0000, moved_body(command, record.done + 1))),
-        Block::Bad(status) => Some(end_with(
-            command,
-            status.get(),
-            moved_body(command, record.done),
-        )),
+    status % 32 == 0
+}
+
+/// What ONLINE and SET UNIT CHARACTERISTICS tell of a unit, with Success alone.
+fn online_body(unit: &Unit, status: u16) -> EndBody
+    ensures { result ≡ online_body unit.now status }
+{
+    if !is_success(status) {
+        return EndBody::Online {
+            id: 0,
+            media: 0,
+            size: 0,
+            serial: 0,
+        };
+    }
+    EndBody::Online {
+        id: unit.id(),
+        media: unit.media(),
+        size: unit.size(),
+        serial: unit.serial(),
+    }
+}
+
+/// The body of a command that a step ends with this status, when so many of its blocks were good.
+pub(crate) fn outcome_body(unit: &Unit, status: u16, command: &Command, good: u32) -> EndBody
+    ensures { result ≡ outcome_body unit.now status command.now.order good }
+{
+    match command.order {
+        Order::Online | Order::SetUnit => online_body(unit, status),
+        _ => moved_body(command, good),
     }
 }

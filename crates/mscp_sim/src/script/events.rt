@@ -60,6 +60,10 @@ fn read_request(mut words: Words<'_>) -> Result<Request, Cause> {
         Some(b"access") => read_move(MoveKind::Access, words),
         Some(b"erase") => read_move(MoveKind::Erase, words),
         Some(b"compare") => read_move(MoveKind::Compare, words),
+        Some(b"online") => read_plain(Order::Online, words),
+        Some(b"available") => read_plain(Order::Available, words),
+        Some(b"setunit") => read_plain(Order::SetUnit, words),
+        Some(b"unitstatus") => read_plain(Order::UnitStatus, words),
         Some(b"status") => read_status(words),
         Some(b"step") => read_steps(words),
         Some(b"take") => alone(Request::Take, words),
@@ -81,6 +85,16 @@ fn read_move(kind: MoveKind, words: Words<'_>) -> Result<Request, Cause> {
         reference: fields.wide()?,
         unit: fields.narrow()?,
         order: Order::Move(kind, fields.wide()?, fields.wide()?),
+    }))
+}
+
+/// Another command to a unit: its reference number, and its unit.
+fn read_plain(order: Order, words: Words<'_>) -> Result<Request, Cause> {
+    let mut fields = words.exactly(2)?;
+    Ok(Request::Send(Command {
+        reference: fields.wide()?,
+        unit: fields.narrow()?,
+        order,
     }))
 }
 

@@ -2,10 +2,11 @@
 
 ghost use Rattle.std.specs.Prelude.{◌≤◌, IfErr};
 
-use crate::config::{Config, Unit};
+use crate::config::Config;
 use crate::script::fault::{Cause, ScriptFault};
 use crate::script::lines::Lines;
 use crate::script::words::Words;
+use mscp_drive::{Unit, Units};
 
 /// What a script's controller is known by.
 const IDENTIFIER: u64 = 1;
@@ -83,20 +84,20 @@ fn first_unit(mut words: Words<'_>) -> Result<Unit, Cause> {
     }
 }
 
-/// The unit of these fields. No size of it may be 0.
+/// The unit of these fields. Its identifier and its serial number are one more than its number.
 fn unit_of(words: Words<'_>) -> Result<Unit, Cause> {
     let mut fields = words.exactly(5)?;
-    let unit = Unit {
-        number: fields.narrow()?,
-        track: fields.narrow()?,
-        group: fields.narrow()?,
-        cylinder: fields.narrow()?,
-        size: fields.wide()?,
-    };
-    if unit.track == 0 || unit.group == 0 || unit.cylinder == 0 || unit.size == 0 {
-        return Err(Cause::Unit);
+    let number = fields.narrow()?;
+    let track = fields.narrow()?;
+    let group = fields.narrow()?;
+    let cylinder = fields.narrow()?;
+    let size = fields.wide()?;
+    let id = u64::from(number) + 1;
+    let serial = u32::from(number) + 1;
+    match Unit::new(number, track, group, cylinder, size, id, 0, serial) {
+        Ok(unit) => Ok(unit),
+        Err(_) => Err(Cause::Unit),
     }
-    Ok(unit)
 }
 
 /// What a line after the unit brings: the configuration. A second unit is one too many.
@@ -123,7 +124,10 @@ fn configured(settings: Settings) -> Result<Config, Cause> {
         timeout,
         unit,
     } = settings;
-    match Config::new(credits, passing, longest, timeout, IDENTIFIER, unit) {
+    let Ok(units) = Units::new(&[unit]) else {
+        return Err(Cause::Unit);
+    };
+    match Config::new(credits, passing, longest, timeout, IDENTIFIER, units) {
         Ok(config) => Ok(config),
         Err(_) => Err(Cause::Config),
     }
