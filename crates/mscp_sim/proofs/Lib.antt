@@ -17,6 +17,7 @@ pub mod Apart
 pub mod Among
 pub mod Served
 pub mod Starts
+pub mod States
 pub mod Steady
 pub mod Room
 pub mod Passed
