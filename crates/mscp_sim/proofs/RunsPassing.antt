@@ -100,3 +100,29 @@ passed_twice_passes = refl
 passed_twice_second : passes (take 8 passed_twice) 4 ≡ 0
 unfolding moment collect command_of command is_waiting waiting done good passes_at passes is_free is_startable startable figure figure_of is_online head_cylinder head_up answer outcome ends untaken balance outstanding arrival block_of
 passed_twice_second = refl
+
+-- A start passes every earlier command that waits, not the oldest alone.
+abbrev pub passed_each : Trace
+passed_each =
+    came_online
+    ++ queued 1 0 (read 512 800)
+    ∷ queued 2 0 (read 512 40)
+    ∷ queued 3 0 (read 512 60)
+    ∷ queued 4 0 (read 512 80)
+    ∷ served Good 4 0 (Some 80) true 4 (moved 4 0 0 512)
+    ∷ served Good 1 0 (Some 800) true 36 (moved 1 0 0 512)
+    ∷ []
+
+pub passed_each_legal : IsLegal (settings 8 1) passed_each
+unfolding moment collect command_of command is_waiting waiting done good passes_at passes is_free is_startable startable figure figure_of is_online head_cylinder head_up answer outcome ends untaken balance outstanding arrival block_of
+passed_each_legal = legal_from (settings 8 1) passed_each (refl, (by_serving 0 refl refl refl, (refl, (refl, (refl, (refl, (refl, (by_serving 6 refl refl refl, (by_serving 3 refl refl refl, tt)))))))))
+
+-- The second was passed by the fourth, as the first was.
+passed_each_passes : passes (take 8 passed_each) 4 ≡ 1
+unfolding moment collect command_of command is_waiting waiting done good passes_at passes is_free is_startable startable figure figure_of is_online head_cylinder head_up answer outcome ends untaken balance outstanding arrival block_of
+passed_each_passes = refl
+
+-- So the third may not start before the second.
+passed_each_startable : startable (settings 8 1) (take 9 passed_each) ≡ 4 ∷ []
+unfolding moment collect command_of command is_waiting waiting done good passes_at passes is_free is_startable startable figure figure_of is_online head_cylinder head_up answer outcome ends untaken balance outstanding arrival block_of
+passed_each_startable = refl

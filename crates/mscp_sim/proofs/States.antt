@@ -12,13 +12,25 @@ use Rattle.mscp_drive.specs.declared.head.Head.{Head}
 use Rattle.mscp_sim.specs.declared.block.Block.{Block}
 use Rattle.mscp_sim.specs.Settings.{Settings, unit_shape}
 use Rattle.mscp_sim.specs.Outcomes.{is_success, state_after, head_after}
-use Rattle.mscp_sim.specs.History.{Trace, Moment, last_or, Service, service_in}
+use Rattle.mscp_sim.specs.History.{Trace, Moment, collect, last_or, Service, service_in}
 use Rattle.mscp_sim.specs.Commands.{reference, unit, order, waiting}
 use Rattle.mscp_sim.specs.Units.{states_given, states_ended, states_served, states_at, is_online, cylinder_touched, way, way_started, head_cylinder, head_up, head}
 use Rattle.mscp_sim.proofs.Lists.{every_weaker}
 use Rattle.mscp_sim.proofs.Grows.{last_more}
 use Rattle.mscp_sim.proofs.Among.{Alone}
 use Rattle.mscp_sim.proofs.Served.{Step}
+
+-- ---- at first
+
+-- A unit is available.
+pub is_online_empty : (u : ℕ) → is_online [] u ≡ false
+unfolding is_online collect
+is_online_empty u = refl
+
+-- Its head is on cylinder 0 and goes up.
+pub head_empty : (c : Settings) (u : ℕ) → head c [] u ≡ record { cylinder = 0; up = true }
+unfolding head_cylinder head_up collect
+head_empty c u = refl
 
 -- ---- one more moment
 
