@@ -12,7 +12,7 @@ use Rattle.mscp_sim.specs.declared.event.Event.TheVariants as events
 use Rattle.mscp_sim.specs.declared.event.Entry.TheVariants as entries
 use Rattle.mscp_packet.specs.Commands.{command_of}
 use Rattle.mscp_sim.specs.Settings.{Settings}
-use Rattle.mscp_sim.specs.History.{Trace, Moment, moment, positions, collect, queues, sent_bytes, is_good, is_step, takes}
+use Rattle.mscp_sim.specs.History.{Trace, Moment, moment, positions, collect, last_or, queues, sent_bytes, is_good, is_step, takes}
 use Rattle.mscp_sim.specs.Commands.{command, reference, is_waiting, waiting, done, good, steps_after, serves_in, ends_in}
 use Rattle.mscp_sim.specs.Passing.{passes_at, passes}
 use Rattle.mscp_sim.specs.Ends.{ends_at, ends, untaken}
@@ -43,6 +43,14 @@ collect_more seen t m =
     ∙ (flat_map-append (λ i. seen (take i (t ++ m ∷ [])) (moment (t ++ m ∷ []) i)) (positions t) (length t ∷ [])
     ∙ (ap (λ l. l ++ (seen (take (length t) (t ++ m ∷ [])) (moment (t ++ m ∷ []) (length t)) ++ [])) before
     ∙ ap (λ l. flat_map (λ i. seen (take i t) (moment t i)) (positions t) ++ l) (append-nil (seen (take (length t) (t ++ m ∷ [])) (moment (t ++ m ∷ []) (length t))) ∙ last)))
+
+pub last_or-append : {X : Type 0} (xs ys : List X) (d : X) → last_or (xs ++ ys) d ≡ last_or ys (last_or xs d)
+last_or-append [] ys d = refl
+last_or-append (x ∷ xs) ys d = last_or-append xs ys x
+
+-- The last that was collected: what is seen in the moment, or else what it was.
+pub last_more : {X : Type 0} (seen : Trace → Moment → List X) (d : X) (t : Trace) (m : Moment) → last_or (collect seen (t ++ m ∷ [])) d ≡ last_or (seen t m) (last_or (collect seen t) d)
+last_more seen d t m = ap (λ l. last_or l d) (collect_more seen t m) ∙ last_or-append (collect seen t) (seen t m) d
 
 -- ---- commands
 

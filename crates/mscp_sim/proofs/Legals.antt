@@ -8,7 +8,7 @@ use Rattle.mscp_sim.specs.Settings.{Settings}
 use Rattle.mscp_sim.specs.History.{Trace, Moment, moment, Service}
 use Rattle.mscp_sim.specs.Commands.{reference, unit, is_waiting, done, in_service}
 use Rattle.mscp_sim.specs.Passing.{is_startable}
-use Rattle.mscp_sim.specs.Legal.{IsRight, IsLegal, IsServed, block_of, end_of}
+use Rattle.mscp_sim.specs.Legal.{IsRight, IsLegal, IsServed, block_of, seek_to, end_of}
 use Rattle.mscp_sim.proofs.Grows.{moment_before, moment_last}
 
 -- each moment is right after those before it
@@ -34,11 +34,11 @@ pub legal_from : (c : Settings) (ms : Trace) → RightFrom c [] ms → IsLegal c
 legal_from c ms r = legal_onto c [] ms (λ i h. absurd (omega (arith, h))) r
 
 -- all that a step says where it serves y
-abbrev pub service_by : Trace → Block → ℕ → Service
-service_by t k y = record { reference = reference t y; unit = unit t y; lbn = block_of t y; started = nat_eq (done t y) 0; seek = 0; ended = end_of t k y }
+abbrev pub service_by : Settings → Trace → Block → ℕ → Service
+service_by c t k y = record { reference = reference t y; unit = unit t y; lbn = block_of t y; started = nat_eq (done t y) 0; seek = seek_to c t (unit t y) (block_of t y); ended = end_of c t k y }
 
 -- A step is right by the command that it serves.
-pub by_serving : {c : Settings} {t : Trace} {k : Block} {s : Service} (y : ℕ) → is_waiting t y ≡ true → (in_service t y || is_startable c t y) ≡ true → s ≡ service_by t k y → (y : ℕ) × IsServed c t k s y
+pub by_serving : {c : Settings} {t : Trace} {k : Block} {s : Service} (y : ℕ) → is_waiting t y ≡ true → (in_service t y || is_startable c t y) ≡ true → s ≡ service_by c t k y → (y : ℕ) × IsServed c t k s y
 by_serving y w n e = (
   y,
   record {

@@ -17,6 +17,7 @@ pub mod Apart
 pub mod Among
 pub mod Served
 pub mod Starts
+pub mod States
 pub mod Steady
 pub mod Room
 pub mod Passed
@@ -32,9 +33,11 @@ pub mod Known
 pub mod Progress
 pub mod Literals
 pub mod Legals
-pub mod RowsPolled
-pub mod RowsBlocks
-pub mod RowsPassing
-pub mod RowsCredits
-pub mod RowsRefused
-pub mod RowsWrong
+pub mod RunsPolled
+pub mod RunsBlocks
+pub mod RunsPassing
+pub mod RunsCredits
+pub mod RunsRefused
+pub mod RunsStates
+pub mod RunsHeads
+pub mod RunsWrong

@@ -1,6 +1,6 @@
 -- A command that is queued is no longer than may be, and leaves a credit.
 use Rattle.std.proofs.Common.{◌≡◌, ◌≢◌, ℕ, ◌+◌, ◌<◌, ◌≤◌, Bool, true, false, cond, not, ◌&&◌, List, [], ◌∷◌, ◌++◌, length, refl, ap, sym, ◌∙◌, subst, arith}
-use Rattle.std.specs.Prelude.{nat_eq, nat_lt, nat_le, filter, max, if◌then◌else◌, slice_index, Option, Some, None, is_some, is_none}
+use Rattle.std.specs.Prelude.{nat_eq, nat_lt, nat_le, filter, if◌then◌else◌, slice_index, Option, Some, None, is_some, is_none}
 use Rattle.std.specs.List.{AllByRecursion}
 use Rattle.std.proofs.lemmas.Bool.{ltb-false, eqb-false, true≢false, false≢true}
 use Rattle.mscp_packet.specs.declared.class.Opcode.{Opcode}
@@ -11,9 +11,11 @@ use Rattle.mscp_packet.specs.declared.command.Order.TheVariants as orders
 use Rattle.mscp_packet.specs.Number.{num}
 use Rattle.mscp_packet.specs.Opcodes.{opcode_of, class_of_opcode, class}
 use Rattle.mscp_packet.specs.Commands.{order_with, command_of}
-use Rattle.mscp_sim.specs.declared.config.Unit.{Unit}
+use Rattle.mscp_drive.specs.Shape.{Shape}
+use Rattle.mscp_drive.specs.Extent.{blocks}
+use Rattle.mscp_drive.specs.Extent as extent
 use Rattle.mscp_sim.specs.Settings.{Settings, unit_found}
-use Rattle.mscp_sim.specs.Arrival.{is_immediate_class, order_weight, blocks, move_fault, order_fault, fault_of, is_immediate, is_queued}
+use Rattle.mscp_sim.specs.Arrival.{is_immediate_class, order_weight, move_fault, order_fault, fault_of, is_immediate, is_queued}
 use Rattle.mscp_sim.specs.History.{Trace, Moment, queues, sent_bytes}
 use Rattle.mscp_sim.specs.Commands.{reference, weight, waiting, ends_in}
 use Rattle.mscp_sim.specs.Credits.{balance}
@@ -48,15 +50,15 @@ queued_open c k h =
 abbrev pub Short : Settings → Trace → List ℕ → Type 0
 Short c t xs = AllByRecursion (λ x. weight t x ≤ c.longest) xs
 
-move_short : (c : Settings) (count block : ℕ) (o : Option Unit) → move_fault c count block o ≡ None → max 1 (blocks count) ≤ c.longest
+move_short : (c : Settings) (count block : ℕ) (o : Option Shape) → move_fault c count block o ≡ None → extent.weight count ≤ c.longest
 move_short c count block None h = absurd (true≢false (ap is_some h))
 move_short c count block (Some unit) h =
-    let long = nat_lt c.longest (max 1 (blocks count)) in
+    let long = nat_lt c.longest (extent.weight count) in
     let last : Option ℕ = if long then Some 0x0C01 else None in
     let past = nat_lt unit.size (block + blocks count) in
     let e = if_none (nat_le unit.size block) 0x1C01 (if past then Some 0x0C01 else last) h in
     let f = if_none past 0x0C01 last e.1 in
-    ltb-false c.longest (max 1 (blocks count)) (if_none long 0x0C01 None f.1).0
+    ltb-false c.longest (extent.weight count) (if_none long 0x0C01 None f.1).0
 
 order_short : (c : Settings) (u : ℕ) (o : Order) → 1 ≤ c.longest → order_fault c u o ≡ None → order_weight o ≤ c.longest
 order_short c u (orders.Move kind count block) l h = move_short c count block (unit_found c u) h

@@ -8,8 +8,9 @@ use Rattle.mscp_packet.specs.declared.command.Command.{Command}
 use Rattle.mscp_packet.specs.declared.command.Order.{Order}
 use Rattle.mscp_packet.specs.declared.command.Order.TheVariants as orders
 use Rattle.mscp_sim.specs.declared.block.Block.{Block}
+use Rattle.mscp_drive.specs.Extent as extent
 use Rattle.mscp_sim.specs.Settings.{Settings}
-use Rattle.mscp_sim.specs.Arrival.{order_weight, blocks}
+use Rattle.mscp_sim.specs.Arrival.{order_weight}
 use Rattle.mscp_sim.specs.History.{Trace, Moment, queues, Service, service_in}
 use Rattle.mscp_sim.specs.Commands.{reference, unit, order, weight, waiting, done, left, in_service, service_is, ends_in}
 use Rattle.mscp_sim.specs.Passing.{is_startable}
@@ -39,7 +40,7 @@ pub record Steady (c : Settings) (t : Trace) : Type 0 where
 -- ---- from one run to the next
 
 pub weight_some : (o : Order) → 0 < order_weight o
-weight_some (orders.Move kind count block) = omega (arith, le-max_left 1 (blocks count))
+weight_some (orders.Move kind count block) = omega (arith, le-max_left 1 (extent.blocks count))
 weight_some (orders.Abort other) = omega arith
 weight_some (orders.Status other) = omega arith
 weight_some orders.UnitStatus = omega arith
@@ -129,13 +130,13 @@ idle_others c t y front back w s h =
     (or_cases (in_service t y) (is_startable c t y) h)
 
 -- a command that a step doesn't end has more than one step left
-pub more_left : (t : Trace) (k : Block) (y : ℕ) → is_some (end_of t k y) ≡ false → 1 < left t y
-more_left t k y h =
+pub more_left : (c : Settings) (t : Trace) (k : Block) (y : ℕ) → is_some (end_of c t k y) ≡ false → 1 < left t y
+more_left c t k y h =
     let on = is_online t (unit t y) in
     let both : (b : Bool) → goes_on on (order t y) k (left t y) ≡ b → 1 < left t y =
     λ b. elim b as (λ b. goes_on on (order t y) k (left t y) ≡ b → 1 < left t y) [
       | true ↦ λ e. ltb-true 1 (left t y) (last_and (touches on (order t y)) (is_good_block k) (nat_lt 1 (left t y)) e)
-      | false ↦ λ e. absurd (true≢false (sym (ap (λ b. is_some (if b then None else Some (outcome t k y))) e) ∙ h))
+      | false ↦ λ e. absurd (true≢false (sym (ap (λ b. is_some (if b then None else Some (outcome c t k y))) e) ∙ h))
     ] in
     both (goes_on on (order t y) k (left t y)) refl
 
@@ -150,7 +151,7 @@ stepped c t m s k y front back r h st =
     let own : (b : Bool) → is_some s.ended ≡ b → Unfinished t' (cond b [] (y ∷ [])) =
     λ b. elim b as (λ b. is_some s.ended ≡ b → Unfinished t' (cond b [] (y ∷ []))) [
       | true ↦ λ e. tt
-      | false ↦ λ e. (omega (arith, more_left t k y (sym (ap is_some st.served.ended) ∙ e), ch.own_done, weight_before t m y below.1.0), tt)
+      | false ↦ λ e. (omega (arith, more_left c t k y (sym (ap is_some st.served.ended) ∙ e), ch.own_done, weight_before t m y below.1.0), tt)
     ] in
     record {
       apart = apart_more c t m r h.apart;

@@ -37,7 +37,7 @@ aborted c t sent = aborted_unless t sent.order (fault_of c sent)
 
 -- the ends of the commands that a message aborts, and then its own (manual)
 abbrev pub answer_to : Settings → Trace → Command → List End
-answer_to c t sent = map (λ x. aborted_end (command t x) (good t x)) (aborted c t sent) ++ own_end c (figure_asked c t sent.order) sent ∷ []
+answer_to c t sent = map (λ x. aborted_end (command t x) (good t x)) (aborted c t sent) ++ own_end c (is_online t sent.unit) (figure_asked c t sent.order) sent ∷ []
 
 -- the ends that an answered message makes after t (manual)
 unfoldable pub answer : Settings → Trace → List ℕ → List End
@@ -46,8 +46,8 @@ answer c t b = answer_to c t (command_of b)
 -- ---- served
 
 -- the end that a step with this block gives to y (manual)
-unfoldable pub outcome : Trace → Block → ℕ → End
-outcome t k y = outcome_of (is_online t (unit t y)) (command t y) (good t y) k
+unfoldable pub outcome : Settings → Trace → Block → ℕ → End
+outcome c t k y = outcome_of c (is_online t (unit t y)) (command t y) (good t y) k
 
 -- the end that a step makes, if it makes one (manual)
 abbrev pub ends_served : Option Service → List End

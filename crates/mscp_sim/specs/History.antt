@@ -1,5 +1,5 @@
 -- A run as the list of its moments, and what is collected of it by positions.
-use Rattle.std.specs.Prelude.{◌≡◌, ℕ, Bool, true, false, List, [], length, take, flat_map, slice_index_or, Option, Some, None, Ok}
+use Rattle.std.specs.Prelude.{◌≡◌, ℕ, Bool, true, false, List, [], ◌∷◌, length, take, flat_map, slice_index_or, Option, Some, None, Ok}
 use Rattle.std.specs.List.{range_with_len}
 use Rattle.mscp_packet.specs.declared.end.End.{End}
 use Rattle.mscp_sim.specs.declared.block.Block.TheVariants.{Good}
@@ -29,6 +29,11 @@ positions t = range_with_len 0 (length t)
 -- what `seen` says of each moment and of what came before it, in order (profile)
 unfoldable pub collect : {X : Type 0} → (Trace → Moment → List X) → Trace → List X
 collect seen t = flat_map (λ i. seen (take i t) (moment t i)) (positions t)
+
+-- the last of a list, or else d (profile)
+abbrev pub last_or : {X : Type 0} → List X → X → X
+last_or [] d = d
+last_or (x ∷ xs) d = last_or xs x
 
 -- ---- what one moment says
 

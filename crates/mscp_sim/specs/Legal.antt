@@ -9,13 +9,15 @@ use Rattle.mscp_sim.specs.declared.event.Event.{Event}
 use Rattle.mscp_sim.specs.declared.event.Event.TheVariants as events
 use Rattle.mscp_sim.specs.declared.event.Entry.{Entry}
 use Rattle.mscp_sim.specs.declared.event.Entry.TheVariants as entries
-use Rattle.mscp_sim.specs.Settings.{Settings}
+use Rattle.mscp_drive.specs.Shape.{cylinder_of}
+use Rattle.mscp_drive.specs.Heads.{distance}
+use Rattle.mscp_sim.specs.Settings.{Settings, unit_shape}
 use Rattle.mscp_sim.specs.Outcomes.{block_touched, goes_on}
 use Rattle.mscp_sim.specs.History.{Trace, moment, Service, service_in}
 use Rattle.mscp_sim.specs.Commands.{reference, unit, order, is_waiting, waiting, done, left, in_service}
 use Rattle.mscp_sim.specs.Passing.{is_startable}
 use Rattle.mscp_sim.specs.Figures.{figure}
-use Rattle.mscp_sim.specs.Units.{is_online}
+use Rattle.mscp_sim.specs.Units.{is_online, head_cylinder}
 use Rattle.mscp_sim.specs.Ends.{outcome, untaken}
 use Rattle.mscp_sim.specs.Credits.{arrival}
 
@@ -25,9 +27,14 @@ use Rattle.mscp_sim.specs.Credits.{arrival}
 unfoldable pub block_of : Trace → ℕ → Option ℕ
 block_of t y = block_touched (is_online t (unit t y)) (order t y) (done t y)
 
+-- how far the head of a unit goes to this block, whichever way: nowhere if there is none (profile)
+abbrev pub seek_to : Settings → Trace → ℕ → Option ℕ → ℕ
+seek_to c t u None = 0
+seek_to c t u (Some block) = distance (head_cylinder c t u) (cylinder_of (unit_shape c u) block)
+
 -- the end that a step gives to y: none if it goes on (manual)
-abbrev pub end_of : Trace → Block → ℕ → Option End
-end_of t k y = if goes_on (is_online t (unit t y)) (order t y) k (left t y) then None else Some (outcome t k y)
+abbrev pub end_of : Settings → Trace → Block → ℕ → Option End
+end_of c t k y = if goes_on (is_online t (unit t y)) (order t y) k (left t y) then None else Some (outcome c t k y)
 
 -- the step serves y (manual, the limits of starts are the profile's)
 pub record IsServed (c : Settings) (t : Trace) (k : Block) (s : Service) (y : ℕ) : Type 0 where
@@ -39,10 +46,10 @@ pub record IsServed (c : Settings) (t : Trace) (k : Block) (s : Service) (y : �
   pub lbn : s.lbn ≡ block_of t y
   -- a start is its first step (profile)
   pub started : s.started ≡ nat_eq (done t y) 0
-  -- the head goes nowhere, until heads are kept (profile)
-  pub seek : s.seek ≡ 0
+  -- the head goes from where it is to the cylinder of that block (profile)
+  pub seek : s.seek ≡ seek_to c t (unit t y) (block_of t y)
   -- it ends unless it goes on (manual)
-  pub ended : s.ended ≡ end_of t k y
+  pub ended : s.ended ≡ end_of c t k y
   -- it is named by its reference number (manual)
   pub reference : s.reference ≡ reference t y
   -- and by its unit (manual)

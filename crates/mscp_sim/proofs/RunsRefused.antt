@@ -11,17 +11,17 @@ use Rattle.mscp_sim.specs.History.{Trace, moment, collect}
 use Rattle.mscp_sim.specs.Commands.{command, is_waiting, waiting, done, good}
 use Rattle.mscp_sim.specs.Passing.{passes_at, passes, is_free, is_startable, startable}
 use Rattle.mscp_sim.specs.Figures.{figure, figure_of}
-use Rattle.mscp_sim.specs.Units.{is_online}
+use Rattle.mscp_sim.specs.Units.{is_online, head_cylinder, head_up}
 use Rattle.mscp_sim.specs.Ends.{answer, outcome, ends, untaken}
 use Rattle.mscp_sim.specs.Credits.{balance, outstanding, arrival}
 use Rattle.mscp_sim.specs.Legal.{IsLegal, block_of}
 use Rattle.mscp_sim.proofs.Legals.{legal_from, by_serving}
-use Rattle.mscp_sim.proofs.Literals.{settings, read, raw, queued, answered, took, looked, served, moved}
+use Rattle.mscp_sim.proofs.Literals.{settings, came_online, read, raw, queued, answered, took, looked, served, moved}
 
 -- Messages that no command is made of: an opcode that no command has, a unit that is not configured, and a read of 31 bytes.
 abbrev pub invalid : Trace
 invalid =
-    raw ((5 ∷ 0 ∷ 0 ∷ 0 ∷ 0 ∷ 0 ∷ 0 ∷ 0 ∷ 0x13 ∷ 0 ∷ 0 ∷ 0 ∷ [])) (Ok (sents.Answered 5 None))
+    raw (5 ∷ 0 ∷ 0 ∷ 0 ∷ 0 ∷ 0 ∷ 0 ∷ 0 ∷ 0x13 ∷ 0 ∷ 0 ∷ 0 ∷ []) (Ok (sents.Answered 5 None))
     ∷ took (5 ∷ 0 ∷ 0 ∷ 0 ∷ 0 ∷ 0 ∷ 0 ∷ 0 ∷ 0x80 ∷ 0 ∷ 1 ∷ 8 ∷ [])
     ∷ answered 6 7 (read 512 0)
     ∷ took ((6 ∷ 0 ∷ 0 ∷ 0 ∷ 7 ∷ 0 ∷ 0 ∷ 0 ∷ 0xA1 ∷ 0 ∷ 3 ∷ 0 ∷ []) ++ replicate 20 0)
@@ -30,24 +30,25 @@ invalid =
     ∷ []
 
 pub invalid_legal : IsLegal (settings 5 2) invalid
-unfolding moment collect command_of command is_waiting waiting done good passes_at passes is_free is_startable startable figure figure_of is_online answer outcome ends untaken balance outstanding arrival block_of
+unfolding moment collect command_of command is_waiting waiting done good passes_at passes is_free is_startable startable figure figure_of is_online head_cylinder head_up answer outcome ends untaken balance outstanding arrival block_of
 invalid_legal = legal_from (settings 5 2) invalid (refl, (refl, (refl, (refl, (refl, (refl, tt))))))
 
 -- Until aborts are served an abort is answered as an unknown opcode, and aborts nothing: the read goes on.
 abbrev pub unserved : Trace
 unserved =
-    queued 1 0 (read 1536 0)
-    ∷ served Good 1 0 (Some 0) true None
+    came_online
+    ++ queued 1 0 (read 1536 0)
+    ∷ served Good 1 0 (Some 0) true 0 None
     ∷ answered 2 0 (orders.Abort 1)
     ∷ took (2 ∷ 0 ∷ 0 ∷ 0 ∷ 0 ∷ 0 ∷ 0 ∷ 0 ∷ 0x80 ∷ 0 ∷ 1 ∷ 8 ∷ [])
     ∷ looked ((1, 2) ∷ [])
-    ∷ served Good 1 0 (Some 1) false None
-    ∷ served Good 1 0 (Some 2) false (moved 1 0 0 1536)
+    ∷ served Good 1 0 (Some 1) false 0 None
+    ∷ served Good 1 0 (Some 2) false 0 (moved 1 0 0 1536)
     ∷ []
 
 pub unserved_legal : IsLegal (settings 5 2) unserved
-unfolding moment collect command_of command is_waiting waiting done good passes_at passes is_free is_startable startable figure figure_of is_online answer outcome ends untaken balance outstanding arrival block_of
-unserved_legal = legal_from (settings 5 2) unserved (refl, (by_serving 0 refl refl refl, (refl, (refl, (refl, (by_serving 0 refl refl refl, (by_serving 0 refl refl refl, tt)))))))
+unfolding moment collect command_of command is_waiting waiting done good passes_at passes is_free is_startable startable figure figure_of is_online head_cylinder head_up answer outcome ends untaken balance outstanding arrival block_of
+unserved_legal = legal_from (settings 5 2) unserved (refl, (by_serving 0 refl refl refl, (refl, (refl, (by_serving 3 refl refl refl, (refl, (refl, (refl, (by_serving 3 refl refl refl, (by_serving 3 refl refl refl, tt))))))))))
 
 -- A read of three blocks that is aborted after one ends with what was moved.
 aborted_read : end_bytes (aborted_end (record { reference = 1; unit = 0; order = read 1536 0 }) 1) ≡ (1 ∷ 0 ∷ 0 ∷ 0 ∷ 0 ∷ 0 ∷ 0 ∷ 0 ∷ 0xA1 ∷ 0 ∷ 2 ∷ 0 ∷ 0 ∷ 2 ∷ 0 ∷ 0 ∷ []) ++ replicate 16 0
