@@ -1,4 +1,4 @@
-// The head of a unit: where it is, which way it goes, and what the next way costs.
+// The head of a unit: where it is, which way it goes, and what the way to a cylinder costs.
 
 ghost use Rattle.std.specs.Prelude.{◌≡◌, ◌≤◌, true};
 ghost use Rattle.mscp_drive.specs.Shape.{last_cylinder};
