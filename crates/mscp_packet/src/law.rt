@@ -1,7 +1,7 @@
 // What the codec promises of both directions at once.
 
 ghost use Rattle.std.specs.Prelude.{◌≡◌};
-ghost use Rattle.mscp_packet.specs.Commands.{IsValidOrder};
+ghost use Rattle.mscp_packet.specs.Commands.{command_bytes, command_of, IsValidOrder};
 ghost use Rattle.mscp_packet.specs.Ends.{IsOfKind};
 ghost use Rattle.mscp_packet.specs.Table.{IsSound};
 
@@ -10,9 +10,11 @@ use crate::end::End;
 use crate::reading::{EndFault, PacketFault, read_command, read_end};
 use crate::writing::{write_command, write_end};
 
-/// Writes a command and reads it again, which gives the same command unless it is an `Order::Invalid`.
+/// Writes a command and reads it again, which gives the same command unless it is an `Order::Invalid`. That is
+/// written without parameters or status, so it gives whatever its opcode byte in 12 bytes asks for.
 pub fn read_written_command(command: &Command) -> Result<Command, PacketFault>
-    ensures { IsValidOrder command.now.order → result ≡ Ok command.now }
+    ensures same { IsValidOrder command.now.order → result ≡ Ok command.now }
+    ensures read { result ≡ Ok (command_of (command_bytes command.now)) }
 {
     read_command(write_command(command).as_slice())
 }
