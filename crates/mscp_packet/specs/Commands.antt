@@ -1,32 +1,18 @@
--- The layout of command messages.
-use Rattle.std.specs.Prelude.{◌≡◌, ℕ, ◌≤◌, Bool, true, false, nat_lt, if◌then◌else◌, List, [], ◌∷◌, ◌++◌, length, slice_index, replicate, Option, Some, None}
+-- The layout of command messages. Every one has its reference number in bytes 0-3, its unit number in 4-5, its
+-- opcode in 8, and its parameters from 12 on.
+use Rattle.std.specs.Prelude.{◌≡◌, ℕ, ◌<◌, ◌≤◌, ◌^◌, nat_lt, if◌then◌else◌, List, [], ◌∷◌, ◌++◌, length, slice_index, replicate, Option, Some, None}
 use Rattle.byteorder.specs.Endian.{little_bytes}
 use Rattle.mscp_packet.specs.Number.{num}
-use Rattle.mscp_packet.specs.Opcodes.{opcode_of}
+use Rattle.mscp_packet.specs.Places.{Field, field}
+pub use Rattle.mscp_packet.specs.Opcodes.{least}
+use Rattle.mscp_packet.specs.Opcodes.{opcode_of, row_of}
 use Rattle.mscp_packet.specs.declared.class.Opcode.{Opcode}
 use Rattle.mscp_packet.specs.declared.class.Opcode.TheVariants as codes
-use Rattle.mscp_packet.specs.declared.command.MoveKind.{MoveKind}
-use Rattle.mscp_packet.specs.declared.command.MoveKind.TheVariants as moves
 use Rattle.mscp_packet.specs.declared.command.Order.{Order}
 use Rattle.mscp_packet.specs.declared.command.Order.TheVariants as orders
 use Rattle.mscp_packet.specs.declared.command.Command.{Command}
 
--- the opcodes whose messages are read so far: every other counts as unknown (profile)
-abbrev pub is_served : Opcode → Bool
-is_served codes.Status = true
-is_served (codes.Move kind) = true
-is_served opcode = false
-
--- the fewest bytes that a command of an opcode has (profile)
-abbrev pub least : Opcode → ℕ
-least codes.Abort = 16
-least codes.Status = 16
-least codes.UnitStatus = 12
-least codes.SetController = 14
-least codes.Available = 12
-least codes.Online = 12
-least codes.SetUnit = 12
-least (codes.Move kind) = 32
+-- ---- reading
 
 -- what a long enough command of an opcode asks for (manual)
 abbrev pub parameters : Opcode → List ℕ → Order
@@ -39,15 +25,11 @@ parameters codes.Online b = orders.Online
 parameters codes.SetUnit b = orders.SetUnit
 parameters (codes.Move kind) b = orders.Move kind (num b 12 4) (num b 28 4)
 
--- the same of a message of any length: 0x0001 is Invalid Command, message length (manual)
-abbrev pub order_when : Bool → Opcode → List ℕ → Order
-order_when true opcode b = if nat_lt (length b) (least opcode) then orders.Invalid (slice_index b 8) 0x0001 else parameters opcode b
-order_when false opcode b = orders.Invalid (slice_index b 8) 0x0801
-
--- the same of a message with this opcode or none: 0x0801 is Invalid Command, opcode (manual)
+-- what a message with this opcode or none asks for: 0x0801 is Invalid Command, opcode, and 0x0001 Invalid
+-- Command, message length (manual)
 abbrev pub order_with : Option Opcode → List ℕ → Order
 order_with None b = orders.Invalid (slice_index b 8) 0x0801
-order_with (Some opcode) b = order_when (is_served opcode) opcode b
+order_with (Some opcode) b = if nat_lt (length b) (least opcode) then orders.Invalid (slice_index b 8) 0x0001 else parameters opcode b
 
 -- the bytes b, of which there are 12 to 64, are the command c (manual)
 pub record IsCommand (b : List ℕ) (c : Command) : Type 0 where
@@ -61,24 +43,30 @@ pub record IsCommand (b : List ℕ) (c : Command) : Type 0 where
 unfoldable pub command_of : List ℕ → Command
 command_of b = record { reference = num b 0 4; unit = num b 4 2; order = order_with (opcode_of (slice_index b 8)) b }
 
--- the opcode byte of a transfer (manual)
-abbrev pub move_byte : MoveKind → ℕ
-move_byte moves.Access = 16
-move_byte moves.Erase = 18
-move_byte moves.Compare = 32
-move_byte moves.Read = 33
-move_byte moves.Write = 34
+-- ---- writing
+
+-- the opcode of an order, unless it is no valid command
+abbrev pub order_opcode : Order → Option Opcode
+order_opcode (orders.Abort other) = Some codes.Abort
+order_opcode (orders.Status other) = Some codes.Status
+order_opcode orders.UnitStatus = Some codes.UnitStatus
+order_opcode (orders.SetController version) = Some codes.SetController
+order_opcode orders.Available = Some codes.Available
+order_opcode orders.Online = Some codes.Online
+order_opcode orders.SetUnit = Some codes.SetUnit
+order_opcode (orders.Move kind count block) = Some (codes.Move kind)
+order_opcode (orders.Invalid opcode status) = None
 
 -- the opcode byte that an order is written with (manual)
 abbrev pub opcode_byte : Order → ℕ
-opcode_byte (orders.Abort other) = 1
-opcode_byte (orders.Status other) = 2
-opcode_byte orders.UnitStatus = 3
-opcode_byte (orders.SetController version) = 4
-opcode_byte orders.Available = 8
-opcode_byte orders.Online = 9
-opcode_byte orders.SetUnit = 10
-opcode_byte (orders.Move kind count block) = move_byte kind
+opcode_byte (orders.Abort other) = (row_of codes.Abort).byte
+opcode_byte (orders.Status other) = (row_of codes.Status).byte
+opcode_byte orders.UnitStatus = (row_of codes.UnitStatus).byte
+opcode_byte (orders.SetController version) = (row_of codes.SetController).byte
+opcode_byte orders.Available = (row_of codes.Available).byte
+opcode_byte orders.Online = (row_of codes.Online).byte
+opcode_byte orders.SetUnit = (row_of codes.SetUnit).byte
+opcode_byte (orders.Move kind count block) = (row_of (codes.Move kind)).byte
 opcode_byte (orders.Invalid opcode status) = opcode
 
 -- what is written from byte 12 on (manual)
@@ -92,3 +80,36 @@ parameter_bytes order = []
 -- the message that is written of a command (manual)
 abbrev pub command_bytes : Command → List ℕ
 command_bytes c = little_bytes 4 c.reference ++ little_bytes 2 c.unit ++ replicate 2 0 ++ (opcode_byte c.order ∷ []) ++ replicate 3 0 ++ parameter_bytes c.order
+
+-- how many bytes are written: those of the table, or 12 of what is no valid command (profile)
+abbrev pub written_with : Option Opcode → ℕ
+written_with None = 12
+written_with (Some opcode) = (row_of opcode).written_length
+
+abbrev pub written : Order → ℕ
+written order = written_with (order_opcode order)
+
+-- where the parameters of a command stand (manual)
+abbrev pub parameter_fields : Option Opcode → List Field
+parameter_fields (Some codes.Abort) = field 12 4 ∷ []
+parameter_fields (Some codes.Status) = field 12 4 ∷ []
+parameter_fields (Some codes.SetController) = field 12 2 ∷ []
+parameter_fields (Some (codes.Move kind)) = field 12 4 ∷ field 28 4 ∷ []
+parameter_fields opcode = []
+
+-- every named place of a command: reference number, unit number, opcode and parameters (manual)
+abbrev pub command_fields : Order → List Field
+command_fields order = field 0 4 ∷ field 4 2 ∷ field 8 1 ∷ parameter_fields (order_opcode order)
+
+-- a valid command, so not an Invalid
+abbrev pub IsValidOrder : Order → Type 0
+IsValidOrder (orders.Invalid opcode status) = ⊥
+IsValidOrder order = Unit {0}
+
+-- the numbers of an order fit their types
+abbrev pub HasRange : Order → Type 0
+HasRange (orders.Abort other) = other < 2 ^ 32
+HasRange (orders.Status other) = other < 2 ^ 32
+HasRange (orders.SetController version) = version < 2 ^ 16
+HasRange (orders.Move kind count block) = (count < 2 ^ 32) × (block < 2 ^ 32)
+HasRange order = Unit {0}

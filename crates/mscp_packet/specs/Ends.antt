@@ -1,28 +1,86 @@
--- The layout of end messages.
-use Rattle.std.specs.Prelude.{ℕ, if◌then◌else◌, ◌==◌, List, [], ◌∷◌, ◌++◌, replicate, Option, Some, None}
+-- The layout of end messages. Every one has its command's reference number in bytes 0-3 and unit number in 4-5,
+-- its endcode in 8, its status in 10-11, and its body from 12 on.
+use Rattle.std.specs.Prelude.{◌≡◌, ℕ, ◌<◌, ◌≤◌, ◌^◌, if◌then◌else◌, ◌==◌, List, [], ◌∷◌, ◌++◌, length, slice_index, replicate, Option, Some, None}
 use Rattle.byteorder.specs.Endian.{little_bytes}
+use Rattle.mscp_packet.specs.Number.{num}
+use Rattle.mscp_packet.specs.Places.{Field, field}
 use Rattle.mscp_packet.specs.declared.end.EndBody.{EndBody}
 use Rattle.mscp_packet.specs.declared.end.EndBody.TheVariants as bodies
 use Rattle.mscp_packet.specs.declared.end.BodyKind.{BodyKind}
 use Rattle.mscp_packet.specs.declared.end.BodyKind.TheVariants as kinds
 use Rattle.mscp_packet.specs.declared.end.End.{End}
 
--- the shape of the body that follows an endcode. No other byte is one (manual)
+-- ---- the table
+
+-- each endcode, and the shape of the body that follows it (manual, 0x80 alone is the profile's)
+abbrev pub endcodes : List (ℕ × BodyKind)
+endcodes =
+    (0x80, kinds.Bare)  -- an unknown opcode
+    ∷ (0x81, kinds.Abort)  -- ABORT
+    ∷ (0x82, kinds.Status)  -- GET COMMAND STATUS
+    ∷ (0x83, kinds.UnitStatus)  -- GET UNIT STATUS
+    ∷ (0x84, kinds.Controller)  -- SET CONTROLLER CHARACTERISTICS
+    ∷ (0x88, kinds.Bare)  -- AVAILABLE
+    ∷ (0x89, kinds.Online)  -- ONLINE
+    ∷ (0x8A, kinds.Online)  -- SET UNIT CHARACTERISTICS
+    ∷ (0x90, kinds.Moved)  -- ACCESS
+    ∷ (0x92, kinds.Moved)  -- ERASE
+    ∷ (0xA0, kinds.Moved)  -- COMPARE HOST DATA
+    ∷ (0xA1, kinds.Moved)  -- READ
+    ∷ (0xA2, kinds.Moved)  -- WRITE
+    ∷ []
+
+-- how many bytes an end with a body of a shape has (manual)
+abbrev pub end_length : BodyKind → ℕ
+end_length kinds.Bare = 12
+end_length kinds.Abort = 16
+end_length kinds.Status = 20
+end_length kinds.UnitStatus = 48
+end_length kinds.Controller = 28
+end_length kinds.Online = 44
+end_length kinds.Moved = 32
+
+abbrev pub kind_among : List (ℕ × BodyKind) → ℕ → Option BodyKind
+kind_among [] code = None
+kind_among (e ∷ es) code = if code == e.0 then Some e.1 else kind_among es code
+
+-- the shape of the body that follows an endcode. No other byte is one
 abbrev pub kind_of_code : ℕ → Option BodyKind
-kind_of_code code =
-    if code == 0x80 then Some kinds.Bare else (
-    if code == 0x81 then Some kinds.Abort else (
-    if code == 0x82 then Some kinds.Status else (
-    if code == 0x83 then Some kinds.UnitStatus else (
-    if code == 0x84 then Some kinds.Controller else (
-    if code == 0x88 then Some kinds.Bare else (
-    if code == 0x89 then Some kinds.Online else (
-    if code == 0x8A then Some kinds.Online else (
-    if code == 0x90 then Some kinds.Moved else (
-    if code == 0x92 then Some kinds.Moved else (
-    if code == 0xA0 then Some kinds.Moved else (
-    if code == 0xA1 then Some kinds.Moved else (
-    if code == 0xA2 then Some kinds.Moved else None))))))))))))
+kind_of_code code = kind_among endcodes code
+
+-- ---- reading
+
+-- the body of a shape in a long enough message (manual)
+abbrev pub body_at : BodyKind → List ℕ → EndBody
+body_at kinds.Bare b = bodies.Bare
+body_at kinds.Abort b = bodies.Abort (num b 12 4)
+body_at kinds.Status b = bodies.Status (num b 12 4) (num b 16 4)
+body_at kinds.UnitStatus b = bodies.UnitStatus (num b 20 8) (num b 28 4) (num b 36 2) (num b 38 2) (num b 40 2)
+body_at kinds.Controller b = bodies.Controller (num b 16 2) (num b 20 8)
+body_at kinds.Online b = bodies.Online (num b 20 8) (num b 28 4) (num b 36 4) (num b 40 4)
+body_at kinds.Moved b = bodies.Moved (num b 12 4)
+
+-- a long enough message has this body of this shape
+abbrev pub HasBody : Option BodyKind → List ℕ → EndBody → Type 0
+HasBody None b body = ⊥
+HasBody (Some kind) b body = (end_length kind ≤ length b) × (body ≡ body_at kind b)
+
+-- the bytes b, of which there are 12 to 64, are the end e (manual)
+pub record IsEnd (b : List ℕ) (e : End) : Type 0 where
+  pub low : 12 ≤ length b
+  pub high : length b ≤ 64
+  pub reference : e.reference ≡ num b 0 4
+  pub unit : e.unit ≡ num b 4 2
+  pub code : e.code ≡ slice_index b 8
+  pub status : e.status ≡ num b 10 2
+  pub body : HasBody (kind_of_code (slice_index b 8)) b e.body
+
+-- the message is under the length of its endcode, if it has one
+abbrev pub IsUnder : Option BodyKind → ℕ → Type 0
+IsUnder None size = ⊥
+IsUnder (Some kind) size = size < end_length kind
+
+-- ---- refused commands
 
 -- a body of a shape with every field 0
 abbrev pub zero_body : Option BodyKind → EndBody
@@ -38,6 +96,8 @@ zero_body (Some kinds.Moved) = bodies.Moved 0
 -- the body of the end of a refused command whose end has this endcode (manual)
 abbrev pub refused_body : ℕ → EndBody
 refused_body code = zero_body (kind_of_code code)
+
+-- ---- writing
 
 -- which unit and medium it is: bytes 12 to 35 (manual)
 abbrev pub unit_bytes : ℕ → ℕ → List ℕ
@@ -56,3 +116,41 @@ body_bytes (bodies.Moved count) = little_bytes 4 count ++ replicate 16 0
 -- the message that is written of an end (manual)
 abbrev pub end_bytes : End → List ℕ
 end_bytes e = little_bytes 4 e.reference ++ little_bytes 2 e.unit ++ replicate 2 0 ++ (e.code ∷ []) ++ (0 ∷ []) ++ little_bytes 2 e.status ++ body_bytes e.body
+
+-- the shape of a body
+abbrev pub kind_of_body : EndBody → BodyKind
+kind_of_body bodies.Bare = kinds.Bare
+kind_of_body (bodies.Abort other) = kinds.Abort
+kind_of_body (bodies.Status other figure) = kinds.Status
+kind_of_body (bodies.UnitStatus id media track group cylinder) = kinds.UnitStatus
+kind_of_body (bodies.Controller timeout id) = kinds.Controller
+kind_of_body (bodies.Online id media size serial) = kinds.Online
+kind_of_body (bodies.Moved count) = kinds.Moved
+
+-- the body is of the shape that follows the endcode
+abbrev pub IsOfKind : End → Type 0
+IsOfKind e = kind_of_code e.code ≡ Some (kind_of_body e.body)
+
+-- where the fields of a body stand (manual)
+abbrev pub body_fields : BodyKind → List Field
+body_fields kinds.Bare = []
+body_fields kinds.Abort = field 12 4 ∷ []
+body_fields kinds.Status = field 12 4 ∷ field 16 4 ∷ []
+body_fields kinds.UnitStatus = field 20 8 ∷ field 28 4 ∷ field 36 2 ∷ field 38 2 ∷ field 40 2 ∷ []
+body_fields kinds.Controller = field 16 2 ∷ field 20 8 ∷ []
+body_fields kinds.Online = field 20 8 ∷ field 28 4 ∷ field 36 4 ∷ field 40 4 ∷ []
+body_fields kinds.Moved = field 12 4 ∷ []
+
+-- every named place of an end: reference number, unit number, endcode, status and body (manual)
+abbrev pub end_fields : EndBody → List Field
+end_fields body = field 0 4 ∷ field 4 2 ∷ field 8 1 ∷ field 10 2 ∷ body_fields (kind_of_body body)
+
+-- the numbers of a body fit their types
+abbrev pub HasBodyRange : EndBody → Type 0
+HasBodyRange bodies.Bare = Unit {0}
+HasBodyRange (bodies.Abort other) = other < 2 ^ 32
+HasBodyRange (bodies.Status other figure) = (other < 2 ^ 32) × (figure < 2 ^ 32)
+HasBodyRange (bodies.UnitStatus id media track group cylinder) = (id < 2 ^ 64) × (media < 2 ^ 32) × (track < 2 ^ 16) × (group < 2 ^ 16) × (cylinder < 2 ^ 16)
+HasBodyRange (bodies.Controller timeout id) = (timeout < 2 ^ 16) × (id < 2 ^ 64)
+HasBodyRange (bodies.Online id media size serial) = (id < 2 ^ 64) × (media < 2 ^ 32) × (size < 2 ^ 32) × (serial < 2 ^ 32)
+HasBodyRange (bodies.Moved count) = count < 2 ^ 32

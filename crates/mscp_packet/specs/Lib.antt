@@ -1,4 +1,6 @@
 pub mod Number
+pub mod Places
 pub mod Opcodes
 pub mod Commands
 pub mod Ends
+pub mod Table

@@ -1,39 +1,78 @@
--- The opcodes, and how the commands of each are scheduled.
-use Rattle.std.specs.Prelude.{ℕ, if◌then◌else◌, ◌==◌, Option, Some, None}
+-- The table of the opcodes.
+use Rattle.std.specs.Prelude.{ℕ, if◌then◌else◌, ◌==◌, List, [], ◌∷◌, Option, Some, None}
 use Rattle.mscp_packet.specs.declared.class.Class.{Class}
 use Rattle.mscp_packet.specs.declared.class.Class.TheVariants.{Immediate, Sequential, Free, Unknown}
 use Rattle.mscp_packet.specs.declared.class.Opcode.{Opcode}
 use Rattle.mscp_packet.specs.declared.class.Opcode.TheVariants as codes
+use Rattle.mscp_packet.specs.declared.command.MoveKind.{MoveKind}
 use Rattle.mscp_packet.specs.declared.command.MoveKind.TheVariants as moves
 
--- the opcode of a byte. No other byte is one (manual)
-abbrev pub opcode_of : ℕ → Option Opcode
-opcode_of byte =
-    if byte == 1 then Some codes.Abort else (
-    if byte == 2 then Some codes.Status else (
-    if byte == 3 then Some codes.UnitStatus else (
-    if byte == 4 then Some codes.SetController else (
-    if byte == 8 then Some codes.Available else (
-    if byte == 9 then Some codes.Online else (
-    if byte == 10 then Some codes.SetUnit else (
-    if byte == 16 then Some (codes.Move moves.Access) else (
-    if byte == 18 then Some (codes.Move moves.Erase) else (
-    if byte == 32 then Some (codes.Move moves.Compare) else (
-    if byte == 33 then Some (codes.Move moves.Read) else (
-    if byte == 34 then Some (codes.Move moves.Write) else None)))))))))))
+-- what is told of an opcode: its byte, how its commands are scheduled, the fewest bytes that a command of it
+-- has, and how many bytes are written of one
+pub record Row : Type 0 where
+  pub byte : ℕ
+  pub scheduled : Class
+  pub least_length : ℕ
+  pub written_length : ℕ
 
--- how the commands of an opcode are scheduled (manual)
+abbrev pub row : ℕ → Class → ℕ → ℕ → Row
+row byte scheduled least written = record { byte = byte; scheduled = scheduled; least_length = least; written_length = written }
+
+-- the bytes of the five transfers (manual)
+abbrev pub move_byte : MoveKind → ℕ
+move_byte moves.Access = 16  -- ACCESS
+move_byte moves.Erase = 18  -- ERASE
+move_byte moves.Compare = 32  -- COMPARE HOST DATA
+move_byte moves.Read = 33  -- READ
+move_byte moves.Write = 34  -- WRITE
+
+-- the opcodes: byte, class, least length and written length of each (manual, the lengths are the profile's)
+abbrev pub row_of : Opcode → Row
+row_of codes.Abort = row 1 Immediate 16 16  -- ABORT
+row_of codes.Status = row 2 Immediate 16 16  -- GET COMMAND STATUS
+row_of codes.UnitStatus = row 3 Immediate 12 12  -- GET UNIT STATUS
+row_of codes.SetController = row 4 Immediate 14 18  -- SET CONTROLLER CHARACTERISTICS
+row_of codes.Available = row 8 Sequential 12 12  -- AVAILABLE
+row_of codes.Online = row 9 Sequential 12 12  -- ONLINE
+row_of codes.SetUnit = row 10 Sequential 12 12  -- SET UNIT CHARACTERISTICS
+row_of (codes.Move kind) = row (move_byte kind) Free 32 32  -- the five transfers
+
+-- ---- read off the table
+
+-- all twelve
+abbrev pub opcodes : List Opcode
+opcodes =
+    codes.Abort
+    ∷ codes.Status
+    ∷ codes.UnitStatus
+    ∷ codes.SetController
+    ∷ codes.Available
+    ∷ codes.Online
+    ∷ codes.SetUnit
+    ∷ codes.Move moves.Access
+    ∷ codes.Move moves.Erase
+    ∷ codes.Move moves.Compare
+    ∷ codes.Move moves.Read
+    ∷ codes.Move moves.Write
+    ∷ []
+
+abbrev pub opcode_among : List Opcode → ℕ → Option Opcode
+opcode_among [] byte = None
+opcode_among (o ∷ os) byte = if byte == (row_of o).byte then Some o else opcode_among os byte
+
+-- the opcode of a byte. No other byte is one
+abbrev pub opcode_of : ℕ → Option Opcode
+opcode_of byte = opcode_among opcodes byte
+
+-- the fewest bytes that a command of an opcode has
+abbrev pub least : Opcode → ℕ
+least o = (row_of o).least_length
+
+-- how the commands of an opcode are scheduled
 abbrev pub class_of_opcode : Option Opcode → Class
 class_of_opcode None = Unknown
-class_of_opcode (Some codes.Abort) = Immediate
-class_of_opcode (Some codes.Status) = Immediate
-class_of_opcode (Some codes.UnitStatus) = Immediate
-class_of_opcode (Some codes.SetController) = Immediate
-class_of_opcode (Some codes.Available) = Sequential
-class_of_opcode (Some codes.Online) = Sequential
-class_of_opcode (Some codes.SetUnit) = Sequential
-class_of_opcode (Some (codes.Move kind)) = Free
+class_of_opcode (Some o) = (row_of o).scheduled
 
--- the class of an opcode byte (manual)
+-- the class of an opcode byte
 abbrev pub class : ℕ → Class
 class byte = class_of_opcode (opcode_of byte)

@@ -70,7 +70,7 @@ impl Command {
 }
 
 impl MoveKind {
-    ghost use Rattle.mscp_packet.specs.Commands.{move_byte};
+    ghost use Rattle.mscp_packet.specs.Opcodes.{move_byte};
 
     /// The opcode byte of the transfer.
     pub fn opcode(self) -> u8

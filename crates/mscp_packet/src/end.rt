@@ -67,7 +67,7 @@ pub enum BodyKind {
 }
 
 /// The shape of the body that follows an endcode, if the byte is one.
-fn kind_of(code: u8) -> Option<BodyKind>
+pub(crate) fn kind_of(code: u8) -> Option<BodyKind>
     ensures { result ≡ kind_of_code code }
 {
     match code {

@@ -25,6 +25,14 @@ pub fn four_at(b: &[u8], at: usize) -> u32
     LittleEndian::read_u32(&b[at..])
 }
 
+/// The number in the eight bytes from a place on.
+pub fn eight_at(b: &[u8], at: usize) -> u64
+    requires { at + 8 ≤ length b.now }
+    ensures { result ≡ num b.now at 8 }
+{
+    LittleEndian::read_u64(&b[at..])
+}
+
 /// Appends bytes.
 pub fn put(out: &mut ArrayVec<u8, 48>, bytes: &[u8])
     requires { array_vec_len out.old + length bytes.now ≤ 48 }

@@ -1,12 +1,14 @@
-// Bytes to commands.
+// Bytes to commands and ends.
 
-ghost use Rattle.std.specs.Prelude.{◌≡◌, ◌↔◌, ◌≤◌, ◌<◌, length, IfOk, slice_index};
-ghost use Rattle.mscp_packet.specs.Opcodes.{opcode_of};
-ghost use Rattle.mscp_packet.specs.Commands.{is_served, least, order_with, parameters, IsCommand};
+ghost use Rattle.std.specs.Prelude.{◌≡◌, ◌↔◌, ◌≤◌, ◌<◌, ◌⊎◌, length, IfOk, slice_index};
+ghost use Rattle.mscp_packet.specs.Opcodes.{least, opcode_of};
+ghost use Rattle.mscp_packet.specs.Commands.{order_with, parameters, IsCommand};
+ghost use Rattle.mscp_packet.specs.Ends.{body_at, end_length, kind_of_code, IsEnd, IsUnder};
 
 use crate::class::{Opcode, opcode_of};
 use crate::command::{Command, Order};
-use crate::fields::{four_at, two_at};
+use crate::end::{BodyKind, End, EndBody, kind_of};
+use crate::fields::{eight_at, four_at, two_at};
 
 /// Why bytes are no message.
 #[derive(Clone, Copy, Debug, PartialEq, Eq)]
@@ -15,16 +17,6 @@ pub enum PacketFault {
     Short,
     /// Over 64 bytes.
     Long,
-}
-
-/// Whether messages of the opcode are read so far. Every other counts as an unknown opcode.
-fn is_served(opcode: Opcode) -> bool
-    ensures { result ≡ is_served opcode }
-{
-    match opcode {
-        Opcode::Status | Opcode::Move(_) => true,
-        _ => false,
-    }
 }
 
 /// The fewest bytes that a command of the opcode has.
@@ -62,21 +54,19 @@ fn order_in(b: &[u8]) -> Order
     ensures { result ≡ order_with (opcode_of (slice_index b.now 8)) b.now }
 {
     let byte = b[8];
-    match opcode_of(byte) {
-        Some(opcode) if is_served(opcode) => {
-            if b.len() < least_of(opcode) {
-                return Order::Invalid {
-                    opcode: byte,
-                    status: 0x0001,
-                };
-            }
-            parameters_in(opcode, b)
-        }
-        _ => Order::Invalid {
+    let Some(opcode) = opcode_of(byte) else {
+        return Order::Invalid {
             opcode: byte,
             status: 0x0801,
-        },
+        };
+    };
+    if b.len() < least_of(opcode) {
+        return Order::Invalid {
+            opcode: byte,
+            status: 0x0001,
+        };
     }
+    parameters_in(opcode, b)
 }
 
 /// The command in a message of 12 to 64 bytes (manual, "Command Messages"). A message that is no valid
@@ -98,5 +88,91 @@ pub fn read_command(b: &[u8]) -> Result<Command, PacketFault>
         reference: four_at(b, 0),
         unit: two_at(b, 4),
         order: order_in(b),
+    })
+}
+
+/// Why bytes are no end.
+#[derive(Clone, Copy, Debug, PartialEq, Eq)]
+pub enum EndFault {
+    /// Under 12 or over 64 bytes, or under the length of its endcode.
+    Length,
+    /// Of 12 to 64 bytes, and byte 8 is no endcode.
+    Code,
+}
+
+/// How many bytes an end with a body of this shape has.
+fn length_of(kind: BodyKind) -> usize
+    ensures { result ≡ end_length kind }
+{
+    match kind {
+        BodyKind::Bare => 12,
+        BodyKind::Abort => 16,
+        BodyKind::Status => 20,
+        BodyKind::UnitStatus => 48,
+        BodyKind::Controller => 28,
+        BodyKind::Online => 44,
+        BodyKind::Moved => 32,
+    }
+}
+
+/// The body of this shape in a long enough message.
+fn body_in(kind: BodyKind, b: &[u8]) -> EndBody
+    requires { end_length kind ≤ length b.now }
+    ensures { result ≡ body_at kind b.now }
+{
+    match kind {
+        BodyKind::Bare => EndBody::Bare,
+        BodyKind::Abort => EndBody::Abort(four_at(b, 12)),
+        BodyKind::Status => EndBody::Status {
+            other: four_at(b, 12),
+            figure: four_at(b, 16),
+        },
+        BodyKind::UnitStatus => EndBody::UnitStatus {
+            id: eight_at(b, 20),
+            media: four_at(b, 28),
+            track: two_at(b, 36),
+            group: two_at(b, 38),
+            cylinder: two_at(b, 40),
+        },
+        BodyKind::Controller => EndBody::Controller {
+            timeout: two_at(b, 16),
+            id: eight_at(b, 20),
+        },
+        BodyKind::Online => EndBody::Online {
+            id: eight_at(b, 20),
+            media: four_at(b, 28),
+            size: four_at(b, 36),
+            serial: four_at(b, 40),
+        },
+        BodyKind::Moved => EndBody::Moved(four_at(b, 12)),
+    }
+}
+
+/// The end in a message of 12 to 64 bytes (manual, "End Messages"). The body is of the shape that follows the
+/// endcode. Flags, reserved bytes, and bytes past the length of the endcode are ignored.
+pub fn read_end(b: &[u8]) -> Result<End, EndFault>
+    ensures end { IfOk result (λ e. IsEnd b.now e) }
+    ensures only { (e : End) → IsEnd b.now e → result ≡ Ok e }
+    ensures code { (result ≡ Err EndFault.Code)
+        ↔ ((12 ≤ length b.now) × (length b.now ≤ 64) × (kind_of_code (slice_index b.now 8) ≡ None)) }
+    ensures length { (result ≡ Err EndFault.Length)
+        ↔ ((length b.now < 12) ⊎ (64 < length b.now) ⊎ IsUnder (kind_of_code (slice_index b.now 8)) (length b.now)) }
+{
+    if b.len() < 12 || b.len() > 64 {
+        return Err(EndFault::Length);
+    }
+    let code = b[8];
+    let Some(kind) = kind_of(code) else {
+        return Err(EndFault::Code);
+    };
+    if b.len() < length_of(kind) {
+        return Err(EndFault::Length);
+    }
+    Ok(End {
+        reference: four_at(b, 0),
+        unit: two_at(b, 4),
+        code,
+        status: two_at(b, 10),
+        body: body_in(kind, b),
     })
 }

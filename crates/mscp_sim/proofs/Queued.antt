@@ -10,7 +10,7 @@ use Rattle.mscp_packet.specs.declared.command.Order.{Order}
 use Rattle.mscp_packet.specs.declared.command.Order.TheVariants as orders
 use Rattle.mscp_packet.specs.Number.{num}
 use Rattle.mscp_packet.specs.Opcodes.{opcode_of, class_of_opcode, class}
-use Rattle.mscp_packet.specs.Commands.{is_served, order_when, order_with, command_of}
+use Rattle.mscp_packet.specs.Commands.{order_with, command_of}
 use Rattle.mscp_sim.specs.declared.config.Unit.{Unit}
 use Rattle.mscp_sim.specs.Settings.{Settings, unit_found}
 use Rattle.mscp_sim.specs.Arrival.{is_immediate_class, order_weight, blocks, move_fault, order_fault, fault_of, is_immediate, is_queued}
@@ -90,17 +90,13 @@ long_enough : (c : Settings) (u : ℕ) (short : Bool) (byte : ℕ) (o : Order) �
 long_enough c u true byte o i h = absurd (true≢false (ap is_some h))
 long_enough c u false byte o i h = i
 
-class_when : (c : Settings) (u : ℕ) (served : Bool) (opcode : Opcode) (b : List ℕ) → is_immediate (order_when served opcode b) ≡ false → order_fault c u (order_when served opcode b) ≡ None → is_immediate_class (class_of_opcode (Some opcode)) ≡ false
-class_when c u false opcode b i h = absurd (true≢false (ap is_some h))
-class_when c u true codes.Abort b i h = long_enough c u (nat_lt (length b) 16) (slice_index b 8) (orders.Abort (num b 12 4)) i h
-class_when c u true codes.Status b i h = long_enough c u (nat_lt (length b) 16) (slice_index b 8) (orders.Status (num b 12 4)) i h
-class_when c u true codes.UnitStatus b i h = long_enough c u (nat_lt (length b) 12) (slice_index b 8) orders.UnitStatus i h
-class_when c u true codes.SetController b i h = long_enough c u (nat_lt (length b) 14) (slice_index b 8) (orders.SetController (num b 12 2)) i h
-class_when c u true opcode b i h = refl
-
 class_with : (c : Settings) (u : ℕ) (o : Option Opcode) (b : List ℕ) → is_immediate (order_with o b) ≡ false → order_fault c u (order_with o b) ≡ None → is_immediate_class (class_of_opcode o) ≡ false
 class_with c u None b i h = refl
-class_with c u (Some opcode) b i h = class_when c u (is_served opcode) opcode b i h
+class_with c u (Some codes.Abort) b i h = long_enough c u (nat_lt (length b) 16) (slice_index b 8) (orders.Abort (num b 12 4)) i h
+class_with c u (Some codes.Status) b i h = long_enough c u (nat_lt (length b) 16) (slice_index b 8) (orders.Status (num b 12 4)) i h
+class_with c u (Some codes.UnitStatus) b i h = long_enough c u (nat_lt (length b) 12) (slice_index b 8) orders.UnitStatus i h
+class_with c u (Some codes.SetController) b i h = long_enough c u (nat_lt (length b) 14) (slice_index b 8) (orders.SetController (num b 12 2)) i h
+class_with c u (Some opcode) b i h = refl
 
 class_queued : (c : Settings) (b : List ℕ) → IsOpen c (command_of b) → is_immediate_class (class (slice_index b 8)) ≡ false
 unfolding command_of

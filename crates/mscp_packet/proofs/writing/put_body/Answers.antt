@@ -1,8 +1,8 @@
 use Rattle.std.proofs.Common.{append_assoc}
 use Rattle.mscp_packet.proofs.writing.put_body.Goals as goal
 
-pub returns-in-Controller : goal.returns-in-Controller
-returns-in-Controller c =
+pub returns-in-Controller-clause-items : goal.returns-in-Controller-clause-items
+returns-in-Controller-clause-items c =
     rw (
       c.put_eight.ensures.items,
       c.put-in-Controller-2.ensures.items,

@@ -1,0 +1,5 @@
+pub mod Numbers
+pub mod Blanks
+pub mod Commands
+pub mod Ends
+pub mod Tables
