@@ -5,7 +5,7 @@ use Rattle.mscp_packet.proofs.Numbers.{two, four}
 use Rattle.mscp_packet.proofs.Blanks.{zero_beside}
 use Rattle.mscp_packet.specs.Places.{IsZeroBeside}
 use Rattle.mscp_packet.specs.Opcodes.{opcode_of}
-use Rattle.mscp_packet.specs.Commands.{HasRange, IsCommand, IsValidOrder, command_bytes, command_fields, order_with, written}
+use Rattle.mscp_packet.specs.Commands.{HasRange, IsCommand, IsValidOrder, command_bytes, command_fields, command_of, order_with, written}
 use Rattle.mscp_packet.specs.declared.command.Command.{Command}
 use Rattle.mscp_packet.specs.declared.command.MoveKind.TheVariants as moves
 use Rattle.mscp_packet.specs.declared.command.Order.{Order}
@@ -74,10 +74,23 @@ command_zeros r u (orders.Invalid code status) = zero_beside _ _ refl
 
 -- what is written is the command again
 pub command_back : (c : Command) → c.reference < 2 ^ 32 → c.unit < 2 ^ 16 → HasRange c.order → IsValidOrder c.order → IsCommand (command_bytes c) c
-command_back c hr hu h v = record {
-  low = let e : length (command_bytes c) ≡ written c.order = command_length c.reference c.unit c.order in let w : 12 ≤ written c.order = written_low c.order in omega arith;
-  high = let e : length (command_bytes c) ≡ written c.order = command_length c.reference c.unit c.order in let w : written c.order ≤ 64 = written_high c.order in omega arith;
-  reference = sym (four c.reference hr);
-  unit = sym (two c.unit hu);
-  order = order_back c.reference c.unit c.order v h;
-}
+command_back c hr hu h v =
+    let size : length (command_bytes c) ≡ written c.order = command_length c.reference c.unit c.order in
+    let low : 12 ≤ written c.order = written_low c.order in
+    let high : written c.order ≤ 64 = written_high c.order in
+    record {
+      low = omega arith;
+      high = omega arith;
+      reference = sym (four c.reference hr);
+      unit = sym (two c.unit hu);
+      order = order_back c.reference c.unit c.order v h;
+    }
+
+-- what is written of any command is a command
+pub command_read : (c : Command) → IsCommand (command_bytes c) (command_of (command_bytes c))
+unfolding command_of
+command_read c =
+    let size : length (command_bytes c) ≡ written c.order = command_length c.reference c.unit c.order in
+    let low : 12 ≤ written c.order = written_low c.order in
+    let high : written c.order ≤ 64 = written_high c.order in
+    record { low = omega arith; high = omega arith; reference = refl; unit = refl; order = refl }

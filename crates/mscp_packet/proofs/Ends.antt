@@ -1,6 +1,6 @@
 -- What is written of an end.
 use Rattle.std.proofs.Common.{◌≡◌, ℕ, ◌<◌, ◌≤◌, ◌^◌, length, refl, sym, ap, subst, arith}
-use Rattle.std.specs.Prelude.{Option, Some, None}
+use Rattle.std.specs.Prelude.{Option}
 use Rattle.mscp_packet.proofs.Numbers.{two, four, eight}
 use Rattle.mscp_packet.proofs.Blanks.{zero_beside}
 use Rattle.mscp_packet.specs.Places.{IsZeroBeside}

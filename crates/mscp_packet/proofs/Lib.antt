@@ -2,3 +2,4 @@ pub mod Numbers
 pub mod Blanks
 pub mod Commands
 pub mod Ends
+pub mod Tables

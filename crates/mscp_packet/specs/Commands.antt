@@ -57,14 +57,17 @@ order_opcode orders.SetUnit = Some codes.SetUnit
 order_opcode (orders.Move kind count block) = Some (codes.Move kind)
 order_opcode (orders.Invalid opcode status) = None
 
-abbrev pub byte_with : ℕ → Option Opcode → ℕ
-byte_with byte None = byte
-byte_with byte (Some opcode) = (row_of opcode).byte
-
 -- the opcode byte that an order is written with (manual)
 abbrev pub opcode_byte : Order → ℕ
+opcode_byte (orders.Abort other) = (row_of codes.Abort).byte
+opcode_byte (orders.Status other) = (row_of codes.Status).byte
+opcode_byte orders.UnitStatus = (row_of codes.UnitStatus).byte
+opcode_byte (orders.SetController version) = (row_of codes.SetController).byte
+opcode_byte orders.Available = (row_of codes.Available).byte
+opcode_byte orders.Online = (row_of codes.Online).byte
+opcode_byte orders.SetUnit = (row_of codes.SetUnit).byte
+opcode_byte (orders.Move kind count block) = (row_of (codes.Move kind)).byte
 opcode_byte (orders.Invalid opcode status) = opcode
-opcode_byte order = byte_with 0 (order_opcode order)
 
 -- what is written from byte 12 on (manual)
 abbrev pub parameter_bytes : Order → List ℕ
@@ -98,7 +101,7 @@ parameter_fields opcode = []
 abbrev pub command_fields : Order → List Field
 command_fields order = field 0 4 ∷ field 4 2 ∷ field 8 1 ∷ parameter_fields (order_opcode order)
 
--- not an Invalid
+-- a valid command, so not an Invalid
 abbrev pub IsValidOrder : Order → Type 0
 IsValidOrder (orders.Invalid opcode status) = ⊥
 IsValidOrder order = Unit {0}

@@ -15,32 +15,19 @@ use Rattle.mscp_packet.specs.declared.end.End.{End}
 -- each endcode, and the shape of the body that follows it (manual, 0x80 alone is the profile's)
 abbrev pub endcodes : List (ℕ × BodyKind)
 endcodes =
-    -- an unknown opcode
-    (0x80, kinds.Bare)
-    -- ABORT
-    ∷ (0x81, kinds.Abort)
-    -- GET COMMAND STATUS
-    ∷ (0x82, kinds.Status)
-    -- GET UNIT STATUS
-    ∷ (0x83, kinds.UnitStatus)
-    -- SET CONTROLLER CHARACTERISTICS
-    ∷ (0x84, kinds.Controller)
-    -- AVAILABLE
-    ∷ (0x88, kinds.Bare)
-    -- ONLINE
-    ∷ (0x89, kinds.Online)
-    -- SET UNIT CHARACTERISTICS
-    ∷ (0x8A, kinds.Online)
-    -- ACCESS
-    ∷ (0x90, kinds.Moved)
-    -- ERASE
-    ∷ (0x92, kinds.Moved)
-    -- COMPARE HOST DATA
-    ∷ (0xA0, kinds.Moved)
-    -- READ
-    ∷ (0xA1, kinds.Moved)
-    -- WRITE
-    ∷ (0xA2, kinds.Moved)
+    (0x80, kinds.Bare)  -- an unknown opcode
+    ∷ (0x81, kinds.Abort)  -- ABORT
+    ∷ (0x82, kinds.Status)  -- GET COMMAND STATUS
+    ∷ (0x83, kinds.UnitStatus)  -- GET UNIT STATUS
+    ∷ (0x84, kinds.Controller)  -- SET CONTROLLER CHARACTERISTICS
+    ∷ (0x88, kinds.Bare)  -- AVAILABLE
+    ∷ (0x89, kinds.Online)  -- ONLINE
+    ∷ (0x8A, kinds.Online)  -- SET UNIT CHARACTERISTICS
+    ∷ (0x90, kinds.Moved)  -- ACCESS
+    ∷ (0x92, kinds.Moved)  -- ERASE
+    ∷ (0xA0, kinds.Moved)  -- COMPARE HOST DATA
+    ∷ (0xA1, kinds.Moved)  -- READ
+    ∷ (0xA2, kinds.Moved)  -- WRITE
     ∷ []
 
 -- how many bytes an end with a body of a shape has (manual)

@@ -3,3 +3,4 @@ pub mod Places
 pub mod Opcodes
 pub mod Commands
 pub mod Ends
+pub mod Table

@@ -20,25 +20,26 @@ row byte scheduled least written = record { byte = byte; scheduled = scheduled; 
 
 -- the bytes of the five transfers (manual)
 abbrev pub move_byte : MoveKind → ℕ
-move_byte moves.Access = 16
-move_byte moves.Erase = 18
-move_byte moves.Compare = 32
-move_byte moves.Read = 33
-move_byte moves.Write = 34
+move_byte moves.Access = 16  -- ACCESS
+move_byte moves.Erase = 18  -- ERASE
+move_byte moves.Compare = 32  -- COMPARE HOST DATA
+move_byte moves.Read = 33  -- READ
+move_byte moves.Write = 34  -- WRITE
 
--- byte, class, least length and written length of each opcode (manual, the lengths are the profile's)
+-- the opcodes: byte, class, least length and written length of each (manual, the lengths are the profile's)
 abbrev pub row_of : Opcode → Row
-row_of codes.Abort = row 1 Immediate 16 16
-row_of codes.Status = row 2 Immediate 16 16
-row_of codes.UnitStatus = row 3 Immediate 12 12
-row_of codes.SetController = row 4 Immediate 14 18
-row_of codes.Available = row 8 Sequential 12 12
-row_of codes.Online = row 9 Sequential 12 12
-row_of codes.SetUnit = row 10 Sequential 12 12
-row_of (codes.Move kind) = row (move_byte kind) Free 32 32
+row_of codes.Abort = row 1 Immediate 16 16  -- ABORT
+row_of codes.Status = row 2 Immediate 16 16  -- GET COMMAND STATUS
+row_of codes.UnitStatus = row 3 Immediate 12 12  -- GET UNIT STATUS
+row_of codes.SetController = row 4 Immediate 14 18  -- SET CONTROLLER CHARACTERISTICS
+row_of codes.Available = row 8 Sequential 12 12  -- AVAILABLE
+row_of codes.Online = row 9 Sequential 12 12  -- ONLINE
+row_of codes.SetUnit = row 10 Sequential 12 12  -- SET UNIT CHARACTERISTICS
+row_of (codes.Move kind) = row (move_byte kind) Free 32 32  -- the five transfers
 
 -- ---- read off the table
 
+-- all twelve
 abbrev pub opcodes : List Opcode
 opcodes =
     codes.Abort

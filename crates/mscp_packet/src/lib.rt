@@ -5,6 +5,7 @@ mod class;
 mod command;
 mod end;
 mod fields;
+mod law;
 mod reading;
 #[cfg(test)]
 mod tests;
@@ -13,5 +14,6 @@ mod writing;
 pub use crate::class::{Class, class_of};
 pub use crate::command::{Command, MoveKind, Order};
 pub use crate::end::{End, EndBody};
+pub use crate::law::{read_written_command, read_written_end, tables_agree};
 pub use crate::reading::{EndFault, PacketFault, read_command, read_end};
 pub use crate::writing::{write_command, write_end};

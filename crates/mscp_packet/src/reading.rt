@@ -153,14 +153,10 @@ fn body_in(kind: BodyKind, b: &[u8]) -> EndBody
 pub fn read_end(b: &[u8]) -> Result<End, EndFault>
     ensures end { IfOk result (λ e. IsEnd b.now e) }
     ensures only { (e : End) → IsEnd b.now e → result ≡ Ok e }
-    ensures code {
-        (result ≡ Err EndFault.Code)
-        ↔ ((12 ≤ length b.now) × (length b.now ≤ 64) × (kind_of_code (slice_index b.now 8) ≡ None))
-    }
-    ensures length {
-        (result ≡ Err EndFault.Length)
-        ↔ ((length b.now < 12) ⊎ (64 < length b.now) ⊎ IsUnder (kind_of_code (slice_index b.now 8)) (length b.now))
-    }
+    ensures code { (result ≡ Err EndFault.Code)
+        ↔ ((12 ≤ length b.now) × (length b.now ≤ 64) × (kind_of_code (slice_index b.now 8) ≡ None)) }
+    ensures length { (result ≡ Err EndFault.Length)
+        ↔ ((length b.now < 12) ⊎ (64 < length b.now) ⊎ IsUnder (kind_of_code (slice_index b.now 8)) (length b.now)) }
 {
     if b.len() < 12 || b.len() > 64 {
         return Err(EndFault::Length);

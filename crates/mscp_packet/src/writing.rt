@@ -1,6 +1,6 @@
 // Commands and ends to bytes. What is written and not named is zero.
 
-ghost use Rattle.std.specs.Prelude.{◌≡◌, ◌+◌, ◌≤◌, ◌++◌};
+ghost use Rattle.std.specs.Prelude.{◌≡◌, ◌+◌, ◌<◌, ◌≤◌, ◌^◌, ◌++◌};
 ghost use Rattle.arrayvec.specs.ArrayVec.{array_vec_len};
 ghost use Rattle.mscp_packet.specs.Commands.{command_bytes, command_fields, parameter_bytes, written, HasRange, IsCommand, IsValidOrder};
 ghost use Rattle.mscp_packet.specs.Ends.{body_bytes, end_bytes, end_fields, end_length, kind_of_body, unit_bytes, HasBodyRange, IsEnd, IsOfKind};
@@ -36,12 +36,12 @@ fn put_parameters(out: &mut ArrayVec<u8, 48>, order: &Order)
     }
 }
 
-/// The message of a command, of 12 to 32 bytes. An `Order::Invalid` writes 12 bytes with its opcode.
-pub fn write_command(command: &Command) -> ArrayVec<u8, 48>
-    ensures bytes { result.items ≡ command_bytes command.now }
-    ensures length { array_vec_len result ≡ written command.now.order }
-    ensures zeros { IsZeroBeside (command_fields command.now.order) result.items }
-    ensures reads_back { IsValidOrder command.now.order → IsCommand result.items command.now }
+/// The bytes of a command.
+fn bytes_of_command(command: &Command) -> ArrayVec<u8, 48>
+    ensures items { result.items ≡ command_bytes command.now }
+    ensures reference { command.now.reference < 2 ^ 32 }
+    ensures unit { command.now.unit < 2 ^ 16 }
+    ensures order { HasRange command.now.order }
 {
     let mut out = ArrayVec::new();
     put_four(&mut out, command.reference);
@@ -49,6 +49,16 @@ pub fn write_command(command: &Command) -> ArrayVec<u8, 48>
     put(&mut out, &[0, 0, command.opcode(), 0, 0, 0]);
     put_parameters(&mut out, &command.order);
     out
+}
+
+/// The message of a command, of 12 to 32 bytes. An `Order::Invalid` writes 12 bytes with its opcode.
+pub fn write_command(command: &Command) -> ArrayVec<u8, 48>
+    ensures bytes { result.items ≡ command_bytes command.now }
+    ensures length { array_vec_len result ≡ written command.now.order }
+    ensures zeros { IsZeroBeside (command_fields command.now.order) result.items }
+    ensures reads_back { IsValidOrder command.now.order → IsCommand result.items command.now }
+{
+    bytes_of_command(command)
 }
 
 /// Appends the fields of a body.
@@ -112,12 +122,13 @@ fn put_unit(out: &mut ArrayVec<u8, 48>, id: u64, media: u32)
     put(out, &[0; 4]);
 }
 
-/// The message of an end, of 12 to 48 bytes. The body is written as it is, whatever the endcode.
-pub fn write_end(end: &End) -> ArrayVec<u8, 48>
-    ensures bytes { result.items ≡ end_bytes end.now }
-    ensures length { array_vec_len result ≡ end_length (kind_of_body end.now.body) }
-    ensures zeros { IsZeroBeside (end_fields end.now.body) result.items }
-    ensures reads_back { IsOfKind end.now → IsEnd result.items end.now }
+/// The bytes of an end.
+fn bytes_of_end(end: &End) -> ArrayVec<u8, 48>
+    ensures items { result.items ≡ end_bytes end.now }
+    ensures reference { end.now.reference < 2 ^ 32 }
+    ensures unit { end.now.unit < 2 ^ 16 }
+    ensures status { end.now.status < 2 ^ 16 }
+    ensures body { HasBodyRange end.now.body }
 {
     let mut out = ArrayVec::new();
     put_four(&mut out, end.reference);
@@ -126,4 +137,14 @@ pub fn write_end(end: &End) -> ArrayVec<u8, 48>
     put_two(&mut out, end.status);
     put_body(&mut out, &end.body);
     out
+}
+
+/// The message of an end, of 12 to 48 bytes. The body is written as it is, whatever the endcode.
+pub fn write_end(end: &End) -> ArrayVec<u8, 48>
+    ensures bytes { result.items ≡ end_bytes end.now }
+    ensures length { array_vec_len result ≡ end_length (kind_of_body end.now.body) }
+    ensures zeros { IsZeroBeside (end_fields end.now.body) result.items }
+    ensures reads_back { IsOfKind end.now → IsEnd result.items end.now }
+{
+    bytes_of_end(end)
 }

@@ -29,7 +29,9 @@ pub struct Script {
     pub events: Vec<Event>,
 }
 
-/// What a script stands for, or its first fault. It takes memory for the events alone.
+/// What a script stands for, or its first fault: its size first, then the first line at fault, and there the
+/// first cause in the order of `Cause`. It takes memory for the events alone, and time for each byte a few
+/// times.
 pub fn read_script(alloc: Global, bytes: &[u8]) -> Result<Script, ReadFault>
     ensures events { IfOk result (λ script. vec_len script.events ≤ 1000000) }
     ensures size { (result ≡ Err (ReadFault.Script (record { line = 0; cause = Cause.Size }))) ↔ (MOST_BYTES < length bytes.now) }

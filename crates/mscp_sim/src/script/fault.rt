@@ -56,8 +56,10 @@ pub struct ScriptFault {
 /// Why a script isn't read.
 #[derive(Clone, Copy, Debug, PartialEq, Eq, Error)]
 pub enum ReadFault {
+    /// The script has a fault.
     #[error(transparent)]
     Script(ScriptFault),
+    /// No memory was left for the events.
     #[error("out of memory")]
     OutOfMemory,
 }

@@ -88,7 +88,8 @@ impl<'a> Lines<'a> {
     }
 }
 
-/// Whether a line has words to read: it is no comment, and not all spaces.
+/// Whether a line has words to read: it is no comment, and not all spaces. Too many lines, too long a line and
+/// a wrong byte come before any word; a comment has no wrong byte.
 fn has_word(number: u32, line: &[u8]) -> Result<bool, Cause> {
     if number > MOST_LINES {
         return Err(Cause::Lines);

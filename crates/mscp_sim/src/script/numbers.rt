@@ -5,7 +5,7 @@ use crate::script::fault::Cause;
 /// The most digits of a number, leading zeros too.
 const MOST_DIGITS: usize = 10;
 
-/// A field from 0 to 4294967295.
+/// A field from 0 to 4294967295, of 1 to 10 decimal digits.
 pub fn wide(word: &[u8]) -> Result<u32, Cause> {
     if word.is_empty() || word.len() > MOST_DIGITS {
         return Err(Cause::Number);
@@ -20,7 +20,7 @@ pub fn wide(word: &[u8]) -> Result<u32, Cause> {
     Ok(value)
 }
 
-/// A field from 0 to 65535.
+/// A field from 0 to 65535, of 1 to 10 decimal digits.
 pub fn narrow(word: &[u8]) -> Result<u16, Cause> {
     match u16::try_from(wide(word)?) {
         Ok(value) => Ok(value),

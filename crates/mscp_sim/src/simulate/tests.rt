@@ -1,3 +1,5 @@
+ghost use Rattle.std.specs.Prelude.{◌≡◌, false};
+
 use super::*;
 use crate::stream::{Failed, Stream};
 
