@@ -4,6 +4,7 @@ pub mod Keeping
 pub mod Placed
 pub mod Held
 pub mod Quiet
+pub mod Drives
 pub mod Stepped
 pub mod Sending
 pub mod Following

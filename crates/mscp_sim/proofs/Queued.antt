@@ -17,14 +17,13 @@ use Rattle.mscp_drive.specs.Extent as extent
 use Rattle.mscp_sim.specs.Settings.{Settings, unit_found}
 use Rattle.mscp_sim.specs.Arrival.{is_immediate_class, order_weight, move_fault, order_fault, fault_of, is_immediate, is_queued}
 use Rattle.mscp_sim.specs.History.{Trace, Moment, queues, sent_bytes}
-use Rattle.mscp_sim.specs.Commands.{reference, weight, waiting, ends_in}
+use Rattle.mscp_sim.specs.Commands.{command, reference, weight, waiting, ends_in}
 use Rattle.mscp_sim.specs.Credits.{balance}
 use Rattle.mscp_sim.specs.Legal.{IsRight}
 use Rattle.mscp_sim.proofs.Lists.{every_kept, every_append}
-use Rattle.mscp_sim.proofs.Grows.{command_last, waiting_more}
+use Rattle.mscp_sim.proofs.Grows.{command_before, command_last, waiting_more}
 use Rattle.mscp_sim.proofs.Waits.{waiting_below}
 use Rattle.mscp_sim.proofs.Arrivals.{Queues, queued_right, if_none}
-use Rattle.mscp_sim.proofs.Steady.{weight_before}
 
 none_of : {X : Type 0} (o : Option X) → is_none o ≡ true → o ≡ None
 none_of None h = refl
@@ -64,26 +63,31 @@ order_short : (c : Settings) (u : ℕ) (o : Order) → 1 ≤ c.longest → order
 order_short c u (orders.Move kind count block) l h = move_short c count block (unit_found c u) h
 order_short c u o l h = l
 
-short_same : (c : Settings) (t : Trace) (m : Moment) (xs : List ℕ) → AllByRecursion (λ x. x < length t) xs → Short c t xs → Short c (t ++ m ∷ []) xs
-short_same c t m [] l h = tt
-short_same c t m (x ∷ xs) l h = (omega (arith, weight_before t m x l.0, h.0), short_same c t m xs l.1 h.1)
+-- ---- what holds of each command that is queued
 
-new_short : (c : Settings) (t : Trace) (m : Moment) → 1 ≤ c.longest → IsRight c t m.0 m.1 → queues m.1 ≡ true → weight (t ++ m ∷ []) (length t) ≤ c.longest
-new_short c t m l r q =
-    let k = command_of (sent_bytes m.0) in
-    let s = order_short c k.unit k.order l (queued_open c k (queued_right c t m.0 m.1 q r).waits).sound in
-    subst (λ (k : Command). order_weight k.order ≤ c.longest) (sym (command_last t m)) s
+same_each : (P : Command → Type 0) (t : Trace) (m : Moment) (xs : List ℕ) → AllByRecursion (λ x. x < length t) xs → AllByRecursion (λ x. P (command t x)) xs → AllByRecursion (λ x. P (command (t ++ m ∷ []) x)) xs
+same_each P t m [] l h = tt
+same_each P t m (x ∷ xs) l h = (subst P (sym (command_before t m x l.0)) h.0, same_each P t m xs l.1 h.1)
 
--- Each right moment keeps it.
-pub short_more : (c : Settings) (t : Trace) (m : Moment) → 1 ≤ c.longest → IsRight c t m.0 m.1 → Short c t (waiting t) → Short c (t ++ m ∷ []) (waiting (t ++ m ∷ []))
-short_more c t m l r h =
+-- What holds of each command that is queued is kept by each right moment.
+pub each_queued : (c : Settings) (P : Command → Type 0) → ((k : Command) → is_queued c k ≡ true → P k) → (t : Trace) (m : Moment) → IsRight c t m.0 m.1
+    → AllByRecursion (λ x. P (command t x)) (waiting t) → AllByRecursion (λ x. P (command (t ++ m ∷ []) x)) (waiting (t ++ m ∷ []))
+each_queued c P each t m r h =
     let t' = t ++ m ∷ [] in
+    let Q : ℕ → Type 0 = λ x. P (command t' x) in
     let keep : ℕ → Bool = λ x. not (ends_in (reference t x) m.1) in
     let kept = filter keep (waiting t) in
-    let old = short_same c t m kept (every_kept (λ x. x < length t) keep (waiting t) (waiting_below t)) (every_kept (λ x. weight t x ≤ c.longest) keep (waiting t) h) in
-    let both : (b : Bool) → queues m.1 ≡ b → Short c t' (cond b (length t ∷ []) []) =
-    λ b. elim b as (λ b. queues m.1 ≡ b → Short c t' (cond b (length t ∷ []) [])) [ true ↦ λ e. (new_short c t m l r e, tt) | false ↦ λ e. tt ] in
-    subst (Short c t') (sym (waiting_more t m)) (every_append (λ x. weight t' x ≤ c.longest) kept (cond (queues m.1) (length t ∷ []) []) old (both (queues m.1) refl))
+    let old = same_each P t m kept (every_kept (λ x. x < length t) keep (waiting t) (waiting_below t)) (every_kept (λ x. P (command t x)) keep (waiting t) h) in
+    let both : (b : Bool) → queues m.1 ≡ b → AllByRecursion Q (cond b (length t ∷ []) []) =
+    λ b. elim b as (λ b. queues m.1 ≡ b → AllByRecursion Q (cond b (length t ∷ []) [])) [
+      | true ↦ λ e. (subst P (sym (command_last t m)) (each (command_of (sent_bytes m.0)) (queued_right c t m.0 m.1 e r).waits), tt)
+      | false ↦ λ e. tt
+    ] in
+    subst (AllByRecursion Q) (sym (waiting_more t m)) (every_append Q kept (cond (queues m.1) (length t ∷ []) []) old (both (queues m.1) refl))
+
+-- Each right moment keeps it that no waiting command is longer than the longest.
+pub short_more : (c : Settings) (t : Trace) (m : Moment) → 1 ≤ c.longest → IsRight c t m.0 m.1 → Short c t (waiting t) → Short c (t ++ m ∷ []) (waiting (t ++ m ∷ []))
+short_more c t m l r h = each_queued c (λ k. order_weight k.order ≤ c.longest) (λ k q. order_short c k.unit k.order l (queued_open c k q).sound) t m r h
 
 -- ---- credits
 

@@ -38,7 +38,7 @@ some_value : {X : Type 0} → X → Option X → X
 some_value d None = d
 some_value d (Some x) = x
 
-some_same : {X : Type 0} (x y : X) → Some x ≡ Some y → x ≡ y
+pub some_same : {X : Type 0} (x y : X) → Some x ≡ Some y → x ≡ y
 unfolding some_value
 some_same x y e = ap (some_value x) e
 

@@ -13,15 +13,14 @@ use Rattle.mscp_sim.specs.declared.event.Event.TheVariants as events
 use Rattle.mscp_sim.specs.declared.event.Entry.TheVariants as entries
 use Rattle.mscp_sim.specs.Settings.{Settings}
 use Rattle.mscp_sim.specs.Arrival.{order_weight}
-use Rattle.mscp_sim.specs.Outcomes.{goes_on, is_good_block, outcome_of, touches}
+use Rattle.mscp_sim.specs.Outcomes.{goes_on, is_good_block, touches}
 use Rattle.mscp_sim.specs.History.{Trace, Moment, is_good, service_in, Service, takes}
 use Rattle.mscp_sim.specs.Commands.{command, reference, unit, order, is_waiting, waiting, done, good, in_service, is_idle, left, earlier, serves_in, service_is}
 use Rattle.mscp_sim.specs.Passing.{fences, is_affordable, is_free, is_startable, passes, toll}
 use Rattle.mscp_sim.specs.Units.{is_online}
 use Rattle.mscp_sim.specs.Ends.{ends_at, outcome, untaken}
-use Rattle.mscp_sim.specs.Legal.{block_of, end_of, IsRight, IsServed}
-use Rattle.mscp_sim.specs.Holdings.{advanced, after_step, remains, report_of, waiting_after, ends_after}
-use Rattle.mscp_sim.specs.Holdings as holdings
+use Rattle.mscp_sim.specs.Legal.{block_of, end_of, IsRight, IsServed, seek_to}
+use Rattle.mscp_sim.specs.Holdings.{advanced, remains, report_with}
 use Rattle.mscp_sim.proofs.Lists.{every_weaker, every_both, every_parts}
 use Rattle.mscp_sim.proofs.Grows.{command_before, done_before, good_before, untaken_more}
 use Rattle.mscp_sim.proofs.Waits.{Cut, cut_of, earlier_is, waiting_below, waiting_waits}
@@ -32,7 +31,9 @@ use Rattle.mscp_sim.proofs.Steady.{weight_before}
 use Rattle.mscp_sim.proofs.Passed.{passed_behind}
 use Rattle.mscp_sim.proofs.Known.{Known, known_more}
 use Rattle.mscp_sim.proofs.Placed.{map_on}
+use Rattle.mscp_sim.proofs.Legals.{service_by}
 use Rattle.mscp_sim.proofs.Held.{held_of, Follows}
+use Rattle.mscp_sim.proofs.Drives.{drive_by, end_held, seek_held}
 use Rattle.mscp_sim.proofs.Quiet.{Keeps, along, every_drop, held_same, records_kept}
 
 -- ---- the oldest may be served
@@ -65,30 +66,20 @@ oldest_next c t y B e idle =
     ] in
     both (nat_lt 0 (done t y)) refl
 
--- ---- the end that it gets
+-- ---- what it says
 
--- a record's end is its command's
-pub end_held : (t : Trace) (k : Block) (y : ℕ) → good t y ≡ done t y → holdings.end_of k (held_of t y) ≡ end_of t k y
-unfolding outcome is_online
-end_held t k y g = ap (λ n. if goes_on true (order t y) k (left t y) then None else Some (outcome_of true (command t y) n k)) (sym g)
-
--- ---- what it says and leaves
-
--- the service of the oldest
-abbrev pub service : Trace → Block → ℕ → Service
-service t k y = record { reference = reference t y; unit = unit t y; lbn = block_of t y; started = nat_eq (done t y) 0; seek = 0; ended = end_of t k y }
-
--- the moment that has it
-abbrev pub serving : Trace → Block → ℕ → Moment
-serving t k y = (events.Step k, entries.Stepped (reports.Served (reference t y) (unit t y) (block_of t y) (nat_eq (done t y) 0) 0 (end_of t k y)))
+-- the moment that serves y
+abbrev pub serving : Settings → Trace → Block → ℕ → Moment
+serving c t k y =
+    (events.Step k, entries.Stepped (reports.Served (reference t y) (unit t y) (block_of t y) (nat_eq (done t y) 0) (seek_to c t (unit t y) (block_of t y)) (end_of c t k y)))
 
 -- a step of the oldest record reports the service
-pub report_held : (t : Trace) (k : Block) (y : ℕ) (rs : List Record) → good t y ≡ done t y
-    → entries.Stepped (report_of k (held_of t y ∷ rs)) ≡ (serving t k y).1
-unfolding block_of is_online
-report_held t k y rs g = ap (λ o. entries.Stepped (reports.Served (reference t y) (unit t y) (block_of t y) (nat_eq (done t y) 0) 0 o)) (end_held t k y g)
+pub report_held : (c : Settings) (t : Trace) (k : Block) (y : ℕ) → good t y ≡ done t y
+    → entries.Stepped (report_with k (drive_by c t (unit t y)) (held_of t y)) ≡ (serving c t k y).1
+unfolding block_of
+report_held c t k y g = λ i. entries.Stepped (reports.Served (reference t y) (unit t y) (block_of t y) (nat_eq (done t y) 0) (seek_held c t (unit t y) (block_of t y) i) (end_held c t k y g i))
 
-pub oldest_served : (c : Settings) (t : Trace) (k : Block) (y : ℕ) (B : List ℕ) → waiting t ≡ y ∷ B → AllByRecursion (λ x. done t x ≡ 0) B → IsServed c t k (service t k y) y
+pub oldest_served : (c : Settings) (t : Trace) (k : Block) (y : ℕ) (B : List ℕ) → waiting t ≡ y ∷ B → AllByRecursion (λ x. done t x ≡ 0) B → IsServed c t k (service_by c t k y) y
 oldest_served c t k y B e idle =
     record {
       waits = (subst (AllByRecursion (λ x. is_waiting t x ≡ true)) e (waiting_waits t)).0;
@@ -103,10 +94,10 @@ oldest_served c t k y B e idle =
 
 -- and so the step is one of the oldest, with nobody before it
 pub oldest_step : (c : Settings) (t : Trace) (k : Block) (y : ℕ) (B : List ℕ) → Apart t (waiting t) → waiting t ≡ y ∷ B → AllByRecursion (λ x. done t x ≡ 0) B
-    → Step c t (serving t k y) (service t k y) k y [] B
+    → Step c t (serving c t k y) (service_by c t k y) k y [] B
 oldest_step c t k y B apart e idle =
-    let serves : Serves t (serving t k y) (service t k y) y [] B = record { among = alone t y [] B apart (cut_of t [] y B e); is = refl; same = refl } in
-    record { served = oldest_served c t k y B e idle; serves = serves; changes = changes t (serving t k y) (service t k y) y [] B serves }
+    let serves : Serves t (serving c t k y) (service_by c t k y) y [] B = record { among = alone t y [] B apart (cut_of t [] y B e); is = refl; same = refl } in
+    record { served = oldest_served c t k y B e idle; serves = serves; changes = changes t (serving c t k y) (service_by c t k y) y [] B serves }
 
 -- ---- the commands behind it
 
@@ -123,15 +114,15 @@ unfolding one_if
 good_same t m x l d =
     good_before t m x l ∙ (ap (λ n. good t x + n) (unserved (serves_in (reference t x) m.1) (is_good m.0) (done t x) (sym (done_before t m x l) ∙ d)) ∙ omega arith)
 
-behind_kept : (c : Settings) (t : Trace) (k : Block) (y : ℕ) (B : List ℕ) → Step c t (serving t k y) (service t k y) k y [] B → AllByRecursion (Keeps t (t ++ serving t k y ∷ [])) B
+behind_kept : (c : Settings) (t : Trace) (k : Block) (y : ℕ) (B : List ℕ) → Step c t (serving c t k y) (service_by c t k y) k y [] B → AllByRecursion (Keeps t (t ++ serving c t k y ∷ [])) B
 behind_kept c t k y B st =
-    let m = serving t k y in
+    let m = serving c t k y in
     let t' = t ++ m ∷ [] in
     let at = st.serves.among.at in
     let L : ℕ → Type 0 = λ x. (x < length t) × (y < x) in
     let D : ℕ → Type 0 = λ x. done t' x ≡ done t x in
     every_weaker (λ x. L x × D x) (Keeps t t')
-    (λ x h. record { held = held_same t m x h.0.0 h.1; done = h.1; good = good_same t m x h.0.0 h.1; passes = passed_behind c t m (service t k y) k y [] B st x (omega (arith, h.0.1)) })
+    (λ x h. record { held = held_same t m x h.0.0 h.1; done = h.1; good = good_same t m x h.0.0 h.1; passes = passed_behind c t m (service_by c t k y) k y [] B st x (omega (arith, h.0.1)) })
     B (every_both L D B (every_both (λ x. x < length t) (λ x. y < x) B (below_parts t y [] B at).1.1 at.behind) st.changes.back_done)
 
 -- ---- the oldest itself, where it goes on
@@ -149,28 +140,28 @@ goes_when : (b : Bool) (e : End) → (if b then None else Some e) ≡ None → b
 goes_when true e h = refl
 goes_when false e h = absurd (true≢false (ap is_some h))
 
-goes_on_good : (t : Trace) (k : Block) (y : ℕ) → end_of t k y ≡ None → is_good (events.Step k) ≡ true
-goes_on_good t k y h =
+goes_on_good : (c : Settings) (t : Trace) (k : Block) (y : ℕ) → end_of c t k y ≡ None → is_good (events.Step k) ≡ true
+goes_on_good c t k y h =
     let on = is_online t (unit t y) in
-    goes_good (touches on (order t y)) (nat_lt 1 (left t y)) k (goes_when (goes_on on (order t y) k (left t y)) (outcome t k y) h)
+    goes_good (touches on (order t y)) (nat_lt 1 (left t y)) k (goes_when (goes_on on (order t y) k (left t y)) (outcome c t k y) h)
 
-good_own : (t : Trace) (k : Block) (y : ℕ) → y < length t → end_of t k y ≡ None → good t y ≡ done t y → done (t ++ serving t k y ∷ []) y ≡ done t y + 1
-    → good (t ++ serving t k y ∷ []) y ≡ done (t ++ serving t k y ∷ []) y
-good_own t k y l e g d =
-    good_before t (serving t k y) y l
+good_own : (c : Settings) (t : Trace) (k : Block) (y : ℕ) → y < length t → end_of c t k y ≡ None → good t y ≡ done t y → done (t ++ serving c t k y ∷ []) y ≡ done t y + 1
+    → good (t ++ serving c t k y ∷ []) y ≡ done (t ++ serving c t k y ∷ []) y
+good_own c t k y l e g d =
+    good_before t (serving c t k y) y l
     ∙ (ap (λ b. good t y + cond (b && is_good (events.Step k)) 1 0) (eq-eqb (reference t y) (reference t y) refl)
-    ∙ (ap (λ b. good t y + cond b 1 0) (goes_on_good t k y e) ∙ (ap (λ n. n + 1) g ∙ sym d)))
+    ∙ (ap (λ b. good t y + cond b 1 0) (goes_on_good c t k y e) ∙ (ap (λ n. n + 1) g ∙ sym d)))
 
-held_own : (t : Trace) (k : Block) (y : ℕ) → y < length t → done (t ++ serving t k y ∷ []) y ≡ done t y + 1 → held_of (t ++ serving t k y ∷ []) y ≡ advanced (held_of t y)
-held_own t k y l d = λ i.
-    let q = command_before t (serving t k y) y l in
+held_own : (c : Settings) (t : Trace) (k : Block) (y : ℕ) → y < length t → done (t ++ serving c t k y ∷ []) y ≡ done t y + 1 → held_of (t ++ serving c t k y ∷ []) y ≡ advanced (held_of t y)
+held_own c t k y l d = λ i.
+    let q = command_before t (serving c t k y) y l in
     record { command = q i; weight = order_weight (q i).order; done = d i }
 
 -- ---- what is held afterwards
 
 -- the facts about the oldest and those behind it
 pub record After (c : Settings) (t : Trace) (k : Block) (y : ℕ) (B : List ℕ) : Type 0 where
-  pub step : Step c t (serving t k y) (service t k y) k y [] B
+  pub step : Step c t (serving c t k y) (service_by c t k y) k y [] B
   pub well : good t y ≡ done t y
   pub behind_well : AllByRecursion (λ x. good t x ≡ done t x) B
   pub unpassed : passes t y ≡ 0
@@ -185,9 +176,9 @@ pub record Each (t' : Trace) (ws : List Record) (xs : List ℕ) : Type 0 where
   pub idle : AllByRecursion (λ x. done t' x ≡ 0) (drop 1 xs)
 
 each_behind : (c : Settings) (t : Trace) (k : Block) (y : ℕ) (B : List ℕ) → After c t k y B
-    → Each (t ++ serving t k y ∷ []) (map (held_of t) B) B × AllByRecursion (λ x. done (t ++ serving t k y ∷ []) x ≡ 0) B
+    → Each (t ++ serving c t k y ∷ []) (map (held_of t) B) B × AllByRecursion (λ x. done (t ++ serving c t k y ∷ []) x ≡ 0) B
 each_behind c t k y B a =
-    let t' = t ++ serving t k y ∷ [] in
+    let t' = t ++ serving c t k y ∷ [] in
     let keeps = behind_kept c t k y B a.step in
     let idle = along (λ x. done t x ≡ 0) (λ x. done t' x ≡ 0) t t' (λ x p g. p.done ∙ g) B keeps a.idle in (
       record {
@@ -199,34 +190,34 @@ each_behind c t k y B a =
       idle,
     )
 
-each_after : (c : Settings) (t : Trace) (k : Block) (y : ℕ) (B : List ℕ) → After c t k y B → (o : Option End) → end_of t k y ≡ o
-    → Each (t ++ serving t k y ∷ []) (remains (held_of t y) o ++ map (held_of t) B) (cond (is_some o) [] (y ∷ []) ++ B)
+each_after : (c : Settings) (t : Trace) (k : Block) (y : ℕ) (B : List ℕ) → After c t k y B → (o : Option End) → end_of c t k y ≡ o
+    → Each (t ++ serving c t k y ∷ []) (remains (held_of t y) o ++ map (held_of t) B) (cond (is_some o) [] (y ∷ []) ++ B)
 each_after c t k y B a None e =
-    let m = serving t k y in
+    let m = serving c t k y in
     let t' = t ++ m ∷ [] in
     let r = each_behind c t k y B a in
     let l = (below_parts t y [] B a.step.serves.among.at).1.0 in
     let d = a.step.changes.own_done in
     record {
-      waits = ap (λ x. x ∷ map (held_of t) B) (sym (held_own t k y l d)) ∙ ap (λ xs. held_of t' y ∷ xs) r.0.waits;
-      well = (good_own t k y l e a.well d, r.0.well);
-      unpassed = (passed_behind c t m (service t k y) k y [] B a.step y (omega arith) ∙ a.unpassed, r.0.unpassed);
+      waits = ap (λ x. x ∷ map (held_of t) B) (sym (held_own c t k y l d)) ∙ ap (λ xs. held_of t' y ∷ xs) r.0.waits;
+      well = (good_own c t k y l e a.well d, r.0.well);
+      unpassed = (passed_behind c t m (service_by c t k y) k y [] B a.step y (omega arith) ∙ a.unpassed, r.0.unpassed);
       idle = r.1;
     }
 each_after c t k y B a (Some end) e = (each_behind c t k y B a).0
 
 -- What is held after a step of the oldest.
 pub follows_served : (c : Settings) (t : Trace) (k : Block) (y : ℕ) (B : List ℕ) (us : List End) → 1 ≤ c.longest → Known c t → After c t k y B → us ≡ untaken c t
-    → Follows c (t ++ serving t k y ∷ []) (remains (held_of t y) (end_of t k y) ++ map (held_of t) B) (us ++ option_to_list (end_of t k y))
+    → Follows c (t ++ serving c t k y ∷ []) (remains (held_of t y) (end_of c t k y) ++ map (held_of t) B) (us ++ option_to_list (end_of c t k y))
 follows_served c t k y B us l known a e =
-    let m = serving t k y in
+    let m = serving c t k y in
     let t' = t ++ m ∷ [] in
-    let each = each_after c t k y B a (end_of t k y) refl in
-    let same : waiting t' ≡ cond (is_some (end_of t k y)) [] (y ∷ []) ++ B = a.step.changes.waits in
+    let each = each_after c t k y B a (end_of c t k y) refl in
+    let same : waiting t' ≡ cond (is_some (end_of c t k y)) [] (y ∷ []) ++ B = a.step.changes.waits in
     record {
       known = known_more c l t m (y, a.step.served) known;
       waits = each.waits ∙ ap (map (held_of t')) (sym same);
-      ends = ap (λ xs. xs ++ option_to_list (end_of t k y)) e ∙ sym (untaken_more c t m refl known.room.taken);
+      ends = ap (λ xs. xs ++ option_to_list (end_of c t k y)) e ∙ sym (untaken_more c t m refl known.room.taken);
       good = subst (AllByRecursion (λ x. good t' x ≡ done t' x)) (sym same) each.well;
       unpassed = subst (AllByRecursion (λ x. passes t' x ≡ 0)) (sym same) each.unpassed;
       idle = subst (λ xs. AllByRecursion (λ x. done t' x ≡ 0) (drop 1 xs)) (sym same) each.idle;
