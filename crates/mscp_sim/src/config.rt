@@ -2,6 +2,9 @@
 
 ghost use Rattle.std.specs.Prelude.{◌≡◌};
 
+#[cfg(test)]
+pub(crate) mod tests;
+
 use mscp_drive::Units;
 use std::marker::Model;
 

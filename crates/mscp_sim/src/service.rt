@@ -5,6 +5,9 @@ ghost use Rattle.mscp_sim.specs.Arrival.{first_block};
 ghost use Rattle.mscp_sim.specs.Outcomes.{outcome_at, touches, state_after};
 ghost use Rattle.mscp_sim.specs.Holdings.{drive_after, end_of, seek_to, state_left, touched};
 
+#[cfg(test)]
+mod tests;
+
 use crate::block::Block;
 use crate::drive::Drive;
 use crate::outcome::{bad_status, end_with, good_status, is_success, outcome_body};

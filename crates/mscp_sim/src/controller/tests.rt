@@ -1,22 +1,8 @@
 use super::*;
 use crate::block::FaultStatus;
-use crate::config::Unit;
+use crate::config::tests::config;
 use mscp_packet::{EndBody, MoveKind, write_command};
 use std::process::Abort;
-
-/// The configuration of these credits and passing limit, with the longest transfer of 8 blocks and a unit of 1000.
-fn config(rt: &impl Abort, credits: u32, passing: u32) -> Config {
-    let unit = Unit {
-        number: 0,
-        track: 10,
-        group: 2,
-        cylinder: 1,
-        size: 1000,
-    };
-    Config::new(credits, passing, 8, 60, 1, unit)
-        .ok()
-        .expect(rt, "limits")
-}
 
 fn transfer(reference: u32, count: u32, block: u32) -> Command {
     Command {
@@ -36,6 +22,18 @@ fn poll(reference: u32, other: u32) -> Command {
 
 fn send(controller: &mut Controller, command: &Command) -> Result<Sent, SendFault> {
     controller.send(write_command(command).as_slice())
+}
+
+/// Brings unit 0 online, and takes the end.
+fn bring_online(rt: &impl Abort, controller: &mut Controller) {
+    let online = Command {
+        reference: 900,
+        unit: 0,
+        order: Order::Online,
+    };
+    assert_eq!(rt; send(controller, &online), Ok(Sent::Queued(900)));
+    let _report = controller.step(Block::Good);
+    assert!(rt; controller.take().is_some());
 }
 
 #[test]
@@ -74,6 +72,7 @@ fn the_last_credit_is_kept_for_immediate_commands(rt: HostRuntime) {
 #[test]
 fn a_bad_block_ends_its_transfer(rt: HostRuntime) {
     let mut controller = Controller::new(config(&rt, 4, 2));
+    bring_online(&rt, &mut controller);
     let sent = send(&mut controller, &transfer(1, 1024, 0));
     assert_eq!(rt; sent, Ok(Sent::Queued(1)));
     assert_eq!(rt; controller.figure(1), 18);
@@ -105,4 +104,29 @@ fn a_fault_status_has_a_code_of_at_least_five(rt: HostRuntime) {
     assert_eq!(rt; FaultStatus::new(0x0104), None);
     let status = FaultStatus::new(0x0105).expect(&rt, "a status");
     assert_eq!(rt; status.get(), 0x0105);
+}
+
+#[test]
+fn a_transfer_on_an_available_unit_touches_nothing(rt: HostRuntime) {
+    let mut controller = Controller::new(config(&rt, 4, 2));
+    let sent = send(&mut controller, &transfer(1, 1024, 0));
+    assert_eq!(rt; sent, Ok(Sent::Queued(1)));
+    let status = FaultStatus::new(0x000B).expect(&rt, "a status");
+    let report = controller.step(Block::Bad(status));
+    let end = End {
+        reference: 1,
+        unit: 0,
+        code: 0xA1,
+        status: 0x0004,
+        body: EndBody::Moved(0),
+    };
+    let wanted = Report::Served {
+        reference: 1,
+        unit: 0,
+        lbn: None,
+        started: true,
+        seek: 0,
+        ended: Some(end),
+    };
+    assert_eq!(rt; report, wanted);
 }

@@ -1,26 +1,15 @@
 use super::*;
-use crate::block::Report;
-use crate::config::{ConfigFault, Unit};
+use crate::block::{Block, FaultStatus, Report};
+use crate::config::tests::config;
 use crate::event::{SendFault, Sent};
 use arrayvec::ArrayVec;
+use mscp_packet::{End, EndBody};
 use std::process::Abort;
-
-const UNIT: Unit = Unit {
-    number: 0,
-    track: 10,
-    group: 2,
-    cylinder: 1,
-    size: 1000,
-};
 
 #[test]
 fn run_finds_memory(rt: HostRuntime) {
-    let config = Config::new(4, 2, 8, 60, 1, UNIT).ok().expect(&rt, "limits");
-    let events = [
-        Event::Take,
-        Event::Step(crate::block::Block::Good),
-        Event::Look,
-    ];
+    let config = config(&rt, 4, 2);
+    let events = [Event::Take, Event::Step(Block::Good), Event::Look];
     let entries = run(rt.alloc(), config, &events).ok().expect(&rt, "memory");
     let wanted = [
         Entry::Taken(None),
@@ -28,14 +17,6 @@ fn run_finds_memory(rt: HostRuntime) {
         Entry::Looked(ArrayVec::new()),
     ];
     assert_eq!(rt; entries.as_slice(), wanted.as_slice());
-}
-
-#[test]
-fn the_largest_figures_fit(rt: HostRuntime) {
-    let largest = Config::new(64, 448, 8_388_608, 60, 1, UNIT);
-    assert!(rt; largest.is_ok());
-    let larger = Config::new(64, 449, 8_388_608, 60, 1, UNIT);
-    assert_eq!(rt; larger.err(), Some(ConfigFault::Figure));
 }
 
 fn sent(rt: &impl Abort, bytes: &[u8]) -> Event {
@@ -54,7 +35,7 @@ fn poll(rt: &impl Abort, reference: u8) -> Event {
 
 #[test]
 fn a_short_message_costs_no_credit(rt: HostRuntime) {
-    let config = Config::new(2, 0, 8, 60, 1, UNIT).ok().expect(&rt, "limits");
+    let config = config(&rt, 2, 0);
     let events = [
         sent(&rt, &[0; 11]),
         poll(&rt, 1),
@@ -73,6 +54,70 @@ fn a_short_message_costs_no_credit(rt: HostRuntime) {
         answered(1),
         answered(2),
         Entry::Sent(Err(SendFault::NoCredit)),
+    ];
+    assert_eq!(rt; entries.as_slice(), wanted.as_slice());
+}
+
+/// An end, as it is taken.
+fn taken(rt: &impl Abort, bytes: &[u8]) -> Entry {
+    let mut end = ArrayVec::new();
+    end.try_extend_from_slice(bytes).expect(rt, "room");
+    Entry::Taken(Some(end))
+}
+
+#[test]
+fn a_bad_online_leaves_the_unit_available(rt: HostRuntime) {
+    let bad = FaultStatus::new(0x000B).expect(&rt, "a status");
+    let events = [
+        sent(&rt, &[1, 0, 0, 0, 0, 0, 0, 0, 9, 0, 0, 0]),
+        Event::Step(Block::Bad(bad)),
+        Event::Take,
+        sent(&rt, &[2, 0, 0, 0, 0, 0, 0, 0, 3, 0, 0, 0]),
+        Event::Take,
+    ];
+    let online = End {
+        reference: 1,
+        unit: 0,
+        code: 0x89,
+        status: 0x000B,
+        body: EndBody::Online {
+            id: 0,
+            media: 0,
+            size: 0,
+            serial: 0,
+        },
+    };
+    let mut told = [0; 44];
+    told[0] = 1;
+    told[8] = 0x89;
+    told[10] = 0x0B;
+    let mut status = [0; 48];
+    status[0] = 2;
+    status[8] = 0x83;
+    status[10] = 0x04;
+    status[20] = 1;
+    status[36] = 10;
+    status[38] = 2;
+    status[40] = 1;
+    let entries = run(rt.alloc(), config(&rt, 4, 2), &events)
+        .ok()
+        .expect(&rt, "memory");
+    let wanted = [
+        Entry::Sent(Ok(Sent::Queued(1))),
+        Entry::Stepped(Report::Served {
+            reference: 1,
+            unit: 0,
+            lbn: None,
+            started: true,
+            seek: 0,
+            ended: Some(online),
+        }),
+        taken(&rt, &told),
+        Entry::Sent(Ok(Sent::Answered {
+            reference: 2,
+            aborted: None,
+        })),
+        taken(&rt, &status),
     ];
     assert_eq!(rt; entries.as_slice(), wanted.as_slice());
 }

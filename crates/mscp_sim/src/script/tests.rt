@@ -1,6 +1,6 @@
 use super::*;
 use crate::block::Block;
-use crate::config::Unit;
+use crate::config::tests::config;
 use arrayvec::ArrayVec;
 use std::process::Abort;
 use std::test::Fail;
@@ -37,21 +37,12 @@ fn reads_a_header_and_events(rt: HostRuntime) -> Result<(), Fail> {
         rt.alloc(),
         &[
             HEADER,
-            "read 1 0 1024 5\nstatus 2 1\ntake\nstep 1\nstatus 3 1\n take \n# no line\n\nstep 2\r\ntake",
+            "read 1 0 1024 5\nstatus 2 1\ntake\nstep 1\nstatus 3 1\n take \n# no line\n\nstep 2\r\ntake\n",
+            "online 4 7\navailable 5 7\nsetunit 6 7\nunitstatus 7 7\nlook",
         ],
     );
     let script = read_script(rt.alloc(), text.as_bytes())?;
-    let unit = Unit {
-        number: 0,
-        track: 10,
-        group: 2,
-        cylinder: 1,
-        size: 1000,
-    };
-    assert_eq!(rt;
-        script.config,
-        Config::new(4, 0, 8, 60, 1, unit).ok().expect(&rt, "limits")
-    );
+    assert_eq!(rt; script.config, config(&rt, 4, 0));
     let wanted = [
         sent(
             &rt,
@@ -65,6 +56,11 @@ fn reads_a_header_and_events(rt: HostRuntime) -> Result<(), Fail> {
         Event::Step(Block::Good),
         Event::Step(Block::Good),
         Event::Take,
+        sent(&rt, b"\x04\0\0\0\x07\0\0\0\x09\0\0\0"),
+        sent(&rt, b"\x05\0\0\0\x07\0\0\0\x08\0\0\0"),
+        sent(&rt, b"\x06\0\0\0\x07\0\0\0\x0a\0\0\0"),
+        sent(&rt, b"\x07\0\0\0\x07\0\0\0\x03\0\0\0"),
+        Event::Look,
     ];
     assert_eq!(rt; script.events.as_slice(), wanted.as_slice());
     Ok(())
@@ -162,7 +158,7 @@ fn tells_the_fault_of_an_event(rt: HostRuntime) {
         ("read 1 0 512 4294967296", "line 7: number"),
         ("status 1 -1", "line 7: number"),
         ("look 1", "line 7: count"),
-        ("online 1 0", "line 7: word"),
+        ("abort 1 2", "line 7: word"),
         ("credits 4", "line 7: word"),
         ("take\n\ntaken", "line 9: word"),
         ("take # now", "line 7: count"),

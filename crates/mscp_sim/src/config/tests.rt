@@ -1,0 +1,30 @@
+use super::*;
+use mscp_drive::Unit;
+use std::process::Abort;
+
+/// Unit 0 of 1000 blocks, 20 blocks a cylinder, with its identifiers.
+pub(crate) fn unit(rt: &impl Abort) -> Unit {
+    Unit::new(0, 10, 2, 1, 1000, 1, 0, 1)
+        .ok()
+        .expect(rt, "no size is zero")
+}
+
+/// That unit alone.
+pub(crate) fn units(rt: &impl Abort) -> Units {
+    Units::new(&[unit(rt)]).ok().expect(rt, "a list of units")
+}
+
+/// The configuration of these credits and this passing limit, of that unit, and with the longest transfer of 8 blocks.
+pub(crate) fn config(rt: &impl Abort, credits: u32, passing: u32) -> Config {
+    Config::new(credits, passing, 8, 60, 1, units(rt))
+        .ok()
+        .expect(rt, "limits")
+}
+
+#[test]
+fn the_largest_figures_fit(rt: HostRuntime) {
+    let largest = Config::new(64, 448, 8_388_608, 60, 1, units(&rt));
+    assert!(rt; largest.is_ok());
+    let larger = Config::new(64, 449, 8_388_608, 60, 1, units(&rt));
+    assert_eq!(rt; larger.err(), Some(ConfigFault::Figure));
+}
