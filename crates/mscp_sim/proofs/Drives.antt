@@ -1,5 +1,5 @@
 -- The drives of a controller are those of the run: each unit's state and head.
-use Rattle.std.proofs.Common.{◌≡◌, ◌≢◌, ℕ, suc, ◌+◌, ◌<◌, Bool, true, false, cond, List, [], ◌∷◌, ◌++◌, map, length, refl, ap, sym, ◌∙◌, subst, append_assoc, arith}
+use Rattle.std.proofs.Common.{◌≡◌, ◌≢◌, ℕ, suc, ◌+◌, ◌<◌, Bool, true, false, cond, List, [], ◌∷◌, ◌++◌, map, refl, ap, sym, ◌∙◌, subst, append_assoc, arith}
 use Rattle.std.specs.Prelude.{find, nat_eq, slice_index_or, unwrap_or, if◌then◌else◌, Option, Some, None, is_some, option_map}
 use Rattle.std.specs.List.{AllByRecursion}
 use Rattle.std.proofs.lemmas.Bool.{eqb-true, eqb-false, ne_eqb, eq-eqb, true≢false, false≢true}
@@ -11,7 +11,6 @@ use Rattle.mscp_drive.specs.Shape.{Shape, cylinder_of}
 use Rattle.mscp_drive.specs.UnitList.{IsUnitList, NumbersRise}
 use Rattle.mscp_sim.specs.declared.block.Block.{Block}
 use Rattle.mscp_sim.specs.declared.drive.Drive.{Drive}
-use Rattle.mscp_sim.specs.declared.record.Record.{Record}
 use Rattle.mscp_sim.specs.Settings.{Settings, one_block, unit_found, unit_shape}
 use Rattle.mscp_sim.specs.Arrival.{is_immediate, is_queued, move_fault, order_fault, unit_fault}
 use Rattle.mscp_sim.specs.Outcomes.{goes_on, head_after, outcome_of}

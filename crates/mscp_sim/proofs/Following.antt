@@ -1,5 +1,5 @@
 -- The answers to a list of events, one after the other, are right.
-use Rattle.std.proofs.Common.{◌≡◌, ℕ, suc, ◌+◌, ◌≤◌, true, false, List, [], ◌∷◌, ◌++◌, map, drop, length, refl, ap, sym, ◌∙◌, subst, append-nil, arith}
+use Rattle.std.proofs.Common.{◌≡◌, ℕ, suc, ◌≤◌, true, false, List, [], ◌∷◌, ◌++◌, map, drop, length, refl, ap, sym, ◌∙◌, subst, append-nil}
 use Rattle.std.specs.Prelude.{zip, if◌then◌else◌, slice_get, Option, Some, None, is_some, option_map, option_to_list}
 use Rattle.std.specs.List.{AllByRecursion}
 use Rattle.mscp_packet.specs.declared.command.Command.{Command}
@@ -21,11 +21,10 @@ use Rattle.mscp_sim.specs.History.{Trace, Moment, collect}
 use Rattle.mscp_sim.specs.Commands.{unit, waiting, done, good}
 use Rattle.mscp_sim.specs.Passing.{passes}
 use Rattle.mscp_sim.specs.Ends.{ends, untaken}
-use Rattle.mscp_sim.specs.Legal.{IsRight, IsLegal, end_of}
+use Rattle.mscp_sim.specs.Legal.{IsRight, end_of}
 use Rattle.mscp_sim.specs.Headline.{Headline}
 use Rattle.mscp_sim.specs.Holdings.{Holdings, after, answered_end, balance_of, drive_of, drives_after, ended, ends_after, entry_of, figures, fresh, held_unless, outstanding_of, queued, remains, replies, report_of, report_with, served_drives, waiting_after}
 use Rattle.mscp_sim.specs.Holdings as holdings
-use Rattle.mscp_sim.proofs.Lists.{every_parts}
 use Rattle.mscp_sim.proofs.Known.{known_empty}
 use Rattle.mscp_sim.proofs.Legals.{RightFrom, legal_from}
 use Rattle.mscp_sim.proofs.Progress.{progress}

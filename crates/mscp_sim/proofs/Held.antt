@@ -1,12 +1,12 @@
 -- When records and ends are those of a run, and the figures that they give.
-use Rattle.std.proofs.Common.{◌≡◌, ◌⊎◌, ⊎_elim, ℕ, ◌+◌, ◌-◌, ◌*◌, ◌<◌, ◌≤◌, Bool, true, false, cond, List, [], ◌∷◌, ◌++◌, map, take, drop, length, refl, ap, sym, ◌∙◌, subst, append_assoc, arith}
-use Rattle.std.specs.Prelude.{filter, find, nat_eq, sum_by, Option, Some, None}
+use Rattle.std.proofs.Common.{◌≡◌, ⊎_elim, ℕ, ◌+◌, ◌-◌, ◌*◌, Bool, false, cond, List, [], ◌∷◌, ◌++◌, map, take, drop, length, refl, ap, sym, ◌∙◌, subst, append_assoc, arith}
+use Rattle.std.specs.Prelude.{filter, find, nat_eq, sum_by}
 use Rattle.std.specs.List.{AllByRecursion, position, range_with_len}
 use Rattle.std.proofs.lemmas.List.{length-append, length-map, map-append}
 use Rattle.mscp_packet.specs.declared.end.End.{End}
 use Rattle.mscp_sim.specs.declared.record.Record.{Record}
 use Rattle.mscp_sim.specs.Settings.{Settings}
-use Rattle.mscp_sim.specs.History.{Trace, Moment}
+use Rattle.mscp_sim.specs.History.{Trace}
 use Rattle.mscp_sim.specs.Commands.{command, reference, weight, waiting, done, good, left, in_service}
 use Rattle.mscp_sim.specs.Passing.{passes}
 use Rattle.mscp_sim.specs.Figures.{figure, figure_found, figure_of}
@@ -17,7 +17,7 @@ use Rattle.mscp_sim.proofs.Lists.{every_parts}
 use Rattle.mscp_sim.proofs.Falls.{figure_split}
 use Rattle.mscp_sim.proofs.Falls as falls
 use Rattle.mscp_sim.proofs.Known.{Known}
-use Rattle.mscp_sim.proofs.Placed.{At, at_place, Found, find_cases, find_none, find_first, position_none, position_first, filter_map_of, sum_by_map}
+use Rattle.mscp_sim.proofs.Placed.{at_place, find_cases, find_none, find_first, position_none, position_first, filter_map_of, sum_by_map}
 
 -- the record of a command
 abbrev pub held_of : Trace → ℕ → Record

@@ -2,23 +2,23 @@
 use Rattle.std.proofs.Common.{◌≡◌, ℕ, ◌+◌, ◌-◌, ◌<◌, ◌≤◌, ◌^◌, Bool, true, false, cond, List, [], ◌∷◌, ◌++◌, map, length, take, drop, set, get_or, append_assoc, ap, refl, sym, subst, ◌∙◌, arith}
 use Rattle.std.specs.Prelude.{All, find, unwrap_or, nat_eq, nat_le, nat_lt, if◌then◌else◌, Option, Some, None, is_some, is_none}
 use Rattle.std.proofs.Math.Nat.{le-max_left}
-use Rattle.std.proofs.lemmas.List.{length-append, length-drop, length-map, length-set, length-take-le, drop_more, get_or_at, map-append, set_at, take_more}
-use Rattle.std.proofs.lemmas.List.Elements.{All-nil, All-push, All-drop, All-set}
-use Rattle.std.proofs.lemmas.Bool.{ltb-false, leb-false, false≢true, true≢false}
+use Rattle.std.proofs.lemmas.List.{length-append, length-map, length-take-le, drop_more, get_or_at, map-append, set_at, take_more}
+use Rattle.std.proofs.lemmas.List.Elements.{All-nil, All-push}
+use Rattle.std.proofs.lemmas.Bool.{ltb-false, false≢true, true≢false}
 use Rattle.mscp_packet.specs.declared.command.Command.{Command}
 use Rattle.mscp_packet.specs.declared.command.MoveKind.{MoveKind}
 use Rattle.mscp_packet.specs.declared.command.Order.{Order}
 use Rattle.mscp_packet.specs.declared.command.Order.TheVariants as orders
 use Rattle.mscp_packet.specs.declared.end.End.{End}
 use Rattle.mscp_drive.specs.Shape.{Shape}
-use Rattle.mscp_drive.specs.Extent.{blocks, range_fault, weight}
+use Rattle.mscp_drive.specs.Extent.{blocks, weight}
 use Rattle.mscp_sim.specs.declared.block.Block.{Block}
 use Rattle.mscp_sim.specs.declared.drive.Drive.{Drive}
 use Rattle.mscp_sim.specs.declared.record.Record.{Record}
 use Rattle.mscp_sim.specs.Settings.{Settings, IsValid, one_block, unit_found, unit_shape}
 use Rattle.mscp_sim.specs.Arrival.{fault_of, first_block, is_immediate, is_queued, move_fault, order_fault, order_weight}
 use Rattle.mscp_sim.specs.Outcomes.{answer_body, answer_status, end_with, own_end_with, unit_body}
-use Rattle.mscp_sim.specs.Holdings.{Holdings, answered_end, drive_after, drive_of, figure_asked, fresh_drive, served_drive, served_drives}
+use Rattle.mscp_sim.specs.Holdings.{Holdings, answered_end, drive_after, drive_of, figure_asked, fresh_drive, served_drives}
 use Rattle.mscp_sim.specs.Kept.{IsHeld, IsKept}
 
 none_is : {X : Type 0} (o : Option X) → is_none o ≡ true → o ≡ None

@@ -1,16 +1,15 @@
 -- Moments that serve nobody and abort nobody: what is held after them.
-use Rattle.std.proofs.Common.{◌≡◌, ℕ, ◌+◌, ◌<◌, ◌≤◌, Bool, true, false, cond, not, ◌&&◌, List, [], ◌∷◌, ◌++◌, map, take, drop, length, refl, ap, sym, ◌∙◌, subst, append-nil, arith}
-use Rattle.std.specs.Prelude.{filter, count_by, Option, Some, None}
+use Rattle.std.proofs.Common.{◌≡◌, ℕ, ◌+◌, ◌<◌, ◌≤◌, true, false, cond, not, ◌&&◌, List, [], ◌∷◌, ◌++◌, map, drop, length, ap, sym, ◌∙◌, subst, append-nil, arith}
+use Rattle.std.specs.Prelude.{count_by, None}
 use Rattle.std.specs.List.{AllByRecursion}
 use Rattle.std.proofs.lemmas.List.{drop-drop, map-append}
-use Rattle.mscp_packet.specs.declared.command.Command.{Command}
 use Rattle.mscp_packet.specs.declared.end.End.{End}
 use Rattle.mscp_packet.specs.Commands.{command_of}
 use Rattle.mscp_sim.specs.declared.record.Record.{Record}
-use Rattle.mscp_sim.specs.Settings.{Settings, IsValid}
+use Rattle.mscp_sim.specs.Settings.{Settings}
 use Rattle.mscp_sim.specs.Arrival.{order_weight}
-use Rattle.mscp_sim.specs.History.{Trace, Moment, queues, sent_bytes, is_good, takes, Service, service_in}
-use Rattle.mscp_sim.specs.Commands.{command, reference, waiting, done, good, service_is, service_starts, ends_in}
+use Rattle.mscp_sim.specs.History.{Trace, Moment, queues, sent_bytes, is_good, takes, service_in}
+use Rattle.mscp_sim.specs.Commands.{reference, waiting, done, good, service_is, service_starts, ends_in}
 use Rattle.mscp_sim.specs.Passing.{passes}
 use Rattle.mscp_sim.specs.Ends.{ends, ends_at, untaken}
 use Rattle.mscp_sim.specs.Legal.{IsRight}

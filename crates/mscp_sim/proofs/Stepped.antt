@@ -3,7 +3,6 @@ use Rattle.std.proofs.Common.{◌≡◌, ℕ, ◌+◌, ◌<◌, ◌≤◌, Bool,
 use Rattle.std.specs.Prelude.{nat_eq, nat_le, nat_lt, Option, Some, None, is_some, option_to_list, if◌then◌else◌}
 use Rattle.std.specs.List.{AllByRecursion, list_all}
 use Rattle.std.proofs.lemmas.Bool.{eq-eqb, ltb-false, true≢false, false≢true}
-use Rattle.mscp_packet.specs.declared.command.Command.{Command}
 use Rattle.mscp_packet.specs.declared.end.End.{End}
 use Rattle.mscp_sim.specs.declared.block.Block.{Block}
 use Rattle.mscp_sim.specs.declared.block.Block.TheVariants.{Good, Bad}
@@ -14,23 +13,21 @@ use Rattle.mscp_sim.specs.declared.event.Entry.TheVariants as entries
 use Rattle.mscp_sim.specs.Settings.{Settings}
 use Rattle.mscp_sim.specs.Arrival.{order_weight}
 use Rattle.mscp_sim.specs.Outcomes.{goes_on, is_good_block, touches}
-use Rattle.mscp_sim.specs.History.{Trace, Moment, is_good, service_in, Service, takes}
-use Rattle.mscp_sim.specs.Commands.{command, reference, unit, order, is_waiting, waiting, done, good, in_service, is_idle, left, earlier, serves_in, service_is}
+use Rattle.mscp_sim.specs.History.{Trace, Moment, is_good}
+use Rattle.mscp_sim.specs.Commands.{reference, unit, order, is_waiting, waiting, done, good, in_service, left, serves_in}
 use Rattle.mscp_sim.specs.Passing.{fences, is_affordable, is_free, is_startable, passes, toll}
 use Rattle.mscp_sim.specs.Units.{is_online}
-use Rattle.mscp_sim.specs.Ends.{ends_at, outcome, untaken}
-use Rattle.mscp_sim.specs.Legal.{block_of, end_of, IsRight, IsServed, seek_to}
+use Rattle.mscp_sim.specs.Ends.{outcome, untaken}
+use Rattle.mscp_sim.specs.Legal.{block_of, end_of, IsServed, seek_to}
 use Rattle.mscp_sim.specs.Holdings.{advanced, remains, report_with}
-use Rattle.mscp_sim.proofs.Lists.{every_weaker, every_both, every_parts}
+use Rattle.mscp_sim.proofs.Lists.{every_weaker, every_both}
 use Rattle.mscp_sim.proofs.Grows.{command_before, done_before, good_before, untaken_more}
-use Rattle.mscp_sim.proofs.Waits.{Cut, cut_of, earlier_is, waiting_below, waiting_waits}
+use Rattle.mscp_sim.proofs.Waits.{cut_of, earlier_is, waiting_waits}
 use Rattle.mscp_sim.proofs.Apart.{Apart}
 use Rattle.mscp_sim.proofs.Among.{alone}
-use Rattle.mscp_sim.proofs.Served.{Serves, Step, Changes, changes, below_parts}
-use Rattle.mscp_sim.proofs.Steady.{weight_before}
+use Rattle.mscp_sim.proofs.Served.{Serves, Step, changes, below_parts}
 use Rattle.mscp_sim.proofs.Passed.{passed_behind}
 use Rattle.mscp_sim.proofs.Known.{Known, known_more}
-use Rattle.mscp_sim.proofs.Placed.{map_on}
 use Rattle.mscp_sim.proofs.Legals.{service_by}
 use Rattle.mscp_sim.proofs.Held.{held_of, Follows}
 use Rattle.mscp_sim.proofs.Drives.{drive_by, end_held, seek_held}

@@ -1,5 +1,5 @@
 -- What is true of all that a controller holds, whatever came to it.
-use Rattle.std.specs.Prelude.{◌≡◌, ℕ, ◌+◌, ◌^◌, ◌<◌, ◌≤◌, true, List, length, map, All}
+use Rattle.std.specs.Prelude.{◌≡◌, ◌+◌, ◌^◌, ◌<◌, ◌≤◌, true, List, length, map, All}
 use Rattle.mscp_packet.specs.declared.end.End.{End}
 use Rattle.mscp_sim.specs.declared.drive.Drive.{Drive}
 use Rattle.mscp_sim.specs.declared.record.Record.{Record}

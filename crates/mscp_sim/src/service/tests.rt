@@ -1,10 +1,10 @@
+ghost use Rattle.std.specs.Prelude.{◌≡◌};
+ghost use Rattle.mscp_sim.specs.Arrival.{first_block};
+
 use super::*;
 use crate::config::tests::unit;
 use mscp_drive::Head;
 use mscp_packet::{Command, MoveKind};
-
-ghost use Rattle.std.specs.Prelude.{◌≡◌};
-ghost use Rattle.mscp_sim.specs.Arrival.{first_block};
 
 /// A transfer of blocks 199 and 200, which are on cylinders 9 and 10, so many blocks of which were done.
 fn transfer(done: u32) -> Record

@@ -1,4 +1,4 @@
-use Rattle.std.proofs.Common.{length, arith}
+use Rattle.std.proofs.Common.{arith}
 use Rattle.mscp_sim.specs.Holdings.{served_drive}
 use Rattle.mscp_sim.proofs.Keeping.{mapped_more}
 use Rattle.mscp_sim.proofs.drive.serve_each.Goals as goal

@@ -1,7 +1,7 @@
-use Rattle.std.proofs.Common.{◌≡◌, ◌++◌, ◌∙◌, ap, sym, subst, append-nil}
+use Rattle.std.proofs.Common.{◌++◌, ◌∙◌, ap, sym, subst, append-nil}
 use Rattle.std.proofs.lemmas.List.{drop_all}
 use Rattle.mscp_sim.specs.Headline.{Headline}
-use Rattle.mscp_sim.specs.Holdings.{fresh, replies}
+use Rattle.mscp_sim.specs.Holdings.{replies}
 use Rattle.mscp_sim.proofs.Following.{headline}
 use Rattle.mscp_sim.proofs.run.run.Goals as goal
 

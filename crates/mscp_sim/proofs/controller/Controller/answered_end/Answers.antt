@@ -1,4 +1,4 @@
-use Rattle.std.proofs.Common.{◌≡◌, ap, ◌∙◌, sym, map}
+use Rattle.std.proofs.Common.{ap, ◌∙◌, sym, map}
 use Rattle.std.specs.Prelude.{if◌then◌else◌}
 use Rattle.mscp_sim.specs.declared.drive.Drive.{Drive}
 use Rattle.mscp_sim.specs.Outcomes.{end_with, unit_body}
