@@ -1,13 +1,13 @@
 -- What a script leaves in the reader and in the writer.
 use Rattle.std.specs.Prelude.{◌≡◌, ℕ, List, Option, Result, Ok, Err}
 use Rattle.std.specs.Io.KnownBytes.{Appends}
-use Rattle.mscp_sim.specs.declared.event.Event.{Event}
-use Rattle.mscp_sim.specs.declared.event.Entry.{Entry}
+use Rattle.mscp_control.specs.declared.event.Event.{Event}
+use Rattle.mscp_control.specs.declared.event.Entry.{Entry}
 use Rattle.mscp_sim.specs.declared.reading.TheConstants.{LIMIT}
-use Rattle.mscp_sim.specs.declared.simulate.SimFault.{SimFault}
-use Rattle.mscp_sim.specs.declared.simulate.SimFault.TheVariants as faults
-use Rattle.mscp_sim.specs.Settings.{Settings}
-use Rattle.mscp_sim.specs.Headline.{Headline}
+use Rattle.mscp_sim.specs.declared.simulation.SimFault.{SimFault}
+use Rattle.mscp_sim.specs.declared.simulation.SimFault.TheVariants as faults
+use Rattle.mscp_control.specs.Settings.{Settings}
+use Rattle.mscp_control.specs.Headline.{Headline}
 use Rattle.mscp_sim.specs.Text.{text}
 use Rattle.mscp_sim.specs.Whole.{IsRest}
 

@@ -1,22 +1,14 @@
-//! A disk controller over scripts: its command queue, and what it does with a script's events.
+//! Scripts of commands for a disk controller, and reports of what it answered.
 #![tactic(auto)]
 
-mod arrival;
-pub mod block;
-pub mod config;
-pub mod controller;
-pub mod drive;
-pub mod event;
-mod figure;
-pub mod law;
-pub mod memory;
-mod outcome;
-pub mod reading;
-pub mod record;
-pub mod report;
-pub mod run;
-pub mod script;
-mod service;
-pub mod simulate;
-pub mod stream;
+mod reading;
+mod reporting;
+mod script;
+mod simulation;
+mod stream;
 mod totals;
+
+pub use crate::reporting::report;
+pub use crate::script::{Cause, ReadFault, Script, ScriptFault, read_script};
+pub use crate::simulation::{SimFault, simulate};
+pub use crate::stream::{Failed, Sink, Source, Stream};

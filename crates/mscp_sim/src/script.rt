@@ -11,12 +11,11 @@ mod numbers;
 mod tests;
 mod words;
 
-use crate::config::Config;
-use crate::event::Event;
 use crate::script::events::read_events;
 pub use crate::script::fault::{Cause, ReadFault, ScriptFault};
 use crate::script::header::read_header;
 use crate::script::lines::Lines;
+use mscp_control::{Config, Event};
 use std::alloc::Global;
 
 /// The most bytes that a script has.

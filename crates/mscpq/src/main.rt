@@ -1,8 +1,7 @@
 //! Runs a script of commands through a disk controller, and prints what the controller did.
 #![tactic(auto)]
 
-use mscp_sim::simulate::{SimFault, simulate};
-use mscp_sim::stream::Stream;
+use mscp_sim::{SimFault, Stream, simulate};
 use std::io;
 use std::io::ErrorKind;
 use std::process::ExitCode;

@@ -4,13 +4,11 @@ ghost use Rattle.std.specs.Prelude.{◌≡◌, ◌+◌, ◌≤◌, vec_len, IfOk
 ghost use Rattle.mscp_packet.specs.Commands.{command_bytes};
 ghost use Rattle.mscp_sim.specs.Requests.{event_total};
 
-use crate::block::Block;
-use crate::event::Event;
-use crate::memory::OutOfMemory;
 use crate::script::fault::{Cause, ReadFault, ScriptFault};
 use crate::script::lines::Lines;
 use crate::script::words::Words;
 use arrayvec::ArrayVec;
+use mscp_control::{Block, Event, OutOfMemory};
 use mscp_packet::{Command, MoveKind, Order, write_command};
 use std::alloc::Global;
 

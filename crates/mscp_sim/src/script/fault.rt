@@ -3,7 +3,7 @@
 ghost use Rattle.std.specs.Prelude.{◌≡◌, MatchResult};
 ghost use Rattle.mscp_sim.specs.declared.script.fault.ReadFault.TheVariants as variants;
 
-use crate::memory::OutOfMemory;
+use mscp_control::OutOfMemory;
 use thiserror::Error;
 
 /// What is wrong with a line: the first that holds, in this order.

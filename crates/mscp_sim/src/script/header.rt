@@ -2,10 +2,10 @@
 
 ghost use Rattle.std.specs.Prelude.{◌≤◌, IfErr};
 
-use crate::config::Config;
 use crate::script::fault::{Cause, ScriptFault};
 use crate::script::lines::Lines;
 use crate::script::words::Words;
+use mscp_control::Config;
 use mscp_drive::{Unit, Units};
 
 /// What a script's controller is known by.

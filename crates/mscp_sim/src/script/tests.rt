@@ -1,11 +1,20 @@
 use super::*;
-use crate::block::Block;
-use crate::config::tests::config;
 use arrayvec::ArrayVec;
+use mscp_control::Block;
+use mscp_drive::{Unit, Units};
 use std::process::Abort;
 use std::test::Fail;
 
 const HEADER: &str = "credits 4\npassing 0\nlongest 8\ntimeout 60\nunit 0 10 2 1 1000\ngo\n";
+
+/// The configuration of that header.
+fn config(rt: &impl Abort) -> Config {
+    let unit = Unit::new(0, 10, 2, 1, 1000, 1, 0, 1)
+        .ok()
+        .expect(rt, "no size is zero");
+    let units = Units::new(&[unit]).ok().expect(rt, "a list of units");
+    Config::new(4, 0, 8, 60, 1, units).ok().expect(rt, "limits")
+}
 
 /// How the fault of a script is printed.
 fn fault_text(rt: &impl Abort, alloc: Global, bytes: &[u8]) -> String {
@@ -42,7 +51,7 @@ fn reads_a_header_and_events(rt: HostRuntime) -> Result<(), Fail> {
         ],
     );
     let script = read_script(rt.alloc(), text.as_bytes())?;
-    assert_eq!(rt; script.config, config(&rt, 4, 0));
+    assert_eq!(rt; script.config, config(&rt));
     let wanted = [
         sent(
             &rt,

@@ -1,0 +1,106 @@
+-- When records and ends are those of a run, and the figures that they give.
+use Rattle.std.proofs.Common.{◌≡◌, ⊎_elim, ℕ, ◌+◌, ◌-◌, ◌*◌, Bool, false, cond, List, [], ◌∷◌, ◌++◌, map, take, drop, length, refl, ap, sym, ◌∙◌, subst, append_assoc, arith}
+use Rattle.std.specs.Prelude.{filter, find, nat_eq, sum_by}
+use Rattle.std.specs.List.{AllByRecursion, position, range_with_len}
+use Rattle.std.proofs.lemmas.List.{length-append, length-map, map-append}
+use Rattle.mscp_packet.specs.declared.end.End.{End}
+use Rattle.mscp_control.specs.declared.record.Record.{Record}
+use Rattle.mscp_control.specs.Settings.{Settings}
+use Rattle.mscp_control.specs.History.{Trace}
+use Rattle.mscp_control.specs.Commands.{command, reference, weight, waiting, done, good, left, in_service}
+use Rattle.mscp_control.specs.Passing.{passes}
+use Rattle.mscp_control.specs.Figures.{figure, figure_found, figure_of}
+use Rattle.mscp_control.specs.Ends.{untaken}
+use Rattle.mscp_control.specs.Holdings.{figure_at, figure_between, figure_of_reference, figures, figures_from, has_reference, is_in_service, left_of, record_at}
+use Rattle.mscp_control.specs.Holdings as holdings
+use Rattle.mscp_control.proofs.Lists.{every_parts}
+use Rattle.mscp_control.proofs.Falls.{figure_split}
+use Rattle.mscp_control.proofs.Falls as falls
+use Rattle.mscp_control.proofs.Known.{Known}
+use Rattle.mscp_control.proofs.Placed.{at_place, find_cases, find_none, find_first, position_none, position_first, filter_map_of, sum_by_map}
+
+-- the record of a command
+abbrev pub held_of : Trace → ℕ → Record
+held_of t x = record { command = command t x; weight = weight t x; done = done t x }
+
+-- The records are those of the waiting commands and the ends those that weren't taken, where commands are
+-- served oldest first: nobody was passed, and only the oldest may be in service.
+pub record Follows (c : Settings) (t : Trace) (ws : List Record) (us : List End) : Type 0 where
+  pub known : Known c t
+  pub waits : ws ≡ map (held_of t) (waiting t)
+  pub ends : us ≡ untaken c t
+  pub good : AllByRecursion (λ x. good t x ≡ done t x) (waiting t)
+  pub unpassed : AllByRecursion (λ x. passes t x ≡ 0) (waiting t)
+  pub idle : AllByRecursion (λ x. done t x ≡ 0) (drop 1 (waiting t))
+
+-- ---- figures
+
+working_held : (t : Trace) (B : List ℕ) → sum_by left_of (filter is_in_service (map (held_of t) B)) ≡ sum_by (left t) (filter (in_service t) B)
+working_held t B = ap (sum_by left_of) (filter_map_of (held_of t) is_in_service B) ∙ sum_by_map (held_of t) left_of (filter (in_service t) B)
+
+-- the figure of a record is that of its command
+figure_held : (c : Settings) (t : Trace) (A : List ℕ) (x : ℕ) (B : List ℕ) → waiting t ≡ A ++ x ∷ B → passes t x ≡ 0
+    → figure_between c (map (held_of t) A) (held_of t x) (map (held_of t) B) ≡ figure c t x
+figure_held c t A x B e p =
+    let sum : ℕ → ℕ → ℕ → ℕ = λ a b n. cond (in_service t x) (left t x) (a + b + n * c.longest + left t x) in
+    ap (λ a. sum a (sum_by left_of (filter is_in_service (map (held_of t) B))) c.passing) (sum_by_map (held_of t) left_of A)
+    ∙ (ap (λ b. sum (sum_by (left t) A) b c.passing) (working_held t B)
+    ∙ (ap (λ n. sum (sum_by (left t) A) (sum_by (left t) (filter (in_service t) B)) n) (let q : c.passing ≡ c.passing - passes t x = omega (arith, p) in q)
+    ∙ sym (falls.figure_at c t A x B e)))
+
+-- what is looked at of a command
+abbrev pub shown : Settings → Trace → ℕ → ℕ × ℕ
+shown c t x = (reference t x, figure c t x)
+
+shown_at : (c : Settings) (t : Trace) (A : List ℕ) (x : ℕ) (B : List ℕ) (k : ℕ) → waiting t ≡ A ++ x ∷ B → passes t x ≡ 0 → length A ≡ k
+    → ((record_at (map (held_of t) (waiting t)) k).command.reference ≡ reference t x) × (figure_at c (map (held_of t) (waiting t)) k ≡ figure c t x)
+shown_at c t A x B k e p l =
+    let h = held_of t in
+    let rs = map h (waiting t) in
+    let cut : rs ≡ map h A ++ h x ∷ map h B = ap (map h) e ∙ map-append h A (x ∷ B) in
+    let at = at_place rs (map h A) (h x) (map h B) k (record_at [] 0) cut (length-map A h ∙ l) in (
+      ap (λ (r : Record). r.command.reference) at.item,
+      ap (λ r. figure_between c (take k rs) r (drop (k + 1) rs)) at.item
+          ∙ (ap (λ a. figure_between c a (h x) (drop (k + 1) rs)) at.before ∙ (ap (figure_between c (map h A) (h x)) at.behind ∙ figure_held c t A x B e p)),
+    )
+
+figures_part : (c : Settings) (t : Trace) (A B : List ℕ) (k : ℕ) → waiting t ≡ A ++ B → length A ≡ k → AllByRecursion (λ x. passes t x ≡ 0) B
+    → figures_from c (map (held_of t) (waiting t)) (range_with_len k (length B)) ≡ map (shown c t) B
+figures_part c t A [] k e l p = refl
+figures_part c t A (x ∷ B) k e l p =
+    let s = shown_at c t A x B k e p.0 l in
+    let rest = figures_part c t (A ++ x ∷ []) B (k + 1) (e ∙ sym (append_assoc A (x ∷ []) B)) (omega (arith, length-append A (x ∷ []), l)) p.1 in
+    (λ i. (s.0 i, s.1 i) ∷ figures_from c (map (held_of t) (waiting t)) (range_with_len (k + 1) (length B))) ∙ ap (λ ys. shown c t x ∷ ys) rest
+
+-- The records' figures are those of the waiting commands.
+pub figures_held : (c : Settings) (t : Trace) → AllByRecursion (λ x. passes t x ≡ 0) (waiting t)
+    → figures c (map (held_of t) (waiting t)) ≡ map (λ x. (reference t x, figure c t x)) (waiting t)
+figures_held c t p =
+    ap (λ n. figures_from c (map (held_of t) (waiting t)) (range_with_len 0 n)) (length-map (waiting t) (held_of t)) ∙ figures_part c t [] (waiting t) 0 refl refl p
+
+has_held : (t : Trace) (r : ℕ) (xs : List ℕ) → AllByRecursion (λ x. nat_eq (reference t x) r ≡ false) xs → AllByRecursion (λ w. has_reference r w ≡ false) (map (held_of t) xs)
+has_held t r [] h = tt
+has_held t r (x ∷ xs) h = (h.0, has_held t r xs h.1)
+
+-- The figure of a reference number is the same in both.
+pub figure_of_held : (c : Settings) (t : Trace) (r : ℕ) → AllByRecursion (λ x. passes t x ≡ 0) (waiting t)
+    → figure_of_reference c (map (held_of t) (waiting t)) r ≡ figure_of c t r
+unfolding figure_of
+figure_of_held c t r p =
+    let h = held_of t in
+    let rs = map h (waiting t) in
+    let q : ℕ → Bool = λ x. nat_eq (reference t x) r in
+    ⊎_elim
+    (λ none.
+    ap (holdings.figure_found c rs) (position_none (has_reference r) rs (has_held t r (waiting t) none)) ∙ sym (ap (figure_found c t) (find_none q (waiting t) none)))
+    (λ some.
+    let A = some.0 in
+    let x = some.1 in
+    let B = some.2 in
+    let f = some.3 in
+    let cut : rs ≡ map h A ++ h x ∷ map h B = ap (map h) f.is ∙ map-append h A (x ∷ B) in
+    let own = (every_parts (λ x. passes t x ≡ 0) A (x ∷ B) (subst (AllByRecursion (λ x. passes t x ≡ 0)) f.is p)).1.0 in
+    ap (holdings.figure_found c rs) (ap (position (has_reference r)) cut ∙ position_first (has_reference r) (map h A) (h x) (map h B) (has_held t r A f.before) f.passes)
+    ∙ ((shown_at c t A x B (length (map h A)) f.is own (sym (length-map A h))).1
+    ∙ sym (ap (figure_found c t) (ap (find q) f.is ∙ find_first q A x B f.before f.passes))))
+    (find_cases q (waiting t))

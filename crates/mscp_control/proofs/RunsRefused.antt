@@ -1,0 +1,55 @@
+-- Orders that are refused when they come, and what an abort will leave of a read.
+use Rattle.std.proofs.Common.{◌≡◌, true, false, [], ◌∷◌, ◌++◌, refl}
+use Rattle.std.specs.Prelude.{replicate, Some, None, Ok}
+use Rattle.mscp_packet.specs.declared.command.Order.TheVariants as orders
+use Rattle.mscp_packet.specs.Commands.{command_of}
+use Rattle.mscp_packet.specs.Ends.{end_bytes}
+use Rattle.mscp_control.specs.declared.block.Block.TheVariants.{Good}
+use Rattle.mscp_control.specs.declared.event.Sent.TheVariants as sents
+use Rattle.mscp_control.specs.Outcomes.{aborted_end}
+use Rattle.mscp_control.specs.History.{Trace, moment, collect}
+use Rattle.mscp_control.specs.Commands.{command, is_waiting, waiting, done, good}
+use Rattle.mscp_control.specs.Passing.{passes_at, passes, is_free, is_startable, startable}
+use Rattle.mscp_control.specs.Figures.{figure, figure_of}
+use Rattle.mscp_control.specs.Units.{is_online, head_cylinder, head_up}
+use Rattle.mscp_control.specs.Ends.{answer, outcome, ends, untaken}
+use Rattle.mscp_control.specs.Credits.{balance, outstanding, arrival}
+use Rattle.mscp_control.specs.Legal.{IsLegal, block_of}
+use Rattle.mscp_control.proofs.Legals.{legal_from, by_serving}
+use Rattle.mscp_control.proofs.Literals.{settings, came_online, read, raw, queued, answered, took, looked, served, moved}
+
+-- Messages that no command is made of: an opcode that no command has, a unit that is not configured, and a read of 31 bytes.
+abbrev pub invalid : Trace
+invalid =
+    raw (5 ∷ 0 ∷ 0 ∷ 0 ∷ 0 ∷ 0 ∷ 0 ∷ 0 ∷ 0x13 ∷ 0 ∷ 0 ∷ 0 ∷ []) (Ok (sents.Answered 5 None))
+    ∷ took (5 ∷ 0 ∷ 0 ∷ 0 ∷ 0 ∷ 0 ∷ 0 ∷ 0 ∷ 0x80 ∷ 0 ∷ 1 ∷ 8 ∷ [])
+    ∷ answered 6 7 (read 512 0)
+    ∷ took ((6 ∷ 0 ∷ 0 ∷ 0 ∷ 7 ∷ 0 ∷ 0 ∷ 0 ∷ 0xA1 ∷ 0 ∷ 3 ∷ 0 ∷ []) ++ replicate 20 0)
+    ∷ raw ((8 ∷ 0 ∷ 0 ∷ 0 ∷ 0 ∷ 0 ∷ 0 ∷ 0 ∷ 0x21 ∷ 0 ∷ 0 ∷ 0 ∷ []) ++ replicate 19 0) (Ok (sents.Answered 8 None))
+    ∷ took ((8 ∷ 0 ∷ 0 ∷ 0 ∷ 0 ∷ 0 ∷ 0 ∷ 0 ∷ 0xA1 ∷ 0 ∷ 1 ∷ 0 ∷ []) ++ replicate 20 0)
+    ∷ []
+
+pub invalid_legal : IsLegal (settings 5 2) invalid
+unfolding moment collect command_of command is_waiting waiting done good passes_at passes is_free is_startable startable figure figure_of is_online head_cylinder head_up answer outcome ends untaken balance outstanding arrival block_of
+invalid_legal = legal_from (settings 5 2) invalid (refl, (refl, (refl, (refl, (refl, (refl, tt))))))
+
+-- Until aborts are served an abort is answered as an unknown opcode, and aborts nothing: the read goes on.
+abbrev pub unserved : Trace
+unserved =
+    came_online
+    ++ queued 1 0 (read 1536 0)
+    ∷ served Good 1 0 (Some 0) true 0 None
+    ∷ answered 2 0 (orders.Abort 1)
+    ∷ took (2 ∷ 0 ∷ 0 ∷ 0 ∷ 0 ∷ 0 ∷ 0 ∷ 0 ∷ 0x80 ∷ 0 ∷ 1 ∷ 8 ∷ [])
+    ∷ looked ((1, 2) ∷ [])
+    ∷ served Good 1 0 (Some 1) false 0 None
+    ∷ served Good 1 0 (Some 2) false 0 (moved 1 0 0 1536)
+    ∷ []
+
+pub unserved_legal : IsLegal (settings 5 2) unserved
+unfolding moment collect command_of command is_waiting waiting done good passes_at passes is_free is_startable startable figure figure_of is_online head_cylinder head_up answer outcome ends untaken balance outstanding arrival block_of
+unserved_legal = legal_from (settings 5 2) unserved (refl, (by_serving 0 refl refl refl, (refl, (refl, (by_serving 3 refl refl refl, (refl, (refl, (refl, (by_serving 3 refl refl refl, (by_serving 3 refl refl refl, tt))))))))))
+
+-- A read of three blocks that is aborted after one ends with what was moved.
+aborted_read : end_bytes (aborted_end (record { reference = 1; unit = 0; order = read 1536 0 }) 1) ≡ (1 ∷ 0 ∷ 0 ∷ 0 ∷ 0 ∷ 0 ∷ 0 ∷ 0 ∷ 0xA1 ∷ 0 ∷ 2 ∷ 0 ∷ 0 ∷ 2 ∷ 0 ∷ 0 ∷ []) ++ replicate 16 0
+aborted_read = refl

@@ -1,0 +1,120 @@
+-- How a message is judged when it comes. Nothing here asks what came before it.
+use Rattle.std.specs.Prelude.{ℕ, Bool, true, false, not, ◌&&◌, nat_eq, nat_lt, bit_or, if◌then◌else◌, ◌==◌, List, length, slice_index, Option, Some, None, is_none, Result, Ok, Err}
+use Rattle.std.specs.List.{list_any}
+use Rattle.mscp_packet.specs.declared.class.Class.{Class}
+use Rattle.mscp_packet.specs.declared.class.Class.TheVariants.{Immediate}
+use Rattle.mscp_packet.specs.declared.command.Order.{Order}
+use Rattle.mscp_packet.specs.declared.command.Order.TheVariants as orders
+use Rattle.mscp_packet.specs.declared.command.Command.{Command}
+use Rattle.mscp_packet.specs.Number.{num}
+use Rattle.mscp_packet.specs.Opcodes.{class}
+use Rattle.mscp_packet.specs.Commands.{opcode_byte}
+use Rattle.mscp_drive.specs.Shape.{Shape}
+use Rattle.mscp_drive.specs.Extent as extent
+use Rattle.mscp_control.specs.declared.event.SendFault.{SendFault}
+use Rattle.mscp_control.specs.declared.event.SendFault.TheVariants.{Short, Long, NoCredit, LastCredit, Doubled}
+use Rattle.mscp_control.specs.Settings.{Settings, unit_found}
+
+-- ---- credits
+
+abbrev pub is_immediate_class : Class → Bool
+is_immediate_class Immediate = true
+is_immediate_class class = false
+
+-- a reference number is among these
+abbrev pub holds : List ℕ → ℕ → Bool
+holds references reference = list_any (λ x. nat_eq x reference) references
+
+-- why a command with this opcode byte and reference number is refused, the first that holds, where so many
+-- credits are free and commands with these reference numbers wait or have ends that weren't taken (manual,
+-- their order is the profile's)
+abbrev pub credit_fault : ℕ → List ℕ → ℕ → ℕ → Option SendFault
+credit_fault balance outstanding opcode reference =
+    if balance == 0 then Some NoCredit else (
+    if (balance == 1) && not (is_immediate_class (class opcode)) then Some LastCredit else (
+    if holds outstanding reference then Some Doubled else None))
+
+-- why a message is refused, the first that holds (manual, their order is the profile's)
+abbrev pub refusal : ℕ → List ℕ → List ℕ → Option SendFault
+refusal balance outstanding b =
+    if nat_lt (length b) 12 then Some Short else (
+    if nat_lt 64 (length b) then Some Long else
+    credit_fault balance outstanding (slice_index b 8) (num b 0 4))
+
+-- ---- orders
+
+-- how many steps an order takes: one for each block of a transfer, and at least one (profile)
+abbrev pub order_weight : Order → ℕ
+order_weight (orders.Move kind count block) = extent.weight count
+order_weight order = 1
+
+-- answered when it comes, without a step (manual)
+abbrev pub is_immediate : Order → Bool
+is_immediate (orders.Abort other) = true
+is_immediate (orders.Status other) = true
+is_immediate orders.UnitStatus = true
+is_immediate (orders.SetController version) = true
+is_immediate order = false
+
+-- kept in its place among the commands of its unit (manual)
+abbrev pub is_sequential : Order → Bool
+is_sequential orders.Available = true
+is_sequential orders.Online = true
+is_sequential orders.SetUnit = true
+is_sequential order = false
+
+-- a transfer (manual)
+abbrev pub is_move : Order → Bool
+is_move (orders.Move kind count block) = true
+is_move order = false
+
+-- the first block of an order
+abbrev pub first_block : Order → ℕ
+first_block (orders.Move kind count block) = block
+first_block order = 0
+
+-- the status that refuses a transfer to a unit that may not be configured: 0x0003 is Unit-Offline (manual)
+abbrev pub move_fault : Settings → ℕ → ℕ → Option Shape → Option ℕ
+move_fault c count block None = Some 0x0003
+move_fault c count block (Some unit) = extent.range_fault c.longest count block unit
+
+-- the same of another command to a unit (manual)
+abbrev pub unit_fault : Option Shape → Option ℕ
+unit_fault None = Some 0x0003
+unit_fault (Some unit) = None
+
+-- the status that refuses an order to a unit when it comes, if one does. So far ABORT and SET CONTROLLER
+-- CHARACTERISTICS are answered as unknown opcodes (manual, the order of the tests is the profile's)
+abbrev pub order_fault : Settings → ℕ → Order → Option ℕ
+order_fault c number (orders.Invalid opcode status) = Some status
+order_fault c number (orders.Status other) = None
+order_fault c number (orders.Move kind count block) = move_fault c count block (unit_found c number)
+order_fault c number orders.UnitStatus = unit_fault (unit_found c number)
+order_fault c number orders.Available = unit_fault (unit_found c number)
+order_fault c number orders.Online = unit_fault (unit_found c number)
+order_fault c number orders.SetUnit = unit_fault (unit_found c number)
+order_fault c number order = Some 0x0801
+
+abbrev pub fault_of : Settings → Command → Option ℕ
+fault_of c command = order_fault c command.unit command.order
+
+-- how many steps a command takes that is refused with this status, or isn't
+abbrev pub weighed : Option ℕ → ℕ → Result ℕ ℕ
+weighed (Some status) steps = Err status
+weighed None steps = Ok steps
+
+-- how many steps a command takes, or the status that refuses it (manual, the steps are the profile's)
+abbrev pub judged : Settings → Command → Result ℕ ℕ
+judged c command = weighed (fault_of c command) (order_weight command.order)
+
+-- whether a command that isn't refused waits for steps (manual)
+abbrev pub is_queued : Settings → Command → Bool
+is_queued c command = if is_immediate command.order then false else is_none (fault_of c command)
+
+-- the endcode: the opcode with the top bit set. An opcode that is unknown, or isn't served so far, has that
+-- bit alone (manual, the latter is the profile's)
+abbrev pub endcode : Order → ℕ
+endcode (orders.Invalid opcode status) = if status == 0x0801 then 0x80 else bit_or opcode 0x80
+endcode (orders.Abort other) = 0x80
+endcode (orders.SetController version) = 0x80
+endcode order = bit_or (opcode_byte order) 0x80

@@ -1,0 +1,114 @@
+-- The commands of a run. A command is the position at which it was queued, so a reference number that is
+-- used again names another command.
+use Rattle.std.specs.Prelude.{ℕ, ◌+◌, ◌-◌, Bool, false, not, ◌&&◌, nat_eq, nat_lt, List, drop, filter, count_by, Option, Some, None, is_some, Ok}
+use Rattle.std.specs.List.{list_any, list_all}
+use Rattle.mscp_packet.specs.declared.command.Order.{Order}
+use Rattle.mscp_packet.specs.declared.command.Command.{Command}
+use Rattle.mscp_packet.specs.Commands.{command_of}
+use Rattle.mscp_control.specs.declared.event.Entry.{Entry}
+use Rattle.mscp_control.specs.declared.event.Entry.TheVariants as entries
+use Rattle.mscp_control.specs.declared.event.Sent.TheVariants as sents
+use Rattle.mscp_control.specs.Arrival.{order_weight}
+use Rattle.mscp_control.specs.History.{Trace, moment, positions, sent_bytes, is_step, is_good, queues, Service, service_in}
+
+-- ---- what was asked for
+
+-- what was queued at a position (manual)
+unfoldable pub command : Trace → ℕ → Command
+command t x = command_of (sent_bytes (moment t x).0)
+
+-- its reference number (manual)
+abbrev pub reference : Trace → ℕ → ℕ
+reference t x = (command t x).reference
+
+-- its unit (manual)
+abbrev pub unit : Trace → ℕ → ℕ
+unit t x = (command t x).unit
+
+-- its order (manual)
+abbrev pub order : Trace → ℕ → Order
+order t x = (command t x).order
+
+-- how many steps it takes (profile)
+abbrev pub weight : Trace → ℕ → ℕ
+weight t x = order_weight (order t x)
+
+-- ---- what an entry says of the command of a reference
+
+-- the service is of this reference (profile)
+abbrev pub service_is : ℕ → Option Service → Bool
+service_is r None = false
+service_is r (Some s) = nat_eq s.reference r
+
+-- the service is the last of this reference (profile)
+abbrev pub service_ends : ℕ → Option Service → Bool
+service_ends r None = false
+service_ends r (Some s) = nat_eq s.reference r && is_some s.ended
+
+-- the service is the first of this reference (profile)
+abbrev pub service_starts : ℕ → Option Service → Bool
+service_starts r None = false
+service_starts r (Some s) = nat_eq s.reference r && s.started
+
+-- the message that was answered aborted this reference (manual)
+abbrev pub aborts : ℕ → Entry → Bool
+aborts r (entries.Sent (Ok (sents.Answered reference (Some other)))) = nat_eq other r
+aborts r entry = false
+
+-- the command of this reference is served (profile)
+abbrev pub serves_in : ℕ → Entry → Bool
+serves_in r entry = service_is r (service_in entry)
+
+-- the command of this reference starts (profile)
+abbrev pub starts_in : ℕ → Entry → Bool
+starts_in r entry = service_starts r (service_in entry)
+
+-- the command of this reference ends, by a step or by an abort (manual)
+abbrev pub ends_in : ℕ → Entry → Bool
+ends_in r (entries.Stepped report) = service_ends r (service_in (entries.Stepped report))
+ends_in r (entries.Sent sent) = aborts r (entries.Sent sent)
+ends_in r entry = false
+
+-- ---- who waits
+
+-- x was queued, and nothing after it has ended it (manual)
+unfoldable pub is_waiting : Trace → ℕ → Bool
+is_waiting t x = queues (moment t x).1 && not (list_any (λ m. ends_in (reference t x) m.1) (drop (x + 1) t))
+
+-- the commands that wait, in the order in which they came (manual)
+unfoldable pub waiting : Trace → List ℕ
+waiting t = filter (is_waiting t) (positions t)
+
+-- the commands that wait and came before x (manual)
+abbrev pub earlier : Trace → ℕ → List ℕ
+earlier t x = filter (λ z. nat_lt z x) (waiting t)
+
+-- the commands that wait and came after x (manual)
+abbrev pub later : Trace → ℕ → List ℕ
+later t x = filter (λ y. nat_lt x y) (waiting t)
+
+-- ---- service
+
+-- how often x was served (profile)
+unfoldable pub done : Trace → ℕ → ℕ
+done t x = count_by (λ m. serves_in (reference t x) m.1) (drop (x + 1) t)
+
+-- how often x was served and its block was good (profile)
+unfoldable pub good : Trace → ℕ → ℕ
+good t x = count_by (λ m. serves_in (reference t x) m.1 && is_good m.0) (drop (x + 1) t)
+
+-- how many steps are left of x (profile)
+abbrev pub left : Trace → ℕ → ℕ
+left t x = weight t x - done t x
+
+-- x was served and waits for its next step (profile)
+abbrev pub in_service : Trace → ℕ → Bool
+in_service t x = nat_lt 0 (done t x)
+
+-- nothing is in service (profile)
+abbrev pub is_idle : Trace → Bool
+is_idle t = list_all (λ x. nat_eq (done t x) 0) (waiting t)
+
+-- how many steps there were after x (profile)
+abbrev pub steps_after : Trace → ℕ → ℕ
+steps_after t x = count_by (λ m. is_step m.0) (drop (x + 1) t)

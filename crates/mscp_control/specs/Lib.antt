@@ -1,0 +1,14 @@
+pub mod Settings
+pub mod Arrival
+pub mod Outcomes
+pub mod Holdings
+pub mod Kept
+pub mod History
+pub mod Commands
+pub mod Passing
+pub mod Figures
+pub mod Units
+pub mod Ends
+pub mod Credits
+pub mod Legal
+pub mod Headline

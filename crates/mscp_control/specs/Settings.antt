@@ -1,0 +1,59 @@
+-- What is known of a controller and of its units.
+use Rattle.std.specs.Prelude.{ℕ, ◌+◌, ◌-◌, ◌*◌, ◌^◌, ◌<◌, ◌≤◌, ◌||◌, nat_lt, nat_le, if◌then◌else◌, List, Option, Some, None, unwrap_or, Result, Ok, Err}
+use Rattle.mscp_drive.specs.Shape.{Shape}
+use Rattle.mscp_drive.specs.UnitList as list
+use Rattle.mscp_control.specs.declared.config.ConfigFault.{ConfigFault}
+use Rattle.mscp_control.specs.declared.config.ConfigFault.TheVariants.{Credits, Longest, Timeout, Figure}
+
+-- the limits of a controller, and its units (profile)
+pub record Settings : Type 0 where
+  pub credits : ℕ
+  pub passing : ℕ
+  pub longest : ℕ
+  pub timeout : ℕ
+  pub id : ℕ
+  pub units : List Shape
+
+-- no figure is greater: the longest transfer for each other command that may wait, and for each time
+-- that one may be passed (profile)
+abbrev pub bound : Settings → ℕ
+bound c = (c.credits - 1 + c.passing) * c.longest
+
+-- what the limits of each controller meet (profile)
+pub record IsValid (c : Settings) : Type 0 where
+  pub some_credits : 2 ≤ c.credits
+  pub few_credits : c.credits ≤ 64
+  pub some_blocks : 1 ≤ c.longest
+  pub few_blocks : c.longest ≤ 8388608
+  pub some_seconds : 1 ≤ c.timeout
+  pub few_seconds : c.timeout ≤ 255
+  pub small_bound : bound c < 2 ^ 32
+  pub unit_list : list.IsUnitList c.units
+
+-- why limits are refused, the first that holds (profile)
+abbrev pub limit_fault : Settings → Option ConfigFault
+limit_fault c =
+    if nat_lt c.credits 2 || nat_lt 64 c.credits then Some Credits else (
+    if nat_lt c.longest 1 || nat_lt 8388608 c.longest then Some Longest else (
+    if nat_lt c.timeout 1 || nat_lt 255 c.timeout then Some Timeout else (
+    if nat_le (2 ^ 32) (bound c) then Some Figure else None)))
+
+-- what comes of limits (profile)
+abbrev pub configured_unless : Settings → Option ConfigFault → Result Settings ConfigFault
+configured_unless c (Some fault) = Err fault
+configured_unless c None = Ok c
+
+abbrev pub configured : Settings → Result Settings ConfigFault
+configured c = configured_unless c (limit_fault c)
+
+-- the unit of this number, if it is configured (manual)
+abbrev pub unit_found : Settings → ℕ → Option Shape
+unit_found c number = list.unit_found c.units number
+
+-- a unit of one block, which stands for one that isn't configured
+abbrev pub one_block : Shape
+one_block = record { number = 0; track = 1; group = 1; cylinder = 1; size = 1; id = 0; media = 0; serial = 0 }
+
+-- the unit of this number. No legal run asks for one that isn't configured (profile)
+abbrev pub unit_shape : Settings → ℕ → Shape
+unit_shape c number = unwrap_or (unit_found c number) one_block

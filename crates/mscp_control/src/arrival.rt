@@ -1,0 +1,82 @@
+// How a message is judged when it comes.
+
+ghost use Rattle.std.specs.Prelude.{◌≡◌, ◌+◌, ◌≤◌, ◌^◌, IfOk};
+ghost use Rattle.mscp_packet.specs.Opcodes.{class};
+ghost use Rattle.mscp_control.specs.Arrival.{endcode, first_block, is_immediate, is_immediate_class, judged, move_fault, unit_fault, weighed};
+ghost use Rattle.mscp_control.specs.Settings.{unit_found};
+ghost use Rattle.mscp_drive.specs.Extent.{weight};
+
+use crate::config::Config;
+use mscp_packet::{Class, Command, Order, class_of};
+
+/// Unit-Offline: the unit isn't configured.
+const UNIT_OFFLINE: u16 = 0x0003;
+
+/// Invalid Command: the opcode.
+const UNKNOWN_OPCODE: u16 = 0x0801;
+
+/// Whether a command with this opcode byte is answered without a step, so that the last credit is enough
+/// for it.
+pub(crate) fn may_take_last_credit(opcode: u8) -> bool
+    ensures { result ≡ is_immediate_class (class opcode) }
+{
+    matches!(class_of(opcode), Class::Immediate)
+}
+
+/// The weight of a transfer to the unit, or the status that refuses it.
+fn judge_move(config: &Config, number: u16, count: u32, block: u32) -> Result<u32, u16>
+    ensures weight { result ≡ weighed (move_fault config.now count block (unit_found config.now number)) (weight count) }
+    ensures small { IfOk result (λ steps. block + steps ≤ 2 ^ 32) }
+{
+    match config.units().find(number) {
+        Some(unit) => unit.check(block, count, config.longest()),
+        None => Err(UNIT_OFFLINE),
+    }
+}
+
+/// The weight of another command to the unit, or the status that refuses it.
+fn judge_unit(config: &Config, number: u16) -> Result<u32, u16>
+    ensures { result ≡ weighed (unit_fault (unit_found config.now number)) 1 }
+{
+    match config.units().find(number) {
+        Some(_) => Ok(1),
+        None => Err(UNIT_OFFLINE),
+    }
+}
+
+/// How many steps the command takes, or the status that refuses it.
+pub(crate) fn judge(config: &Config, command: &Command) -> Result<u32, u16>
+    ensures steps { result ≡ judged config.now command.now }
+    ensures small { IfOk result (λ steps. first_block command.now.order + steps ≤ 2 ^ 32) }
+{
+    match command.order {
+        Order::Invalid { status, .. } => Err(status),
+        Order::Status(_) => Ok(1),
+        Order::Move(_, count, block) => judge_move(config, command.unit, count, block),
+        Order::UnitStatus | Order::Available | Order::Online | Order::SetUnit => {
+            judge_unit(config, command.unit)
+        }
+        Order::Abort(_) | Order::SetController(_) => Err(UNKNOWN_OPCODE),
+    }
+}
+
+/// Whether the order is answered when it comes.
+pub(crate) fn is_immediate(order: &Order) -> bool
+    ensures { result ≡ is_immediate order.now }
+{
+    matches!(
+        order,
+        Order::Abort(_) | Order::Status(_) | Order::UnitStatus | Order::SetController(_)
+    )
+}
+
+/// The endcode of the command's end.
+pub(crate) fn endcode_of(command: &Command) -> u8
+    ensures { result ≡ endcode command.now.order }
+{
+    match command.order {
+        Order::Invalid { status: 0x0801, .. } => 0x80,
+        Order::Abort(_) | Order::SetController(_) => 0x80,
+        _ => command.opcode() | 0x80,
+    }
+}

@@ -1,0 +1,137 @@
+// The limits of a controller, and its units.
+
+ghost use Rattle.std.specs.Prelude.{◌≡◌};
+
+#[cfg(test)]
+pub(crate) mod tests;
+
+use mscp_drive::Units;
+use std::marker::Model;
+
+/// Why limits are refused: the first that holds, in this order.
+#[derive(Clone, Copy, Debug, PartialEq, Eq)]
+pub enum ConfigFault {
+    /// Credits not 2 to 64.
+    Credits,
+    /// The longest transfer not 1 to 8,388,608 blocks.
+    Longest,
+    /// The controller timeout not 1 to 255 seconds.
+    Timeout,
+    /// Figures could exceed 32 bits.
+    Figure,
+}
+
+/// The limits of a controller, and its units.
+#[derive(Debug, Drop, PartialEq)]
+pub struct Config {
+    credits: u32,
+    passing: u32,
+    longest: u32,
+    timeout: u16,
+    id: u64,
+    units: Units,
+}
+
+// A clause sees the limits and the units.
+impl Model for Config {
+    ghost use Rattle.mscp_control.specs.Settings.{IsValid, Settings};
+
+    ghost Value = { Settings };
+
+    ghost view = { λ c. record { credits = c.credits; passing = c.passing; longest = c.longest; timeout = c.timeout; id = c.id; units = c.units } };
+
+    ghost invariant = { λ c. IsValid (record { credits = c.credits; passing = c.passing; longest = c.longest; timeout = c.timeout; id = c.id; units = c.units }) };
+
+    ghost inverse = { λ s. record { credits = s.credits; passing = s.passing; longest = s.longest; timeout = s.timeout; id = s.id; units = s.units } };
+}
+
+impl Config {
+    ghost use Rattle.mscp_control.specs.Settings.{configured, IsValid, Settings};
+
+    /// The limits, if a controller can keep them: `credits` commands and untaken ends at most, each waiting
+    /// command passed at most `passing` times, transfers of at most `longest` blocks, and a controller
+    /// timeout in seconds and a controller identifier, which the host is told.
+    pub fn new(
+        credits: u32,
+        passing: u32,
+        longest: u32,
+        timeout: u16,
+        id: u64,
+        units: Units,
+    ) -> Result<Config, ConfigFault>
+        ensures { let s : Settings = record { credits = credits; passing = passing; longest = longest; timeout = timeout; id = id; units = units } in
+            result ≡ configured s }
+    {
+        // The list of the units tells that it is one.
+        let _units = units.list();
+        if !(2..=64).contains(&credits) {
+            return Err(ConfigFault::Credits);
+        }
+        if !(1..=8_388_608).contains(&longest) {
+            return Err(ConfigFault::Longest);
+        }
+        if !(1..=255).contains(&timeout) {
+            return Err(ConfigFault::Timeout);
+        }
+        let turns = u64::from(credits - 1) + u64::from(passing);
+        if turns * u64::from(longest) > u64::from(u32::MAX) {
+            return Err(ConfigFault::Figure);
+        }
+        Ok(Config {
+            credits,
+            passing,
+            longest,
+            timeout,
+            id,
+            units,
+        })
+    }
+
+    /// How many commands and untaken ends there may be at once.
+    pub fn credits(&self) -> u32
+        ensures value { result ≡ self.now.credits }
+        ensures valid { IsValid self.now }
+    {
+        self.credits
+    }
+
+    /// How often a waiting command may be passed.
+    pub fn passing(&self) -> u32
+        ensures value { result ≡ self.now.passing }
+        ensures valid { IsValid self.now }
+    {
+        self.passing
+    }
+
+    /// The longest transfer, in blocks.
+    pub fn longest(&self) -> u32
+        ensures value { result ≡ self.now.longest }
+        ensures valid { IsValid self.now }
+    {
+        self.longest
+    }
+
+    /// The controller timeout in seconds, which the host is told.
+    pub fn timeout(&self) -> u16
+        ensures value { result ≡ self.now.timeout }
+        ensures valid { IsValid self.now }
+    {
+        self.timeout
+    }
+
+    /// The controller identifier, which the host is told.
+    pub fn id(&self) -> u64
+        ensures value { result ≡ self.now.id }
+        ensures valid { IsValid self.now }
+    {
+        self.id
+    }
+
+    /// The units.
+    pub fn units(&self) -> &Units
+        ensures value { result.now ≡ self.now.units }
+        ensures valid { IsValid self.now }
+    {
+        &self.units
+    }
+}

@@ -1,0 +1,12 @@
+// What is true of every legal trace, from the definitions alone.
+
+ghost use Rattle.mscp_control.specs.Headline.{LegalTracesMakeProgress};
+
+/// Every legal trace of a valid configuration, whoever answered it, keeps the promise: untaken and waiting
+/// commands never exceed the credits, no start passes a sequential command of its unit, a sequential command
+/// passes none of its unit, and no command is passed more often than the passing limit. Every waiting
+/// command's figure falls at each step and never rises between steps, is at least 1 exactly while the command
+/// waits, and at most the bound; and each command ends within so many steps.
+pub fn legal_traces_make_progress()
+    ensures { LegalTracesMakeProgress }
+{}
