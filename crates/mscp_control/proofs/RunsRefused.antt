@@ -18,7 +18,8 @@ use Rattle.mscp_control.specs.Legal.{IsLegal, block_of}
 use Rattle.mscp_control.proofs.Legals.{legal_from, by_serving}
 use Rattle.mscp_control.proofs.Literals.{settings, came_online, read, raw, queued, answered, took, looked, served, moved}
 
--- Messages that no command is made of: an opcode that no command has, a unit that is not configured, and a read of 31 bytes.
+-- Messages that are answered at once with a fault: an opcode that no command has, a unit that is not configured, a
+-- read of 31 bytes, and an MSCP version that there is not.
 abbrev pub invalid : Trace
 invalid =
     raw (5 ∷ 0 ∷ 0 ∷ 0 ∷ 0 ∷ 0 ∷ 0 ∷ 0 ∷ 0x13 ∷ 0 ∷ 0 ∷ 0 ∷ []) (Ok (sents.Answered 5 None))
@@ -27,11 +28,24 @@ invalid =
     ∷ took ((6 ∷ 0 ∷ 0 ∷ 0 ∷ 7 ∷ 0 ∷ 0 ∷ 0 ∷ 0xA1 ∷ 0 ∷ 3 ∷ 0 ∷ []) ++ replicate 20 0)
     ∷ raw ((8 ∷ 0 ∷ 0 ∷ 0 ∷ 0 ∷ 0 ∷ 0 ∷ 0 ∷ 0x21 ∷ 0 ∷ 0 ∷ 0 ∷ []) ++ replicate 19 0) (Ok (sents.Answered 8 None))
     ∷ took ((8 ∷ 0 ∷ 0 ∷ 0 ∷ 0 ∷ 0 ∷ 0 ∷ 0 ∷ 0xA1 ∷ 0 ∷ 1 ∷ 0 ∷ []) ++ replicate 20 0)
+    ∷ raw (1 ∷ 0 ∷ 0 ∷ 0 ∷ 0 ∷ 0 ∷ 0 ∷ 0 ∷ 4 ∷ 0 ∷ 0 ∷ 0 ∷ 1 ∷ 0 ∷ []) (Ok (sents.Answered 1 None))
+    ∷ took ((1 ∷ 0 ∷ 0 ∷ 0 ∷ 0 ∷ 0 ∷ 0 ∷ 0 ∷ 0x84 ∷ 0 ∷ 1 ∷ 0x0C ∷ []) ++ replicate 16 0)
     ∷ []
 
 pub invalid_legal : IsLegal (settings 5 2) invalid
 unfolding moment collect command_of command is_waiting waiting done good passes_at passes is_free is_startable startable figure figure_of is_online head_cylinder head_up answer outcome ends untaken balance outstanding arrival block_of
-invalid_legal = legal_from (settings 5 2) invalid (refl, (refl, (refl, (refl, (refl, (refl, tt))))))
+invalid_legal = legal_from (settings 5 2) invalid (refl, (refl, (refl, (refl, (refl, (refl, (refl, (refl, tt))))))))
+
+-- A host is told of its controller: a timeout of 60 seconds, and identifier 1.
+abbrev pub told : Trace
+told =
+    answered 1 0 (orders.SetController 0)
+    ∷ took ((1 ∷ 0 ∷ 0 ∷ 0 ∷ 0 ∷ 0 ∷ 0 ∷ 0 ∷ 0x84 ∷ 0 ∷ 0 ∷ 0 ∷ 0 ∷ 0 ∷ 0 ∷ 0 ∷ 60 ∷ 0 ∷ 0 ∷ 0 ∷ 1 ∷ []) ++ replicate 7 0)
+    ∷ []
+
+pub told_legal : IsLegal (settings 4 2) told
+unfolding moment collect command_of command is_waiting waiting done good passes_at passes is_free is_startable startable figure figure_of is_online head_cylinder head_up answer outcome ends untaken balance outstanding arrival block_of
+told_legal = legal_from (settings 4 2) told (refl, (refl, tt))
 
 -- Until aborts are served an abort is answered as an unknown opcode, and aborts nothing: the read goes on.
 abbrev pub unserved : Trace

@@ -83,8 +83,12 @@ abbrev pub unit_fault : Option Shape → Option ℕ
 unit_fault None = Some 0x0003
 unit_fault (Some unit) = None
 
--- the status that refuses an order to a unit when it comes, if one does. So far ABORT and SET CONTROLLER
--- CHARACTERISTICS are answered as unknown opcodes (manual, the order of the tests is the profile's)
+-- the status that refuses SET CONTROLLER CHARACTERISTICS of a version: there is version 0 alone (manual)
+abbrev pub version_fault : ℕ → Option ℕ
+version_fault version = if version == 0 then None else Some 0x0C01
+
+-- the status that refuses an order to a unit when it comes, if one does. So far ABORT is answered as an unknown
+-- opcode (manual, the order of the tests is the profile's)
 abbrev pub order_fault : Settings → ℕ → Order → Option ℕ
 order_fault c number (orders.Invalid opcode status) = Some status
 order_fault c number (orders.Status other) = None
@@ -93,7 +97,8 @@ order_fault c number orders.UnitStatus = unit_fault (unit_found c number)
 order_fault c number orders.Available = unit_fault (unit_found c number)
 order_fault c number orders.Online = unit_fault (unit_found c number)
 order_fault c number orders.SetUnit = unit_fault (unit_found c number)
-order_fault c number order = Some 0x0801
+order_fault c number (orders.SetController version) = version_fault version
+order_fault c number (orders.Abort other) = Some 0x0801
 
 abbrev pub fault_of : Settings → Command → Option ℕ
 fault_of c command = order_fault c command.unit command.order
@@ -116,5 +121,4 @@ is_queued c command = if is_immediate command.order then false else is_none (fau
 abbrev pub endcode : Order → ℕ
 endcode (orders.Invalid opcode status) = if status == 0x0801 then 0x80 else bit_or opcode 0x80
 endcode (orders.Abort other) = 0x80
-endcode (orders.SetController version) = 0x80
 endcode order = bit_or (opcode_byte order) 0x80

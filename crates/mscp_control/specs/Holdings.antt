@@ -1,6 +1,6 @@
 -- What a controller holds, and how each event changes it. The waiting commands are a list of records in
 -- order of arrival, and the oldest is served. Each unit has a drive.
-use Rattle.std.specs.Prelude.{ℕ, ◌+◌, ◌-◌, ◌*◌, Bool, true, false, find, unwrap_or, nat_eq, nat_lt, if◌then◌else◌, List, [], ◌∷◌, ◌++◌, length, map, take, drop, filter, sum_by, slice_get, slice_index_or, Option, Some, None, option_map, option_to_list, Result, Ok, Err}
+use Rattle.std.specs.Prelude.{◌≡◌, ℕ, ◌+◌, ◌-◌, ◌*◌, Bool, true, false, find, unwrap_or, nat_eq, nat_lt, if◌then◌else◌, List, [], ◌∷◌, ◌++◌, length, map, take, drop, filter, sum_by, slice_get, slice_index_or, Option, Some, None, option_map, option_to_list, Result, Ok, Err}
 use Rattle.std.specs.List.{position, range_with_len}
 use Rattle.mscp_packet.specs.declared.command.Order.{Order}
 use Rattle.mscp_packet.specs.declared.command.Order.TheVariants as orders
@@ -51,6 +51,11 @@ drive_of ds number = unwrap_or (find (λ d. nat_eq d.unit.number number) ds) (fr
 -- the credits that are free (manual)
 abbrev pub balance_of : Holdings → ℕ
 balance_of h = h.settings.credits - (length h.waiting + length h.untaken)
+
+-- the account: the credits that are free, one for each waiting command, and one for each untaken end are all that
+-- there are (manual)
+abbrev pub IsBalanced : Holdings → Type 0
+IsBalanced h = balance_of h + length h.waiting + length h.untaken ≡ h.settings.credits
 
 -- the reference numbers that wait or whose ends weren't taken (manual)
 abbrev pub outstanding_of : Holdings → List ℕ

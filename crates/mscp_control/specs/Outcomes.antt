@@ -39,10 +39,15 @@ answer_status online order = 0x0000
 abbrev pub unit_body : Shape → EndBody
 unit_body s = bodies.UnitStatus s.id s.media s.track s.group s.cylinder
 
+-- what SET CONTROLLER CHARACTERISTICS tells of a controller (manual)
+abbrev pub controller_body : Settings → EndBody
+controller_body c = bodies.Controller c.timeout c.id
+
 -- the body of an answered order that isn't refused, to this unit and with the figure that it asks for (manual)
 abbrev pub answer_body : Settings → ℕ → ℕ → Order → EndBody
 answer_body c figure number (orders.Status other) = bodies.Status other figure
 answer_body c figure number orders.UnitStatus = unit_body (unit_shape c number)
+answer_body c figure number (orders.SetController version) = controller_body c
 answer_body c figure number order = refused_body (endcode order)
 
 -- the end of an answered command that is refused with this status, or isn't (manual)

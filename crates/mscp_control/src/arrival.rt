@@ -2,7 +2,7 @@
 
 ghost use Rattle.std.specs.Prelude.{◌≡◌, ◌+◌, ◌≤◌, ◌^◌, IfOk};
 ghost use Rattle.mscp_packet.specs.Opcodes.{class};
-ghost use Rattle.mscp_control.specs.Arrival.{endcode, first_block, is_immediate, is_immediate_class, judged, move_fault, unit_fault, weighed};
+ghost use Rattle.mscp_control.specs.Arrival.{endcode, first_block, is_immediate, is_immediate_class, judged, move_fault, unit_fault, version_fault, weighed};
 ghost use Rattle.mscp_control.specs.Settings.{unit_found};
 ghost use Rattle.mscp_drive.specs.Extent.{weight};
 
@@ -14,6 +14,9 @@ const UNIT_OFFLINE: u16 = 0x0003;
 
 /// Invalid Command: the opcode.
 const UNKNOWN_OPCODE: u16 = 0x0801;
+
+/// Invalid Command: the MSCP version.
+const UNKNOWN_VERSION: u16 = 0x0C01;
 
 /// Whether a command with this opcode byte is answered without a step, so that the last credit is enough
 /// for it.
@@ -44,6 +47,16 @@ fn judge_unit(config: &Config, number: u16) -> Result<u32, u16>
     }
 }
 
+/// The weight of SET CONTROLLER CHARACTERISTICS of this MSCP version, or the status that refuses it.
+fn judge_version(version: u16) -> Result<u32, u16>
+    ensures { result ≡ weighed (version_fault version) 1 }
+{
+    match version {
+        0 => Ok(1),
+        _ => Err(UNKNOWN_VERSION),
+    }
+}
+
 /// How many steps the command takes, or the status that refuses it.
 pub(crate) fn judge(config: &Config, command: &Command) -> Result<u32, u16>
     ensures steps { result ≡ judged config.now command.now }
@@ -56,7 +69,8 @@ pub(crate) fn judge(config: &Config, command: &Command) -> Result<u32, u16>
         Order::UnitStatus | Order::Available | Order::Online | Order::SetUnit => {
             judge_unit(config, command.unit)
         }
-        Order::Abort(_) | Order::SetController(_) => Err(UNKNOWN_OPCODE),
+        Order::SetController(version) => judge_version(version),
+        Order::Abort(_) => Err(UNKNOWN_OPCODE),
     }
 }
 
@@ -76,7 +90,7 @@ pub(crate) fn endcode_of(command: &Command) -> u8
 {
     match command.order {
         Order::Invalid { status: 0x0801, .. } => 0x80,
-        Order::Abort(_) | Order::SetController(_) => 0x80,
+        Order::Abort(_) => 0x80,
         _ => command.opcode() | 0x80,
     }
 }

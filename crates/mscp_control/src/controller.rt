@@ -1,11 +1,11 @@
 // A controller: its waiting commands, its untaken ends, and its credits.
 
-ghost use Rattle.std.specs.Prelude.{◌≡◌, ◌+◌, ◌<◌, ◌≤◌, ◌^◌, true, [], ◌∷◌, ◌++◌, drop, length, None, nat_eq, option_map, slice_get, slice_set};
+ghost use Rattle.std.specs.Prelude.{◌≡◌, ◌+◌, ◌<◌, ◌≤◌, ◌^◌, true, [], ◌∷◌, ◌++◌, drop, length, IfErr, None, nat_eq, option_map, slice_get, slice_set};
 ghost use Rattle.std.specs.List.{list_any};
 ghost use Rattle.mscp_packet.specs.Ends.{end_bytes};
 ghost use Rattle.mscp_control.specs.Arrival.{credit_fault, fault_of, first_block, holds, is_queued, order_weight};
 ghost use Rattle.mscp_control.specs.Settings.{IsValid};
-ghost use Rattle.mscp_control.specs.Holdings.{advanced, after, after_message, after_step, after_take, answer_to_message, answered_end, arrives, balance_of, becomes, ended, entry_of, figure_of_reference, figures, fresh, outstanding_of, queued, record_at, report_of, served_drives};
+ghost use Rattle.mscp_control.specs.Holdings.{IsBalanced, advanced, after, after_message, after_step, after_take, answer_to_message, answered_end, arrives, balance_of, becomes, ended, entry_of, figure_of_reference, figures, fresh, outstanding_of, queued, record_at, report_of, served_drives};
 
 #[cfg(test)]
 mod tests;
@@ -16,7 +16,7 @@ use crate::config::Config;
 use crate::drive::{Drive, drive_of, drives_of, serve_drive};
 use crate::event::{Entry, Event, SendFault, Sent};
 use crate::figure::{figure_at, figure_of_reference};
-use crate::outcome::{end_with, refused_end, unit_status_end};
+use crate::outcome::{controller_end, end_with, refused_end, unit_status_end};
 use crate::record::Record;
 use crate::service::{end_of, seek_to, touched};
 use arrayvec::ArrayVec;
@@ -65,6 +65,7 @@ impl Controller {
     /// A controller to which nothing came so far.
     pub fn new(config: Config) -> Controller
         ensures fresh { result ≡ fresh config }
+        ensures account { IsBalanced result }
         ensures valid { IsValid config }
     {
         let drives = drives_of(config.units().list());
@@ -79,7 +80,8 @@ impl Controller {
     /// How many credits are free: each waiting command and each untaken end holds one (manual, "Flow
     /// Control").
     pub fn balance(&self) -> u32
-        ensures { result ≡ balance_of self.now }
+        ensures value { result ≡ balance_of self.now }
+        ensures account { result + length self.now.waiting + length self.now.untaken ≡ self.now.settings.credits }
     {
         let held = self.waiting.len() + self.untaken.len();
         self.config.credits().saturating_sub(held as u32)
@@ -88,14 +90,16 @@ impl Controller {
     /// The figure of the waiting command with the reference number, 0 if there is none: how many steps it
     /// may still wait, at most.
     pub fn figure(&self, reference: u32) -> u32
-        ensures { result ≡ figure_of_reference self.now.settings self.now.waiting reference }
+        ensures value { result ≡ figure_of_reference self.now.settings self.now.waiting reference }
+        ensures account { IsBalanced self.now }
     {
         figure_of_reference(&self.config, self.waiting.as_slice(), reference)
     }
 
     /// Reference number and figure of each waiting command, oldest first.
     pub fn look(&self) -> ArrayVec<(u32, u32), 64>
-        ensures { result.items ≡ figures self.now.settings self.now.waiting }
+        ensures value { result.items ≡ figures self.now.settings self.now.waiting }
+        ensures account { IsBalanced self.now }
     {
         let records = self.waiting.as_slice();
         let mut list = ArrayVec::new();
@@ -116,11 +120,10 @@ impl Controller {
         waits || ended
     }
 
-    /// Why a command with this opcode byte and reference number is refused, if it is.
-    fn credit_fault(&self, opcode: u8, reference: u32) -> Option<SendFault>
-        ensures { result ≡ credit_fault (balance_of self.now) (outstanding_of self.now) opcode reference }
+    /// Why a command with this opcode byte and reference number is refused at this balance, if it is.
+    fn credit_fault(&self, balance: u32, opcode: u8, reference: u32) -> Option<SendFault>
+        ensures { result ≡ credit_fault balance (outstanding_of self.now) opcode reference }
     {
-        let balance = self.balance();
         if balance == 0 {
             return Some(SendFault::NoCredit);
         }
@@ -139,7 +142,8 @@ impl Controller {
         requires weight { weight ≡ order_weight command.order }
         requires small { first_block command.order + weight ≤ 2 ^ 32 }
         requires free { 2 ≤ balance_of self.old }
-        ensures { self.new ≡ queued self.old command }
+        ensures after { self.new ≡ queued self.old command }
+        ensures account { IsBalanced self.new }
     {
         self.waiting.push(Record {
             command,
@@ -151,7 +155,8 @@ impl Controller {
     /// Makes an end.
     fn end(&mut self, end: End)
         requires { 1 ≤ balance_of self.old }
-        ensures { self.new ≡ ended self.old end }
+        ensures after { self.new ≡ ended self.old end }
+        ensures account { IsBalanced self.new }
     {
         self.untaken.push(end);
     }
@@ -169,6 +174,7 @@ impl Controller {
             Order::UnitStatus => {
                 unit_status_end(command, &drive_of(self.drives.as_slice(), command.unit))
             }
+            Order::SetController(_) => controller_end(command, &self.config),
             _ => refused_end(command, 0),
         }
     }
@@ -179,6 +185,7 @@ impl Controller {
         requires spare { is_queued self.old.settings command ≡ true → 2 ≤ balance_of self.old }
         ensures sent { result ≡ becomes self.old.settings command }
         ensures after { self.new ≡ arrives self.old command }
+        ensures account { IsBalanced self.new }
     {
         match judge(&self.config, &command) {
             Ok(weight) if !is_immediate(&command.order) => {
@@ -198,13 +205,16 @@ impl Controller {
     pub fn send(&mut self, b: &[u8]) -> Result<Sent, SendFault>
         ensures answer { result ≡ answer_to_message self.old b.now }
         ensures after { self.new ≡ after_message self.old b.now }
+        ensures unchanged { IfErr result (λ fault. self.new ≡ self.old) }
+        ensures account { IsBalanced self.new }
     {
+        let balance = self.balance();
         let command = match read_command(b) {
             Ok(command) => command,
             Err(PacketFault::Short) => return Err(SendFault::Short),
             Err(PacketFault::Long) => return Err(SendFault::Long),
         };
-        match self.credit_fault(b[8], command.reference) {
+        match self.credit_fault(balance, b[8], command.reference) {
             Some(fault) => Err(fault),
             None => Ok(self.arrive(command)),
         }
@@ -214,6 +224,7 @@ impl Controller {
     pub fn take(&mut self) -> Option<ArrayVec<u8, 48>>
         ensures answer { result ≡ option_map (λ e. record { items = end_bytes e }) (slice_get self.old.untaken 0) }
         ensures after { self.new ≡ after_take self.old }
+        ensures account { IsBalanced self.new }
     {
         if self.untaken.is_empty() {
             return None;
@@ -257,6 +268,7 @@ impl Controller {
     pub fn step(&mut self, block: Block) -> Report
         ensures answer { result ≡ report_of block self.old.drives self.old.waiting }
         ensures after { self.new ≡ after_step self.old block }
+        ensures account { IsBalanced self.new }
     {
         if self.waiting.is_empty() {
             return Report::Idle;
@@ -281,7 +293,7 @@ impl Controller {
     }
 
     /// What is answered to an event.
-    pub fn answer(&mut self, event: &Event) -> Entry
+    pub(crate) fn answer(&mut self, event: &Event) -> Entry
         ensures entry { result ≡ entry_of self.old event.now }
         ensures after { self.new ≡ after self.old event.now }
     {

@@ -14,6 +14,8 @@ mod outcome;
 mod record;
 mod running;
 mod service;
+#[cfg(test)]
+mod tests;
 
 pub use crate::block::{Block, FaultStatus, Report};
 pub use crate::config::{Config, ConfigFault};

@@ -1,10 +1,10 @@
 // The ends that commands get.
 
 ghost use Rattle.std.specs.Prelude.{◌≡◌, if◌then◌else◌};
-ghost use Rattle.mscp_control.specs.Outcomes.{end_with, good_status, bad_status, is_success, moved_body, online_body, outcome_at, outcome_body, refused_end, unit_body};
+ghost use Rattle.mscp_control.specs.Outcomes.{bad_status, controller_body, end_with, good_status, is_success, moved_body, online_body, outcome_body, refused_end, unit_body};
 
 use crate::arrival::endcode_of;
-use crate::block::Block;
+use crate::config::Config;
 use crate::drive::Drive;
 use mscp_drive::Unit;
 use mscp_packet::{Command, End, EndBody, Order};
@@ -59,6 +59,17 @@ pub(crate) fn unit_status_end(command: &Command, drive: &Drive) -> End
         cylinder: unit.cylinder_size(),
     };
     end_with(command, status, body)
+}
+
+/// The end of a SET CONTROLLER CHARACTERISTICS of this controller.
+pub(crate) fn controller_end(command: &Command, config: &Config) -> End
+    ensures { result ≡ end_with command.now 0x0000 (controller_body config.now) }
+{
+    let body = EndBody::Controller {
+        timeout: config.timeout(),
+        id: config.id(),
+    };
+    end_with(command, SUCCESS, body)
 }
 
 /// The status of a command that a good step ends, on a unit that may be online.

@@ -25,6 +25,14 @@ fn sent(rt: &impl Abort, bytes: &[u8]) -> Event {
     Event::Send(message)
 }
 
+/// A message that got its end at once.
+fn answered(reference: u32) -> Entry {
+    Entry::Sent(Ok(Sent::Answered {
+        reference,
+        aborted: None,
+    }))
+}
+
 /// A poll of command 9, which isn't there.
 fn poll(rt: &impl Abort, reference: u8) -> Event {
     sent(
@@ -43,12 +51,6 @@ fn a_short_message_costs_no_credit(rt: HostRuntime) {
         poll(&rt, 3),
     ];
     let entries = run(rt.alloc(), config, &events).ok().expect(&rt, "memory");
-    let answered = |reference| {
-        Entry::Sent(Ok(Sent::Answered {
-            reference,
-            aborted: None,
-        }))
-    };
     let wanted = [
         Entry::Sent(Err(SendFault::Short)),
         answered(1),
@@ -113,11 +115,87 @@ fn a_bad_online_leaves_the_unit_available(rt: HostRuntime) {
             ended: Some(online),
         }),
         taken(&rt, &told),
-        Entry::Sent(Ok(Sent::Answered {
-            reference: 2,
-            aborted: None,
-        })),
+        answered(2),
         taken(&rt, &status),
     ];
+    assert_eq!(rt; entries.as_slice(), wanted.as_slice());
+}
+
+#[test]
+fn commands_that_are_not_valid_are_answered_at_once(rt: HostRuntime) {
+    let mut no_unit = [0; 32];
+    no_unit[0] = 6;
+    no_unit[4] = 7;
+    no_unit[8] = 0x21;
+    no_unit[13] = 2;
+    let mut short = [0; 31];
+    short[0] = 8;
+    short[8] = 0x21;
+    let events = [
+        sent(&rt, b"\x05\0\0\0\0\0\0\0\x13\0\0\0"),
+        Event::Take,
+        sent(&rt, &no_unit),
+        Event::Take,
+        sent(&rt, &short),
+        Event::Take,
+        sent(&rt, b"\x01\0\0\0\0\0\0\0\x04\0\0\0\x01\0"),
+        Event::Take,
+    ];
+    let mut offline = [0; 32];
+    offline[0] = 6;
+    offline[4] = 7;
+    offline[8] = 0xA1;
+    offline[10] = 0x03;
+    let mut length = [0; 32];
+    length[0] = 8;
+    length[8] = 0xA1;
+    length[10] = 0x01;
+    let mut version = [0; 28];
+    version[0] = 1;
+    version[8] = 0x84;
+    version[10] = 0x01;
+    version[11] = 0x0C;
+    let entries = run(rt.alloc(), config(&rt, 5, 2), &events)
+        .ok()
+        .expect(&rt, "memory");
+    let wanted = [
+        answered(5),
+        taken(&rt, b"\x05\0\0\0\0\0\0\0\x80\0\x01\x08"),
+        answered(6),
+        taken(&rt, &offline),
+        answered(8),
+        taken(&rt, &length),
+        answered(1),
+        taken(&rt, &version),
+    ];
+    assert_eq!(rt; entries.as_slice(), wanted.as_slice());
+}
+
+#[test]
+fn a_poll_of_a_number_that_is_not_there_is_answered_by_zero(rt: HostRuntime) {
+    let events = [
+        sent(&rt, b"\x02\0\0\0\0\0\0\0\x02\0\0\0\x4d\0\0\0"),
+        Event::Take,
+    ];
+    let entries = run(rt.alloc(), config(&rt, 4, 2), &events)
+        .ok()
+        .expect(&rt, "memory");
+    let end = b"\x02\0\0\0\0\0\0\0\x82\0\0\0\x4d\0\0\0\0\0\0\0";
+    let wanted = [answered(2), taken(&rt, end)];
+    assert_eq!(rt; entries.as_slice(), wanted.as_slice());
+}
+
+#[test]
+fn a_host_is_told_of_its_controller(rt: HostRuntime) {
+    let events = [sent(&rt, b"\x01\0\0\0\0\0\0\0\x04\0\0\0\0\0"), Event::Take];
+    let mut told = [0; 28];
+    told[0] = 1;
+    told[8] = 0x84;
+    told[16] = 60;
+    told[20] = 1;
+    let entries = run(rt.alloc(), config(&rt, 4, 2), &events)
+        .ok()
+        .expect(&rt, "memory");
+    let wanted = [answered(1), taken(&rt, &told)];
     assert_eq!(rt; entries.as_slice(), wanted.as_slice());
 }

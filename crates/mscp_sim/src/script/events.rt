@@ -62,6 +62,7 @@ fn read_request(mut words: Words<'_>) -> Result<Request, Cause> {
         Some(b"available") => read_plain(Order::Available, words),
         Some(b"setunit") => read_plain(Order::SetUnit, words),
         Some(b"unitstatus") => read_plain(Order::UnitStatus, words),
+        Some(b"setcontroller") => read_controller(words),
         Some(b"status") => read_status(words),
         Some(b"step") => read_steps(words),
         Some(b"take") => alone(Request::Take, words),
@@ -93,6 +94,15 @@ fn read_plain(order: Order, words: Words<'_>) -> Result<Request, Cause> {
         reference: fields.wide()?,
         unit: fields.narrow()?,
         order,
+    }))
+}
+
+/// A SET CONTROLLER CHARACTERISTICS: its reference number.
+fn read_controller(words: Words<'_>) -> Result<Request, Cause> {
+    Ok(Request::Send(Command {
+        reference: words.exactly(1)?.wide()?,
+        unit: 0,
+        order: Order::SetController(0),
     }))
 }
 

@@ -47,7 +47,7 @@ fn reads_a_header_and_events(rt: HostRuntime) -> Result<(), Fail> {
         &[
             HEADER,
             "read 1 0 1024 5\nstatus 2 1\ntake\nstep 1\nstatus 3 1\n take \n# no line\n\nstep 2\r\ntake\n",
-            "online 4 7\navailable 5 7\nsetunit 6 7\nunitstatus 7 7\nlook",
+            "online 4 7\navailable 5 7\nsetunit 6 7\nunitstatus 7 7\nsetcontroller 8\nlook",
         ],
     );
     let script = read_script(rt.alloc(), text.as_bytes())?;
@@ -69,6 +69,7 @@ fn reads_a_header_and_events(rt: HostRuntime) -> Result<(), Fail> {
         sent(&rt, b"\x05\0\0\0\x07\0\0\0\x08\0\0\0"),
         sent(&rt, b"\x06\0\0\0\x07\0\0\0\x0a\0\0\0"),
         sent(&rt, b"\x07\0\0\0\x07\0\0\0\x03\0\0\0"),
+        sent(&rt, b"\x08\0\0\0\0\0\0\0\x04\0\0\0\0\0\0\0\0\0"),
         Event::Look,
     ];
     assert_eq!(rt; script.events.as_slice(), wanted.as_slice());
@@ -167,6 +168,9 @@ fn tells_the_fault_of_an_event(rt: HostRuntime) {
         ("read 1 0 512 4294967296", "line 7: number"),
         ("status 1 -1", "line 7: number"),
         ("look 1", "line 7: count"),
+        ("setcontroller", "line 7: count"),
+        ("setcontroller 1 0", "line 7: count"),
+        ("setcontroller one", "line 7: number"),
         ("abort 1 2", "line 7: word"),
         ("credits 4", "line 7: word"),
         ("take\n\ntaken", "line 9: word"),

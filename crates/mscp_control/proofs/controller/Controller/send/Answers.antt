@@ -1,14 +1,14 @@
 use Rattle.std.proofs.Common.{◌≡◌, ◌∙◌, ap, sym, Ok}
-use Rattle.std.specs.Prelude.{None}
+use Rattle.std.specs.Prelude.{None, slice_index}
 use Rattle.mscp_packet.specs.Commands.{command_of}
-use Rattle.mscp_control.specs.Arrival.{refusal}
+use Rattle.mscp_control.specs.Arrival.{credit_fault, refusal}
 use Rattle.mscp_control.specs.Holdings.{arrives, balance_of, becomes, held_unless, outstanding_of, sent_unless}
 use Rattle.mscp_control.proofs.Judging.{command_is, taken}
 use Rattle.mscp_control.proofs.controller.Controller.send.Goals as goal
 
 -- the message isn't refused
 free : (c : goal.After-arrive) → refusal (balance_of c.args.self.now) (outstanding_of c.args.self.now) c.args.b.now ≡ None
-free c = taken (balance_of c.args.self.now) (outstanding_of c.args.self.now) c.args.b.now c.in-Ok.command c.in-Ok.ensures.command (sym c.credit_fault.ensures ∙ c.in-None.is)
+free c = taken (balance_of c.args.self.now) (outstanding_of c.args.self.now) c.args.b.now c.in-Ok.command c.in-Ok.ensures.command (ap (λ n. credit_fault n (outstanding_of c.args.self.now) (slice_index c.args.b.now 8) c.in-Ok.command.reference) (sym c.balance-balance.ensures.value) ∙ sym c.credit_fault.ensures ∙ c.in-None.is)
 
 pub returns-in-None-clause-answer : goal.returns-in-None-clause-answer
 returns-in-None-clause-answer c =
