@@ -1,9 +1,9 @@
 -- What each event keeps of a controller's holdings.
-use Rattle.std.proofs.Common.{◌≡◌, ℕ, ◌+◌, ◌-◌, ◌<◌, ◌≤◌, ◌^◌, Bool, true, false, cond, List, [], ◌∷◌, ◌++◌, map, length, take, drop, set, get_or, append_assoc, ap, refl, sym, subst, ◌∙◌, arith}
+use Rattle.std.proofs.Common.{◌≡◌, ℕ, ◌+◌, ◌<◌, ◌≤◌, Bool, true, false, cond, List, [], ◌∷◌, ◌++◌, map, length, take, drop, set, get_or, append_assoc, ap, refl, sym, subst, ◌∙◌, arith}
 use Rattle.std.specs.Prelude.{All, find, unwrap_or, nat_eq, nat_le, nat_lt, if◌then◌else◌, Option, Some, None, is_some, is_none}
 use Rattle.std.proofs.Math.Nat.{le-max_left}
-use Rattle.std.proofs.lemmas.List.{length-append, length-map, length-take-le, drop_more, get_or_at, map-append, set_at, take_more}
-use Rattle.std.proofs.lemmas.List.Elements.{All-nil, All-push}
+use Rattle.std.proofs.lemmas.List.{length-map, length-take-le, drop_more, get_or_at, map-append, set_at, take_more}
+use Rattle.std.proofs.lemmas.List.Elements.{All-nil}
 use Rattle.std.proofs.lemmas.Bool.{ltb-false, false≢true, true≢false}
 use Rattle.mscp_packet.specs.declared.command.Command.{Command}
 use Rattle.mscp_packet.specs.declared.command.MoveKind.{MoveKind}
@@ -16,7 +16,7 @@ use Rattle.mscp_control.specs.declared.block.Block.{Block}
 use Rattle.mscp_control.specs.declared.drive.Drive.{Drive}
 use Rattle.mscp_control.specs.declared.record.Record.{Record}
 use Rattle.mscp_control.specs.Settings.{Settings, IsValid, one_block, unit_found, unit_shape}
-use Rattle.mscp_control.specs.Arrival.{fault_of, first_block, is_immediate, is_queued, move_fault, order_fault, order_weight}
+use Rattle.mscp_control.specs.Arrival.{fault_of, is_immediate, is_queued, move_fault, order_fault, order_weight}
 use Rattle.mscp_control.specs.Outcomes.{answer_body, answer_status, end_with, own_end_with, unit_body}
 use Rattle.mscp_control.specs.Holdings.{Holdings, answered_end, drive_after, drive_of, figure_asked, fresh_drive, served_drives}
 use Rattle.mscp_control.specs.Kept.{IsHeld, IsKept}
@@ -60,21 +60,6 @@ sound_when false fault h = none_is fault h
 -- a command that is queued is servable
 pub servable : (c : Settings) (command : Command) → 1 ≤ c.longest → is_queued c command ≡ true → IsServable c command.order
 servable c command l h = order_servable c command.unit command.order l (sound_when (is_immediate command.order) (fault_of c command) h)
-
--- what waits of a command when it is queued
-pub kept_fresh : (c : Settings) (command : Command) (steps : ℕ) → 1 ≤ c.longest → is_queued c command ≡ true → steps ≡ order_weight command.order → first_block command.order + steps ≤ 2 ^ 32
-    → let r : Record = record { command = command; weight = steps; done = 0 } in IsKept c r
-kept_fresh c command steps l h w s = let some = (servable c command l h).some in record { sound = h; weight = w; small = s; unfinished = omega arith }
-
--- a command is queued at a balance of at least 2
-pub held_queued : (c : Settings) (ws : List Record) (us : List End) (ds : List Drive) (r : Record) → IsHeld c ws us ds → 2 ≤ c.credits - (length ws + length us) → IsKept c r → IsHeld c (ws ++ r ∷ []) us ds
-held_queued c ws us ds r h two k = let n = length-append ws (r ∷ []) in record {
-  valid = h.valid;
-  covered = omega arith;
-  spare = omega arith;
-  each = All-push (IsKept c) ws r h.each k;
-  units = h.units;
-}
 
 -- a step changes no unit
 pub units_served : (k : Block) (r : Record) (ds : List Drive) → map (λ d. d.unit) (served_drives k r ds) ≡ map (λ d. d.unit) ds

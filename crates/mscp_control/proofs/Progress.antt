@@ -7,11 +7,12 @@ use Rattle.mscp_control.specs.Settings.{Settings, IsValid, bound}
 use Rattle.mscp_control.specs.History.{Trace, Moment, moment, positions, Service, service_in, WhenStarted}
 use Rattle.mscp_control.specs.Commands.{reference, weight, is_waiting, waiting, done, left, steps_after}
 use Rattle.mscp_control.specs.Passing.{passes, is_free}
-use Rattle.mscp_control.specs.Figures.{figure}
+use Rattle.mscp_control.specs.Figures.{figure, figure_of}
 use Rattle.mscp_control.specs.Legal.{IsRight, IsLegal}
 use Rattle.mscp_control.specs.Headline.{IsFreeStart, Promise}
 use Rattle.mscp_control.proofs.Lists.{every_weaker, every_append, every_both}
-use Rattle.mscp_control.proofs.Waits.{waits_below}
+use Rattle.mscp_control.proofs.Among.{alone, figure_of_one}
+use Rattle.mscp_control.proofs.Waits.{cut_of, waits_below}
 use Rattle.mscp_control.proofs.Served.{step_right}
 use Rattle.mscp_control.proofs.Starts.{startable_of, startable_parts}
 use Rattle.mscp_control.proofs.Steady.{Steady}
@@ -93,6 +94,13 @@ small c t k x =
     λ b. elim b as (λ b. is_waiting t x ≡ b → figure c t x ≤ bound c) [ true ↦ λ e. let h = high c t k x (waits_in t x e) in omega (arith, h) | false ↦ λ e. omega (arith, figure_gone c t x e) ] in
     both (is_waiting t x) refl
 
+-- ---- polls
+
+told : (c : Settings) (t : Trace) → Steady c t → (x : ℕ) → Contains (waiting t) x → figure_of c t (reference t x) ≡ figure c t x
+told c t steady x w =
+    let P : ℕ → Type 0 = λ x. figure_of c t (reference t x) ≡ figure c t x in
+    one_of P (waiting t) (every_split P (waiting t) (λ A y B e. figure_of_one c t y A B (alone t y A B steady.apart (cut_of t A y B e)))) x w
+
 -- ---- the promise
 
 pub progress : (c : Settings) (t : Trace) → IsValid c → IsLegal c t → Promise c t
@@ -109,4 +117,5 @@ progress c t valid legal =
       within = λ i h x w. let l = low c (take i t) (at i h) x w in let k = high c (take i t) (at i h) x w in omega (arith, l, k);
       positive = λ i h x. ((λ w. low c (take i t) (at i h) x w), (λ l. some_waits c (take i t) x l));
       small = λ i h x. small c (take i t) (at i h) x;
+      polled = λ i h x w. told c (take i t) (at i h).steady x w;
     }

@@ -10,7 +10,7 @@ use Rattle.mscp_control.specs.Settings.{Settings, IsValid, bound}
 use Rattle.mscp_control.specs.History.{Trace, moment, is_step, Service, service_in, WhenStarted}
 use Rattle.mscp_control.specs.Commands.{reference, waiting, steps_after}
 use Rattle.mscp_control.specs.Passing.{is_free, passes}
-use Rattle.mscp_control.specs.Figures.{figure}
+use Rattle.mscp_control.specs.Figures.{figure, figure_of}
 use Rattle.mscp_control.specs.Ends.{untaken}
 use Rattle.mscp_control.specs.Legal.{IsLegal}
 
@@ -36,6 +36,8 @@ pub record Promise (c : Settings) (t : Trace) : Type 0 where
   pub positive : (i : ℕ) → i ≤ length t → (x : ℕ) → Contains (waiting (take i t)) x ↔ (1 ≤ figure c (take i t) x)
   -- and at most the bound (profile)
   pub small : (i : ℕ) → i ≤ length t → (x : ℕ) → figure c (take i t) x ≤ bound c
+  -- a poll of a waiting command's reference number is answered by its figure, and by no other's (manual)
+  pub polled : (i : ℕ) → i ≤ length t → (x : ℕ) → Contains (waiting (take i t)) x → figure_of c (take i t) (reference (take i t) x) ≡ figure c (take i t) x
 
 -- what is promised of these events and the entries that a run answers to them (profile)
 pub record Headline (c : Settings) (events : List Event) (entries : List Entry) : Type 0 where

@@ -1,7 +1,5 @@
 // A waiting command.
 
-ghost use Rattle.std.specs.Prelude.{◌≡◌, ◌≤◌};
-
 use mscp_packet::{Command, Order};
 
 /// A waiting command: how many steps it takes, and how many it had.

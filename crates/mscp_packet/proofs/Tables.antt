@@ -1,7 +1,7 @@
 -- The tables, line by line.
 use Rattle.std.proofs.Common.{◌≡◌, ◌+◌, ◌<◌, ◌≤◌, refl, arith, rules}
 use Rattle.std.specs.Prelude.{IsSome, Some}
-use Rattle.mscp_packet.specs.Opcodes.{least, opcode_of, row_of}
+use Rattle.mscp_packet.specs.Opcodes.{least, opcode_of, line_of}
 use Rattle.mscp_packet.specs.Ends.{end_length, kind_of_code}
 use Rattle.mscp_packet.specs.Table.{IsSound}
 use Rattle.mscp_packet.specs.declared.class.Opcode.{Opcode}
@@ -12,11 +12,11 @@ use Rattle.mscp_packet.specs.declared.end.BodyKind.TheVariants as kinds
 
 -- what the tables owe for one opcode
 record Line (o : Opcode) : Type 0 where
-  byte : opcode_of (row_of o).byte ≡ Some o
-  low : (row_of o).byte < 0x80
-  code : IsSome (kind_of_code ((row_of o).byte + 0x80))
-  enough : least o ≤ (row_of o).written_length
-  command : (12 ≤ least o) × ((row_of o).written_length ≤ 48)
+  byte : opcode_of (line_of o).byte ≡ Some o
+  low : (line_of o).byte < 0x80
+  code : IsSome (kind_of_code ((line_of o).byte + 0x80))
+  enough : least o ≤ (line_of o).written_length
+  command : (12 ≤ least o) × ((line_of o).written_length ≤ 48)
 
 line : (o : Opcode) → Line o
 line codes.Abort = record { byte = refl; low = omega arith; code = search rules; enough = omega arith; command = (omega arith, omega arith) }
