@@ -13,6 +13,7 @@ use Rattle.mscp_control.specs.Passing.{is_free, passes}
 use Rattle.mscp_control.specs.Figures.{figure, figure_of}
 use Rattle.mscp_control.specs.Ends.{untaken}
 use Rattle.mscp_control.specs.Legal.{IsLegal}
+use Rattle.mscp_control.specs.Holdings.{fresh, replies}
 
 -- the waiting command of the reference that is served stays behind no other (manual)
 abbrev pub IsFreeStart : Trace → Service → Type 0
@@ -51,3 +52,8 @@ pub record Headline (c : Settings) (events : List Event) (entries : List Entry) 
 -- the law: whatever is legal keeps the promise, whoever answered it (profile)
 abbrev pub LegalTracesMakeProgress : Type 0
 LegalTracesMakeProgress = (c : Settings) (t : Trace) → IsValid c → IsLegal c t → Promise c t
+
+-- the same of a controller that somebody holds: its answers, one after the other from the first on, keep the
+-- promise (profile)
+abbrev pub ControllersKeepThePromise : Type 0
+ControllersKeepThePromise = (c : Settings) (events : List Event) → IsValid c → Headline c events (replies (fresh c) events)

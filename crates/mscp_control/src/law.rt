@@ -1,6 +1,6 @@
-// What is true of every legal trace, from the definitions alone.
+// What is true of every legal trace, and of every controller.
 
-ghost use Rattle.mscp_control.specs.Headline.{LegalTracesMakeProgress};
+ghost use Rattle.mscp_control.specs.Headline.{ControllersKeepThePromise, LegalTracesMakeProgress};
 
 /// Every legal trace of a valid configuration, whoever answered it, keeps the promise: untaken and waiting
 /// commands never exceed the credits, no start passes a sequential command of its unit, a sequential command
@@ -10,4 +10,10 @@ ghost use Rattle.mscp_control.specs.Headline.{LegalTracesMakeProgress};
 /// steps.
 pub fn legal_traces_make_progress()
     ensures { LegalTracesMakeProgress }
+{}
+
+/// The answers of a controller, one after the other from the first on, whoever calls it, are a legal trace, with all
+/// that is promised of one.
+pub fn controllers_keep_the_promise()
+    ensures { ControllersKeepThePromise }
 {}

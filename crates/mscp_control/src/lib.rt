@@ -22,7 +22,7 @@ pub use crate::config::{Config, ConfigFault};
 pub use crate::controller::Controller;
 pub use crate::drive::Drive;
 pub use crate::event::{Entry, Event, SendFault, Sent};
-pub use crate::law::legal_traces_make_progress;
+pub use crate::law::{controllers_keep_the_promise, legal_traces_make_progress};
 pub use crate::memory::OutOfMemory;
 pub use crate::record::Record;
 pub use crate::running::run;
