@@ -1,5 +1,5 @@
 -- How a message is judged when it comes. Nothing here asks what came before it.
-use Rattle.std.specs.Prelude.{ℕ, Bool, true, false, not, ◌&&◌, nat_eq, nat_lt, bit_or, if◌then◌else◌, ◌==◌, List, length, slice_index, Option, Some, None, is_none, Result, Ok, Err}
+use Rattle.std.specs.Prelude.{ℕ, Bool, true, false, not, ◌&&◌, nat_eq, nat_lt, bit_or, if◌then◌else◌, ◌==◌, List, length, slice_index, Option, Some, None, is_none, Result}
 use Rattle.std.specs.List.{list_any}
 use Rattle.mscp_packet.specs.declared.class.Class.{Class}
 use Rattle.mscp_packet.specs.declared.class.Class.TheVariants.{Immediate}
@@ -103,14 +103,9 @@ order_fault c number (orders.Abort other) = Some 0x0801
 abbrev pub fault_of : Settings → Command → Option ℕ
 fault_of c command = order_fault c command.unit command.order
 
--- how many steps a command takes that is refused with this status, or isn't
-abbrev pub weighed : Option ℕ → ℕ → Result ℕ ℕ
-weighed (Some status) steps = Err status
-weighed None steps = Ok steps
-
 -- how many steps a command takes, or the status that refuses it (manual, the steps are the profile's)
 abbrev pub judged : Settings → Command → Result ℕ ℕ
-judged c command = weighed (fault_of c command) (order_weight command.order)
+judged c command = extent.weighed (fault_of c command) (order_weight command.order)
 
 -- whether a command that isn't refused waits for steps (manual)
 abbrev pub is_queued : Settings → Command → Bool

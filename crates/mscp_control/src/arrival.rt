@@ -2,9 +2,9 @@
 
 ghost use Rattle.std.specs.Prelude.{◌≡◌, ◌+◌, ◌≤◌, ◌^◌, IfOk};
 ghost use Rattle.mscp_packet.specs.Opcodes.{class};
-ghost use Rattle.mscp_control.specs.Arrival.{endcode, first_block, is_immediate, is_immediate_class, judged, move_fault, unit_fault, version_fault, weighed};
+ghost use Rattle.mscp_control.specs.Arrival.{endcode, first_block, is_immediate, is_immediate_class, judged, move_fault, unit_fault, version_fault};
 ghost use Rattle.mscp_control.specs.Settings.{unit_found};
-ghost use Rattle.mscp_drive.specs.Extent.{weight};
+ghost use Rattle.mscp_drive.specs.Extent.{weighed, weight};
 
 use crate::config::Config;
 use mscp_packet::{Class, Command, Order, class_of};

@@ -18,7 +18,7 @@ range_fault longest count block unit =
     if nat_lt unit.size (block + blocks count) then Some 0x0C01 else (
     if nat_lt longest (weight count) then Some 0x0C01 else None))
 
--- what a unit answers of a transfer: its weight, unless a status refuses it (profile)
-abbrev pub weight_unless : Option ℕ → ℕ → Result ℕ ℕ
-weight_unless (Some status) count = Err status
-weight_unless None count = Ok (weight count)
+-- how many steps a command takes that is refused with this status, or isn't (profile)
+abbrev pub weighed : Option ℕ → ℕ → Result ℕ ℕ
+weighed (Some status) steps = Err status
+weighed None steps = Ok steps

@@ -2,7 +2,7 @@
 
 ghost use Rattle.std.specs.Prelude.{◌≡◌, ◌≢◌, ◌↔◌, ◌+◌, ◌*◌, ◌/◌, ◌^◌, ◌<◌, ◌≤◌, IfOk};
 ghost use Rattle.mscp_drive.specs.Shape.{IsUnit, cylinder_blocks, cylinder_of, last_cylinder};
-ghost use Rattle.mscp_drive.specs.Extent.{blocks, range_fault, weight_unless};
+ghost use Rattle.mscp_drive.specs.Extent.{blocks, range_fault, weighed, weight};
 
 use std::marker::Model;
 
@@ -214,7 +214,7 @@ impl Unit {
     /// block of 512 bytes, and at least one. The error is the status that refuses it: 0x1C01 where the unit
     /// has no such block, else 0x0C01 where the transfer reaches past the unit or takes more steps.
     pub fn check(&self, lbn: u32, bytes: u32, longest: u32) -> Result<u32, u16>
-        ensures weight { result ≡ weight_unless (range_fault longest bytes lbn self.now) bytes }
+        ensures weight { result ≡ weighed (range_fault longest bytes lbn self.now) (weight bytes) }
         ensures small { IfOk result (λ weight. lbn + weight ≤ 2 ^ 32) }
     {
         if lbn >= self.size() {
