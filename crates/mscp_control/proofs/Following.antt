@@ -141,7 +141,7 @@ settings_unless : (h : Holdings) (k : Command) (o : Option SendFault) → (held_
 settings_unless h k (Some fault) = refl
 settings_unless h k None = elim (is_queued h.settings k) as (λ b. (if b then queued h k else ended h (answered_end h k)).settings ≡ h.settings) [ true ↦ refl | false ↦ refl ]
 
-settings_kept : (h : Holdings) (e : Event) → (after h e).settings ≡ h.settings
+pub settings_kept : (h : Holdings) (e : Event) → (after h e).settings ≡ h.settings
 settings_kept h (events.Send message) = settings_unless h (command_of message.items) (refusal (balance_of h) (outstanding_of h) message.items)
 settings_kept h events.Take = refl
 settings_kept h (events.Step k) = refl
@@ -157,7 +157,7 @@ all_right c h t (event ∷ es) e v a =
     subst (λ s. Sends s t (event, entry_of h event) (after h event)) e (agrees_more h t event (subst IsValid (sym e) v) (subst (λ s. Agrees s t h) (sym e) a)) in
     (r.right, all_right c (after h event) (t ++ (event, entry_of h event) ∷ []) es (settings_kept h event ∙ e) v r.agrees)
 
-none_held : (c : Settings) → Agrees c [] (fresh c)
+pub none_held : (c : Settings) → Agrees c [] (fresh c)
 unfolding waiting untaken ends collect
 none_held c = record { follows = record { known = known_empty c; waits = refl; ends = refl; good = tt; unpassed = tt; idle = tt }; driven = driven_fresh c }
 

@@ -8,6 +8,7 @@ pub mod Drives
 pub mod Stepped
 pub mod Sending
 pub mod Following
+pub mod Controllers
 pub mod Lists
 pub mod Grows
 pub mod Waits

@@ -3,11 +3,18 @@ use Rattle.std.proofs.Common.{◌≡◌, ◌≢◌, ℕ, zero, suc, ◌+◌, ◌
 use Rattle.std.specs.Prelude.{filter, Option, Some, None, Contains}
 use Rattle.std.specs.List.{AllByRecursion, range_with_len}
 use Rattle.std.proofs.lemmas.List.Elements.{All-contains, All-from_recursion}
+use Rattle.mscp_packet.specs.declared.command.Command.{Command}
+use Rattle.mscp_packet.specs.declared.command.Order.{Order}
+use Rattle.mscp_packet.specs.declared.command.Order.TheVariants as orders
+use Rattle.mscp_packet.specs.declared.end.EndBody.TheVariants as bodies
+use Rattle.mscp_packet.specs.Commands.{command_of}
 use Rattle.mscp_control.specs.Settings.{Settings, IsValid, bound}
 use Rattle.mscp_control.specs.History.{Trace, Moment, moment, positions, Service, service_in, WhenStarted}
 use Rattle.mscp_control.specs.Commands.{reference, weight, is_waiting, waiting, done, left, steps_after}
 use Rattle.mscp_control.specs.Passing.{passes, is_free}
+use Rattle.mscp_control.specs.Outcomes.{end_with}
 use Rattle.mscp_control.specs.Figures.{figure, figure_of}
+use Rattle.mscp_control.specs.Ends.{answer, answer_to}
 use Rattle.mscp_control.specs.Legal.{IsRight, IsLegal}
 use Rattle.mscp_control.specs.Headline.{IsFreeStart, Promise}
 use Rattle.mscp_control.proofs.Lists.{every_weaker, every_append, every_both}
@@ -96,10 +103,22 @@ small c t k x =
 
 -- ---- polls
 
-told : (c : Settings) (t : Trace) → Steady c t → (x : ℕ) → Contains (waiting t) x → figure_of c t (reference t x) ≡ figure c t x
-told c t steady x w =
+-- a poll's own end is its only one
+answered_by : (c : Settings) (t : Trace) (k : Command) (r : ℕ) → k.order ≡ orders.Status r → answer_to c t k ≡ end_with k 0x0000 (bodies.Status r (figure_of c t r)) ∷ []
+answered_by c t k r e =
+    let with_order : Order → Command = λ o. record { reference = k.reference; unit = k.unit; order = o } in
+    ap (λ o. answer_to c t (with_order o)) e ∙ ap (λ o. end_with (with_order o) 0x0000 (bodies.Status r (figure_of c t r)) ∷ []) (sym e)
+
+figure_told : (c : Settings) (t : Trace) → Steady c t → (x : ℕ) → Contains (waiting t) x → figure_of c t (reference t x) ≡ figure c t x
+figure_told c t steady x w =
     let P : ℕ → Type 0 = λ x. figure_of c t (reference t x) ≡ figure c t x in
     one_of P (waiting t) (every_split P (waiting t) (λ A y B e. figure_of_one c t y A B (alone t y A B steady.apart (cut_of t A y B e)))) x w
+
+told : (c : Settings) (t : Trace) → Steady c t → (x : ℕ) → Contains (waiting t) x → (b : List ℕ) → (command_of b).order ≡ orders.Status (reference t x)
+    → answer c t b ≡ end_with (command_of b) 0x0000 (bodies.Status (reference t x) (figure c t x)) ∷ []
+unfolding answer
+told c t steady x w b e =
+    answered_by c t (command_of b) (reference t x) e ∙ ap (λ n. end_with (command_of b) 0x0000 (bodies.Status (reference t x) n) ∷ []) (figure_told c t steady x w)
 
 -- ---- the promise
 

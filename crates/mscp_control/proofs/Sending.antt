@@ -40,7 +40,7 @@ pub record Agrees (c : Settings) (t : Trace) (h : Holdings) : Type 0 where
 
 -- ---- credits
 
-balance_held : (c : Settings) (t : Trace) (ws : List Record) (us : List End) → Follows c t ws us → c.credits - (length ws + length us) ≡ balance c t
+pub balance_held : (c : Settings) (t : Trace) (ws : List Record) (us : List End) → Follows c t ws us → c.credits - (length ws + length us) ≡ balance c t
 unfolding balance
 balance_held c t ws us f =
     let w = ap length f.waits ∙ length-map (waiting t) (held_of t) in

@@ -250,6 +250,11 @@ after h events.Take = after_take h
 after h (events.Step k) = after_step h k
 after h events.Look = h
 
+-- what is held after events, one after the other
+abbrev pub held_after : Holdings → List Event → Holdings
+held_after h [] = h
+held_after h (event ∷ events) = held_after (after h event) events
+
 -- what is answered to events, one after the other
 abbrev pub replies : Holdings → List Event → List Entry
 replies h [] = []

@@ -12,3 +12,4 @@ pub mod Ends
 pub mod Credits
 pub mod Legal
 pub mod Headline
+pub mod Controllers

@@ -1,6 +1,7 @@
 // What is true of every legal trace, and of every controller.
 
-ghost use Rattle.mscp_control.specs.Headline.{ControllersKeepThePromise, LegalTracesMakeProgress};
+ghost use Rattle.mscp_control.specs.Controllers.{ControllersKeepThePromise};
+ghost use Rattle.mscp_control.specs.Headline.{LegalTracesMakeProgress};
 
 /// Every legal trace of a valid configuration, whoever answered it, keeps the promise: untaken and waiting
 /// commands never exceed the credits, no start passes a sequential command of its unit, a sequential command
@@ -13,7 +14,7 @@ pub fn legal_traces_make_progress()
 {}
 
 /// The answers of a controller, one after the other from the first on, whoever calls it, are a legal trace, with all
-/// that is promised of one.
+/// that is promised of one. The figures and the balance that it tells are always those of that trace.
 pub fn controllers_keep_the_promise()
     ensures { ControllersKeepThePromise }
 {}
