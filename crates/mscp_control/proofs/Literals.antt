@@ -72,9 +72,13 @@ looked l = (events.Look, entries.Looked (record { items = l }))
 abbrev pub served : Block → ℕ → ℕ → Option ℕ → Bool → ℕ → Option End → Moment
 served k r u lbn started seek ended = (events.Step k, entries.Stepped (reports.Served r u lbn started seek ended))
 
--- the end of a read with this reference, unit, status and byte count
+-- the end of a transfer with this endcode, reference, unit, status and byte count
+abbrev pub moved_by : ℕ → ℕ → ℕ → ℕ → ℕ → Option End
+moved_by code r u status count = Some (record { reference = r; unit = u; code = code; status = status; body = bodies.Moved count })
+
+-- the same of a read
 abbrev pub moved : ℕ → ℕ → ℕ → ℕ → Option End
-moved r u status count = Some (record { reference = r; unit = u; code = 0xA1; status = status; body = bodies.Moved count })
+moved r u status count = moved_by 0xA1 r u status count
 
 -- the end of an ONLINE with this reference, unit and status that tells of the unit
 abbrev pub onlined : ℕ → ℕ → ℕ → Option End

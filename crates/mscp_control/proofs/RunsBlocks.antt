@@ -1,6 +1,8 @@
 -- Which blocks a transfer takes, and which transfers are refused.
 use Rattle.std.proofs.Common.{true, false, [], ◌∷◌, ◌++◌, refl}
 use Rattle.std.specs.Prelude.{replicate, Some, None}
+use Rattle.mscp_packet.specs.declared.command.MoveKind.TheVariants as moves
+use Rattle.mscp_packet.specs.declared.command.Order.TheVariants as orders
 use Rattle.mscp_packet.specs.Commands.{command_of}
 use Rattle.mscp_control.specs.declared.block.Block.TheVariants.{Good, Bad}
 use Rattle.mscp_control.specs.History.{Trace, moment, collect}
@@ -12,7 +14,7 @@ use Rattle.mscp_control.specs.Ends.{answer, outcome, ends, untaken}
 use Rattle.mscp_control.specs.Credits.{balance, outstanding, arrival}
 use Rattle.mscp_control.specs.Legal.{IsLegal, block_of}
 use Rattle.mscp_control.proofs.Legals.{legal_from, by_serving}
-use Rattle.mscp_control.proofs.Literals.{settings, came_online, read, queued, answered, took, looked, served, moved}
+use Rattle.mscp_control.proofs.Literals.{settings, came_online, read, queued, answered, took, looked, served, moved, moved_by}
 
 -- A transfer of no bytes takes one step.
 abbrev pub empty : Trace
@@ -81,3 +83,25 @@ bad_block =
 pub bad_block_legal : IsLegal (settings 4 2) bad_block
 unfolding moment collect command_of command is_waiting waiting done good passes_at passes is_free is_startable startable figure figure_of is_online head_cylinder head_up answer outcome ends untaken balance outstanding arrival block_of
 bad_block_legal = legal_from (settings 4 2) bad_block (refl, (by_serving 0 refl refl refl, (refl, (refl, (by_serving 3 refl refl refl, (by_serving 3 refl refl refl, (refl, tt)))))))
+
+-- Each transfer has its own endcode. A read's is above.
+abbrev pub each_transfer : Trace
+each_transfer =
+    came_online
+    ++ queued 1 0 (orders.Move moves.Write 512 0)
+    ∷ served Good 1 0 (Some 0) true 0 (moved_by 0xA2 1 0 0 512)
+    ∷ took ((1 ∷ 0 ∷ 0 ∷ 0 ∷ 0 ∷ 0 ∷ 0 ∷ 0 ∷ 0xA2 ∷ 0 ∷ 0 ∷ 0 ∷ 0 ∷ 2 ∷ 0 ∷ 0 ∷ []) ++ replicate 16 0)
+    ∷ queued 2 0 (orders.Move moves.Erase 512 0)
+    ∷ served Good 2 0 (Some 0) true 0 (moved_by 0x92 2 0 0 512)
+    ∷ took ((2 ∷ 0 ∷ 0 ∷ 0 ∷ 0 ∷ 0 ∷ 0 ∷ 0 ∷ 0x92 ∷ 0 ∷ 0 ∷ 0 ∷ 0 ∷ 2 ∷ 0 ∷ 0 ∷ []) ++ replicate 16 0)
+    ∷ queued 3 0 (orders.Move moves.Access 512 0)
+    ∷ served Good 3 0 (Some 0) true 0 (moved_by 0x90 3 0 0 512)
+    ∷ took ((3 ∷ 0 ∷ 0 ∷ 0 ∷ 0 ∷ 0 ∷ 0 ∷ 0 ∷ 0x90 ∷ 0 ∷ 0 ∷ 0 ∷ 0 ∷ 2 ∷ 0 ∷ 0 ∷ []) ++ replicate 16 0)
+    ∷ queued 4 0 (orders.Move moves.Compare 512 0)
+    ∷ served Good 4 0 (Some 0) true 0 (moved_by 0xA0 4 0 0 512)
+    ∷ took ((4 ∷ 0 ∷ 0 ∷ 0 ∷ 0 ∷ 0 ∷ 0 ∷ 0 ∷ 0xA0 ∷ 0 ∷ 0 ∷ 0 ∷ 0 ∷ 2 ∷ 0 ∷ 0 ∷ []) ++ replicate 16 0)
+    ∷ []
+
+pub each_transfer_legal : IsLegal (settings 4 2) each_transfer
+unfolding moment collect command_of command is_waiting waiting done good passes_at passes is_free is_startable startable figure figure_of is_online head_cylinder head_up answer outcome ends untaken balance outstanding arrival block_of
+each_transfer_legal = legal_from (settings 4 2) each_transfer (refl, (by_serving 0 refl refl refl, (refl, (refl, (by_serving 3 refl refl refl, (refl, (refl, (by_serving 6 refl refl refl, (refl, (refl, (by_serving 9 refl refl refl, (refl, (refl, (by_serving 12 refl refl refl, (refl, tt)))))))))))))))

@@ -1,9 +1,10 @@
 -- Which messages are refused for want of a credit, for their reference number, or for their length.
 use Rattle.std.proofs.Common.{◌≡◌, [], ◌∷◌, ◌++◌, refl}
-use Rattle.std.specs.Prelude.{replicate, Err}
+use Rattle.std.specs.Prelude.{replicate, None, Ok, Err}
 use Rattle.mscp_packet.specs.declared.command.Order.TheVariants as orders
 use Rattle.mscp_packet.specs.Commands.{command_of}
 use Rattle.mscp_control.specs.declared.event.SendFault.TheVariants as faults
+use Rattle.mscp_control.specs.declared.event.Sent.TheVariants as sents
 use Rattle.mscp_control.specs.History.{Trace, moment, collect}
 use Rattle.mscp_control.specs.Commands.{command, is_waiting, waiting, done, good}
 use Rattle.mscp_control.specs.Passing.{passes_at, passes, is_free, is_startable, startable}
@@ -76,3 +77,17 @@ nothing =
 pub nothing_legal : IsLegal (settings 4 2) nothing
 unfolding moment collect command_of command is_waiting waiting done good passes_at passes is_free is_startable startable figure figure_of is_online head_cylinder head_up answer outcome ends untaken balance outstanding arrival block_of
 nothing_legal = legal_from (settings 4 2) nothing (refl, (refl, (refl, tt)))
+
+-- Which messages the last credit is kept from is told by the opcode byte alone: an unknown opcode is refused, and a poll
+-- that is too short is taken.
+abbrev pub by_opcode : Trace
+by_opcode =
+    queued 1 0 (read 512 0)
+    ∷ raw (2 ∷ 0 ∷ 0 ∷ 0 ∷ 0 ∷ 0 ∷ 0 ∷ 0 ∷ 0x13 ∷ 0 ∷ 0 ∷ 0 ∷ []) (Err faults.LastCredit)
+    ∷ raw (3 ∷ 0 ∷ 0 ∷ 0 ∷ 0 ∷ 0 ∷ 0 ∷ 0 ∷ 2 ∷ 0 ∷ 0 ∷ 0 ∷ []) (Ok (sents.Answered 3 None))
+    ∷ raw (4 ∷ 0 ∷ 0 ∷ 0 ∷ 0 ∷ 0 ∷ 0 ∷ 0 ∷ 2 ∷ 0 ∷ 0 ∷ 0 ∷ []) (Err faults.NoCredit)
+    ∷ []
+
+pub by_opcode_legal : IsLegal (settings 2 2) by_opcode
+unfolding moment collect command_of command is_waiting waiting done good passes_at passes is_free is_startable startable figure figure_of is_online head_cylinder head_up answer outcome ends untaken balance outstanding arrival block_of
+by_opcode_legal = legal_from (settings 2 2) by_opcode (refl, (refl, (refl, (refl, tt))))

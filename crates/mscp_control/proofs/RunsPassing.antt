@@ -1,6 +1,6 @@
 -- Which of three reads may start, by how often one may be passed.
 use Rattle.std.proofs.Common.{◌≡◌, true, [], ◌∷◌, ◌++◌, take, refl}
-use Rattle.std.specs.Prelude.{Some}
+use Rattle.std.specs.Prelude.{Some, None}
 use Rattle.mscp_packet.specs.Commands.{command_of}
 use Rattle.mscp_control.specs.declared.block.Block.TheVariants.{Good}
 use Rattle.mscp_control.specs.History.{Trace, moment, collect}
@@ -126,3 +126,23 @@ passed_each_passes = refl
 passed_each_startable : startable (settings 8 1) (take 9 passed_each) ≡ 4 ∷ []
 unfolding moment collect command_of command is_waiting waiting done good passes_at passes is_free is_startable startable figure figure_of is_online head_cylinder head_up answer outcome ends untaken balance outstanding arrival block_of
 passed_each_startable = refl
+
+-- A later command in service counts in the figure of an earlier one.
+abbrev pub overtaken : Trace
+overtaken =
+    came_online
+    ++ queued 1 0 (read 512 800)
+    ∷ queued 2 0 (read 2048 0)
+    ∷ looked ((1, 9) ∷ (2, 13) ∷ [])
+    ∷ served Good 2 0 (Some 0) true 0 None
+    ∷ looked ((1, 4) ∷ (2, 3) ∷ [])
+    ∷ []
+
+pub overtaken_legal : IsLegal (settings 5 1) overtaken
+unfolding moment collect command_of command is_waiting waiting done good passes_at passes is_free is_startable startable figure figure_of is_online head_cylinder head_up answer outcome ends untaken balance outstanding arrival block_of
+overtaken_legal = legal_from (settings 5 1) overtaken (refl, (by_serving 0 refl refl refl, (refl, (refl, (refl, (refl, (by_serving 4 refl refl refl, (refl, tt))))))))
+
+-- Where a command is in service, none may start.
+overtaken_startable : startable (settings 5 1) (take 7 overtaken) ≡ []
+unfolding moment collect command_of command is_waiting waiting done good passes_at passes is_free is_startable startable figure figure_of is_online head_cylinder head_up answer outcome ends untaken balance outstanding arrival block_of
+overtaken_startable = refl

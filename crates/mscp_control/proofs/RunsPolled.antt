@@ -76,3 +76,21 @@ unknown_polled =
 pub unknown_polled_legal : IsLegal (settings 4 2) unknown_polled
 unfolding moment collect command_of command is_waiting waiting done good passes_at passes is_free is_startable startable figure figure_of is_online head_cylinder head_up answer outcome ends untaken balance outstanding arrival block_of
 unknown_polled_legal = legal_from (settings 4 2) unknown_polled (refl, (refl, tt))
+
+-- A reference number that is used again names another command, which starts anew.
+abbrev pub used_again : Trace
+used_again =
+    came_online
+    ++ queued 1 0 (read 1024 40)
+    ∷ served Good 1 0 (Some 40) true 2 None
+    ∷ served Good 1 0 (Some 41) false 0 (moved 1 0 0 1024)
+    ∷ took ((1 ∷ 0 ∷ 0 ∷ 0 ∷ 0 ∷ 0 ∷ 0 ∷ 0 ∷ 0xA1 ∷ 0 ∷ 0 ∷ 0 ∷ 0 ∷ 4 ∷ 0 ∷ 0 ∷ []) ++ replicate 16 0)
+    ∷ queued 1 0 (read 1024 60)
+    ∷ looked ((1, 18) ∷ [])
+    ∷ served Good 1 0 (Some 60) true 1 None
+    ∷ looked ((1, 1) ∷ [])
+    ∷ []
+
+pub used_again_legal : IsLegal (settings 4 2) used_again
+unfolding moment collect command_of command is_waiting waiting done good passes_at passes is_free is_startable startable figure figure_of is_online head_cylinder head_up answer outcome ends untaken balance outstanding arrival block_of
+used_again_legal = legal_from (settings 4 2) used_again (refl, (by_serving 0 refl refl refl, (refl, (refl, (by_serving 3 refl refl refl, (by_serving 3 refl refl refl, (refl, (refl, (refl, (by_serving 7 refl refl refl, (refl, tt)))))))))))

@@ -101,7 +101,7 @@ good t x = count_by (λ m. serves_in (reference t x) m.1 && is_good m.0) (drop (
 abbrev pub left : Trace → ℕ → ℕ
 left t x = weight t x - done t x
 
--- x was served and waits for its next step (profile)
+-- x was served: where it waits, it is in service (profile)
 abbrev pub in_service : Trace → ℕ → Bool
 in_service t x = nat_lt 0 (done t x)
 

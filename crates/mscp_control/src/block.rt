@@ -6,7 +6,7 @@ use mscp_packet::End;
 use std::marker::Model;
 
 /// The status of a bad block: its code, the low five bits, is at least 5 (manual, "Status and Event
-/// Codes"; the lower codes are those of commands that were never served).
+/// Codes"; the lower codes are Success, and those that a controller itself finds).
 #[derive(Clone, Copy, Debug, PartialEq, Eq)]
 pub struct FaultStatus {
     status: u16,
@@ -37,9 +37,10 @@ impl FaultStatus {
         Some(FaultStatus { status })
     }
 
-    /// The status as a number.
+    /// The status as a number, whose code is at least 5.
     pub fn get(self) -> u16
-        ensures { result ≡ self }
+        ensures value { result ≡ self }
+        ensures code { 5 ≤ result % 32 }
     {
         self.status
     }
@@ -48,6 +49,7 @@ impl FaultStatus {
 /// How one block was served.
 #[derive(Clone, Copy, Debug, PartialEq, Eq)]
 pub enum Block {
+    /// The block was read or written, or the command needs none.
     Good,
     /// The command that it was served for ends with this status.
     Bad(FaultStatus),

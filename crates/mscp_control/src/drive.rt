@@ -12,7 +12,7 @@ use crate::service::drive_after;
 use arrayvec::ArrayVec;
 use mscp_drive::{Head, Unit};
 
-/// A unit, whether it is online, and where its head is.
+/// A unit, whether it is online, and where its head is, as the clauses of a controller see it.
 #[derive(Clone, Copy, Debug, PartialEq, Eq)]
 pub struct Drive {
     pub unit: Unit,

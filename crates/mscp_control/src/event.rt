@@ -46,9 +46,11 @@ pub enum Event {
 /// What a controller answers to an event.
 #[derive(Debug, PartialEq, Drop)]
 pub enum Entry {
+    /// What became of the message, or why it was refused.
     Sent(Result<Sent, SendFault>),
     /// The oldest end that wasn't taken before, as bytes.
     Taken(Option<ArrayVec<u8, 48>>),
+    /// What the step did.
     Stepped(Report),
     /// Reference number and figure of each waiting command, oldest first.
     Looked(ArrayVec<(u32, u32), 64>),

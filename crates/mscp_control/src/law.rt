@@ -7,7 +7,7 @@ ghost use Rattle.mscp_control.specs.Headline.{LegalTracesMakeProgress};
 /// commands never exceed the credits, no start passes a sequential command of its unit, a sequential command
 /// passes none of its unit, and no command is passed more often than the passing limit. Every waiting
 /// command's figure falls at each step and never rises between steps, is at least 1 exactly while the command
-/// waits, at most the bound, and what a poll of the command is answered; and each command ends within so many
+/// waits, at most the bound, and what the end of a poll of the command tells; and each command ends within so many
 /// steps.
 pub fn legal_traces_make_progress()
     ensures { LegalTracesMakeProgress }

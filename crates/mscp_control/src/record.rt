@@ -4,7 +4,7 @@ ghost use Rattle.std.specs.Prelude.{◌≡◌};
 
 use mscp_packet::{Command, Order};
 
-/// A waiting command: how many steps it takes, and how many it had.
+/// A waiting command, as the clauses of a controller see it: how many steps it takes, and how many it had.
 #[derive(Clone, Copy, Debug, PartialEq, Eq)]
 pub struct Record {
     pub command: Command,

@@ -20,14 +20,14 @@ pub record IsUnit (s : Shape) : Type 0 where
   pub some_cylinder : 0 < s.cylinder
   pub some_size : 0 < s.size
 
--- the blocks of a cylinder (manual)
+-- the blocks of a cylinder (profile)
 abbrev pub cylinder_blocks : Shape → ℕ
 cylinder_blocks s = s.track * s.group * s.cylinder
 
--- whole cylinders before a block (manual)
+-- whole cylinders before a block (profile)
 abbrev pub cylinder_of : Shape → ℕ → ℕ
 cylinder_of s block = block / cylinder_blocks s
 
--- the cylinder of the last block (manual)
+-- the cylinder of the last block (profile)
 abbrev pub last_cylinder : Shape → ℕ
 last_cylinder s = cylinder_of s (s.size - 1)

@@ -6,14 +6,15 @@ use Rattle.mscp_control.specs.declared.event.Entry.{Entry}
 use Rattle.mscp_sim.specs.declared.reading.TheConstants.{LIMIT}
 use Rattle.mscp_sim.specs.declared.simulation.SimFault.{SimFault}
 use Rattle.mscp_sim.specs.declared.simulation.SimFault.TheVariants as faults
-use Rattle.mscp_control.specs.Settings.{Settings}
+use Rattle.mscp_control.specs.Settings.{IsValid, Settings}
 use Rattle.mscp_control.specs.Headline.{Headline}
 use Rattle.mscp_sim.specs.Text.{text}
 use Rattle.mscp_sim.specs.Whole.{IsRest}
 
--- the bytes are the text of what a controller answers to some events, which has the headline (profile)
+-- the bytes are the text of what a controller of a valid configuration answers to some events, which has the headline
+-- (profile)
 abbrev pub IsReport : List ℕ → Type 0
-IsReport bytes = (c : Settings) × (events : List Event) × (entries : List Entry) × Headline c events entries × (bytes ≡ text entries)
+IsReport bytes = (c : Settings) × (events : List Event) × (entries : List Entry) × IsValid c × Headline c events entries × (bytes ≡ text entries)
 
 -- the report is all that is written where there is no fault, nothing is written on a fault, and nothing is said
 -- where the write failed (profile)
