@@ -17,6 +17,7 @@ use Rattle.mscp_control.specs.Settings.{Settings, unit_found}
 
 -- ---- credits
 
+-- a command of this class is answered when it comes (manual)
 abbrev pub is_immediate_class : Class → Bool
 is_immediate_class Immediate = true
 is_immediate_class class = false
@@ -100,6 +101,7 @@ order_fault c number orders.SetUnit = unit_fault (unit_found c number)
 order_fault c number (orders.SetController version) = version_fault version
 order_fault c number (orders.Abort other) = Some 0x0801
 
+-- the same of a command (manual)
 abbrev pub fault_of : Settings → Command → Option ℕ
 fault_of c command = order_fault c command.unit command.order
 

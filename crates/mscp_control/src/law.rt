@@ -14,7 +14,8 @@ pub fn legal_traces_make_progress()
 {}
 
 /// The answers of a controller, one after the other from the first on, whoever calls it, are a legal trace, with all
-/// that is promised of one. The figures and the balance that it tells are always those of that trace.
+/// that is promised of one. The figures and the balance that it tells are always those of that trace. (A message of
+/// over 64 bytes is in no trace: it is refused, and changes nothing.)
 pub fn controllers_keep_the_promise()
     ensures { ControllersKeepThePromise }
 {}
