@@ -1,65 +1,20 @@
 -- What each event keeps of a controller's holdings.
-use Rattle.std.proofs.Common.{◌≡◌, ℕ, ◌+◌, ◌<◌, ◌≤◌, Bool, true, false, cond, List, [], ◌∷◌, ◌++◌, map, length, take, drop, set, get_or, append_assoc, ap, refl, sym, subst, ◌∙◌, arith}
-use Rattle.std.specs.Prelude.{All, find, unwrap_or, nat_eq, nat_le, nat_lt, if◌then◌else◌, Option, Some, None, is_some, is_none}
-use Rattle.std.proofs.Math.Nat.{le-max_left}
+use Rattle.std.proofs.Common.{◌≡◌, ℕ, ◌+◌, ◌<◌, Bool, true, false, cond, List, [], ◌∷◌, ◌++◌, map, length, take, drop, set, get_or, append_assoc, ap, refl, sym, subst, ◌∙◌, arith}
+use Rattle.std.specs.Prelude.{All, find, unwrap_or, nat_eq, if◌then◌else◌, Some, None}
 use Rattle.std.proofs.lemmas.List.{length-map, length-take-le, drop_more, get_or_at, map-append, set_at, take_more}
 use Rattle.std.proofs.lemmas.List.Elements.{All-nil}
-use Rattle.std.proofs.lemmas.Bool.{ltb-false, false≢true, true≢false}
 use Rattle.mscp_packet.specs.declared.command.Command.{Command}
-use Rattle.mscp_packet.specs.declared.command.MoveKind.{MoveKind}
-use Rattle.mscp_packet.specs.declared.command.Order.{Order}
 use Rattle.mscp_packet.specs.declared.command.Order.TheVariants as orders
 use Rattle.mscp_packet.specs.declared.end.End.{End}
 use Rattle.mscp_drive.specs.Shape.{Shape}
-use Rattle.mscp_drive.specs.Extent.{blocks, weight}
 use Rattle.mscp_control.specs.declared.block.Block.{Block}
 use Rattle.mscp_control.specs.declared.drive.Drive.{Drive}
 use Rattle.mscp_control.specs.declared.record.Record.{Record}
-use Rattle.mscp_control.specs.Settings.{Settings, IsValid, one_block, unit_found, unit_shape}
-use Rattle.mscp_control.specs.Arrival.{fault_of, is_immediate, is_queued, move_fault, order_fault, order_weight}
+use Rattle.mscp_control.specs.Settings.{Settings, IsValid, one_block, unit_shape}
+use Rattle.mscp_control.specs.Arrival.{fault_of}
 use Rattle.mscp_control.specs.Outcomes.{answer_body, answer_status, end_with, own_end_with, unit_body}
 use Rattle.mscp_control.specs.Holdings.{Holdings, answered_end, drive_after, drive_of, figure_asked, fresh_drive, served_drives}
 use Rattle.mscp_control.specs.Kept.{IsHeld, IsKept}
-
-none_is : {X : Type 0} (o : Option X) → is_none o ≡ true → o ≡ None
-none_is None h = refl
-none_is (Some x) h = absurd (false≢true h)
-
-if_none : {X : Type 0} (b : Bool) (f : X) (rest : Option X) → (if b then Some f else rest) ≡ None → (b ≡ false) × (rest ≡ None)
-if_none true f rest h = absurd (true≢false (ap is_some h))
-if_none false f rest h = (refl, h)
-
--- how long an order is that is queued: at least one step, and no more than the longest
-pub record IsServable (c : Settings) (o : Order) : Type 0 where
-  pub some : 0 < order_weight o
-  pub short : order_weight o ≤ c.longest
-
-move_servable : (c : Settings) (kind : MoveKind) (count block : ℕ) (found : Option Shape) → move_fault c count block found ≡ None → IsServable c (orders.Move kind count block)
-move_servable c kind count block None h = absurd (true≢false (ap is_some h))
-move_servable c kind count block (Some unit) h =
-    let e = if_none (nat_le unit.size block) 0x1C01 _ h in
-    let f = if_none (nat_lt unit.size (block + blocks count)) 0x0C01 _ e.1 in
-    let g = if_none (nat_lt c.longest (weight count)) 0x0C01 None f.1 in
-    record { some = omega (arith, le-max_left 1 (blocks count)); short = ltb-false c.longest (weight count) g.0 }
-
-order_servable : (c : Settings) (number : ℕ) (o : Order) → 1 ≤ c.longest → order_fault c number o ≡ None → IsServable c o
-order_servable c number (orders.Move kind count block) l h = move_servable c kind count block (unit_found c number) h
-order_servable c number (orders.Abort other) l h = record { some = omega arith; short = l }
-order_servable c number (orders.Status other) l h = record { some = omega arith; short = l }
-order_servable c number orders.UnitStatus l h = record { some = omega arith; short = l }
-order_servable c number (orders.SetController version) l h = record { some = omega arith; short = l }
-order_servable c number orders.Available l h = record { some = omega arith; short = l }
-order_servable c number orders.Online l h = record { some = omega arith; short = l }
-order_servable c number orders.SetUnit l h = record { some = omega arith; short = l }
-order_servable c number (orders.Invalid opcode status) l h = record { some = omega arith; short = l }
-
-sound_when : (immediate : Bool) (fault : Option ℕ) → (if immediate then false else is_none fault) ≡ true → fault ≡ None
-sound_when true fault h = absurd (false≢true h)
-sound_when false fault h = none_is fault h
-
--- a command that is queued is servable
-pub servable : (c : Settings) (command : Command) → 1 ≤ c.longest → is_queued c command ≡ true → IsServable c command.order
-servable c command l h = order_servable c command.unit command.order l (sound_when (is_immediate command.order) (fault_of c command) h)
 
 -- a step changes no unit
 pub units_served : (k : Block) (r : Record) (ds : List Drive) → map (λ d. d.unit) (served_drives k r ds) ≡ map (λ d. d.unit) ds

@@ -63,6 +63,10 @@ order_short : (c : Settings) (u : ℕ) (o : Order) → 1 ≤ c.longest → order
 order_short c u (orders.Move kind count block) l h = move_short c count block (unit_found c u) h
 order_short c u o l h = l
 
+-- a queued command is no longer than the longest
+pub queued_short : (c : Settings) (k : Command) → 1 ≤ c.longest → is_queued c k ≡ true → order_weight k.order ≤ c.longest
+queued_short c k l q = order_short c k.unit k.order l (queued_open c k q).sound
+
 -- ---- what holds of each command that is queued
 
 same_each : (P : Command → Type 0) (t : Trace) (m : Moment) (xs : List ℕ) → AllByRecursion (λ x. x < length t) xs → AllByRecursion (λ x. P (command t x)) xs → AllByRecursion (λ x. P (command (t ++ m ∷ []) x)) xs
@@ -87,7 +91,7 @@ each_queued c P each t m r h =
 
 -- Each right moment keeps it that no waiting command is longer than the longest.
 pub short_more : (c : Settings) (t : Trace) (m : Moment) → 1 ≤ c.longest → IsRight c t m.0 m.1 → Short c t (waiting t) → Short c (t ++ m ∷ []) (waiting (t ++ m ∷ []))
-short_more c t m l r h = each_queued c (λ k. order_weight k.order ≤ c.longest) (λ k q. order_short c k.unit k.order l (queued_open c k q).sound) t m r h
+short_more c t m l r h = each_queued c (λ k. order_weight k.order ≤ c.longest) (λ k q. queued_short c k l q) t m r h
 
 -- ---- credits
 

@@ -11,14 +11,14 @@ use Rattle.mscp_control.specs.declared.record.Record.{Record}
 use Rattle.mscp_control.specs.Settings.{Settings, IsValid, bound}
 use Rattle.mscp_control.specs.Holdings.{figure_at, figures_from, left_of, is_in_service, record_at}
 use Rattle.mscp_control.specs.Kept.{IsKept}
-use Rattle.mscp_control.proofs.Keeping.{servable}
+use Rattle.mscp_control.proofs.Queued.{queued_short}
 
 -- no more is left than the longest
 abbrev pub IsShort : Settings → Record → Type 0
 IsShort c r = left_of r ≤ c.longest
 
 kept_short : (c : Settings) (r : Record) → 1 ≤ c.longest → IsKept c r → IsShort c r
-kept_short c r l h = let short = (servable c r.command l h.sound).short in let weight = h.weight in omega arith
+kept_short c r l h = let short = queued_short c r.command l h.sound in let weight = h.weight in omega arith
 
 -- no more is left of the records than the longest for each
 sum_small : (c : Settings) (rs : List Record) → AllByRecursion (IsShort c) rs → sum_by left_of rs ≤ length rs * c.longest
