@@ -32,5 +32,6 @@ keeps_promise c es valid =
     record {
       headline = headline c es valid;
       figure = λ r. ap (λ ws. figure_of_reference c ws r) a.follows.waits ∙ figure_of_held c t r a.follows.unpassed;
+      drives = a.driven.drives;
       balance = ap (λ (s : Settings). s.credits - (length h.waiting + length h.untaken)) (settings_after (fresh c) es) ∙ balance_held c t h.waiting h.untaken a.follows;
     }

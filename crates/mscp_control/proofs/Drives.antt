@@ -21,6 +21,7 @@ use Rattle.mscp_control.specs.Ends.{outcome}
 use Rattle.mscp_control.specs.Legal.{IsRight, block_of, end_of, seek_to}
 use Rattle.mscp_control.specs.Holdings.{drive_after, drive_of, fresh_drive, served_drive, served_drives, state_left, touched}
 use Rattle.mscp_control.specs.Holdings as holdings
+use Rattle.mscp_control.specs.Controllers.{drive_at}
 use Rattle.mscp_control.proofs.Lists.{Pairs, every_from, every_weaker, pairs_middle}
 use Rattle.mscp_control.proofs.Served.{Step, some_same}
 use Rattle.mscp_control.proofs.Queued.{each_queued, queued_open}
@@ -109,11 +110,7 @@ queued_configured c k q = let o = queued_open c k q in order_found c k.unit k.or
 
 -- ---- drives
 
--- the drive of a unit after t
-abbrev pub drive_at : Settings → Trace → Shape → Drive
-drive_at c t s = record { unit = s; online = is_online t s.number; head = head c t s.number }
-
--- the same by the unit's number
+-- the drive of a unit after t, by the unit's number
 abbrev pub drive_by : Settings → Trace → ℕ → Drive
 drive_by c t u = record { unit = unit_shape c u; online = is_online t u; head = head c t u }
 

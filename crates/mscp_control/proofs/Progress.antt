@@ -1,22 +1,25 @@
 -- Each legal trace keeps its promise.
-use Rattle.std.proofs.Common.{◌≡◌, ◌≢◌, ℕ, zero, suc, ◌+◌, ◌<◌, ◌≤◌, Bool, true, false, cond, List, [], ◌∷◌, take, get_or, length, refl, ap, sym, ◌∙◌, subst, arith}
-use Rattle.std.specs.Prelude.{filter, Option, Some, None, Contains}
+use Rattle.std.proofs.Common.{◌≡◌, ◌≢◌, ℕ, zero, suc, ◌+◌, ◌<◌, ◌≤◌, Bool, true, false, cond, List, [], ◌∷◌, ◌++◌, take, get_or, length, refl, ap, sym, ◌∙◌, subst, append-nil, arith}
+use Rattle.std.specs.Prelude.{filter, Option, Some, None, Contains, Ok, Err}
+use Rattle.std.proofs.lemmas.Bool.{false≢true}
+use Rattle.mscp_control.proofs.Grows.{ends_more}
 use Rattle.std.specs.List.{AllByRecursion, range_with_len}
 use Rattle.std.proofs.lemmas.List.Elements.{All-contains, All-from_recursion}
 use Rattle.mscp_packet.specs.declared.command.Command.{Command}
 use Rattle.mscp_packet.specs.declared.command.Order.{Order}
 use Rattle.mscp_packet.specs.declared.command.Order.TheVariants as orders
-use Rattle.mscp_packet.specs.declared.end.EndBody.TheVariants as bodies
-use Rattle.mscp_packet.specs.Commands.{command_of}
+use Rattle.mscp_control.specs.declared.event.Event.{Event}
+use Rattle.mscp_control.specs.declared.event.Entry.{Entry}
+use Rattle.mscp_control.specs.declared.event.Entry.TheVariants as entries
+use Rattle.mscp_control.specs.declared.event.Sent.TheVariants as sents
 use Rattle.mscp_control.specs.Settings.{Settings, IsValid, bound}
-use Rattle.mscp_control.specs.History.{Trace, Moment, moment, positions, Service, service_in, WhenStarted}
-use Rattle.mscp_control.specs.Commands.{reference, weight, is_waiting, waiting, done, left, steps_after}
+use Rattle.mscp_control.specs.History.{Trace, Moment, answers, moment, positions, sent_bytes, Service, service_in, WhenStarted}
+use Rattle.mscp_control.specs.Commands.{reference, sent_command, weight, is_waiting, waiting, done, left, steps_after}
 use Rattle.mscp_control.specs.Passing.{passes, is_free}
-use Rattle.mscp_control.specs.Outcomes.{end_with}
 use Rattle.mscp_control.specs.Figures.{figure, figure_of}
-use Rattle.mscp_control.specs.Ends.{answer, answer_to}
+use Rattle.mscp_control.specs.Ends.{answer, answer_to, ends, ends_at}
 use Rattle.mscp_control.specs.Legal.{IsRight, IsLegal}
-use Rattle.mscp_control.specs.Headline.{IsFreeStart, Promise}
+use Rattle.mscp_control.specs.Headline.{IsFreeStart, Promise, TellsFigure, poll_end}
 use Rattle.mscp_control.proofs.Lists.{every_weaker, every_append, every_both}
 use Rattle.mscp_control.proofs.Among.{alone, figure_of_one}
 use Rattle.mscp_control.proofs.Waits.{cut_of, waits_below}
@@ -104,21 +107,29 @@ small c t k x =
 -- ---- polls
 
 -- a poll's own end is its only one
-answered_by : (c : Settings) (t : Trace) (k : Command) (r : ℕ) → k.order ≡ orders.Status r → answer_to c t k ≡ end_with k 0x0000 (bodies.Status r (figure_of c t r)) ∷ []
+answered_by : (c : Settings) (t : Trace) (k : Command) (r : ℕ) → k.order ≡ orders.Status r → answer_to c t k ≡ poll_end k r (figure_of c t r) ∷ []
 answered_by c t k r e =
     let with_order : Order → Command = λ o. record { reference = k.reference; unit = k.unit; order = o } in
-    ap (λ o. answer_to c t (with_order o)) e ∙ ap (λ o. end_with (with_order o) 0x0000 (bodies.Status r (figure_of c t r)) ∷ []) (sym e)
+    ap (λ o. answer_to c t (with_order o)) e ∙ ap (λ o. poll_end (with_order o) r (figure_of c t r) ∷ []) (sym e)
 
 figure_told : (c : Settings) (t : Trace) → Steady c t → (x : ℕ) → Contains (waiting t) x → figure_of c t (reference t x) ≡ figure c t x
 figure_told c t steady x w =
     let P : ℕ → Type 0 = λ x. figure_of c t (reference t x) ≡ figure c t x in
     one_of P (waiting t) (every_split P (waiting t) (λ A y B e. figure_of_one c t y A B (alone t y A B steady.apart (cut_of t A y B e)))) x w
 
-told : (c : Settings) (t : Trace) → Steady c t → (x : ℕ) → Contains (waiting t) x → (b : List ℕ) → (command_of b).order ≡ orders.Status (reference t x)
-    → answer c t b ≡ end_with (command_of b) 0x0000 (bodies.Status (reference t x) (figure c t x)) ∷ []
+-- what is answered at once makes the ends of its answer
+ends_answered : (c : Settings) (t : Trace) (event : Event) (entry : Entry) → answers entry ≡ true → ends_at c t (event, entry) ≡ answer c t (sent_bytes event)
+ends_answered c t event (entries.Sent (Ok (sents.Answered r aborted))) h = append-nil (answer c t (sent_bytes event))
+ends_answered c t event (entries.Sent (Ok (sents.Queued r))) h = absurd (false≢true h)
+ends_answered c t event (entries.Sent (Err fault)) h = absurd (false≢true h)
+ends_answered c t event (entries.Taken end) h = absurd (false≢true h)
+ends_answered c t event (entries.Stepped report) h = absurd (false≢true h)
+ends_answered c t event (entries.Looked list) h = absurd (false≢true h)
+
+told : (c : Settings) (t : Trace) (m : Moment) → TellsFigure c t m (t ++ m ∷ [])
 unfolding answer
-told c t steady x w b e =
-    answered_by c t (command_of b) (reference t x) e ∙ ap (λ n. end_with (command_of b) 0x0000 (bodies.Status (reference t x) n) ∷ []) (figure_told c t steady x w)
+told c t m r a e =
+    ends_more c t m ∙ ap (λ l. ends c t ++ l) (ends_answered c t m.0 m.1 a ∙ answered_by c t (sent_command m) r e)
 
 -- ---- the promise
 
@@ -136,5 +147,6 @@ progress c t valid legal =
       within = λ i h x w. let l = low c (take i t) (at i h) x w in let k = high c (take i t) (at i h) x w in omega (arith, l, k);
       positive = λ i h x. ((λ w. low c (take i t) (at i h) x w), (λ l. some_waits c (take i t) x l));
       small = λ i h x. small c (take i t) (at i h) x;
-      polled = λ i h x w. told c (take i t) (at i h).steady x w;
+      own = λ i h x w. figure_told c (take i t) (at i h).steady x w;
+      polled = λ i h. subst (TellsFigure c (take i t) (moment t i)) (sym (more_at t i h)) (told c (take i t) (moment t i));
     }

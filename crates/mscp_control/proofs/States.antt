@@ -90,14 +90,9 @@ states_step t m s y u front back a e r =
     ∙ ap (λ b. if nat_eq (unit t y) u then (if b then states_ended (order t y) s.ended else []) else []) (eq-eqb s.reference (reference t y) r)))
 
 -- The state that an order gives is that which it leaves.
-given_is : (b on : Bool) (state : Bool) → last_or (if (if b then state else false) then true ∷ [] else (if (if b then state else true) then [] else false ∷ [])) on ≡ (if b then state else on)
-given_is true on true = refl
-given_is true on false = refl
-given_is false on state = refl
-
 last_given : (on : Bool) (order : Order) (status : ℕ) → last_or (states_given order status) on ≡ state_after on order status
-last_given on orders.Online status = given_is (is_success status) on true
-last_given on orders.Available status = given_is (is_success status) on false
+last_given on orders.Online status = elim (is_success status) as (λ b. last_or (if b then true ∷ [] else []) on ≡ (if b then true else on)) [ true ↦ refl | false ↦ refl ]
+last_given on orders.Available status = elim (is_success status) as (λ b. last_or (if b then false ∷ [] else []) on ≡ (if b then false else on)) [ true ↦ refl | false ↦ refl ]
 last_given on order status = refl
 
 -- Where no step serves, each unit keeps its state.

@@ -9,9 +9,13 @@ use Rattle.mscp_control.specs.declared.event.Entry.{Entry}
 use Rattle.mscp_control.specs.declared.event.Entry.TheVariants as entries
 use Rattle.mscp_control.specs.declared.event.Sent.TheVariants as sents
 use Rattle.mscp_control.specs.Arrival.{order_weight}
-use Rattle.mscp_control.specs.History.{Trace, moment, positions, sent_bytes, is_step, is_good, queues, Service, service_in}
+use Rattle.mscp_control.specs.History.{Moment, Trace, moment, positions, sent_bytes, is_step, is_good, queues, Service, service_in}
 
 -- ---- what was asked for
+
+-- the command of a moment's message (manual)
+abbrev pub sent_command : Moment → Command
+sent_command m = command_of (sent_bytes m.0)
 
 -- what was queued at a position (manual)
 unfoldable pub command : Trace → ℕ → Command

@@ -3,46 +3,79 @@
 -- times; every waiting command's status figure falls at each step, never rises between steps, and each queued
 -- command ends within (C - 1 + P) * L steps. C is the number of credits, P the passing limit and L the longest
 -- transfer. No picker is handed in so far.
-use Rattle.std.specs.Prelude.{◌≡◌, ◌↔◌, ℕ, ◌+◌, ◌<◌, ◌≤◌, true, List, [], ◌∷◌, length, take, zip, Contains}
+use Rattle.std.specs.Prelude.{◌≡◌, ◌↔◌, ℕ, ◌+◌, ◌<◌, ◌≤◌, true, List, [], ◌∷◌, ◌++◌, length, take, zip, Contains}
+use Rattle.mscp_packet.specs.declared.command.Command.{Command}
 use Rattle.mscp_packet.specs.declared.command.Order.TheVariants as orders
+use Rattle.mscp_packet.specs.declared.end.End.{End}
 use Rattle.mscp_packet.specs.declared.end.EndBody.TheVariants as bodies
-use Rattle.mscp_packet.specs.Commands.{command_of}
 use Rattle.mscp_control.specs.declared.event.Event.{Event}
 use Rattle.mscp_control.specs.declared.event.Entry.{Entry}
 use Rattle.mscp_control.specs.Settings.{Settings, IsValid, bound}
 use Rattle.mscp_control.specs.Outcomes.{end_with}
-use Rattle.mscp_control.specs.History.{Trace, moment, is_step, Service, service_in, WhenStarted}
-use Rattle.mscp_control.specs.Commands.{reference, waiting, steps_after}
+use Rattle.mscp_control.specs.History.{Moment, Trace, moment, answers, is_step, Service, service_in, WhenStarted}
+use Rattle.mscp_control.specs.Commands.{reference, sent_command, waiting, steps_after}
 use Rattle.mscp_control.specs.Passing.{is_free, passes}
-use Rattle.mscp_control.specs.Figures.{figure}
-use Rattle.mscp_control.specs.Ends.{answer, untaken}
+use Rattle.mscp_control.specs.Figures.{figure, figure_of}
+use Rattle.mscp_control.specs.Ends.{ends, untaken}
 use Rattle.mscp_control.specs.Legal.{IsLegal}
 
--- the waiting command of the reference that is served stays behind no other (manual)
-abbrev pub IsFreeStart : Trace → Service → Type 0
-IsFreeStart t s = (y : ℕ) → Contains (waiting t) y → reference t y ≡ s.reference → is_free t y ≡ true
+-- ---- words
 
--- what each legal trace promises, of every part of it from its beginning (profile)
+-- R holds of every part of t from its beginning, of the whole of it too
+abbrev pub Always : Trace → (Trace → Type 0) → Type 0
+Always t R = (i : ℕ) → i ≤ length t → R (take i t)
+
+-- R holds at each moment of t, of what came before it, of itself, and of what there is with it
+abbrev pub AtEach : Trace → (Trace → Moment → Trace → Type 0) → Type 0
+AtEach t R = (i : ℕ) → i < length t → R (take i t) (moment t i) (take (i + 1) t)
+
+-- R holds of each command that waits after t
+abbrev pub EachWaiting : Trace → (ℕ → Type 0) → Type 0
+EachWaiting t R = (x : ℕ) → Contains (waiting t) x → R x
+
+-- ---- starts and polls
+
+-- the waiting command of the reference number that is served stays behind no other (manual, "Command Categories and
+-- Execution Order")
+abbrev pub IsFreeStart : Trace → Service → Type 0
+IsFreeStart t s = EachWaiting t (λ y. reference t y ≡ s.reference → is_free t y ≡ true)
+
+-- the end of a GET COMMAND STATUS that asks for the command of this reference number, and is told this figure (manual)
+abbrev pub poll_end : Command → ℕ → ℕ → End
+poll_end command reference figure = end_with command 0x0000 (bodies.Status reference figure)
+
+-- where m answers a poll, the ends are those before it and one more: the poll's own, with the figure of the command
+-- that it names, 0 where none of that reference number waits (manual, "Host Command Timeouts")
+abbrev pub TellsFigure : Settings → Trace → Moment → Trace → Type 0
+TellsFigure c before m after =
+    (reference : ℕ) → answers m.1 ≡ true → (sent_command m).order ≡ orders.Status reference
+    → ends c after ≡ ends c before ++ poll_end (sent_command m) reference (figure_of c before reference) ∷ []
+
+-- ---- the promise
+
+-- what each legal trace promises (profile)
 pub record Promise (c : Settings) (t : Trace) : Type 0 where
-  -- untaken and waiting commands never exceed the credits (manual)
-  pub credits : (i : ℕ) → i ≤ length t → length (waiting (take i t)) + length (untaken c (take i t)) ≤ c.credits
-  -- none passes a sequential command of its unit, and a sequential command passes none of its unit (manual)
-  pub fences : (i : ℕ) → i < length t → WhenStarted (IsFreeStart (take i t)) (service_in (moment t i).1)
+  -- untaken ends and waiting commands never exceed the credits (manual, "Flow Control")
+  pub credits : Always t (λ s. length (waiting s) + length (untaken c s) ≤ c.credits)
+  -- none passes a sequential command of its unit, and a sequential command passes none of its unit (manual, "Command
+  -- Categories and Execution Order")
+  pub fences : AtEach t (λ before m after. WhenStarted (IsFreeStart before) (service_in m.1))
   -- none is passed more often than the passing limit (profile)
-  pub passing : (i : ℕ) → i ≤ length t → (x : ℕ) → Contains (waiting (take i t)) x → passes (take i t) x ≤ c.passing
+  pub passing : Always t (λ s. EachWaiting s (λ x. passes s x ≤ c.passing))
   -- every waiting command's status figure falls at each step (profile)
-  pub falls : (i : ℕ) → i < length t → is_step (moment t i).0 ≡ true → (x : ℕ) → Contains (waiting (take i t)) x → figure c (take (i + 1) t) x < figure c (take i t) x
+  pub falls : AtEach t (λ before m after. is_step m.0 ≡ true → EachWaiting before (λ x. figure c after x < figure c before x))
   -- it never rises between steps, whatever comes (profile)
-  pub never_rises : (i : ℕ) → i < length t → (x : ℕ) → Contains (waiting (take i t)) x → figure c (take (i + 1) t) x ≤ figure c (take i t) x
+  pub never_rises : AtEach t (λ before m after. EachWaiting before (λ x. figure c after x ≤ figure c before x))
   -- each queued command ends within the bound: one that still waits has seen fewer steps (profile)
-  pub within : (i : ℕ) → i ≤ length t → (x : ℕ) → Contains (waiting (take i t)) x → steps_after (take i t) x < bound c
+  pub within : Always t (λ s. EachWaiting s (λ x. steps_after s x < bound c))
   -- a figure is at least 1 exactly where its command waits (profile)
-  pub positive : (i : ℕ) → i ≤ length t → (x : ℕ) → Contains (waiting (take i t)) x ↔ (1 ≤ figure c (take i t) x)
+  pub positive : Always t (λ s. (x : ℕ) → Contains (waiting s) x ↔ (1 ≤ figure c s x))
   -- and at most the bound (profile)
-  pub small : (i : ℕ) → i ≤ length t → (x : ℕ) → figure c (take i t) x ≤ bound c
-  -- a poll of a waiting command, where it is answered, makes one end, which tells its figure (manual)
-  pub polled : (i : ℕ) → i ≤ length t → (x : ℕ) → Contains (waiting (take i t)) x → (b : List ℕ) → (command_of b).order ≡ orders.Status (reference (take i t) x)
-      → answer c (take i t) b ≡ end_with (command_of b) 0x0000 (bodies.Status (reference (take i t) x) (figure c (take i t) x)) ∷ []
+  pub small : Always t (λ s. (x : ℕ) → figure c s x ≤ bound c)
+  -- the figure of a waiting command's reference number is the command's own (profile)
+  pub own : Always t (λ s. EachWaiting s (λ x. figure_of c s (reference s x) ≡ figure c s x))
+  -- each poll that is answered is told the figure of the command that it names (manual, "Host Command Timeouts")
+  pub polled : AtEach t (TellsFigure c)
 
 -- what is promised of these events and the entries that a run answers to them (profile)
 pub record Headline (c : Settings) (events : List Event) (entries : List Entry) : Type 0 where
@@ -53,6 +86,6 @@ pub record Headline (c : Settings) (events : List Event) (entries : List Entry) 
   -- and so all that a legal trace promises holds (profile)
   pub promise : Promise c (zip events entries)
 
--- the law: whatever is legal keeps the promise, whoever answered it (profile)
+-- the law: every legal trace of a valid configuration keeps the promise, whoever answered it (profile)
 abbrev pub LegalTracesMakeProgress : Type 0
 LegalTracesMakeProgress = (c : Settings) (t : Trace) → IsValid c → IsLegal c t → Promise c t

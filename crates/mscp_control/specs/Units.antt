@@ -1,22 +1,23 @@
 -- Each unit's state and head after a run.
 use Rattle.std.specs.Prelude.{ℕ, Bool, true, false, nat_eq, nat_lt, if◌then◌else◌, ◌==◌, List, [], ◌∷◌, Option, Some, None, option_map, option_to_list, flat_map}
 use Rattle.mscp_packet.specs.declared.command.Order.{Order}
+use Rattle.mscp_packet.specs.declared.command.Order.TheVariants as orders
 use Rattle.mscp_packet.specs.declared.end.End.{End}
 use Rattle.mscp_drive.specs.Shape.{Shape, cylinder_of}
 use Rattle.mscp_drive.specs.declared.head.Head.{Head}
 use Rattle.mscp_control.specs.Settings.{Settings, unit_shape}
-use Rattle.mscp_control.specs.Outcomes.{state_after}
+use Rattle.mscp_control.specs.Outcomes.{is_success}
 use Rattle.mscp_control.specs.History.{Moment, Trace, collect, last_or, Service, service_in}
 use Rattle.mscp_control.specs.Commands.{reference, unit, order, waiting}
 
 -- ---- states
 
--- the state that an order gives to its unit, whatever the state was, where it ends with this status: true is
--- online (manual)
+-- the state that an order gives to its unit where it ends with this status: true is online. ONLINE and AVAILABLE that
+-- end with Success give one, and nothing else does (manual)
 abbrev pub states_given : Order → ℕ → List Bool
-states_given order status =
-    if state_after false order status then true ∷ [] else (
-    if state_after true order status then [] else false ∷ [])
+states_given orders.Online status = if is_success status then true ∷ [] else []
+states_given orders.Available status = if is_success status then false ∷ [] else []
+states_given order status = []
 
 -- the same of an order that ends so, or doesn't end (manual)
 abbrev pub states_ended : Order → Option End → List Bool
