@@ -1,6 +1,6 @@
 // A whole run.
 
-ghost use Rattle.std.specs.Prelude.{◌≡◌, IfOk};
+ghost use Rattle.std.specs.Prelude.{◌≡◌, ◌+◌, ◌<◌, ◌≤◌, [], ◌∷◌, ◌++◌, length, vec_capacity, vec_len, IfOk};
 ghost use Rattle.mscp_control.specs.Holdings.{fresh, replies};
 ghost use Rattle.mscp_control.specs.Headline.{Headline};
 ghost use Rattle.mscp_control.specs.Settings.{IsValid};
@@ -14,17 +14,37 @@ use crate::event::{Entry, Event};
 use crate::memory::OutOfMemory;
 use std::alloc::Global;
 
+/// Appends an entry to a list that has room for it, so that no memory is asked for.
+fn put(entries: &mut Vec<Entry>, entry: Entry)
+    requires { vec_len entries.old < vec_capacity entries.old }
+    ensures items { entries.new.items ≡ entries.old.items ++ entry ∷ [] }
+    ensures len { vec_len entries.new ≡ vec_len entries.old + 1 }
+    ensures capacity { vec_capacity entries.old ≤ vec_capacity entries.new }
+{
+    if entries.push(entry).is_err() {
+        unreachable!();
+    }
+}
+
+/// Appends what the controller answers to the events, one after the other. There is room, so it can't fail.
+fn answer_each(controller: &mut Controller, events: &[Event], entries: &mut Vec<Entry>)
+    requires { vec_len entries.old + length events.now ≤ vec_capacity entries.old }
+    ensures { entries.new.items ≡ entries.old.items ++ replies controller.old events.now }
+{
+    for event in events {
+        put(entries, controller.answer(event));
+    }
+}
+
 /// What a new controller answers to the events, one entry an event: a legal trace, with all that is promised of
-/// one.
+/// one. Memory is asked for once, for all entries, and nothing is answered where it is refused.
 pub fn run(alloc: Global, config: Config, events: &[Event]) -> Result<Vec<Entry>, OutOfMemory>
     ensures valid { IsValid config }
     ensures headline { IfOk result (λ entries. Headline config events.now entries.items) }
     ensures oldest_first { IfOk result (λ entries. entries.items ≡ replies (fresh config) events.now) }
 {
     let mut controller = Controller::new(config);
-    let mut entries = Vec::new(alloc);
-    for event in events {
-        entries.push(controller.answer(event))?;
-    }
+    let mut entries = Vec::with_capacity(alloc, events.len())?;
+    answer_each(&mut controller, events, &mut entries);
     Ok(entries)
 }
