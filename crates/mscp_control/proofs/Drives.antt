@@ -160,12 +160,12 @@ driven_kept c t m ds n r d =
 -- ---- a step
 
 -- a record's end is its command's
-pub end_held : (c : Settings) (t : Trace) (k : Block) (y : ℕ) → good t y ≡ done t y → holdings.end_of k (drive_by c t (unit t y)) (held_of t y) ≡ end_of c t k y
+pub end_held : (c : Settings) (t : Trace) (k : Block) (y : ℕ) → good t y ≡ done t y → holdings.end_given k (drive_by c t (unit t y)) (held_of t y) ≡ end_of c t k y
 unfolding outcome
 end_held c t k y g = ap (λ n. if goes_on (is_online t (unit t y)) (order t y) k (left t y) then None else Some (outcome_of c (is_online t (unit t y)) (command t y) n k)) (sym g)
 
 -- the head goes as far as the run says
-pub seek_held : (c : Settings) (t : Trace) (u : ℕ) (o : Option ℕ) → holdings.seek_to (drive_by c t u) o ≡ seek_to c t u o
+pub seek_held : (c : Settings) (t : Trace) (u : ℕ) (o : Option ℕ) → holdings.seek_from (drive_by c t u) o ≡ seek_to c t u o
 seek_held c t u None = refl
 seek_held c t u (Some block) = refl
 

@@ -118,7 +118,7 @@ steps_oldest h t k y B v a e =
     let drive : drive_of h.drives (unit t y) ≡ d = drive_found c t h.drives (unit t y) a.driven found in
     let P : Entry → Type 0 = λ entry. Sends c t (events.Step k, entry) (served h k r rs (end_of c t k y)) in
     let Q : Option End → Type 0 = λ o. Sends c t (events.Step k, entries.Stepped (report_with k d r)) (served h k r rs o) in
-    let R : Drive → Type 0 = λ d. Sends c t (events.Step k, entries.Stepped (report_with k d r)) (served h k r rs (holdings.end_of k d r)) in
+    let R : Drive → Type 0 = λ d. Sends c t (events.Step k, entries.Stepped (report_with k d r)) (served h k r rs (holdings.end_given k d r)) in
     subst R (sym drive) (subst Q (sym (end_held c t k y well)) (subst P (sym (report_held c t k y well)) (steps_run h t k y B v e a)))
 
 steps_when : (h : Holdings) (t : Trace) (k : Block) → IsValid h.settings → Agrees h.settings t h → (xs : List ℕ) → waiting t ≡ xs

@@ -92,7 +92,7 @@ figure_of_held c t r p =
     let q : ℕ → Bool = λ x. nat_eq (reference t x) r in
     ⊎_elim
     (λ none.
-    ap (holdings.figure_found c rs) (position_none (has_reference r) rs (has_held t r (waiting t) none)) ∙ sym (ap (figure_found c t) (find_none q (waiting t) none)))
+    ap (holdings.figure_at_place c rs) (position_none (has_reference r) rs (has_held t r (waiting t) none)) ∙ sym (ap (figure_found c t) (find_none q (waiting t) none)))
     (λ some.
     let A = some.0 in
     let x = some.1 in
@@ -100,7 +100,7 @@ figure_of_held c t r p =
     let f = some.3 in
     let cut : rs ≡ map h A ++ h x ∷ map h B = ap (map h) f.is ∙ map-append h A (x ∷ B) in
     let own = (every_parts (λ x. passes t x ≡ 0) A (x ∷ B) (subst (AllByRecursion (λ x. passes t x ≡ 0)) f.is p)).1.0 in
-    ap (holdings.figure_found c rs) (ap (position (has_reference r)) cut ∙ position_first (has_reference r) (map h A) (h x) (map h B) (has_held t r A f.before) f.passes)
+    ap (holdings.figure_at_place c rs) (ap (position (has_reference r)) cut ∙ position_first (has_reference r) (map h A) (h x) (map h B) (has_held t r A f.before) f.passes)
     ∙ ((shown_at c t A x B (length (map h A)) f.is own (sym (length-map A h))).1
     ∙ sym (ap (figure_found c t) (ap (find q) f.is ∙ find_first q A x B f.before f.passes))))
     (find_cases q (waiting t))

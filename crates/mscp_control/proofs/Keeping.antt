@@ -13,7 +13,7 @@ use Rattle.mscp_control.specs.declared.record.Record.{Record}
 use Rattle.mscp_control.specs.Settings.{Settings, IsValid, one_block, unit_shape}
 use Rattle.mscp_control.specs.Arrival.{fault_of}
 use Rattle.mscp_control.specs.Outcomes.{answer_body, answer_status, end_with, own_end_with, unit_body}
-use Rattle.mscp_control.specs.Holdings.{Holdings, answered_end, drive_after, drive_of, figure_asked, fresh_drive, served_drives}
+use Rattle.mscp_control.specs.Holdings.{Holdings, answered_end, drive_after, drive_of, figure_polled, fresh_drive, served_drives}
 use Rattle.mscp_control.specs.Kept.{IsHeld, IsKept}
 
 -- a step changes no unit
@@ -56,8 +56,8 @@ pub unit_status_answered : (h : Holdings) (command : Command) → map (λ d. d.u
 unit_status_answered h command e o f =
     let d = drive_of h.drives command.unit in
     ap (λ s. end_with command (if d.online then 0x0000 else 0x0004) (unit_body s)) (sym (drive_shape h.settings h.drives command.unit e))
-    ∙ (ap (λ o. end_with command (answer_status d.online o) (answer_body h.settings (figure_asked h.settings h.waiting command.order) command.unit o)) (sym o)
-    ∙ ap (own_end_with h.settings d.online (figure_asked h.settings h.waiting command.order) command) (sym f))
+    ∙ (ap (λ o. end_with command (answer_status d.online o) (answer_body h.settings (figure_polled h.settings h.waiting command.order) command.unit o)) (sym o)
+    ∙ ap (own_end_with h.settings d.online (figure_polled h.settings h.waiting command.order) command) (sym f))
 
 -- ---- a write to each element
 

@@ -25,7 +25,7 @@ use Rattle.mscp_control.specs.Ends.{aborted, aborted_unless, answer, ends_at, na
 use Rattle.mscp_control.specs.Ends as history
 use Rattle.mscp_control.specs.Credits.{arrival, balance, becomes, becomes_unless, becomes_when, outstanding}
 use Rattle.mscp_control.specs.Legal.{IsRight}
-use Rattle.mscp_control.specs.Holdings.{Holdings, after_message, answer_to_message, answered_end, balance_of, drive_of, ended, figure_asked, held_unless, outstanding_of, queued, sent_unless}
+use Rattle.mscp_control.specs.Holdings.{Holdings, after_message, answer_to_message, answered_end, balance_of, drive_of, ended, figure_polled, held_unless, outstanding_of, queued, sent_unless}
 use Rattle.mscp_control.specs.Holdings as holdings
 use Rattle.mscp_control.proofs.Grows.{untaken_more}
 use Rattle.mscp_control.proofs.Placed.{map_map}
@@ -74,7 +74,7 @@ none_aborted c t k = none_aborted_by c t k.unit k.order
 
 -- ---- its end
 
-asked_held : (c : Settings) (t : Trace) (ws : List Record) (us : List End) (o : Order) → Follows c t ws us → figure_asked c ws o ≡ history.figure_asked c t o
+asked_held : (c : Settings) (t : Trace) (ws : List Record) (us : List End) (o : Order) → Follows c t ws us → figure_polled c ws o ≡ history.figure_asked c t o
 asked_held c t ws us (orders.Status other) f = ap (λ xs. holdings.figure_of_reference c xs other) f.waits ∙ figure_of_held c t other f.unpassed
 asked_held c t ws us (orders.Abort other) f = refl
 asked_held c t ws us orders.UnitStatus f = refl
@@ -107,7 +107,7 @@ answer_held h t b a =
     let c = h.settings in
     let k = command_of b in
     let on = is_online t k.unit in
-    let state = own_same c (drive_of h.drives k.unit).online on (figure_asked c h.waiting k.order) k.reference k.unit k.order (λ found. ap (λ (d : Drive). d.online) (drive_found c t h.drives k.unit a.driven found)) in
+    let state = own_same c (drive_of h.drives k.unit).online on (figure_polled c h.waiting k.order) k.reference k.unit k.order (λ found. ap (λ (d : Drive). d.online) (drive_found c t h.drives k.unit a.driven found)) in
     ap (λ e. e ∷ []) state
     ∙ (ap (λ n. own_end c on n k ∷ []) (asked_held c t h.waiting h.untaken k.order a.follows)
     ∙ ap (λ xs. map (λ x. aborted_end (command t x) (good t x)) xs ++ own_end c on (history.figure_asked c t k.order) k ∷ []) (sym (none_aborted c t k)))

@@ -89,13 +89,13 @@ figure_at c rs place = figure_between c (take place rs) (record_at rs place) (dr
 abbrev pub has_reference : ℕ → Record → Bool
 has_reference reference r = nat_eq r.command.reference reference
 
-abbrev pub figure_found : Settings → List Record → Option ℕ → ℕ
-figure_found c rs None = 0
-figure_found c rs (Some place) = figure_at c rs place
+abbrev pub figure_at_place : Settings → List Record → Option ℕ → ℕ
+figure_at_place c rs None = 0
+figure_at_place c rs (Some place) = figure_at c rs place
 
 -- the figure of the waiting command of a reference number, 0 if there is none (profile)
 abbrev pub figure_of_reference : Settings → List Record → ℕ → ℕ
-figure_of_reference c rs reference = figure_found c rs (position (has_reference reference) rs)
+figure_of_reference c rs reference = figure_at_place c rs (position (has_reference reference) rs)
 
 -- the reference number and the figure of each waiting command, oldest first (profile)
 abbrev pub figures_from : Settings → List Record → List ℕ → List (ℕ × ℕ)
@@ -107,17 +107,17 @@ figures c rs = figures_from c rs (range_with_len 0 (length rs))
 -- ---- a message
 
 -- the figure that an order asks for (manual)
-abbrev pub figure_asked : Settings → List Record → Order → ℕ
-figure_asked c rs (orders.Status other) = figure_of_reference c rs other
-figure_asked c rs order = 0
+abbrev pub figure_polled : Settings → List Record → Order → ℕ
+figure_polled c rs (orders.Status other) = figure_of_reference c rs other
+figure_polled c rs order = 0
 
 -- the record of a command that begins to wait
 abbrev pub fresh_record : Command → Record
 fresh_record command = record { command = command; weight = order_weight command.order; done = 0 }
 
--- what a command becomes that isn't refused: it is queued, or answered at once (manual)
-abbrev pub becomes : Settings → Command → Sent
-becomes c command = if is_queued c command then Queued command.reference else Answered command.reference None
+-- what a command taken_as that isn't refused: it is queued, or answered at once (manual)
+abbrev pub taken_as : Settings → Command → Sent
+taken_as c command = if is_queued c command then Queued command.reference else Answered command.reference None
 
 -- what is held once a command waits, or an end was made
 abbrev pub queued : Holdings → Command → Holdings
@@ -128,7 +128,7 @@ ended h end = record h { untaken = h.untaken ++ end ∷ [] }
 
 -- the end of an answered command, with the figure that it asks for
 abbrev pub answered_end : Holdings → Command → End
-answered_end h command = own_end h.settings (drive_of h.drives command.unit).online (figure_asked h.settings h.waiting command.order) command
+answered_end h command = own_end h.settings (drive_of h.drives command.unit).online (figure_polled h.settings h.waiting command.order) command
 
 -- what is held after the command
 abbrev pub arrives : Holdings → Command → Holdings
@@ -138,7 +138,7 @@ arrives h command =
 
 abbrev pub sent_unless : Settings → Command → Option SendFault → Result Sent SendFault
 sent_unless c command (Some fault) = Err fault
-sent_unless c command None = Ok (becomes c command)
+sent_unless c command None = Ok (taken_as c command)
 
 abbrev pub held_unless : Holdings → Command → Option SendFault → Holdings
 held_unless h command (Some fault) = h
@@ -163,14 +163,14 @@ abbrev pub touched : Drive → Record → Option ℕ
 touched d r = block_touched d.online r.command.order r.done
 
 -- how far the head goes to it (profile)
-abbrev pub seek_to : Drive → Option ℕ → ℕ
-seek_to d None = 0
-seek_to d (Some block) = distance d.head.cylinder (cylinder_of d.unit block)
+abbrev pub seek_from : Drive → Option ℕ → ℕ
+seek_from d None = 0
+seek_from d (Some block) = distance d.head.cylinder (cylinder_of d.unit block)
 
 -- the end that a step with this block gives to a record's command, if it ends. All earlier blocks of a
 -- waiting command were good, or it would have ended (manual)
-abbrev pub end_of : Block → Drive → Record → Option End
-end_of k d r = if goes_on d.online r.command.order k (left_of r) then None else Some (outcome_at d.unit d.online r.command r.done k)
+abbrev pub end_given : Block → Drive → Record → Option End
+end_given k d r = if goes_on d.online r.command.order k (left_of r) then None else Some (outcome_at d.unit d.online r.command r.done k)
 
 -- the state that a step leaves its unit in, which ended the order so or not (manual)
 abbrev pub state_left : Bool → Order → Option End → Bool
@@ -181,13 +181,13 @@ state_left online order (Some e) = state_after online order e.status
 abbrev pub drive_after : Block → Record → Drive → Drive
 drive_after k r d = record {
   unit = d.unit;
-  online = state_left d.online r.command.order (end_of k d r);
+  online = state_left d.online r.command.order (end_given k d r);
   head = head_after (nat_eq r.done 0) (option_map (cylinder_of d.unit) (touched d r)) d.head;
 }
 
 -- what a step with this block reports (manual)
 abbrev pub report_with : Block → Drive → Record → Report
-report_with k d r = Served r.command.reference r.command.unit (touched d r) (nat_eq r.done 0) (seek_to d (touched d r)) (end_of k d r)
+report_with k d r = Served r.command.reference r.command.unit (touched d r) (nat_eq r.done 0) (seek_from d (touched d r)) (end_given k d r)
 
 abbrev pub report_of : Block → List Drive → List Record → Report
 report_of k ds [] = Idle
@@ -201,12 +201,12 @@ remains r (Some end) = []
 -- the waiting commands after it
 abbrev pub waiting_after : Block → List Drive → List Record → List Record
 waiting_after k ds [] = []
-waiting_after k ds (r ∷ rs) = remains r (end_of k (drive_of ds r.command.unit) r) ++ rs
+waiting_after k ds (r ∷ rs) = remains r (end_given k (drive_of ds r.command.unit) r) ++ rs
 
 -- the ends that it makes
 abbrev pub ends_after : Block → List Drive → List Record → List End
 ends_after k ds [] = []
-ends_after k ds (r ∷ rs) = option_to_list (end_of k (drive_of ds r.command.unit) r)
+ends_after k ds (r ∷ rs) = option_to_list (end_given k (drive_of ds r.command.unit) r)
 
 -- the drives after it: that of the command's unit has changed
 abbrev pub served_drive : Block → Record → Drive → Drive

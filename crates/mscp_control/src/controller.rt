@@ -5,7 +5,7 @@ ghost use Rattle.std.specs.List.{list_any};
 ghost use Rattle.mscp_packet.specs.Ends.{end_bytes};
 ghost use Rattle.mscp_control.specs.Arrival.{credit_fault, fault_of, first_block, holds, is_queued, order_weight};
 ghost use Rattle.mscp_control.specs.Settings.{IsValid};
-ghost use Rattle.mscp_control.specs.Holdings.{IsBalanced, advanced, after, after_message, after_step, after_take, answer_to_message, answered_end, arrives, balance_of, becomes, ended, entry_of, figure_of_reference, figures, fresh, outstanding_of, queued, record_at, report_of, served_drives};
+ghost use Rattle.mscp_control.specs.Holdings.{IsBalanced, advanced, after, after_message, after_step, after_take, answer_to_message, answered_end, arrives, balance_of, taken_as, ended, entry_of, figure_of_reference, figures, fresh, outstanding_of, queued, record_at, report_of, served_drives};
 
 #[cfg(test)]
 mod tests;
@@ -18,7 +18,7 @@ use crate::event::{Entry, Event, SendFault, Sent};
 use crate::figure::{figure_at, figure_of_reference};
 use crate::outcome::{controller_end, end_with, refused_end, unit_status_end};
 use crate::record::Record;
-use crate::service::{end_of, seek_to, touched};
+use crate::service::{end_given, seek_from, touched};
 use arrayvec::ArrayVec;
 use mscp_packet::{Command, End, EndBody, Order, PacketFault, read_command, write_end};
 use std::marker::Model;
@@ -183,7 +183,7 @@ impl Controller {
     fn arrive(&mut self, command: Command) -> Sent
         requires free { 1 ≤ balance_of self.old }
         requires spare { is_queued self.old.settings command ≡ true → 2 ≤ balance_of self.old }
-        ensures sent { result ≡ becomes self.old.settings command }
+        ensures sent { result ≡ taken_as self.old.settings command }
         ensures after { self.new ≡ arrives self.old command }
         ensures account { IsBalanced self.new }
     {
@@ -276,7 +276,7 @@ impl Controller {
         let record = self.waiting[0];
         let drive = drive_of(self.drives.as_slice(), record.command.unit);
         let lbn = touched(&drive, &record);
-        let ended = end_of(&drive, &record, &block);
+        let ended = end_given(&drive, &record, &block);
         self.move_drive(&block);
         match ended {
             None => self.advance(),
@@ -287,7 +287,7 @@ impl Controller {
             unit: record.command.unit,
             lbn,
             started: record.done == 0,
-            seek: seek_to(&drive, lbn),
+            seek: seek_from(&drive, lbn),
             ended,
         }
     }

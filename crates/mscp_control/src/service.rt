@@ -3,7 +3,7 @@
 ghost use Rattle.std.specs.Prelude.{◌≡◌, ◌+◌, ◌<◌, ◌^◌};
 ghost use Rattle.mscp_control.specs.Arrival.{first_block};
 ghost use Rattle.mscp_control.specs.Outcomes.{outcome_at, touches, state_after};
-ghost use Rattle.mscp_control.specs.Holdings.{drive_after, end_of, seek_to, state_left, touched};
+ghost use Rattle.mscp_control.specs.Holdings.{drive_after, end_given, seek_from, state_left, touched};
 
 #[cfg(test)]
 mod tests;
@@ -33,8 +33,8 @@ pub(crate) fn touched(drive: &Drive, record: &Record) -> Option<u32>
 }
 
 /// How far the head goes to a block.
-pub(crate) fn seek_to(drive: &Drive, block: Option<u32>) -> u32
-    ensures { result ≡ seek_to drive.now block }
+pub(crate) fn seek_from(drive: &Drive, block: Option<u32>) -> u32
+    ensures { result ≡ seek_from drive.now block }
 {
     match block {
         Some(block) => drive.head.distance(drive.unit.cylinder(block)),
@@ -71,9 +71,9 @@ fn outcome(drive: &Drive, record: &Record, block: &Block) -> End
 }
 
 /// The end that a step with this block gives to the command, if it ends.
-pub(crate) fn end_of(drive: &Drive, record: &Record, block: &Block) -> Option<End>
+pub(crate) fn end_given(drive: &Drive, record: &Record, block: &Block) -> Option<End>
     requires { «record».now.done < «record».now.weight }
-    ensures { result ≡ end_of block.now drive.now «record».now }
+    ensures { result ≡ end_given block.now drive.now «record».now }
 {
     let more = record.weight - record.done > 1;
     match block {
@@ -99,7 +99,7 @@ pub(crate) fn drive_after(drive: &Drive, record: &Record, block: &Block) -> Driv
     requires small { first_block «record».now.command.order + «record».now.done < 2 ^ 32 }
     ensures { result ≡ drive_after block.now «record».now drive.now }
 {
-    let ended = end_of(drive, record, block);
+    let ended = end_given(drive, record, block);
     let head = match touched(drive, record) {
         None => drive.head,
         Some(block) if record.done == 0 => drive.head.moved(drive.unit.cylinder(block)),
