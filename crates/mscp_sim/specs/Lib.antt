@@ -2,3 +2,4 @@ pub mod Whole
 pub mod Text
 pub mod Requests
 pub mod Simulated
+pub mod Causes

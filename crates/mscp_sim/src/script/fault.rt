@@ -1,53 +1,65 @@
 // What can be wrong with a script.
 
-ghost use Rattle.std.specs.Prelude.{◌≡◌, MatchResult};
+ghost use Rattle.std.specs.Prelude.{◌≡◌, ◌≤◌, length, MatchResult};
+ghost use Rattle.mscp_sim.specs.Causes.{cause_word};
 ghost use Rattle.mscp_sim.specs.declared.script.fault.ReadFault.TheVariants as variants;
 
 use mscp_control::OutOfMemory;
 use thiserror::Error;
 
 /// What is wrong with a line: the first that holds, in this order.
-#[derive(Clone, Copy, Debug, PartialEq, Eq, Error)]
+#[derive(Clone, Copy, Debug, PartialEq, Eq)]
 pub enum Cause {
     /// The script has over 16,777,216 bytes.
-    #[error("size")]
     Size,
     /// It is line 1,000,001.
-    #[error("lines")]
     Lines,
     /// It has over 200 bytes.
-    #[error("long")]
     Long,
     /// It has a byte other than a space or a printed ASCII character, and isn't a comment.
-    #[error("byte")]
     Byte,
     /// Its first word isn't one that may stand here.
-    #[error("word")]
     Word,
     /// It has too few or too many words.
-    #[error("count")]
     Count,
     /// A field isn't a number of 1 to 10 decimal digits, or is out of its range.
-    #[error("number")]
     Number,
     /// The unit is refused.
-    #[error("unit")]
     Unit,
     /// The limits are refused.
-    #[error("config")]
     Config,
     /// The script has ended before its header.
-    #[error("header")]
     Header,
     /// The line brings the events over 1,000,000.
-    #[error("events")]
     Events,
+}
+
+impl Cause {
+    /// The word that a fault's line tells the cause by, of at most 6 bytes.
+    pub fn word(self) -> &'static str
+        ensures value { result.now ≡ cause_word self }
+        ensures short { length result.now ≤ 6 }
+    {
+        match self {
+            Cause::Size => "size",
+            Cause::Lines => "lines",
+            Cause::Long => "long",
+            Cause::Byte => "byte",
+            Cause::Word => "word",
+            Cause::Count => "count",
+            Cause::Number => "number",
+            Cause::Unit => "unit",
+            Cause::Config => "config",
+            Cause::Header => "header",
+            Cause::Events => "events",
+        }
+    }
 }
 
 /// The first fault of a script. Lines count from 1, skipped ones too. The line is 0 where the script is too
 /// large, and the number of lines plus 1 where the header isn't whole.
 #[derive(Clone, Copy, Debug, PartialEq, Eq, Error)]
-#[error("line {line}: {cause}")]
+#[error("line {line}: {}", .cause.word())]
 pub struct ScriptFault {
     pub line: u32,
     pub cause: Cause,
