@@ -199,3 +199,45 @@ fn a_host_is_told_of_its_controller(rt: HostRuntime) {
     let wanted = [answered(1), taken(&rt, &told)];
     assert_eq!(rt; entries.as_slice(), wanted.as_slice());
 }
+
+/// READ 1 of block 0, and then so many polls of it, each with a look and a take: two credits are all taken at each
+/// look and take.
+fn polls(rt: &impl Abort, alloc: Global, count: usize) -> Vec<Event> {
+    let mut events = Vec::new(alloc);
+    let mut read = [0; 32];
+    read[0] = 1;
+    read[8] = 0x21;
+    read[13] = 2;
+    events.push(sent(rt, &read)).ok().expect(rt, "memory");
+    for _poll in 0..count {
+        let poll = sent(rt, b"\x03\0\0\0\0\0\0\0\x02\0\0\0\x01\0\0\0");
+        events.push(poll).ok().expect(rt, "memory");
+        events.push(Event::Look).ok().expect(rt, "memory");
+        events.push(Event::Take).ok().expect(rt, "memory");
+    }
+    events
+}
+
+#[test]
+fn a_long_run_finds_memory_at_balance_0(rt: HostRuntime) {
+    let events = polls(&rt, rt.alloc(), 7000);
+    let entries = run(rt.alloc(), config(&rt, 2, 2), &events)
+        .ok()
+        .expect(&rt, "memory");
+    assert_eq!(rt; entries.len(), 21_001);
+    let mut figures = ArrayVec::new();
+    figures.push((1, 17));
+    let told = b"\x03\0\0\0\0\0\0\0\x82\0\0\0\x01\0\0\0\x11\0\0\0";
+    let wanted = [
+        Entry::Sent(Ok(Sent::Queued(1))),
+        answered(3),
+        Entry::Looked(figures),
+        taken(&rt, told),
+    ];
+    assert_eq!(rt; entries[0], wanted[0]);
+    for poll in 0..7000 {
+        assert_eq!(rt; entries[3 * poll + 1], wanted[1]);
+        assert_eq!(rt; entries[3 * poll + 2], wanted[2]);
+        assert_eq!(rt; entries[3 * poll + 3], wanted[3]);
+    }
+}
