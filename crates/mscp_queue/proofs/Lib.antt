@@ -1,0 +1,5 @@
+pub mod Lists
+pub mod Placed
+pub mod Mapped
+pub mod Fronts
+pub mod Starting

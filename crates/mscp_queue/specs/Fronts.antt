@@ -1,0 +1,30 @@
+-- What is kept of the records in front of a place while a view is made.
+use Rattle.std.specs.Prelude.{ℕ, Bool, true, false, not, ◌&&◌, if◌then◌else◌, nat_lt, List, replicate, slice_index_or, slice_set}
+use Rattle.std.specs.List.{position_or_len}
+use Rattle.mscp_queue.specs.declared.drive.Drive.{Drive}
+use Rattle.mscp_queue.specs.declared.front.Front.{Front}
+use Rattle.mscp_queue.specs.Drives.{has_number}
+use Rattle.mscp_queue.specs.Orders.{is_sequential}
+use Rattle.mscp_queue.specs.Records.{Record}
+
+-- the place of the drive of the unit of this number
+abbrev pub drive_place : List Drive → ℕ → ℕ
+drive_place ds number = position_or_len (has_number number) ds
+
+-- nobody is in front
+abbrev pub nobody : Front
+nobody = record { seen = replicate 16 false; fenced = replicate 16 false; affordable = true }
+
+-- those in front let a record start, whose drive stands at this place
+abbrev pub is_let : Front → Record → ℕ → Bool
+is_let f r place =
+    (if is_sequential r.command.order then not (slice_index_or f.seen place false) else not (slice_index_or f.fenced place false))
+    && f.affordable
+
+-- a record among those in front, whose drive stands at this place
+abbrev pub with_record : ℕ → Front → Record → ℕ → Front
+with_record passing f r place = record {
+  seen = slice_set f.seen place true;
+  fenced = if is_sequential r.command.order then slice_set f.fenced place true else f.fenced;
+  affordable = if nat_lt r.passes passing then f.affordable else false;
+}

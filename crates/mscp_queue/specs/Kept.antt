@@ -1,0 +1,69 @@
+-- What is true of each queue, whatever came to it, that no step or push can change.
+use Rattle.std.specs.Prelude.{◌≡◌, ◌≢◌, ℕ, ◌+◌, ◌*◌, ◌^◌, ◌<◌, ◌≤◌, Bool, true, ◌||◌, is_some, unwrap_or, List, [], ◌∷◌, length, map, filter, All}
+use Rattle.std.specs.List.{AllByRecursion}
+use Rattle.mscp_packet.specs.declared.command.Command.{Command}
+use Rattle.mscp_packet.specs.declared.command.Order.{Order}
+use Rattle.mscp_packet.specs.declared.command.Order.TheVariants as orders
+use Rattle.mscp_drive.specs.Shape.{Shape}
+use Rattle.mscp_drive.specs.UnitList.{unit_found}
+use Rattle.mscp_queue.specs.declared.drive.Drive.{Drive}
+use Rattle.mscp_queue.specs.Orders.{is_move, is_sequential, order_weight}
+use Rattle.mscp_queue.specs.Drives.{IsOnUnit, one_block}
+use Rattle.mscp_queue.specs.Records.{Record, is_in_service}
+
+-- the units of drives
+abbrev pub units_of : List Drive → List Shape
+units_of ds = map (λ d. d.unit) ds
+
+-- a unit of this number is among these
+abbrev pub is_known : List Shape → ℕ → Bool
+is_known units number = is_some (unit_found units number)
+
+-- a transfer lies inside its unit (profile)
+abbrev pub IsInside : List Shape → ℕ → Order → Type 0
+IsInside units number (orders.Move kind count block) =
+    block + order_weight (orders.Move kind count block) ≤ (unwrap_or (unit_found units number) one_block).size
+IsInside units number order = Unit {0}
+
+-- a command that may wait is sequential or a transfer, to one of the units, and no step of it reaches past its unit
+pub record IsWaitable (longest : ℕ) (units : List Shape) (c : Command) : Type 0 where
+  pub order : (is_sequential c.order || is_move c.order) ≡ true
+  pub known : is_known units c.unit ≡ true
+  pub short : order_weight c.order ≤ longest
+  pub inside : IsInside units c.unit c.order
+
+-- a command that waits has steps left, all that were served of it were good, and it was passed as often as may be at
+-- the most
+pub record IsKept (passing longest : ℕ) (units : List Shape) (r : Record) : Type 0 where
+  pub waitable : IsWaitable longest units r.command
+  pub weight : r.weight ≡ order_weight r.command.order
+  pub unfinished : r.done < r.weight
+  pub good : r.good ≡ r.done
+  pub passes : r.passes ≤ passing
+
+-- the reference numbers of records
+abbrev pub references : List Record → List ℕ
+references rs = map (λ r. r.command.reference) rs
+
+-- each of these numbers stands once
+abbrev pub AreApart : List ℕ → Type 0
+AreApart [] = Unit {0}
+AreApart (x ∷ xs) = AllByRecursion (λ y. y ≢ x) xs × AreApart xs
+
+-- the limits, the waiting commands and the drives of a queue
+pub record IsHeld (room passing longest : ℕ) (rs : List Record) (ds : List Drive) : Type 0 where
+  pub some_room : 1 ≤ room
+  pub few : room ≤ 63
+  pub some_blocks : 1 ≤ longest
+  pub short : longest ≤ 8388608
+  pub small : (room + passing) * longest < 2 ^ 32
+  -- there is room for those that wait
+  pub fits : length rs ≤ room
+  pub each : All (IsKept passing longest (units_of ds)) rs
+  -- each command has a reference number of its own (manual)
+  pub apart : AreApart (references rs)
+  -- one is in service at the most
+  pub one : length (filter is_in_service rs) ≤ 1
+  pub units : length ds ≤ 16
+  -- each head is on a cylinder of its unit
+  pub heads : All IsOnUnit ds

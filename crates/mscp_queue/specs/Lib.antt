@@ -1,0 +1,10 @@
+pub mod Orders
+pub mod Outcomes
+pub mod Drives
+pub mod Records
+pub mod Views
+pub mod Serving
+pub mod Figures
+pub mod Lines
+pub mod Kept
+pub mod Fronts

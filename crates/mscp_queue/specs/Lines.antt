@@ -1,0 +1,60 @@
+-- What callers see of a queue: its limits, its waiting commands, its drives and its picker.
+use Rattle.std.specs.Prelude.{◌≡◌, ℕ, List, [], ◌∷◌, ◌++◌, map, refl}
+use Rattle.std.specs.Coded.{Coded, code_by, coded×, coded_list, coded_ℕ}
+use Rattle.mscp_packet.specs.declared.command.Command.{Command}
+use Rattle.mscp_drive.specs.Shape.{Shape}
+use Rattle.mscp_queue.specs.declared.block.Block.{Block}
+use Rattle.mscp_queue.specs.declared.report.Report.{Report}
+use Rattle.mscp_queue.specs.declared.report.Report.TheVariants.{Idle}
+use Rattle.mscp_queue.specs.declared.drive.Drive.{Drive}
+use Rattle.mscp_queue.specs.declared.view.Choice.{Choice}
+use Rattle.mscp_queue.specs.Drives.{fresh_drive}
+use Rattle.mscp_queue.specs.Records.{Record, fresh_record, record_at}
+use Rattle.mscp_queue.specs.Serving.{IsNext, drive_at, drives_after, report_of, waiting_after}
+
+-- how many commands may wait, how often one may be passed, and the longest transfer in blocks (profile); the waiting
+-- commands, in order of arrival; the drives, in the order of their units; and who picks
+pub record Line (K : Type 0) : Type 0 where
+  pub room : ℕ
+  pub passing : ℕ
+  pub longest : ℕ
+  pub waiting : List Record
+  pub drives : List Drive
+  pub picker : K
+
+-- a queue to which nothing came so far
+abbrev pub fresh : {K : Type 0} → List Shape → ℕ → ℕ → ℕ → K → Line K
+fresh units room passing longest picker = record {
+  room = room;
+  passing = passing;
+  longest = longest;
+  waiting = [];
+  drives = map fresh_drive units;
+  picker = picker;
+}
+
+-- a queue once a command waits
+abbrev pub pushed : {K : Type 0} → Line K → Command → Line K
+pushed line c = record line { waiting = line.waiting ++ fresh_record c ∷ [] }
+
+-- a queue after a step of the record at a place
+abbrev pub served : {K : Type 0} → Block → Line K → ℕ → Line K
+served k line place = record line {
+  waiting = waiting_after k (drive_at line.drives line.waiting place) line.waiting place;
+  drives = drives_after k line.drives line.waiting place;
+}
+
+-- the step serves the record at a place
+pub record ServesAt {K : Type 0} (picks : List Choice → ℕ → Type 0) (k : Block) (old : Line K) (report : Report) (new : Line K) (place : ℕ) : Type 0 where
+  -- it may be served next (profile)
+  pub next : IsNext picks old.passing old.waiting place
+  -- this is what is reported of it (manual, the seek is the profile's)
+  pub told : report ≡ report_of k (drive_at old.drives old.waiting place) (record_at old.waiting place)
+  -- and this is what it leaves
+  pub left : new ≡ served k old place
+
+-- what a step with this block may report, and what it leaves: a relation, since any record that may start may be the
+-- one that the picker picks (profile)
+abbrev pub Serves : {K : Type 0} → (List Choice → ℕ → Type 0) → Block → Line K → Report → Line K → Type 0
+Serves picks k old Idle new = (old.waiting ≡ []) × (new ≡ old)
+Serves picks k old report new = (place : ℕ) × ServesAt picks k old report new place

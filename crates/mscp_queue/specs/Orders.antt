@@ -1,0 +1,41 @@
+-- What an order is to a queue. Nothing here asks what came before it.
+use Rattle.std.specs.Prelude.{ℕ, Bool, true, false, bit_or, if◌then◌else◌, ◌==◌}
+use Rattle.mscp_packet.specs.declared.class.Class.{Class}
+use Rattle.mscp_packet.specs.declared.command.Order.{Order}
+use Rattle.mscp_packet.specs.declared.command.Order.TheVariants as orders
+use Rattle.mscp_packet.specs.Opcodes.{class}
+use Rattle.mscp_packet.specs.Commands.{opcode_byte}
+use Rattle.mscp_drive.specs.Extent as extent
+
+-- how many steps an order takes: one for each block of a transfer, and at least one (profile)
+abbrev pub order_weight : Order → ℕ
+order_weight (orders.Move kind count block) = extent.weight count
+order_weight order = 1
+
+-- kept in its place among the commands of its unit (manual, "Command Categories and Execution Order")
+abbrev pub is_sequential : Order → Bool
+is_sequential orders.Available = true
+is_sequential orders.Online = true
+is_sequential orders.SetUnit = true
+is_sequential order = false
+
+-- a transfer, which may be reordered (manual, "Command Categories and Execution Order")
+abbrev pub is_move : Order → Bool
+is_move (orders.Move kind count block) = true
+is_move order = false
+
+-- the class of an order, by its opcode (manual, "Command Categories and Execution Order")
+abbrev pub order_class : Order → Class
+order_class order = class (opcode_byte order)
+
+-- the first block of an order: 0 where it has none
+abbrev pub first_block : Order → ℕ
+first_block (orders.Move kind count block) = block
+first_block order = 0
+
+-- the endcode: the opcode with the top bit set. An opcode that is unknown, or isn't served so far, has that
+-- bit alone (manual, the latter is the profile's)
+abbrev pub endcode : Order → ℕ
+endcode (orders.Invalid opcode status) = if status == 0x0801 then 0x80 else bit_or opcode 0x80
+endcode (orders.Abort other) = 0x80
+endcode order = bit_or (opcode_byte order) 0x80

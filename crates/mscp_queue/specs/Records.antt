@@ -1,0 +1,64 @@
+-- The waiting commands as records, in order of arrival.
+use Rattle.std.specs.Prelude.{ℕ, ◌+◌, ◌-◌, cond, Bool, nat_eq, nat_lt, List, [], ◌∷◌, slice_index_or, Option, Some, None}
+use Rattle.mscp_packet.specs.declared.command.Command.{Command}
+use Rattle.mscp_packet.specs.declared.command.Order.TheVariants as orders
+use Rattle.mscp_packet.specs.declared.end.End.{End}
+use Rattle.mscp_queue.specs.Orders.{order_weight}
+
+-- a waiting command: how many steps it takes, how many it had, how many of its blocks were good, and how often
+-- it was passed (profile)
+pub record Record : Type 0 where
+  pub command : Command
+  pub weight : ℕ
+  pub done : ℕ
+  pub good : ℕ
+  pub passes : ℕ
+
+-- the record of a command that begins to wait
+abbrev pub fresh_record : Command → Record
+fresh_record c = record { command = c; weight = order_weight c.order; done = 0; good = 0; passes = 0 }
+
+-- a record of nothing, which stands past the end of a list
+abbrev pub no_record : Record
+no_record = record { command = record { reference = 0; unit = 0; order = orders.Online }; weight = 0; done = 0; good = 0; passes = 0 }
+
+-- the record at a place: past the end, one of nothing
+abbrev pub record_at : List Record → ℕ → Record
+record_at rs place = slice_index_or rs place no_record
+
+-- the record is of the command of this reference number
+abbrev pub has_reference : ℕ → Record → Bool
+has_reference reference r = nat_eq r.command.reference reference
+
+-- how many steps are left of a record (profile)
+abbrev pub left_of : Record → ℕ
+left_of r = r.weight - r.done
+
+-- the record's command was served and waits for its next step (profile)
+abbrev pub is_in_service : Record → Bool
+is_in_service r = nat_lt 0 r.done
+
+-- the record's command was never served (profile)
+abbrev pub is_unstarted : Record → Bool
+is_unstarted r = nat_eq r.done 0
+
+-- what the start of a record's command costs each earlier command that waits: one pass (profile)
+abbrev pub toll : Record → ℕ
+toll r = 1
+
+-- what a step of a record costs each earlier command: the toll of a start (profile)
+abbrev pub cost_of : Record → ℕ
+cost_of r = cond (is_unstarted r) (toll r) 0
+
+-- the record once its command was passed at this toll
+abbrev pub passed_by : ℕ → Record → Record
+passed_by n r = record { command = r.command; weight = r.weight; done = r.done; good = r.good; passes = r.passes + n }
+
+-- the record after a step of its command that doesn't end it: the block was good
+abbrev pub advanced : Record → Record
+advanced r = record { command = r.command; weight = r.weight; done = r.done + 1; good = r.good + 1; passes = r.passes }
+
+-- what a step leaves of the record, which ended its command or not
+abbrev pub remains : Record → Option End → List Record
+remains r None = advanced r ∷ []
+remains r (Some end) = []

@@ -1,0 +1,73 @@
+-- One step: what it does with a record and its drive, and which record it may serve.
+use Rattle.std.specs.Prelude.{◌≡◌, ℕ, ◌+◌, ◌<◌, Bool, true, if◌then◌else◌, List, [], ◌++◌, length, map, take, drop, All, Option, Some, None, option_map}
+use Rattle.mscp_packet.specs.declared.command.Order.{Order}
+use Rattle.mscp_packet.specs.declared.end.End.{End}
+use Rattle.mscp_drive.specs.Shape.{cylinder_of}
+use Rattle.mscp_drive.specs.Heads.{distance}
+use Rattle.mscp_queue.specs.declared.block.Block.{Block}
+use Rattle.mscp_queue.specs.declared.report.Report.{Report}
+use Rattle.mscp_queue.specs.declared.report.Report.TheVariants.{Idle, Served}
+use Rattle.mscp_queue.specs.declared.drive.Drive.{Drive}
+use Rattle.mscp_queue.specs.declared.view.Choice.{Choice}
+use Rattle.mscp_queue.specs.Outcomes.{block_touched, goes_on, head_after, outcome_at, state_after}
+use Rattle.mscp_queue.specs.Drives.{drive_of, replaced}
+use Rattle.mscp_queue.specs.Records.{Record, cost_of, is_unstarted, left_of, passed_by, record_at, remains}
+use Rattle.mscp_queue.specs.Views.{IsPick}
+
+-- ---- a record on its drive
+
+-- the block that a step of a record's command touches on its drive (manual)
+abbrev pub touched : Drive → Record → Option ℕ
+touched d r = block_touched d.online r.command.order r.done
+
+-- how far the head goes to it (profile)
+abbrev pub seek_from : Drive → Option ℕ → ℕ
+seek_from d None = 0
+seek_from d (Some block) = distance d.head.cylinder (cylinder_of d.unit block)
+
+-- the end that a step with this block gives to a record's command, if it ends (manual)
+abbrev pub end_given : Block → Drive → Record → Option End
+end_given k d r =
+    if goes_on d.online r.command.order k (left_of r) then None
+    else Some (outcome_at d.unit d.online r.command r.good k)
+
+-- the state that a step leaves its unit in, which ended the order so or not (manual)
+abbrev pub state_left : Bool → Order → Option End → Bool
+state_left online order None = online
+state_left online order (Some e) = state_after online order e.status
+
+-- the drive after a step of a record's command (manual, the head is the profile's)
+abbrev pub drive_after : Block → Drive → Record → Drive
+drive_after k d r = record {
+  unit = d.unit;
+  online = state_left d.online r.command.order (end_given k d r);
+  head = head_after (is_unstarted r) (option_map (cylinder_of d.unit) (touched d r)) d.head;
+}
+
+-- what a step with this block reports of a record (manual)
+abbrev pub report_of : Block → Drive → Record → Report
+report_of k d r =
+    Served r.command.reference r.command.unit (touched d r) (is_unstarted r) (seek_from d (touched d r)) (end_given k d r)
+
+-- ---- a record among the others
+
+-- the waiting commands after a step of the record at a place: each one in front of a start was passed (profile)
+abbrev pub waiting_after : Block → Drive → List Record → ℕ → List Record
+waiting_after k d rs place =
+    map (passed_by (cost_of (record_at rs place))) (take place rs)
+    ++ (remains (record_at rs place) (end_given k d (record_at rs place)) ++ drop (place + 1) rs)
+
+-- the record at a place may be served next: it is in service, or nothing is and the picker may pick it (profile)
+pub record IsNext (picks : List Choice → ℕ → Type 0) (passing : ℕ) (rs : List Record) (place : ℕ) : Type 0 where
+  pub inside : place < length rs
+  pub idle : is_unstarted (record_at rs place) ≡ true → All (λ r. r.done ≡ 0) rs
+  pub picked : is_unstarted (record_at rs place) ≡ true → IsPick picks passing rs place
+
+-- the drive of the record at a place
+abbrev pub drive_at : List Drive → List Record → ℕ → Drive
+drive_at ds rs place = drive_of ds (record_at rs place).command.unit
+
+-- the drives after a step of the record at a place: that of its unit has changed
+abbrev pub drives_after : Block → List Drive → List Record → ℕ → List Drive
+drives_after k ds rs place =
+    replaced (record_at rs place).command.unit (drive_after k (drive_at ds rs place) (record_at rs place)) ds

@@ -1,0 +1,49 @@
+-- What may start, and what a picker sees of it.
+use Rattle.std.specs.Prelude.{◌≡◌, ℕ, ◌+◌, ◌<◌, Bool, not, ◌&&◌, ◌||◌, nat_eq, nat_le, List, length, map, take, filter, slice_index_or}
+use Rattle.std.specs.List.{list_all, range_with_len}
+use Rattle.mscp_queue.specs.declared.view.Choice.{Choice}
+use Rattle.mscp_queue.specs.Orders.{is_sequential, order_class}
+use Rattle.mscp_queue.specs.Records.{Record, record_at, toll}
+
+-- r has to stay behind z: both are of one unit, and one of them is sequential (manual, "Command Categories and
+-- Execution Order")
+abbrev pub fences : Record → Record → Bool
+fences r z = nat_eq z.command.unit r.command.unit && (is_sequential z.command.order || is_sequential r.command.order)
+
+-- the record stays behind none of those in front of it (manual, "Command Categories and Execution Order")
+abbrev pub is_free : Record → List Record → Bool
+is_free r front = list_all (λ z. not (fences r z)) front
+
+-- none of those in front of the record is passed too often where it starts (profile)
+abbrev pub is_affordable : ℕ → Record → List Record → Bool
+is_affordable passing r front = list_all (λ z. nat_le (z.passes + toll r) passing) front
+
+-- where nothing is in service, the record behind those in front of it may start (manual, the passing limit is the
+-- profile's)
+abbrev pub is_open : ℕ → Record → List Record → Bool
+is_open passing r front = is_free r front && is_affordable passing r front
+
+-- the record at a place may start, where nothing is in service
+abbrev pub is_open_at : ℕ → List Record → ℕ → Bool
+is_open_at passing rs place = is_open passing (record_at rs place) (take place rs)
+
+-- the places that may start, where nothing is in service, in order of arrival (profile)
+abbrev pub open_places : ℕ → List Record → List ℕ
+open_places passing rs = filter (is_open_at passing rs) (range_with_len 0 (length rs))
+
+-- what a picker sees of a record (profile)
+abbrev pub choice_of : Record → Choice
+choice_of r = record { reference = r.command.reference; unit = r.command.unit; class = order_class r.command.order; cost = 0 }
+
+abbrev pub choices_at : List Record → List ℕ → List Choice
+choices_at rs places = map (λ place. choice_of (record_at rs place)) places
+
+-- what a picker sees where nothing is in service: exactly the records that may start, in order of arrival (profile)
+abbrev pub view_of : ℕ → List Record → List Choice
+view_of passing rs = choices_at rs (open_places passing rs)
+
+-- the record at a place may be picked: it stands in the view, at a place that the picker's relation allows (profile)
+abbrev pub IsPick : (List Choice → ℕ → Type 0) → ℕ → List Record → ℕ → Type 0
+IsPick picks passing rs place =
+    (i : ℕ) × (i < length (open_places passing rs)) × (slice_index_or (open_places passing rs) i 0 ≡ place)
+    × picks (view_of passing rs) i

@@ -1,0 +1,90 @@
+// A unit with its state and its head.
+
+ghost use Rattle.std.specs.Prelude.{◌≡◌, ◌≤◌, if◌then◌else◌, find, length, map};
+ghost use Rattle.std.specs.Option.{option_copied};
+ghost use Rattle.mscp_queue.specs.Drives.{drive_of, fresh_drive, has_number, one_block, replaced};
+
+use arrayvec::ArrayVec;
+use mscp_drive::{Head, Unit};
+
+/// A unit, whether it is online, and where its head is.
+#[derive(Clone, Copy, Debug, PartialEq, Eq)]
+pub struct Drive {
+    pub unit: Unit,
+    pub online: bool,
+    pub head: Head,
+}
+
+impl Drive {
+    ghost use Rattle.mscp_queue.specs.Drives.{fresh_drive};
+
+    /// The drive of a unit to which nothing came so far: the unit is available, and its head is on cylinder 0
+    /// and goes up.
+    pub fn new(unit: Unit) -> Drive
+        ensures { result ≡ fresh_drive unit }
+    {
+        Drive {
+            unit,
+            online: false,
+            head: Head::default(),
+        }
+    }
+}
+
+/// The drive of the smallest unit, which fills the places of a list that isn't full.
+impl Default for Drive {
+    fn default() -> Drive
+        ensures { result ≡ fresh_drive one_block }
+    {
+        Drive::new(Unit::default())
+    }
+}
+
+/// A drive for each unit.
+pub(crate) fn drives_of(units: &[Unit]) -> ArrayVec<Drive, 16>
+    requires { length units.now ≤ 16 }
+    ensures { result.items ≡ map fresh_drive units.now }
+{
+    let mut drives = ArrayVec::new();
+    for unit in units {
+        drives.push(Drive::new(*unit));
+    }
+    drives
+}
+
+/// The drive of the unit with this number, if the unit is configured.
+pub(crate) fn find_drive(drives: &[Drive], number: u16) -> Option<&Drive>
+    ensures { option_copied result ≡ find (has_number number) drives.now }
+{
+    drives.iter().find(|drive| drive.unit.number() == number)
+}
+
+/// The drive of the unit with this number. There is one for each unit that is configured.
+pub(crate) fn drive_of(drives: &[Drive], number: u16) -> Drive
+    ensures { result ≡ drive_of drives.now number }
+{
+    match find_drive(drives, number) {
+        Some(drive) => *drive,
+        None => Drive::default(),
+    }
+}
+
+/// Puts a drive in the place of that of the unit with this number.
+pub(crate) fn replace_drive(drives: &mut [Drive], number: u16, new: &Drive)
+    ensures { drives.new ≡ replaced number new.now drives.old }
+{
+    for drive in drives.iter_mut() {
+        *drive = replaced(drive, number, new);
+    }
+}
+
+/// The new drive in the place of one whose unit has this number, and else the drive itself.
+fn replaced(drive: &Drive, number: u16, new: &Drive) -> Drive
+    ensures { result ≡ (if has_number number drive.now then new.now else drive.now) }
+{
+    if drive.unit.number() == number {
+        *new
+    } else {
+        *drive
+    }
+}

@@ -1,0 +1,64 @@
+// What the records in front of a place leave open to those behind them, kept while a view is made.
+
+ghost use Rattle.std.specs.Prelude.{◌≡◌, ◌<◌};
+ghost use Rattle.mscp_queue.specs.Fronts.{is_let, nobody, with_record};
+ghost use Rattle.mscp_queue.specs.Orders.{is_sequential};
+
+use crate::record::Record;
+use mscp_packet::Order;
+
+/// What is known of the records in front of a place: of each drive, by its place, whether one of them is of its unit,
+/// and whether a sequential one is; and whether each of them may be passed once more.
+#[derive(Clone, Copy, Debug, PartialEq, Eq)]
+pub struct Front {
+    pub seen: [bool; 16],
+    pub fenced: [bool; 16],
+    pub affordable: bool,
+}
+
+/// Whether the order is that of a sequential command.
+fn is_sequential(order: &Order) -> bool
+    ensures { result ≡ is_sequential order.now }
+{
+    matches!(order, Order::Available | Order::Online | Order::SetUnit)
+}
+
+impl Front {
+    /// Nobody is in front.
+    pub fn new() -> Front
+        ensures { result ≡ nobody }
+    {
+        Front {
+            seen: [false; 16],
+            fenced: [false; 16],
+            affordable: true,
+        }
+    }
+
+    /// Whether those in front let the record start, whose drive stands at this place.
+    pub fn lets(&self, behind: &Record, drive: usize) -> bool
+        requires { drive < 16 }
+        ensures { result ≡ is_let self.now behind.now drive }
+    {
+        let free = if is_sequential(&behind.command().order) {
+            !self.seen[drive]
+        } else {
+            !self.fenced[drive]
+        };
+        free && self.affordable
+    }
+
+    /// Takes the record, whose drive stands at this place, among those in front.
+    pub fn add(&mut self, behind: &Record, drive: usize, passing: u32)
+        requires { drive < 16 }
+        ensures { self.new ≡ with_record passing self.old behind.now drive }
+    {
+        self.seen[drive] = true;
+        if is_sequential(&behind.command().order) {
+            self.fenced[drive] = true;
+        }
+        if behind.passes() >= passing {
+            self.affordable = false;
+        }
+    }
+}

@@ -1,0 +1,21 @@
+//! The waiting commands of a disk controller: who may be served next, and what each may still have to wait.
+#![tactic(auto)]
+
+mod block;
+mod drive;
+mod front;
+mod outcome;
+mod picker;
+mod record;
+mod report;
+mod service;
+mod start;
+mod view;
+
+pub use crate::block::{Block, FaultStatus};
+pub use crate::drive::Drive;
+pub use crate::outcome::{end_with, endcode_of};
+pub use crate::picker::{Oldest, Picker};
+pub use crate::record::Record;
+pub use crate::report::Report;
+pub use crate::view::{Choice, View};

@@ -1,0 +1,35 @@
+// Who picks the command that starts.
+
+ghost use Rattle.std.specs.Prelude.{◌≡◌};
+
+use crate::view::View;
+
+/// Picks the command that starts, of those that may. Any choice is lawful: what a queue shows may start, and the
+/// passing limit holds whoever picks.
+pub trait Picker {
+    ghost use Rattle.std.specs.Prelude.{◌<◌, ℕ, List, length};
+    ghost use Rattle.mscp_queue.specs.declared.view.Choice.{Choice};
+
+    // Which places of a view the picker may pick. It may depend on the picker's own value, and leave a choice.
+    ghost picks: { Self → List Choice → ℕ → Type 0 };
+
+    /// The place of the command that starts: where the view isn't empty it is a place in it, one of those that the
+    /// picker may pick.
+    fn pick(&self, view: &View) -> usize
+        ensures place { 0 < length view.now → result < length view.now }
+        ensures allowed { 0 < length view.now → picks self.now view.now result };
+}
+
+/// Picks the oldest command that may start.
+#[derive(Clone, Copy, Debug, Default, PartialEq, Eq)]
+pub struct Oldest;
+
+impl Picker for Oldest {
+    ghost picks = { λ _ view place. place ≡ 0 };
+
+    fn pick(&self, _view: &View) -> usize
+        ensures oldest { result ≡ 0 }
+    {
+        0
+    }
+}

@@ -1,0 +1,131 @@
+// A waiting command.
+
+ghost use Rattle.std.specs.Prelude.{◌≡◌, ◌+◌, ◌-◌, ◌<◌, ◌≤◌, ◌^◌, nat_eq};
+ghost use Rattle.mscp_queue.specs.Orders.{order_weight};
+ghost use Rattle.mscp_queue.specs.Records.{advanced, cost_of, fresh_record, left_of, no_record, passed_by};
+
+use mscp_packet::{Command, Order};
+use std::marker::Model;
+
+/// A waiting command: what it asks for, how many steps it takes, how many it had, and how often it was passed.
+#[derive(Clone, Copy, Debug, PartialEq, Eq)]
+pub struct Record {
+    command: Command,
+    weight: u32,
+    done: u32,
+    passes: u32,
+}
+
+// A clause sees how many of its blocks were good, too. A bad block ends its command, so all that were served of one that
+// waits were good, and one count stands for both.
+impl Model for Record {
+    ghost use Rattle.mscp_queue.specs.Records.{Record as Told};
+
+    ghost Value = { Told };
+
+    ghost view = { λ r. record { command = r.command; weight = r.weight; done = r.done; good = r.done; passes = r.passes } };
+
+    ghost invariant = { λ r. Unit {0} };
+
+    ghost inverse = { λ t. record { command = t.command; weight = t.weight; done = t.done; passes = t.passes } };
+}
+
+impl Record {
+    /// The record of a command that begins to wait and takes so many steps.
+    pub fn new(command: Command, weight: u32) -> Record
+        requires { weight ≡ order_weight command.order }
+        ensures { result ≡ fresh_record command }
+    {
+        Record {
+            command,
+            weight,
+            done: 0,
+            passes: 0,
+        }
+    }
+
+    /// The command that waits.
+    pub fn command(&self) -> Command
+        ensures { result ≡ self.now.command }
+    {
+        self.command
+    }
+
+    /// How many steps the command had.
+    pub fn done(&self) -> u32
+        ensures done { result ≡ self.now.done }
+        ensures good { result ≡ self.now.good }
+    {
+        self.done
+    }
+
+    /// How many steps are left of the command.
+    pub fn left(&self) -> u32
+        ensures value { result ≡ left_of self.now }
+        ensures small { self.now.weight < 2 ^ 32 }
+    {
+        self.weight.saturating_sub(self.done)
+    }
+
+    /// How often the command was passed.
+    pub fn passes(&self) -> u32
+        ensures { result ≡ self.now.passes }
+    {
+        self.passes
+    }
+
+    /// Whether the command was never served.
+    pub fn is_unstarted(&self) -> bool
+        ensures { result ≡ nat_eq self.now.done 0 }
+    {
+        self.done == 0
+    }
+
+    /// The record after a step that doesn't end the command.
+    pub fn advanced(&self) -> Record
+        requires { self.now.done + 1 < 2 ^ 32 }
+        ensures { result ≡ advanced self.now }
+    {
+        Record {
+            done: self.done + 1,
+            ..*self
+        }
+    }
+
+    /// The record once its command was passed at this toll.
+    pub fn passed_by(&self, toll: u32) -> Record
+        requires { self.now.passes + toll < 2 ^ 32 }
+        ensures { result ≡ passed_by toll self.now }
+    {
+        Record {
+            passes: self.passes + toll,
+            ..*self
+        }
+    }
+
+    /// What a step of the command costs each earlier one: a pass where it starts.
+    pub fn cost(&self) -> u32
+        ensures value { result ≡ cost_of self.now }
+        ensures small { result ≤ 1 }
+    {
+        u32::from(self.is_unstarted())
+    }
+}
+
+/// A record of nothing, which fills the places of a list that isn't full.
+impl Default for Record {
+    fn default() -> Record
+        ensures { result ≡ no_record }
+    {
+        Record {
+            command: Command {
+                reference: 0,
+                unit: 0,
+                order: Order::Online,
+            },
+            weight: 0,
+            done: 0,
+            passes: 0,
+        }
+    }
+}

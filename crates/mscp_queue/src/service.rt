@@ -1,0 +1,101 @@
+// One step of a waiting command on its drive.
+
+ghost use Rattle.std.specs.Prelude.{◌≡◌, ◌+◌, ◌<◌, ◌≤◌, ◌^◌, Some};
+ghost use Rattle.mscp_drive.specs.Heads.{distance};
+ghost use Rattle.mscp_queue.specs.Drives.{IsOnUnit};
+ghost use Rattle.mscp_queue.specs.Orders.{first_block};
+ghost use Rattle.mscp_queue.specs.Outcomes.{head_after};
+ghost use Rattle.mscp_queue.specs.Serving.{drive_after, end_given, seek_from, state_left, touched};
+
+
+
+
+use crate::block::Block;
+use crate::drive::Drive;
+use crate::outcome::{is_success, outcome, touches};
+use crate::record::Record;
+use mscp_drive::Head;
+use mscp_packet::{End, Order};
+
+/// What a step does: the block that it touches, how many cylinders the head goes, the end that it brings, and the
+/// drive that it leaves.
+#[derive(Clone, Copy, Debug, PartialEq, Eq)]
+pub(crate) struct Service {
+    pub lbn: Option<u32>,
+    pub seek: u32,
+    pub ended: Option<End>,
+    pub drive: Drive,
+}
+
+/// The block that the next step of the command touches, if it touches one.
+fn touched(drive: &Drive, served: &Record) -> Option<u32>
+    requires { first_block served.now.command.order + served.now.done < 2 ^ 32 }
+    ensures { result ≡ touched drive.now served.now }
+{
+    match served.command().order {
+        Order::Move(_, _, block) if drive.online => Some(block + served.done()),
+        _ => None,
+    }
+}
+
+/// The end that a step with this block gives to the command, if it ends.
+fn end_given(drive: &Drive, served: &Record, block: &Block) -> Option<End>
+    requires { served.now.done < served.now.weight }
+    ensures { result ≡ end_given block.now drive.now served.now }
+{
+    let command = served.command();
+    let more = served.left() > 1;
+    let goes_on = touches(drive.online, &command.order) && more;
+    match block {
+        Block::Good if goes_on => None,
+        _ => Some(outcome(&drive.unit, drive.online, &command, served.done(), block)),
+    }
+}
+
+/// The state that a step leaves its unit in, which ended the order so or not.
+fn state_left(online: bool, order: &Order, ended: &Option<End>) -> bool
+    ensures { result ≡ state_left online order.now ended.now }
+{
+    match (order, ended) {
+        (Order::Online, Some(end)) if is_success(end.status) => true,
+        (Order::Available, Some(end)) if is_success(end.status) => false,
+        _ => online,
+    }
+}
+
+/// How many cylinders the head goes to this one, and the head then: a start may turn it.
+fn head_on(head: &Head, to: u32, starts: bool) -> (u32, Head)
+    ensures seek { result.0 ≡ distance head.now.cylinder to }
+    ensures head { result.1 ≡ head_after starts (Some to) head.now }
+{
+    let then = if starts { head.moved(to) } else { head.carried(to) };
+    (head.distance(to), then)
+}
+
+/// What a step of the command with this block does.
+pub(crate) fn serve(drive: &Drive, served: &Record, block: &Block) -> Service
+    requires unfinished { served.now.done < served.now.weight }
+    requires small { first_block served.now.command.order + served.now.done < 2 ^ 32 }
+    ensures lbn { result.lbn ≡ touched drive.now served.now }
+    ensures seek { result.seek ≡ seek_from drive.now (touched drive.now served.now) }
+    ensures ended { result.ended ≡ end_given block.now drive.now served.now }
+    ensures drive { result.drive ≡ drive_after block.now drive.now served.now }
+    ensures on_unit { first_block served.now.command.order + served.now.done < drive.now.unit.size → IsOnUnit drive.now → IsOnUnit result.drive }
+{
+    let lbn = touched(drive, served);
+    let ended = end_given(drive, served, block);
+    let (seek, head) = match lbn {
+        Some(lbn) => head_on(&drive.head, drive.unit.cylinder(lbn), served.is_unstarted()),
+        None => (0, drive.head),
+    };
+    Service {
+        lbn,
+        seek,
+        ended,
+        drive: Drive {
+            unit: drive.unit,
+            online: state_left(drive.online, &served.command().order, &ended),
+            head,
+        },
+    }
+}

@@ -1,0 +1,83 @@
+// What a picker sees.
+
+ghost use Rattle.std.specs.Prelude.{◌≡◌, ◌↔◌, ◌≤◌, length, IsSome, IfSome};
+
+use arrayvec::ArrayVec;
+use mscp_packet::Class;
+use std::marker::Model;
+
+/// A command that may start, as a picker sees it.
+#[derive(Clone, Copy, Debug, PartialEq, Eq)]
+pub struct Choice {
+    /// Its reference number.
+    pub reference: u32,
+    /// The number of its unit.
+    pub unit: u16,
+    /// Sequential, or Free for a transfer.
+    pub class: Class,
+    /// What its start costs the head of its unit. So far this is 0.
+    pub cost: u64,
+}
+
+/// A choice of nothing, which fills the places of a list that isn't full.
+impl Default for Choice {
+    ghost use Rattle.mscp_packet.specs.declared.class.Class.TheVariants.{Unknown};
+
+    fn default() -> Choice
+        ensures { result ≡ record { reference = 0; unit = 0; class = Unknown; cost = 0 } }
+    {
+        Choice {
+            reference: 0,
+            unit: 0,
+            class: Class::Unknown,
+            cost: 0,
+        }
+    }
+}
+
+/// The commands that may start, at most 64 of them. A queue shows them in order of arrival.
+#[derive(Debug, PartialEq, Drop)]
+pub struct View {
+    choices: ArrayVec<Choice, 64>,
+}
+
+// A clause sees the list of the choices.
+impl Model for View {
+    ghost use Rattle.std.specs.Prelude.{◌≤◌, List, length};
+    ghost use Rattle.mscp_queue.specs.declared.view.Choice.{Choice as Shown};
+
+    ghost Value = { List Shown };
+
+    ghost view = { λ v. v.choices.items };
+
+    ghost invariant = { λ v. length v.choices.items ≤ 64 };
+
+    ghost inverse = { λ choices. record { choices = record { items = choices } } };
+}
+
+impl View {
+    /// The view of these choices, if there are at most 64. By it a picker can be tested.
+    pub fn new(choices: &[Choice]) -> Option<View>
+        ensures some { IsSome result ↔ (length choices.now ≤ 64) }
+        ensures value { IfSome result (λ view. view ≡ choices.now) }
+    {
+        let mut list = ArrayVec::new();
+        list.try_extend_from_slice(choices).ok()?;
+        Some(View { choices: list })
+    }
+
+    /// The view of a list of choices.
+    pub(crate) fn of(choices: ArrayVec<Choice, 64>) -> View
+        ensures { result ≡ choices.items }
+    {
+        View { choices }
+    }
+
+    /// The choices, in their order.
+    pub fn choices(&self) -> &[Choice]
+        ensures value { result.now ≡ self.now }
+        ensures few { length result.now ≤ 64 }
+    {
+        self.choices.as_slice()
+    }
+}
