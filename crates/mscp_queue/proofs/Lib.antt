@@ -3,3 +3,7 @@ pub mod Placed
 pub mod Mapped
 pub mod Fronts
 pub mod Starting
+pub mod Sums
+pub mod Held
+pub mod Turns
+pub mod Nexts

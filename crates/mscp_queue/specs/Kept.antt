@@ -5,9 +5,9 @@ use Rattle.mscp_packet.specs.declared.command.Command.{Command}
 use Rattle.mscp_packet.specs.declared.command.Order.{Order}
 use Rattle.mscp_packet.specs.declared.command.Order.TheVariants as orders
 use Rattle.mscp_drive.specs.Shape.{Shape}
-use Rattle.mscp_drive.specs.UnitList.{unit_found}
+use Rattle.mscp_drive.specs.UnitList.{IsUnitList, unit_found}
 use Rattle.mscp_queue.specs.declared.drive.Drive.{Drive}
-use Rattle.mscp_queue.specs.Orders.{is_move, is_sequential, order_weight}
+use Rattle.mscp_queue.specs.Orders.{first_block, is_move, is_sequential, order_weight}
 use Rattle.mscp_queue.specs.Drives.{IsOnUnit, one_block}
 use Rattle.mscp_queue.specs.Records.{Record, is_in_service}
 
@@ -31,6 +31,8 @@ pub record IsWaitable (longest : ℕ) (units : List Shape) (c : Command) : Type 
   pub known : is_known units c.unit ≡ true
   pub short : order_weight c.order ≤ longest
   pub inside : IsInside units c.unit c.order
+  -- its blocks have numbers of 32 bits
+  pub small : first_block c.order + order_weight c.order ≤ 2 ^ 32
 
 -- a command that waits has steps left, all that were served of it were good, and it was passed as often as may be at
 -- the most
@@ -64,6 +66,6 @@ pub record IsHeld (room passing longest : ℕ) (rs : List Record) (ds : List Dri
   pub apart : AreApart (references rs)
   -- one is in service at the most
   pub one : length (filter is_in_service rs) ≤ 1
-  pub units : length ds ≤ 16
+  pub units : IsUnitList (units_of ds)
   -- each head is on a cylinder of its unit
   pub heads : All IsOnUnit ds

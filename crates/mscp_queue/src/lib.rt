@@ -3,19 +3,23 @@
 
 mod block;
 mod drive;
+mod figure;
 mod front;
 mod outcome;
 mod picker;
+mod queue;
 mod record;
 mod report;
 mod service;
 mod start;
+mod turn;
 mod view;
 
 pub use crate::block::{Block, FaultStatus};
 pub use crate::drive::Drive;
 pub use crate::outcome::{end_with, endcode_of};
 pub use crate::picker::{Oldest, Picker};
+pub use crate::queue::{Queue, Waiting};
 pub use crate::record::Record;
 pub use crate::report::Report;
 pub use crate::view::{Choice, View};

@@ -1,6 +1,6 @@
 // One step of a waiting command on its drive.
 
-ghost use Rattle.std.specs.Prelude.{◌≡◌, ◌+◌, ◌<◌, ◌≤◌, ◌^◌, Some};
+ghost use Rattle.std.specs.Prelude.{◌≡◌, ℕ, ◌+◌, ◌<◌, ◌≤◌, ◌^◌, Some};
 ghost use Rattle.mscp_drive.specs.Heads.{distance};
 ghost use Rattle.mscp_queue.specs.Drives.{IsOnUnit};
 ghost use Rattle.mscp_queue.specs.Orders.{first_block};
@@ -80,7 +80,7 @@ pub(crate) fn serve(drive: &Drive, served: &Record, block: &Block) -> Service
     ensures seek { result.seek ≡ seek_from drive.now (touched drive.now served.now) }
     ensures ended { result.ended ≡ end_given block.now drive.now served.now }
     ensures drive { result.drive ≡ drive_after block.now drive.now served.now }
-    ensures on_unit { first_block served.now.command.order + served.now.done < drive.now.unit.size → IsOnUnit drive.now → IsOnUnit result.drive }
+    ensures on_unit { ((lbn : ℕ) → touched drive.now served.now ≡ Some lbn → lbn < drive.now.unit.size) → IsOnUnit drive.now → IsOnUnit result.drive }
 {
     let lbn = touched(drive, served);
     let ended = end_given(drive, served, block);

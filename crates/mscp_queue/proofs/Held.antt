@@ -1,0 +1,231 @@
+-- What is true of each queue stays true.
+use Rattle.std.proofs.Common.{◌≡◌, ◌≢◌, ◌⊎◌, inl, inr, ⊎_elim, ℕ, suc, ◌+◌, ◌-◌, ◌*◌, ◌<◌, ◌≤◌, ◌^◌, Bool, true, false, cond, ◌&&◌, ◌||◌, List, [], ◌∷◌, ◌++◌, map, take, drop, get_or, length, refl, ap, sym, ◌∙◌, subst, arith}
+use Rattle.std.specs.Prelude.{All, filter, nat_eq, nat_lt, if◌then◌else◌, is_some, Option, Some, None}
+use Rattle.std.specs.List.{AllByRecursion, list_any}
+use Rattle.std.proofs.lemmas.List.{drop_more, length-append, length-drop, length-map, length-take-le, map-append}
+use Rattle.std.proofs.lemmas.List.Elements.{All-from_recursion, All-nil, filter-append, recursion_from_All}
+use Rattle.std.proofs.lemmas.Bool.{eqb-false, ltb-false, lt-ltb, false≢true, true≢false}
+use Rattle.mscp_packet.specs.declared.command.Command.{Command}
+use Rattle.mscp_packet.specs.declared.command.Order.{Order}
+use Rattle.mscp_packet.specs.declared.command.Order.TheVariants as orders
+use Rattle.mscp_packet.specs.declared.end.End.{End}
+use Rattle.mscp_drive.specs.Shape.{Shape, last_cylinder}
+use Rattle.mscp_drive.specs.UnitList.{IsUnitList}
+use Rattle.mscp_queue.specs.declared.drive.Drive.{Drive}
+use Rattle.mscp_queue.specs.Drives.{IsOnUnit, fresh_drive, has_number, replaced}
+use Rattle.mscp_queue.specs.Kept.{AreApart, IsHeld, IsKept, IsWaitable, references, units_of}
+use Rattle.mscp_queue.specs.Orders.{order_weight}
+use Rattle.mscp_queue.specs.Records.{Record, advanced, fresh_record, has_reference, is_in_service, left_of, passed_by}
+use Rattle.mscp_queue.proofs.Lists.{every_append, every_both, every_parts, every_weaker}
+
+-- ---- nothing came
+
+units_fresh : (us : List Shape) → units_of (map fresh_drive us) ≡ us
+units_fresh [] = refl
+units_fresh (u ∷ us) = ap (λ vs. u ∷ vs) (units_fresh us)
+
+heads_fresh : (us : List Shape) → AllByRecursion IsOnUnit (map fresh_drive us)
+heads_fresh [] = tt
+heads_fresh (u ∷ us) = (omega arith, heads_fresh us)
+
+pub held_fresh : (room passing longest : ℕ) (us : List Shape) (rs : List Record) (ds : List Drive) → 1 ≤ room → room ≤ 63 → 1 ≤ longest → longest ≤ 8388608
+    → (room + passing) * longest ≤ 4294967295 → IsUnitList us → rs ≡ [] → ds ≡ map fresh_drive us → IsHeld room passing longest rs ds
+held_fresh room passing longest us rs ds a b c d e u n f =
+    record {
+      some_room = a;
+      few = b;
+      some_blocks = c;
+      short = d;
+      small = omega arith;
+      fits = omega (arith, ap length n);
+      each = subst (All (IsKept passing longest (units_of ds))) (sym n) (All-nil (IsKept passing longest (units_of ds)));
+      apart = subst (λ rs. AreApart (references rs)) (sym n) tt;
+      one = subst (λ rs. length (filter is_in_service rs) ≤ 1) (sym n) (omega arith);
+      units = subst IsUnitList (sym (ap units_of f ∙ units_fresh us)) u;
+      heads = subst (All IsOnUnit) (sym f) (All-from_recursion IsOnUnit (map fresh_drive us) (heads_fresh us));
+    }
+
+-- ---- a command comes
+
+some_steps : (o : Order) → 1 ≤ order_weight o
+some_steps (orders.Move kind count block) = omega arith
+some_steps (orders.Abort other) = omega arith
+some_steps (orders.Status other) = omega arith
+some_steps orders.UnitStatus = omega arith
+some_steps (orders.SetController version) = omega arith
+some_steps orders.Available = omega arith
+some_steps orders.Online = omega arith
+some_steps orders.SetUnit = omega arith
+some_steps (orders.Invalid opcode status) = omega arith
+
+fresh_kept : (passing longest : ℕ) (us : List Shape) (c : Command) → IsWaitable longest us c → IsKept passing longest us (fresh_record c)
+fresh_kept passing longest us c w = record { waitable = w; weight = refl; unfinished = some_steps c.order; good = refl; passes = omega arith }
+
+apart_more : (xs : List ℕ) (x : ℕ) → AreApart xs → AllByRecursion (λ y. x ≢ y) xs → AreApart (xs ++ x ∷ [])
+apart_more [] x a n = (tt, tt)
+apart_more (y ∷ ys) x a n = (every_append (λ z. z ≢ y) ys (x ∷ []) a.0 (n.0, tt), apart_more ys x a.1 n.1)
+
+or_parts : (a b : Bool) → (a || b) ≡ false → (a ≡ false) × (b ≡ false)
+or_parts true b h = absurd (true≢false h)
+or_parts false b h = (refl, h)
+
+none_has : (reference : ℕ) (rs : List Record) → list_any (has_reference reference) rs ≡ false → AllByRecursion (λ y. reference ≢ y) (references rs)
+none_has reference [] h = tt
+none_has reference (r ∷ rs) h =
+    let p = or_parts (has_reference reference r) (list_any (has_reference reference) rs) h in
+    ((λ e. eqb-false r.command.reference reference p.0 (sym e)), none_has reference rs p.1)
+
+pub held_pushed : (room passing longest : ℕ) (rs new : List Record) (ds : List Drive) (c : Command) → IsHeld room passing longest rs ds → length rs < room → IsWaitable longest (units_of ds) c
+    → list_any (has_reference c.reference) rs ≡ false → new ≡ rs ++ fresh_record c ∷ [] → IsHeld room passing longest new ds
+held_pushed room passing longest rs new ds c h l w n e =
+    let K = IsKept passing longest (units_of ds) in
+    let r = fresh_record c in
+    let kept : All K (rs ++ r ∷ []) =
+    All-from_recursion K (rs ++ r ∷ []) (every_append K rs (r ∷ []) (recursion_from_All K rs h.each) (fresh_kept passing longest (units_of ds) c w, tt)) in
+    let numbers : references (rs ++ r ∷ []) ≡ references rs ++ c.reference ∷ [] = map-append (λ (q : Record). q.command.reference) rs (r ∷ []) in
+    let serving : filter is_in_service (rs ++ r ∷ []) ≡ filter is_in_service rs ++ [] = filter-append is_in_service rs (r ∷ []) in
+    let all : IsHeld room passing longest (rs ++ r ∷ []) ds =
+    record {
+      some_room = h.some_room;
+      few = h.few;
+      some_blocks = h.some_blocks;
+      short = h.short;
+      small = h.small;
+      fits = omega (arith, length-append rs (r ∷ []));
+      each = kept;
+      apart = subst AreApart (sym numbers) (apart_more (references rs) c.reference h.apart (none_has c.reference rs n));
+      one = let o = h.one in omega (arith, ap length serving, length-append (filter is_in_service rs) []);
+      units = h.units;
+      heads = h.heads;
+    } in
+    subst (λ zs. IsHeld room passing longest zs ds) (sym e) all
+
+-- ---- a step
+
+kept_passed : (passing longest n : ℕ) (us : List Shape) (r : Record) → IsKept passing longest us r → r.passes + n ≤ passing → IsKept passing longest us (passed_by n r)
+kept_passed passing longest n us r h l = record { waitable = h.waitable; weight = h.weight; unfinished = h.unfinished; good = h.good; passes = l }
+
+front_kept : (passing longest n : ℕ) (us : List Shape) (A : List Record) → AllByRecursion (IsKept passing longest us) A → AllByRecursion (λ r. r.passes + n ≤ passing) A
+    → AllByRecursion (IsKept passing longest us) (map (passed_by n) A)
+front_kept passing longest n us [] h l = tt
+front_kept passing longest n us (r ∷ rs) h l = (kept_passed passing longest n us r h.0 l.0, front_kept passing longest n us rs h.1 l.1)
+
+kept_advanced : (passing longest : ℕ) (us : List Shape) (r : Record) → IsKept passing longest us r → r.done + 1 < r.weight → IsKept passing longest us (advanced r)
+kept_advanced passing longest us r h l = record { waitable = h.waitable; weight = h.weight; unfinished = l; good = ap (λ n. n + 1) h.good; passes = h.passes }
+
+references_passed : (n : ℕ) (A : List Record) → references (map (passed_by n) A) ≡ references A
+references_passed n [] = refl
+references_passed n (r ∷ rs) = ap (λ xs. r.command.reference ∷ xs) (references_passed n rs)
+
+apart_without : (xs : List ℕ) (x : ℕ) (ys : List ℕ) → AreApart (xs ++ x ∷ ys) → AreApart (xs ++ ys)
+apart_without [] x ys h = h.1
+apart_without (z ∷ zs) x ys h =
+    let p = every_parts (λ y. y ≢ z) zs (x ∷ ys) h.0 in
+    (every_append (λ y. y ≢ z) zs ys p.0 p.1.1, apart_without zs x ys h.1)
+
+-- what a step leaves of a record: nothing, or the record with one step more
+pub record IsLeft (r : Record) (own : List Record) : Type 0 where
+  pub left : (own ≡ []) ⊎ ((own ≡ advanced r ∷ []) × (r.done + 1 < r.weight))
+
+-- nobody of them is in service
+abbrev pub AreIdle : List Record → Type 0
+AreIdle rs = AllByRecursion (λ z. z.done ≡ 0) rs
+
+idle_none : (rs : List Record) → AreIdle rs → length (filter is_in_service rs) ≡ 0
+idle_none [] h = refl
+idle_none (r ∷ rs) h = ap (λ n. length (cond (nat_lt 0 n) (r ∷ filter is_in_service rs) (filter is_in_service rs))) h.0 ∙ idle_none rs h.1
+
+none_idle : (rs : List Record) → length (filter is_in_service rs) ≡ 0 → AreIdle rs
+none_idle [] h = tt
+none_idle (r ∷ rs) h =
+    let both : (b : Bool) → nat_lt 0 r.done ≡ b → length (cond b (r ∷ filter is_in_service rs) (filter is_in_service rs)) ≡ 0 → AreIdle (r ∷ rs) =
+    λ b. elim b as (λ b. nat_lt 0 r.done ≡ b → length (cond b (r ∷ filter is_in_service rs) (filter is_in_service rs)) ≡ 0 → AreIdle (r ∷ rs)) [
+      | true ↦ λ e l. absurd (omega (arith, l))
+      | false ↦ λ e l. let z = ltb-false 0 r.done e in (omega arith, none_idle rs l)
+    ] in
+    both (nat_lt 0 r.done) refl h
+
+passed_idle : (n : ℕ) (A : List Record) → AreIdle A → AreIdle (map (passed_by n) A)
+passed_idle n [] h = tt
+passed_idle n (r ∷ rs) h = (h.0, passed_idle n rs h.1)
+
+-- the others are idle where one is in service
+pub others_idle : (A : List Record) (r : Record) (B : List Record) → length (filter is_in_service (A ++ r ∷ B)) ≤ 1 → 0 < r.done → AreIdle A × AreIdle B
+others_idle A r B one l =
+    let own : filter is_in_service (r ∷ B) ≡ r ∷ filter is_in_service B = ap (λ b. cond b (r ∷ filter is_in_service B) (filter is_in_service B)) (lt-ltb 0 r.done l) in
+    let all = ap length (filter-append is_in_service A (r ∷ B)) ∙ (length-append (filter is_in_service A) (filter is_in_service (r ∷ B)) ∙ ap (λ xs. length (filter is_in_service A) + length xs) own) in
+    (none_idle A (omega (arith, all, one)), none_idle B (omega (arith, all, one)))
+
+own_one : (r : Record) (own : List Record) → IsLeft r own → length own ≤ 1
+own_one r own h = ⊎_elim (λ e. omega (arith, ap length e)) (λ e. omega (arith, ap length e.0)) h.left
+
+own_serving : (own : List Record) → length own ≤ 1 → length (filter is_in_service own) ≤ 1
+own_serving [] h = omega arith
+own_serving (r ∷ []) h = elim (is_in_service r) as (λ b. length (cond b (r ∷ []) []) ≤ 1) [ true ↦ omega arith | false ↦ omega arith ]
+own_serving (r ∷ s ∷ rs) h = absurd (omega arith)
+
+apart_left : (r : Record) (own : List Record) (A B : List Record) → IsLeft r own → AreApart (references A ++ (r.command.reference ∷ references B)) → AreApart (references A ++ (references own ++ references B))
+apart_left r own A B h a =
+    ⊎_elim
+    (λ e. subst (λ xs. AreApart (references A ++ (references xs ++ references B))) (sym e) (apart_without (references A) r.command.reference (references B) a))
+    (λ e. subst (λ xs. AreApart (references A ++ (references xs ++ references B))) (sym e.0) a)
+    h.left
+
+kept_left : (passing longest : ℕ) (us : List Shape) (r : Record) (own : List Record) → IsLeft r own → IsKept passing longest us r → AllByRecursion (IsKept passing longest us) own
+kept_left passing longest us r own h k =
+    ⊎_elim
+    (λ e. subst (AllByRecursion (IsKept passing longest us)) (sym e) tt)
+    (λ e. subst (AllByRecursion (IsKept passing longest us)) (sym e.0) (kept_advanced passing longest us r k e.1, tt))
+    h.left
+
+-- what holds of a record among others
+pub record IsTurn (passing n : ℕ) (A : List Record) (r : Record) (B own : List Record) : Type 0 where
+  pub before : AreIdle A
+  pub behind : AreIdle B
+  pub affordable : AllByRecursion (λ z. z.passes + n ≤ passing) A
+  pub left : IsLeft r own
+
+pub held_turn : (room passing longest n : ℕ) (A : List Record) (r : Record) (B own : List Record) (ds ds' : List Drive) → IsHeld room passing longest (A ++ r ∷ B) ds → IsTurn passing n A r B own
+    → units_of ds' ≡ units_of ds → All IsOnUnit ds' → IsHeld room passing longest (map (passed_by n) A ++ (own ++ B)) ds'
+held_turn room passing longest n A r B own ds ds' h t u heads =
+    let K = IsKept passing longest (units_of ds) in
+    let new = map (passed_by n) A ++ (own ++ B) in
+    let parts = every_parts K A (r ∷ B) (recursion_from_All K (A ++ r ∷ B) h.each) in
+    let kept : AllByRecursion K new =
+    every_append K (map (passed_by n) A) (own ++ B) (front_kept passing longest n (units_of ds) A parts.0 t.affordable)
+    (every_append K own B (kept_left passing longest (units_of ds) r own t.left parts.1.0) parts.1.1) in
+    let ref : Record → ℕ = λ q. q.command.reference in
+    let old_numbers : references (A ++ r ∷ B) ≡ references A ++ (r.command.reference ∷ references B) = map-append ref A (r ∷ B) in
+    let numbers : references new ≡ references A ++ (references own ++ references B) =
+    map-append ref (map (passed_by n) A) (own ++ B) ∙ (ap (λ xs. xs ++ references (own ++ B)) (references_passed n A) ∙ ap (λ xs. references A ++ xs) (map-append ref own B)) in
+    let few = own_one r own t.left in
+    let serving = filter-append is_in_service (map (passed_by n) A) (own ++ B) in
+    let serving_own = filter-append is_in_service own B in
+    let none_front = idle_none (map (passed_by n) A) (passed_idle n A t.before) in
+    let none_back = idle_none B t.behind in
+    record {
+      some_room = h.some_room;
+      few = h.few;
+      some_blocks = h.some_blocks;
+      short = h.short;
+      small = h.small;
+      fits = let f = h.fits in omega (arith, length-append A (r ∷ B), length-append (map (passed_by n) A) (own ++ B), length-map A (passed_by n), length-append own B);
+      each = subst (λ us. All (IsKept passing longest us) new) (sym u) (All-from_recursion K new kept);
+      apart = subst AreApart (sym numbers) (apart_left r own A B t.left (subst AreApart old_numbers h.apart));
+      one = omega (arith, ap length serving, length-append (filter is_in_service (map (passed_by n) A)) (filter is_in_service (own ++ B)), ap length serving_own, length-append (filter is_in_service own) (filter is_in_service B), none_front, none_back, own_serving own few);
+      units = subst IsUnitList (sym u) h.units;
+      heads = heads;
+    }
+
+-- ---- the drives
+
+pub units_replaced : (number : ℕ) (new : Drive) (ds : List Drive) → AllByRecursion (λ d. has_number number d ≡ true → d.unit ≡ new.unit) ds → units_of (replaced number new ds) ≡ units_of ds
+units_replaced number new [] h = refl
+units_replaced number new (d ∷ ds) h =
+    let both : (b : Bool) → has_number number d ≡ b → (if b then new else d).unit ≡ d.unit =
+    λ b. elim b as (λ b. has_number number d ≡ b → (if b then new else d).unit ≡ d.unit) [ true ↦ λ e. sym (h.0 e) | false ↦ λ e. refl ] in
+    ap (λ u. u ∷ units_of (replaced number new ds)) (both (has_number number d) refl) ∙ ap (λ us. d.unit ∷ us) (units_replaced number new ds h.1)
+
+pub heads_replaced : (number : ℕ) (new : Drive) (ds : List Drive) → IsOnUnit new → AllByRecursion IsOnUnit ds → AllByRecursion IsOnUnit (replaced number new ds)
+heads_replaced number new [] o h = tt
+heads_replaced number new (d ∷ ds) o h = (elim (has_number number d) as (λ b. IsOnUnit (if b then new else d)) [ true ↦ o | false ↦ h.0 ], heads_replaced number new ds o h.1)

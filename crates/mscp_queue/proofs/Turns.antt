@@ -1,0 +1,227 @@
+-- A step of the record that may be served next is a turn among the others, and leaves each head on its unit.
+use Rattle.std.proofs.Common.{◌≡◌, ◌≢◌, inl, inr, ℕ, suc, ◌+◌, ◌-◌, ◌<◌, ◌≤◌, ◌^◌, Bool, true, false, cond, ◌&&◌, List, [], ◌∷◌, ◌++◌, map, take, drop, get_or, length, refl, ap, sym, ◌∙◌, subst, arith, append_assoc}
+use Rattle.std.specs.Prelude.{All, filter, find, nat_eq, nat_le, nat_lt, if◌then◌else◌, is_some, slice_index_or, unwrap_or, Option, Some, None}
+use Rattle.std.specs.List.{AllByRecursion, list_all, range_with_len}
+use Rattle.std.proofs.lemmas.List.{drop_more, take-append-drop}
+use Rattle.std.proofs.lemmas.List.Elements.{All-from_recursion, recursion_from_All}
+use Rattle.std.proofs.lemmas.Bool.{and_parts, eq-eqb, eqb-false, eqb-true, leb-true, ltb-true, ne_eqb, false≢true, true≢false}
+use Rattle.mscp_packet.specs.declared.command.Command.{Command}
+use Rattle.mscp_packet.specs.declared.command.Order.{Order}
+use Rattle.mscp_packet.specs.declared.command.Order.TheVariants as orders
+use Rattle.mscp_packet.specs.declared.end.End.{End}
+use Rattle.mscp_drive.specs.Shape.{Shape}
+use Rattle.mscp_drive.specs.UnitList.{IsUnitList, NumbersRise, unit_found}
+use Rattle.mscp_queue.specs.declared.block.Block.{Block}
+use Rattle.mscp_queue.specs.declared.drive.Drive.{Drive}
+use Rattle.mscp_queue.specs.declared.view.Choice.{Choice}
+use Rattle.mscp_queue.specs.Outcomes.{block_touched, goes_on, is_good_block, outcome_at, touches}
+use Rattle.mscp_queue.specs.Orders.{first_block, is_move, order_weight}
+use Rattle.mscp_queue.specs.Drives.{IsOnUnit, drive_of, fresh_drive, has_number, one_block, replaced}
+use Rattle.mscp_queue.specs.Kept.{IsHeld, IsInside, IsKept, IsWaitable, units_of}
+use Rattle.mscp_queue.specs.Records.{Record, advanced, cost_of, is_in_service, is_unstarted, left_of, no_record, passed_by, record_at, remains}
+use Rattle.mscp_queue.specs.Serving.{IsNext, drive_after, end_given, touched}
+use Rattle.mscp_queue.specs.Views.{IsPick, is_affordable, is_free, is_open_at, open_places}
+use Rattle.mscp_queue.proofs.Lists.{Pairs, every_append, every_both, every_filter, every_from, every_parts, every_weaker, pairs_middle}
+use Rattle.mscp_queue.proofs.Placed.{find_first}
+use Rattle.mscp_queue.proofs.Held.{AreIdle, IsLeft, IsTurn, held_turn, heads_replaced, others_idle, units_replaced}
+
+-- ---- a list at a place
+
+pub cut_at : (rs : List Record) (place : ℕ) → place < length rs → rs ≡ take place rs ++ record_at rs place ∷ drop (place + 1) rs
+cut_at rs place l = sym (take-append-drop place rs) ∙ ap (λ zs. take place rs ++ zs) (drop_more rs place no_record l)
+
+every_of : {X : Type 0} (p : X → Bool) (xs : List X) → list_all p xs ≡ true → AllByRecursion (λ x. p x ≡ true) xs
+every_of p [] h = tt
+every_of p (x ∷ xs) h = let b = and_parts (p x) (list_all p xs) h in (b.0, every_of p xs b.1)
+
+-- each place of the view may start
+opened : (passing : ℕ) (rs : List Record) → All (λ place. is_open_at passing rs place ≡ true) (open_places passing rs)
+opened passing rs =
+    All-from_recursion (λ place. is_open_at passing rs place ≡ true) (open_places passing rs)
+    (every_weaker (λ place. Unit {0} × (is_open_at passing rs place ≡ true)) (λ place. is_open_at passing rs place ≡ true) (λ place h. h.1) (open_places passing rs)
+    (every_filter (λ place. Unit {0}) (is_open_at passing rs) (range_with_len 0 (length rs)) (every_from (λ place. Unit {0}) (λ place. tt) (range_with_len 0 (length rs)))))
+
+picked_opens : (picks : List Choice → ℕ → Type 0) (passing : ℕ) (rs : List Record) (place : ℕ) → IsPick picks passing rs place → is_open_at passing rs place ≡ true
+picked_opens picks passing rs place h = subst (λ p. is_open_at passing rs p ≡ true) h.2 (opened passing rs h.0 0 h.1)
+
+-- none of those in front is passed too often by a start that may be picked
+front_affordable : (passing : ℕ) (rs : List Record) (place : ℕ) → is_open_at passing rs place ≡ true → AllByRecursion (λ z. z.passes + 1 ≤ passing) (take place rs)
+front_affordable passing rs place h =
+    let r = record_at rs place in
+    let p = and_parts (is_free r (take place rs)) (is_affordable passing r (take place rs)) h in
+    every_weaker (λ z. nat_le (z.passes + 1) passing ≡ true) (λ z. z.passes + 1 ≤ passing) (λ z e. leb-true (z.passes + 1) passing e) (take place rs)
+    (every_of (λ z. nat_le (z.passes + 1) passing) (take place rs) p.1)
+
+-- ---- the turn
+
+cut_off : (a b : Bool) → (a && false && b) ≡ false
+cut_off true b = refl
+cut_off false b = refl
+
+last_of : (a b c : Bool) → (a && b && c) ≡ true → c ≡ true
+last_of true true true h = refl
+last_of true true false h = absurd (false≢true h)
+last_of true false c h = absurd (false≢true h)
+last_of false b c h = absurd (false≢true h)
+
+more_left : (k : Block) (d : Drive) (r : Record) (e : Option End) → end_given k d r ≡ e → IsLeft r (cond (is_some e) [] (advanced r ∷ []))
+more_left k d r (Some end) h = record { left = inl refl }
+more_left k d r None h =
+    let goes = goes_on d.online r.command.order k (left_of r) in
+    let when : (b : Bool) → (if b then None else Some (outcome_at d.unit d.online r.command r.good k)) ≡ None → b ≡ true =
+    λ b. elim b as (λ b. (if b then None else Some (outcome_at d.unit d.online r.command r.good k)) ≡ None → b ≡ true) [ true ↦ λ e. refl | false ↦ λ e. absurd (true≢false (ap is_some e)) ] in
+    let more = ltb-true 1 (left_of r) (last_of (touches d.online r.command.order) (is_good_block k) (nat_lt 1 (left_of r)) (when goes h)) in
+    record { left = inr (refl, omega arith) }
+
+pub next_turn : (room passing longest place : ℕ) (picks : List Choice → ℕ → Type 0) (rs : List Record) (ds : List Drive) (k : Block) (d : Drive) → IsHeld room passing longest rs ds
+    → IsNext picks passing rs place
+    → IsTurn passing (cost_of (record_at rs place)) (take place rs) (record_at rs place) (drop (place + 1) rs) (cond (is_some (end_given k d (record_at rs place))) [] (advanced (record_at rs place) ∷ []))
+next_turn room passing longest place picks rs ds k d h n =
+    let r = record_at rs place in
+    let A = take place rs in
+    let B = drop (place + 1) rs in
+    let cut = cut_at rs place n.inside in
+    let left = more_left k d r (end_given k d r) refl in
+    let own = cond (is_some (end_given k d r)) [] (advanced r ∷ []) in
+    let kept = (every_parts (IsKept passing longest (units_of ds)) A (r ∷ B) (subst (AllByRecursion (IsKept passing longest (units_of ds))) cut (recursion_from_All (IsKept passing longest (units_of ds)) rs h.each))).0 in
+    let both : (b : Bool) → is_unstarted r ≡ b → IsTurn passing (cond b 1 0) A r B own =
+    λ b. elim b as (λ b. is_unstarted r ≡ b → IsTurn passing (cond b 1 0) A r B own) [
+      | true ↦ λ e.
+          let idle = every_parts (λ z. z.done ≡ 0) A (r ∷ B) (subst AreIdle cut (recursion_from_All (λ z. z.done ≡ 0) rs (n.idle e))) in
+          record { before = idle.0; behind = idle.1.1; affordable = front_affordable passing rs place (picked_opens picks passing rs place (n.picked e)); left = left }
+      | false ↦ λ e.
+          let some = eqb-false r.done 0 e in
+          let one = h.one in
+          let idle = others_idle A r B (subst (λ zs. length (filter is_in_service zs) ≤ 1) cut one) (omega arith) in
+          record {
+            before = idle.0;
+            behind = idle.1;
+            affordable = every_weaker (IsKept passing longest (units_of ds)) (λ z. z.passes + 0 ≤ passing) (λ z q. let p = q.passes in omega arith) A kept;
+            left = left;
+          }
+    ] in
+    both (is_unstarted r) refl
+
+-- ---- its drive
+
+-- the unit has the lower number
+abbrev pub Lower : Shape → Shape → Type 0
+Lower a b = a.number < b.number
+
+pairs_rise : (us : List Shape) → NumbersRise us → Pairs Lower us
+pairs_rise [] r = tt
+pairs_rise (s ∷ []) r = (tt, tt)
+pairs_rise (s ∷ x ∷ xs) r =
+    let more : (i : ℕ) → suc i + 1 ≡ suc (i + 1) = λ i. omega arith in
+    let rest = pairs_rise (x ∷ xs) (λ i other h. subst (λ j. (slice_index_or (x ∷ xs) i other).number < (slice_index_or (s ∷ x ∷ xs) j other).number) (more i) (r (suc i) other (omega (arith, h)))) in
+    let first : s.number < x.number = r 0 s (omega arith) in
+    ((first, every_weaker (Lower x) (Lower s) (λ y h. omega (arith, first, h)) xs rest.0), rest)
+
+found_among : (A B : List Shape) → Pairs Lower (A ++ B) → AllByRecursion (λ s. unit_found (A ++ B) s.number ≡ Some s) B
+found_among A [] p = tt
+found_among A (s ∷ B) p =
+    let low = pairs_middle Lower A s B p in
+    let more = append_assoc A (s ∷ []) B in (
+      find_first (λ (x : Shape). nat_eq x.number s.number) A s B
+          (every_weaker (λ x. Lower x s) (λ x. nat_eq x.number s.number ≡ false) (λ x h. ne_eqb x.number s.number (λ e. absurd (omega (arith, h, e)))) A low.0)
+          (eq-eqb s.number s.number refl),
+      subst (λ l. AllByRecursion (λ (x : Shape). unit_found l x.number ≡ Some x) B) more (found_among (A ++ s ∷ []) B (subst (Pairs Lower) (sym more) p)),
+    )
+
+every_mapped : {X Y : Type 0} (f : X → Y) (P : Y → Type 0) (xs : List X) → AllByRecursion P (map f xs) → AllByRecursion (λ x. P (f x)) xs
+every_mapped f P [] h = tt
+every_mapped f P (x ∷ xs) h = (h.0, every_mapped f P xs h.1)
+
+-- the unit of the drive that is found
+pub found_unit : (n : ℕ) (ds : List Drive) → unwrap_or (unit_found (units_of ds) n) one_block ≡ (drive_of ds n).unit
+found_unit n [] = refl
+found_unit n (d ∷ ds) =
+    let rest = found_unit n ds in
+    elim (nat_eq d.unit.number n) as (λ b. unwrap_or (cond b (Some d.unit) (unit_found (units_of ds) n)) one_block ≡ (unwrap_or (cond b (Some d) (find (has_number n) ds)) (fresh_drive one_block)).unit) [ true ↦ refl | false ↦ rest ]
+
+-- a drive of the number has the unit of the drive that is found
+pub units_same : (n : ℕ) (ds : List Drive) → IsUnitList (units_of ds) → AllByRecursion (λ d. has_number n d ≡ true → d.unit ≡ (drive_of ds n).unit) ds
+units_same n ds l =
+    let us = units_of ds in
+    every_weaker (λ d. unit_found us d.unit.number ≡ Some d.unit) (λ d. has_number n d ≡ true → d.unit ≡ (drive_of ds n).unit)
+    (λ d f e. ap (λ o. unwrap_or o one_block) (sym f ∙ ap (unit_found us) (eqb-true d.unit.number n e)) ∙ found_unit n ds) ds
+    (every_mapped (λ (d : Drive). d.unit) (λ s. unit_found us s.number ≡ Some s) ds (found_among [] us (pairs_rise us l.rising)))
+
+-- ---- its block
+
+some_is : {X : Type 0} (x y : X) → Some x ≡ Some y → x ≡ y
+some_is x y e = ap (λ o. unwrap_or o x) e
+
+when_some : (b : Bool) (n lbn : ℕ) → (if b then Some n else None) ≡ Some lbn → (b ≡ true) × (n ≡ lbn)
+when_some true n lbn h = (refl, some_is n lbn h)
+when_some false n lbn h = absurd (false≢true (ap is_some h))
+
+inside_of : (us : List Shape) (n : ℕ) (o : Order) → is_move o ≡ true → IsInside us n o → first_block o + order_weight o ≤ (unwrap_or (unit_found us n) one_block).size
+inside_of us n (orders.Move kind count block) m h = h
+inside_of us n (orders.Abort other) m h = absurd (false≢true m)
+inside_of us n (orders.Status other) m h = absurd (false≢true m)
+inside_of us n orders.UnitStatus m h = absurd (false≢true m)
+inside_of us n (orders.SetController version) m h = absurd (false≢true m)
+inside_of us n orders.Available m h = absurd (false≢true m)
+inside_of us n orders.Online m h = absurd (false≢true m)
+inside_of us n orders.SetUnit m h = absurd (false≢true m)
+inside_of us n (orders.Invalid opcode status) m h = absurd (false≢true m)
+
+-- a block that is touched is one of the unit
+pub touched_inside : (passing longest : ℕ) (ds : List Drive) (r : Record) (d : Drive) → d ≡ drive_of ds r.command.unit → IsKept passing longest (units_of ds) r
+    → (lbn : ℕ) → touched d r ≡ Some lbn → lbn < d.unit.size
+touched_inside passing longest ds r d e k lbn h =
+    let t = when_some (touches d.online r.command.order) (first_block r.command.order + r.done) lbn h in
+    let move = (and_parts (is_move r.command.order) d.online t.0).0 in
+    let inside = inside_of (units_of ds) r.command.unit r.command.order move k.waitable.inside in
+    let unit : (unwrap_or (unit_found (units_of ds) r.command.unit) one_block).size ≡ d.unit.size = ap (λ (s : Shape). s.size) (found_unit r.command.unit ds ∙ ap (λ (d : Drive). d.unit) (sym e)) in
+    let weight = k.weight in
+    let unfinished = k.unfinished in
+    omega (arith, t.1, inside, unit)
+
+-- ---- the whole step
+
+pub held_served : (room passing longest place : ℕ) (picks : List Choice → ℕ → Type 0) (rs new : List Record) (ds ds' : List Drive) (k : Block) (d d' : Drive) → IsHeld room passing longest rs ds
+    → IsNext picks passing rs place → d ≡ drive_of ds (record_at rs place).command.unit → d' ≡ drive_after k d (record_at rs place) → IsOnUnit d'
+    → new ≡ map (passed_by (cost_of (record_at rs place))) (take place rs) ++ (cond (is_some (end_given k d (record_at rs place))) [] (advanced (record_at rs place) ∷ []) ++ drop (place + 1) rs)
+    → ds' ≡ replaced (record_at rs place).command.unit d' ds → IsHeld room passing longest new ds'
+held_served room passing longest place picks rs new ds ds' k d d' h n e f on w v =
+    let r = record_at rs place in
+    let number = r.command.unit in
+    let cut = cut_at rs place n.inside in
+    let unit : d'.unit ≡ (drive_of ds number).unit = ap (λ (q : Drive). q.unit) f ∙ ap (λ (q : Drive). q.unit) e in
+    let same = every_weaker (λ q. has_number number q ≡ true → q.unit ≡ (drive_of ds number).unit) (λ q. has_number number q ≡ true → q.unit ≡ d'.unit) (λ q g b. g b ∙ sym unit) ds (units_same number ds h.units) in
+    let heads = All-from_recursion IsOnUnit (replaced number d' ds) (heads_replaced number d' ds on (recursion_from_All IsOnUnit ds h.heads)) in
+    let turn = next_turn room passing longest place picks rs ds k d h n in
+    subst (λ zs. IsHeld room passing longest new zs) (sym v)
+    (subst (λ zs. IsHeld room passing longest zs (replaced number d' ds)) (sym w)
+    (held_turn room passing longest (cost_of r) (take place rs) r (drop (place + 1) rs) (cond (is_some (end_given k d r)) [] (advanced r ∷ [])) ds (replaced number d' ds)
+    (subst (λ zs. IsHeld room passing longest zs ds) cut h) turn (units_replaced number d' ds same) heads))
+
+head_found : (n : ℕ) (ds : List Drive) → AllByRecursion IsOnUnit ds → IsOnUnit (drive_of ds n)
+head_found n [] h = omega arith
+head_found n (d ∷ ds) h =
+    let rest = head_found n ds h.1 in
+    elim (has_number n d) as (λ b. IsOnUnit (unwrap_or (cond b (Some d) (find (has_number n) ds)) (fresh_drive one_block))) [ true ↦ h.0 | false ↦ rest ]
+
+-- the drive that is found has its head on its unit
+pub head_kept : (room passing longest n : ℕ) (rs : List Record) (ds : List Drive) → IsHeld room passing longest rs ds → IsOnUnit (drive_of ds n)
+head_kept room passing longest n rs ds h = head_found n ds (recursion_from_All IsOnUnit ds h.heads)
+
+-- the same as it is found out, step by step
+pub held_step : (room passing longest place : ℕ) (picks : List Choice → ℕ → Type 0) (rs new : List Record) (ds ds' : List Drive) (k : Block) (r : Record) (command : Command) (d d' : Drive)
+    (e : Option End) (ends : Bool) (toll : ℕ) → IsHeld room passing longest rs ds → IsNext picks passing rs place → r ≡ record_at rs place → command ≡ r.command → d ≡ drive_of ds command.unit
+    → e ≡ end_given k d r → ends ≡ is_some e → d' ≡ drive_after k d r → toll ≡ cost_of r
+    → (((lbn : ℕ) → touched d r ≡ Some lbn → lbn < d.unit.size) → IsOnUnit d → IsOnUnit d')
+    → new ≡ map (passed_by toll) (take place rs) ++ (cond ends [] (advanced (record_at rs place) ∷ []) ++ drop (place + 1) rs)
+    → ds' ≡ replaced command.unit d' ds → IsHeld room passing longest new ds'
+held_step room passing longest place picks rs new ds ds' k r command d d' e ends toll h n is of drive ended some after cost on w v =
+    let own = advanced (record_at rs place) ∷ [] in
+    let unit : command.unit ≡ (record_at rs place).command.unit = ap (λ (c : Command). c.unit) of ∙ ap (λ (r : Record). r.command.unit) is in
+    let found = drive ∙ ap (drive_of ds) (ap (λ (c : Command). c.unit) of) in
+    let kept : IsKept passing longest (units_of ds) r = subst (IsKept passing longest (units_of ds)) (sym is) (h.each place no_record n.inside) in
+    let head : IsOnUnit d = subst IsOnUnit (sym drive) (head_kept room passing longest command.unit rs ds h) in
+    held_served room passing longest place picks rs new ds ds' k d d' h n (drive ∙ ap (drive_of ds) unit) (after ∙ ap (drive_after k d) is) (on (touched_inside passing longest ds r d found kept) head)
+    (w ∙ (ap (λ t. map (passed_by t) (take place rs) ++ (cond ends [] own ++ drop (place + 1) rs)) (cost ∙ ap cost_of is)
+    ∙ ap (λ b. map (passed_by (cost_of (record_at rs place))) (take place rs) ++ (cond b [] own ++ drop (place + 1) rs)) (some ∙ (ap is_some ended ∙ ap (λ r. is_some (end_given k d r)) is))))
+    (v ∙ ap (λ u. replaced u d' ds) unit)

@@ -1,0 +1,10 @@
+use Rattle.std.proofs.Common.{map, ap, subst, ◌∙◌}
+use Rattle.mscp_drive.specs.UnitList.{IsUnitList}
+use Rattle.mscp_queue.specs.Drives.{fresh_drive}
+use Rattle.mscp_queue.proofs.Held.{held_fresh}
+use Rattle.mscp_queue.proofs.queue.Queue.new.Goals as goal
+
+pub invariant_of-result : goal.invariant_of-result
+invariant_of-result g c =
+    held_fresh c.args.room c.args.passing c.args.longest c.args.units _ _ c.requires.some_room c.requires.few c.requires.some_blocks c.requires.short c.requires.small
+    c.list.ensures.valid c.new.ensures (c.drives_of-drives.ensures ∙ ap (map fresh_drive) c.list.ensures.value)

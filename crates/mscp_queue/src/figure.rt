@@ -1,0 +1,76 @@
+// Figures: how many steps a waiting command may still wait, at most.
+
+ghost use Rattle.std.specs.Prelude.{◌≡◌, ◌≤◌, ◌<◌, ◌+◌, ◌*◌, ◌^◌, length, filter, sum_by, All};
+ghost use Rattle.std.specs.List.{position};
+ghost use Rattle.mscp_queue.specs.Figures.{figure_at, figure_of_reference};
+ghost use Rattle.mscp_queue.specs.Records.{has_reference, is_in_service, left_of};
+
+use crate::record::Record;
+
+/// How many steps are left of the records.
+fn left_of_all(records: &[Record]) -> u64
+    requires few { length records.now ≤ 64 }
+    requires short { All (λ r. left_of r < 2 ^ 32) records.now }
+    ensures { result ≡ sum_by left_of records.now }
+{
+    records.iter().map(|record| u64::from(record.left())).sum()
+}
+
+/// How many steps are left of those of the records that are in service.
+fn left_in_service(records: &[Record]) -> u64
+    requires few { length records.now ≤ 64 }
+    requires short { All (λ r. left_of r < 2 ^ 32) records.now }
+    ensures { result ≡ sum_by left_of (filter is_in_service records.now) }
+{
+    records
+        .iter()
+        .filter(|record| !record.is_unstarted())
+        .map(|record| u64::from(record.left()))
+        .sum()
+}
+
+/// The figure of the record at the place, under this passing limit and this longest transfer.
+pub(crate) fn figure_at(passing: u32, longest: u32, records: &[Record], place: usize) -> u32
+    requires place { place < length records.now }
+    requires few { length records.now ≤ 64 }
+    requires short { All (λ r. left_of r ≤ longest) records.now }
+    requires small { (length records.now + passing) * longest < 2 ^ 32 }
+    ensures { result ≡ figure_at passing longest records.now place }
+{
+    let record = records[place];
+    let left = record.left();
+    if !record.is_unstarted() {
+        return left;
+    }
+    let passed = u64::from(passing.saturating_sub(record.passes())) * u64::from(longest);
+    let before = left_of_all(&records[..place]);
+    let serving = left_in_service(&records[place + 1..]);
+    (before + serving + passed + u64::from(left)) as u32
+}
+
+/// The place of the record with the reference number, if there is one.
+pub(crate) fn place_of(records: &[Record], reference: u32) -> Option<usize>
+    ensures { result ≡ position (has_reference reference) records.now }
+{
+    records
+        .iter()
+        .position(|record| record.command().reference == reference)
+}
+
+/// The figure of the waiting command with the reference number, 0 if there is none.
+pub(crate) fn figure_of_reference(
+    passing: u32,
+    longest: u32,
+    records: &[Record],
+    reference: u32,
+) -> u32
+    requires few { length records.now ≤ 64 }
+    requires short { All (λ r. left_of r ≤ longest) records.now }
+    requires small { (length records.now + passing) * longest < 2 ^ 32 }
+    ensures { result ≡ figure_of_reference passing longest records.now reference }
+{
+    match place_of(records, reference) {
+        Some(place) => figure_at(passing, longest, records, place),
+        None => 0,
+    }
+}

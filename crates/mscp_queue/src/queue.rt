@@ -1,0 +1,195 @@
+// The queue of a disk controller: its waiting commands, its drives, and its picker.
+
+ghost use Rattle.std.specs.Prelude.{◌≡◌, ◌+◌, ◌*◌, ◌<◌, ◌≤◌, ◌^◌, [], length, true, false, IfNone, IfSome};
+ghost use Rattle.std.specs.List.{list_any};
+ghost use Rattle.mscp_queue.specs.Drives.{is_online_in};
+ghost use Rattle.mscp_queue.specs.Figures.{figure_of_reference, figures};
+ghost use Rattle.mscp_queue.specs.Kept.{IsWaitable, units_of};
+ghost use Rattle.mscp_queue.specs.Lines.{Line, Serves, ServesAt, fresh, pushed};
+ghost use Rattle.mscp_queue.specs.Orders.{order_weight};
+ghost use Rattle.mscp_queue.specs.Records.{has_reference};
+ghost use Rattle.mscp_queue.specs.Serving.{IsNext};
+
+use crate::block::Block;
+use crate::drive::{Drive, drive_of, drives_of, replace_drive};
+use crate::figure::{figure_at, figure_of_reference};
+use crate::picker::Picker;
+use crate::record::Record;
+use crate::report::Report;
+use crate::service::serve;
+use crate::start::picked_place;
+use crate::turn::{leave, place_in_service};
+use arrayvec::ArrayVec;
+use mscp_drive::Units;
+use mscp_packet::{Command, Order};
+use std::marker::Model;
+
+/// A command that is to wait, and how many steps it takes.
+#[derive(Clone, Copy, Debug, PartialEq, Eq)]
+pub struct Waiting {
+    /// Its reference number.
+    pub reference: u32,
+    /// The number of its unit.
+    pub unit: u16,
+    /// What it asks for.
+    pub order: Order,
+    /// How many steps it takes: one for each block of a transfer, and at least one.
+    pub weight: u32,
+}
+
+/// The waiting commands of a disk controller, and who is served next. It takes no memory beside its own.
+#[derive(Drop)]
+pub struct Queue<K> {
+    room: u32,
+    passing: u32,
+    longest: u32,
+    waiting: ArrayVec<Record, 64>,
+    drives: ArrayVec<Drive, 16>,
+    picker: K,
+}
+
+// A clause sees the limits, the waiting commands in order of arrival, the drives in the order of their units, and the
+// picker.
+impl<K> Model for Queue<K> {
+    ghost use Rattle.mscp_queue.specs.Lines.{Line};
+    ghost use Rattle.mscp_queue.specs.Kept.{IsHeld};
+
+    ghost Value = { Line K };
+
+    ghost view = { λ q. record { room = q.room; passing = q.passing; longest = q.longest; waiting = q.waiting.items; drives = q.drives.items; picker = q.picker } };
+
+    ghost invariant = { λ q. IsHeld q.room q.passing q.longest q.waiting.items q.drives.items };
+}
+
+impl<K: Picker> Queue<K> {
+    /// A queue to which nothing came so far: `room` commands may wait, each may be passed `passing` times, and no
+    /// transfer is longer than `longest` blocks.
+    pub fn new(units: Units, room: u32, passing: u32, longest: u32, picker: K) -> Queue<K>
+        requires some_room { 1 ≤ room }
+        requires few { room ≤ 63 }
+        requires some_blocks { 1 ≤ longest }
+        requires short { longest ≤ 8388608 }
+        requires small { (room + passing) * longest ≤ 4294967295 }
+        ensures { result ≡ fresh units room passing longest picker }
+    {
+        let drives = drives_of(units.list());
+        Queue {
+            room,
+            passing,
+            longest,
+            waiting: ArrayVec::new(),
+            drives,
+            picker,
+        }
+    }
+
+    /// How many commands wait.
+    pub fn len(&self) -> u32
+        ensures { result ≡ length self.now.waiting }
+    {
+        self.waiting.len() as u32
+    }
+
+    /// Whether a command with the reference number waits.
+    pub fn contains(&self, reference: u32) -> bool
+        ensures { result ≡ list_any (has_reference reference) self.now.waiting }
+    {
+        self.waiting
+            .as_slice()
+            .iter()
+            .any(|record| record.command().reference == reference)
+    }
+
+    /// Whether the unit of this number is online: false where it isn't configured.
+    pub fn is_online(&self, unit: u16) -> bool
+        ensures { result ≡ is_online_in self.now.drives unit }
+    {
+        drive_of(self.drives.as_slice(), unit).online
+    }
+
+    /// Lets a command wait, behind all that wait.
+    pub fn push(&mut self, new: Waiting)
+        requires room { length self.old.waiting < self.old.room }
+        requires apart { list_any (has_reference new.reference) self.old.waiting ≡ false }
+        requires weight { new.weight ≡ order_weight new.order }
+        requires waitable { IsWaitable self.old.longest (units_of self.old.drives) (record { reference = new.reference; unit = new.unit; order = new.order }) }
+        ensures { self.new ≡ pushed self.old (record { reference = new.reference; unit = new.unit; order = new.order }) }
+    {
+        let command = Command {
+            reference: new.reference,
+            unit: new.unit,
+            order: new.order,
+        };
+        self.waiting.push(Record::new(command, new.weight));
+    }
+
+    /// The figure of the waiting command with the reference number, 0 if there is none: how many steps it may still
+    /// wait, at most.
+    pub fn figure(&self, reference: u32) -> u32
+        ensures { result ≡ figure_of_reference self.now.passing self.now.longest self.now.waiting reference }
+    {
+        figure_of_reference(
+            self.passing,
+            self.longest,
+            self.waiting.as_slice(),
+            reference,
+        )
+    }
+
+    /// The place of the command that is served next: that in service, or one that the picker picks.
+    fn next_place(&self) -> Option<usize>
+        ensures none { IfNone result (self.now.waiting ≡ []) }
+        ensures some { IfSome result (λ place. IsNext (K.picks self.now.picker) self.now.passing self.now.waiting place) }
+    {
+        let waiting = self.waiting.as_slice();
+        if waiting.is_empty() {
+            return None;
+        }
+        match place_in_service(waiting) {
+            Some(place) => Some(place),
+            None => Some(picked_place(
+                waiting,
+                self.drives.as_slice(),
+                self.passing,
+                &self.picker,
+            )),
+        }
+    }
+
+    /// Serves a block, with this outcome, to the record at the place.
+    fn serve_at(&mut self, place: usize, block: &Block) -> Report
+        requires { IsNext (K.picks self.old.picker) self.old.passing self.old.waiting place }
+        ensures { ServesAt (K.picks self.old.picker) block.now self.old result self.new place }
+    {
+        let record = self.waiting[place];
+        let command = record.command();
+        let drive = drive_of(self.drives.as_slice(), command.unit);
+        let service = serve(&drive, &record, block);
+        leave(
+            &mut self.waiting,
+            place,
+            record.cost(),
+            service.ended.is_some(),
+        );
+        replace_drive(self.drives.as_mut_slice(), command.unit, &service.drive);
+        Report::Served {
+            reference: command.reference,
+            unit: command.unit,
+            lbn: service.lbn,
+            started: record.is_unstarted(),
+            seek: service.seek,
+            ended: service.ended,
+        }
+    }
+
+    /// Serves one block, with this outcome, if a command waits: to the command in service, or to one that the picker
+    /// picks of those that may start.
+    pub fn serve(&mut self, block: Block) -> Report
+        ensures { Serves (K.picks self.old.picker) block self.old result self.new }
+    {
+        match self.next_place() {
+            Some(place) => self.serve_at(place, &block),
+            None => Report::Idle,
+        }
+    }
+}

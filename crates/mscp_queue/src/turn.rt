@@ -1,0 +1,53 @@
+// What a step leaves of the waiting commands.
+
+ghost use Rattle.std.specs.Prelude.{◌≡◌, ◌+◌, ◌<◌, ◌≤◌, ◌^◌, [], ◌∷◌, ◌++◌, cond, length, map, take, drop, All, nat_lt};
+ghost use Rattle.std.specs.List.{position};
+ghost use Rattle.mscp_queue.specs.Records.{advanced, is_in_service, passed_by, record_at};
+
+use crate::record::Record;
+use arrayvec::ArrayVec;
+
+/// The place of a record in service, if there is one.
+pub(crate) fn place_in_service(records: &[Record]) -> Option<usize>
+    ensures { result ≡ position is_in_service records.now }
+{
+    records.iter().position(|record| !record.is_unstarted())
+}
+
+/// Each record in front of the place was passed at this toll.
+fn pass_front(records: &mut [Record], place: usize, toll: u32)
+    requires place { place ≤ length records.old }
+    requires small { All (λ r. r.passes + toll < 2 ^ 32) (take place records.old) }
+    ensures passed { records.new ≡ map (passed_by toll) (take place records.old) ++ drop place records.old }
+    ensures long { length records.new ≡ length records.old }
+{
+    for i in 0..place {
+        records[i] = records[i].passed_by(toll);
+    }
+}
+
+/// The record at the place had a step, and each in front of it was passed at this toll.
+fn serve_front(records: &mut [Record], place: usize, toll: u32)
+    requires place { place < length records.old }
+    requires small { All (λ r. r.passes + toll < 2 ^ 32) (take place records.old) }
+    requires unfinished { (record_at records.old place).done + 1 < 2 ^ 32 }
+    ensures served { records.new ≡ map (passed_by toll) (take place records.old) ++ (advanced (record_at records.old place) ∷ drop (place + 1) records.old) }
+    ensures long { length records.new ≡ length records.old }
+{
+    pass_front(records, place, toll);
+    records[place] = records[place].advanced();
+}
+
+/// What a step of the record at the place leaves: it is taken out where its command ends, and each in front of it was
+/// passed at this toll.
+pub(crate) fn leave(waiting: &mut ArrayVec<Record, 64>, place: usize, toll: u32, ends: bool)
+    requires place { place < length waiting.old.items }
+    requires small { All (λ r. r.passes + toll < 2 ^ 32) (take place waiting.old.items) }
+    requires unfinished { (record_at waiting.old.items place).done + 1 < 2 ^ 32 }
+    ensures { waiting.new.items ≡ map (passed_by toll) (take place waiting.old.items) ++ (cond ends [] (advanced (record_at waiting.old.items place) ∷ []) ++ drop (place + 1) waiting.old.items) }
+{
+    serve_front(waiting.as_mut_slice(), place, toll);
+    if ends {
+        waiting.remove(place);
+    }
+}
