@@ -2,10 +2,11 @@
 
 ghost use Rattle.std.specs.Prelude.{◌≡◌, ◌≤◌, ◌<◌, ◌+◌, ◌*◌, ◌^◌, length, filter, sum_by, All};
 ghost use Rattle.std.specs.List.{position};
-ghost use Rattle.mscp_queue.specs.Figures.{figure_at, figure_of_reference};
+ghost use Rattle.mscp_queue.specs.Figures.{figure_at, figure_of_reference, figures};
 ghost use Rattle.mscp_queue.specs.Records.{has_reference, is_in_service, left_of};
 
 use crate::record::Record;
+use arrayvec::ArrayVec;
 
 /// How many steps are left of the records.
 fn left_of_all(records: &[Record]) -> u64
@@ -73,4 +74,20 @@ pub(crate) fn figure_of_reference(
         Some(place) => figure_at(passing, longest, records, place),
         None => 0,
     }
+}
+
+/// Reference number and figure of each record, in order.
+#[tactic(auto, using(crate::proofs::Sums::figures_more))]
+pub(crate) fn figures(passing: u32, longest: u32, records: &[Record]) -> ArrayVec<(u32, u32), 64>
+    requires few { length records.now ≤ 64 }
+    requires short { All (λ r. left_of r ≤ longest) records.now }
+    requires small { (length records.now + passing) * longest < 2 ^ 32 }
+    ensures { result.items ≡ figures passing longest records.now }
+{
+    let mut list = ArrayVec::new();
+    for place in 0..records.len() {
+        let reference = records[place].command().reference;
+        list.push((reference, figure_at(passing, longest, records, place)));
+    }
+    list
 }

@@ -12,7 +12,7 @@ ghost use Rattle.mscp_queue.specs.Serving.{IsNext};
 
 use crate::block::Block;
 use crate::drive::{Drive, drive_of, drives_of, replace_drive};
-use crate::figure::{figure_at, figure_of_reference};
+use crate::figure::{figure_of_reference, figures};
 use crate::picker::Picker;
 use crate::record::Record;
 use crate::report::Report;
@@ -134,6 +134,13 @@ impl<K: Picker> Queue<K> {
             self.waiting.as_slice(),
             reference,
         )
+    }
+
+    /// Reference number and figure of each waiting command, in order of arrival.
+    pub fn look(&self) -> ArrayVec<(u32, u32), 64>
+        ensures { result.items ≡ figures self.now.passing self.now.longest self.now.waiting }
+    {
+        figures(self.passing, self.longest, self.waiting.as_slice())
     }
 
     /// The place of the command that is served next: that in service, or one that the picker picks.
