@@ -1,15 +1,16 @@
 -- What is known of a message that isn't refused.
-use Rattle.std.proofs.Common.{◌≡◌, ℕ, ◌≤◌, ◌||◌, List, [], ◌∷◌, ◌++◌, map, length, refl, ap, ◌∙◌, sym}
+use Rattle.std.proofs.Common.{◌≡◌, ℕ, ◌≤◌, Bool, true, false, ◌||◌, List, [], ◌∷◌, ◌++◌, map, length, refl, ap, ◌∙◌, sym}
 use Rattle.std.specs.Prelude.{nat_eq, nat_lt, if◌then◌else◌, slice_index, Some, None}
 use Rattle.std.specs.List.{list_any}
 use Rattle.std.proofs.lemmas.List.Folds.{list_any-append}
-use Rattle.std.proofs.lemmas.Bool.{le-ltb}
+use Rattle.std.proofs.lemmas.Bool.{le-ltb, true≢false}
+use Rattle.mscp_queue.specs.Records.{has_reference}
 use Rattle.mscp_packet.specs.declared.command.Command.{Command}
 use Rattle.mscp_packet.specs.Number.{num}
 use Rattle.mscp_packet.specs.Commands.{IsCommand, command_of}
 use Rattle.mscp_packet.specs.declared.end.End.{End}
 use Rattle.mscp_control.specs.declared.event.SendFault.TheVariants.{Short, Long}
-use Rattle.mscp_control.specs.declared.record.Record.{Record}
+use Rattle.mscp_queue.specs.Records.{Record}
 use Rattle.mscp_control.specs.Arrival.{credit_fault, holds, refusal}
 
 -- a message is the command that it is read as
@@ -44,3 +45,13 @@ refusal_read balance outstanding b low high =
 pub taken : (balance : ℕ) (outstanding b : List ℕ) (command : Command) → IsCommand b command → credit_fault balance outstanding (slice_index b 8) command.reference ≡ None → refusal balance outstanding b ≡ None
 taken balance outstanding b command h e =
     refusal_read balance outstanding b h.low h.high ∙ ap (credit_fault balance outstanding (slice_index b 8)) (sym h.reference) ∙ e
+
+-- no command that waits has a reference number that isn't outstanding
+or_left : (a b : Bool) → (a || b) ≡ false → a ≡ false
+or_left true b h = absurd (true≢false h)
+or_left false b h = refl
+
+pub none_waits : (rs : List Record) (es : List End) (reference : ℕ) → holds (map (λ r. r.command.reference) rs ++ map (λ e. e.reference) es) reference ≡ false
+    → list_any (has_reference reference) rs ≡ false
+none_waits rs es reference h =
+    or_left (list_any (has_reference reference) rs) (list_any (λ e. nat_eq e.reference reference) es) (sym (holds_either rs es reference) ∙ h)

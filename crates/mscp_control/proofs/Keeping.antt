@@ -1,78 +1,101 @@
--- What each event keeps of a controller's holdings.
-use Rattle.std.proofs.Common.{◌≡◌, ℕ, ◌+◌, ◌<◌, Bool, true, false, cond, List, [], ◌∷◌, ◌++◌, map, length, take, drop, set, get_or, append_assoc, ap, refl, sym, subst, ◌∙◌, arith}
-use Rattle.std.specs.Prelude.{All, find, unwrap_or, nat_eq, if◌then◌else◌, Some, None}
-use Rattle.std.proofs.lemmas.List.{length-map, length-take-le, drop_more, get_or_at, map-append, set_at, take_more}
-use Rattle.std.proofs.lemmas.List.Elements.{All-nil}
-use Rattle.mscp_packet.specs.declared.command.Command.{Command}
-use Rattle.mscp_packet.specs.declared.command.Order.TheVariants as orders
+-- What each event keeps of what a controller holds.
+use Rattle.std.proofs.Common.{◌≡◌, ℕ, ◌+◌, ◌-◌, ◌<◌, ◌≤◌, Bool, true, false, List, [], ◌∷◌, ◌++◌, map, length, take, drop, ap, refl, sym, subst, ◌∙◌, arith, append-nil}
+use Rattle.std.specs.Prelude.{option_to_list, Option, Some, None}
+use Rattle.std.proofs.lemmas.List.{length-append, length-drop, length-map, length-take-le}
 use Rattle.mscp_packet.specs.declared.end.End.{End}
 use Rattle.mscp_drive.specs.Shape.{Shape}
-use Rattle.mscp_control.specs.declared.block.Block.{Block}
-use Rattle.mscp_control.specs.declared.drive.Drive.{Drive}
-use Rattle.mscp_control.specs.declared.record.Record.{Record}
-use Rattle.mscp_control.specs.Settings.{Settings, IsValid, one_block, unit_shape}
-use Rattle.mscp_control.specs.Arrival.{fault_of}
-use Rattle.mscp_control.specs.Outcomes.{answer_body, answer_status, end_with, own_end_with, unit_body}
-use Rattle.mscp_control.specs.Holdings.{Holdings, answered_end, drive_after, drive_of, figure_polled, fresh_drive, served_drives}
-use Rattle.mscp_control.specs.Kept.{IsHeld, IsKept}
+use Rattle.mscp_queue.specs.declared.block.Block.{Block}
+use Rattle.mscp_queue.specs.declared.report.Report.{Report}
+use Rattle.mscp_queue.specs.declared.report.Report.TheVariants as reports
+use Rattle.mscp_queue.specs.declared.view.Choice.{Choice}
+use Rattle.mscp_queue.specs.Drives.{fresh_drive}
+use Rattle.mscp_queue.specs.Kept.{units_of}
+use Rattle.mscp_queue.specs.Lines as lines
+use Rattle.mscp_queue.specs.Lines.{Line, Serves, ServesAt}
+use Rattle.mscp_queue.specs.Records.{Record, advanced, cost_of, passed_by, record_at, remains}
+use Rattle.mscp_queue.specs.Serving.{drive_at, end_given, report_of, waiting_after}
+use Rattle.mscp_control.specs.Settings.{Settings, IsValid, room}
+use Rattle.mscp_control.specs.Holdings.{ends_reported}
+use Rattle.mscp_control.specs.Kept.{IsHeld}
 
--- a step changes no unit
-pub units_served : (k : Block) (r : Record) (ds : List Drive) → map (λ d. d.unit) (served_drives k r ds) ≡ map (λ d. d.unit) ds
-units_served k r [] = refl
-units_served k r (d ∷ ds) =
-    let same : (b : Bool) → (if b then drive_after k r d else d).unit ≡ d.unit = λ b. elim b as (λ b. (if b then drive_after k r d else d).unit ≡ d.unit) [ true ↦ refl | false ↦ refl ] in
-    ap (λ u. u ∷ map (λ d. d.unit) (served_drives k r ds)) (same (nat_eq d.unit.number r.command.unit)) ∙ ap (λ us. d.unit ∷ us) (units_served k r ds)
+-- ---- nothing came
 
-units_fresh : (us : List Shape) → map (λ d. d.unit) (map fresh_drive us) ≡ us
+units_fresh : (us : List Shape) → units_of (map fresh_drive us) ≡ us
 units_fresh [] = refl
 units_fresh (u ∷ us) = ap (λ vs. u ∷ vs) (units_fresh us)
 
--- nothing came
-pub held_fresh : (c : Settings) (ws : List Record) (us : List End) (ds : List Drive) → IsValid c → ws ≡ [] → us ≡ [] → ds ≡ map fresh_drive c.units → IsHeld c ws us ds
-held_fresh c ws us ds v e f g =
+pub held_fresh : {K : Type 0} (c : Settings) (units : List Shape) (room' passing longest : ℕ) (picker : K) (line : Line K) (us : List End) → IsValid c → units ≡ c.units → room' ≡ room c → passing ≡ c.passing
+    → longest ≡ c.longest → line ≡ lines.fresh units room' passing longest picker → us ≡ [] → IsHeld c line us
+held_fresh {K} c units room' passing longest picker line us v u r p l e n =
     let some = v.some_credits in
-    record {
+    let all : IsHeld c (lines.fresh units room' passing longest picker) us = record {
       valid = v;
-      covered = omega (arith, ap length e, ap length f);
-      spare = omega (arith, ap length e);
-      each = subst (All (IsKept c)) (sym e) (All-nil (IsKept c));
-      units = ap (map (λ (d : Drive). d.unit)) g ∙ units_fresh c.units;
+      covered = omega (arith, ap length n);
+      fits = omega arith;
+      same_room = r;
+      same_passing = p;
+      same_longest = l;
+      units = units_fresh units ∙ u;
+    } in
+    subst (λ (q : Line K). IsHeld c q us) (sym e) all
+
+-- ---- a step
+
+remains_count : (r : Record) (e : Option End) → length (remains r e) + length (option_to_list e) ≡ 1
+remains_count r None = omega arith
+remains_count r (Some end) = omega arith
+
+-- where a command ends, one less waits
+count_after : (n place : ℕ) (r : Record) (rs : List Record) (e : Option End) → place < length rs
+    → length (map (passed_by n) (take place rs) ++ (remains r e ++ drop (place + 1) rs)) + length (option_to_list e) ≡ length rs
+count_after n place r rs e l =
+    let A = take place rs in
+    let B = drop (place + 1) rs in
+    omega (arith, remains_count r e, length-append (map (passed_by n) A) (remains r e ++ B), length-map A (passed_by n), length-append (remains r e) B, length-take-le place rs (omega arith), length-drop (place + 1) rs)
+
+-- the waiting commands and the ends that a step brings are as many as waited
+pub count_stepped : {K : Type 0} (picks : List Choice → ℕ → Type 0) (k : Block) (old : Line K) (report : Report) (new : Line K) → Serves picks k old report new
+    → length new.waiting + length (ends_reported report) ≡ length old.waiting
+count_stepped {K} picks k old reports.Idle new h = let same = ap (λ (l : Line K). length l.waiting) h.1 in omega (arith, same)
+count_stepped {K} picks k old (reports.Served reference unit lbn started seek ended) new h =
+    let place = h.0 in
+    let s = h.1 in
+    let r = record_at old.waiting place in
+    let e = end_given k (drive_at old.drives old.waiting place) r in
+    let ends : ends_reported (reports.Served reference unit lbn started seek ended) ≡ option_to_list e = ap ends_reported s.told in
+    omega (arith, ap (λ (l : Line K). length l.waiting) s.left, ap length ends, count_after (cost_of r) place r old.waiting e s.next.inside)
+
+-- and the limits and the picker stay
+pub stays : {K : Type 0} (picks : List Choice → ℕ → Type 0) (k : Block) (old : Line K) (report : Report) (new : Line K) → Serves picks k old report new
+    → (new.room ≡ old.room) × (new.passing ≡ old.passing) × (new.longest ≡ old.longest) × (new.picker ≡ old.picker)
+stays {K} picks k old reports.Idle new h =
+    (ap (λ (l : Line K). l.room) h.1, ap (λ (l : Line K). l.passing) h.1, ap (λ (l : Line K). l.longest) h.1, ap (λ (l : Line K). l.picker) h.1)
+stays {K} picks k old (reports.Served reference unit lbn started seek ended) new h =
+    let e = h.1.left in
+    (ap (λ (l : Line K). l.room) e, ap (λ (l : Line K). l.passing) e, ap (λ (l : Line K). l.longest) e, ap (λ (l : Line K). l.picker) e)
+
+pub held_stepped : {K : Type 0} (c : Settings) (picks : List Choice → ℕ → Type 0) (k : Block) (old : Line K) (report : Report) (new : Line K) (us us' : List End) → IsHeld c old us → Serves picks k old report new
+    → units_of new.drives ≡ units_of old.drives → us' ≡ us ++ ends_reported report → IsHeld c new us'
+held_stepped {K} c picks k old report new us us' h s u e =
+    let count = count_stepped picks k old report new s in
+    let same = stays picks k old report new s in
+    let covered = h.covered in
+    let fits = h.fits in
+    record {
+      valid = h.valid;
+      covered = omega (arith, count, ap length e, length-append us (ends_reported report));
+      fits = omega (arith, count);
+      same_room = same.0 ∙ h.same_room;
+      same_passing = same.1 ∙ h.same_passing;
+      same_longest = same.2 ∙ h.same_longest;
+      units = u ∙ h.units;
     }
 
-found_drive : (number : ℕ) (ds : List Drive) → unwrap_or (find (λ s. nat_eq s.number number) (map (λ d. d.unit) ds)) one_block ≡ (drive_of ds number).unit
-found_drive number [] = refl
-found_drive number (d ∷ ds) =
-    let rest = found_drive number ds in
-    elim (nat_eq d.unit.number number) as (λ b. unwrap_or (cond b (Some d.unit) (find (λ s. nat_eq s.number number) (map (λ d. d.unit) ds))) one_block ≡ (unwrap_or (cond b (Some d) (find (λ d. nat_eq d.unit.number number) ds)) (fresh_drive one_block)).unit)
-    [ true ↦ refl | false ↦ rest ]
-
--- the drive of a number is of the unit of that number
-pub drive_shape : (c : Settings) (ds : List Drive) (number : ℕ) → map (λ d. d.unit) ds ≡ c.units → unit_shape c number ≡ (drive_of ds number).unit
-drive_shape c ds number e = ap (λ us. unwrap_or (find (λ s. nat_eq s.number number) us) one_block) (sym e) ∙ found_drive number ds
-
--- the end of a GET UNIT STATUS that isn't refused
-pub unit_status_answered : (h : Holdings) (command : Command) → map (λ d. d.unit) h.drives ≡ h.settings.units → command.order ≡ orders.UnitStatus → fault_of h.settings command ≡ None
-    → end_with command (if (drive_of h.drives command.unit).online then 0x0000 else 0x0004) (unit_body (drive_of h.drives command.unit).unit) ≡ answered_end h command
-unit_status_answered h command e o f =
-    let d = drive_of h.drives command.unit in
-    ap (λ s. end_with command (if d.online then 0x0000 else 0x0004) (unit_body s)) (sym (drive_shape h.settings h.drives command.unit e))
-    ∙ (ap (λ o. end_with command (answer_status d.online o) (answer_body h.settings (figure_polled h.settings h.waiting command.order) command.unit o)) (sym o)
-    ∙ ap (own_end_with h.settings d.online (figure_polled h.settings h.waiting command.order) command) (sym f))
-
--- ---- a write to each element
-
--- One more element is what a function makes of it.
-pub mapped_more : {X : Type 0} (f : X → X) (xs ys : List X) (i : ℕ) (item x : X) → ys ≡ map f (take i xs) ++ drop i xs → length ys ≡ length xs → i < length ys
-    → x ≡ f (get_or ys i item) → set ys i x ≡ map f (take (i + 1) xs) ++ drop (i + 1) xs
-mapped_more {X} f xs ys i item x e l h k =
-    let A = map f (take i xs) in
-    let y = get_or xs i item in
-    let below : i < length xs = omega arith in
-    let long : length A ≡ i = length-map (take i xs) f ∙ length-take-le i xs (omega arith) in
-    let cut : ys ≡ A ++ y ∷ drop (i + 1) xs = e ∙ ap (λ zs. A ++ zs) (drop_more xs i item below) in
-    let same : get_or ys i item ≡ y = ap (λ zs. get_or zs i item) cut ∙ get_or_at A y (drop (i + 1) xs) item i long in
-    ap (λ zs. set zs i x) cut
-    ∙ (set_at A y (drop (i + 1) xs) x i long
-    ∙ (ap (λ z. A ++ z ∷ drop (i + 1) xs) (k ∙ ap f same)
-    ∙ (sym (append_assoc A (f y ∷ []) (drop (i + 1) xs))
-    ∙ ap (λ zs. zs ++ drop (i + 1) xs) (sym (map-append f (take i xs) (y ∷ [])) ∙ ap (map f) (sym (take_more xs i item below))))))
+-- there is room for the end that a step brings
+pub end_fits : {K : Type 0} (c : Settings) (picks : List Choice → ℕ → Type 0) (k : Block) (old : Line K) (report : Report) (new : Line K) (us : List End) → IsHeld c old us → Serves picks k old report new
+    → length us + length (ends_reported report) ≤ 64
+end_fits {K} c picks k old report new us h s =
+    let count = count_stepped picks k old report new s in
+    let covered = h.covered in
+    let few = h.valid.few_credits in
+    omega (arith, count)

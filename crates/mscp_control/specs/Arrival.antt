@@ -1,5 +1,5 @@
 -- How a message is judged when it comes. Nothing here asks what came before it.
-use Rattle.std.specs.Prelude.{ℕ, Bool, true, false, not, ◌&&◌, nat_eq, nat_lt, bit_or, if◌then◌else◌, ◌==◌, List, length, slice_index, Option, Some, None, is_none, Result}
+use Rattle.std.specs.Prelude.{ℕ, Bool, true, false, not, ◌&&◌, nat_eq, nat_lt, if◌then◌else◌, ◌==◌, List, length, slice_index, Option, Some, None, is_none, Result}
 use Rattle.std.specs.List.{list_any}
 use Rattle.mscp_packet.specs.declared.class.Class.{Class}
 use Rattle.mscp_packet.specs.declared.class.Class.TheVariants.{Immediate}
@@ -8,9 +8,9 @@ use Rattle.mscp_packet.specs.declared.command.Order.TheVariants as orders
 use Rattle.mscp_packet.specs.declared.command.Command.{Command}
 use Rattle.mscp_packet.specs.Number.{num}
 use Rattle.mscp_packet.specs.Opcodes.{class}
-use Rattle.mscp_packet.specs.Commands.{opcode_byte}
 use Rattle.mscp_drive.specs.Shape.{Shape}
 use Rattle.mscp_drive.specs.Extent as extent
+use Rattle.mscp_queue.specs.Orders.{order_weight}
 use Rattle.mscp_control.specs.declared.event.SendFault.{SendFault}
 use Rattle.mscp_control.specs.declared.event.SendFault.TheVariants.{Short, Long, NoCredit, LastCredit, Doubled}
 use Rattle.mscp_control.specs.Settings.{Settings, unit_found}
@@ -44,11 +44,6 @@ refusal balance outstanding b =
 
 -- ---- orders
 
--- how many steps an order takes: one for each block of a transfer, and at least one (profile)
-abbrev pub order_weight : Order → ℕ
-order_weight (orders.Move kind count block) = extent.weight count
-order_weight order = 1
-
 -- answered when it comes, without a step (manual)
 abbrev pub is_immediate : Order → Bool
 is_immediate (orders.Abort other) = true
@@ -56,23 +51,6 @@ is_immediate (orders.Status other) = true
 is_immediate orders.UnitStatus = true
 is_immediate (orders.SetController version) = true
 is_immediate order = false
-
--- kept in its place among the commands of its unit (manual)
-abbrev pub is_sequential : Order → Bool
-is_sequential orders.Available = true
-is_sequential orders.Online = true
-is_sequential orders.SetUnit = true
-is_sequential order = false
-
--- a transfer (manual)
-abbrev pub is_move : Order → Bool
-is_move (orders.Move kind count block) = true
-is_move order = false
-
--- the first block of an order
-abbrev pub first_block : Order → ℕ
-first_block (orders.Move kind count block) = block
-first_block order = 0
 
 -- the status that refuses a transfer to a unit that may not be configured: 0x0003 is Unit-Offline (manual)
 abbrev pub move_fault : Settings → ℕ → ℕ → Option Shape → Option ℕ
@@ -112,10 +90,3 @@ judged c command = extent.weighed (fault_of c command) (order_weight command.ord
 -- whether a command that isn't refused waits for steps (manual)
 abbrev pub is_queued : Settings → Command → Bool
 is_queued c command = if is_immediate command.order then false else is_none (fault_of c command)
-
--- the endcode: the opcode with the top bit set. An opcode that is unknown, or isn't served so far, has that
--- bit alone (manual, the latter is the profile's)
-abbrev pub endcode : Order → ℕ
-endcode (orders.Invalid opcode status) = if status == 0x0801 then 0x80 else bit_or opcode 0x80
-endcode (orders.Abort other) = 0x80
-endcode order = bit_or (opcode_byte order) 0x80

@@ -5,10 +5,11 @@ use Rattle.mscp_packet.specs.declared.command.Order.TheVariants as orders
 use Rattle.mscp_packet.specs.declared.command.Command.{Command}
 use Rattle.mscp_packet.specs.declared.end.End.{End}
 use Rattle.mscp_packet.specs.Commands.{command_of}
-use Rattle.mscp_control.specs.declared.block.Block.{Block}
+use Rattle.mscp_queue.specs.declared.block.Block.{Block}
 use Rattle.mscp_control.specs.Settings.{Settings}
 use Rattle.mscp_control.specs.Arrival.{fault_of}
-use Rattle.mscp_control.specs.Outcomes.{own_end, aborted_end, outcome_of}
+use Rattle.mscp_control.specs.Outcomes.{own_end, outcome_of}
+use Rattle.mscp_queue.specs.Outcomes.{aborted_end}
 use Rattle.mscp_control.specs.History.{Moment, Trace, collect, sent_bytes, answers, takes, Service, service_in}
 use Rattle.mscp_control.specs.Commands.{command, reference, unit, waiting, good}
 use Rattle.mscp_control.specs.Figures.{figure_of}

@@ -11,7 +11,7 @@ use Rattle.mscp_packet.specs.declared.end.EndBody.TheVariants as bodies
 use Rattle.mscp_control.specs.declared.event.Event.{Event}
 use Rattle.mscp_control.specs.declared.event.Entry.{Entry}
 use Rattle.mscp_control.specs.Settings.{Settings, IsValid, bound}
-use Rattle.mscp_control.specs.Outcomes.{end_with}
+use Rattle.mscp_queue.specs.Outcomes.{end_with}
 use Rattle.mscp_control.specs.History.{Moment, Trace, moment, answers, is_step, Service, service_in, WhenStarted}
 use Rattle.mscp_control.specs.Commands.{reference, sent_command, waiting, steps_after}
 use Rattle.mscp_control.specs.Passing.{is_free, passes}

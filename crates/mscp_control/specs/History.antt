@@ -2,8 +2,8 @@
 use Rattle.std.specs.Prelude.{◌≡◌, ℕ, Bool, true, false, List, [], ◌∷◌, length, take, flat_map, slice_index_or, Option, Some, None, Ok}
 use Rattle.std.specs.List.{range_with_len}
 use Rattle.mscp_packet.specs.declared.end.End.{End}
-use Rattle.mscp_control.specs.declared.block.Block.TheVariants.{Good}
-use Rattle.mscp_control.specs.declared.block.Report.TheVariants as reports
+use Rattle.mscp_queue.specs.declared.block.Block.TheVariants.{Good}
+use Rattle.mscp_queue.specs.declared.report.Report.TheVariants as reports
 use Rattle.mscp_control.specs.declared.event.Sent.TheVariants as sents
 use Rattle.mscp_control.specs.declared.event.Event.{Event}
 use Rattle.mscp_control.specs.declared.event.Event.TheVariants as events

@@ -1,21 +1,23 @@
 -- What may be answered after a run, and which runs are legal. No picker is named: any command that may
 -- start may be the one that starts.
-use Rattle.std.specs.Prelude.{◌≡◌, ℕ, ◌<◌, true, ◌||◌, nat_eq, if◌then◌else◌, [], length, map, take, slice_get, Option, Some, None, option_map}
+use Rattle.std.specs.Prelude.{◌≡◌, ℕ, ◌<◌, true, ◌||◌, nat_eq, if◌then◌else◌, [], length, map, take, slice_get, slice_index_or, List, Option, Some, None, option_map}
 use Rattle.mscp_packet.specs.declared.end.End.{End}
 use Rattle.mscp_packet.specs.Ends.{end_bytes}
-use Rattle.mscp_control.specs.declared.block.Block.{Block}
-use Rattle.mscp_control.specs.declared.block.Report.TheVariants as reports
+use Rattle.mscp_queue.specs.declared.block.Block.{Block}
+use Rattle.mscp_queue.specs.declared.report.Report.TheVariants as reports
 use Rattle.mscp_control.specs.declared.event.Event.{Event}
 use Rattle.mscp_control.specs.declared.event.Event.TheVariants as events
 use Rattle.mscp_control.specs.declared.event.Entry.{Entry}
 use Rattle.mscp_control.specs.declared.event.Entry.TheVariants as entries
 use Rattle.mscp_drive.specs.Shape.{cylinder_of}
 use Rattle.mscp_drive.specs.Heads.{distance}
+use Rattle.mscp_queue.specs.declared.view.Choice.{Choice}
+use Rattle.mscp_queue.specs.Orders.{order_class}
 use Rattle.mscp_control.specs.Settings.{Settings, unit_shape}
-use Rattle.mscp_control.specs.Outcomes.{block_touched, goes_on}
-use Rattle.mscp_control.specs.History.{Trace, moment, Service, service_in}
+use Rattle.mscp_queue.specs.Outcomes.{block_touched, goes_on}
+use Rattle.mscp_control.specs.History.{Trace, moment, Service, service_in, WhenStarted}
 use Rattle.mscp_control.specs.Commands.{reference, unit, order, is_waiting, waiting, done, left, in_service}
-use Rattle.mscp_control.specs.Passing.{is_startable}
+use Rattle.mscp_control.specs.Passing.{is_startable, startable}
 use Rattle.mscp_control.specs.Figures.{figure}
 use Rattle.mscp_control.specs.Units.{is_online, head_cylinder}
 use Rattle.mscp_control.specs.Ends.{outcome, untaken}
@@ -74,3 +76,23 @@ IsRight c t event entry = ⊥
 -- each answer is right after what came before it (manual)
 abbrev pub IsLegal : Settings → Trace → Type 0
 IsLegal c t = (i : ℕ) → i < length t → IsRight c (take i t) (moment t i).0 (moment t i).1
+
+-- ---- picks
+
+-- what a picker sees of a command that waits (profile)
+abbrev pub choice : Trace → ℕ → Choice
+choice t y = record { reference = reference t y; unit = unit t y; class = order_class (order t y); cost = 0 }
+
+-- what it sees after t: the commands that may start, in the order in which they came (profile)
+abbrev pub view : Settings → Trace → List Choice
+view c t = map (choice t) (startable c t)
+
+-- the service is of a command that stands in the view at a place that the picker's relation allows (profile)
+abbrev pub IsPick : Settings → (List Choice → ℕ → Type 0) → Trace → Service → Type 0
+IsPick c picks t s =
+    (place : ℕ) × (place < length (startable c t)) × (reference t (slice_index_or (startable c t) place 0) ≡ s.reference)
+    × picks (view c t) place
+
+-- each command that starts is one that the picker may pick, of those that may start then (profile)
+abbrev pub IsPicked : Settings → (List Choice → ℕ → Type 0) → Trace → Type 0
+IsPicked c picks t = (i : ℕ) → i < length t → WhenStarted (IsPick c picks (take i t)) (service_in (moment t i).1)

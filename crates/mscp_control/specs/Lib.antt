@@ -13,3 +13,4 @@ pub mod Credits
 pub mod Legal
 pub mod Headline
 pub mod Controllers
+pub mod Sizes

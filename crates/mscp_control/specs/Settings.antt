@@ -2,6 +2,7 @@
 use Rattle.std.specs.Prelude.{ℕ, ◌+◌, ◌-◌, ◌*◌, ◌^◌, ◌<◌, ◌≤◌, ◌||◌, nat_lt, nat_le, if◌then◌else◌, List, Option, Some, None, unwrap_or, Result, Ok, Err}
 use Rattle.mscp_drive.specs.Shape.{Shape}
 use Rattle.mscp_drive.specs.UnitList as list
+use Rattle.mscp_queue.specs.Drives.{one_block}
 use Rattle.mscp_control.specs.declared.config.ConfigFault.{ConfigFault}
 use Rattle.mscp_control.specs.declared.config.ConfigFault.TheVariants.{Credits, Longest, Timeout, Figure}
 
@@ -14,10 +15,14 @@ pub record Settings : Type 0 where
   pub id : ℕ
   pub units : List Shape
 
--- no figure is greater: the longest transfer for each other command that may wait, and for each time
--- that one may be passed (profile)
+-- how many commands may wait: one credit is kept for commands that are answered when they come (profile)
+abbrev pub room : Settings → ℕ
+room c = c.credits - 1
+
+-- no figure is greater: the longest transfer for each command that may wait, the one that is meant too, and for each
+-- time that it may be passed (profile)
 abbrev pub bound : Settings → ℕ
-bound c = (c.credits - 1 + c.passing) * c.longest
+bound c = (room c + c.passing) * c.longest
 
 -- what the limits of each controller meet (profile)
 pub record IsValid (c : Settings) : Type 0 where
@@ -49,10 +54,6 @@ configured c = configured_unless c (limit_fault c)
 -- the unit of this number, if it is configured (manual)
 abbrev pub unit_found : Settings → ℕ → Option Shape
 unit_found c number = list.unit_found c.units number
-
--- a unit of one block, which stands for one that isn't configured
-abbrev pub one_block : Shape
-one_block = record { number = 0; track = 1; group = 1; cylinder = 1; size = 1; id = 0; media = 0; serial = 0 }
 
 -- the unit of this number. No legal run asks for one that isn't configured (profile)
 abbrev pub unit_shape : Settings → ℕ → Shape

@@ -2,7 +2,8 @@
 
 ghost use Rattle.std.specs.Prelude.{◌≡◌, ◌+◌, ◌≤◌, ◌^◌, IfOk};
 ghost use Rattle.mscp_packet.specs.Opcodes.{class};
-ghost use Rattle.mscp_control.specs.Arrival.{endcode, first_block, is_immediate, is_immediate_class, judged, move_fault, unit_fault, version_fault};
+ghost use Rattle.mscp_control.specs.Arrival.{is_immediate, is_immediate_class, judged, move_fault, unit_fault, version_fault};
+ghost use Rattle.mscp_queue.specs.Orders.{first_block};
 ghost use Rattle.mscp_control.specs.Settings.{unit_found};
 ghost use Rattle.mscp_drive.specs.Extent.{weighed, weight};
 
@@ -82,15 +83,4 @@ pub(crate) fn is_immediate(order: &Order) -> bool
         order,
         Order::Abort(_) | Order::Status(_) | Order::UnitStatus | Order::SetController(_)
     )
-}
-
-/// The endcode of the command's end.
-pub(crate) fn endcode_of(command: &Command) -> u8
-    ensures { result ≡ endcode command.now.order }
-{
-    match command.order {
-        Order::Invalid { status: 0x0801, .. } => 0x80,
-        Order::Abort(_) => 0x80,
-        _ => command.opcode() | 0x80,
-    }
 }

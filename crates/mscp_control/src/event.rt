@@ -1,7 +1,8 @@
 // What comes to a controller, and what it answers.
 
-use crate::block::{Block, Report};
 use arrayvec::ArrayVec;
+use mscp_packet::PacketFault;
+use mscp_queue::{Block, Report};
 
 /// Why a message is refused: the first that holds, in this order. Nothing is changed.
 #[derive(Clone, Copy, Debug, PartialEq, Eq)]
@@ -16,6 +17,20 @@ pub enum SendFault {
     LastCredit,
     /// A command with this reference number waits, or its end wasn't taken.
     Doubled,
+}
+
+impl From<PacketFault> for SendFault {
+    ghost use Rattle.std.specs.Prelude.{◌≡◌};
+    ghost use Rattle.mscp_control.specs.Sizes.{size_fault};
+
+    ghost from_gives = { λ fault refusal. refusal ≡ size_fault fault };
+
+    fn from(fault: PacketFault) -> SendFault {
+        match fault {
+            PacketFault::Short => SendFault::Short,
+            PacketFault::Long => SendFault::Long,
+        }
+    }
 }
 
 /// What became of a message: each names its reference number.

@@ -3,6 +3,8 @@
 ghost use Rattle.mscp_control.specs.Controllers.{ControllersKeepThePromise};
 ghost use Rattle.mscp_control.specs.Headline.{LegalTracesMakeProgress};
 
+use mscp_queue::Picker;
+
 /// Every legal trace of a valid configuration, whoever answered it, keeps the promise: untaken and waiting
 /// commands never exceed the credits, no start passes a sequential command of its unit, a sequential command
 /// passes none of its unit, and no command is passed more often than the passing limit. Every waiting
@@ -13,9 +15,12 @@ pub fn legal_traces_make_progress()
     ensures { LegalTracesMakeProgress }
 {}
 
-/// The answers of a controller, one after the other from the first on, whoever calls it, are a legal trace, with all
-/// that is promised of one. The figures and the balance that it tells are always those of that trace. (A message of
-/// over 64 bytes is in no trace: it is refused, and changes nothing.)
-pub fn controllers_keep_the_promise()
-    ensures { ControllersKeepThePromise }
-{}
+/// The answers of a controller over this picker, one after the other from the first on, whoever calls it, are a legal
+/// trace, with all that is promised of one, and each start is one that the picker may pick. The figures and the balance
+/// that it tells are always those of that trace, and so are the states and the heads of its units. (A message of over 64
+/// bytes is in no trace: it is refused, and changes nothing.)
+pub fn controllers_keep_the_promise<K: Picker>(picker: &K)
+    ensures { ControllersKeepThePromise (K.picks picker.now) picker.now }
+{
+    let _ = picker;
+}

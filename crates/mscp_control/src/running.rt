@@ -1,8 +1,9 @@
 // A whole run.
 
-ghost use Rattle.std.specs.Prelude.{◌≡◌, ◌+◌, ◌<◌, ◌≤◌, [], ◌∷◌, ◌++◌, length, vec_capacity, vec_len, IfOk};
-ghost use Rattle.mscp_control.specs.Holdings.{fresh, replies};
+ghost use Rattle.std.specs.Prelude.{◌≡◌, ◌+◌, ◌<◌, ◌≤◌, List, [], ◌∷◌, ◌++◌, length, vec_capacity, vec_len, zip, IfOk};
+ghost use Rattle.mscp_control.specs.Holdings.{Answered};
 ghost use Rattle.mscp_control.specs.Headline.{Headline};
+ghost use Rattle.mscp_control.specs.Legal.{IsPicked};
 ghost use Rattle.mscp_control.specs.Settings.{IsValid};
 
 #[cfg(test)]
@@ -12,6 +13,7 @@ use crate::config::Config;
 use crate::controller::Controller;
 use crate::event::{Entry, Event};
 use crate::memory::OutOfMemory;
+use mscp_queue::Picker;
 use std::alloc::Global;
 
 /// Appends an entry to a list that has room for it, so that no memory is asked for.
@@ -27,23 +29,34 @@ fn put(entries: &mut Vec<Entry>, entry: Entry)
 }
 
 /// Appends what the controller answers to the events, one after the other. There is room, so it can't fail.
-fn answer_each(controller: &mut Controller, events: &[Event], entries: &mut Vec<Entry>)
-    requires { vec_len entries.old + length events.now ≤ vec_capacity entries.old }
-    ensures { entries.new.items ≡ entries.old.items ++ replies controller.old events.now }
+fn answer_each<K: Picker>(
+    controller: &mut Controller<K>,
+    events: &[Event],
+    entries: &mut Vec<Entry>,
+)
+    requires empty { entries.old.items ≡ [] }
+    requires room { length events.now ≤ vec_capacity entries.old }
+    ensures { Answered (K.picks controller.old.picker) controller.old events.now entries.new.items controller.new }
 {
     for event in events {
         put(entries, controller.answer(event));
     }
 }
 
-/// What a new controller answers to the events, one entry an event: a legal trace, with all that is promised of
-/// one. Memory is asked for once, for all entries, and nothing is answered where it is refused.
-pub fn run(alloc: Global, config: Config, events: &[Event]) -> Result<Vec<Entry>, OutOfMemory>
+/// What a new controller answers to the events, one entry an event, whatever its picker picks: a legal trace, with all
+/// that is promised of one, and each start is one that the picker may pick. Memory is asked for once, for all entries,
+/// and nothing is answered where it is refused.
+pub fn run<K: Picker + Drop>(
+    alloc: Global,
+    config: Config,
+    picker: K,
+    events: &[Event],
+) -> Result<Vec<Entry>, OutOfMemory>
     ensures valid { IsValid config }
     ensures headline { IfOk result (λ entries. Headline config events.now entries.items) }
-    ensures oldest_first { IfOk result (λ entries. entries.items ≡ replies (fresh config) events.now) }
+    ensures picked { IfOk result (λ entries. IsPicked config (K.picks picker) (zip events.now entries.items)) }
 {
-    let mut controller = Controller::new(config);
+    let mut controller = Controller::new(config, picker);
     let mut entries = Vec::with_capacity(alloc, events.len())?;
     answer_each(&mut controller, events, &mut entries);
     Ok(entries)

@@ -1,7 +1,7 @@
 -- What is kept of the records in front says what may start.
-use Rattle.std.proofs.Common.{◌≡◌, ◌≢◌, ℕ, suc, ◌+◌, ◌<◌, ◌≤◌, Bool, true, false, cond, not, ◌&&◌, ◌||◌, List, [], ◌∷◌, ◌++◌, map, set, get_or, length, refl, ap, sym, ◌∙◌, ⊎_elim, subst, arith}
+use Rattle.std.proofs.Common.{◌≡◌, ℕ, suc, ◌+◌, ◌<◌, Bool, true, false, cond, not, ◌&&◌, ◌||◌, List, [], ◌∷◌, ◌++◌, set, get_or, length, refl, ap, sym, ◌∙◌, ⊎_elim, subst, arith}
 use Rattle.std.specs.Prelude.{find, nat_eq, nat_le, nat_lt, if◌then◌else◌, is_some, replicate, unwrap_or, Some, None}
-use Rattle.std.specs.List.{AllByRecursion, list_all, list_any, position, position_or_len}
+use Rattle.std.specs.List.{AllByRecursion, list_all, list_any, position}
 use Rattle.std.proofs.lemmas.Grind.{get_or-set_at}
 use Rattle.std.proofs.lemmas.List.{get_or-replicate, get_or-set_other, length-set, length-replicate}
 use Rattle.std.proofs.lemmas.List.Folds.{list_any-append, list_all-append}
@@ -14,7 +14,7 @@ use Rattle.mscp_queue.specs.Fronts.{drive_place, is_let, nobody, with_record}
 use Rattle.mscp_queue.specs.Kept.{is_known, units_of}
 use Rattle.mscp_queue.specs.Orders.{is_sequential}
 use Rattle.mscp_queue.specs.Records.{Record}
-use Rattle.mscp_queue.specs.Views.{fences, is_affordable, is_free, is_open}
+use Rattle.mscp_queue.specs.Views.{fences, is_free, is_open}
 
 -- ---- the place of a drive
 

@@ -1,22 +1,21 @@
 -- What is true of each queue stays true.
-use Rattle.std.proofs.Common.{◌≡◌, ◌≢◌, ◌⊎◌, inl, inr, ⊎_elim, ℕ, suc, ◌+◌, ◌-◌, ◌*◌, ◌<◌, ◌≤◌, ◌^◌, Bool, true, false, cond, ◌&&◌, ◌||◌, List, [], ◌∷◌, ◌++◌, map, take, drop, get_or, length, refl, ap, sym, ◌∙◌, subst, arith}
-use Rattle.std.specs.Prelude.{All, filter, nat_eq, nat_lt, if◌then◌else◌, is_some, Option, Some, None}
+use Rattle.std.proofs.Common.{◌≡◌, ◌≢◌, ◌⊎◌, ⊎_elim, ℕ, ◌+◌, ◌*◌, ◌<◌, ◌≤◌, Bool, true, false, cond, ◌||◌, List, [], ◌∷◌, ◌++◌, map, length, refl, ap, sym, ◌∙◌, subst, arith}
+use Rattle.std.specs.Prelude.{All, filter, nat_lt, if◌then◌else◌}
 use Rattle.std.specs.List.{AllByRecursion, list_any}
-use Rattle.std.proofs.lemmas.List.{drop_more, length-append, length-drop, length-map, length-take-le, map-append}
+use Rattle.std.proofs.lemmas.List.{length-append, length-map, map-append}
 use Rattle.std.proofs.lemmas.List.Elements.{All-from_recursion, All-nil, filter-append, recursion_from_All}
-use Rattle.std.proofs.lemmas.Bool.{eqb-false, ltb-false, lt-ltb, false≢true, true≢false}
+use Rattle.std.proofs.lemmas.Bool.{eqb-false, ltb-false, lt-ltb, true≢false}
 use Rattle.mscp_packet.specs.declared.command.Command.{Command}
 use Rattle.mscp_packet.specs.declared.command.Order.{Order}
 use Rattle.mscp_packet.specs.declared.command.Order.TheVariants as orders
-use Rattle.mscp_packet.specs.declared.end.End.{End}
-use Rattle.mscp_drive.specs.Shape.{Shape, last_cylinder}
+use Rattle.mscp_drive.specs.Shape.{Shape}
 use Rattle.mscp_drive.specs.UnitList.{IsUnitList}
 use Rattle.mscp_queue.specs.declared.drive.Drive.{Drive}
 use Rattle.mscp_queue.specs.Drives.{IsOnUnit, fresh_drive, has_number, replaced}
 use Rattle.mscp_queue.specs.Kept.{AreApart, IsHeld, IsKept, IsWaitable, references, units_of}
 use Rattle.mscp_queue.specs.Orders.{order_weight}
-use Rattle.mscp_queue.specs.Records.{Record, advanced, fresh_record, has_reference, is_in_service, left_of, passed_by}
-use Rattle.mscp_queue.proofs.Lists.{every_append, every_both, every_parts, every_weaker}
+use Rattle.mscp_queue.specs.Records.{Record, advanced, fresh_record, has_reference, is_in_service, passed_by}
+use Rattle.mscp_queue.proofs.Lists.{every_append, every_parts}
 
 -- ---- nothing came
 

@@ -1,5 +1,5 @@
 -- A step of the record that may be served next is a turn among the others, and leaves each head on its unit.
-use Rattle.std.proofs.Common.{◌≡◌, ◌≢◌, inl, inr, ℕ, suc, ◌+◌, ◌-◌, ◌<◌, ◌≤◌, ◌^◌, Bool, true, false, cond, ◌&&◌, List, [], ◌∷◌, ◌++◌, map, take, drop, get_or, length, refl, ap, sym, ◌∙◌, subst, arith, append_assoc}
+use Rattle.std.proofs.Common.{◌≡◌, inl, inr, ℕ, suc, ◌+◌, ◌<◌, ◌≤◌, Bool, true, false, cond, ◌&&◌, List, [], ◌∷◌, ◌++◌, map, take, drop, length, refl, ap, sym, ◌∙◌, subst, arith, append_assoc}
 use Rattle.std.specs.Prelude.{All, filter, find, nat_eq, nat_le, nat_lt, if◌then◌else◌, is_some, slice_index_or, unwrap_or, Option, Some, None}
 use Rattle.std.specs.List.{AllByRecursion, list_all, range_with_len}
 use Rattle.std.proofs.lemmas.List.{drop_more, take-append-drop}
@@ -14,14 +14,14 @@ use Rattle.mscp_drive.specs.UnitList.{IsUnitList, NumbersRise, unit_found}
 use Rattle.mscp_queue.specs.declared.block.Block.{Block}
 use Rattle.mscp_queue.specs.declared.drive.Drive.{Drive}
 use Rattle.mscp_queue.specs.declared.view.Choice.{Choice}
-use Rattle.mscp_queue.specs.Outcomes.{block_touched, goes_on, is_good_block, outcome_at, touches}
+use Rattle.mscp_queue.specs.Outcomes.{goes_on, is_good_block, outcome_at, touches}
 use Rattle.mscp_queue.specs.Orders.{first_block, is_move, order_weight}
 use Rattle.mscp_queue.specs.Drives.{IsOnUnit, drive_of, fresh_drive, has_number, one_block, replaced}
-use Rattle.mscp_queue.specs.Kept.{IsHeld, IsInside, IsKept, IsWaitable, units_of}
-use Rattle.mscp_queue.specs.Records.{Record, advanced, cost_of, is_in_service, is_unstarted, left_of, no_record, passed_by, record_at, remains}
+use Rattle.mscp_queue.specs.Kept.{IsHeld, IsInside, IsKept, units_of}
+use Rattle.mscp_queue.specs.Records.{Record, advanced, cost_of, is_in_service, is_unstarted, left_of, no_record, passed_by, record_at}
 use Rattle.mscp_queue.specs.Serving.{IsNext, drive_after, end_given, touched}
 use Rattle.mscp_queue.specs.Views.{IsPick, is_affordable, is_free, is_open_at, open_places}
-use Rattle.mscp_queue.proofs.Lists.{Pairs, every_append, every_both, every_filter, every_from, every_parts, every_weaker, pairs_middle}
+use Rattle.mscp_queue.proofs.Lists.{Pairs, every_filter, every_from, every_parts, every_weaker, pairs_middle}
 use Rattle.mscp_queue.proofs.Placed.{find_first}
 use Rattle.mscp_queue.proofs.Held.{AreIdle, IsLeft, IsTurn, held_turn, heads_replaced, others_idle, units_replaced}
 
@@ -225,3 +225,11 @@ held_step room passing longest place picks rs new ds ds' k r command d d' e ends
     (w ∙ (ap (λ t. map (passed_by t) (take place rs) ++ (cond ends [] own ++ drop (place + 1) rs)) (cost ∙ ap cost_of is)
     ∙ ap (λ b. map (passed_by (cost_of (record_at rs place))) (take place rs) ++ (cond b [] own ++ drop (place + 1) rs)) (some ∙ (ap is_some ended ∙ ap (λ r. is_some (end_given k d r)) is))))
     (v ∙ ap (λ u. replaced u d' ds) unit)
+
+-- a step changes no unit
+pub units_step : (number : ℕ) (d d' : Drive) (ds ds' : List Drive) (k : Block) (r : Record) → IsUnitList (units_of ds) → d ≡ drive_of ds number → d' ≡ drive_after k d r → ds' ≡ replaced number d' ds
+    → units_of ds' ≡ units_of ds
+units_step number d d' ds ds' k r l e f v =
+    let unit : d'.unit ≡ (drive_of ds number).unit = ap (λ (q : Drive). q.unit) f ∙ ap (λ (q : Drive). q.unit) e in
+    ap units_of v
+    ∙ units_replaced number d' ds (every_weaker (λ q. has_number number q ≡ true → q.unit ≡ (drive_of ds number).unit) (λ q. has_number number q ≡ true → q.unit ≡ d'.unit) (λ q g b. g b ∙ sym unit) ds (units_same number ds l))

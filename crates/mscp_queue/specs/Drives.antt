@@ -1,5 +1,5 @@
 -- Units with their states and heads.
-use Rattle.std.specs.Prelude.{◌≡◌, ℕ, ◌≤◌, Bool, false, true, find, unwrap_or, nat_eq, if◌then◌else◌, List, map}
+use Rattle.std.specs.Prelude.{ℕ, ◌≤◌, Bool, false, true, find, unwrap_or, nat_eq, if◌then◌else◌, List, map}
 use Rattle.mscp_drive.specs.Shape.{Shape, last_cylinder}
 use Rattle.mscp_queue.specs.declared.drive.Drive.{Drive}
 

@@ -5,7 +5,6 @@ ghost use Rattle.mscp_queue.specs.Orders.{endcode};
 ghost use Rattle.mscp_queue.specs.Outcomes.{bad_status, end_with, good_status, is_success, moved_body, online_body, outcome_at, outcome_body, outcome_status, touches};
 
 use crate::block::Block;
-
 use mscp_drive::Unit;
 use mscp_packet::{Command, End, EndBody, Order};
 

@@ -154,19 +154,15 @@ impl<K: Picker> Queue<K> {
         }
         match place_in_service(waiting) {
             Some(place) => Some(place),
-            None => Some(picked_place(
-                waiting,
-                self.drives.as_slice(),
-                self.passing,
-                &self.picker,
-            )),
+            None => Some(picked_place(waiting, self.drives.as_slice(), self.passing, &self.picker)),
         }
     }
 
     /// Serves a block, with this outcome, to the record at the place.
     fn serve_at(&mut self, place: usize, block: &Block) -> Report
         requires { IsNext (K.picks self.old.picker) self.old.passing self.old.waiting place }
-        ensures { ServesAt (K.picks self.old.picker) block.now self.old result self.new place }
+        ensures served { ServesAt (K.picks self.old.picker) block.now self.old result self.new place }
+        ensures units { units_of self.new.drives ≡ units_of self.old.drives }
     {
         let record = self.waiting[place];
         let command = record.command();
@@ -192,7 +188,8 @@ impl<K: Picker> Queue<K> {
     /// Serves one block, with this outcome, if a command waits: to the command in service, or to one that the picker
     /// picks of those that may start.
     pub fn serve(&mut self, block: Block) -> Report
-        ensures { Serves (K.picks self.old.picker) block self.old result self.new }
+        ensures served { Serves (K.picks self.old.picker) block self.old result self.new }
+        ensures units { units_of self.new.drives ≡ units_of self.old.drives }
     {
         match self.next_place() {
             Some(place) => self.serve_at(place, &block),

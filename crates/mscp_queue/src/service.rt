@@ -7,9 +7,6 @@ ghost use Rattle.mscp_queue.specs.Orders.{first_block};
 ghost use Rattle.mscp_queue.specs.Outcomes.{head_after};
 ghost use Rattle.mscp_queue.specs.Serving.{drive_after, end_given, seek_from, state_left, touched};
 
-
-
-
 use crate::block::Block;
 use crate::drive::Drive;
 use crate::outcome::{is_success, outcome, touches};
@@ -68,7 +65,11 @@ fn head_on(head: &Head, to: u32, starts: bool) -> (u32, Head)
     ensures seek { result.0 ≡ distance head.now.cylinder to }
     ensures head { result.1 ≡ head_after starts (Some to) head.now }
 {
-    let then = if starts { head.moved(to) } else { head.carried(to) };
+    let then = if starts {
+        head.moved(to)
+    } else {
+        head.carried(to)
+    };
     (head.distance(to), then)
 }
 

@@ -1,4 +1,4 @@
-use Rattle.std.proofs.Common.{◌≡◌, ◌+◌, [], ◌∷◌, ◌++◌, cond, drop, length, map, take, ap, sym, ◌∙◌, arith}
+use Rattle.std.proofs.Common.{◌≡◌, ◌+◌, [], ◌∷◌, ◌++◌, cond, drop, length, map, take, ap, sym, ◌∙◌}
 use Rattle.std.specs.List.{refill}
 use Rattle.mscp_queue.specs.Records.{advanced, passed_by, record_at}
 use Rattle.mscp_queue.proofs.Mapped.{behind_removed, refilled}

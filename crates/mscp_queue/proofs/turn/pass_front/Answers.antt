@@ -1,4 +1,4 @@
-use Rattle.std.proofs.Common.{length, ap, ◌∙◌, arith}
+use Rattle.std.proofs.Common.{◌∙◌, arith}
 use Rattle.std.proofs.lemmas.List.{length-set}
 use Rattle.mscp_queue.specs.Records.{passed_by}
 use Rattle.mscp_queue.proofs.Mapped.{mapped_more}

@@ -1,6 +1,6 @@
-use Rattle.std.proofs.Common.{◌≡◌, ◌++◌, ◌∷◌, drop, map, take, ◌+◌, ap, ◌∙◌, arith}
+use Rattle.std.proofs.Common.{◌++◌, ◌∷◌, drop, map, take, ◌+◌, ap, ◌∙◌}
 use Rattle.std.proofs.lemmas.List.{get_or_default}
-use Rattle.mscp_queue.specs.Records.{advanced, no_record, passed_by, record_at}
+use Rattle.mscp_queue.specs.Records.{advanced, no_record, passed_by}
 use Rattle.mscp_queue.proofs.Mapped.{behind_read, behind_set}
 use Rattle.mscp_queue.proofs.turn.serve_front.Goals as goal
 

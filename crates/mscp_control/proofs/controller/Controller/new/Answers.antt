@@ -1,8 +1,8 @@
-use Rattle.std.proofs.Common.{ap, map, ◌∙◌}
-use Rattle.mscp_control.specs.Holdings.{fresh_drive}
+use Rattle.std.proofs.Common.{ap, ◌-◌, ◌∙◌}
 use Rattle.mscp_control.proofs.Keeping.{held_fresh}
 use Rattle.mscp_control.proofs.controller.Controller.new.Goals as goal
 
 pub invariant_of-result : goal.invariant_of-result
-invariant_of-result c =
-    held_fresh c.args.config _ _ _ c.units.ensures.valid c.new.ensures c.new-2.ensures (c.drives_of-drives.ensures ∙ ap (map fresh_drive) (c.list.ensures.value ∙ c.units.ensures.value))
+invariant_of-result g c =
+    held_fresh c.args.config c.in-Ok.units (c.credits.result - 1) c.passing.result c.longest.result c.args.picker c.new-queue.result c.new-2.result.items c.credits.ensures.valid
+    (c.in-Ok.ensures.same ∙ (c.list.ensures.value ∙ c.units.ensures.value)) (ap (λ n. n - 1) c.credits.ensures.value) c.passing.ensures.value c.longest.ensures.value c.new-queue.ensures c.new-2.ensures

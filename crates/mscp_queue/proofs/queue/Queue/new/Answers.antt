@@ -1,5 +1,4 @@
-use Rattle.std.proofs.Common.{map, ap, subst, ◌∙◌}
-use Rattle.mscp_drive.specs.UnitList.{IsUnitList}
+use Rattle.std.proofs.Common.{map, ap, ◌∙◌}
 use Rattle.mscp_queue.specs.Drives.{fresh_drive}
 use Rattle.mscp_queue.proofs.Held.{held_fresh}
 use Rattle.mscp_queue.proofs.queue.Queue.new.Goals as goal

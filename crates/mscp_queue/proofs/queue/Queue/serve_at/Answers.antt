@@ -4,11 +4,12 @@ use Rattle.std.specs.List.{refill}
 use Rattle.std.proofs.lemmas.List.{get_or_default, length-map}
 use Rattle.mscp_queue.specs.declared.drive.Drive.{Drive}
 use Rattle.mscp_queue.specs.Drives.{drive_of, has_number, replaced}
+use Rattle.mscp_queue.specs.Kept.{units_of}
 use Rattle.mscp_queue.specs.Lines.{Line}
 use Rattle.mscp_queue.specs.Records.{no_record, record_at}
 use Rattle.mscp_queue.specs.Serving.{IsNext}
 use Rattle.mscp_queue.proofs.Mapped.{refilled}
-use Rattle.mscp_queue.proofs.Turns.{held_step}
+use Rattle.mscp_queue.proofs.Turns.{held_step, units_step}
 use Rattle.mscp_queue.proofs.queue.Queue.serve_at.Goals as goal
 
 pub invariant_of-self : goal.invariant_of-self
@@ -31,3 +32,15 @@ invariant_of-self g c =
     c.self.invariant next read c.command-command.ensures (c.drive_of-drive.ensures ∙ ap (λ l. drive_of l c.command-command.result.unit) c.as_slice.ensures.value)
     c.serve-service.ensures.ended c.is_some.ensures c.serve-service.ensures.drive c.cost.ensures.value c.serve-service.ensures.on_unit
     c.leave.ensures (refilled ds c.replace_drive.new.drives long ∙ new)
+
+pub returns-clause-units : goal.returns-clause-units
+returns-clause-units g c =
+    let ds = c.self.inside.drives.items in
+    let K = g.row.K.Denot in
+    let number = c.command-command.result.unit in
+    let service = c.serve-service in
+    let new : c.replace_drive.new.drives ≡ replaced number service.result.drive ds = c.replace_drive.ensures ∙ ap (replaced number service.result.drive) c.as_mut_slice.ensures.value in
+    let long : length c.replace_drive.new.drives ≡ length ds = ap length new ∙ length-map ds (λ (d : Drive). if has_number number d then service.result.drive else d) in
+    units_step number c.drive_of-drive.result service.result.drive ds (refill (length ds) ds c.replace_drive.new.drives) c.args.block.now c.index-deref-place.result c.self.invariant.units
+    (c.drive_of-drive.ensures ∙ ap (λ l. drive_of l number) c.as_slice.ensures.value) service.ensures.drive (refilled ds c.replace_drive.new.drives long ∙ new)
+    ∙ ap (λ (l : Line K). units_of l.drives) c.self.view_is
