@@ -1,0 +1,89 @@
+-- What is known of a message that was taken.
+use Rattle.std.proofs.Common.{◌≡◌, ℕ, ◌≤◌, Bool, true, false, not, ◌&&◌, List, length, refl, ap, ◌∙◌}
+use Rattle.std.specs.Prelude.{nat_eq, nat_lt, if◌then◌else◌, slice_index, Option, Some, None, is_some, Result, Ok, Err, is_ok}
+use Rattle.std.proofs.lemmas.Bool.{ltb-false, eqb-false, true≢false, false≢true}
+use Rattle.mscp_packet.specs.declared.command.Command.{Command}
+use Rattle.mscp_control.specs.declared.event.SendFault.{SendFault}
+use Rattle.mscp_control.specs.declared.event.SendFault.TheVariants.{Short, Long, NoCredit, LastCredit, Doubled}
+use Rattle.mscp_control.specs.declared.event.Sent.{Sent}
+use Rattle.mscp_control.specs.declared.event.Sent.TheVariants as sents
+use Rattle.mscp_control.specs.declared.event.Event.{Event}
+use Rattle.mscp_control.specs.declared.event.Event.TheVariants as events
+use Rattle.mscp_control.specs.declared.event.Entry.{Entry}
+use Rattle.mscp_control.specs.declared.event.Entry.TheVariants as entries
+use Rattle.mscp_control.specs.Settings.{Settings}
+use Rattle.mscp_packet.specs.Number.{num}
+use Rattle.mscp_packet.specs.Opcodes.{class}
+use Rattle.mscp_packet.specs.Commands.{command_of}
+use Rattle.mscp_control.specs.Arrival.{is_immediate_class, is_queued, holds, refusal}
+use Rattle.mscp_control.specs.History.{Trace, queues, sent_bytes}
+use Rattle.mscp_control.specs.Credits.{balance, outstanding, becomes, becomes_when, becomes_unless, arrival}
+use Rattle.mscp_control.specs.Legal.{IsRight}
+
+-- no reason to refuse it
+pub record IsTaken (credit : ℕ) (references b : List ℕ) : Type 0 where
+  pub low : 12 ≤ length b
+  pub high : length b ≤ 64
+  pub free : (credit ≡ 0) → ⊥
+  pub last : (nat_eq credit 1 && not (is_immediate_class (class (slice_index b 8)))) ≡ false
+  pub new : holds references (num b 0 4) ≡ false
+
+pub if_none : {X : Type 0} (b : Bool) (f : X) (rest : Option X) → (if b then Some f else rest) ≡ None → (b ≡ false) × (rest ≡ None)
+if_none true f rest h = absurd (true≢false (ap is_some h))
+if_none false f rest h = (refl, h)
+
+pub refusal_none : (credit : ℕ) (references b : List ℕ) → refusal credit references b ≡ None → IsTaken credit references b
+refusal_none credit references b h =
+    let e = if_none (nat_lt (length b) 12) Short _ h in
+    let f = if_none (nat_lt 64 (length b)) Long _ e.1 in
+    let g = if_none (nat_eq credit 0) NoCredit _ f.1 in
+    let k = if_none (nat_eq credit 1 && not (is_immediate_class (class (slice_index b 8)))) LastCredit _ g.1 in
+    let l = if_none (holds references (num b 0 4)) Doubled None k.1 in
+    record { low = ltb-false (length b) 12 e.0; high = ltb-false 64 (length b) f.0; free = eqb-false credit 0 g.0; last = k.0; new = l.0 }
+
+sent_or : Sent → Result Sent SendFault → Sent
+sent_or s (Ok r) = r
+sent_or s (Err f) = s
+
+unless_ok : (c : Settings) (t : Trace) (command : Command) (s : Sent) (o : Option SendFault) → Ok s ≡ becomes_unless c t command o → (o ≡ None) × (s ≡ becomes c t command)
+unfolding sent_or
+unless_ok c t command s None h = (refl, ap (sent_or s) h)
+unless_ok c t command s (Some fault) h = absurd (true≢false (ap is_ok h))
+
+pub record Arrives (c : Settings) (t : Trace) (b : List ℕ) (s : Sent) : Type 0 where
+  pub taken : IsTaken (balance c t) (outstanding c t) b
+  pub is : s ≡ becomes c t (command_of b)
+
+pub arrives : (c : Settings) (t : Trace) (b : List ℕ) (s : Sent) → Ok s ≡ arrival c t b → Arrives c t b s
+unfolding arrival
+arrives c t b s h =
+    let u = unless_ok c t (command_of b) s (refusal (balance c t) (outstanding c t) b) h in
+    record { taken = refusal_none (balance c t) (outstanding c t) b u.0; is = u.1 }
+
+is_queue : Sent → Bool
+is_queue (sents.Queued r) = true
+is_queue (sents.Answered r a) = false
+
+-- what is known of a message that was queued
+pub record Queues (c : Settings) (t : Trace) (b : List ℕ) : Type 0 where
+  pub taken : IsTaken (balance c t) (outstanding c t) b
+  pub waits : is_queued c (command_of b) ≡ true
+
+queue_of : (c : Settings) (t : Trace) (command : Command) (r : ℕ) → sents.Queued r ≡ becomes c t command → is_queued c command ≡ true
+unfolding is_queue
+queue_of c t command r h =
+    let both : (q : Bool) → is_queued c command ≡ q → is_queued c command ≡ true =
+    λ q. elim q as (λ q. is_queued c command ≡ q → is_queued c command ≡ true) [
+      | true ↦ λ e. e
+      | false ↦ λ e. absurd (true≢false (ap is_queue (h ∙ ap (becomes_when c t command) e)))
+    ] in
+    both (is_queued c command) refl
+
+pub queued_right : (c : Settings) (t : Trace) (event : Event) (entry : Entry) → queues entry ≡ true → IsRight c t event entry → Queues c t (sent_bytes event)
+queued_right c t (events.Send b) (entries.Sent (Ok (sents.Queued r))) q h =
+    let a = arrives c t b.items (sents.Queued r) h in
+    record { taken = a.taken; waits = queue_of c t (command_of b.items) r a.is }
+queued_right c t (events.Step k) (entries.Sent (Ok (sents.Queued r))) q h = absurd h
+queued_right c t events.Take (entries.Sent (Ok (sents.Queued r))) q h = absurd h
+queued_right c t events.Look (entries.Sent (Ok (sents.Queued r))) q h = absurd h
+queued_right c t event entry q h = absurd (false≢true q)

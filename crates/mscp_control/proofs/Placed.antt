@@ -1,0 +1,89 @@
+-- Lists cut at a place, and lists that a function makes of others.
+use Rattle.std.proofs.Common.{◌≡◌, ◌⊎◌, inl, inr, ℕ, ◌+◌, Bool, true, false, cond, not, List, [], ◌∷◌, ◌++◌, map, take, drop, get_or, length, refl, ap, sym, ◌∙◌, append_assoc, arith}
+use Rattle.std.specs.Prelude.{filter, find, nat_lt, sum_by, Some, None}
+use Rattle.std.specs.List.{AllByRecursion, position, position_or_len}
+use Rattle.std.proofs.lemmas.Bool.{lt-ltb, le-ltb}
+use Rattle.std.proofs.lemmas.List.{get_or_at, take_at, drop_at, length-append}
+use Rattle.std.proofs.lemmas.List.Sums.{sum_by-cons}
+
+pub map_on : {X Y : Type 0} (f g : X → Y) (xs : List X) → AllByRecursion (λ x. f x ≡ g x) xs → map f xs ≡ map g xs
+map_on f g [] h = refl
+map_on f g (x ∷ xs) h = ap (λ y. y ∷ map f xs) h.0 ∙ ap (λ ys. g x ∷ ys) (map_on f g xs h.1)
+
+pub map_map : {X Y Z : Type 0} (f : X → Y) (g : Y → Z) (xs : List X) → map g (map f xs) ≡ map (λ x. g (f x)) xs
+map_map f g [] = refl
+map_map f g (x ∷ xs) = ap (λ ys. g (f x) ∷ ys) (map_map f g xs)
+
+pub sum_by_map : {X Y : Type 0} (f : X → Y) (g : Y → ℕ) (xs : List X) → sum_by g (map f xs) ≡ sum_by (λ x. g (f x)) xs
+sum_by_map f g [] = refl
+sum_by_map f g (x ∷ xs) = sum_by-cons g (f x) (map f xs) ∙ (ap (λ n. g (f x) + n) (sum_by_map f g xs) ∙ sym (sum_by-cons (λ y. g (f y)) x xs))
+
+pub filter_map_of : {X Y : Type 0} (f : X → Y) (p : Y → Bool) (xs : List X) → filter p (map f xs) ≡ map f (filter (λ x. p (f x)) xs)
+filter_map_of f p [] = refl
+filter_map_of f p (x ∷ xs) =
+    ap (λ ys. cond (p (f x)) (f x ∷ ys) ys) (filter_map_of f p xs)
+    ∙ elim (p (f x)) as (λ b. cond b (f x ∷ map f (filter (λ x. p (f x)) xs)) (map f (filter (λ x. p (f x)) xs)) ≡ map f (cond b (x ∷ filter (λ x. p (f x)) xs) (filter (λ x. p (f x)) xs))) [ true ↦ refl | false ↦ refl ]
+
+-- ---- a list at a place
+
+pub record At {X : Type 0} (xs front : List X) (x : X) (back : List X) (k : ℕ) (d : X) : Type 0 where
+  pub item : get_or xs k d ≡ x
+  pub before : take k xs ≡ front
+  pub behind : drop (k + 1) xs ≡ back
+
+pub at_place : {X : Type 0} (xs front : List X) (x : X) (back : List X) (k : ℕ) (d : X) → xs ≡ front ++ x ∷ back → length front ≡ k → At xs front x back k d
+at_place {X} xs front x back k d e l =
+    let one : xs ≡ (front ++ x ∷ []) ++ back = e ∙ sym (append_assoc front (x ∷ []) back) in
+    let more : length (front ++ x ∷ []) ≡ k + 1 = omega (arith, length-append front (x ∷ [])) in
+    record {
+      item = ap (λ ys. get_or ys k d) e ∙ get_or_at front x back d k l;
+      before = ap (take k) e ∙ take_at front (x ∷ back) k l;
+      behind = ap (drop (k + 1)) one ∙ drop_at (front ++ x ∷ []) back (k + 1) more;
+    }
+
+-- ---- the first element that passes a test
+
+-- none does, or the list is cut at the first that does
+pub record Found {X : Type 0} (p : X → Bool) (xs front : List X) (x : X) (back : List X) : Type 0 where
+  pub is : xs ≡ front ++ x ∷ back
+  pub before : AllByRecursion (λ y. p y ≡ false) front
+  pub passes : p x ≡ true
+
+pub find_cases : {X : Type 0} (p : X → Bool) (xs : List X) → AllByRecursion (λ y. p y ≡ false) xs ⊎ ((front : List X) × (x : X) × (back : List X) × Found p xs front x back)
+find_cases p [] = inl tt
+find_cases {X} p (y ∷ ys) =
+    let rest = find_cases p ys in
+    let both : (b : Bool) → p y ≡ b → AllByRecursion (λ z. p z ≡ false) (y ∷ ys) ⊎ ((front : List X) × (x : X) × (back : List X) × Found p (y ∷ ys) front x back) =
+    λ b. elim b as (λ b. p y ≡ b → AllByRecursion (λ z. p z ≡ false) (y ∷ ys) ⊎ ((front : List X) × (x : X) × (back : List X) × Found p (y ∷ ys) front x back)) [
+      | true ↦ λ e. inr ([], y, ys, record { is = refl; before = tt; passes = e })
+      | false ↦ λ e. elim rest as (λ r. AllByRecursion (λ z. p z ≡ false) (y ∷ ys) ⊎ ((front : List X) × (x : X) × (back : List X) × Found p (y ∷ ys) front x back)) [
+        | inl h ↦ inl (e, h)
+        | inr h ↦ inr (y ∷ h.0, h.1, h.2, record { is = ap (λ zs. y ∷ zs) h.3.is; before = (e, h.3.before); passes = h.3.passes })
+      ]
+    ] in
+    both (p y) refl
+
+pub find_none : {X : Type 0} (p : X → Bool) (xs : List X) → AllByRecursion (λ y. p y ≡ false) xs → find p xs ≡ None
+find_none p [] h = refl
+find_none p (y ∷ ys) h = ap (λ b. cond b (Some y) (find p ys)) h.0 ∙ find_none p ys h.1
+
+pub find_first : {X : Type 0} (p : X → Bool) (front : List X) (x : X) (back : List X) → AllByRecursion (λ y. p y ≡ false) front → p x ≡ true → find p (front ++ x ∷ back) ≡ Some x
+find_first p [] x back h e = ap (λ b. cond b (Some x) (find p back)) e
+find_first p (y ∷ ys) x back h e = ap (λ b. cond b (Some y) (find p (ys ++ x ∷ back))) h.0 ∙ find_first p ys x back h.1 e
+
+len_none : {X : Type 0} (p : X → Bool) (xs : List X) → AllByRecursion (λ y. p y ≡ false) xs → position_or_len p xs ≡ length xs
+len_none p [] h = refl
+len_none p (y ∷ ys) h = ap (λ b. cond (not b) (1 + position_or_len p ys) 0) h.0 ∙ omega (arith, len_none p ys h.1)
+
+len_first : {X : Type 0} (p : X → Bool) (front : List X) (x : X) (back : List X) → AllByRecursion (λ y. p y ≡ false) front → p x ≡ true → position_or_len p (front ++ x ∷ back) ≡ length front
+len_first p [] x back h e = ap (λ b. cond (not b) (1 + position_or_len p back) 0) e
+len_first p (y ∷ ys) x back h e = ap (λ b. cond (not b) (1 + position_or_len p (ys ++ x ∷ back)) 0) h.0 ∙ omega (arith, len_first p ys x back h.1 e)
+
+pub position_none : {X : Type 0} (p : X → Bool) (xs : List X) → AllByRecursion (λ y. p y ≡ false) xs → position p xs ≡ None
+position_none p xs h =
+    ap (λ n. cond (nat_lt n (length xs)) (Some n) None) (len_none p xs h) ∙ ap (λ b. cond b (Some (length xs)) None) (le-ltb (length xs) (length xs) (omega arith))
+
+pub position_first : {X : Type 0} (p : X → Bool) (front : List X) (x : X) (back : List X) → AllByRecursion (λ y. p y ≡ false) front → p x ≡ true → position p (front ++ x ∷ back) ≡ Some (length front)
+position_first p front x back h e =
+    ap (λ n. cond (nat_lt n (length (front ++ x ∷ back))) (Some n) None) (len_first p front x back h e)
+    ∙ ap (λ b. cond b (Some (length front)) None) (lt-ltb (length front) (length (front ++ x ∷ back)) (omega (arith, length-append front (x ∷ back))))
