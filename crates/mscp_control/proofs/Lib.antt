@@ -39,3 +39,5 @@ pub mod Drives
 pub mod Sending
 pub mod Viewed
 pub mod Stepped
+pub mod Following
+pub mod Controllers

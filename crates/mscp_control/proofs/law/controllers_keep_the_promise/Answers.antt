@@ -1,5 +1,5 @@
-use Rattle.mscp_control.proofs.Stepped.{turns_at}
+use Rattle.mscp_control.proofs.Controllers.{keeps_promise}
 use Rattle.mscp_control.proofs.law.controllers_keep_the_promise.Goals as goal
 
 pub returns : goal.returns
-returns g c = ?
+returns g c = λ d events entries held valid answered. keeps_promise d (g.K.Picker.picks c.args.picker.now) c.args.picker.now events entries held valid answered
