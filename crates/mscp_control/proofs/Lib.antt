@@ -41,3 +41,4 @@ pub mod Viewed
 pub mod Stepped
 pub mod Following
 pub mod Controllers
+pub mod Answering

@@ -47,3 +47,7 @@ abbrev pub IsPick : (List Choice → ℕ → Type 0) → ℕ → List Record →
 IsPick picks passing rs place =
     (i : ℕ) × (i < length (open_places passing rs)) × (slice_index_or (open_places passing rs) i 0 ≡ place)
     × picks (view_of passing rs) i
+
+-- what picks the oldest may pick: the first place of a view (profile)
+abbrev pub IsOldest : List Choice → ℕ → Type 0
+IsOldest view place = place ≡ 0

@@ -25,7 +25,9 @@ pub trait Picker {
 pub struct Oldest;
 
 impl Picker for Oldest {
-    ghost picks = { λ _ view place. place ≡ 0 };
+    ghost use Rattle.mscp_queue.specs.Views.{IsOldest};
+
+    ghost picks = { λ _ view place. IsOldest view place };
 
     fn pick(&self, _view: &View) -> usize
         ensures oldest { result ≡ 0 }

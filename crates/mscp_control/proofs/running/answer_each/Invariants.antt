@@ -1,0 +1,12 @@
+use Rattle.std.proofs.Common.{◌≡◌, ◌≤◌, ◌+◌, length}
+use Rattle.std.specs.Prelude.{vec_capacity, vec_len}
+use Rattle.mscp_control.proofs.Answering.{Goes}
+use Rattle.mscp_control.proofs.running.answer_each.Given as goal
+
+abbrev pub invariant-loop-event : goal.invariant-loop-event
+invariant-loop-event g l =
+    record {
+      goes : Goes (g.K.Picker.picks l.fn.controller.picker) l.fn.controller l.controller l.events l.event-index l.entries.items;
+      len : vec_len l.entries ≡ l.event-index;
+      room : length l.events ≤ vec_capacity l.entries;
+    }
