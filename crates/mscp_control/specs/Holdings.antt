@@ -115,7 +115,7 @@ figure_polled c rs order = 0
 abbrev pub fresh_record : Command → Record
 fresh_record command = record { command = command; weight = order_weight command.order; done = 0 }
 
--- what a command taken_as that isn't refused: it is queued, or answered at once (manual)
+-- what a command becomes that isn't refused: it is queued, or answered at once (manual)
 abbrev pub taken_as : Settings → Command → Sent
 taken_as c command = if is_queued c command then Queued command.reference else Answered command.reference None
 
