@@ -19,7 +19,7 @@ pub enum MoveKind {
     Write,
 }
 
-/// What a command asks for (manual, "Disk MSCP Commands").
+/// What a command asks for (manual, "Command Messages").
 #[derive(Clone, Copy, Debug, PartialEq, Eq)]
 pub enum Order {
     /// ABORT of the command with this reference number.
@@ -43,7 +43,7 @@ pub enum Order {
     Invalid { opcode: u8, status: u16 },
 }
 
-/// A command: its reference number, the unit that it is for, and what it asks for.
+/// A command: its reference number, the unit that it is for, and what it asks for (manual, "Command Messages").
 #[derive(Clone, Copy, Debug, PartialEq, Eq)]
 pub struct Command {
     pub reference: u32,
