@@ -24,16 +24,16 @@ order_back r u (orders.SetController version) valid fits = ap orders.SetControll
 order_back r u orders.Available valid fits = refl
 order_back r u orders.Online valid fits = refl
 order_back r u orders.SetUnit valid fits = refl
-order_back r u (orders.Move moves.Access n l) valid fits =
-    λ i. orders.Move moves.Access (sym (four n fits.0) i) (sym (four l fits.1) i)
-order_back r u (orders.Move moves.Erase n l) valid fits =
-    λ i. orders.Move moves.Erase (sym (four n fits.0) i) (sym (four l fits.1) i)
-order_back r u (orders.Move moves.Compare n l) valid fits =
-    λ i. orders.Move moves.Compare (sym (four n fits.0) i) (sym (four l fits.1) i)
-order_back r u (orders.Move moves.Read n l) valid fits =
-    λ i. orders.Move moves.Read (sym (four n fits.0) i) (sym (four l fits.1) i)
-order_back r u (orders.Move moves.Write n l) valid fits =
-    λ i. orders.Move moves.Write (sym (four n fits.0) i) (sym (four l fits.1) i)
+order_back r u (orders.Move moves.Access count block) valid fits =
+    λ i. orders.Move moves.Access (sym (four count fits.0) i) (sym (four block fits.1) i)
+order_back r u (orders.Move moves.Erase count block) valid fits =
+    λ i. orders.Move moves.Erase (sym (four count fits.0) i) (sym (four block fits.1) i)
+order_back r u (orders.Move moves.Compare count block) valid fits =
+    λ i. orders.Move moves.Compare (sym (four count fits.0) i) (sym (four block fits.1) i)
+order_back r u (orders.Move moves.Read count block) valid fits =
+    λ i. orders.Move moves.Read (sym (four count fits.0) i) (sym (four block fits.1) i)
+order_back r u (orders.Move moves.Write count block) valid fits =
+    λ i. orders.Move moves.Write (sym (four count fits.0) i) (sym (four block fits.1) i)
 order_back r u (orders.Invalid byte status) valid fits = absurd valid
 
 -- exactly the written length

@@ -21,21 +21,27 @@ end r u code status body = record { reference = r; unit = u; code = code; status
 body_back : (r u code status : ℕ) (body : EndBody) → HasBodyRange body
     → body ≡ body_at (kind_of_body body) (end_bytes (end r u code status body))
 body_back r u code status bodies.Bare fits = refl
-body_back r u code status (bodies.Abort o) fits = ap bodies.Abort (sym (four o fits))
-body_back r u code status (bodies.Status o f) fits = λ i. bodies.Status (sym (four o fits.0) i) (sym (four f fits.1) i)
-body_back r u code status (bodies.UnitStatus d m t g c) fits =
+body_back r u code status (bodies.Abort other) fits = ap bodies.Abort (sym (four other fits))
+body_back r u code status (bodies.Status other figure) fits =
+    λ i. bodies.Status (sym (four other fits.0) i) (sym (four figure fits.1) i)
+body_back r u code status (bodies.UnitStatus id media track group cylinder) fits =
     λ i.
     bodies.UnitStatus
-    (sym (eight d fits.0) i)
-    (sym (four m fits.1) i)
-    (sym (two t fits.2) i)
-    (sym (two g fits.3) i)
-    (sym (two c fits.4) i)
-body_back r u code status (bodies.Controller t d) fits =
-    λ i. bodies.Controller (sym (two t fits.0) i) (sym (eight d fits.1) i)
-body_back r u code status (bodies.Online d m s v) fits =
-    λ i. bodies.Online (sym (eight d fits.0) i) (sym (four m fits.1) i) (sym (four s fits.2) i) (sym (four v fits.3) i)
-body_back r u code status (bodies.Moved n) fits = ap bodies.Moved (sym (four n fits))
+    (sym (eight id fits.0) i)
+    (sym (four media fits.1) i)
+    (sym (two track fits.2) i)
+    (sym (two group fits.3) i)
+    (sym (two cylinder fits.4) i)
+body_back r u code status (bodies.Controller timeout id) fits =
+    λ i. bodies.Controller (sym (two timeout fits.0) i) (sym (eight id fits.1) i)
+body_back r u code status (bodies.Online id media size serial) fits =
+    λ i.
+    bodies.Online
+    (sym (eight id fits.0) i)
+    (sym (four media fits.1) i)
+    (sym (four size fits.2) i)
+    (sym (four serial fits.3) i)
+body_back r u code status (bodies.Moved count) fits = ap bodies.Moved (sym (four count fits))
 
 -- exactly the length of the body's shape
 pub end_length_is : (r u code status : ℕ) (body : EndBody)

@@ -5,8 +5,7 @@ use Rattle.byteorder.specs.Endian.{little_bytes}
 use Rattle.mscp_packet.specs.Number.{num}
 use Rattle.mscp_packet.specs.Places.{Field, field}
 use Rattle.mscp_packet.specs.Statuses.{invalid_length, invalid_opcode}
-pub use Rattle.mscp_packet.specs.Opcodes.{least}
-use Rattle.mscp_packet.specs.Opcodes.{opcode_of, line_of}
+use Rattle.mscp_packet.specs.Opcodes.{least, opcode_of, line_of}
 use Rattle.mscp_packet.specs.declared.class.Opcode.{Opcode}
 use Rattle.mscp_packet.specs.declared.class.Opcode.TheVariants as codes
 use Rattle.mscp_packet.specs.declared.command.Order.{Order}

@@ -59,6 +59,7 @@ impl Line {
 }
 
 impl Opcode {
+    /// All twelve.
     const ALL: [Opcode; 12] = [
         Opcode::Abort,
         Opcode::Status,
@@ -74,7 +75,8 @@ impl Opcode {
         Opcode::Move(MoveKind::Write),
     ];
 
-    /// The table: an opcode's byte, its class, the least length of its commands, and the body of its end.
+    /// The table: an opcode's byte, its class, the least length of its commands, and the body of its end (manual,
+    /// "Command Categories and Execution Order" and "End Messages"; the lengths are the profile's).
     pub fn line(self) -> Line
         ensures byte { result.byte ≡ (line_of self).byte }
         ensures class { result.class ≡ (line_of self).scheduled }
@@ -102,7 +104,7 @@ impl Opcode {
 pub(crate) fn opcode_of(byte: u8) -> Option<Opcode>
     ensures { result ≡ opcode_of byte }
 {
-    // Elements by value: the compiler then makes the search a jump by the byte.
+    // Opcodes are copied before they are compared: the compiler then makes the search one jump by the byte.
     Opcode::ALL
         .iter()
         .copied()
