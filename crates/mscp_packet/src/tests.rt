@@ -234,27 +234,14 @@ fn every_end_is_written_and_read_back(rt: HostRuntime) {
 #[test]
 fn an_end_is_zero_by_default(rt: HostRuntime) {
     assert_eq!(rt; EndBody::default(), EndBody::Bare);
-    assert_eq!(rt;
-        End::default(),
-        End {
-            reference: 0,
-            unit: 0,
-            code: 0,
-            status: 0,
-            body: EndBody::Bare
-        }
-    );
+    assert_eq!(rt; End::default(), end(0, 0, 0, EndBody::Bare));
 }
 
 #[test]
 fn an_end_of_another_shape_is_read_by_its_endcode(rt: HostRuntime) {
-    let figure = EndBody::Status {
-        other: 7,
-        figure: 18,
-    };
     for (code, body, read) in [
-        (0x81, figure, Ok(EndBody::Abort(7))),
-        (0x88, figure, Ok(EndBody::Bare)),
+        (0x81, EndBody::Moved(7), Ok(EndBody::Abort(7))),
+        (0x88, EndBody::Moved(7), Ok(EndBody::Bare)),
         (0x82, EndBody::Abort(7), Err(EndFault::Length)),
         (0x89, EndBody::Moved(7), Err(EndFault::Length)),
         (0x21, EndBody::Moved(7), Err(EndFault::Code)),
