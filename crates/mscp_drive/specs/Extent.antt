@@ -2,6 +2,14 @@
 use Rattle.std.specs.Prelude.{ℕ, ◌+◌, ◌/◌, max, nat_lt, nat_le, if◌then◌else◌, Option, Some, None, Result, Ok, Err}
 use Rattle.mscp_drive.specs.Shape.{Shape}
 
+-- Invalid Command: the first block, in byte 28 (manual)
+abbrev pub invalid_block : ℕ
+invalid_block = 0x1C01
+
+-- Invalid Command: the byte count, in byte 12 (manual)
+abbrev pub invalid_byte_count : ℕ
+invalid_byte_count = 0x0C01
+
 -- the blocks of 512 bytes that so many bytes take (manual)
 abbrev pub blocks : ℕ → ℕ
 blocks count = (count + 511) / 512
@@ -10,13 +18,13 @@ blocks count = (count + 511) / 512
 abbrev pub weight : ℕ → ℕ
 weight count = max 1 (blocks count)
 
--- where a transfer reaches past its unit, or is too long: 0x1C01 is Invalid Command, logical block
--- number, and 0x0C01 Invalid Command, byte count (manual, the longest is the profile's)
+-- the status that refuses a transfer of so many bytes from a block on, where the unit hasn't its blocks (manual) or it
+-- takes more steps than the longest. The first that holds is told (profile)
 abbrev pub range_fault : ℕ → ℕ → ℕ → Shape → Option ℕ
-range_fault longest count block unit =
-    if nat_le unit.size block then Some 0x1C01 else (
-    if nat_lt unit.size (block + blocks count) then Some 0x0C01 else (
-    if nat_lt longest (weight count) then Some 0x0C01 else None))
+range_fault longest count block u =
+    if nat_le u.size block then Some invalid_block else (
+    if nat_lt u.size (block + blocks count) then Some invalid_byte_count else (
+    if nat_lt longest (weight count) then Some invalid_byte_count else None))
 
 -- how many steps a command takes that is refused with this status, or isn't (profile)
 abbrev pub weighed : Option ℕ → ℕ → Result ℕ ℕ

@@ -2,20 +2,20 @@
 use Rattle.std.specs.Prelude.{ℕ, ◌+◌, ◌-◌, Bool, true, false, nat_lt, nat_le, ◌==◌, if◌then◌else◌}
 use Rattle.mscp_drive.specs.declared.head.Head.{Head}
 
--- the way from cylinder h, going up or down, to cylinder k, where the last is e. A head that has passed k
--- first goes on to the end (profile)
+-- the way of a head that goes up or down from one cylinder to another, where the unit has a last one. A head that has
+-- passed its goal first goes on to the end, and turns there (profile)
 abbrev pub sweep_cost : ℕ → ℕ → Bool → ℕ → ℕ
-sweep_cost e h true k = if nat_le h k then k - h else (e - h) + (e - k)
-sweep_cost e h false k = if nat_le k h then h - k else h + k
+sweep_cost last from true to = if nat_le from to then to - from else (last - from) + (last - to)
+sweep_cost last from false to = if nat_le to from then from - to else from + to
 
 -- how far two cylinders are apart (profile)
 abbrev pub distance : ℕ → ℕ → ℕ
-distance h k = (h - k) + (k - h)
+distance from to = (from - to) + (to - from)
 
--- a head after a start that touches cylinder k, which turns it if it moves (profile)
+-- a head after a start that touches a cylinder, which turns it if it moves (profile)
 abbrev pub moved : Head → ℕ → Head
-moved h k = record { cylinder = k; up = if h.cylinder == k then h.up else nat_lt h.cylinder k }
+moved h to = record { cylinder = to; up = if h.cylinder == to then h.up else nat_lt h.cylinder to }
 
--- a head after a later block of a transfer, on cylinder k (profile)
+-- a head after a later block of a transfer, on a cylinder (profile)
 abbrev pub carried : Head → ℕ → Head
-carried h k = record { cylinder = k; up = h.up }
+carried h to = record { cylinder = to; up = h.up }

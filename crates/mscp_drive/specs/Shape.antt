@@ -1,5 +1,5 @@
 -- What a unit is, and which cylinder has a block.
-use Rattle.std.specs.Prelude.{ℕ, ◌-◌, ◌*◌, ◌/◌, ◌<◌}
+use Rattle.std.specs.Prelude.{ℕ, ◌-◌, ◌*◌, ◌/◌}
 
 -- the number and the sizes of a unit: a track in blocks, a group in tracks, a cylinder in groups, and the
 -- whole unit in blocks; and the identifiers of the unit, of its media and of its volume (manual)
@@ -13,21 +13,27 @@ pub record Shape : Type 0 where
   pub media : ℕ
   pub serial : ℕ
 
--- no size of a unit is zero (profile)
-pub record IsUnit (s : Shape) : Type 0 where
-  pub some_track : 0 < s.track
-  pub some_group : 0 < s.group
-  pub some_cylinder : 0 < s.cylinder
-  pub some_size : 0 < s.size
+abbrev pub shape : ℕ → ℕ → ℕ → ℕ → ℕ → ℕ → ℕ → ℕ → Shape
+shape number track group cylinder size id media serial =
+    record {
+      number = number;
+      track = track;
+      group = group;
+      cylinder = cylinder;
+      size = size;
+      id = id;
+      media = media;
+      serial = serial;
+    }
 
 -- the blocks of a cylinder (profile)
 abbrev pub cylinder_blocks : Shape → ℕ
-cylinder_blocks s = s.track * s.group * s.cylinder
+cylinder_blocks u = u.track * u.group * u.cylinder
 
 -- whole cylinders before a block (profile)
 abbrev pub cylinder_of : Shape → ℕ → ℕ
-cylinder_of s block = block / cylinder_blocks s
+cylinder_of u block = block / cylinder_blocks u
 
 -- the cylinder of the last block (profile)
 abbrev pub last_cylinder : Shape → ℕ
-last_cylinder s = cylinder_of s (s.size - 1)
+last_cylinder u = cylinder_of u (u.size - 1)

@@ -6,7 +6,7 @@ ghost use Rattle.mscp_drive.specs.Heads.{carried, distance, moved, sweep_cost};
 
 use crate::unit::Unit;
 
-/// Where the head of a unit is, and whether it goes up.
+/// Where the head of a unit is, and whether it goes up (profile).
 #[derive(Clone, Copy, Debug, PartialEq, Eq)]
 pub struct Head {
     /// The cylinder that it is on.
@@ -15,7 +15,7 @@ pub struct Head {
     pub up: bool,
 }
 
-/// A head on cylinder 0 that goes up, as each does at first.
+/// A head on cylinder 0 that goes up, as each does at first (profile).
 impl Default for Head {
     fn default() -> Self
         ensures { result ≡ record { cylinder = 0; up = true } }
@@ -29,7 +29,7 @@ impl Default for Head {
 
 impl Head {
     /// How many cylinders the head of this unit crosses to get to cylinder `to` if it goes on the way it
-    /// goes, and turns only at the ends.
+    /// goes, and turns only at the ends (profile).
     pub fn cost(&self, unit: &Unit, to: u32) -> u64
         requires head { self.now.cylinder ≤ last_cylinder unit.now }
         requires target { to ≤ last_cylinder unit.now }
@@ -59,7 +59,7 @@ impl Head {
     }
 
     /// The head after a start on cylinder `to`: it goes the way that it went to get there, and a head that
-    /// was there goes on as before.
+    /// was there goes on as before (profile).
     pub fn moved(&self, to: u32) -> Head
         ensures { result ≡ moved self.now to }
     {
@@ -71,7 +71,7 @@ impl Head {
         Head { cylinder: to, up }
     }
 
-    /// The head after a later block of a transfer, on cylinder `to`: it goes on as before.
+    /// The head after a later block of a transfer, on cylinder `to`: it goes on as before (profile).
     pub fn carried(&self, to: u32) -> Head
         ensures { result ≡ carried self.now to }
     {

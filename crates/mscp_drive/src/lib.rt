@@ -8,5 +8,5 @@ mod unit;
 mod units;
 
 pub use crate::head::Head;
-pub use crate::unit::{Unit, UnitFault};
+pub use crate::unit::{INVALID_BLOCK, INVALID_BYTE_COUNT, Unit, UnitFault};
 pub use crate::units::{Units, UnitsFault};

@@ -1,21 +1,22 @@
 // A unit: its sizes, the cylinder of a block, and whether it has the blocks of a transfer.
 
 ghost use Rattle.std.specs.Prelude.{◌≡◌, ◌≢◌, ◌↔◌, ◌+◌, ◌*◌, ◌/◌, ◌^◌, ◌<◌, ◌≤◌, IfOk};
-ghost use Rattle.mscp_drive.specs.Shape.{IsUnit, cylinder_blocks, cylinder_of, last_cylinder};
+ghost use Rattle.mscp_drive.specs.Shape.{cylinder_blocks, cylinder_of, last_cylinder, shape};
 ghost use Rattle.mscp_drive.specs.Extent.{blocks, range_fault, weighed, weight};
 
 use std::marker::Model;
 
-/// The bytes of a block.
+/// The bytes of a block (manual).
 const BLOCK_BYTES: u32 = 512;
 
-/// Invalid Command: a logical block number that the unit doesn't have.
-const BLOCK_NUMBER: u16 = 0x1C01;
+/// Invalid Command: the unit hasn't the first block, whose number is in bytes 28 to 31 (manual).
+pub const INVALID_BLOCK: u16 = 0x1C01;
 
-/// Invalid Command: a byte count that reaches past the unit, or past the longest transfer.
-const BYTE_COUNT: u16 = 0x0C01;
+/// Invalid Command: by the byte count, in bytes 12 to 15, the transfer reaches past the unit (manual) or is longer than
+/// the longest (profile).
+pub const INVALID_BYTE_COUNT: u16 = 0x0C01;
 
-/// A unit: its number, its sizes, and its identifiers. No size is zero.
+/// A unit: its number, its sizes, and its identifiers (manual). No size is zero (profile).
 #[derive(Clone, Copy, Debug, PartialEq, Eq)]
 pub struct Unit {
     number: u16,
@@ -30,22 +31,32 @@ pub struct Unit {
 
 // A clause sees the eight numbers.
 impl Model for Unit {
-    ghost use Rattle.mscp_drive.specs.Shape.{IsUnit, Shape};
+    ghost use Rattle.std.specs.Prelude.{◌<◌};
+    ghost use Rattle.mscp_drive.specs.Shape.{Shape, shape};
 
     ghost Value = { Shape };
 
-    ghost view = { λ u. record { number = u.number; track = u.track; group = u.group; cylinder = u.cylinder; size = u.size; id = u.id; media = u.media; serial = u.serial } };
+    ghost view = { λ u. shape u.number u.track u.group u.cylinder u.size u.id u.media u.serial };
 
-    ghost invariant = { λ u. IsUnit (record { number = u.number; track = u.track; group = u.group; cylinder = u.cylinder; size = u.size; id = u.id; media = u.media; serial = u.serial }) };
+    ghost invariant = { λ u. (0 < u.track) × (0 < u.group) × (0 < u.cylinder) × (0 < u.size) };
 
-    ghost inverse = { λ s. record { number = s.number; track = s.track; group = s.group; cylinder = s.cylinder; size = s.size; id = s.id; media = s.media; serial = s.serial } };
+    ghost inverse = { λ u. record {
+      number = u.number;
+      track = u.track;
+      group = u.group;
+      cylinder = u.cylinder;
+      size = u.size;
+      id = u.id;
+      media = u.media;
+      serial = u.serial;
+    } };
 }
 
 /// The least unit: number 0, one block, and identifiers of zero. It fills the places of a list that isn't
 /// full.
 impl Default for Unit {
     fn default() -> Self
-        ensures { result ≡ record { number = 0; track = 1; group = 1; cylinder = 1; size = 1; id = 0; media = 0; serial = 0 } }
+        ensures { result ≡ shape 0 1 1 1 1 0 0 0 }
     {
         Unit {
             number: 0,
@@ -60,7 +71,7 @@ impl Default for Unit {
     }
 }
 
-/// Which size of a unit is zero: the first that is, in this order.
+/// Which size of a unit is zero: the first that is, in this order (profile).
 #[derive(Clone, Copy, Debug, PartialEq, Eq)]
 pub enum UnitFault {
     /// A track of no blocks.
@@ -90,8 +101,9 @@ impl Unit {
         ensures track { (result ≡ Err UnitFault.ZeroTrack) ↔ (track ≡ 0) }
         ensures group { (result ≡ Err UnitFault.ZeroGroup) ↔ ((track ≢ 0) × (group ≡ 0)) }
         ensures cylinder { (result ≡ Err UnitFault.ZeroCylinder) ↔ ((track ≢ 0) × (group ≢ 0) × (cylinder ≡ 0)) }
-        ensures size { (result ≡ Err UnitFault.ZeroSize) ↔ ((track ≢ 0) × (group ≢ 0) × (cylinder ≢ 0) × (size ≡ 0)) }
-        ensures unit { IfOk result (λ u. u ≡ record { number = number; track = track; group = group; cylinder = cylinder; size = size; id = id; media = media; serial = serial }) }
+        ensures size { (result ≡ Err UnitFault.ZeroSize)
+            ↔ ((track ≢ 0) × (group ≢ 0) × (cylinder ≢ 0) × (size ≡ 0)) }
+        ensures unit { IfOk result (λ u. u ≡ shape number track group cylinder size id media serial) }
     {
         if track == 0 {
             return Err(UnitFault::ZeroTrack);
@@ -119,8 +131,7 @@ impl Unit {
 
     /// The number of the unit.
     pub fn number(&self) -> u16
-        ensures value { result ≡ self.now.number }
-        ensures valid { IsUnit self.now }
+        ensures { result ≡ self.now.number }
     {
         self.number
     }
@@ -129,7 +140,6 @@ impl Unit {
     pub fn track(&self) -> u16
         ensures value { result ≡ self.now.track }
         ensures some { 0 < result }
-        ensures valid { IsUnit self.now }
     {
         self.track
     }
@@ -138,7 +148,6 @@ impl Unit {
     pub fn group(&self) -> u16
         ensures value { result ≡ self.now.group }
         ensures some { 0 < result }
-        ensures valid { IsUnit self.now }
     {
         self.group
     }
@@ -147,7 +156,6 @@ impl Unit {
     pub fn cylinder_size(&self) -> u16
         ensures value { result ≡ self.now.cylinder }
         ensures some { 0 < result }
-        ensures valid { IsUnit self.now }
     {
         self.cylinder
     }
@@ -156,31 +164,27 @@ impl Unit {
     pub fn size(&self) -> u32
         ensures value { result ≡ self.now.size }
         ensures some { 0 < result }
-        ensures valid { IsUnit self.now }
     {
         self.size
     }
 
     /// The identifier of the unit.
     pub fn id(&self) -> u64
-        ensures value { result ≡ self.now.id }
-        ensures valid { IsUnit self.now }
+        ensures { result ≡ self.now.id }
     {
         self.id
     }
 
     /// The identifier of the media.
     pub fn media(&self) -> u32
-        ensures value { result ≡ self.now.media }
-        ensures valid { IsUnit self.now }
+        ensures { result ≡ self.now.media }
     {
         self.media
     }
 
     /// The serial number of the volume.
     pub fn serial(&self) -> u32
-        ensures value { result ≡ self.now.serial }
-        ensures valid { IsUnit self.now }
+        ensures { result ≡ self.now.serial }
     {
         self.serial
     }
@@ -193,8 +197,8 @@ impl Unit {
         u64::from(self.track) * u64::from(self.group) * u64::from(self.cylinder)
     }
 
-    /// The cylinder of a block, from 0 on: the whole cylinders before it. The block need not be one of the
-    /// unit.
+    /// The cylinder of a block, from 0 on: the whole cylinders before it (profile). The block need not be one of
+    /// the unit.
     #[tactic(auto, using(crate::proofs::Cylinders::cylinder_within))]
     pub fn cylinder(&self, lbn: u32) -> u32
         ensures value { result ≡ cylinder_of self.now lbn }
@@ -211,19 +215,20 @@ impl Unit {
     }
 
     /// How many steps a transfer of so many bytes from block `lbn` on takes, at most `longest`: one for each
-    /// block of 512 bytes, and at least one. The error is the status that refuses it: 0x1C01 where the unit
-    /// has no such block, else 0x0C01 where the transfer reaches past the unit or takes more steps.
+    /// block of 512 bytes, and at least one (profile). The error is the status that refuses it: `INVALID_BLOCK`
+    /// where the unit has no such block, else `INVALID_BYTE_COUNT` where the transfer reaches past the unit or
+    /// takes more steps.
     pub fn check(&self, lbn: u32, bytes: u32, longest: u32) -> Result<u32, u16>
         ensures weight { result ≡ weighed (range_fault longest bytes lbn self.now) (weight bytes) }
         ensures small { IfOk result (λ weight. lbn + weight ≤ 2 ^ 32) }
     {
         if lbn >= self.size() {
-            return Err(BLOCK_NUMBER);
+            return Err(INVALID_BLOCK);
         }
         let count = blocks(bytes);
         let weight = count.max(1);
         if count > self.size() - lbn || weight > longest {
-            return Err(BYTE_COUNT);
+            return Err(INVALID_BYTE_COUNT);
         }
         Ok(weight)
     }

@@ -8,10 +8,10 @@ use crate::unit::Unit;
 use arrayvec::ArrayVec;
 use std::marker::Model;
 
-/// The most units that a controller may have.
+/// The most units that a controller may have (profile).
 const MOST_UNITS: usize = 16;
 
-/// The units of a controller: 1 to 16, in rising order of their numbers.
+/// The units of a controller: 1 to 16, in rising order of their numbers (profile).
 #[derive(Clone, Debug, Drop, PartialEq)]
 pub struct Units {
     list: ArrayVec<Unit, 16>,
@@ -32,7 +32,7 @@ impl Model for Units {
     ghost inverse = { λ s. record { list = record { items = s } } };
 }
 
-/// Why a list of units is refused: the first that holds, in this order.
+/// Why a list of units is refused: the first that holds, in this order (profile).
 #[derive(Clone, Copy, Debug, PartialEq, Eq)]
 pub enum UnitsFault {
     /// More than 16 units.
@@ -48,7 +48,8 @@ impl Units {
     /// there is none.
     pub fn new(units: &[Unit]) -> Result<Units, UnitsFault>
         ensures many { (result ≡ Err UnitsFault.TooMany) ↔ (16 < length units.now) }
-        ensures ascending { (result ≡ Err UnitsFault.NotAscending) ↔ ((length units.now ≤ 16) × ¬ NumbersRise units.now) }
+        ensures ascending { (result ≡ Err UnitsFault.NotAscending)
+            ↔ ((length units.now ≤ 16) × ¬ NumbersRise units.now) }
         ensures empty { (result ≡ Err UnitsFault.Empty) ↔ (units.now ≡ []) }
         ensures taken { (result ≡ Ok units.now) ↔ IsUnitList units.now }
         ensures same { IfOk result (λ list. list ≡ units.now) }

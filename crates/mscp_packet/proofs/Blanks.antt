@@ -8,12 +8,14 @@ abbrev pub blank : (ℕ → Bool) → List ℕ → List ℕ
 blank named [] = []
 blank named (x ∷ xs) = cond (named 0) x 0 ∷ blank (λ k. named (suc k)) xs
 
-blank_index : (named : ℕ → Bool) (xs : List ℕ) (k : ℕ) → k < length xs → named k ≡ false → slice_index (blank named xs) k ≡ 0
+blank_index : (named : ℕ → Bool) (xs : List ℕ) (k : ℕ)
+    → k < length xs → named k ≡ false → slice_index (blank named xs) k ≡ 0
 blank_index named [] k h e = absurd (omega arith)
 blank_index named (x ∷ xs) zero h e = ap (λ b. cond b x 0) e
 blank_index named (x ∷ xs) (suc k) h e = blank_index (λ k. named (suc k)) xs k (omega arith) e
 
 pub zero_beside : (fields : List Field) (b : List ℕ) → b ≡ blank (is_named fields) b → IsZeroBeside fields b
 zero_beside fields b same = record {
-  zero = λ place inside unnamed. ap (λ xs. slice_index xs place) same ∙ blank_index (is_named fields) b place inside unnamed;
+  zero = λ place inside unnamed.
+      ap (λ xs. slice_index xs place) same ∙ blank_index (is_named fields) b place inside unnamed;
 }

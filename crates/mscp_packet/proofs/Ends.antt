@@ -1,78 +1,136 @@
 -- What is written of an end.
-use Rattle.std.proofs.Common.{◌≡◌, ℕ, ◌<◌, ◌≤◌, ◌^◌, length, refl, sym, ap, subst, arith}
-use Rattle.std.specs.Prelude.{Option}
+use Rattle.std.proofs.Common.{◌≡◌, ℕ, ◌≤◌, Bool, true, false, List, length, refl, sym, ap, subst, arith}
+use Rattle.std.specs.Prelude.{nat_lt, if◌then◌else◌, slice_index, Option, Some, None, Result, Ok, Err}
+use Rattle.std.proofs.lemmas.Bool.{ltb-true, ltb-false}
 use Rattle.mscp_packet.proofs.Numbers.{two, four, eight}
 use Rattle.mscp_packet.proofs.Blanks.{zero_beside}
 use Rattle.mscp_packet.specs.Places.{IsZeroBeside}
-use Rattle.mscp_packet.specs.Ends.{HasBody, HasBodyRange, IsEnd, IsOfKind, body_at, end_bytes, end_fields, end_length, kind_of_body}
+use Rattle.mscp_packet.specs.Ends.{EndBytesAreMessages, HasBody, HasBodyRange, IsEnd, IsUnder, body_at, end_at, end_bytes, end_fields, end_length, kind_of_body, kind_of_code, reading_with}
 use Rattle.mscp_packet.specs.declared.end.BodyKind.{BodyKind}
 use Rattle.mscp_packet.specs.declared.end.BodyKind.TheVariants as kinds
 use Rattle.mscp_packet.specs.declared.end.EndBody.{EndBody}
 use Rattle.mscp_packet.specs.declared.end.EndBody.TheVariants as bodies
 use Rattle.mscp_packet.specs.declared.end.End.{End}
+use Rattle.mscp_packet.specs.declared.reading.EndFault.{EndFault}
+use Rattle.mscp_packet.specs.declared.reading.EndFault.TheVariants as faults
 
+abbrev end : ℕ → ℕ → ℕ → ℕ → EndBody → End
+end r u code status body = record { reference = r; unit = u; code = code; status = status; body = body }
+
+-- the body that the bytes of an end have
 body_back : (r u code status : ℕ) (body : EndBody) → HasBodyRange body
-    → let e : End = record { reference = r; unit = u; code = code; status = status; body = body } in
-    body ≡ body_at (kind_of_body body) (end_bytes e)
-body_back r u code status bodies.Bare h = refl
-body_back r u code status (bodies.Abort o) h = ap bodies.Abort (sym (four o h))
-body_back r u code status (bodies.Status o f) h = λ i. bodies.Status (sym (four o h.0) i) (sym (four f h.1) i)
-body_back r u code status (bodies.UnitStatus d m t g c) h = λ i. bodies.UnitStatus (sym (eight d h.0) i) (sym (four m h.1) i) (sym (two t h.2) i) (sym (two g h.3) i) (sym (two c h.4) i)
-body_back r u code status (bodies.Controller t d) h = λ i. bodies.Controller (sym (two t h.0) i) (sym (eight d h.1) i)
-body_back r u code status (bodies.Online d m s v) h = λ i. bodies.Online (sym (eight d h.0) i) (sym (four m h.1) i) (sym (four s h.2) i) (sym (four v h.3) i)
-body_back r u code status (bodies.Moved n) h = ap bodies.Moved (sym (four n h))
+    → body ≡ body_at (kind_of_body body) (end_bytes (end r u code status body))
+body_back r u code status bodies.Bare fits = refl
+body_back r u code status (bodies.Abort other) fits = ap bodies.Abort (sym (four other fits))
+body_back r u code status (bodies.Status other figure) fits =
+    λ i. bodies.Status (sym (four other fits.0) i) (sym (four figure fits.1) i)
+body_back r u code status (bodies.UnitStatus id media track group cylinder) fits =
+    λ i.
+    bodies.UnitStatus
+    (sym (eight id fits.0) i)
+    (sym (four media fits.1) i)
+    (sym (two track fits.2) i)
+    (sym (two group fits.3) i)
+    (sym (two cylinder fits.4) i)
+body_back r u code status (bodies.Controller timeout id) fits =
+    λ i. bodies.Controller (sym (two timeout fits.0) i) (sym (eight id fits.1) i)
+body_back r u code status (bodies.Online id media size serial) fits =
+    λ i.
+    bodies.Online
+    (sym (eight id fits.0) i)
+    (sym (four media fits.1) i)
+    (sym (four size fits.2) i)
+    (sym (four serial fits.3) i)
+body_back r u code status (bodies.Moved count) fits = ap bodies.Moved (sym (four count fits))
 
 -- exactly the length of the body's shape
-pub end_length_is : (r u code status : ℕ) (body : EndBody) → let e : End = record { reference = r; unit = u; code = code; status = status; body = body } in length (end_bytes e) ≡ end_length (kind_of_body body)
+pub end_length_is : (r u code status : ℕ) (body : EndBody)
+    → length (end_bytes (end r u code status body)) ≡ end_length (kind_of_body body)
 end_length_is r u code status bodies.Bare = refl
-end_length_is r u code status (bodies.Abort o) = refl
-end_length_is r u code status (bodies.Status o f) = refl
-end_length_is r u code status (bodies.UnitStatus d m t g c) = refl
-end_length_is r u code status (bodies.Controller t d) = refl
-end_length_is r u code status (bodies.Online d m s v) = refl
-end_length_is r u code status (bodies.Moved n) = refl
+end_length_is r u code status body = refl
 
-length_low : (k : BodyKind) → 12 ≤ end_length k
-length_low kinds.Bare = omega arith
-length_low kinds.Abort = omega arith
-length_low kinds.Status = omega arith
-length_low kinds.UnitStatus = omega arith
-length_low kinds.Controller = omega arith
-length_low kinds.Online = omega arith
-length_low kinds.Moved = omega arith
+-- which is 12 to 48 bytes
+pub length_span : (kind : BodyKind) → (12 ≤ end_length kind) × (end_length kind ≤ 48)
+length_span kinds.Bare = (omega arith, omega arith)
+length_span kind = (omega arith, omega arith)
 
-length_high : (k : BodyKind) → end_length k ≤ 64
-length_high kinds.Bare = omega arith
-length_high kinds.Abort = omega arith
-length_high kinds.Status = omega arith
-length_high kinds.UnitStatus = omega arith
-length_high kinds.Controller = omega arith
-length_high kinds.Online = omega arith
-length_high kinds.Moved = omega arith
+pub bytes_span : (e : End) → (12 ≤ length (end_bytes e)) × (length (end_bytes e) ≤ 48)
+bytes_span e =
+    let same : length (end_bytes e) ≡ end_length (kind_of_body e.body) =
+    end_length_is e.reference e.unit e.code e.status e.body in
+    let span = length_span (kind_of_body e.body) in
+    (omega arith, omega arith)
 
 -- zero at every place that isn't named
-pub end_zeros : (r u code status : ℕ) (body : EndBody) → let e : End = record { reference = r; unit = u; code = code; status = status; body = body } in IsZeroBeside (end_fields body) (end_bytes e)
+pub end_zeros : (r u code status : ℕ) (body : EndBody)
+    → IsZeroBeside (end_fields body) (end_bytes (end r u code status body))
 end_zeros r u code status bodies.Bare = zero_beside _ _ refl
-end_zeros r u code status (bodies.Abort o) = zero_beside _ _ refl
-end_zeros r u code status (bodies.Status o f) = zero_beside _ _ refl
-end_zeros r u code status (bodies.UnitStatus d m t g c) = zero_beside _ _ refl
-end_zeros r u code status (bodies.Controller t d) = zero_beside _ _ refl
-end_zeros r u code status (bodies.Online d m s v) = zero_beside _ _ refl
-end_zeros r u code status (bodies.Moved n) = zero_beside _ _ refl
+end_zeros r u code status body = zero_beside _ _ refl
 
--- what is written is the end again
-pub end_back : (e : End) → e.reference < 2 ^ 32 → e.unit < 2 ^ 16 → e.status < 2 ^ 16 → HasBodyRange e.body → IsOfKind e → IsEnd (end_bytes e) e
-end_back e hr hu hs h k =
-    let same : length (end_bytes e) ≡ end_length (kind_of_body e.body) = end_length_is e.reference e.unit e.code e.status e.body in
-    let low : 12 ≤ end_length (kind_of_body e.body) = length_low (kind_of_body e.body) in
-    let high : end_length (kind_of_body e.body) ≤ 64 = length_high (kind_of_body e.body) in
+-- the bytes of an end are a message of it
+pub end_bytes_are_messages : EndBytesAreMessages
+end_bytes_are_messages e kind fits =
+    let same : length (end_bytes e) ≡ end_length (kind_of_body e.body) =
+    end_length_is e.reference e.unit e.code e.status e.body in
+    let span = length_span (kind_of_body e.body) in
     let P : Option BodyKind → Type 0 = λ o. HasBody o (end_bytes e) e.body in
     record {
       low = omega arith;
       high = omega arith;
-      reference = sym (four e.reference hr);
-      unit = sym (two e.unit hu);
+      reference = sym (four e.reference fits.0);
+      unit = sym (two e.unit fits.1);
       code = refl;
-      status = sym (two e.status hs);
-      body = subst P (sym k) (omega arith, body_back e.reference e.unit e.code e.status e.body h);
+      status = sym (two e.status fits.2);
+      body = subst P (sym kind) (omega arith, body_back e.reference e.unit e.code e.status e.body fits.3);
     }
+
+-- ---- what is read of any message of 12 to 64 bytes
+
+-- an answer that a reader may give who goes by the layout
+pub record IsAnswer (b : List ℕ) (answer : Result End EndFault) : Type 0 where
+  pub low : 12 ≤ length b
+  pub high : length b ≤ 64
+  pub only : (e : End) → IsEnd b e → answer ≡ Ok e
+  pub code : kind_of_code (slice_index b 8) ≡ None → answer ≡ Err faults.Code
+  pub under : IsUnder (kind_of_code (slice_index b 8)) (length b) → answer ≡ Err faults.Length
+
+-- a message that is long enough for its endcode is the end that it says
+end_said : (b : List ℕ) (kind : BodyKind) → 12 ≤ length b → length b ≤ 64
+    → kind_of_code (slice_index b 8) ≡ Some kind → end_length kind ≤ length b → IsEnd b (end_at kind b)
+end_said b kind low high code long =
+    let P : Option BodyKind → Type 0 = λ o. HasBody o b (body_at kind b) in
+    record {
+      low = low;
+      high = high;
+      reference = refl;
+      unit = refl;
+      code = refl;
+      status = refl;
+      body = subst P (sym code) (long, refl);
+    }
+
+-- the answer where the endcode has a shape
+answer_with : (b : List ℕ) (answer : Result End EndFault) → IsAnswer b answer
+    → (kind : BodyKind) → kind_of_code (slice_index b 8) ≡ Some kind → answer ≡ reading_with (Some kind) b
+answer_with b answer given kind code =
+    let short = nat_lt (length b) (end_length kind) in
+    let P : Bool → Type 0 = λ s. short ≡ s → answer ≡ (if s then Err faults.Length else Ok (end_at kind b)) in
+    elim short as P [
+      | true ↦ λ is.
+          let under = ltb-true (length b) (end_length kind) is in
+          given.under (subst (λ o. IsUnder o (length b)) (sym code) under)
+      | false ↦ λ is.
+          let long = ltb-false (length b) (end_length kind) is in
+          given.only (end_at kind b) (end_said b kind given.low given.high code long)
+    ] refl
+
+-- it is the one answer
+pub answer_is : (b : List ℕ) (answer : Result End EndFault) → IsAnswer b answer
+    → answer ≡ reading_with (kind_of_code (slice_index b 8)) b
+answer_is b answer given =
+    let kind = kind_of_code (slice_index b 8) in
+    let P : Option BodyKind → Type 0 = λ o. kind ≡ o → answer ≡ reading_with o b in
+    elim kind as P [
+      | None ↦ given.code
+      | Some k ↦ answer_with b answer given k
+    ] refl

@@ -1,11 +1,11 @@
 -- The layout of command messages. Every one has its reference number in bytes 0-3, its unit number in 4-5, its
--- opcode in 8, and its parameters from 12 on.
+-- opcode in 8, and its parameters from 12 on (manual, "Command Messages").
 use Rattle.std.specs.Prelude.{◌≡◌, ℕ, ◌<◌, ◌≤◌, ◌^◌, nat_lt, if◌then◌else◌, List, [], ◌∷◌, ◌++◌, length, slice_index, replicate, Option, Some, None}
 use Rattle.byteorder.specs.Endian.{little_bytes}
 use Rattle.mscp_packet.specs.Number.{num}
 use Rattle.mscp_packet.specs.Places.{Field, field}
-pub use Rattle.mscp_packet.specs.Opcodes.{least}
-use Rattle.mscp_packet.specs.Opcodes.{opcode_of, line_of}
+use Rattle.mscp_packet.specs.Statuses.{invalid_length, invalid_opcode}
+use Rattle.mscp_packet.specs.Opcodes.{least, opcode_of, line_of}
 use Rattle.mscp_packet.specs.declared.class.Opcode.{Opcode}
 use Rattle.mscp_packet.specs.declared.class.Opcode.TheVariants as codes
 use Rattle.mscp_packet.specs.declared.command.Order.{Order}
@@ -14,7 +14,7 @@ use Rattle.mscp_packet.specs.declared.command.Command.{Command}
 
 -- ---- reading
 
--- what a long enough command of an opcode asks for (manual)
+-- what a long enough command of an opcode asks for (manual, "Command Messages")
 abbrev pub parameters : Opcode → List ℕ → Order
 parameters codes.Abort b = orders.Abort (num b 12 4)
 parameters codes.Status b = orders.Status (num b 12 4)
@@ -25,13 +25,14 @@ parameters codes.Online b = orders.Online
 parameters codes.SetUnit b = orders.SetUnit
 parameters (codes.Move kind) b = orders.Move kind (num b 12 4) (num b 28 4)
 
--- what a message with this opcode or none asks for: 0x0801 is Invalid Command, opcode, and 0x0001 Invalid
--- Command, message length (manual)
+-- what a message with this opcode or none asks for. The opcode is judged before the length (profile)
 abbrev pub order_with : Option Opcode → List ℕ → Order
-order_with None b = orders.Invalid (slice_index b 8) 0x0801
-order_with (Some opcode) b = if nat_lt (length b) (least opcode) then orders.Invalid (slice_index b 8) 0x0001 else parameters opcode b
+order_with None b = orders.Invalid (slice_index b 8) invalid_opcode
+order_with (Some o) b =
+    if nat_lt (length b) (least o) then orders.Invalid (slice_index b 8) invalid_length else parameters o b
 
--- the bytes b, of which there are 12 to 64, are the command c (manual)
+-- the bytes b, of which there are 12 to 64 (profile), are the command c (manual, "Command Messages"). Nothing is asked
+-- of any other place
 pub record IsCommand (b : List ℕ) (c : Command) : Type 0 where
   pub low : 12 ≤ length b
   pub high : length b ≤ 64
@@ -39,9 +40,10 @@ pub record IsCommand (b : List ℕ) (c : Command) : Type 0 where
   pub unit : c.unit ≡ num b 4 2
   pub order : c.order ≡ order_with (opcode_of (slice_index b 8)) b
 
--- the command that a message is, if it is one (manual)
+-- the command that a message is, if it is one (manual, "Command Messages")
 unfoldable pub command_of : List ℕ → Command
-command_of b = record { reference = num b 0 4; unit = num b 4 2; order = order_with (opcode_of (slice_index b 8)) b }
+command_of b =
+    record { reference = num b 0 4; unit = num b 4 2; order = order_with (opcode_of (slice_index b 8)) b }
 
 -- ---- writing
 
@@ -55,7 +57,7 @@ order_opcode orders.Available = Some codes.Available
 order_opcode orders.Online = Some codes.Online
 order_opcode orders.SetUnit = Some codes.SetUnit
 order_opcode (orders.Move kind count block) = Some (codes.Move kind)
-order_opcode (orders.Invalid opcode status) = None
+order_opcode (orders.Invalid byte status) = None
 
 -- the opcode byte that an order is written with (manual)
 abbrev pub opcode_byte : Order → ℕ
@@ -67,44 +69,51 @@ opcode_byte orders.Available = (line_of codes.Available).byte
 opcode_byte orders.Online = (line_of codes.Online).byte
 opcode_byte orders.SetUnit = (line_of codes.SetUnit).byte
 opcode_byte (orders.Move kind count block) = (line_of (codes.Move kind)).byte
-opcode_byte (orders.Invalid opcode status) = opcode
+opcode_byte (orders.Invalid byte status) = byte
 
--- what is written from byte 12 on (manual)
+-- what is written from byte 12 on (manual, "Command Messages"). The controller flags and the host timeout of SET
+-- CONTROLLER CHARACTERISTICS are zero, and so is the buffer descriptor of a transfer (profile)
 abbrev pub parameter_bytes : Order → List ℕ
 parameter_bytes (orders.Abort other) = little_bytes 4 other
 parameter_bytes (orders.Status other) = little_bytes 4 other
 parameter_bytes (orders.SetController version) = little_bytes 2 version ++ replicate 4 0
 parameter_bytes (orders.Move kind count block) = little_bytes 4 count ++ replicate 12 0 ++ little_bytes 4 block
-parameter_bytes order = []
+parameter_bytes o = []
 
--- the message that is written of a command (manual)
+-- the message that is written of a command (manual, "Command Messages")
 abbrev pub command_bytes : Command → List ℕ
-command_bytes c = little_bytes 4 c.reference ++ little_bytes 2 c.unit ++ replicate 2 0 ++ (opcode_byte c.order ∷ []) ++ replicate 3 0 ++ parameter_bytes c.order
+command_bytes c =
+    little_bytes 4 c.reference
+    ++ little_bytes 2 c.unit
+    ++ replicate 2 0
+    ++ (opcode_byte c.order ∷ [])
+    ++ replicate 3 0
+    ++ parameter_bytes c.order
 
 -- how many bytes are written: those of the table, or 12 of what is no valid command (profile)
 abbrev pub written_with : Option Opcode → ℕ
 written_with None = 12
-written_with (Some opcode) = (line_of opcode).written_length
+written_with (Some o) = (line_of o).written_length
 
 abbrev pub written : Order → ℕ
-written order = written_with (order_opcode order)
+written o = written_with (order_opcode o)
 
--- where the parameters of a command stand (manual)
+-- where the parameters of a command stand (manual, "Command Messages")
 abbrev pub parameter_fields : Option Opcode → List Field
 parameter_fields (Some codes.Abort) = field 12 4 ∷ []
 parameter_fields (Some codes.Status) = field 12 4 ∷ []
 parameter_fields (Some codes.SetController) = field 12 2 ∷ []
 parameter_fields (Some (codes.Move kind)) = field 12 4 ∷ field 28 4 ∷ []
-parameter_fields opcode = []
+parameter_fields o = []
 
--- every named place of a command: reference number, unit number, opcode and parameters (manual)
+-- every named place of a command: reference number, unit number, opcode and parameters (manual, "Command Messages")
 abbrev pub command_fields : Order → List Field
-command_fields order = field 0 4 ∷ field 4 2 ∷ field 8 1 ∷ parameter_fields (order_opcode order)
+command_fields o = field 0 4 ∷ field 4 2 ∷ field 8 1 ∷ parameter_fields (order_opcode o)
 
 -- a valid command, so not an Invalid
 abbrev pub IsValidOrder : Order → Type 0
-IsValidOrder (orders.Invalid opcode status) = ⊥
-IsValidOrder order = Unit {0}
+IsValidOrder (orders.Invalid byte status) = ⊥
+IsValidOrder o = Unit {0}
 
 -- the numbers of an order fit their types
 abbrev pub HasRange : Order → Type 0
@@ -112,4 +121,14 @@ HasRange (orders.Abort other) = other < 2 ^ 32
 HasRange (orders.Status other) = other < 2 ^ 32
 HasRange (orders.SetController version) = version < 2 ^ 16
 HasRange (orders.Move kind count block) = (count < 2 ^ 32) × (block < 2 ^ 32)
-HasRange order = Unit {0}
+HasRange o = Unit {0}
+
+-- the numbers of a command fit their types
+abbrev pub HasCommandRange : Command → Type 0
+HasCommandRange c = (c.reference < 2 ^ 32) × (c.unit < 2 ^ 16) × HasRange c.order
+
+-- ---- both ways
+
+-- the bytes of a valid command whose numbers fit their types are a message of it
+abbrev pub CommandBytesAreMessages : Type 0
+CommandBytesAreMessages = (c : Command) → IsValidOrder c.order → HasCommandRange c → IsCommand (command_bytes c) c

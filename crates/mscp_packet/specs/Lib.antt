@@ -1,5 +1,6 @@
 pub mod Number
 pub mod Places
+pub mod Statuses
 pub mod Opcodes
 pub mod Commands
 pub mod Ends

@@ -1,9 +1,10 @@
-// The opcodes, and how the commands of each are scheduled.
+// The opcodes. All that is told of one stands in one line of a table, and everything else asks the table.
 
 ghost use Rattle.std.specs.Prelude.{◌≡◌};
-ghost use Rattle.mscp_packet.specs.Opcodes.{class, opcode_of};
+ghost use Rattle.mscp_packet.specs.Opcodes.{class, line_of, opcode_of};
 
 use crate::command::MoveKind;
+use crate::end::BodyKind;
 
 /// How the commands of an opcode are scheduled (manual, "Command Categories and Execution Order").
 #[derive(Clone, Copy, Debug, PartialEq, Eq)]
@@ -31,37 +32,88 @@ pub enum Opcode {
     Move(MoveKind),
 }
 
+/// What is told of an opcode.
+#[derive(Clone, Copy, Debug, PartialEq, Eq)]
+pub struct Line {
+    /// Its byte in a command. With the top bit set it is the endcode.
+    pub byte: u8,
+    /// How its commands are scheduled.
+    pub class: Class,
+    /// The fewest bytes that a command of it has, at least 12 (profile).
+    pub least: usize,
+    /// The shape of its end's body.
+    pub body: BodyKind,
+}
+
+impl Line {
+    const fn new(byte: u8, class: Class, least: usize, body: BodyKind) -> Line
+        ensures { result ≡ record { byte = byte; class = class; least = least; body = body } }
+    {
+        Line {
+            byte,
+            class,
+            least,
+            body,
+        }
+    }
+}
+
+impl Opcode {
+    /// All twelve.
+    const ALL: [Opcode; 12] = [
+        Opcode::Abort,
+        Opcode::Status,
+        Opcode::UnitStatus,
+        Opcode::SetController,
+        Opcode::Available,
+        Opcode::Online,
+        Opcode::SetUnit,
+        Opcode::Move(MoveKind::Access),
+        Opcode::Move(MoveKind::Erase),
+        Opcode::Move(MoveKind::Compare),
+        Opcode::Move(MoveKind::Read),
+        Opcode::Move(MoveKind::Write),
+    ];
+
+    /// The table: an opcode's byte, its class, the least length of its commands, and the body of its end (manual,
+    /// "Command Categories and Execution Order" and "End Messages"; the lengths are the profile's).
+    pub fn line(self) -> Line
+        ensures byte { result.byte ≡ (line_of self).byte }
+        ensures class { result.class ≡ (line_of self).scheduled }
+        ensures least { result.least ≡ (line_of self).least_length }
+        ensures body { result.body ≡ (line_of self).body }
+    {
+        match self {
+            Opcode::Abort => Line::new(1, Class::Immediate, 16, BodyKind::Abort),
+            Opcode::Status => Line::new(2, Class::Immediate, 16, BodyKind::Status),
+            Opcode::UnitStatus => Line::new(3, Class::Immediate, 12, BodyKind::UnitStatus),
+            Opcode::SetController => Line::new(4, Class::Immediate, 14, BodyKind::Controller),
+            Opcode::Available => Line::new(8, Class::Sequential, 12, BodyKind::Bare),
+            Opcode::Online => Line::new(9, Class::Sequential, 12, BodyKind::Online),
+            Opcode::SetUnit => Line::new(10, Class::Sequential, 12, BodyKind::Online),
+            Opcode::Move(MoveKind::Access) => Line::new(16, Class::Free, 32, BodyKind::Moved),
+            Opcode::Move(MoveKind::Erase) => Line::new(18, Class::Free, 32, BodyKind::Moved),
+            Opcode::Move(MoveKind::Compare) => Line::new(32, Class::Free, 32, BodyKind::Moved),
+            Opcode::Move(MoveKind::Read) => Line::new(33, Class::Free, 32, BodyKind::Moved),
+            Opcode::Move(MoveKind::Write) => Line::new(34, Class::Free, 32, BodyKind::Moved),
+        }
+    }
+}
+
 /// The opcode of a byte, if the byte is one.
 pub(crate) fn opcode_of(byte: u8) -> Option<Opcode>
     ensures { result ≡ opcode_of byte }
 {
-    match byte {
-        1 => Some(Opcode::Abort),
-        2 => Some(Opcode::Status),
-        3 => Some(Opcode::UnitStatus),
-        4 => Some(Opcode::SetController),
-        8 => Some(Opcode::Available),
-        9 => Some(Opcode::Online),
-        10 => Some(Opcode::SetUnit),
-        16 => Some(Opcode::Move(MoveKind::Access)),
-        18 => Some(Opcode::Move(MoveKind::Erase)),
-        32 => Some(Opcode::Move(MoveKind::Compare)),
-        33 => Some(Opcode::Move(MoveKind::Read)),
-        34 => Some(Opcode::Move(MoveKind::Write)),
-        _ => None,
-    }
+    // Opcodes are copied before they are compared: the compiler then makes the search one jump by the byte.
+    Opcode::ALL
+        .iter()
+        .copied()
+        .find(|opcode| opcode.line().byte == byte)
 }
 
 /// The class of an opcode byte, any of the 256.
 pub fn class_of(opcode: u8) -> Class
     ensures { result ≡ class opcode }
 {
-    match opcode_of(opcode) {
-        None => Class::Unknown,
-        Some(Opcode::Abort | Opcode::Status | Opcode::UnitStatus | Opcode::SetController) => {
-            Class::Immediate
-        }
-        Some(Opcode::Available | Opcode::Online | Opcode::SetUnit) => Class::Sequential,
-        Some(Opcode::Move(_)) => Class::Free,
-    }
+    opcode_of(opcode).map_or(Class::Unknown, |opcode| opcode.line().class)
 }

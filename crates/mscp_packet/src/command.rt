@@ -2,6 +2,8 @@
 
 ghost use Rattle.std.specs.Prelude.{◌≡◌};
 
+use crate::class::Opcode;
+
 /// The five transfers.
 #[derive(Clone, Copy, Debug, PartialEq, Eq)]
 pub enum MoveKind {
@@ -17,7 +19,7 @@ pub enum MoveKind {
     Write,
 }
 
-/// What a command asks for (manual, "Disk MSCP Commands").
+/// What a command asks for (manual, "Command Messages").
 #[derive(Clone, Copy, Debug, PartialEq, Eq)]
 pub enum Order {
     /// ABORT of the command with this reference number.
@@ -36,11 +38,12 @@ pub enum Order {
     SetUnit,
     /// A transfer of so many bytes from this logical block on.
     Move(MoveKind, u32, u32),
-    /// A message that is no valid command: its opcode byte, and the status that its end has.
+    /// A message that is no valid command: its opcode byte, and the status that its end has, `INVALID_OPCODE` or
+    /// `INVALID_LENGTH` of `status`.
     Invalid { opcode: u8, status: u16 },
 }
 
-/// A command: its reference number, the unit that it is for, and what it asks for.
+/// A command: its reference number, the unit that it is for, and what it asks for (manual, "Command Messages").
 #[derive(Clone, Copy, Debug, PartialEq, Eq)]
 pub struct Command {
     pub reference: u32,
@@ -55,17 +58,18 @@ impl Command {
     pub fn opcode(&self) -> u8
         ensures { result ≡ opcode_byte self.now.order }
     {
-        match self.order {
-            Order::Abort(_) => 1,
-            Order::Status(_) => 2,
-            Order::UnitStatus => 3,
-            Order::SetController(_) => 4,
-            Order::Available => 8,
-            Order::Online => 9,
-            Order::SetUnit => 10,
-            Order::Move(kind, _, _) => kind.opcode(),
-            Order::Invalid { opcode, .. } => opcode,
-        }
+        let opcode = match self.order {
+            Order::Abort(_) => Opcode::Abort,
+            Order::Status(_) => Opcode::Status,
+            Order::UnitStatus => Opcode::UnitStatus,
+            Order::SetController(_) => Opcode::SetController,
+            Order::Available => Opcode::Available,
+            Order::Online => Opcode::Online,
+            Order::SetUnit => Opcode::SetUnit,
+            Order::Move(kind, ..) => Opcode::Move(kind),
+            Order::Invalid { opcode, .. } => return opcode,
+        };
+        opcode.line().byte
     }
 }
 
@@ -76,12 +80,6 @@ impl MoveKind {
     pub fn opcode(self) -> u8
         ensures { result ≡ move_byte self }
     {
-        match self {
-            MoveKind::Access => 16,
-            MoveKind::Erase => 18,
-            MoveKind::Compare => 32,
-            MoveKind::Read => 33,
-            MoveKind::Write => 34,
-        }
+        Opcode::Move(self).line().byte
     }
 }

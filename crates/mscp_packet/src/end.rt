@@ -3,6 +3,8 @@
 ghost use Rattle.std.specs.Prelude.{◌≡◌};
 ghost use Rattle.mscp_packet.specs.Ends.{kind_of_code};
 
+use crate::class::opcode_of;
+
 /// What an end tells beside its status: one shape for each kind of end message.
 #[derive(Clone, Copy, Debug, Default, PartialEq, Eq)]
 pub enum EndBody {
@@ -66,19 +68,17 @@ pub enum BodyKind {
     Moved,
 }
 
-/// The shape of the body that follows an endcode, if the byte is one.
+/// The bit that tells an endcode from an opcode.
+const END_BIT: u8 = 0x80;
+
+/// The shape of the body that follows an endcode, if the byte is one: an opcode with the end bit (manual, "End
+/// Messages"), or that bit alone, for an unknown opcode (profile).
 pub(crate) fn kind_of(code: u8) -> Option<BodyKind>
     ensures { result ≡ kind_of_code code }
 {
-    match code {
-        0x80 | 0x88 => Some(BodyKind::Bare),
-        0x81 => Some(BodyKind::Abort),
-        0x82 => Some(BodyKind::Status),
-        0x83 => Some(BodyKind::UnitStatus),
-        0x84 => Some(BodyKind::Controller),
-        0x89 | 0x8A => Some(BodyKind::Online),
-        0x90 | 0x92 | 0xA0..=0xA2 => Some(BodyKind::Moved),
-        _ => None,
+    match code.checked_sub(END_BIT)? {
+        0 => Some(BodyKind::Bare),
+        opcode => opcode_of(opcode).map(|opcode| opcode.line().body),
     }
 }
 
@@ -86,7 +86,7 @@ impl EndBody {
     ghost use Rattle.mscp_packet.specs.Ends.{refused_body};
 
     /// The body of the end of a refused command with this endcode: of the endcode's shape, every field
-    /// 0. `Bare` where the byte is no endcode.
+    /// 0 (profile). `Bare` where the byte is no endcode.
     pub fn refused(code: u8) -> EndBody
         ensures { result ≡ refused_body code }
     {

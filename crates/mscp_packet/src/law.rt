@@ -1,13 +1,19 @@
-// What the codec promises of both directions at once.
+// What the codec promises of both directions at once, and what the layouts promise of themselves.
 
 ghost use Rattle.std.specs.Prelude.{◌≡◌};
-ghost use Rattle.mscp_packet.specs.Commands.{command_bytes, command_of, IsValidOrder};
-ghost use Rattle.mscp_packet.specs.Ends.{IsOfKind};
+ghost use Rattle.mscp_packet.specs.Commands.{command_bytes, command_of, CommandBytesAreMessages, IsValidOrder};
+ghost use Rattle.mscp_packet.specs.Ends.{end_bytes, kind_of_code, reading_with, EndBytesAreMessages, IsOfKind};
+ghost use Rattle.mscp_packet.specs.Statuses.{aborted, already_online, invalid_length, invalid_opcode};
+ghost use Rattle.mscp_packet.specs.Statuses.{invalid_version, success, unit_available, unit_offline};
 ghost use Rattle.mscp_packet.specs.Table.{IsSound};
 
 use crate::command::Command;
 use crate::end::End;
 use crate::reading::{EndFault, PacketFault, read_command, read_end};
+use crate::status::{
+    ABORTED, ALREADY_ONLINE, INVALID_LENGTH, INVALID_OPCODE, INVALID_VERSION, SUCCESS,
+    UNIT_AVAILABLE, UNIT_OFFLINE,
+};
 use crate::writing::{write_command, write_end};
 
 /// Writes a command and reads it again, which gives the same command unless it is an `Order::Invalid`. That is
@@ -20,15 +26,43 @@ pub fn read_written_command(command: &Command) -> Result<Command, PacketFault>
 }
 
 /// Writes an end and reads it again, which gives the same end where its body is of the shape that follows its
-/// endcode.
+/// endcode. Else it gives what the written bytes say to one who goes by the endcode: `EndFault::Code` where there is
+/// no such endcode, `EndFault::Length` where the body is shorter than the endcode's, and an end where it is as long
+/// or longer.
 pub fn read_written_end(end: &End) -> Result<End, EndFault>
-    ensures { IsOfKind end.now → result ≡ Ok end.now }
+    ensures same { IsOfKind end.now → result ≡ Ok end.now }
+    ensures read { result ≡ reading_with (kind_of_code end.now.code) (end_bytes end.now) }
 {
     read_end(write_end(end).as_slice())
 }
 
-/// The tables of opcodes and endcodes agree: each opcode has a byte of its own below 0x80 and an endcode of its
-/// own, and is written long enough to be read.
+/// The bytes of a valid command are a message of it. This is a law of the layout of commands alone, with no reader or
+/// writer in it.
+pub fn command_bytes_are_messages()
+    ensures { CommandBytesAreMessages }
+{}
+
+/// The bytes of an end are a message of it, where its body is of the shape that follows its endcode. This is a law of
+/// the layout of ends alone, with no reader or writer in it.
+pub fn end_bytes_are_messages()
+    ensures { EndBytesAreMessages }
+{}
+
+/// The tables of opcodes and endcodes agree: each opcode has a byte of its own below 0x80, and with the top bit set
+/// that is an endcode, whose body is the opcode's. A command has at least 12 bytes, and is written long enough to be
+/// read. An end has at least 12 bytes. Both have room in 48.
 pub fn tables_agree()
     ensures { IsSound }
+{}
+
+/// Each status of `status` is the number that the layouts have under its name.
+pub fn statuses_agree()
+    ensures success { SUCCESS ≡ success }
+    ensures already_online { ALREADY_ONLINE ≡ already_online }
+    ensures invalid_length { INVALID_LENGTH ≡ invalid_length }
+    ensures invalid_opcode { INVALID_OPCODE ≡ invalid_opcode }
+    ensures invalid_version { INVALID_VERSION ≡ invalid_version }
+    ensures aborted { ABORTED ≡ aborted }
+    ensures unit_offline { UNIT_OFFLINE ≡ unit_offline }
+    ensures unit_available { UNIT_AVAILABLE ≡ unit_available }
 {}

@@ -7,6 +7,7 @@ mod end;
 mod fields;
 mod law;
 mod reading;
+pub mod status;
 #[cfg(test)]
 mod tests;
 mod writing;
@@ -14,6 +15,9 @@ mod writing;
 pub use crate::class::{Class, class_of};
 pub use crate::command::{Command, MoveKind, Order};
 pub use crate::end::{End, EndBody};
-pub use crate::law::{read_written_command, read_written_end, tables_agree};
+pub use crate::law::{
+    command_bytes_are_messages, end_bytes_are_messages, read_written_command, read_written_end,
+    statuses_agree, tables_agree,
+};
 pub use crate::reading::{EndFault, PacketFault, read_command, read_end};
 pub use crate::writing::{write_command, write_end};

@@ -9,26 +9,15 @@ use crate::class::{Opcode, opcode_of};
 use crate::command::{Command, Order};
 use crate::end::{BodyKind, End, EndBody, kind_of};
 use crate::fields::{eight_at, four_at, two_at};
+use crate::status::{INVALID_LENGTH, INVALID_OPCODE};
 
-/// Why bytes are no message.
+/// Why bytes are no message: a message has 12 to 64 bytes (profile).
 #[derive(Clone, Copy, Debug, PartialEq, Eq)]
 pub enum PacketFault {
     /// Under 12 bytes.
     Short,
     /// Over 64 bytes.
     Long,
-}
-
-/// The fewest bytes that a command of the opcode has.
-fn least_of(opcode: Opcode) -> usize
-    ensures { result ≡ least opcode }
-{
-    match opcode {
-        Opcode::Abort | Opcode::Status => 16,
-        Opcode::SetController => 14,
-        Opcode::Move(_) => 32,
-        Opcode::UnitStatus | Opcode::Available | Opcode::Online | Opcode::SetUnit => 12,
-    }
 }
 
 /// What a long enough message of the opcode asks for.
@@ -57,21 +46,22 @@ fn order_in(b: &[u8]) -> Order
     let Some(opcode) = opcode_of(byte) else {
         return Order::Invalid {
             opcode: byte,
-            status: 0x0801,
+            status: INVALID_OPCODE,
         };
     };
-    if b.len() < least_of(opcode) {
+    if b.len() < opcode.line().least {
         return Order::Invalid {
             opcode: byte,
-            status: 0x0001,
+            status: INVALID_LENGTH,
         };
     }
     parameters_in(opcode, b)
 }
 
-/// The command in a message of 12 to 64 bytes (manual, "Command Messages"). A message that is no valid
-/// command gives an `Order::Invalid` with the status of its end. Reserved bytes, modifiers, and bytes
-/// past the known fields are ignored.
+/// The command in a message of 12 to 64 bytes (manual, "Command Messages"; the limits are the profile's). A message
+/// that is no valid command gives an `Order::Invalid` with the status of its end: `INVALID_OPCODE`, or `INVALID_LENGTH`
+/// where it is shorter than the least of its opcode. Reserved bytes, modifiers, and bytes past the known fields are
+/// ignored (profile).
 pub fn read_command(b: &[u8]) -> Result<Command, PacketFault>
     ensures short { (result ≡ Err PacketFault.Short) ↔ (length b.now < 12) }
     ensures long { (result ≡ Err PacketFault.Long) ↔ (64 < length b.now) }
@@ -91,7 +81,7 @@ pub fn read_command(b: &[u8]) -> Result<Command, PacketFault>
     })
 }
 
-/// Why bytes are no end.
+/// Why bytes are no end. The code is judged before the length of the endcode (profile).
 #[derive(Clone, Copy, Debug, PartialEq, Eq)]
 pub enum EndFault {
     /// Under 12 or over 64 bytes, or under the length of its endcode.
@@ -100,7 +90,7 @@ pub enum EndFault {
     Code,
 }
 
-/// How many bytes an end with a body of this shape has.
+/// How many bytes an end with a body of this shape has (manual, "End Messages").
 fn length_of(kind: BodyKind) -> usize
     ensures { result ≡ end_length kind }
 {
@@ -148,8 +138,9 @@ fn body_in(kind: BodyKind, b: &[u8]) -> EndBody
     }
 }
 
-/// The end in a message of 12 to 64 bytes (manual, "End Messages"). The body is of the shape that follows the
-/// endcode. Flags, reserved bytes, and bytes past the length of the endcode are ignored.
+/// The end in a message of 12 to 64 bytes (manual, "End Messages"; the limits are the profile's). The body is of the
+/// shape that follows the endcode. Flags, reserved bytes, and bytes past the length of the endcode are ignored
+/// (profile).
 pub fn read_end(b: &[u8]) -> Result<End, EndFault>
     ensures end { IfOk result (λ e. IsEnd b.now e) }
     ensures only { (e : End) → IsEnd b.now e → result ≡ Ok e }

@@ -229,7 +229,26 @@ fn every_end_is_written_and_read_back(rt: HostRuntime) {
         assert_eq!(rt; read_end(bytes), Ok(end));
         assert_eq!(rt; read_written_end(&end), Ok(end));
     }
-    tables_agree();
+}
+
+#[test]
+fn an_end_is_zero_by_default(rt: HostRuntime) {
+    assert_eq!(rt; EndBody::default(), EndBody::Bare);
+    assert_eq!(rt; End::default(), end(0, 0, 0, EndBody::Bare));
+}
+
+#[test]
+fn an_end_of_another_shape_is_read_by_its_endcode(rt: HostRuntime) {
+    for (code, body, read) in [
+        (0x81, EndBody::Moved(7), Ok(EndBody::Abort(7))),
+        (0x88, EndBody::Moved(7), Ok(EndBody::Bare)),
+        (0x82, EndBody::Abort(7), Err(EndFault::Length)),
+        (0x89, EndBody::Moved(7), Err(EndFault::Length)),
+        (0x21, EndBody::Moved(7), Err(EndFault::Code)),
+    ] {
+        let answer = read_written_end(&end(1, code, 0, body)).map(|end| end.body);
+        assert_eq!(rt; answer, read, "of {code}");
+    }
 }
 
 #[test]

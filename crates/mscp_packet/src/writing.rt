@@ -1,9 +1,9 @@
-// Commands and ends to bytes. What is written and not named is zero.
+// Commands and ends to bytes. What is written and not named is zero (profile).
 
-ghost use Rattle.std.specs.Prelude.{◌≡◌, ◌+◌, ◌<◌, ◌≤◌, ◌^◌, ◌++◌};
+ghost use Rattle.std.specs.Prelude.{◌≡◌, ◌+◌, ◌≤◌, ◌++◌};
 ghost use Rattle.arrayvec.specs.ArrayVec.{array_vec_len};
-ghost use Rattle.mscp_packet.specs.Commands.{command_bytes, command_fields, parameter_bytes, written, HasRange, IsCommand, IsValidOrder};
-ghost use Rattle.mscp_packet.specs.Ends.{body_bytes, end_bytes, end_fields, end_length, kind_of_body, unit_bytes, HasBodyRange, IsEnd, IsOfKind};
+ghost use Rattle.mscp_packet.specs.Commands.{command_bytes, command_fields, parameter_bytes, written, HasCommandRange, HasRange, IsCommand, IsValidOrder};
+ghost use Rattle.mscp_packet.specs.Ends.{body_bytes, end_bytes, end_fields, end_length, kind_of_body, unit_bytes, HasBodyRange, HasEndRange, IsEnd, IsOfKind};
 ghost use Rattle.mscp_packet.specs.Places.{IsZeroBeside};
 
 use crate::command::{Command, Order};
@@ -39,9 +39,7 @@ fn put_parameters(out: &mut ArrayVec<u8, 48>, order: &Order)
 /// The bytes of a command.
 fn bytes_of_command(command: &Command) -> ArrayVec<u8, 48>
     ensures items { result.items ≡ command_bytes command.now }
-    ensures reference { command.now.reference < 2 ^ 32 }
-    ensures unit { command.now.unit < 2 ^ 16 }
-    ensures order { HasRange command.now.order }
+    ensures range { HasCommandRange command.now }
 {
     let mut out = ArrayVec::new();
     put_four(&mut out, command.reference);
@@ -51,7 +49,8 @@ fn bytes_of_command(command: &Command) -> ArrayVec<u8, 48>
     out
 }
 
-/// The message of a command, of 12 to 32 bytes. An `Order::Invalid` writes 12 bytes with its opcode.
+/// The message of a command, of 12 to 32 bytes (manual, "Command Messages"; the lengths are the profile's). An
+/// `Order::Invalid` writes 12 bytes with its opcode (profile).
 pub fn write_command(command: &Command) -> ArrayVec<u8, 48>
     ensures bytes { result.items ≡ command_bytes command.now }
     ensures length { array_vec_len result ≡ written command.now.order }
@@ -125,10 +124,7 @@ fn put_unit(out: &mut ArrayVec<u8, 48>, id: u64, media: u32)
 /// The bytes of an end.
 fn bytes_of_end(end: &End) -> ArrayVec<u8, 48>
     ensures items { result.items ≡ end_bytes end.now }
-    ensures reference { end.now.reference < 2 ^ 32 }
-    ensures unit { end.now.unit < 2 ^ 16 }
-    ensures status { end.now.status < 2 ^ 16 }
-    ensures body { HasBodyRange end.now.body }
+    ensures range { HasEndRange end.now }
 {
     let mut out = ArrayVec::new();
     put_four(&mut out, end.reference);
@@ -139,7 +135,8 @@ fn bytes_of_end(end: &End) -> ArrayVec<u8, 48>
     out
 }
 
-/// The message of an end, of 12 to 48 bytes. The body is written as it is, whatever the endcode.
+/// The message of an end, of 12 to 48 bytes (manual, "End Messages"). The body is written as it is, whatever the
+/// endcode.
 pub fn write_end(end: &End) -> ArrayVec<u8, 48>
     ensures bytes { result.items ≡ end_bytes end.now }
     ensures length { array_vec_len result ≡ end_length (kind_of_body end.now.body) }

@@ -1,0 +1,22 @@
+use Rattle.std.proofs.Common.{◌≡◌, Option, Some, None, refl, sym, ◌∙◌, rules, tests}
+use Rattle.std.specs.Prelude.{nat_eq}
+use Rattle.std.specs.Option.{option_map}
+use Rattle.std.proofs.lemmas.Iterator.{YieldsList-from_slice}
+use Rattle.std.proofs.lemmas.Iterator.Consumers.{YieldsList-from_copied}
+use Rattle.std.proofs.lemmas.Iterator.Search.{find_from_yields_List}
+use Rattle.mscp_packet.specs.Opcodes.{line_of, opcodes}
+use Rattle.mscp_packet.proofs.class.opcode_of.Goals as goal
+
+option_map_same : {X : Type 0} (o : Option X) → option_map (λ x. x) o ≡ o
+option_map_same None = refl
+option_map_same (Some x) = refl
+
+pub returns : goal.returns
+returns c =
+    sym (option_map_same c.find.result)
+    ∙ find_from_yields_List
+    (λ o. nat_eq (line_of o).byte c.args.byte) _ _
+    c.find.result
+    c.find.ensures.ran
+    (YieldsList-from_copied (YieldsList-from_slice opcodes cc))
+    (λ x b q k. search (rules, tests))

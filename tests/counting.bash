@@ -1,0 +1,41 @@
+# What the tests here share: each names itself, and the last line counts them.
+
+passed=0 failed=0
+
+# Runs a test, of which the words tell what must hold, and says how it went.
+try() {
+    local what=$1
+    shift
+    if "$@"; then
+        passed=$((passed + 1))
+        echo "$what: passed"
+    else
+        failed=$((failed + 1))
+        echo "$what: FAILED"
+    fi
+}
+
+# The last line, and the status: without a test nothing was tested, which is a failure too.
+count() {
+    echo "$passed passed, $failed failed"
+    [ "$failed" -eq 0 ] && [ "$passed" -gt 0 ]
+}
+
+# Makes the folder `room` for what a test writes, which is removed at every end.
+make_room() {
+    room=''
+    trap 'rm -rf -- "$room"' EXIT
+    trap 'exit 129' HUP
+    trap 'exit 130' INT
+    trap 'exit 143' TERM
+    room=$(mktemp -d) || exit 2
+}
+
+# A process has ended, whether or not its parent has asked for its status.
+is_gone() {
+    for _ in {1..40}; do
+        grep -q '^State:[[:space:]]*[^ZX[:space:]]' "/proc/$1/status" 2>/dev/null || return 0
+        sleep 0.05
+    done
+    return 1
+}
