@@ -53,7 +53,6 @@ all_of : (p : ℕ → Bool) (xs : List ℕ) → AllByRecursion (λ x. p x ≡ tr
 all_of p [] h = refl
 all_of p (x ∷ xs) h = ap (λ b. b && list_all p xs) h.0 ∙ all_of p xs h.1
 
-
 or_right : (a b : Bool) → b ≡ true → (a || b) ≡ true
 or_right true b h = refl
 or_right false b h = h
@@ -129,7 +128,6 @@ abbrev pub serving : Settings → Trace → Block → ℕ → Moment
 serving c t k y =
     (events.Step k, entries.Stepped (reports.Served (reference t y) (unit t y) (block_of t y) (nat_eq (done t y) 0) (seek_to c t (unit t y) (block_of t y)) (end_of c t k y)))
 
-
 -- a step of a record reports the service
 report_held : (c : Settings) (t : Trace) (k : Block) (y : ℕ)
     → entries.Stepped (report_of k (drive_by c t (unit t y)) (held_of t y)) ≡ (serving c t k y).1
@@ -174,7 +172,6 @@ good_same : (t : Trace) (m : Moment) (x : ℕ) → x < length t → done (t ++ m
 unfolding one_if
 good_same t m x l d =
     good_before t m x l ∙ (ap (λ n. good t x + n) (unserved (serves_in (reference t x) m.1) (is_good m.0) (done t x) (sym (done_before t m x l) ∙ d)) ∙ omega arith)
-
 
 -- the commands behind it keep their records
 behind_kept : (c : Settings) (t : Trace) (k : Block) (y : ℕ) (A B : List ℕ) → Step c t (serving c t k y) (service_by c t k y) k y A B → map (held_of (t ++ serving c t k y ∷ [])) B ≡ map (held_of t) B

@@ -34,7 +34,8 @@ fn keep_end(untaken: &mut ArrayVec<End, 64>, report: &Report)
     ensures { untaken.new.items ≡ untaken.old.items ++ ends_reported report.now }
 {
     if let Report::Served {
-        ended: Some(end), ..
+        ended: Some(end),
+        ..
     } = report
     {
         untaken.push(*end);

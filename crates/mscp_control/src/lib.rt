@@ -8,6 +8,8 @@ mod controller;
 mod event;
 mod law;
 mod memory;
+#[cfg(test)]
+mod picking;
 mod running;
 #[cfg(test)]
 mod tests;
@@ -18,4 +20,4 @@ pub use crate::event::{Entry, Event, SendFault, Sent};
 pub use crate::law::{controllers_keep_the_promise, legal_traces_make_progress};
 pub use crate::memory::OutOfMemory;
 pub use crate::running::run;
-pub use mscp_queue::{Block, FaultStatus, Report};
+pub use mscp_queue::{Block, Choice, FaultStatus, Oldest, Picker, Report, View};

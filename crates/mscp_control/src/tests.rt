@@ -1,13 +1,15 @@
 // A controller in a program of one's own, by what the crate names at its root alone. docs/USING.md has this code.
 
-use crate::{Block, Config, Controller, Report, SendFault};
+ghost use Rattle.std.specs.Prelude.{◌≡◌, ◌+◌, length};
+
+use crate::{Block, Config, Controller, Oldest, Picker, Report, SendFault, View};
 use arrayvec::ArrayVec;
 use mscp_drive::{Unit, Units};
 use mscp_packet::{Command, MoveKind, Order, write_command};
 use std::process::Abort;
 
 /// A controller of one unit, with 1000 blocks of 512 bytes.
-fn controller(rt: &impl Abort) -> Controller {
+fn controller<K: Picker>(rt: &impl Abort, picker: K) -> Controller<K> {
     let unit = Unit::new(0, 10, 2, 1, 1000, 1, 0, 1)
         .ok()
         .expect(rt, "no size is zero");
@@ -17,7 +19,19 @@ fn controller(rt: &impl Abort) -> Controller {
     let config = Config::new(4, 2, 8, 60, 1, units)
         .ok()
         .expect(rt, "limits that a controller can keep");
-    Controller::new(config)
+    Controller::new(config, picker)
+}
+
+/// Picks the newest command that may start.
+#[derive(Drop)]
+struct Newest;
+
+impl Picker for Newest {
+    ghost picks = { λ _ view place. place + 1 ≡ length view };
+
+    fn pick(&self, view: &View) -> usize {
+        view.choices().len().saturating_sub(1)
+    }
 }
 
 /// What the port does with a message.
@@ -32,7 +46,7 @@ enum Fate {
 }
 
 /// The port got a message from the host.
-fn on_message(controller: &mut Controller, message: &[u8]) -> Fate {
+fn on_message<K: Picker>(controller: &mut Controller<K>, message: &[u8]) -> Fate {
     match controller.send(message) {
         Ok(_) => Fate::Accepted,
         Err(SendFault::NoCredit | SendFault::LastCredit) => Fate::TooMany,
@@ -41,7 +55,7 @@ fn on_message(controller: &mut Controller, message: &[u8]) -> Fate {
 }
 
 /// The drive has time for a block: which unit and block it is to touch, if there is one.
-fn on_turn(controller: &mut Controller) -> Option<(u16, u32)> {
+fn on_turn<K: Picker>(controller: &mut Controller<K>) -> Option<(u16, u32)> {
     match controller.step(Block::Good) {
         Report::Served {
             unit,
@@ -63,7 +77,7 @@ fn message(reference: u32, order: Order) -> ArrayVec<u8, 48> {
 
 #[test]
 fn a_program_holds_a_controller(rt: HostRuntime) {
-    let mut controller = controller(&rt);
+    let mut controller = controller(&rt, Oldest);
     let online = message(1, Order::Online);
     assert_eq!(rt;
         on_message(&mut controller, online.as_slice()),
@@ -88,4 +102,26 @@ fn a_program_holds_a_controller(rt: HostRuntime) {
     assert_eq!(rt; controller.figure(2), 1);
     assert_eq!(rt; on_turn(&mut controller), Some((0, 41)));
     assert_eq!(rt; controller.figure(2), 0);
+}
+
+#[test]
+fn a_picker_of_ones_own_picks(rt: HostRuntime) {
+    let mut controller = controller(&rt, Newest);
+    let online = message(1, Order::Online);
+    assert_eq!(rt;
+        on_message(&mut controller, online.as_slice()),
+        Fate::Accepted
+    );
+    assert_eq!(rt; on_turn(&mut controller), None);
+    assert!(rt; controller.take().is_some());
+    for reference in 2..4 {
+        let block = 10 * reference;
+        let read = message(reference, Order::Move(MoveKind::Read, 512, block));
+        assert_eq!(rt;
+            on_message(&mut controller, read.as_slice()),
+            Fate::Accepted
+        );
+    }
+    assert_eq!(rt; on_turn(&mut controller), Some((0, 30)));
+    assert_eq!(rt; on_turn(&mut controller), Some((0, 20)));
 }

@@ -1,7 +1,7 @@
 use super::*;
-use crate::block::FaultStatus;
 use crate::config::tests::config;
 use mscp_packet::{EndBody, MoveKind, write_command};
+use mscp_queue::{FaultStatus, Oldest};
 use std::process::Abort;
 
 fn transfer(reference: u32, count: u32, block: u32) -> Command {
@@ -20,12 +20,12 @@ fn poll(reference: u32, other: u32) -> Command {
     }
 }
 
-fn send(controller: &mut Controller, command: &Command) -> Result<Sent, SendFault> {
+fn send(controller: &mut Controller<Oldest>, command: &Command) -> Result<Sent, SendFault> {
     controller.send(write_command(command).as_slice())
 }
 
 /// Brings unit 0 online, and takes the end.
-fn bring_online(rt: &impl Abort, controller: &mut Controller) {
+fn bring_online(rt: &impl Abort, controller: &mut Controller<Oldest>) {
     let online = Command {
         reference: 900,
         unit: 0,
@@ -38,7 +38,7 @@ fn bring_online(rt: &impl Abort, controller: &mut Controller) {
 
 #[test]
 fn messages_of_a_wrong_length_change_nothing(rt: HostRuntime) {
-    let mut controller = Controller::new(config(&rt, 4, 0));
+    let mut controller = Controller::new(config(&rt, 4, 0), Oldest);
     assert_eq!(rt; controller.send(&[0; 11]), Err(SendFault::Short));
     assert_eq!(rt; controller.send(&[0; 65]), Err(SendFault::Long));
     assert_eq!(rt; controller.balance(), 4);
@@ -46,7 +46,7 @@ fn messages_of_a_wrong_length_change_nothing(rt: HostRuntime) {
 
 #[test]
 fn the_last_credit_is_kept_for_immediate_commands(rt: HostRuntime) {
-    let mut controller = Controller::new(config(&rt, 2, 2));
+    let mut controller = Controller::new(config(&rt, 2, 2), Oldest);
     let first = send(&mut controller, &transfer(1, 512, 0));
     assert_eq!(rt; first, Ok(Sent::Queued(1)));
     let second = send(&mut controller, &transfer(2, 512, 0));
@@ -71,7 +71,7 @@ fn the_last_credit_is_kept_for_immediate_commands(rt: HostRuntime) {
 
 #[test]
 fn a_bad_block_ends_its_transfer(rt: HostRuntime) {
-    let mut controller = Controller::new(config(&rt, 4, 2));
+    let mut controller = Controller::new(config(&rt, 4, 2), Oldest);
     bring_online(&rt, &mut controller);
     let sent = send(&mut controller, &transfer(1, 1024, 0));
     assert_eq!(rt; sent, Ok(Sent::Queued(1)));
@@ -99,16 +99,8 @@ fn a_bad_block_ends_its_transfer(rt: HostRuntime) {
 }
 
 #[test]
-fn a_fault_status_has_a_code_of_at_least_five(rt: HostRuntime) {
-    assert_eq!(rt; FaultStatus::new(0x0004), None);
-    assert_eq!(rt; FaultStatus::new(0x0104), None);
-    let status = FaultStatus::new(0x0105).expect(&rt, "a status");
-    assert_eq!(rt; status.get(), 0x0105);
-}
-
-#[test]
 fn a_transfer_on_an_available_unit_touches_nothing(rt: HostRuntime) {
-    let mut controller = Controller::new(config(&rt, 4, 2));
+    let mut controller = Controller::new(config(&rt, 4, 2), Oldest);
     let sent = send(&mut controller, &transfer(1, 1024, 0));
     assert_eq!(rt; sent, Ok(Sent::Queued(1)));
     let status = FaultStatus::new(0x000B).expect(&rt, "a status");

@@ -1,16 +1,18 @@
 use super::*;
-use crate::block::{Block, FaultStatus, Report};
 use crate::config::tests::config;
 use crate::event::{SendFault, Sent};
 use arrayvec::ArrayVec;
 use mscp_packet::{End, EndBody};
+use mscp_queue::{Block, FaultStatus, Oldest, Report};
 use std::process::Abort;
 
 #[test]
 fn run_finds_memory(rt: HostRuntime) {
     let config = config(&rt, 4, 2);
     let events = [Event::Take, Event::Step(Block::Good), Event::Look];
-    let entries = run(rt.alloc(), config, &events).ok().expect(&rt, "memory");
+    let entries = run(rt.alloc(), config, Oldest, &events)
+        .ok()
+        .expect(&rt, "memory");
     let wanted = [
         Entry::Taken(None),
         Entry::Stepped(Report::Idle),
@@ -50,7 +52,9 @@ fn a_short_message_costs_no_credit(rt: HostRuntime) {
         poll(&rt, 2),
         poll(&rt, 3),
     ];
-    let entries = run(rt.alloc(), config, &events).ok().expect(&rt, "memory");
+    let entries = run(rt.alloc(), config, Oldest, &events)
+        .ok()
+        .expect(&rt, "memory");
     let wanted = [
         Entry::Sent(Err(SendFault::Short)),
         answered(1),
@@ -101,7 +105,7 @@ fn a_bad_online_leaves_the_unit_available(rt: HostRuntime) {
     status[36] = 10;
     status[38] = 2;
     status[40] = 1;
-    let entries = run(rt.alloc(), config(&rt, 4, 2), &events)
+    let entries = run(rt.alloc(), config(&rt, 4, 2), Oldest, &events)
         .ok()
         .expect(&rt, "memory");
     let wanted = [
@@ -155,7 +159,7 @@ fn commands_that_are_not_valid_are_answered_at_once(rt: HostRuntime) {
     version[8] = 0x84;
     version[10] = 0x01;
     version[11] = 0x0C;
-    let entries = run(rt.alloc(), config(&rt, 5, 2), &events)
+    let entries = run(rt.alloc(), config(&rt, 5, 2), Oldest, &events)
         .ok()
         .expect(&rt, "memory");
     let wanted = [
@@ -177,7 +181,7 @@ fn a_poll_of_a_number_that_is_not_there_is_answered_by_zero(rt: HostRuntime) {
         sent(&rt, b"\x02\0\0\0\0\0\0\0\x02\0\0\0\x4d\0\0\0"),
         Event::Take,
     ];
-    let entries = run(rt.alloc(), config(&rt, 4, 2), &events)
+    let entries = run(rt.alloc(), config(&rt, 4, 2), Oldest, &events)
         .ok()
         .expect(&rt, "memory");
     let end = b"\x02\0\0\0\0\0\0\0\x82\0\0\0\x4d\0\0\0\0\0\0\0";
@@ -193,7 +197,7 @@ fn a_host_is_told_of_its_controller(rt: HostRuntime) {
     told[8] = 0x84;
     told[16] = 60;
     told[20] = 1;
-    let entries = run(rt.alloc(), config(&rt, 4, 2), &events)
+    let entries = run(rt.alloc(), config(&rt, 4, 2), Oldest, &events)
         .ok()
         .expect(&rt, "memory");
     let wanted = [answered(1), taken(&rt, &told)];
@@ -221,7 +225,7 @@ fn polls(rt: &impl Abort, alloc: Global, count: usize) -> Vec<Event> {
 #[test]
 fn a_long_run_finds_memory_at_balance_0(rt: HostRuntime) {
     let events = polls(&rt, rt.alloc(), 7000);
-    let entries = run(rt.alloc(), config(&rt, 2, 2), &events)
+    let entries = run(rt.alloc(), config(&rt, 2, 2), Oldest, &events)
         .ok()
         .expect(&rt, "memory");
     assert_eq!(rt; entries.len(), 21_001);
