@@ -8,6 +8,7 @@ use Rattle.mscp_packet.specs.declared.command.Order.TheVariants as orders
 use Rattle.mscp_packet.specs.declared.command.Command.{Command}
 use Rattle.mscp_packet.specs.Number.{num}
 use Rattle.mscp_packet.specs.Opcodes.{class}
+use Rattle.mscp_packet.specs.Statuses.{invalid_opcode, invalid_version, unit_offline}
 use Rattle.mscp_drive.specs.Shape.{Shape}
 use Rattle.mscp_drive.specs.Extent as extent
 use Rattle.mscp_queue.specs.Orders.{order_weight}
@@ -52,19 +53,19 @@ is_immediate orders.UnitStatus = true
 is_immediate (orders.SetController version) = true
 is_immediate order = false
 
--- the status that refuses a transfer to a unit that may not be configured: 0x0003 is Unit-Offline (manual)
+-- the status that refuses a transfer to a unit that may not be configured (manual)
 abbrev pub move_fault : Settings → ℕ → ℕ → Option Shape → Option ℕ
-move_fault c count block None = Some 0x0003
+move_fault c count block None = Some unit_offline
 move_fault c count block (Some unit) = extent.range_fault c.longest count block unit
 
 -- the same of another command to a unit (manual)
 abbrev pub unit_fault : Option Shape → Option ℕ
-unit_fault None = Some 0x0003
+unit_fault None = Some unit_offline
 unit_fault (Some unit) = None
 
 -- the status that refuses SET CONTROLLER CHARACTERISTICS of a version: there is version 0 alone (manual)
 abbrev pub version_fault : ℕ → Option ℕ
-version_fault version = if version == 0 then None else Some 0x0C01
+version_fault version = if version == 0 then None else Some invalid_version
 
 -- the status that refuses an order to a unit when it comes, if one does. So far ABORT is answered as an unknown
 -- opcode (manual, the order of the tests is the profile's)
@@ -77,7 +78,7 @@ order_fault c number orders.Available = unit_fault (unit_found c number)
 order_fault c number orders.Online = unit_fault (unit_found c number)
 order_fault c number orders.SetUnit = unit_fault (unit_found c number)
 order_fault c number (orders.SetController version) = version_fault version
-order_fault c number (orders.Abort other) = Some 0x0801
+order_fault c number (orders.Abort other) = Some invalid_opcode
 
 -- the same of a command (manual)
 abbrev pub fault_of : Settings → Command → Option ℕ

@@ -8,6 +8,7 @@ use Rattle.mscp_packet.specs.declared.command.Command.{Command}
 use Rattle.mscp_packet.specs.declared.command.Order.TheVariants as orders
 use Rattle.mscp_packet.specs.declared.end.End.{End}
 use Rattle.mscp_packet.specs.declared.end.EndBody.TheVariants as bodies
+use Rattle.mscp_packet.specs.Statuses.{success}
 use Rattle.mscp_control.specs.declared.event.Event.{Event}
 use Rattle.mscp_control.specs.declared.event.Entry.{Entry}
 use Rattle.mscp_control.specs.Settings.{Settings, IsValid, bound}
@@ -42,7 +43,7 @@ IsFreeStart t s = EachWaiting t (λ y. reference t y ≡ s.reference → is_free
 
 -- the end of a GET COMMAND STATUS that asks for the command of this reference number, and is told this figure (manual)
 abbrev pub poll_end : Command → ℕ → ℕ → End
-poll_end command reference figure = end_with command 0x0000 (bodies.Status reference figure)
+poll_end command reference figure = end_with command success (bodies.Status reference figure)
 
 -- where m answers a poll, the ends are those before it and one more: the poll's own, with the figure of the command
 -- that it names, 0 where none of that reference number waits (manual, "Host Command Timeouts")

@@ -8,6 +8,7 @@ use Rattle.mscp_packet.specs.declared.end.EndBody.{EndBody}
 use Rattle.mscp_packet.specs.declared.end.EndBody.TheVariants as bodies
 use Rattle.mscp_packet.specs.declared.end.End.{End}
 use Rattle.mscp_packet.specs.Ends.{refused_body}
+use Rattle.mscp_packet.specs.Statuses.{success, unit_available}
 use Rattle.mscp_drive.specs.Shape.{Shape}
 use Rattle.mscp_queue.specs.declared.block.Block.{Block}
 use Rattle.mscp_queue.specs.Orders.{endcode}
@@ -21,12 +22,16 @@ refused_end command status = end_with command status (refused_body (endcode comm
 
 -- ---- answered when it comes
 
--- the status of an answered command that isn't refused: 0x0004 is Unit-Available (manual)
-abbrev pub answer_status : Bool → Order → ℕ
-answer_status online orders.UnitStatus = if online then 0x0000 else 0x0004
-answer_status online order = 0x0000
+-- the status of a GET UNIT STATUS to a unit that may be online (profile)
+abbrev pub unit_status : Bool → ℕ
+unit_status online = if online then success else unit_available
 
--- what GET UNIT STATUS tells of a unit, in either state (manual)
+-- the status of an answered command that isn't refused (manual)
+abbrev pub answer_status : Bool → Order → ℕ
+answer_status online orders.UnitStatus = unit_status online
+answer_status online order = success
+
+-- what GET UNIT STATUS tells of a unit, in either state (manual, the same body in both is the profile's)
 abbrev pub unit_body : Shape → EndBody
 unit_body s = bodies.UnitStatus s.id s.media s.track s.group s.cylinder
 

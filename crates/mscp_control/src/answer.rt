@@ -1,19 +1,15 @@
 // The ends of commands that are answered when they come.
 
-ghost use Rattle.std.specs.Prelude.{◌≡◌, if◌then◌else◌};
+ghost use Rattle.std.specs.Prelude.{◌≡◌};
+ghost use Rattle.mscp_packet.specs.Statuses.{success};
 ghost use Rattle.mscp_queue.specs.Outcomes.{end_with};
-ghost use Rattle.mscp_control.specs.Outcomes.{controller_body, refused_end, unit_body};
+ghost use Rattle.mscp_control.specs.Outcomes.{controller_body, refused_end, unit_body, unit_status};
 
 use crate::config::Config;
 use mscp_drive::Unit;
+use mscp_packet::status::{SUCCESS, UNIT_AVAILABLE};
 use mscp_packet::{Command, End, EndBody};
 use mscp_queue::{end_with, endcode_of};
-
-/// Success.
-pub(crate) const SUCCESS: u16 = 0x0000;
-
-/// Unit-Available.
-const UNIT_AVAILABLE: u16 = 0x0004;
 
 /// The end of a command that is refused with this status.
 pub(crate) fn refused_end(command: &Command, status: u16) -> End
@@ -24,7 +20,7 @@ pub(crate) fn refused_end(command: &Command, status: u16) -> End
 
 /// The end of a GET UNIT STATUS about this unit, which may be online.
 pub(crate) fn unit_status_end(command: &Command, unit: &Unit, online: bool) -> End
-    ensures { result ≡ end_with command.now (if online then 0x0000 else 0x0004) (unit_body unit.now) }
+    ensures { result ≡ end_with command.now (unit_status online) (unit_body unit.now) }
 {
     let status = if online { SUCCESS } else { UNIT_AVAILABLE };
     let body = EndBody::UnitStatus {
@@ -39,7 +35,7 @@ pub(crate) fn unit_status_end(command: &Command, unit: &Unit, online: bool) -> E
 
 /// The end of a SET CONTROLLER CHARACTERISTICS of this controller.
 pub(crate) fn controller_end(command: &Command, config: &Config) -> End
-    ensures { result ≡ end_with command.now 0x0000 (controller_body config.now) }
+    ensures { result ≡ end_with command.now success (controller_body config.now) }
 {
     let body = EndBody::Controller {
         timeout: config.timeout(),

@@ -8,16 +8,8 @@ ghost use Rattle.mscp_control.specs.Settings.{unit_found};
 ghost use Rattle.mscp_drive.specs.Extent.{weighed, weight};
 
 use crate::config::Config;
+use mscp_packet::status::{INVALID_OPCODE, INVALID_VERSION, UNIT_OFFLINE};
 use mscp_packet::{Class, Command, Order, class_of};
-
-/// Unit-Offline: the unit isn't configured.
-const UNIT_OFFLINE: u16 = 0x0003;
-
-/// Invalid Command: the opcode.
-const UNKNOWN_OPCODE: u16 = 0x0801;
-
-/// Invalid Command: the MSCP version.
-const UNKNOWN_VERSION: u16 = 0x0C01;
 
 /// Whether a command with this opcode byte is answered without a step, so that the last credit is enough
 /// for it.
@@ -54,7 +46,7 @@ fn judge_version(version: u16) -> Result<u32, u16>
 {
     match version {
         0 => Ok(1),
-        _ => Err(UNKNOWN_VERSION),
+        _ => Err(INVALID_VERSION),
     }
 }
 
@@ -71,7 +63,7 @@ pub(crate) fn judge(config: &Config, command: &Command) -> Result<u32, u16>
             judge_unit(config, command.unit)
         }
         Order::SetController(version) => judge_version(version),
-        Order::Abort(_) => Err(UNKNOWN_OPCODE),
+        Order::Abort(_) => Err(INVALID_OPCODE),
     }
 }
 

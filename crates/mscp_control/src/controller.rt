@@ -11,12 +11,13 @@ ghost use Rattle.mscp_control.specs.Holdings.{Answers, IsBalanced, Steps, after_
 #[cfg(test)]
 mod tests;
 
-use crate::answer::{SUCCESS, controller_end, refused_end, unit_status_end};
+use crate::answer::{controller_end, refused_end, unit_status_end};
 use crate::arrival::{is_immediate, judge, may_take_last_credit};
 use crate::config::Config;
 use crate::event::{Entry, Event, SendFault, Sent};
 use arrayvec::ArrayVec;
 use mscp_drive::Units;
+use mscp_packet::status::SUCCESS;
 use mscp_packet::{Command, End, EndBody, Order, read_command, write_end};
 use mscp_queue::{Block, Picker, Queue, Report, Waiting, end_with};
 use std::marker::Model;
@@ -225,7 +226,7 @@ impl<K: Picker> Controller<K> {
         // The account is one of the settings, also where a message is refused for its size.
         let _ = &self.config;
         let command = read_command(b)?;
-        match self.credit_fault(b[8], command.reference) {
+        match self.credit_fault(command.opcode(), command.reference) {
             Some(fault) => Err(fault),
             None => Ok(self.arrive(command)),
         }

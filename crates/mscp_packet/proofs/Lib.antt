@@ -3,3 +3,4 @@ pub mod Blanks
 pub mod Commands
 pub mod Ends
 pub mod Tables
+pub mod Kept

@@ -2,7 +2,7 @@
 
 ghost use Rattle.std.specs.Prelude.{◌≡◌, ◌↔◌, ◌≤◌, ◌<◌, ◌⊎◌, length, IfOk, slice_index};
 ghost use Rattle.mscp_packet.specs.Opcodes.{least, opcode_of};
-ghost use Rattle.mscp_packet.specs.Commands.{order_with, parameters, IsCommand};
+ghost use Rattle.mscp_packet.specs.Commands.{order_with, parameters, IsCommand, opcode_byte};
 ghost use Rattle.mscp_packet.specs.Ends.{body_at, end_length, kind_of_code, IsEnd, IsUnder};
 
 use crate::class::{Opcode, opcode_of};
@@ -67,6 +67,7 @@ pub fn read_command(b: &[u8]) -> Result<Command, PacketFault>
     ensures long { (result ≡ Err PacketFault.Long) ↔ (64 < length b.now) }
     ensures command { IfOk result (λ c. IsCommand b.now c) }
     ensures only { (c : Command) → IsCommand b.now c → result ≡ Ok c }
+    ensures opcode { IfOk result (λ c. opcode_byte c.order ≡ slice_index b.now 8) }
 {
     if b.len() < 12 {
         return Err(PacketFault::Short);

@@ -1,7 +1,7 @@
 use Rattle.std.proofs.Common.{◌≡◌, ◌∙◌, ap, sym, Ok}
 use Rattle.std.specs.Prelude.{None}
 use Rattle.mscp_packet.specs.Commands.{command_of}
-use Rattle.mscp_control.specs.Arrival.{refusal}
+use Rattle.mscp_control.specs.Arrival.{credit_fault, refusal}
 use Rattle.mscp_control.specs.Holdings.{arrives, balance_of, held_unless, outstanding_of, sent_unless, taken_as}
 use Rattle.mscp_control.proofs.Judging.{command_is, taken}
 use Rattle.mscp_control.proofs.controller.Controller.send.Goals as goal
@@ -11,7 +11,8 @@ returns-in-None-clause-answer g c =
     let h = c.args.self.now in
     let b = c.args.b.now in
     let command = c.in_ok-command.command in
-    let free : refusal (balance_of h) (outstanding_of h) b ≡ None = taken (balance_of h) (outstanding_of h) b command c.in_ok-command.ensures.command (sym c.credit_fault.ensures.fault ∙ c.in-None.is) in
+    let free : refusal (balance_of h) (outstanding_of h) b ≡ None = taken (balance_of h) (outstanding_of h) b command c.in_ok-command.ensures.command
+    (ap (λ n. credit_fault (balance_of h) (outstanding_of h) n command.reference) (sym (c.opcode.ensures ∙ c.in_ok-command.ensures.opcode)) ∙ (sym c.credit_fault.ensures.fault ∙ c.in-None.is)) in
     ap Ok (c.arrive.ensures.sent ∙ ap (taken_as h.settings) (command_is b command c.in_ok-command.ensures.command))
     ∙ sym (ap (sent_unless h.settings (command_of b)) free)
 
@@ -20,6 +21,7 @@ returns-in-None-clause-after g c =
     let h = c.args.self.now in
     let b = c.args.b.now in
     let command = c.in_ok-command.command in
-    let free : refusal (balance_of h) (outstanding_of h) b ≡ None = taken (balance_of h) (outstanding_of h) b command c.in_ok-command.ensures.command (sym c.credit_fault.ensures.fault ∙ c.in-None.is) in
+    let free : refusal (balance_of h) (outstanding_of h) b ≡ None = taken (balance_of h) (outstanding_of h) b command c.in_ok-command.ensures.command
+    (ap (λ n. credit_fault (balance_of h) (outstanding_of h) n command.reference) (sym (c.opcode.ensures ∙ c.in_ok-command.ensures.opcode)) ∙ (sym c.credit_fault.ensures.fault ∙ c.in-None.is)) in
     c.arrive.ensures.after ∙ ap (arrives h) (command_is b command c.in_ok-command.ensures.command)
     ∙ sym (ap (held_unless h (command_of b)) free)
