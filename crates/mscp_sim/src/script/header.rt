@@ -1,39 +1,48 @@
 // The header of a script: each line once and in order.
 
-ghost use Rattle.std.specs.Prelude.{◌≤◌, IfErr};
+ghost use Rattle.std.specs.Prelude.{◌<◌, ◌≤◌, length, IfErr, IfOk, IfSome};
 
 use crate::script::fault::{Cause, ScriptFault};
 use crate::script::lines::Lines;
 use crate::script::words::Words;
+use arrayvec::ArrayVec;
 use mscp_control::Config;
 use mscp_drive::{Unit, Units};
 
 /// What a script's controller is known by.
 const IDENTIFIER: u64 = 1;
 
-/// The settings of a header.
+/// The most units of a script.
+const MOST_UNITS: usize = 16;
+
+/// The limits of a header.
 #[derive(Clone, Copy, Debug)]
-struct Settings {
+struct Limits {
     credits: u32,
     passing: u32,
     longest: u32,
     timeout: u16,
-    unit: Unit,
 }
 
 /// Reads the header, up to its `go`.
 pub fn read_header(lines: &mut Lines<'_>) -> Result<Config, ScriptFault>
     ensures { IfErr result (λ fault. 1 ≤ fault.line) }
 {
-    let settings = Settings {
+    let limits = Limits {
         credits: read_wide(lines, b"credits")?,
         passing: read_wide(lines, b"passing")?,
         longest: read_wide(lines, b"longest")?,
         timeout: read_narrow(lines, b"timeout")?,
-        unit: read_unit(lines)?,
     };
-    let line = lines.header_line()?;
-    ScriptFault::at(line.number, after_units(line.words, settings))
+    let mut units: ArrayVec<Unit, MOST_UNITS> = ArrayVec::new();
+    units.push(read_unit(lines)?);
+    loop {
+        let line = lines.header_line()?;
+        match ScriptFault::at(line.number, unit_or_go(line.words, units.as_slice()))? {
+            Some(unit) => units.push(unit),
+            None => return ScriptFault::at(line.number, configured(limits, units.as_slice())),
+        }
+    }
 }
 
 /// Reads the line of this word and of a number from 0 to 4294967295.
@@ -100,31 +109,44 @@ fn unit_of(words: Words<'_>) -> Result<Unit, Cause> {
     }
 }
 
-/// What a line after the unit brings: the configuration. A second unit is one too many.
-fn after_units(mut words: Words<'_>, settings: Settings) -> Result<Config, Cause> {
+/// What a line after these units brings: one more unit, or nothing where it is `go`. The words and numbers of a unit are
+/// judged before its number, which has to be above those of the units before it, and before there are too many.
+fn unit_or_go(mut words: Words<'_>, units: &[Unit]) -> Result<Option<Unit>, Cause>
+    ensures { IfOk result (λ found. IfSome found (λ _. length units.now < MOST_UNITS)) }
+{
     match words.next_word() {
         Some(b"go") => {
             words.exactly(0)?;
-            configured(settings)
+            Ok(None)
         }
         Some(b"unit") => {
-            let _unit = unit_of(words)?;
-            Err(Cause::Unit)
+            let unit = unit_of(words)?;
+            if units.len() < MOST_UNITS && follows(units, &unit) {
+                Ok(Some(unit))
+            } else {
+                Err(Cause::Unit)
+            }
         }
         _ => Err(Cause::Word),
     }
 }
 
-/// The configuration of these settings.
-fn configured(settings: Settings) -> Result<Config, Cause> {
-    let Settings {
+/// Whether the number of a unit is above that of the last one.
+fn follows(units: &[Unit], unit: &Unit) -> bool {
+    units
+        .last()
+        .is_none_or(|last| last.number() < unit.number())
+}
+
+/// The configuration of these limits and units.
+fn configured(limits: Limits, units: &[Unit]) -> Result<Config, Cause> {
+    let Limits {
         credits,
         passing,
         longest,
         timeout,
-        unit,
-    } = settings;
-    let Ok(units) = Units::new(&[unit]) else {
+    } = limits;
+    let Ok(units) = Units::new(units) else {
         return Err(Cause::Unit);
     };
     match Config::new(credits, passing, longest, timeout, IDENTIFIER, units) {

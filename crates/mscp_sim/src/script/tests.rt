@@ -127,7 +127,10 @@ fn tells_the_fault_of_a_unit_or_of_limits(rt: HostRuntime) {
         ("unit 0 10 2 1 1000\n", "line 6: header"),
         ("unit 0 10 2 1 1000\ngo now\n", "line 6: count"),
         ("unit 0 10 2 1 1000\ntake\n", "line 6: word"),
-        ("unit 0 10 2 1 1000\nunit 1 10 2 1 1000\n", "line 6: unit"),
+        ("unit 0 10 2 1 1000\nunit 1 10 2 1 1000\n", "line 7: header"),
+        ("unit 1 10 2 1 1000\nunit 1 10 2 1 1000\n", "line 6: unit"),
+        ("unit 1 10 2 1 1000\nunit 0 10 2 1 1000\n", "line 6: unit"),
+        ("unit 0 10 2 1 1000\nunit 1 10 2 1 0\n", "line 6: unit"),
         ("unit 0 10 2 1 1000\nunit 1 10 2 1\n", "line 6: count"),
         (
             "unit 0 10 2 1 1000\nunit 1 65536 2 1 1000\n",
@@ -153,6 +156,53 @@ fn tells_the_fault_of_a_unit_or_of_limits(rt: HostRuntime) {
         let found = fault_text(&rt, rt.alloc(), all.as_bytes());
         assert_eq!(rt; found.as_str(), "line 6: config", "of {text:?}");
     }
+}
+
+/// A header of sixteen units, up to its `go`.
+const SIXTEEN_UNITS: &str = "credits 4
+passing 2
+longest 8
+timeout 60
+unit 0 10 2 1 1000
+unit 1 10 2 1 1000
+unit 2 10 2 1 1000
+unit 3 10 2 1 1000
+unit 4 10 2 1 1000
+unit 5 10 2 1 1000
+unit 6 10 2 1 1000
+unit 7 10 2 1 1000
+unit 8 10 2 1 1000
+unit 9 10 2 1 1000
+unit 10 10 2 1 1000
+unit 11 10 2 1 1000
+unit 12 10 2 1 1000
+unit 13 10 2 1 1000
+unit 14 10 2 1 1000
+unit 15 10 2 1 1000
+";
+
+#[test]
+fn takes_sixteen_units(rt: HostRuntime) -> Result<(), Fail> {
+    let all = joined(&rt, rt.alloc(), &[SIXTEEN_UNITS, "go\nlook\n"]);
+    let script = read_script(rt.alloc(), all.as_bytes())?;
+    let units = script.config.units().list();
+    assert_eq!(rt; units.len(), 16);
+    assert_eq!(rt; units[15].number(), 15);
+    assert_eq!(rt; units[15].id(), 16);
+    assert_eq!(rt; script.events.as_slice(), [Event::Look].as_slice());
+    let cases = [
+        ("unit 16 10 2 1 1000\n", "line 21: unit"),
+        ("unit 16 10 2 1\n", "line 21: count"),
+        ("unit x 10 2 1 1000\n", "line 21: number"),
+        ("go now\n", "line 21: count"),
+        ("take\n", "line 21: word"),
+    ];
+    for (text, wanted) in cases {
+        let all = joined(&rt, rt.alloc(), &[SIXTEEN_UNITS, text]);
+        let found = fault_text(&rt, rt.alloc(), all.as_bytes());
+        assert_eq!(rt; found.as_str(), wanted, "of {text:?}");
+    }
+    Ok(())
 }
 
 #[test]
