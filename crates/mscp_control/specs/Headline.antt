@@ -1,8 +1,8 @@
--- The promise of a run, whole: for every configuration and list of events, `run` answers a legal trace: untaken
--- and waiting commands never exceed C, none passes a sequential command of its unit, none is passed more than P
--- times; every waiting command's status figure falls at each step, never rises between steps, and each queued
--- command ends within (C - 1 + P) * L steps. C is the number of credits, P the passing limit and L the longest
--- transfer. No picker is handed in so far.
+-- The promise of a run, whole: for every configuration, picker and list of events, `run` answers a legal trace: untaken
+-- ends and waiting commands never exceed C, none passes a sequential command of its unit, none is passed more than P
+-- times; every waiting command's status figure falls at each step, never rises between steps, and each queued command
+-- ends within (C - 1 + P) * L steps. C is the number of credits, P the passing limit and L the longest transfer. Nothing
+-- here names a picker: whatever it picks of what may start, the promise holds.
 use Rattle.std.specs.Prelude.{◌≡◌, ◌↔◌, ℕ, ◌+◌, ◌<◌, ◌≤◌, true, List, [], ◌∷◌, ◌++◌, length, take, zip, Contains}
 use Rattle.mscp_packet.specs.declared.command.Command.{Command}
 use Rattle.mscp_packet.specs.declared.command.Order.TheVariants as orders

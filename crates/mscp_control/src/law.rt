@@ -5,8 +5,8 @@ ghost use Rattle.mscp_control.specs.Headline.{LegalTracesMakeProgress};
 
 use mscp_queue::Picker;
 
-/// Every legal trace of a valid configuration, whoever answered it, keeps the promise: untaken and waiting
-/// commands never exceed the credits, no start passes a sequential command of its unit, a sequential command
+/// Every legal trace of a valid configuration, whoever answered it, keeps the promise: untaken ends and
+/// waiting commands never exceed the credits, no start passes a sequential command of its unit, a sequential command
 /// passes none of its unit, and no command is passed more often than the passing limit. Every waiting
 /// command's figure falls at each step and never rises between steps, is at least 1 exactly while the command
 /// waits, at most the bound, and what the end of a poll of the command tells; and each command ends within so many
@@ -17,8 +17,8 @@ pub fn legal_traces_make_progress()
 
 /// The answers of a controller over this picker, one after the other from the first on, whoever calls it, are a legal
 /// trace, with all that is promised of one, and each start is one that the picker may pick. The figures and the balance
-/// that it tells are always those of that trace, and so are the states and the heads of its units. (A message of over 64
-/// bytes is in no trace: it is refused, and changes nothing.)
+/// that it tells are always those of that trace, and so are the states and the heads of its units. (An `Event` has room
+/// for 64 bytes: a longer message is in no list of events. It is refused, and changes nothing.)
 pub fn controllers_keep_the_promise<K: Picker>(picker: &K)
     ensures { ControllersKeepThePromise (K.picks picker.now) picker.now }
 {

@@ -5,6 +5,7 @@ use Rattle.mscp_packet.specs.declared.command.Order.{Order}
 use Rattle.mscp_packet.specs.declared.command.Order.TheVariants as orders
 use Rattle.mscp_packet.specs.Opcodes.{class}
 use Rattle.mscp_packet.specs.Commands.{opcode_byte}
+use Rattle.mscp_packet.specs.Statuses.{invalid_opcode}
 use Rattle.mscp_drive.specs.Extent as extent
 
 -- how many steps an order takes: one for each block of a transfer, and at least one (profile)
@@ -36,6 +37,6 @@ first_block order = 0
 -- the endcode: the opcode with the top bit set. An opcode that is unknown, or isn't served so far, has that
 -- bit alone (manual, the latter is the profile's)
 abbrev pub endcode : Order → ℕ
-endcode (orders.Invalid opcode status) = if status == 0x0801 then 0x80 else bit_or opcode 0x80
+endcode (orders.Invalid opcode status) = if status == invalid_opcode then 0x80 else bit_or opcode 0x80
 endcode (orders.Abort other) = 0x80
 endcode order = bit_or (opcode_byte order) 0x80

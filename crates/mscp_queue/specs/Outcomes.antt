@@ -8,6 +8,7 @@ use Rattle.mscp_packet.specs.declared.end.EndBody.{EndBody}
 use Rattle.mscp_packet.specs.declared.end.EndBody.TheVariants as bodies
 use Rattle.mscp_packet.specs.declared.end.End.{End}
 use Rattle.mscp_packet.specs.Ends.{refused_body}
+use Rattle.mscp_packet.specs.Statuses.{success, already_online, aborted, unit_available}
 use Rattle.mscp_drive.specs.Shape.{Shape}
 use Rattle.mscp_drive.specs.Heads.{carried, moved}
 use Rattle.mscp_drive.specs.declared.head.Head.{Head}
@@ -41,16 +42,15 @@ block_touched online order done = if touches online order then Some (first_block
 abbrev pub goes_on : Bool → Order → Block → ℕ → Bool
 goes_on online order k left = touches online order && is_good_block k && nat_lt 1 left
 
--- the status of a command that a good step ends, and whose unit may be online: 0x0100 is Success, already
--- online, and 0x0004 Unit-Available (manual)
+-- the status of a command that a good step ends, and whose unit may be online (manual)
 abbrev pub good_status : Bool → Order → ℕ
-good_status online (orders.Move kind count block) = if online then 0x0000 else 0x0004
-good_status online orders.Online = if online then 0x0100 else 0x0000
-good_status online order = 0x0000
+good_status online (orders.Move kind count block) = if online then success else unit_available
+good_status online orders.Online = if online then already_online else success
+good_status online order = success
 
 -- the same where the block is bad: a transfer on an available unit never gets to it (manual)
 abbrev pub bad_status : Bool → ℕ → Order → ℕ
-bad_status online status (orders.Move kind count block) = if online then status else 0x0004
+bad_status online status (orders.Move kind count block) = if online then status else unit_available
 bad_status online status order = status
 
 -- the status of a command that the step ends (manual)
@@ -78,7 +78,8 @@ outcome_body s status order good = moved_body order good
 abbrev pub outcome_at : Shape → Bool → Command → ℕ → Block → End
 outcome_at s online command good k =
     end_with command (outcome_status online command.order k)
-    (outcome_body s (outcome_status online command.order k) command.order (good + cond (touches online command.order && is_good_block k) 1 0))
+    (outcome_body s (outcome_status online command.order k) command.order
+      (good + cond (touches online command.order && is_good_block k) 1 0))
 
 -- ---- what a step changes of its unit
 
@@ -98,4 +99,4 @@ head_after false (Some k) h = carried h k
 
 -- the end of a waiting command that is aborted when so many of its blocks were good (manual)
 abbrev pub aborted_end : Command → ℕ → End
-aborted_end command good = end_with command 0x0002 (moved_body command.order good)
+aborted_end command good = end_with command aborted (moved_body command.order good)

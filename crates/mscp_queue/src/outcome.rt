@@ -6,16 +6,8 @@ ghost use Rattle.mscp_queue.specs.Outcomes.{bad_status, end_with, good_status, i
 
 use crate::block::Block;
 use mscp_drive::Unit;
+use mscp_packet::status::{ALREADY_ONLINE, INVALID_OPCODE, SUCCESS, UNIT_AVAILABLE};
 use mscp_packet::{Command, End, EndBody, Order};
-
-/// Success, of which there is a sub-code too.
-const SUCCESS: u16 = 0x0000;
-
-/// Success: the unit was online already.
-const ALREADY_ONLINE: u16 = 0x0100;
-
-/// Unit-Available.
-const UNIT_AVAILABLE: u16 = 0x0004;
 
 /// The bytes of a block.
 const BLOCK_BYTES: u64 = 512;
@@ -26,7 +18,7 @@ pub fn endcode_of(command: &Command) -> u8
     ensures { result ≡ endcode command.now.order }
 {
     match command.order {
-        Order::Invalid { status: 0x0801, .. } => 0x80,
+        Order::Invalid { status: INVALID_OPCODE, .. } => 0x80,
         Order::Abort(_) => 0x80,
         _ => command.opcode() | 0x80,
     }
