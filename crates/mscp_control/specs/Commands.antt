@@ -8,6 +8,7 @@ use Rattle.mscp_packet.specs.Commands.{command_of}
 use Rattle.mscp_control.specs.declared.event.Entry.{Entry}
 use Rattle.mscp_control.specs.declared.event.Entry.TheVariants as entries
 use Rattle.mscp_control.specs.declared.event.Sent.TheVariants as sents
+use Rattle.mscp_queue.specs.Names.{Name, name_of, same_name}
 use Rattle.mscp_queue.specs.Orders.{order_weight}
 use Rattle.mscp_control.specs.History.{Moment, Trace, moment, positions, sent_bytes, is_step, is_good, queues, Service, service_in}
 
@@ -25,6 +26,10 @@ command t x = command_of (sent_bytes (moment t x).0)
 abbrev pub reference : Trace → ℕ → ℕ
 reference t x = (command t x).reference
 
+-- its name, which tells it from the others that wait (manual)
+abbrev pub name : Trace → ℕ → Name
+name t x = name_of (command t x)
+
 -- its unit (manual)
 abbrev pub unit : Trace → ℕ → ℕ
 unit t x = (command t x).unit
@@ -37,47 +42,51 @@ order t x = (command t x).order
 abbrev pub weight : Trace → ℕ → ℕ
 weight t x = order_weight (order t x)
 
--- ---- what an entry says of the command of a reference
+-- ---- what an entry says of the command of a name
 
--- the service is of this reference (profile)
-abbrev pub service_is : ℕ → Option Service → Bool
-service_is r None = false
-service_is r (Some s) = nat_eq s.reference r
+-- the name of the command that was served
+abbrev pub service_name : Service → Name
+service_name s = s.reference
 
--- the service is the last of this reference (profile)
-abbrev pub service_ends : ℕ → Option Service → Bool
-service_ends r None = false
-service_ends r (Some s) = nat_eq s.reference r && is_some s.ended
+-- the service is of the command of this name (profile)
+abbrev pub service_is : Name → Option Service → Bool
+service_is n None = false
+service_is n (Some s) = same_name (service_name s) n
 
--- the service is the first of this reference (profile)
-abbrev pub service_starts : ℕ → Option Service → Bool
-service_starts r None = false
-service_starts r (Some s) = nat_eq s.reference r && s.started
+-- the service is the last of the command of this name (profile)
+abbrev pub service_ends : Name → Option Service → Bool
+service_ends n None = false
+service_ends n (Some s) = same_name (service_name s) n && is_some s.ended
 
--- the message that was answered aborted this reference (manual)
-abbrev pub aborts : ℕ → Entry → Bool
-aborts r (entries.Sent (Ok (sents.Answered reference (Some other)))) = nat_eq other r
-aborts r entry = false
+-- the service is the first of the command of this name (profile)
+abbrev pub service_starts : Name → Option Service → Bool
+service_starts n None = false
+service_starts n (Some s) = same_name (service_name s) n && s.started
 
--- the command of this reference is served (profile)
-abbrev pub serves_in : ℕ → Entry → Bool
-serves_in r entry = service_is r (service_in entry)
+-- the message that was answered aborted the command of this name (manual)
+abbrev pub aborts : Name → Entry → Bool
+aborts n (entries.Sent (Ok (sents.Answered reference (Some other)))) = same_name other n
+aborts n entry = false
 
--- the command of this reference starts (profile)
-abbrev pub starts_in : ℕ → Entry → Bool
-starts_in r entry = service_starts r (service_in entry)
+-- the command of this name is served (profile)
+abbrev pub serves_in : Name → Entry → Bool
+serves_in n entry = service_is n (service_in entry)
 
--- the command of this reference ends, by a step or by an abort (manual)
-abbrev pub ends_in : ℕ → Entry → Bool
-ends_in r (entries.Stepped report) = service_ends r (service_in (entries.Stepped report))
-ends_in r (entries.Sent sent) = aborts r (entries.Sent sent)
-ends_in r entry = false
+-- the command of this name starts (profile)
+abbrev pub starts_in : Name → Entry → Bool
+starts_in n entry = service_starts n (service_in entry)
+
+-- the command of this name ends, by a step or by an abort (manual)
+abbrev pub ends_in : Name → Entry → Bool
+ends_in n (entries.Stepped report) = service_ends n (service_in (entries.Stepped report))
+ends_in n (entries.Sent sent) = aborts n (entries.Sent sent)
+ends_in n entry = false
 
 -- ---- who waits
 
 -- x was queued, and nothing after it has ended it (manual)
 unfoldable pub is_waiting : Trace → ℕ → Bool
-is_waiting t x = queues (moment t x).1 && not (list_any (λ m. ends_in (reference t x) m.1) (drop (x + 1) t))
+is_waiting t x = queues (moment t x).1 && not (list_any (λ m. ends_in (name t x) m.1) (drop (x + 1) t))
 
 -- the commands that wait, in the order in which they came (manual)
 unfoldable pub waiting : Trace → List ℕ
@@ -95,11 +104,11 @@ later t x = filter (λ y. nat_lt x y) (waiting t)
 
 -- how often x was served (profile)
 unfoldable pub done : Trace → ℕ → ℕ
-done t x = count_by (λ m. serves_in (reference t x) m.1) (drop (x + 1) t)
+done t x = count_by (λ m. serves_in (name t x) m.1) (drop (x + 1) t)
 
 -- how often x was served and its block was good (profile)
 unfoldable pub good : Trace → ℕ → ℕ
-good t x = count_by (λ m. serves_in (reference t x) m.1 && is_good m.0) (drop (x + 1) t)
+good t x = count_by (λ m. serves_in (name t x) m.1 && is_good m.0) (drop (x + 1) t)
 
 -- how many steps are left of x (profile)
 abbrev pub left : Trace → ℕ → ℕ

@@ -5,19 +5,20 @@ use Rattle.mscp_packet.specs.Commands.{command_of}
 use Rattle.mscp_control.specs.declared.event.SendFault.{SendFault}
 use Rattle.mscp_control.specs.declared.event.Sent.{Sent}
 use Rattle.mscp_control.specs.declared.event.Sent.TheVariants.{Queued, Answered}
+use Rattle.mscp_queue.specs.Names.{Name, end_name}
 use Rattle.mscp_control.specs.Settings.{Settings}
 use Rattle.mscp_control.specs.Arrival.{refusal, is_queued}
 use Rattle.mscp_control.specs.History.{Trace}
-use Rattle.mscp_control.specs.Commands.{reference, waiting}
+use Rattle.mscp_control.specs.Commands.{reference, name, waiting}
 use Rattle.mscp_control.specs.Ends.{aborted, untaken}
 
 -- the credits that are free (manual)
 unfoldable pub balance : Settings → Trace → ℕ
 balance c t = c.credits - length (waiting t) - length (untaken c t)
 
--- the reference numbers of commands that wait or whose ends weren't taken (manual)
-unfoldable pub outstanding : Settings → Trace → List ℕ
-outstanding c t = map (reference t) (waiting t) ++ map (λ e. e.reference) (untaken c t)
+-- the names of the commands that wait or whose ends weren't taken (manual)
+unfoldable pub outstanding : Settings → Trace → List Name
+outstanding c t = map (name t) (waiting t) ++ map end_name (untaken c t)
 
 -- the reference number of the waiting command that a message aborts, if it aborts one (manual)
 abbrev pub aborted_reference : Settings → Trace → Command → Option ℕ

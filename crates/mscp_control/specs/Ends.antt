@@ -1,5 +1,5 @@
 -- The ends that a run makes, with their contents.
-use Rattle.std.specs.Prelude.{ℕ, nat_eq, if◌then◌else◌, List, [], ◌∷◌, ◌++◌, drop, map, filter, count_by, Option, Some, None, option_to_list}
+use Rattle.std.specs.Prelude.{ℕ, if◌then◌else◌, List, [], ◌∷◌, ◌++◌, drop, map, filter, count_by, Option, Some, None, option_to_list}
 use Rattle.mscp_packet.specs.declared.command.Order.{Order}
 use Rattle.mscp_packet.specs.declared.command.Order.TheVariants as orders
 use Rattle.mscp_packet.specs.declared.command.Command.{Command}
@@ -10,8 +10,9 @@ use Rattle.mscp_control.specs.Settings.{Settings}
 use Rattle.mscp_control.specs.Arrival.{fault_of}
 use Rattle.mscp_control.specs.Outcomes.{own_end, outcome_of}
 use Rattle.mscp_queue.specs.Outcomes.{aborted_end}
+use Rattle.mscp_queue.specs.Names.{same_name}
 use Rattle.mscp_control.specs.History.{Moment, Trace, collect, sent_bytes, answers, takes, Service, service_in}
-use Rattle.mscp_control.specs.Commands.{command, reference, unit, waiting, good}
+use Rattle.mscp_control.specs.Commands.{command, name, unit, waiting, good}
 use Rattle.mscp_control.specs.Figures.{figure_of}
 use Rattle.mscp_control.specs.Units.{is_online}
 
@@ -24,7 +25,7 @@ figure_asked c t order = 0
 
 -- the waiting commands that an order names to be aborted (manual)
 abbrev pub named : Trace → Order → List ℕ
-named t (orders.Abort other) = filter (λ x. nat_eq (reference t x) other) (waiting t)
+named t (orders.Abort other) = filter (λ x. same_name (name t x) other) (waiting t)
 named t order = []
 
 -- the same of an order that is refused with this status, or isn't: what is refused aborts nothing (manual)

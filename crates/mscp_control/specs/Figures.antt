@@ -1,8 +1,9 @@
 -- The figure of a command: how many steps it may still wait, at most.
-use Rattle.std.specs.Prelude.{ℕ, ◌+◌, ◌-◌, ◌*◌, cond, nat_eq, filter, find, sum_by, Option, Some, None}
+use Rattle.std.specs.Prelude.{ℕ, ◌+◌, ◌-◌, ◌*◌, cond, filter, find, sum_by, Option, Some, None}
+use Rattle.mscp_queue.specs.Names.{Name, same_name}
 use Rattle.mscp_control.specs.Settings.{Settings}
 use Rattle.mscp_control.specs.History.{Trace}
-use Rattle.mscp_control.specs.Commands.{reference, is_waiting, waiting, left, in_service, earlier, later}
+use Rattle.mscp_control.specs.Commands.{name, is_waiting, waiting, left, in_service, earlier, later}
 use Rattle.mscp_control.specs.Passing.{passes}
 
 -- 0 where x doesn't wait, and its own steps alone where it is in service. Else also what is left of all
@@ -20,6 +21,6 @@ abbrev pub figure_found : Settings → Trace → Option ℕ → ℕ
 figure_found c t None = 0
 figure_found c t (Some x) = figure c t x
 
--- the figure of the waiting command of a reference, 0 if there is none (profile)
-unfoldable pub figure_of : Settings → Trace → ℕ → ℕ
-figure_of c t r = figure_found c t (find (λ x. nat_eq (reference t x) r) (waiting t))
+-- the figure of the waiting command of a name, 0 if there is none (profile)
+unfoldable pub figure_of : Settings → Trace → Name → ℕ
+figure_of c t n = figure_found c t (find (λ x. same_name (name t x) n) (waiting t))

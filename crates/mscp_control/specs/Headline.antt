@@ -14,7 +14,7 @@ use Rattle.mscp_control.specs.declared.event.Entry.{Entry}
 use Rattle.mscp_control.specs.Settings.{Settings, IsValid, bound}
 use Rattle.mscp_queue.specs.Outcomes.{end_with}
 use Rattle.mscp_control.specs.History.{Moment, Trace, moment, answers, is_step, Service, service_in, WhenStarted}
-use Rattle.mscp_control.specs.Commands.{reference, sent_command, waiting, steps_after}
+use Rattle.mscp_control.specs.Commands.{name, service_name, sent_command, waiting, steps_after}
 use Rattle.mscp_control.specs.Passing.{is_free, passes}
 use Rattle.mscp_control.specs.Figures.{figure, figure_of}
 use Rattle.mscp_control.specs.Ends.{ends, untaken}
@@ -36,10 +36,10 @@ EachWaiting t R = (x : ℕ) → Contains (waiting t) x → R x
 
 -- ---- starts and polls
 
--- the waiting command of the reference number that is served stays behind no other (manual, "Command Categories and
+-- the waiting command of the name that is served stays behind no other (manual, "Command Categories and
 -- Execution Order")
 abbrev pub IsFreeStart : Trace → Service → Type 0
-IsFreeStart t s = EachWaiting t (λ y. reference t y ≡ s.reference → is_free t y ≡ true)
+IsFreeStart t s = EachWaiting t (λ y. name t y ≡ service_name s → is_free t y ≡ true)
 
 -- the end of a GET COMMAND STATUS that asks for the command of this reference number, and is told this figure (manual)
 abbrev pub poll_end : Command → ℕ → ℕ → End
@@ -73,8 +73,8 @@ pub record Promise (c : Settings) (t : Trace) : Type 0 where
   pub positive : Always t (λ s. (x : ℕ) → Contains (waiting s) x ↔ (1 ≤ figure c s x))
   -- and at most the bound (profile)
   pub small : Always t (λ s. (x : ℕ) → figure c s x ≤ bound c)
-  -- the figure of a waiting command's reference number is the command's own (profile)
-  pub own : Always t (λ s. EachWaiting s (λ x. figure_of c s (reference s x) ≡ figure c s x))
+  -- the figure that is found for a waiting command's name is the command's own (profile)
+  pub own : Always t (λ s. EachWaiting s (λ x. figure_of c s (name s x) ≡ figure c s x))
   -- each poll that is answered is told the figure of the command that it names (manual, "Host Command Timeouts")
   pub polled : AtEach t (TellsFigure c)
 

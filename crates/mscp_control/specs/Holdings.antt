@@ -1,6 +1,6 @@
 -- What a controller holds, and how each event changes it. Its queue is a list of records in order of arrival, and each
 -- unit has a drive.
-use Rattle.std.specs.Prelude.{◌≡◌, ℕ, ◌+◌, ◌-◌, Bool, true, false, if◌then◌else◌, List, [], ◌∷◌, ◌++◌, length, map, drop, slice_get, Option, Some, None, option_map, option_to_list, Result, Ok, Err}
+use Rattle.std.specs.Prelude.{◌≡◌, ℕ, ◌+◌, ◌-◌, if◌then◌else◌, List, [], ◌∷◌, ◌++◌, length, map, drop, slice_get, Option, Some, None, option_map, option_to_list, Result, Ok, Err}
 use Rattle.arrayvec.specs.ArrayVec.{ArrayVec}
 use Rattle.mscp_packet.specs.declared.command.Order.{Order}
 use Rattle.mscp_packet.specs.declared.command.Order.TheVariants as orders
@@ -15,6 +15,8 @@ use Rattle.mscp_queue.specs.declared.drive.Drive.{Drive}
 use Rattle.mscp_queue.specs.declared.view.Choice.{Choice}
 use Rattle.mscp_queue.specs.Drives.{drive_of, fresh_drive}
 use Rattle.mscp_queue.specs.Records.{Record, fresh_record}
+use Rattle.mscp_queue.specs.Names.{Name, end_name}
+use Rattle.mscp_queue.specs.Kept.{names}
 use Rattle.mscp_queue.specs.Figures.{figure_of_reference, figures}
 use Rattle.mscp_queue.specs.Lines.{Line, Serves}
 use Rattle.mscp_control.specs.declared.event.SendFault.{SendFault}
@@ -63,9 +65,9 @@ balance_of h = h.settings.credits - (length h.waiting + length h.untaken)
 abbrev pub IsBalanced : {K : Type 0} → Holdings K → Type 0
 IsBalanced h = balance_of h + length h.waiting + length h.untaken ≡ h.settings.credits
 
--- the reference numbers that wait or whose ends weren't taken (manual)
-abbrev pub outstanding_of : {K : Type 0} → Holdings K → List ℕ
-outstanding_of h = map (λ r. r.command.reference) h.waiting ++ map (λ e. e.reference) h.untaken
+-- the names of the commands that wait or whose ends weren't taken (manual)
+abbrev pub outstanding_of : {K : Type 0} → Holdings K → List Name
+outstanding_of h = names h.waiting ++ map end_name h.untaken
 
 -- ---- a message
 

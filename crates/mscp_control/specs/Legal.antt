@@ -16,7 +16,7 @@ use Rattle.mscp_queue.specs.Orders.{order_class}
 use Rattle.mscp_control.specs.Settings.{Settings, unit_shape}
 use Rattle.mscp_queue.specs.Outcomes.{block_touched, goes_on}
 use Rattle.mscp_control.specs.History.{Trace, moment, Service, service_in, WhenStarted}
-use Rattle.mscp_control.specs.Commands.{reference, unit, order, is_waiting, waiting, done, left, in_service}
+use Rattle.mscp_control.specs.Commands.{reference, name, service_name, unit, order, is_waiting, waiting, done, left, in_service}
 use Rattle.mscp_control.specs.Passing.{is_startable, startable}
 use Rattle.mscp_control.specs.Figures.{figure}
 use Rattle.mscp_control.specs.Units.{is_online, head_cylinder}
@@ -90,7 +90,7 @@ view c t = map (choice t) (startable c t)
 -- the service is of a command that stands in the view at a place that the picker's relation allows (profile)
 abbrev pub IsPick : Settings → (List Choice → ℕ → Type 0) → Trace → Service → Type 0
 IsPick c picks t s =
-    (place : ℕ) × (place < length (startable c t)) × (reference t (slice_index_or (startable c t) place 0) ≡ s.reference)
+    (place : ℕ) × (place < length (startable c t)) × (name t (slice_index_or (startable c t) place 0) ≡ service_name s)
     × picks (view c t) place
 
 -- each command that starts is one that the picker may pick, of those that may start then (profile)

@@ -4,7 +4,7 @@ use Rattle.std.specs.List.{list_all}
 use Rattle.mscp_control.specs.Settings.{Settings}
 use Rattle.mscp_queue.specs.Orders.{is_sequential}
 use Rattle.mscp_control.specs.History.{Moment, Trace, moment, positions}
-use Rattle.mscp_control.specs.Commands.{unit, order, reference, is_waiting, waiting, done, is_idle, earlier, later, starts_in}
+use Rattle.mscp_control.specs.Commands.{unit, order, name, is_waiting, waiting, done, is_idle, earlier, later, starts_in}
 
 -- what the start of y costs each earlier command that waits: one pass (profile)
 abbrev pub toll : Trace → ℕ → ℕ
@@ -16,7 +16,7 @@ is_unstarted t x = nat_lt x (length t) && is_waiting t x && nat_eq (done t x) 0
 
 -- how often x is passed by the moment m, which comes after t: the toll of the later command that starts (profile)
 unfoldable pub passes_at : Trace → Moment → ℕ → ℕ
-passes_at t m x = cond (is_unstarted t x) (sum_by (toll t) (filter (λ y. starts_in (reference t y) m.1) (later t x))) 0
+passes_at t m x = cond (is_unstarted t x) (sum_by (toll t) (filter (λ y. starts_in (name t y) m.1) (later t x))) 0
 
 -- how often x was passed (profile)
 unfoldable pub passes : Trace → ℕ → ℕ

@@ -6,9 +6,10 @@ use Rattle.mscp_packet.specs.declared.end.End.{End}
 use Rattle.mscp_drive.specs.Shape.{Shape, cylinder_of}
 use Rattle.mscp_drive.specs.declared.head.Head.{Head}
 use Rattle.mscp_control.specs.Settings.{Settings, unit_shape}
+use Rattle.mscp_queue.specs.Names.{Name, same_name}
 use Rattle.mscp_queue.specs.Outcomes.{is_success}
 use Rattle.mscp_control.specs.History.{Moment, Trace, collect, last_or, Service, service_in}
-use Rattle.mscp_control.specs.Commands.{reference, unit, order, waiting}
+use Rattle.mscp_control.specs.Commands.{name, service_name, unit, order, waiting}
 
 -- ---- states
 
@@ -24,15 +25,16 @@ abbrev pub states_ended : Order → Option End → List Bool
 states_ended order None = []
 states_ended order (Some e) = states_given order e.status
 
--- the same where this service is one of the command of reference r (manual)
-abbrev pub states_served : ℕ → Order → Option Service → List Bool
-states_served r order None = []
-states_served r order (Some s) = if nat_eq s.reference r then states_ended order s.ended else []
+-- the same where this service is one of the command of this name (manual)
+abbrev pub states_served : Name → Order → Option Service → List Bool
+states_served n order None = []
+states_served n order (Some s) = if same_name (service_name s) n then states_ended order s.ended else []
 
 -- the state that the moment m, which comes after t, gives to the unit of this number, by a step that ends
 -- one of its commands (manual)
 abbrev pub states_at : ℕ → Trace → Moment → List Bool
-states_at u t m = flat_map (λ x. if nat_eq (unit t x) u then states_served (reference t x) (order t x) (service_in m.1) else []) (waiting t)
+states_at u t m =
+    flat_map (λ x. if nat_eq (unit t x) u then states_served (name t x) (order t x) (service_in m.1) else []) (waiting t)
 
 -- the unit of this number is online: the last ONLINE or AVAILABLE of the unit that a step ended well was an
 -- ONLINE. At first it is available (manual)

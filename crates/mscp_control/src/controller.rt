@@ -116,7 +116,7 @@ impl<K: Picker> Controller<K> {
     }
 
     /// Whether a command with the reference number waits, or has an end that wasn't taken.
-    #[tactic(auto, using(crate::proofs::Judging::holds_either))]
+    #[tactic(auto, using(crate::proofs::Bridge::Judging::holds_either))]
     fn is_outstanding(&self, reference: u32) -> bool
         ensures { result ≡ holds (outstanding_of self.now) reference }
     {

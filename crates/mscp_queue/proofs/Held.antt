@@ -12,7 +12,7 @@ use Rattle.mscp_drive.specs.Shape.{Shape}
 use Rattle.mscp_drive.specs.UnitList.{IsUnitList}
 use Rattle.mscp_queue.specs.declared.drive.Drive.{Drive}
 use Rattle.mscp_queue.specs.Drives.{IsOnUnit, fresh_drive, has_number, replaced}
-use Rattle.mscp_queue.specs.Kept.{AreApart, IsHeld, IsKept, IsWaitable, references, units_of}
+use Rattle.mscp_queue.specs.Kept.{AreApart, IsHeld, IsKept, IsWaitable, names, units_of}
 use Rattle.mscp_queue.specs.Orders.{order_weight}
 use Rattle.mscp_queue.specs.Records.{Record, advanced, fresh_record, has_reference, is_in_service, passed_by}
 use Rattle.mscp_queue.proofs.Lists.{every_append, every_parts}
@@ -38,7 +38,7 @@ held_fresh room passing longest us rs ds a b c d e u n f =
       small = omega arith;
       fits = omega (arith, ap length n);
       each = subst (All (IsKept passing longest (units_of ds))) (sym n) (All-nil (IsKept passing longest (units_of ds)));
-      apart = subst (λ rs. AreApart (references rs)) (sym n) tt;
+      apart = subst (λ rs. AreApart (names rs)) (sym n) tt;
       one = subst (λ rs. length (filter is_in_service rs) ≤ 1) (sym n) (omega arith);
       units = subst IsUnitList (sym (ap units_of f ∙ units_fresh us)) u;
       heads = subst (All IsOnUnit) (sym f) (All-from_recursion IsOnUnit (map fresh_drive us) (heads_fresh us));
@@ -68,7 +68,7 @@ or_parts : (a b : Bool) → (a || b) ≡ false → (a ≡ false) × (b ≡ false
 or_parts true b h = absurd (true≢false h)
 or_parts false b h = (refl, h)
 
-none_has : (reference : ℕ) (rs : List Record) → list_any (has_reference reference) rs ≡ false → AllByRecursion (λ y. reference ≢ y) (references rs)
+none_has : (reference : ℕ) (rs : List Record) → list_any (has_reference reference) rs ≡ false → AllByRecursion (λ y. reference ≢ y) (names rs)
 none_has reference [] h = tt
 none_has reference (r ∷ rs) h =
     let p = or_parts (has_reference reference r) (list_any (has_reference reference) rs) h in
@@ -81,7 +81,7 @@ held_pushed room passing longest rs new ds c h l w n e =
     let r = fresh_record c in
     let kept : All K (rs ++ r ∷ []) =
     All-from_recursion K (rs ++ r ∷ []) (every_append K rs (r ∷ []) (recursion_from_All K rs h.each) (fresh_kept passing longest (units_of ds) c w, tt)) in
-    let numbers : references (rs ++ r ∷ []) ≡ references rs ++ c.reference ∷ [] = map-append (λ (q : Record). q.command.reference) rs (r ∷ []) in
+    let numbers : names (rs ++ r ∷ []) ≡ names rs ++ c.reference ∷ [] = map-append (λ (q : Record). q.command.reference) rs (r ∷ []) in
     let serving : filter is_in_service (rs ++ r ∷ []) ≡ filter is_in_service rs ++ [] = filter-append is_in_service rs (r ∷ []) in
     let all : IsHeld room passing longest (rs ++ r ∷ []) ds =
     record {
@@ -92,7 +92,7 @@ held_pushed room passing longest rs new ds c h l w n e =
       small = h.small;
       fits = omega (arith, length-append rs (r ∷ []));
       each = kept;
-      apart = subst AreApart (sym numbers) (apart_more (references rs) c.reference h.apart (none_has c.reference rs n));
+      apart = subst AreApart (sym numbers) (apart_more (names rs) c.reference h.apart (none_has c.reference rs n));
       one = let o = h.one in omega (arith, ap length serving, length-append (filter is_in_service rs) []);
       units = h.units;
       heads = h.heads;
@@ -112,9 +112,9 @@ front_kept passing longest n us (r ∷ rs) h l = (kept_passed passing longest n 
 kept_advanced : (passing longest : ℕ) (us : List Shape) (r : Record) → IsKept passing longest us r → r.done + 1 < r.weight → IsKept passing longest us (advanced r)
 kept_advanced passing longest us r h l = record { waitable = h.waitable; weight = h.weight; unfinished = l; good = ap (λ n. n + 1) h.good; passes = h.passes }
 
-references_passed : (n : ℕ) (A : List Record) → references (map (passed_by n) A) ≡ references A
-references_passed n [] = refl
-references_passed n (r ∷ rs) = ap (λ xs. r.command.reference ∷ xs) (references_passed n rs)
+names_passed : (n : ℕ) (A : List Record) → names (map (passed_by n) A) ≡ names A
+names_passed n [] = refl
+names_passed n (r ∷ rs) = ap (λ xs. r.command.reference ∷ xs) (names_passed n rs)
 
 apart_without : (xs : List ℕ) (x : ℕ) (ys : List ℕ) → AreApart (xs ++ x ∷ ys) → AreApart (xs ++ ys)
 apart_without [] x ys h = h.1
@@ -163,11 +163,11 @@ own_serving [] h = omega arith
 own_serving (r ∷ []) h = elim (is_in_service r) as (λ b. length (cond b (r ∷ []) []) ≤ 1) [ true ↦ omega arith | false ↦ omega arith ]
 own_serving (r ∷ s ∷ rs) h = absurd (omega arith)
 
-apart_left : (r : Record) (own : List Record) (A B : List Record) → IsLeft r own → AreApart (references A ++ (r.command.reference ∷ references B)) → AreApart (references A ++ (references own ++ references B))
+apart_left : (r : Record) (own : List Record) (A B : List Record) → IsLeft r own → AreApart (names A ++ (r.command.reference ∷ names B)) → AreApart (names A ++ (names own ++ names B))
 apart_left r own A B h a =
     ⊎_elim
-    (λ e. subst (λ xs. AreApart (references A ++ (references xs ++ references B))) (sym e) (apart_without (references A) r.command.reference (references B) a))
-    (λ e. subst (λ xs. AreApart (references A ++ (references xs ++ references B))) (sym e.0) a)
+    (λ e. subst (λ xs. AreApart (names A ++ (names xs ++ names B))) (sym e) (apart_without (names A) r.command.reference (names B) a))
+    (λ e. subst (λ xs. AreApart (names A ++ (names xs ++ names B))) (sym e.0) a)
     h.left
 
 kept_left : (passing longest : ℕ) (us : List Shape) (r : Record) (own : List Record) → IsLeft r own → IsKept passing longest us r → AllByRecursion (IsKept passing longest us) own
@@ -194,9 +194,9 @@ held_turn room passing longest n A r B own ds ds' h t u heads =
     every_append K (map (passed_by n) A) (own ++ B) (front_kept passing longest n (units_of ds) A parts.0 t.affordable)
     (every_append K own B (kept_left passing longest (units_of ds) r own t.left parts.1.0) parts.1.1) in
     let ref : Record → ℕ = λ q. q.command.reference in
-    let old_numbers : references (A ++ r ∷ B) ≡ references A ++ (r.command.reference ∷ references B) = map-append ref A (r ∷ B) in
-    let numbers : references new ≡ references A ++ (references own ++ references B) =
-    map-append ref (map (passed_by n) A) (own ++ B) ∙ (ap (λ xs. xs ++ references (own ++ B)) (references_passed n A) ∙ ap (λ xs. references A ++ xs) (map-append ref own B)) in
+    let old_numbers : names (A ++ r ∷ B) ≡ names A ++ (r.command.reference ∷ names B) = map-append ref A (r ∷ B) in
+    let numbers : names new ≡ names A ++ (names own ++ names B) =
+    map-append ref (map (passed_by n) A) (own ++ B) ∙ (ap (λ xs. xs ++ names (own ++ B)) (names_passed n A) ∙ ap (λ xs. names A ++ xs) (map-append ref own B)) in
     let few = own_one r own t.left in
     let serving = filter-append is_in_service (map (passed_by n) A) (own ++ B) in
     let serving_own = filter-append is_in_service own B in

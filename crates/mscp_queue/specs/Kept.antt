@@ -7,6 +7,7 @@ use Rattle.mscp_packet.specs.declared.command.Order.TheVariants as orders
 use Rattle.mscp_drive.specs.Shape.{Shape}
 use Rattle.mscp_drive.specs.UnitList.{IsUnitList, unit_found}
 use Rattle.mscp_queue.specs.declared.drive.Drive.{Drive}
+use Rattle.mscp_queue.specs.Names.{Name, name_of}
 use Rattle.mscp_queue.specs.Orders.{first_block, is_move, is_sequential, order_weight}
 use Rattle.mscp_queue.specs.Drives.{IsOnUnit, one_block}
 use Rattle.mscp_queue.specs.Records.{Record, is_in_service}
@@ -43,12 +44,12 @@ pub record IsKept (passing longest : ℕ) (units : List Shape) (r : Record) : Ty
   pub good : r.good ≡ r.done
   pub passes : r.passes ≤ passing
 
--- the reference numbers of records
-abbrev pub references : List Record → List ℕ
-references rs = map (λ r. r.command.reference) rs
+-- the names of the commands of records
+abbrev pub names : List Record → List Name
+names rs = map (λ r. name_of r.command) rs
 
--- each of these numbers stands once
-abbrev pub AreApart : List ℕ → Type 0
+-- each of these names stands once
+abbrev pub AreApart : List Name → Type 0
 AreApart [] = Unit {0}
 AreApart (x ∷ xs) = AllByRecursion (λ y. y ≢ x) xs × AreApart xs
 
@@ -62,8 +63,8 @@ pub record IsHeld (room passing longest : ℕ) (rs : List Record) (ds : List Dri
   -- there is room for those that wait
   pub fits : length rs ≤ room
   pub each : All (IsKept passing longest (units_of ds)) rs
-  -- each command has a reference number of its own (manual)
-  pub apart : AreApart (references rs)
+  -- each command has a name of its own (manual)
+  pub apart : AreApart (names rs)
   -- one is in service at the most
   pub one : length (filter is_in_service rs) ≤ 1
   pub units : IsUnitList (units_of ds)

@@ -1,3 +1,4 @@
+pub mod Names
 pub mod Orders
 pub mod Outcomes
 pub mod Drives

@@ -79,7 +79,7 @@ abbrev pub outcome_at : Shape → Bool → Command → ℕ → Block → End
 outcome_at s online command good k =
     end_with command (outcome_status online command.order k)
     (outcome_body s (outcome_status online command.order k) command.order
-      (good + cond (touches online command.order && is_good_block k) 1 0))
+    (good + cond (touches online command.order && is_good_block k) 1 0))
 
 -- ---- what a step changes of its unit
 

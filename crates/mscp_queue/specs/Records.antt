@@ -3,6 +3,7 @@ use Rattle.std.specs.Prelude.{ℕ, ◌+◌, ◌-◌, cond, Bool, nat_eq, nat_lt,
 use Rattle.mscp_packet.specs.declared.command.Command.{Command}
 use Rattle.mscp_packet.specs.declared.command.Order.TheVariants as orders
 use Rattle.mscp_packet.specs.declared.end.End.{End}
+use Rattle.mscp_queue.specs.Names.{name_of, same_name}
 use Rattle.mscp_queue.specs.Orders.{order_weight}
 
 -- a waiting command: how many steps it takes, how many it had, how many of its blocks were good, and how often
@@ -28,7 +29,7 @@ record_at rs place = slice_index_or rs place no_record
 
 -- the record is of the command of this reference number
 abbrev pub has_reference : ℕ → Record → Bool
-has_reference reference r = nat_eq r.command.reference reference
+has_reference reference r = same_name (name_of r.command) reference
 
 -- how many steps are left of a record (profile)
 abbrev pub left_of : Record → ℕ

@@ -18,7 +18,10 @@ pub fn endcode_of(command: &Command) -> u8
     ensures { result ≡ endcode command.now.order }
 {
     match command.order {
-        Order::Invalid { status: INVALID_OPCODE, .. } => 0x80,
+        Order::Invalid {
+            status: INVALID_OPCODE,
+            ..
+        } => 0x80,
         Order::Abort(_) => 0x80,
         _ => command.opcode() | 0x80,
     }

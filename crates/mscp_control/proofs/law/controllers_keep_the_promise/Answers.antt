@@ -1,4 +1,4 @@
-use Rattle.mscp_control.proofs.Controllers.{keeps_promise}
+use Rattle.mscp_control.proofs.Bridge.Controllers.{keeps_promise}
 use Rattle.mscp_control.proofs.law.controllers_keep_the_promise.Goals as goal
 
 pub returns : goal.returns

@@ -1,4 +1,4 @@
-use Rattle.mscp_control.proofs.Progress.{progress}
+use Rattle.mscp_control.proofs.Promise.Progress.{progress}
 use Rattle.mscp_control.proofs.law.legal_traces_make_progress.Goals as goal
 
 pub returns : goal.returns

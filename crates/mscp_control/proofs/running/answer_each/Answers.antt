@@ -1,5 +1,5 @@
 use Rattle.std.proofs.Common.{◌+◌, ap, ◌∙◌, arith}
-use Rattle.mscp_control.proofs.Answering.{goes_more}
+use Rattle.mscp_control.proofs.Bridge.Answering.{goes_more}
 use Rattle.mscp_control.proofs.running.answer_each.Goals as goal
 
 pub loop-event-preserved : goal.loop-event-preserved

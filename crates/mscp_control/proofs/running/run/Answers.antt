@@ -1,7 +1,6 @@
 use Rattle.std.proofs.Common.{subst}
-use Rattle.mscp_control.specs.Controllers.{KeepsPromise}
 use Rattle.mscp_control.specs.Holdings.{Answered, Holdings}
-use Rattle.mscp_control.proofs.Controllers.{keeps_promise}
+use Rattle.mscp_control.proofs.Bridge.Controllers.{keeps_promise}
 use Rattle.mscp_control.proofs.running.run.Goals as goal
 
 pub returns-clause-headline : goal.returns-clause-headline

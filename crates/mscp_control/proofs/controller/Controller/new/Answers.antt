@@ -1,5 +1,5 @@
 use Rattle.std.proofs.Common.{ap, ◌-◌, ◌∙◌}
-use Rattle.mscp_control.proofs.Keeping.{held_fresh}
+use Rattle.mscp_control.proofs.Bridge.Keeping.{held_fresh}
 use Rattle.mscp_control.proofs.controller.Controller.new.Goals as goal
 
 pub invariant_of-result : goal.invariant_of-result

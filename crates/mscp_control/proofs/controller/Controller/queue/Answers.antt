@@ -1,7 +1,7 @@
 use Rattle.std.proofs.Common.{◌≡◌, false, subst, sym}
 use Rattle.mscp_control.specs.Arrival.{holds}
 use Rattle.mscp_control.specs.Holdings.{Holdings, outstanding_of}
-use Rattle.mscp_control.proofs.Judging.{none_waits}
+use Rattle.mscp_control.proofs.Bridge.Judging.{none_waits}
 use Rattle.mscp_control.proofs.controller.Controller.queue.Goals as goal
 
 pub push-requires-clause-apart : goal.push-requires-clause-apart

@@ -3,7 +3,7 @@ use Rattle.std.specs.Prelude.{None}
 use Rattle.mscp_packet.specs.Commands.{command_of}
 use Rattle.mscp_control.specs.Arrival.{credit_fault, refusal}
 use Rattle.mscp_control.specs.Holdings.{arrives, balance_of, held_unless, outstanding_of, sent_unless, taken_as}
-use Rattle.mscp_control.proofs.Judging.{command_is, taken}
+use Rattle.mscp_control.proofs.Bridge.Judging.{command_is, taken}
 use Rattle.mscp_control.proofs.controller.Controller.send.Goals as goal
 
 pub returns-in-None-clause-answer : goal.returns-in-None-clause-answer

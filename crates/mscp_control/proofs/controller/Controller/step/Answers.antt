@@ -1,4 +1,4 @@
-use Rattle.mscp_control.proofs.Keeping.{end_fits, held_stepped}
+use Rattle.mscp_control.proofs.Bridge.Keeping.{end_fits, held_stepped}
 use Rattle.mscp_control.proofs.controller.Controller.step.Goals as goal
 
 pub keep_end-requires : goal.keep_end-requires

@@ -1,0 +1,13 @@
+-- From what a controller holds to the history of its run.
+pub mod Judging
+pub mod Keeping
+pub mod Held
+pub mod Quiet
+pub mod Drives
+pub mod Sending
+pub mod Viewed
+pub mod Stepped
+pub mod Following
+pub mod Controllers
+pub mod Answering
+pub mod Legals

@@ -1,0 +1,101 @@
+-- What each event keeps of what a controller holds.
+use Rattle.std.proofs.Common.{◌≡◌, ℕ, ◌+◌, ◌<◌, ◌≤◌, List, [], ◌∷◌, ◌++◌, map, length, take, drop, ap, refl, sym, subst, ◌∙◌, arith}
+use Rattle.std.specs.Prelude.{option_to_list, Option, Some, None}
+use Rattle.std.proofs.lemmas.List.{length-append, length-drop, length-map, length-take-le}
+use Rattle.mscp_packet.specs.declared.end.End.{End}
+use Rattle.mscp_drive.specs.Shape.{Shape}
+use Rattle.mscp_queue.specs.declared.block.Block.{Block}
+use Rattle.mscp_queue.specs.declared.report.Report.{Report}
+use Rattle.mscp_queue.specs.declared.report.Report.TheVariants as reports
+use Rattle.mscp_queue.specs.declared.view.Choice.{Choice}
+use Rattle.mscp_queue.specs.Drives.{fresh_drive}
+use Rattle.mscp_queue.specs.Kept.{units_of}
+use Rattle.mscp_queue.specs.Lines as lines
+use Rattle.mscp_queue.specs.Lines.{Line, Serves, ServesAt}
+use Rattle.mscp_queue.specs.Records.{Record, cost_of, passed_by, record_at, remains}
+use Rattle.mscp_queue.specs.Serving.{drive_at, end_given}
+use Rattle.mscp_control.specs.Settings.{Settings, IsValid, room}
+use Rattle.mscp_control.specs.Holdings.{ends_reported}
+use Rattle.mscp_control.specs.Kept.{IsHeld}
+
+-- ---- nothing came
+
+units_fresh : (us : List Shape) → units_of (map fresh_drive us) ≡ us
+units_fresh [] = refl
+units_fresh (u ∷ us) = ap (λ vs. u ∷ vs) (units_fresh us)
+
+pub held_fresh : {K : Type 0} (c : Settings) (units : List Shape) (room' passing longest : ℕ) (picker : K) (line : Line K) (us : List End) → IsValid c → units ≡ c.units → room' ≡ room c → passing ≡ c.passing
+    → longest ≡ c.longest → line ≡ lines.fresh units room' passing longest picker → us ≡ [] → IsHeld c line us
+held_fresh {K} c units room' passing longest picker line us v u r p l e n =
+    let some = v.some_credits in
+    let all : IsHeld c (lines.fresh units room' passing longest picker) us = record {
+      valid = v;
+      covered = omega (arith, ap length n);
+      fits = omega arith;
+      same_room = r;
+      same_passing = p;
+      same_longest = l;
+      units = units_fresh units ∙ u;
+    } in
+    subst (λ (q : Line K). IsHeld c q us) (sym e) all
+
+-- ---- a step
+
+remains_count : (r : Record) (e : Option End) → length (remains r e) + length (option_to_list e) ≡ 1
+remains_count r None = omega arith
+remains_count r (Some end) = omega arith
+
+-- where a command ends, one less waits
+count_after : (n place : ℕ) (r : Record) (rs : List Record) (e : Option End) → place < length rs
+    → length (map (passed_by n) (take place rs) ++ (remains r e ++ drop (place + 1) rs)) + length (option_to_list e) ≡ length rs
+count_after n place r rs e l =
+    let A = take place rs in
+    let B = drop (place + 1) rs in
+    omega (arith, remains_count r e, length-append (map (passed_by n) A) (remains r e ++ B), length-map A (passed_by n), length-append (remains r e) B, length-take-le place rs (omega arith), length-drop (place + 1) rs)
+
+-- the waiting commands and the ends that a step brings are as many as waited
+pub count_stepped : {K : Type 0} (picks : List Choice → ℕ → Type 0) (k : Block) (old : Line K) (report : Report) (new : Line K) → Serves picks k old report new
+    → length new.waiting + length (ends_reported report) ≡ length old.waiting
+count_stepped {K} picks k old reports.Idle new h = let same = ap (λ (l : Line K). length l.waiting) h.1 in omega (arith, same)
+count_stepped {K} picks k old (reports.Served reference unit lbn started seek ended) new h =
+    let place = h.0 in
+    let s = h.1 in
+    let r = record_at old.waiting place in
+    let e = end_given k (drive_at old.drives old.waiting place) r in
+    let ends : ends_reported (reports.Served reference unit lbn started seek ended) ≡ option_to_list e = ap ends_reported s.told in
+    omega (arith, ap (λ (l : Line K). length l.waiting) s.left, ap length ends, count_after (cost_of r) place r old.waiting e s.next.inside)
+
+-- and the limits and the picker stay
+pub stays : {K : Type 0} (picks : List Choice → ℕ → Type 0) (k : Block) (old : Line K) (report : Report) (new : Line K) → Serves picks k old report new
+    → (new.room ≡ old.room) × (new.passing ≡ old.passing) × (new.longest ≡ old.longest) × (new.picker ≡ old.picker)
+stays {K} picks k old reports.Idle new h =
+    (ap (λ (l : Line K). l.room) h.1, ap (λ (l : Line K). l.passing) h.1, ap (λ (l : Line K). l.longest) h.1, ap (λ (l : Line K). l.picker) h.1)
+stays {K} picks k old (reports.Served reference unit lbn started seek ended) new h =
+    let e = h.1.left in
+    (ap (λ (l : Line K). l.room) e, ap (λ (l : Line K). l.passing) e, ap (λ (l : Line K). l.longest) e, ap (λ (l : Line K). l.picker) e)
+
+pub held_stepped : {K : Type 0} (c : Settings) (picks : List Choice → ℕ → Type 0) (k : Block) (old : Line K) (report : Report) (new : Line K) (us us' : List End) → IsHeld c old us → Serves picks k old report new
+    → units_of new.drives ≡ units_of old.drives → us' ≡ us ++ ends_reported report → IsHeld c new us'
+held_stepped {K} c picks k old report new us us' h s u e =
+    let count = count_stepped picks k old report new s in
+    let same = stays picks k old report new s in
+    let covered = h.covered in
+    let fits = h.fits in
+    record {
+      valid = h.valid;
+      covered = omega (arith, count, ap length e, length-append us (ends_reported report));
+      fits = omega (arith, count);
+      same_room = same.0 ∙ h.same_room;
+      same_passing = same.1 ∙ h.same_passing;
+      same_longest = same.2 ∙ h.same_longest;
+      units = u ∙ h.units;
+    }
+
+-- there is room for the end that a step brings
+pub end_fits : {K : Type 0} (c : Settings) (picks : List Choice → ℕ → Type 0) (k : Block) (old : Line K) (report : Report) (new : Line K) (us : List End) → IsHeld c old us → Serves picks k old report new
+    → length us + length (ends_reported report) ≤ 64
+end_fits {K} c picks k old report new us h s =
+    let count = count_stepped picks k old report new s in
+    let covered = h.covered in
+    let few = h.valid.few_credits in
+    omega (arith, count)

@@ -1,0 +1,114 @@
+-- Moments that serve nobody and abort nobody: what is held after them.
+use Rattle.std.proofs.Common.{◌≡◌, ℕ, ◌+◌, ◌<◌, ◌≤◌, true, false, cond, not, ◌&&◌, List, [], ◌∷◌, ◌++◌, map, drop, length, ap, sym, ◌∙◌, append-nil, arith}
+use Rattle.std.specs.Prelude.{count_by, None}
+use Rattle.std.specs.List.{AllByRecursion}
+use Rattle.std.proofs.lemmas.List.{drop-drop, map-append}
+use Rattle.mscp_packet.specs.declared.end.End.{End}
+use Rattle.mscp_packet.specs.Commands.{command_of}
+use Rattle.mscp_queue.specs.Records.{Record, fresh_record}
+use Rattle.mscp_control.specs.Settings.{Settings}
+use Rattle.mscp_queue.specs.Orders.{order_weight}
+use Rattle.mscp_control.specs.History.{Trace, Moment, queues, sent_bytes, is_good, takes, service_in}
+use Rattle.mscp_control.specs.Commands.{reference, waiting, done, good, service_is, service_starts, ends_in}
+use Rattle.mscp_control.specs.Passing.{passes}
+use Rattle.mscp_control.specs.Ends.{ends, ends_at, untaken}
+use Rattle.mscp_control.specs.Legal.{IsRight}
+use Rattle.mscp_control.proofs.Lists.{every_weaker, every_from, filter_all}
+use Rattle.mscp_control.proofs.Promise.Grows.{command_before, command_last, done_last, good_before, good_last, waiting_more, taken_more, ends_more}
+use Rattle.mscp_control.proofs.Promise.Waits.{waiting_below, passes_last}
+use Rattle.mscp_control.proofs.Promise.Steady.{done_kept}
+use Rattle.mscp_control.proofs.Promise.Passed.{none_starts}
+use Rattle.mscp_control.proofs.Promise.Known.{known_more}
+use Rattle.mscp_control.proofs.Placed.{map_on}
+use Rattle.mscp_control.proofs.Bridge.Held.{held_of, Follows}
+
+-- the moment serves nobody and ends nobody
+pub record IsQuiet (m : Moment) : Type 0 where
+  pub unserved : service_in m.1 ≡ None
+  pub kept : (r : ℕ) → ends_in r m.1 ≡ false
+
+-- ---- one command
+
+-- a record of which nothing changes
+pub held_same : (t : Trace) (m : Moment) (x : ℕ) → x < length t → done (t ++ m ∷ []) x ≡ done t x → good (t ++ m ∷ []) x ≡ good t x → passes (t ++ m ∷ []) x ≡ passes t x
+    → held_of (t ++ m ∷ []) x ≡ held_of t x
+held_same t m x l d g p = λ i.
+    let k = command_before t m x l in
+    record { command = k i; weight = order_weight (k i).order; done = d i; good = g i; passes = p i }
+
+good_kept : (t : Trace) (m : Moment) (x : ℕ) → service_in m.1 ≡ None → x < length t → good (t ++ m ∷ []) x ≡ good t x
+good_kept t m x e l = good_before t m x l ∙ (ap (λ o. good t x + cond (service_is (reference t x) o && is_good m.0) 1 0) e ∙ omega arith)
+
+passes_kept : (t : Trace) (m : Moment) (x : ℕ) → service_in m.1 ≡ None → passes (t ++ m ∷ []) x ≡ passes t x
+passes_kept t m x e = none_starts t m x (λ r. ap (service_starts r) e)
+
+-- the record of each that waits stays
+abbrev pub Keeps : Trace → Trace → ℕ → Type 0
+Keeps t t' x = held_of t' x ≡ held_of t x
+
+keeps : (t : Trace) (m : Moment) → service_in m.1 ≡ None → AllByRecursion (Keeps t (t ++ m ∷ [])) (waiting t)
+keeps t m e =
+    every_weaker (λ x. x < length t) (Keeps t (t ++ m ∷ []))
+    (λ x l. held_same t m x l (done_kept t m x e l) (good_kept t m x e l) (passes_kept t m x e))
+    (waiting t) (waiting_below t)
+
+waiting_kept : (t : Trace) (m : Moment) → IsQuiet m → waiting (t ++ m ∷ []) ≡ waiting t ++ cond (queues m.1) (length t ∷ []) []
+waiting_kept t m q =
+    waiting_more t m ∙ ap (λ l. l ++ cond (queues m.1) (length t ∷ []) [])
+    (filter_all (λ x. not (ends_in (reference t x) m.1)) (waiting t) (every_from (λ x. not (ends_in (reference t x) m.1) ≡ true) (λ x. ap not (q.kept (reference t x))) (waiting t)))
+
+pub records_kept : (t t' : Trace) (xs : List ℕ) → AllByRecursion (Keeps t t') xs → map (held_of t') xs ≡ map (held_of t) xs
+records_kept t t' xs k = map_on (held_of t') (held_of t) xs k
+
+-- ---- nobody comes
+
+-- What is held after a quiet moment that queues nobody: the same records.
+pub follows_quiet : (c : Settings) (t : Trace) (m : Moment) (ws : List Record) (us us' : List End) → 1 ≤ c.longest → IsRight c t m.0 m.1 → IsQuiet m → queues m.1 ≡ false
+    → us' ≡ untaken c (t ++ m ∷ []) → Follows c t ws us → Follows c (t ++ m ∷ []) ws us'
+follows_quiet c t m ws us us' l r q n e f =
+    let t' = t ++ m ∷ [] in
+    let same : waiting t' ≡ waiting t = waiting_kept t m q ∙ (ap (λ b. waiting t ++ cond b (length t ∷ []) []) n ∙ append-nil (waiting t)) in
+    let k = keeps t m q.unserved in
+    record {
+      known = known_more c l t m r f.known;
+      waits = f.waits ∙ (sym (records_kept t t' (waiting t) k) ∙ ap (map (held_of t')) (sym same));
+      ends = e;
+    }
+
+-- ---- a command comes
+
+record_new : (t : Trace) (m : Moment) → held_of (t ++ m ∷ []) (length t) ≡ fresh_record (command_of (sent_bytes m.0))
+record_new t m = λ i.
+    let k = command_last t m in
+    let d = done_last t m in
+    let g = good_last t m in
+    let p = passes_last t m in
+    record { command = k i; weight = order_weight (k i).order; done = d i; good = g i; passes = p i }
+
+-- What is held after a command was queued: its record comes last.
+pub follows_queued : (c : Settings) (t : Trace) (m : Moment) (ws : List Record) (us us' : List End) → 1 ≤ c.longest → IsRight c t m.0 m.1 → IsQuiet m → queues m.1 ≡ true
+    → us' ≡ untaken c (t ++ m ∷ []) → Follows c t ws us → Follows c (t ++ m ∷ []) (ws ++ fresh_record (command_of (sent_bytes m.0)) ∷ []) us'
+follows_queued c t m ws us us' l r q n e f =
+    let t' = t ++ m ∷ [] in
+    let x = length t in
+    let same : waiting t' ≡ waiting t ++ x ∷ [] = waiting_kept t m q ∙ ap (λ b. waiting t ++ cond b (length t ∷ []) []) n in
+    let k = keeps t m q.unserved in
+    record {
+      known = known_more c l t m r f.known;
+      waits =
+          ap (λ ys. ys ++ fresh_record (command_of (sent_bytes m.0)) ∷ []) (f.waits ∙ sym (records_kept t t' (waiting t) k))
+          ∙ (ap (λ y. map (held_of t') (waiting t) ++ y ∷ []) (sym (record_new t m))
+          ∙ (sym (map-append (held_of t') (waiting t) (x ∷ [])) ∙ ap (map (held_of t')) (sym same)));
+      ends = e;
+    }
+
+-- ---- an end is taken
+
+-- Where an end is taken, the others stay.
+pub untaken_taken : (c : Settings) (t : Trace) (m : Moment) → takes m.1 ≡ true → ends_at c t m ≡ [] → untaken c (t ++ m ∷ []) ≡ drop 1 (untaken c t)
+unfolding untaken
+untaken_taken c t m e n =
+    let k = count_by (λ (n : Moment). takes n.1) t in
+    let one : count_by (λ (n : Moment). takes n.1) (t ++ m ∷ []) ≡ k + 1 = taken_more t m ∙ ap (λ b. k + cond b 1 0) e in
+    let same : ends c (t ++ m ∷ []) ≡ ends c t = ends_more c t m ∙ (ap (λ l. ends c t ++ l) n ∙ append-nil (ends c t)) in
+    ap (λ j. drop j (ends c (t ++ m ∷ []))) one ∙ (ap (drop (k + 1)) same ∙ sym (drop-drop 1 k (ends c t)))

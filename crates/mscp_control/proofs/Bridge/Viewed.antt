@@ -1,0 +1,98 @@
+-- What may start, as the records and as the history say it.
+use Rattle.std.proofs.Common.{◌≡◌, ℕ, suc, ◌+◌, ◌<◌, ◌≤◌, Bool, true, false, cond, not, ◌&&◌, List, [], ◌∷◌, ◌++◌, map, take, drop, get_or, length, refl, ap, sym, ◌∙◌, subst, arith}
+use Rattle.std.specs.Prelude.{filter, nat_le}
+use Rattle.std.specs.List.{range_with_len, list_all}
+use Rattle.std.proofs.lemmas.List.{drop_more, get_or-map, length-map, take-append-drop, take-map}
+use Rattle.std.proofs.lemmas.List.Folds.{list_all-map}
+use Rattle.mscp_queue.specs.Records.{Record, no_record, record_at}
+use Rattle.mscp_queue.specs.Views.{choice_of, is_open_at, open_places, view_of}
+use Rattle.mscp_queue.specs.Views as records
+use Rattle.mscp_control.specs.Settings.{Settings}
+use Rattle.mscp_control.specs.History.{Trace}
+use Rattle.mscp_control.specs.Commands.{waiting, earlier, is_idle}
+use Rattle.mscp_control.specs.Passing.{fences, is_affordable, is_free, is_startable, passes, startable}
+use Rattle.mscp_control.specs.Legal.{choice, view}
+use Rattle.mscp_control.proofs.Lists.{every_kept, every_weaker, range_below}
+use Rattle.mscp_control.proofs.Placed.{map_map, map_on}
+use Rattle.mscp_control.proofs.Promise.Waits.{cut_of, earlier_is}
+use Rattle.mscp_control.proofs.Bridge.Held.{held_of}
+
+-- the command at a place of those that wait
+abbrev pub waiting_at : Trace → ℕ → ℕ
+waiting_at t place = get_or (waiting t) place 0
+
+-- the waiting commands, cut at a place
+pub cut_at : (t : Trace) (place : ℕ) → place < length (waiting t) → waiting t ≡ take place (waiting t) ++ waiting_at t place ∷ drop (place + 1) (waiting t)
+cut_at t place l = sym (take-append-drop place (waiting t)) ∙ ap (λ xs. take place (waiting t) ++ xs) (drop_more (waiting t) place 0 l)
+
+-- its record
+pub record_held : (t : Trace) (place : ℕ) → place < length (waiting t) → record_at (map (held_of t) (waiting t)) place ≡ held_of t (waiting_at t place)
+record_held t place l = get_or-map (held_of t) (waiting t) place 0 no_record l
+
+-- a filter of the elements, by their places
+filter_places : (p : ℕ → Bool) (q : ℕ → Bool) (g : ℕ → ℕ) (a : ℕ) (xs : List ℕ) → ((i : ℕ) → i < length xs → (g (a + i) ≡ get_or xs i 0) × (p (get_or xs i 0) ≡ q (a + i))) → filter p xs ≡ map g (filter q (range_with_len a (length xs)))
+filter_places p q g a [] h = refl
+filter_places p q g a (x ∷ xs) h =
+    let here = h 0 (omega arith) in
+    let at : a + 0 ≡ a = omega arith in
+    let gx : g a ≡ x = subst (λ j. g j ≡ x) at here.0 in
+    let px : p x ≡ q a = subst (λ j. p x ≡ q j) at here.1 in
+    let rest = filter_places p q g (a + 1) xs (λ i l. subst (λ j. (g j ≡ get_or xs i 0) × (p (get_or xs i 0) ≡ q j)) (omega arith) (h (suc i) (omega arith))) in
+    ap (λ b. cond b (x ∷ filter p xs) (filter p xs)) px
+    ∙ (ap (λ l. cond (q a) (x ∷ l) l) rest
+    ∙ elim (q a) as (λ b. cond b (x ∷ map g (filter q (range_with_len (a + 1) (length xs)))) (map g (filter q (range_with_len (a + 1) (length xs)))) ≡ map g (cond b (a ∷ filter q (range_with_len (a + 1) (length xs))) (filter q (range_with_len (a + 1) (length xs)))))
+    [ true ↦ ap (λ y. y ∷ map g (filter q (range_with_len (a + 1) (length xs)))) (sym gx) | false ↦ refl ])
+
+-- those in front of a place
+front_held : (t : Trace) (place : ℕ) → place < length (waiting t) → earlier t (waiting_at t place) ≡ take place (waiting t)
+front_held t place l =
+    let cut = cut_at t place l in earlier_is t (waiting_at t place) (take place (waiting t)) (drop (place + 1) (waiting t)) (cut_of t (take place (waiting t)) (waiting_at t place) (drop (place + 1) (waiting t)) cut)
+
+free_held : (t : Trace) (place : ℕ) → place < length (waiting t) → is_free t (waiting_at t place) ≡ records.is_free (held_of t (waiting_at t place)) (take place (map (held_of t) (waiting t)))
+unfolding is_free
+free_held t place l =
+    let y = waiting_at t place in
+    let keeps : Record → Bool = λ z. not (records.fences (held_of t y) z) in
+    ap (list_all (λ z. not (fences t y z))) (front_held t place l)
+    ∙ (sym (list_all-map keeps (held_of t) (take place (waiting t))) ∙ ap (list_all keeps) (sym (take-map (held_of t) place (waiting t))))
+
+affordable_held : (c : Settings) (t : Trace) (place : ℕ) → place < length (waiting t)
+    → is_affordable c t (waiting_at t place) ≡ records.is_affordable c.passing (held_of t (waiting_at t place)) (take place (map (held_of t) (waiting t)))
+affordable_held c t place l =
+    let may : Record → Bool = λ z. nat_le (z.passes + 1) c.passing in
+    ap (list_all (λ x. nat_le (passes t x + 1) c.passing)) (front_held t place l)
+    ∙ (sym (list_all-map may (held_of t) (take place (waiting t))) ∙ ap (list_all may) (sym (take-map (held_of t) place (waiting t))))
+
+-- where nothing is in service, what may start is what the records say
+pub startable_held : (c : Settings) (t : Trace) (place : ℕ) → place < length (waiting t) → is_idle t ≡ true
+    → is_startable c t (waiting_at t place) ≡ is_open_at c.passing (map (held_of t) (waiting t)) place
+unfolding is_startable
+startable_held c t place l idle =
+    let y = waiting_at t place in
+    let rs = map (held_of t) (waiting t) in
+    ap (λ b. b && is_free t y && is_affordable c t y) idle
+    ∙ (ap (λ b. b && is_affordable c t y) (free_held t place l)
+    ∙ (ap (λ b. records.is_free (held_of t y) (take place rs) && b) (affordable_held c t place l)
+    ∙ ap (λ r. records.is_open c.passing r (take place rs)) (sym (record_held t place l))))
+
+-- the commands that may start are those at the places that may
+pub startable_places : (c : Settings) (t : Trace) → is_idle t ≡ true → startable c t ≡ map (waiting_at t) (open_places c.passing (map (held_of t) (waiting t)))
+unfolding startable
+startable_places c t idle =
+    let W = waiting t in
+    let rs = map (held_of t) W in
+    let q = is_open_at c.passing rs in
+    filter_places (is_startable c t) q (waiting_at t) 0 W (λ i l. let z : 0 + i ≡ i = omega arith in (ap (waiting_at t) z, startable_held c t i l idle ∙ ap q (sym z)))
+    ∙ ap (λ n. map (waiting_at t) (filter q (range_with_len 0 n))) (sym (length-map W (held_of t)))
+
+-- and so the view is the same
+pub view_held : (c : Settings) (t : Trace) → is_idle t ≡ true → view c t ≡ view_of c.passing (map (held_of t) (waiting t))
+view_held c t idle =
+    let rs = map (held_of t) (waiting t) in
+    let places = open_places c.passing rs in
+    ap (map (choice t)) (startable_places c t idle)
+    ∙ (map_map (waiting_at t) (choice t) places
+    ∙ map_on (λ place. choice t (waiting_at t place)) (λ place. choice_of (record_at rs place)) places
+    (every_kept (λ place. choice t (waiting_at t place) ≡ choice_of (record_at rs place)) (is_open_at c.passing rs) (range_with_len 0 (length rs))
+    (every_weaker (λ place. (0 ≤ place) × (place < 0 + length rs)) (λ place. choice t (waiting_at t place) ≡ choice_of (record_at rs place))
+    (λ place b. sym (ap choice_of (record_held t place (omega (arith, b, length-map (waiting t) (held_of t)))))) (range_with_len 0 (length rs)) (range_below 0 (length rs)))))

@@ -1,0 +1,22 @@
+-- What every legal trace promises, from the definitions alone.
+pub mod Grows
+pub mod Waits
+pub mod Arrivals
+pub mod Apart
+pub mod Among
+pub mod Served
+pub mod Starts
+pub mod States
+pub mod Steady
+pub mod Room
+pub mod Passed
+pub mod Queued
+pub mod Figured
+pub mod Falls
+pub mod Stays
+pub mod Fitted
+pub mod Limited
+pub mod Falling
+pub mod Within
+pub mod Known
+pub mod Progress
