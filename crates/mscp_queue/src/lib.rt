@@ -12,6 +12,8 @@ mod record;
 mod report;
 mod service;
 mod start;
+#[cfg(test)]
+mod tests;
 mod turn;
 mod view;
 

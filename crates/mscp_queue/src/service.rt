@@ -100,3 +100,6 @@ pub(crate) fn serve(drive: &Drive, served: &Record, block: &Block) -> Service
         },
     }
 }
+
+#[cfg(test)]
+mod tests;
