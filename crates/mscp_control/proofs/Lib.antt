@@ -1,5 +1,3 @@
-pub mod Lists
-pub mod Placed
 pub mod Promise
 pub mod Bridge
 pub mod Worked

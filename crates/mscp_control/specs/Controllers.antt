@@ -20,13 +20,15 @@ abbrev pub drive_at : Settings → Trace → Shape → Drive
 drive_at c t u = record { unit = u; online = is_online t u.number; head = head c t u.number }
 
 -- what is promised of a controller that answered so to these events, and now holds this
-pub record KeepsPromise {K : Type 0} (picks : List Choice → ℕ → Type 0) (c : Settings) (events : List Event) (entries : List Entry) (held : Holdings K) : Type 0 where
+pub record KeepsPromise {K : Type 0} (picks : List Choice → ℕ → Type 0) (c : Settings)
+    (events : List Event) (entries : List Entry) (held : Holdings K) : Type 0 where
   -- its answers, one after the other, have the headline (profile)
   pub headline : Headline c events entries
   -- each start is one that its picker may pick (profile)
   pub picked : IsPicked c picks (zip events entries)
   -- the figure that it now tells of a reference number is that of the history (profile)
-  pub figure : (reference : ℕ) → figure_of_reference c.passing c.longest held.waiting reference ≡ figure_of c (zip events entries) reference
+  pub figure : (reference : ℕ) → figure_of_reference c.passing c.longest held.waiting reference
+      ≡ figure_of c (zip events entries) reference
   -- its drives are the units with the states and heads of the history, the way that each head goes too (manual, heads
   -- are the profile's)
   pub drives : held.drives ≡ map (drive_at c (zip events entries)) c.units

@@ -39,7 +39,9 @@ aborted c t sent = aborted_unless t sent.order (fault_of c sent)
 
 -- the ends of the commands that a message aborts, and then its own (manual)
 abbrev pub answer_to : Settings → Trace → Command → List End
-answer_to c t sent = map (λ x. aborted_end (command t x) (good t x)) (aborted c t sent) ++ own_end c (is_online t sent.unit) (figure_asked c t sent.order) sent ∷ []
+answer_to c t sent =
+    map (λ x. aborted_end (command t x) (good t x)) (aborted c t sent)
+    ++ own_end c (is_online t sent.unit) (figure_asked c t sent.order) sent ∷ []
 
 -- the ends that an answered message makes after t (manual)
 unfoldable pub answer : Settings → Trace → List ℕ → List End

@@ -13,7 +13,8 @@ unfoldable pub figure : Settings → Trace → ℕ → ℕ
 figure c t x =
     cond (is_waiting t x)
     (cond (in_service t x) (left t x)
-    (sum_by (left t) (earlier t x) + sum_by (left t) (filter (in_service t) (later t x)) + (c.passing - passes t x) * c.longest + left t x))
+    (sum_by (left t) (earlier t x) + sum_by (left t) (filter (in_service t) (later t x))
+    + (c.passing - passes t x) * c.longest + left t x))
     0
 
 -- the figure of a command, if there is one, else 0 (profile)

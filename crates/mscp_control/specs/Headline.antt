@@ -1,8 +1,8 @@
 -- The promise of a run, whole: for every configuration, picker and list of events, `run` answers a legal trace: untaken
 -- ends and waiting commands never exceed C, none passes a sequential command of its unit, none is passed more than P
 -- times; every waiting command's status figure falls at each step, never rises between steps, and each queued command
--- ends within (C - 1 + P) * L steps. C is the number of credits, P the passing limit and L the longest transfer. Nothing
--- here names a picker: whatever it picks of what may start, the promise holds.
+-- ends within (C - 1 + P) * L steps. C is the number of credits, P the passing limit and L the longest transfer.
+-- Nothing here names a picker: whatever it picks of what may start, the promise holds.
 use Rattle.std.specs.Prelude.{◌≡◌, ◌↔◌, ℕ, ◌+◌, ◌<◌, ◌≤◌, true, List, [], ◌∷◌, ◌++◌, length, take, zip, Contains}
 use Rattle.mscp_packet.specs.declared.command.Command.{Command}
 use Rattle.mscp_packet.specs.declared.command.Order.TheVariants as orders
@@ -64,7 +64,8 @@ pub record Promise (c : Settings) (t : Trace) : Type 0 where
   -- none is passed more often than the passing limit (profile)
   pub passing : Always t (λ s. EachWaiting s (λ x. passes s x ≤ c.passing))
   -- every waiting command's status figure falls at each step (profile)
-  pub falls : AtEach t (λ before m after. is_step m.0 ≡ true → EachWaiting before (λ x. figure c after x < figure c before x))
+  pub falls : AtEach t (λ before m after. is_step m.0 ≡ true →
+      EachWaiting before (λ x. figure c after x < figure c before x))
   -- it never rises between steps, whatever comes (profile)
   pub never_rises : AtEach t (λ before m after. EachWaiting before (λ x. figure c after x ≤ figure c before x))
   -- each queued command ends within the bound: one that still waits has seen fewer steps (profile)

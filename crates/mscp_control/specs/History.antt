@@ -78,7 +78,15 @@ pub record Service : Type 0 where
 
 -- the same, if a step served a command (profile)
 abbrev pub service_in : Entry → Option Service
-service_in (entries.Stepped (reports.Served reference unit lbn started seek ended)) = Some (record { reference = reference; unit = unit; lbn = lbn; started = started; seek = seek; ended = ended })
+service_in (entries.Stepped (reports.Served reference unit lbn started seek ended)) =
+    Some (record {
+      reference = reference;
+      unit = unit;
+      lbn = lbn;
+      started = started;
+      seek = seek;
+      ended = ended;
+    })
 service_in entry = None
 
 -- if a command starts, the start obeys R (profile)

@@ -78,7 +78,8 @@ figure_polled c rs order = 0
 
 -- what a command becomes that isn't refused: it is queued, or answered at once (manual)
 abbrev pub taken_as : Settings → Command → Sent
-taken_as c command = if is_queued c command then sents.Queued command.reference else sents.Answered command.reference None
+taken_as c command =
+    if is_queued c command then sents.Queued command.reference else sents.Answered command.reference None
 
 -- what is held once a command waits, or an end was made
 abbrev pub queued : {K : Type 0} → Holdings K → Command → Holdings K
@@ -89,7 +90,8 @@ ended h end = record h { untaken = h.untaken ++ end ∷ [] }
 
 -- the end of an answered command, with the figure that it asks for
 abbrev pub answered_end : {K : Type 0} → Holdings K → Command → End
-answered_end h command = own_end h.settings (drive_of h.drives command.unit).online (figure_polled h.settings h.waiting command.order) command
+answered_end h command =
+    own_end h.settings (drive_of h.drives command.unit).online (figure_polled h.settings h.waiting command.order) command
 
 -- what is held after the command
 abbrev pub arrives : {K : Type 0} → Holdings K → Command → Holdings K
@@ -122,7 +124,8 @@ ends_reported (Served reference unit lbn started seek ended) = option_to_list en
 
 -- what a step with this block may report, and what is held after it: a relation, since any command that may start may
 -- be the one that the picker picks (profile)
-pub record Steps {K : Type 0} (picks : List Choice → ℕ → Type 0) (k : Block) (old : Holdings K) (report : Report) (new : Holdings K) : Type 0 where
+pub record Steps {K : Type 0} (picks : List Choice → ℕ → Type 0) (k : Block)
+    (old : Holdings K) (report : Report) (new : Holdings K) : Type 0 where
   -- the queue serves a command, or is idle
   pub serves : Serves picks k (line_of old) report (line_of new)
   -- the end that it brings, if it does, is untaken
@@ -153,7 +156,8 @@ Answers picks old events.Look (entries.Looked list) new =
 Answers picks old event entry new = ⊥
 
 -- what may be answered to events, one after the other, and what is held after them
-abbrev pub Answered : {K : Type 0} → (List Choice → ℕ → Type 0) → Holdings K → List Event → List Entry → Holdings K → Type 0
+abbrev pub Answered : {K : Type 0}
+    → (List Choice → ℕ → Type 0) → Holdings K → List Event → List Entry → Holdings K → Type 0
 Answered picks old [] [] new = new ≡ old
 Answered {K} picks old (event ∷ events) (entry ∷ entries) new =
     (next : Holdings K) × Answers picks old event entry next × Answered picks next events entries new

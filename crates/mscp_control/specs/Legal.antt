@@ -69,7 +69,8 @@ abbrev pub IsRight : Settings → Trace → Event → Entry → Type 0
 IsRight c t (events.Send b) (entries.Sent sent) = sent ≡ arrival c t b.items
 IsRight c t (events.Step k) (entries.Stepped reports.Idle) = waiting t ≡ []
 IsRight c t (events.Step k) (entries.Stepped report) = IsStep c t k (service_in (entries.Stepped report))
-IsRight c t events.Take (entries.Taken end) = end ≡ option_map (λ e. record { items = end_bytes e }) (slice_get (untaken c t) 0)
+IsRight c t events.Take (entries.Taken end) =
+    end ≡ option_map (λ e. record { items = end_bytes e }) (slice_get (untaken c t) 0)
 IsRight c t events.Look (entries.Looked list) = list.items ≡ map (λ x. (reference t x, figure c t x)) (waiting t)
 IsRight c t event entry = ⊥
 

@@ -49,7 +49,8 @@ answer_body c figure number order = refused_body (endcode order)
 -- the end of an answered command that is refused with this status, or isn't (manual)
 abbrev pub own_end_with : Settings → Bool → ℕ → Command → Option ℕ → End
 own_end_with c online figure command (Some status) = refused_end command status
-own_end_with c online figure command None = end_with command (answer_status online command.order) (answer_body c figure command.unit command.order)
+own_end_with c online figure command None =
+    end_with command (answer_status online command.order) (answer_body c figure command.unit command.order)
 
 -- the end of an answered command, where its unit is online or not, with the figure that it asks for (manual)
 abbrev pub own_end : Settings → Bool → ℕ → Command → End

@@ -34,7 +34,8 @@ states_served n order (Some s) = if same_name (service_name s) n then states_end
 -- one of its commands (manual)
 abbrev pub states_at : ℕ → Trace → Moment → List Bool
 states_at u t m =
-    flat_map (λ x. if nat_eq (unit t x) u then states_served (name t x) (order t x) (service_in m.1) else []) (waiting t)
+    flat_map (λ x. if nat_eq (unit t x) u then states_served (name t x) (order t x) (service_in m.1)
+    else []) (waiting t)
 
 -- the unit of this number is online: the last ONLINE or AVAILABLE of the unit that a step ended well was an
 -- ONLINE. At first it is available (manual)
@@ -46,7 +47,8 @@ is_online t u = last_or (collect (states_at u) t) false
 -- the cylinder of the block that a step of the unit touched, if it touched one (manual)
 abbrev pub cylinder_touched : Shape → ℕ → Option Service → List ℕ
 cylinder_touched shape u None = []
-cylinder_touched shape u (Some s) = if nat_eq s.unit u then option_to_list (option_map (cylinder_of shape) s.lbn) else []
+cylinder_touched shape u (Some s) =
+    if nat_eq s.unit u then option_to_list (option_map (cylinder_of shape) s.lbn) else []
 
 -- the cylinder of the unit's head: that of the last block that was touched, 0 at first (profile)
 unfoldable pub head_cylinder : Settings → Trace → ℕ → ℕ

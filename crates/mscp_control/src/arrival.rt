@@ -21,7 +21,8 @@ pub(crate) fn may_take_last_credit(opcode: u8) -> bool
 
 /// The weight of a transfer to the unit, or the status that refuses it.
 fn judge_move(config: &Config, number: u16, count: u32, block: u32) -> Result<u32, u16>
-    ensures weight { result ≡ weighed (move_fault config.now count block (unit_found config.now number)) (weight count) }
+    ensures weight { result ≡ weighed (move_fault config.now count block (unit_found config.now number))
+        (weight count) }
     ensures small { IfOk result (λ steps. block + steps ≤ 2 ^ 32) }
 {
     match config.units().find(number) {

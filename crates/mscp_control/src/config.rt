@@ -38,11 +38,35 @@ impl Model for Config {
 
     ghost Value = { Settings };
 
-    ghost view = { λ c. record { credits = c.credits; passing = c.passing; longest = c.longest; timeout = c.timeout; id = c.id; units = c.units } };
+    ghost view = { λ c.
+        record {
+          credits = c.credits;
+          passing = c.passing;
+          longest = c.longest;
+          timeout = c.timeout;
+          id = c.id;
+          units = c.units;
+        } };
 
-    ghost invariant = { λ c. IsValid (record { credits = c.credits; passing = c.passing; longest = c.longest; timeout = c.timeout; id = c.id; units = c.units }) };
+    ghost invariant = { λ c.
+        IsValid (record {
+          credits = c.credits;
+          passing = c.passing;
+          longest = c.longest;
+          timeout = c.timeout;
+          id = c.id;
+          units = c.units;
+        }) };
 
-    ghost inverse = { λ s. record { credits = s.credits; passing = s.passing; longest = s.longest; timeout = s.timeout; id = s.id; units = s.units } };
+    ghost inverse = { λ s.
+        record {
+          credits = s.credits;
+          passing = s.passing;
+          longest = s.longest;
+          timeout = s.timeout;
+          id = s.id;
+          units = s.units;
+        } };
 }
 
 impl Config {
@@ -59,7 +83,8 @@ impl Config {
         id: u64,
         units: Units,
     ) -> Result<Config, ConfigFault>
-        ensures { let s : Settings = record { credits = credits; passing = passing; longest = longest; timeout = timeout; id = id; units = units } in
+        ensures { let s : Settings =
+            record { credits = credits; passing = passing; longest = longest; timeout = timeout; id = id; units = units } in
             result ≡ configured s }
     {
         // The list of the units tells that it is one.

@@ -51,15 +51,22 @@ pub struct Controller<K> {
     untaken: ArrayVec<End, 64>,
 }
 
-// A clause sees the settings, the waiting commands and the ends that weren't taken, each oldest first, the drives in the
-// order of their units, and the picker.
+// A clause sees the settings, the waiting commands and the ends that weren't taken, each oldest first, the drives in
+// the order of their units, and the picker.
 impl<K> Model for Controller<K> {
     ghost use Rattle.mscp_control.specs.Holdings.{Holdings};
     ghost use Rattle.mscp_control.specs.Kept.{IsHeld};
 
     ghost Value = { Holdings K };
 
-    ghost view = { λ h. record { settings = h.config; waiting = h.queue.waiting; untaken = h.untaken.items; drives = h.queue.drives; picker = h.queue.picker } };
+    ghost view = { λ h.
+        record {
+          settings = h.config;
+          waiting = h.queue.waiting;
+          untaken = h.untaken.items;
+          drives = h.queue.drives;
+          picker = h.queue.picker;
+        } };
 
     ghost invariant = { λ h. IsHeld h.config h.queue h.untaken.items };
 }
@@ -101,7 +108,8 @@ impl<K: Picker> Controller<K> {
     /// The figure of the waiting command with the reference number, 0 if there is none: how many steps it
     /// may still wait, at most.
     pub fn figure(&self, reference: u32) -> u32
-        ensures value { result ≡ figure_of_reference self.now.settings.passing self.now.settings.longest self.now.waiting reference }
+        ensures value { result
+            ≡ figure_of_reference self.now.settings.passing self.now.settings.longest self.now.waiting reference }
         ensures account { IsBalanced self.now }
     {
         self.queue.figure(reference)

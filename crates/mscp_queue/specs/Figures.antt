@@ -22,7 +22,8 @@ figure_at_place passing longest rs (Some place) = figure_at passing longest rs p
 
 -- the figure of the waiting command of a reference number, 0 if there is none (profile)
 abbrev pub figure_of_reference : ℕ → ℕ → List Record → ℕ → ℕ
-figure_of_reference passing longest rs reference = figure_at_place passing longest rs (position (has_reference reference) rs)
+figure_of_reference passing longest rs reference =
+    figure_at_place passing longest rs (position (has_reference reference) rs)
 
 -- the reference numbers and the figures of the records at these places
 abbrev pub figures_from : ℕ → ℕ → List Record → List ℕ → List (ℕ × ℕ)

@@ -18,7 +18,8 @@ nobody = record { seen = replicate 16 false; fenced = replicate 16 false; afford
 -- those in front let a record start, whose drive stands at this place
 abbrev pub is_let : Front → Record → ℕ → Bool
 is_let f r place =
-    (if is_sequential r.command.order then not (slice_index_or f.seen place false) else not (slice_index_or f.fenced place false))
+    (if is_sequential r.command.order then not (slice_index_or f.seen place false)
+    else not (slice_index_or f.fenced place false))
     && f.affordable
 
 -- a record among those in front, whose drive stands at this place

@@ -44,7 +44,8 @@ served k line place = record line {
 }
 
 -- the step serves the record at a place
-pub record ServesAt {K : Type 0} (picks : List Choice → ℕ → Type 0) (k : Block) (old : Line K) (report : Report) (new : Line K) (place : ℕ) : Type 0 where
+pub record ServesAt {K : Type 0} (picks : List Choice → ℕ → Type 0)
+    (k : Block) (old : Line K) (report : Report) (new : Line K) (place : ℕ) : Type 0 where
   -- it may be served next (profile)
   pub next : IsNext picks old.passing old.waiting place
   -- this is what is reported of it (manual, the seek is the profile's)

@@ -18,7 +18,14 @@ use Rattle.mscp_queue.specs.Orders.{endcode, first_block, is_move}
 
 -- the end of a command with this status and body (manual)
 abbrev pub end_with : Command → ℕ → EndBody → End
-end_with command status body = record { reference = command.reference; unit = command.unit; code = endcode command.order; status = status; body = body }
+end_with command status body =
+    record {
+      reference = command.reference;
+      unit = command.unit;
+      code = endcode command.order;
+      status = status;
+      body = body;
+    }
 
 -- a status whose code is Success (manual)
 abbrev pub is_success : ℕ → Bool

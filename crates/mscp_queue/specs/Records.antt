@@ -21,7 +21,14 @@ fresh_record c = record { command = c; weight = order_weight c.order; done = 0; 
 
 -- a record of nothing, which stands past the end of a list
 abbrev pub no_record : Record
-no_record = record { command = record { reference = 0; unit = 0; order = orders.Online }; weight = 0; done = 0; good = 0; passes = 0 }
+no_record =
+    record {
+      command = record { reference = 0; unit = 0; order = orders.Online };
+      weight = 0;
+      done = 0;
+      good = 0;
+      passes = 0;
+    }
 
 -- the record at a place: past the end, one of nothing
 abbrev pub record_at : List Record → ℕ → Record

@@ -47,7 +47,8 @@ drive_after k d r = record {
 -- what a step with this block reports of a record (manual)
 abbrev pub report_of : Block → Drive → Record → Report
 report_of k d r =
-    Served r.command.reference r.command.unit (touched d r) (is_unstarted r) (seek_from d (touched d r)) (end_given k d r)
+    Served r.command.reference r.command.unit (touched d r) (is_unstarted r) (seek_from d (touched d r))
+    (end_given k d r)
 
 -- ---- a record among the others
 

@@ -33,7 +33,8 @@ open_places passing rs = filter (is_open_at passing rs) (range_with_len 0 (lengt
 
 -- what a picker sees of a record (profile)
 abbrev pub choice_of : Record → Choice
-choice_of r = record { reference = r.command.reference; unit = r.command.unit; class = order_class r.command.order; cost = 0 }
+choice_of r =
+    record { reference = r.command.reference; unit = r.command.unit; class = order_class r.command.order; cost = 0 }
 
 abbrev pub choices_at : List Record → List ℕ → List Choice
 choices_at rs places = map (λ place. choice_of (record_at rs place)) places

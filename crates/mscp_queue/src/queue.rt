@@ -56,7 +56,15 @@ impl<K> Model for Queue<K> {
 
     ghost Value = { Line K };
 
-    ghost view = { λ q. record { room = q.room; passing = q.passing; longest = q.longest; waiting = q.waiting.items; drives = q.drives.items; picker = q.picker } };
+    ghost view = { λ q.
+        record {
+          room = q.room;
+          passing = q.passing;
+          longest = q.longest;
+          waiting = q.waiting.items;
+          drives = q.drives.items;
+          picker = q.picker;
+        } };
 
     ghost invariant = { λ q. IsHeld q.room q.passing q.longest q.waiting.items q.drives.items };
 }
@@ -112,8 +120,10 @@ impl<K: Picker> Queue<K> {
         requires room { length self.old.waiting < self.old.room }
         requires apart { list_any (has_reference new.reference) self.old.waiting ≡ false }
         requires weight { new.weight ≡ order_weight new.order }
-        requires waitable { IsWaitable self.old.longest (units_of self.old.drives) (record { reference = new.reference; unit = new.unit; order = new.order }) }
-        ensures { self.new ≡ pushed self.old (record { reference = new.reference; unit = new.unit; order = new.order }) }
+        requires waitable { IsWaitable self.old.longest (units_of self.old.drives)
+            (record { reference = new.reference; unit = new.unit; order = new.order }) }
+        ensures { self.new ≡
+            pushed self.old (record { reference = new.reference; unit = new.unit; order = new.order }) }
     {
         let command = Command {
             reference: new.reference,

@@ -16,14 +16,15 @@ pub struct Record {
     passes: u32,
 }
 
-// A clause sees how many of its blocks were good, too. A bad block ends its command, so all that were served of one that
-// waits were good, and one count stands for both.
+// A clause sees how many of its blocks were good, too. A bad block ends its command, so all that were served of one
+// that waits were good, and one count stands for both.
 impl Model for Record {
     ghost use Rattle.mscp_queue.specs.Records.{Record as Told};
 
     ghost Value = { Told };
 
-    ghost view = { λ r. record { command = r.command; weight = r.weight; done = r.done; good = r.done; passes = r.passes } };
+    ghost view = { λ r.
+        record { command = r.command; weight = r.weight; done = r.done; good = r.done; passes = r.passes } };
 
     ghost invariant = { λ r. Unit {0} };
 

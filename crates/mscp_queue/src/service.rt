@@ -81,7 +81,8 @@ pub(crate) fn serve(drive: &Drive, served: &Record, block: &Block) -> Service
     ensures seek { result.seek ≡ seek_from drive.now (touched drive.now served.now) }
     ensures ended { result.ended ≡ end_given block.now drive.now served.now }
     ensures drive { result.drive ≡ drive_after block.now drive.now served.now }
-    ensures on_unit { ((lbn : ℕ) → touched drive.now served.now ≡ Some lbn → lbn < drive.now.unit.size) → IsOnUnit drive.now → IsOnUnit result.drive }
+    ensures on_unit { ((lbn : ℕ) → touched drive.now served.now ≡ Some lbn → lbn < drive.now.unit.size)
+        → IsOnUnit drive.now → IsOnUnit result.drive }
 {
     let lbn = touched(drive, served);
     let ended = end_given(drive, served, block);

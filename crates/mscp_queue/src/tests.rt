@@ -43,7 +43,8 @@ fn queue(rt: &impl Abort, passing: u32) -> Queue<Newest>
 fn read(reference: u32) -> Waiting
     ensures reference { result.reference ≡ reference }
     ensures weight { result.weight ≡ order_weight result.order }
-    ensures waitable { IsWaitable 8 (shape 0 10 2 1 1000 1 0 1 ∷ []) (record { reference = result.reference; unit = result.unit; order = result.order }) }
+    ensures waitable { IsWaitable 8 (shape 0 10 2 1 1000 1 0 1 ∷ [])
+        (record { reference = result.reference; unit = result.unit; order = result.order }) }
 {
     Waiting {
         reference,

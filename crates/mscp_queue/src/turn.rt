@@ -31,7 +31,8 @@ fn serve_front(records: &mut [Record], place: usize, toll: u32)
     requires place { place < length records.old }
     requires small { All (λ r. r.passes + toll < 2 ^ 32) (take place records.old) }
     requires unfinished { (record_at records.old place).done + 1 < 2 ^ 32 }
-    ensures served { records.new ≡ map (passed_by toll) (take place records.old) ++ (advanced (record_at records.old place) ∷ drop (place + 1) records.old) }
+    ensures served { records.new
+        ≡ map (passed_by toll) (take place records.old) ++ (advanced (record_at records.old place) ∷ drop (place + 1) records.old) }
     ensures long { length records.new ≡ length records.old }
 {
     pass_front(records, place, toll);
@@ -44,7 +45,9 @@ pub(crate) fn leave(waiting: &mut ArrayVec<Record, 64>, place: usize, toll: u32,
     requires place { place < length waiting.old.items }
     requires small { All (λ r. r.passes + toll < 2 ^ 32) (take place waiting.old.items) }
     requires unfinished { (record_at waiting.old.items place).done + 1 < 2 ^ 32 }
-    ensures { waiting.new.items ≡ map (passed_by toll) (take place waiting.old.items) ++ (cond ends [] (advanced (record_at waiting.old.items place) ∷ []) ++ drop (place + 1) waiting.old.items) }
+    ensures { waiting.new.items
+        ≡ map (passed_by toll) (take place waiting.old.items)
+        ++ (cond ends [] (advanced (record_at waiting.old.items place) ∷ []) ++ drop (place + 1) waiting.old.items) }
 {
     serve_front(waiting.as_mut_slice(), place, toll);
     if ends {

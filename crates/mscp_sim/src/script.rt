@@ -33,7 +33,8 @@ pub struct Script {
 /// times.
 pub fn read_script(alloc: Global, bytes: &[u8]) -> Result<Script, ReadFault>
     ensures events { IfOk result (λ script. vec_len script.events ≤ 1000000) }
-    ensures size { (result ≡ Err (ReadFault.Script (record { line = 0; cause = Cause.Size }))) ↔ (MOST_BYTES < length bytes.now) }
+    ensures size { (result ≡ Err (ReadFault.Script (record { line = 0; cause = Cause.Size })))
+        ↔ (MOST_BYTES < length bytes.now) }
 {
     if bytes.len() > MOST_BYTES {
         return Err(ReadFault::Script(ScriptFault {

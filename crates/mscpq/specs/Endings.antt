@@ -16,7 +16,8 @@ fault_status (Simulation fault) = 3
 -- what is said of a fault
 abbrev pub fault_text : Fault → List ℕ
 fault_text Usage = codes "usage: mscpq"
-fault_text (Simulation (sims.Script fault)) = codes "line " ++ decimal fault.line ++ codes ": " ++ cause_word fault.cause
+fault_text (Simulation (sims.Script fault)) =
+    codes "line " ++ decimal fault.line ++ codes ": " ++ cause_word fault.cause
 fault_text (Simulation sims.Read) = codes "cannot read"
 fault_text (Simulation sims.Write) = codes "cannot write"
 fault_text (Simulation sims.OutOfMemory) = codes "out of memory"

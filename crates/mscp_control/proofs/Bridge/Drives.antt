@@ -22,10 +22,10 @@ use Rattle.mscp_control.specs.Ends.{outcome}
 use Rattle.mscp_control.specs.Legal.{IsRight, block_of, end_of, seek_to}
 use Rattle.mscp_queue.specs.Serving.{drive_after, end_given, seek_from, state_left, touched}
 use Rattle.mscp_control.specs.Controllers.{drive_at}
-use Rattle.mscp_control.proofs.Lists.{Pairs, every_from, every_weaker, pairs_middle}
+use Rattle.mscp_queue.proofs.Lists.{Pairs, every_from, every_weaker, pairs_middle}
 use Rattle.mscp_control.proofs.Promise.Served.{Step, some_same}
 use Rattle.mscp_control.proofs.Promise.Queued.{each_queued, queued_open}
-use Rattle.mscp_control.proofs.Placed.{find_first, map_map, map_on}
+use Rattle.mscp_queue.proofs.Placed.{find_first, map_map, map_on}
 use Rattle.mscp_control.proofs.Bridge.Legals.{service_by}
 use Rattle.mscp_control.proofs.Promise.States.{head_empty, head_kept, head_other, head_own, is_online_empty, is_online_ended, is_online_kept, is_online_other, is_online_unended}
 use Rattle.mscp_control.proofs.Bridge.Held.{held_of}

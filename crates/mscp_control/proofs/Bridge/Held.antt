@@ -15,7 +15,7 @@ use Rattle.mscp_queue.specs.Figures.{figure_at, figure_between, figure_of_refere
 use Rattle.mscp_control.proofs.Promise.Falls.{figure_split}
 use Rattle.mscp_control.proofs.Promise.Falls as falls
 use Rattle.mscp_control.proofs.Promise.Known.{Known}
-use Rattle.mscp_control.proofs.Placed.{at_place, find_cases, find_none, find_first, position_none, position_first, filter_map_of, sum_by_map}
+use Rattle.mscp_queue.proofs.Placed.{at_place, find_cases, find_none, find_first, position_none, position_first, filter_map_of, sum_by_map}
 
 -- the record of a command
 abbrev pub held_of : Trace → ℕ → Record

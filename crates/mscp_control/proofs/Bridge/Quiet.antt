@@ -13,13 +13,13 @@ use Rattle.mscp_control.specs.Commands.{reference, waiting, done, good, service_
 use Rattle.mscp_control.specs.Passing.{passes}
 use Rattle.mscp_control.specs.Ends.{ends, ends_at, untaken}
 use Rattle.mscp_control.specs.Legal.{IsRight}
-use Rattle.mscp_control.proofs.Lists.{every_weaker, every_from, filter_all}
+use Rattle.mscp_queue.proofs.Lists.{every_weaker, every_from, filter_all}
 use Rattle.mscp_control.proofs.Promise.Grows.{command_before, command_last, done_last, good_before, good_last, waiting_more, taken_more, ends_more}
 use Rattle.mscp_control.proofs.Promise.Waits.{waiting_below, passes_last}
 use Rattle.mscp_control.proofs.Promise.Steady.{done_kept}
 use Rattle.mscp_control.proofs.Promise.Passed.{none_starts}
 use Rattle.mscp_control.proofs.Promise.Known.{known_more}
-use Rattle.mscp_control.proofs.Placed.{map_on}
+use Rattle.mscp_queue.proofs.Placed.{map_on}
 use Rattle.mscp_control.proofs.Bridge.Held.{held_of, Follows}
 
 -- the moment serves nobody and ends nobody

@@ -30,7 +30,7 @@ use Rattle.mscp_control.specs.Holdings.{Holdings, after_message, answer_to_messa
 use Rattle.mscp_queue.specs.Drives.{drive_of}
 use Rattle.mscp_queue.specs.Figures.{figure_of_reference}
 use Rattle.mscp_control.proofs.Promise.Grows.{untaken_more}
-use Rattle.mscp_control.proofs.Placed.{map_map}
+use Rattle.mscp_queue.proofs.Placed.{map_map}
 use Rattle.mscp_control.proofs.Bridge.Held.{held_of, Follows, figure_of_held}
 use Rattle.mscp_control.proofs.Bridge.Quiet.{IsQuiet, follows_quiet, follows_queued}
 use Rattle.mscp_control.proofs.Bridge.Drives.{Driven, drive_found, driven_kept}

@@ -31,7 +31,7 @@ use Rattle.mscp_control.specs.Units.{is_online}
 use Rattle.mscp_control.specs.Ends.{outcome, untaken}
 use Rattle.mscp_control.specs.Legal.{IsPick, IsRight, block_of, end_of, IsServed, seek_to, view}
 use Rattle.mscp_control.specs.Holdings.{Holdings, ends_reported, line_of}
-use Rattle.mscp_control.proofs.Lists.{every_weaker, every_both, every_filter, every_from, every_parts}
+use Rattle.mscp_queue.proofs.Lists.{every_weaker, every_both, every_filter, every_from, every_parts}
 use Rattle.mscp_control.proofs.Promise.Grows.{command_before, done_before, good_before, untaken_more}
 use Rattle.mscp_control.proofs.Promise.Waits.{cut_of, waiting_below, waiting_waits}
 use Rattle.mscp_control.proofs.Promise.Apart.{Apart}
@@ -40,7 +40,7 @@ use Rattle.mscp_control.proofs.Promise.Served.{Serves, Step, changes, below_part
 use Rattle.mscp_control.proofs.Promise.Passed.{none_starts, passed_behind, passed_front}
 use Rattle.mscp_control.proofs.Promise.Known.{known_more}
 use Rattle.mscp_control.proofs.Bridge.Legals.{service_by}
-use Rattle.mscp_control.proofs.Placed.{map_map, map_on}
+use Rattle.mscp_queue.proofs.Placed.{map_map, map_on}
 use Rattle.mscp_control.proofs.Bridge.Held.{held_of}
 use Rattle.mscp_control.proofs.Bridge.Drives.{Driven, drive_by, drive_found, driven_served, end_held, seek_held}
 use Rattle.mscp_control.proofs.Bridge.Quiet.{held_same, records_kept}

@@ -12,8 +12,8 @@ use Rattle.mscp_control.specs.History.{Trace}
 use Rattle.mscp_control.specs.Commands.{waiting, earlier, is_idle}
 use Rattle.mscp_control.specs.Passing.{fences, is_affordable, is_free, is_startable, passes, startable}
 use Rattle.mscp_control.specs.Legal.{choice, view}
-use Rattle.mscp_control.proofs.Lists.{every_kept, every_weaker, range_below}
-use Rattle.mscp_control.proofs.Placed.{map_map, map_on}
+use Rattle.mscp_queue.proofs.Lists.{every_kept, every_weaker, range_below}
+use Rattle.mscp_queue.proofs.Placed.{map_map, map_on}
 use Rattle.mscp_control.proofs.Promise.Waits.{cut_of, earlier_is}
 use Rattle.mscp_control.proofs.Bridge.Held.{held_of}
 

@@ -7,7 +7,7 @@ use Rattle.mscp_control.specs.Settings.{Settings}
 use Rattle.mscp_control.specs.History.{Trace}
 use Rattle.mscp_control.specs.Commands.{reference, waiting}
 use Rattle.mscp_control.specs.Figures.{figure, figure_of, figure_found}
-use Rattle.mscp_control.proofs.Lists.{every_weaker, pairs_middle}
+use Rattle.mscp_queue.proofs.Lists.{every_weaker, pairs_middle}
 use Rattle.mscp_control.proofs.Promise.Waits.{Cut}
 use Rattle.mscp_control.proofs.Promise.Apart.{Apart}
 

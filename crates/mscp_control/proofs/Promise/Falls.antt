@@ -11,7 +11,7 @@ use Rattle.mscp_control.specs.History.{Trace, Moment, Service, service_in}
 use Rattle.mscp_control.specs.Commands.{reference, weight, is_waiting, waiting, done, left, in_service, earlier, later, ends_in}
 use Rattle.mscp_control.specs.Passing.{toll, passes}
 use Rattle.mscp_control.specs.Figures.{figure}
-use Rattle.mscp_control.proofs.Lists.{every_weaker, every_append, every_parts, filter_none, sum_on}
+use Rattle.mscp_queue.proofs.Lists.{every_weaker, every_append, every_parts, filter_none, sum_on}
 use Rattle.mscp_control.proofs.Promise.Grows.{is_waiting_before}
 use Rattle.mscp_control.proofs.Promise.Waits.{waiting_waits, waiting_below, cut_of, earlier_is, later_is}
 use Rattle.mscp_control.proofs.Promise.Served.{kept_own}

@@ -8,7 +8,7 @@ use Rattle.mscp_control.specs.Settings.{Settings}
 use Rattle.mscp_control.specs.History.{Trace, Moment, Service}
 use Rattle.mscp_control.specs.Commands.{weight, is_waiting, done, service_starts}
 use Rattle.mscp_control.specs.Passing.{toll, passes}
-use Rattle.mscp_control.proofs.Lists.{every_weaker, every_both, every_parts}
+use Rattle.mscp_queue.proofs.Lists.{every_weaker, every_both, every_parts}
 use Rattle.mscp_control.proofs.Promise.Waits.{waiting_waits}
 use Rattle.mscp_control.proofs.Promise.Served.{Step, below_parts}
 use Rattle.mscp_control.proofs.Promise.Steady.{weight_before}

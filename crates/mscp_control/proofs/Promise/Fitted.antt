@@ -7,7 +7,7 @@ use Rattle.mscp_control.specs.Settings.{Settings}
 use Rattle.mscp_control.specs.History.{Trace, Moment, Service, service_in}
 use Rattle.mscp_control.specs.Commands.{weight, waiting, done, service_starts}
 use Rattle.mscp_control.specs.Passing.{toll, passes}
-use Rattle.mscp_control.proofs.Lists.{every_weaker, every_parts}
+use Rattle.mscp_queue.proofs.Lists.{every_weaker, every_parts}
 use Rattle.mscp_control.proofs.Promise.Waits.{waiting_below, earlier_is}
 use Rattle.mscp_control.proofs.Promise.Served.{Step}
 use Rattle.mscp_control.proofs.Promise.Starts.{startable_of, startable_parts}

@@ -16,7 +16,7 @@ use Rattle.mscp_control.specs.History.{Trace, Moment, moment, positions, collect
 use Rattle.mscp_control.specs.Commands.{command, reference, is_waiting, waiting, done, good, steps_after, serves_in, ends_in}
 use Rattle.mscp_control.specs.Passing.{passes_at, passes}
 use Rattle.mscp_control.specs.Ends.{ends_at, ends, untaken}
-use Rattle.mscp_control.proofs.Lists.{filter_on, filter_filter, sum_on, flat_on, every_weaker, range_more, range_below}
+use Rattle.mscp_queue.proofs.Lists.{filter_on, filter_filter, sum_on, flat_on, every_weaker, range_more, range_below}
 
 pub moment_before : (t : Trace) (m : Moment) (x : ℕ) → x < length t → moment (t ++ m ∷ []) x ≡ moment t x
 unfolding moment

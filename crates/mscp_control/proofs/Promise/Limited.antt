@@ -7,7 +7,7 @@ use Rattle.mscp_control.specs.History.{Trace, Moment, queues, Service, service_i
 use Rattle.mscp_control.specs.Commands.{reference, waiting, ends_in}
 use Rattle.mscp_control.specs.Passing.{toll, passes}
 use Rattle.mscp_control.specs.Legal.{IsRight}
-use Rattle.mscp_control.proofs.Lists.{every_weaker, every_kept, every_append, every_parts, every_both}
+use Rattle.mscp_queue.proofs.Lists.{every_weaker, every_kept, every_append, every_parts, every_both}
 use Rattle.mscp_control.proofs.Promise.Grows.{waiting_more}
 use Rattle.mscp_control.proofs.Promise.Waits.{passes_last}
 use Rattle.mscp_control.proofs.Promise.Served.{step_right}

@@ -9,7 +9,7 @@ use Rattle.mscp_control.specs.Settings.{Settings}
 use Rattle.mscp_control.specs.History.{Trace, Moment, Service, service_in}
 use Rattle.mscp_control.specs.Commands.{reference, waiting, later, starts_in, service_starts}
 use Rattle.mscp_control.specs.Passing.{toll, is_unstarted, passes_at, passes}
-use Rattle.mscp_control.proofs.Lists.{every_weaker, every_append, every_from, filter_filter, filter_none, filter_one}
+use Rattle.mscp_queue.proofs.Lists.{every_weaker, every_append, every_from, filter_filter, filter_none, filter_one}
 use Rattle.mscp_control.proofs.Promise.Grows.{passes_more}
 use Rattle.mscp_control.proofs.Promise.Served.{Step}
 

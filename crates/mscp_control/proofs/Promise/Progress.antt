@@ -20,7 +20,7 @@ use Rattle.mscp_control.specs.Figures.{figure, figure_of}
 use Rattle.mscp_control.specs.Ends.{answer, answer_to, ends, ends_at}
 use Rattle.mscp_control.specs.Legal.{IsRight, IsLegal}
 use Rattle.mscp_control.specs.Headline.{IsFreeStart, Promise, TellsFigure, poll_end}
-use Rattle.mscp_control.proofs.Lists.{every_weaker, every_append, every_both}
+use Rattle.mscp_queue.proofs.Lists.{every_weaker, every_append, every_both}
 use Rattle.mscp_control.proofs.Promise.Among.{alone, figure_of_one}
 use Rattle.mscp_control.proofs.Promise.Waits.{cut_of, waits_below}
 use Rattle.mscp_control.proofs.Promise.Served.{step_right}

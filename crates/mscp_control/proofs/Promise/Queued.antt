@@ -21,7 +21,7 @@ use Rattle.mscp_control.specs.History.{Trace, Moment, queues, sent_bytes}
 use Rattle.mscp_control.specs.Commands.{command, reference, weight, waiting, ends_in}
 use Rattle.mscp_control.specs.Credits.{balance}
 use Rattle.mscp_control.specs.Legal.{IsRight}
-use Rattle.mscp_control.proofs.Lists.{every_kept, every_append}
+use Rattle.mscp_queue.proofs.Lists.{every_kept, every_append}
 use Rattle.mscp_control.proofs.Promise.Grows.{command_before, command_last, waiting_more}
 use Rattle.mscp_control.proofs.Promise.Waits.{waiting_below}
 use Rattle.mscp_control.proofs.Promise.Arrivals.{Queues, queued_right, if_none}

@@ -23,7 +23,7 @@ use Rattle.mscp_queue.specs.Outcomes.{aborted_end}
 use Rattle.mscp_control.specs.Ends.{aborted, aborted_unless, answer, ends_at, ends, untaken}
 use Rattle.mscp_control.specs.Credits.{balance, becomes_when, aborted_reference}
 use Rattle.mscp_control.specs.Legal.{IsRight}
-use Rattle.mscp_control.proofs.Lists.{every_weaker, every_filter, every_from}
+use Rattle.mscp_queue.proofs.Lists.{every_weaker, every_filter, every_from}
 use Rattle.mscp_control.proofs.Promise.Grows.{waiting_more, ends_more, taken_more, untaken_more}
 use Rattle.mscp_control.proofs.Promise.Arrivals.{arrives}
 use Rattle.mscp_control.proofs.Promise.Served.{step_right}

@@ -14,7 +14,7 @@ use Rattle.mscp_control.specs.Settings.{Settings}
 use Rattle.mscp_control.specs.History.{Trace, Moment, queues, Service, service_in}
 use Rattle.mscp_control.specs.Commands.{reference, waiting, done, service_is, service_ends, ends_in}
 use Rattle.mscp_control.specs.Legal.{IsRight, IsServed}
-use Rattle.mscp_control.proofs.Lists.{every_weaker, every_both, every_parts, filter_all}
+use Rattle.mscp_queue.proofs.Lists.{every_weaker, every_both, every_parts, filter_all}
 use Rattle.mscp_control.proofs.Promise.Grows.{done_before, waiting_more}
 use Rattle.mscp_control.proofs.Promise.Waits.{Cut, cut, waits_below, waiting_below}
 use Rattle.mscp_control.proofs.Promise.Apart.{Apart}

@@ -9,7 +9,7 @@ use Rattle.mscp_control.specs.History.{Trace, Service}
 use Rattle.mscp_control.specs.Commands.{waiting, done, in_service, is_idle, earlier}
 use Rattle.mscp_control.specs.Passing.{toll, passes, is_free, is_affordable, is_startable}
 use Rattle.mscp_control.specs.Legal.{IsServed}
-use Rattle.mscp_control.proofs.Lists.{every_weaker}
+use Rattle.mscp_queue.proofs.Lists.{every_weaker}
 
 pub record Startable (c : Settings) (t : Trace) (y : ℕ) : Type 0 where
   pub idle : AllByRecursion (λ x. done t x ≡ 0) (waiting t)

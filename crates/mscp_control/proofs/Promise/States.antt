@@ -15,7 +15,7 @@ use Rattle.mscp_queue.specs.Outcomes.{is_success, state_after, head_after}
 use Rattle.mscp_control.specs.History.{Trace, Moment, collect, last_or, Service, service_in}
 use Rattle.mscp_control.specs.Commands.{reference, unit, order, waiting}
 use Rattle.mscp_control.specs.Units.{states_given, states_ended, states_served, states_at, is_online, cylinder_touched, way, way_started, head_cylinder, head_up, head}
-use Rattle.mscp_control.proofs.Lists.{every_weaker}
+use Rattle.mscp_queue.proofs.Lists.{every_weaker}
 use Rattle.mscp_control.proofs.Promise.Grows.{last_more}
 use Rattle.mscp_control.proofs.Promise.Among.{Alone}
 use Rattle.mscp_control.proofs.Promise.Served.{Step}

@@ -10,7 +10,7 @@ use Rattle.mscp_control.specs.History.{Trace, Moment, queues}
 use Rattle.mscp_control.specs.Commands.{reference, is_waiting, waiting, done, left, in_service, ends_in}
 use Rattle.mscp_control.specs.Passing.{passes}
 use Rattle.mscp_control.specs.Figures.{figure}
-use Rattle.mscp_control.proofs.Lists.{every_weaker, every_parts, every_kept, filter_on}
+use Rattle.mscp_queue.proofs.Lists.{every_weaker, every_parts, every_kept, filter_on}
 use Rattle.mscp_control.proofs.Promise.Grows.{is_waiting_before, waiting_more}
 use Rattle.mscp_control.proofs.Promise.Waits.{waiting_waits, waiting_below}
 use Rattle.mscp_control.proofs.Promise.Figured.{Figured, record_of, record_left}

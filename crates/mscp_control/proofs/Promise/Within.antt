@@ -11,7 +11,7 @@ use Rattle.mscp_control.specs.Passing.{passes}
 use Rattle.mscp_control.specs.Figures.{figure}
 use Rattle.mscp_control.specs.Credits.{balance}
 use Rattle.mscp_control.specs.Legal.{IsRight}
-use Rattle.mscp_control.proofs.Lists.{every_weaker, every_kept, every_append, every_parts, every_both}
+use Rattle.mscp_queue.proofs.Lists.{every_weaker, every_kept, every_append, every_parts, every_both}
 use Rattle.mscp_control.proofs.Promise.Grows.{waiting_more, done_last, steps_more, steps_last}
 use Rattle.mscp_control.proofs.Promise.Waits.{waiting_below, passes_last}
 use Rattle.mscp_control.proofs.Promise.Arrivals.{queued_right}

@@ -95,7 +95,8 @@ impl From<OutOfMemory> for ReadFault {
 impl ScriptFault {
     /// The outcome of reading this line, with the line in its fault.
     pub(super) fn at<T>(line: u32, outcome: Result<T, Cause>) -> Result<T, ScriptFault>
-        ensures { MatchResult outcome (λ value. result ≡ Ok value) (λ cause. result ≡ Err (record { line = line; cause = cause })) }
+        ensures { MatchResult outcome (λ value. result ≡ Ok value)
+            (λ cause. result ≡ Err (record { line = line; cause = cause })) }
     {
         match outcome {
             Ok(value) => Ok(value),

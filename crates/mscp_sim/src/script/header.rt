@@ -109,8 +109,8 @@ fn unit_of(words: Words<'_>) -> Result<Unit, Cause> {
     }
 }
 
-/// What a line after these units brings: one more unit, or nothing where it is `go`. The words and numbers of a unit are
-/// judged before its number, which has to be above those of the units before it, and before there are too many.
+/// What a line after these units brings: one more unit, or nothing where it is `go`. The words and numbers of a unit
+/// are judged before its number, which has to be above those of the units before it, and before there are too many.
 fn unit_or_go(mut words: Words<'_>, units: &[Unit]) -> Result<Option<Unit>, Cause>
     ensures { IfOk result (λ found. IfSome found (λ _. length units.now < MOST_UNITS)) }
 {
