@@ -1,5 +1,5 @@
 -- The opcode byte of a message is that of its command.
-use Rattle.std.proofs.Common.{◌≡◌, ℕ, Bool, true, false, cond, List, [], ◌∷◌, length, get_or, refl, ap, sym, ◌∙◌}
+use Rattle.std.proofs.Common.{◌≡◌, ℕ, Bool, true, false, cond, List, [], ◌∷◌, length, refl, ap, sym, ◌∙◌}
 use Rattle.std.specs.Prelude.{find, nat_eq, nat_lt, if◌then◌else◌, is_some, Option, Some, None, slice_index, unwrap_or}
 use Rattle.std.proofs.lemmas.Bool.{eqb-true, false≢true}
 use Rattle.mscp_packet.specs.declared.class.Opcode.{Opcode}
