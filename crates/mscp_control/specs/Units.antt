@@ -52,7 +52,7 @@ cylinder_touched shape u (Some s) =
 
 -- the cylinder of the unit's head: that of the last block that was touched, 0 at first (profile)
 unfoldable pub head_cylinder : Settings → Trace → ℕ → ℕ
-head_cylinder c t u = last_or (collect (λ s m. cylinder_touched (unit_shape c u) u (service_in m.1)) t) 0
+head_cylinder c t u = last_or (collect (λ p m. cylinder_touched (unit_shape c u) u (service_in m.1)) t) 0
 
 -- the way from one cylinder to another, if they differ: true is up (profile)
 abbrev pub way : ℕ → ℕ → List Bool
@@ -65,7 +65,8 @@ way_started shape u from (Some s) = if s.started then flat_map (way from) (cylin
 
 -- the unit's head goes up: the last start that moved it did so. At first it goes up (profile)
 unfoldable pub head_up : Settings → Trace → ℕ → Bool
-head_up c t u = last_or (collect (λ s m. way_started (unit_shape c u) u (head_cylinder c s u) (service_in m.1)) t) true
+head_up c t u =
+    last_or (collect (λ p m. way_started (unit_shape c u) u (head_cylinder c p u) (service_in m.1)) t) true
 
 -- where the unit's head is, and which way it goes (profile)
 abbrev pub head : Settings → Trace → ℕ → Head

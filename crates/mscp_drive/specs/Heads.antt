@@ -14,8 +14,8 @@ distance from to = (from - to) + (to - from)
 
 -- a head after a start that touches a cylinder, which turns it if it moves (profile)
 abbrev pub moved : Head → ℕ → Head
-moved h to = record { cylinder = to; up = if h.cylinder == to then h.up else nat_lt h.cylinder to }
+moved head to = record { cylinder = to; up = if head.cylinder == to then head.up else nat_lt head.cylinder to }
 
 -- a head after a later block of a transfer, on a cylinder (profile)
 abbrev pub carried : Head → ℕ → Head
-carried h to = record { cylinder = to; up = h.up }
+carried head to = record { cylinder = to; up = head.up }

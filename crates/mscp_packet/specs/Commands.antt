@@ -31,14 +31,14 @@ order_with None b = orders.Invalid (slice_index b 8) invalid_opcode
 order_with (Some o) b =
     if nat_lt (length b) (least o) then orders.Invalid (slice_index b 8) invalid_length else parameters o b
 
--- the bytes b, of which there are 12 to 64 (profile), are the command c (manual, "Command Messages"). Nothing is asked
+-- the bytes b, of which there are 12 to 64 (profile), are this command (manual, "Command Messages"). Nothing is asked
 -- of any other place
-pub record IsCommand (b : List ℕ) (c : Command) : Type 0 where
+pub record IsCommand (b : List ℕ) (command : Command) : Type 0 where
   pub low : 12 ≤ length b
   pub high : length b ≤ 64
-  pub reference : c.reference ≡ num b 0 4
-  pub unit : c.unit ≡ num b 4 2
-  pub order : c.order ≡ order_with (opcode_of (slice_index b 8)) b
+  pub reference : command.reference ≡ num b 0 4
+  pub unit : command.unit ≡ num b 4 2
+  pub order : command.order ≡ order_with (opcode_of (slice_index b 8)) b
 
 -- the command that a message is, if it is one (manual, "Command Messages")
 unfoldable pub command_of : List ℕ → Command
@@ -78,17 +78,17 @@ parameter_bytes (orders.Abort other) = little_bytes 4 other
 parameter_bytes (orders.Status other) = little_bytes 4 other
 parameter_bytes (orders.SetController version) = little_bytes 2 version ++ replicate 4 0
 parameter_bytes (orders.Move kind count block) = little_bytes 4 count ++ replicate 12 0 ++ little_bytes 4 block
-parameter_bytes o = []
+parameter_bytes order = []
 
 -- the message that is written of a command (manual, "Command Messages")
 abbrev pub command_bytes : Command → List ℕ
-command_bytes c =
-    little_bytes 4 c.reference
-    ++ little_bytes 2 c.unit
+command_bytes command =
+    little_bytes 4 command.reference
+    ++ little_bytes 2 command.unit
     ++ replicate 2 0
-    ++ (opcode_byte c.order ∷ [])
+    ++ (opcode_byte command.order ∷ [])
     ++ replicate 3 0
-    ++ parameter_bytes c.order
+    ++ parameter_bytes command.order
 
 -- how many bytes are written: those of the table, or 12 of what is no valid command (profile)
 abbrev pub written_with : Option Opcode → ℕ
@@ -96,7 +96,7 @@ written_with None = 12
 written_with (Some o) = (line_of o).written_length
 
 abbrev pub written : Order → ℕ
-written o = written_with (order_opcode o)
+written order = written_with (order_opcode order)
 
 -- where the parameters of a command stand (manual, "Command Messages")
 abbrev pub parameter_fields : Option Opcode → List Field
@@ -104,16 +104,16 @@ parameter_fields (Some codes.Abort) = field 12 4 ∷ []
 parameter_fields (Some codes.Status) = field 12 4 ∷ []
 parameter_fields (Some codes.SetController) = field 12 2 ∷ []
 parameter_fields (Some (codes.Move kind)) = field 12 4 ∷ field 28 4 ∷ []
-parameter_fields o = []
+parameter_fields opcode = []
 
 -- every named place of a command: reference number, unit number, opcode and parameters (manual, "Command Messages")
 abbrev pub command_fields : Order → List Field
-command_fields o = field 0 4 ∷ field 4 2 ∷ field 8 1 ∷ parameter_fields (order_opcode o)
+command_fields order = field 0 4 ∷ field 4 2 ∷ field 8 1 ∷ parameter_fields (order_opcode order)
 
 -- a valid command, so not an Invalid
 abbrev pub IsValidOrder : Order → Type 0
 IsValidOrder (orders.Invalid byte status) = ⊥
-IsValidOrder o = Unit {0}
+IsValidOrder order = Unit {0}
 
 -- the numbers of an order fit their types
 abbrev pub HasRange : Order → Type 0
@@ -121,14 +121,16 @@ HasRange (orders.Abort other) = other < 2 ^ 32
 HasRange (orders.Status other) = other < 2 ^ 32
 HasRange (orders.SetController version) = version < 2 ^ 16
 HasRange (orders.Move kind count block) = (count < 2 ^ 32) × (block < 2 ^ 32)
-HasRange o = Unit {0}
+HasRange order = Unit {0}
 
 -- the numbers of a command fit their types
 abbrev pub HasCommandRange : Command → Type 0
-HasCommandRange c = (c.reference < 2 ^ 32) × (c.unit < 2 ^ 16) × HasRange c.order
+HasCommandRange command = (command.reference < 2 ^ 32) × (command.unit < 2 ^ 16) × HasRange command.order
 
 -- ---- both ways
 
 -- the bytes of a valid command whose numbers fit their types are a message of it
 abbrev pub CommandBytesAreMessages : Type 0
-CommandBytesAreMessages = (c : Command) → IsValidOrder c.order → HasCommandRange c → IsCommand (command_bytes c) c
+CommandBytesAreMessages =
+    (command : Command) → IsValidOrder command.order → HasCommandRange command
+    → IsCommand (command_bytes command) command

@@ -27,13 +27,13 @@ IsInside units number (orders.Move kind count block) =
 IsInside units number order = Unit {0}
 
 -- a command that may wait is sequential or a transfer, to one of the units, and no step of it reaches past its unit
-pub record IsWaitable (longest : ℕ) (units : List Shape) (c : Command) : Type 0 where
-  pub order : (is_sequential c.order || is_move c.order) ≡ true
-  pub known : is_known units c.unit ≡ true
-  pub short : order_weight c.order ≤ longest
-  pub inside : IsInside units c.unit c.order
+pub record IsWaitable (longest : ℕ) (units : List Shape) (command : Command) : Type 0 where
+  pub order : (is_sequential command.order || is_move command.order) ≡ true
+  pub known : is_known units command.unit ≡ true
+  pub short : order_weight command.order ≤ longest
+  pub inside : IsInside units command.unit command.order
   -- its blocks have numbers of 32 bits
-  pub small : first_block c.order + order_weight c.order ≤ 2 ^ 32
+  pub small : first_block command.order + order_weight command.order ≤ 2 ^ 32
 
 -- a command that waits has steps left, all that were served of it were good, and it was passed as often as may be at
 -- the most

@@ -34,7 +34,7 @@ fresh units room passing longest picker = record {
 
 -- a queue once a command waits
 abbrev pub pushed : {K : Type 0} → Line K → Command → Line K
-pushed line c = record line { waiting = line.waiting ++ fresh_record c ∷ [] }
+pushed line command = record line { waiting = line.waiting ++ fresh_record command ∷ [] }
 
 -- a queue after a step of the record at a place
 abbrev pub served : {K : Type 0} → Block → Line K → ℕ → Line K

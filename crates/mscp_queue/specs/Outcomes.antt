@@ -72,20 +72,21 @@ moved_body order good = refused_body (endcode order)
 
 -- what ONLINE and SET UNIT CHARACTERISTICS tell of a unit, with Success alone (manual)
 abbrev pub online_body : Shape → ℕ → EndBody
-online_body s status = if is_success status then bodies.Online s.id s.media s.size s.serial else bodies.Online 0 0 0 0
+online_body shape status =
+    if is_success status then bodies.Online shape.id shape.media shape.size shape.serial else bodies.Online 0 0 0 0
 
 -- the body of a command that the step ends with this status, when so many of its blocks were good (manual)
 abbrev pub outcome_body : Shape → ℕ → Order → ℕ → EndBody
-outcome_body s status orders.Online good = online_body s status
-outcome_body s status orders.SetUnit good = online_body s status
-outcome_body s status order good = moved_body order good
+outcome_body shape status orders.Online good = online_body shape status
+outcome_body shape status orders.SetUnit good = online_body shape status
+outcome_body shape status order good = moved_body order good
 
 -- the end of a command to a unit of this shape that the step ends, when so many of its blocks were good before
 -- (manual)
 abbrev pub outcome_at : Shape → Bool → Command → ℕ → Block → End
-outcome_at s online command good k =
+outcome_at shape online command good k =
     end_with command (outcome_status online command.order k)
-    (outcome_body s (outcome_status online command.order k) command.order
+    (outcome_body shape (outcome_status online command.order k) command.order
     (good + cond (touches online command.order && is_good_block k) 1 0))
 
 -- ---- what a step changes of its unit
@@ -98,9 +99,9 @@ state_after online order status = online
 
 -- a head after a step, which may touch a cylinder, and may be the command's first (profile)
 abbrev pub head_after : Bool → Option ℕ → Head → Head
-head_after started None h = h
-head_after true (Some k) h = moved h k
-head_after false (Some k) h = carried h k
+head_after started None head = head
+head_after true (Some cylinder) head = moved head cylinder
+head_after false (Some cylinder) head = carried head cylinder
 
 -- ---- aborted
 

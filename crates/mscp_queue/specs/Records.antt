@@ -17,7 +17,7 @@ pub record Record : Type 0 where
 
 -- the record of a command that begins to wait
 abbrev pub fresh_record : Command → Record
-fresh_record c = record { command = c; weight = order_weight c.order; done = 0; good = 0; passes = 0 }
+fresh_record command = record { command = command; weight = order_weight command.order; done = 0; good = 0; passes = 0 }
 
 -- a record of nothing, which stands past the end of a list
 abbrev pub no_record : Record
