@@ -19,7 +19,7 @@ use Rattle.mscp_control.specs.Settings.{Settings, unit_found}
 
 -- ---- credits
 
--- a command of this class is answered when it comes (manual)
+-- a command of this class is answered when it comes (manual, "Command Categories and Execution Order")
 abbrev pub is_immediate_class : Class → Bool
 is_immediate_class Immediate = true
 is_immediate_class class = false
@@ -30,7 +30,7 @@ holds references reference = list_any (λ x. same_name x reference) references
 
 -- why a command with this opcode byte and reference number is refused, the first that holds, where so many
 -- credits are free and commands with these reference numbers wait or have ends that weren't taken (manual,
--- their order is the profile's)
+-- "Flow Control", their order is the profile's)
 abbrev pub credit_fault : ℕ → List ℕ → ℕ → ℕ → Option SendFault
 credit_fault balance outstanding opcode reference =
     if balance == 0 then Some NoCredit else (
@@ -46,7 +46,7 @@ refusal balance outstanding b =
 
 -- ---- orders
 
--- answered when it comes, without a step (manual)
+-- answered when it comes, without a step (manual, "Command Categories and Execution Order")
 abbrev pub is_immediate : Order → Bool
 is_immediate (orders.Abort other) = true
 is_immediate (orders.Status other) = true

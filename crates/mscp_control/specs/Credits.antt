@@ -12,7 +12,7 @@ use Rattle.mscp_control.specs.History.{Trace}
 use Rattle.mscp_control.specs.Commands.{reference, name, waiting}
 use Rattle.mscp_control.specs.Ends.{aborted, untaken}
 
--- the credits that are free (manual)
+-- the credits that are free (manual, "Flow Control")
 unfoldable pub balance : Settings → Trace → ℕ
 balance c t = c.credits - length (waiting t) - length (untaken c t)
 

@@ -18,7 +18,7 @@ use Rattle.mscp_control.specs.Units.{is_online}
 
 -- ---- answered when they come
 
--- the figure that an order asks for (manual)
+-- the figure that an order asks for (manual, "Host Command Timeouts")
 abbrev pub figure_asked : Settings → Trace → Order → ℕ
 figure_asked c t (orders.Status other) = figure_of c t other
 figure_asked c t order = 0
@@ -68,6 +68,6 @@ ends_at c t m = (if answers m.1 then answer c t (sent_bytes m.0) else []) ++ end
 unfoldable pub ends : Settings → Trace → List End
 ends c t = collect (ends_at c) t
 
--- the ends that weren't taken (manual)
+-- the ends that weren't taken (manual, "Flow Control")
 unfoldable pub untaken : Settings → Trace → List End
 untaken c t = drop (count_by (λ m. takes m.1) t) (ends c t)

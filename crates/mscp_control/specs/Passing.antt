@@ -22,11 +22,12 @@ passes_at t m x = cond (is_unstarted t x) (sum_by (toll t) (filter (λ y. starts
 unfoldable pub passes : Trace → ℕ → ℕ
 passes t x = sum_by (λ i. passes_at (take i t) (moment t i) x) (positions t)
 
--- y has to stay behind z: both are of one unit, and one of them is sequential (manual)
+-- y has to stay behind z: both are of one unit, and one of them is sequential (manual, "Command Categories and
+-- Execution Order")
 abbrev pub fences : Trace → ℕ → ℕ → Bool
 fences t y z = nat_eq (unit t z) (unit t y) && (is_sequential (order t z) || is_sequential (order t y))
 
--- y stays behind no command that came before it (manual)
+-- y stays behind no command that came before it (manual, "Command Categories and Execution Order")
 unfoldable pub is_free : Trace → ℕ → Bool
 is_free t y = list_all (λ z. not (fences t y z)) (earlier t y)
 
@@ -34,7 +35,7 @@ is_free t y = list_all (λ z. not (fences t y z)) (earlier t y)
 abbrev pub is_affordable : Settings → Trace → ℕ → Bool
 is_affordable c t y = list_all (λ x. nat_le (passes t x + toll t y) c.passing) (earlier t y)
 
--- y, which waits, may start (manual, the passing limit is the profile's)
+-- y, which waits, may start (manual, "Command Categories and Execution Order", the passing limit is the profile's)
 unfoldable pub is_startable : Settings → Trace → ℕ → Bool
 is_startable c t y = is_idle t && is_free t y && is_affordable c t y
 

@@ -16,7 +16,7 @@ use Rattle.mscp_queue.specs.declared.block.Block.{Block}
 use Rattle.mscp_queue.specs.declared.block.Block.TheVariants.{Good, Bad}
 use Rattle.mscp_queue.specs.Orders.{endcode, first_block, is_move}
 
--- the end of a command with this status and body (manual)
+-- the end of a command with this status and body (manual, "End Messages")
 abbrev pub end_with : Command → ℕ → EndBody → End
 end_with command status body =
     record {
