@@ -105,7 +105,7 @@ next_turn room passing longest place picks rs ds k d h n =
 -- ---- its drive
 
 -- the unit has the lower number
-abbrev pub Lower : Shape → Shape → Type 0
+abbrev Lower : Shape → Shape → Type 0
 Lower a b = a.number < b.number
 
 pairs_rise : (us : List Shape) → NumbersRise us → Pairs Lower us
@@ -128,6 +128,10 @@ found_among A (s ∷ B) p =
       subst (λ l. AllByRecursion (λ (x : Shape). unit_found l x.number ≡ Some x) B) more (found_among (A ++ s ∷ []) B (subst (Pairs Lower) (sym more) p)),
     )
 
+-- each unit of a list of units is found by its number
+pub units_found : (us : List Shape) → IsUnitList us → AllByRecursion (λ s. unit_found us s.number ≡ Some s) us
+units_found us l = found_among [] us (pairs_rise us l.rising)
+
 every_mapped : {X Y : Type 0} (f : X → Y) (P : Y → Type 0) (xs : List X) → AllByRecursion P (map f xs) → AllByRecursion (λ x. P (f x)) xs
 every_mapped f P [] h = tt
 every_mapped f P (x ∷ xs) h = (h.0, every_mapped f P xs h.1)
@@ -145,7 +149,7 @@ units_same n ds l =
     let us = units_of ds in
     every_weaker (λ d. unit_found us d.unit.number ≡ Some d.unit) (λ d. has_number n d ≡ true → d.unit ≡ (drive_of ds n).unit)
     (λ d f e. ap (λ o. unwrap_or o one_block) (sym f ∙ ap (unit_found us) (eqb-true d.unit.number n e)) ∙ found_unit n ds) ds
-    (every_mapped (λ (d : Drive). d.unit) (λ s. unit_found us s.number ≡ Some s) ds (found_among [] us (pairs_rise us l.rising)))
+    (every_mapped (λ (d : Drive). d.unit) (λ s. unit_found us s.number ≡ Some s) ds (units_found us l))
 
 -- ---- its block
 

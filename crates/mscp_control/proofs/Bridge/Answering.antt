@@ -12,31 +12,7 @@ use Rattle.mscp_control.specs.declared.event.Entry.{Entry}
 use Rattle.mscp_control.specs.declared.event.Entry.TheVariants as entries
 use Rattle.mscp_control.specs.Arrival.{is_queued, refusal}
 use Rattle.mscp_control.specs.Holdings.{Answered, Answers, Holdings, answered_end, balance_of, ended, held_unless, line_of, outstanding_of, queued}
-use Rattle.mscp_control.proofs.Bridge.Keeping.{stays}
-
--- the picker stays
-picker_unless : {K : Type 0} (h : Holdings K) (k : Command) (o : Option SendFault) → (held_unless h k o).picker ≡ h.picker
-picker_unless h k (Some fault) = refl
-picker_unless h k None = elim (is_queued h.settings k) as (λ b. (if b then queued h k else ended h (answered_end h k)).picker ≡ h.picker) [ true ↦ refl | false ↦ refl ]
-
-pub picker_kept : {K : Type 0} (picks : List Choice → ℕ → Type 0) (h h' : Holdings K) (event : Event) (entry : Entry) → Answers picks h event entry h' → h'.picker ≡ h.picker
-picker_kept {K} picks h h' (events.Send message) (entries.Sent sent) r =
-    ap (λ (x : Holdings K). x.picker) r.1 ∙ picker_unless h (command_of message.items) (refusal (balance_of h) (outstanding_of h) message.items)
-picker_kept {K} picks h h' events.Take (entries.Taken end) r = ap (λ (x : Holdings K). x.picker) r.1
-picker_kept picks h h' (events.Step k) (entries.Stepped report) r = (stays picks k (line_of h) report (line_of h') r.serves).3
-picker_kept {K} picks h h' events.Look (entries.Looked list) r = ap (λ (x : Holdings K). x.picker) r.1
-picker_kept picks h h' (events.Send message) (entries.Taken end) r = absurd r
-picker_kept picks h h' (events.Send message) (entries.Stepped report) r = absurd r
-picker_kept picks h h' (events.Send message) (entries.Looked list) r = absurd r
-picker_kept picks h h' events.Take (entries.Sent sent) r = absurd r
-picker_kept picks h h' events.Take (entries.Stepped report) r = absurd r
-picker_kept picks h h' events.Take (entries.Looked list) r = absurd r
-picker_kept picks h h' (events.Step k) (entries.Sent sent) r = absurd r
-picker_kept picks h h' (events.Step k) (entries.Taken end) r = absurd r
-picker_kept picks h h' (events.Step k) (entries.Looked list) r = absurd r
-picker_kept picks h h' events.Look (entries.Sent sent) r = absurd r
-picker_kept picks h h' events.Look (entries.Taken end) r = absurd r
-picker_kept picks h h' events.Look (entries.Stepped report) r = absurd r
+use Rattle.mscp_control.proofs.Bridge.Keeping.{owner_kept}
 
 -- one more answer, behind the others
 answered_push : {K : Type 0} (picks : List Choice → ℕ → Type 0) (h m h' : Holdings K) (es : List Event) (ns : List Entry) (e : Event) (n : Entry) → Answered picks h es ns m → Answers picks m e n h'
@@ -61,6 +37,6 @@ goes_more {K} picks start now next all i so_far new event entry l e g a n =
     record {
       answered = subst (λ es. Answered (picks start.picker) start es new next) (sym more)
           (subst (λ ns. Answered (picks start.picker) start (take i all ++ event ∷ []) ns next) (sym n) (answered_push (picks start.picker) start now next (take i all) so_far event entry g.answered one));
-      picker = picker_kept (picks start.picker) now next event entry one ∙ g.picker;
+      picker = (owner_kept (picks start.picker) now next event entry one).1 ∙ g.picker;
       many = let m = g.many in omega (arith, ap length n, length_push so_far entry);
     }

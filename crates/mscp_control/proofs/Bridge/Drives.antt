@@ -25,40 +25,13 @@ use Rattle.mscp_control.specs.Controllers.{drive_at}
 use Rattle.mscp_queue.proofs.Lists.{Pairs, every_from, every_weaker, pairs_middle}
 use Rattle.mscp_control.proofs.Promise.Served.{Step, some_same}
 use Rattle.mscp_control.proofs.Promise.Queued.{each_queued, queued_open}
+use Rattle.mscp_queue.proofs.Turns.{units_found}
 use Rattle.mscp_queue.proofs.Placed.{find_first, map_map, map_on}
 use Rattle.mscp_control.proofs.Bridge.Legals.{service_by}
 use Rattle.mscp_control.proofs.Promise.States.{head_empty, head_kept, head_other, head_own, is_online_empty, is_online_ended, is_online_kept, is_online_other, is_online_unended}
 use Rattle.mscp_control.proofs.Bridge.Held.{held_of}
 
 -- ---- units
-
--- the unit has the lower number
-abbrev pub Lower : Shape → Shape → Type 0
-Lower a b = a.number < b.number
-
-pairs_rise : (units : List Shape) → NumbersRise units → Pairs Lower units
-pairs_rise [] r = tt
-pairs_rise (s ∷ []) r = (tt, tt)
-pairs_rise (s ∷ x ∷ xs) r =
-    let more : (i : ℕ) → suc i + 1 ≡ suc (i + 1) = λ i. omega arith in
-    let rest = pairs_rise (x ∷ xs) (λ i other h. subst (λ j. (slice_index_or (x ∷ xs) i other).number < (slice_index_or (s ∷ x ∷ xs) j other).number) (more i) (r (suc i) other (omega (arith, h)))) in
-    let first : s.number < x.number = r 0 s (omega arith) in
-    ((first, every_weaker (Lower x) (Lower s) (λ y h. omega (arith, first, h)) xs rest.0), rest)
-
-found_among : (A B : List Shape) → Pairs Lower (A ++ B) → AllByRecursion (λ s. find (λ x. nat_eq x.number s.number) (A ++ B) ≡ Some s) B
-found_among A [] p = tt
-found_among A (s ∷ B) p =
-    let low = pairs_middle Lower A s B p in
-    let more = append_assoc A (s ∷ []) B in (
-      find_first (λ (x : Shape). nat_eq x.number s.number) A s B
-          (every_weaker (λ x. Lower x s) (λ x. nat_eq x.number s.number ≡ false) (λ x h. ne_eqb x.number s.number (λ e. absurd (omega (arith, h, e)))) A low.0)
-          (eq-eqb s.number s.number refl),
-      subst (λ l. AllByRecursion (λ (x : Shape). find (λ z. nat_eq z.number x.number) l ≡ Some x) B) more (found_among (A ++ s ∷ []) B (subst (Pairs Lower) (sym more) p)),
-    )
-
--- Each unit is found by its number.
-pub found_each : (c : Settings) → IsUnitList c.units → AllByRecursion (λ s. unit_found c s.number ≡ Some s) c.units
-found_each c l = found_among [] c.units (pairs_rise c.units l.rising)
 
 found_number : (units : List Shape) (u : ℕ) (s : Shape) → find (λ x. nat_eq x.number u) units ≡ Some s → s.number ≡ u
 found_number [] u s e = absurd (false≢true (ap is_some e))
@@ -215,6 +188,6 @@ driven_served c t m k y front back ds l st r d =
     record {
       drives = ap (map serve) d.drives ∙ (map_map (drive_at c t) serve c.units
           ∙ map_on (λ s. serve (drive_at c t s)) (drive_at c t') c.units
-          (every_weaker (λ s. unit_found c s.number ≡ Some s) (λ s. serve (drive_at c t s) ≡ drive_at c t' s) (one_served c t m k y front back st) c.units (found_each c l)));
+          (every_weaker (λ s. unit_found c s.number ≡ Some s) (λ s. serve (drive_at c t s) ≡ drive_at c t' s) (one_served c t m k y front back st) c.units (units_found c.units l)));
       configured = configured_more c t m r d.configured;
     }

@@ -26,6 +26,7 @@ use Rattle.mscp_control.specs.Ends.{ends, untaken}
 use Rattle.mscp_control.specs.Legal.{IsLegal, IsPicked, IsRight}
 use Rattle.mscp_control.specs.Holdings.{Answered, Answers, Holdings, Steps, after_message, answered_end, answer_to_message, balance_of, end_taken, ended, fresh, held_unless, outstanding_of, queued}
 use Rattle.mscp_control.proofs.Promise.Known.{known_empty}
+use Rattle.mscp_control.proofs.Bridge.Keeping.{owner_kept}
 use Rattle.mscp_control.proofs.Bridge.Legals.{legal_more, picked_more}
 use Rattle.mscp_control.proofs.Bridge.Held.{held_of, figures_held}
 use Rattle.mscp_control.proofs.Bridge.Quiet.{untaken_taken}
@@ -109,30 +110,6 @@ turns picks h h' t events.Look (entries.Sent sent) v a r = absurd r
 turns picks h h' t events.Look (entries.Taken end) v a r = absurd r
 turns picks h h' t events.Look (entries.Stepped report) v a r = absurd r
 
--- the settings stay
-settings_unless : {K : Type 0} (h : Holdings K) (k : Command) (o : Option SendFault) → (held_unless h k o).settings ≡ h.settings
-settings_unless h k (Some fault) = refl
-settings_unless h k None = elim (is_queued h.settings k) as (λ b. (if b then queued h k else ended h (answered_end h k)).settings ≡ h.settings) [ true ↦ refl | false ↦ refl ]
-
-settings_kept : {K : Type 0} (picks : List Choice → ℕ → Type 0) (h h' : Holdings K) (event : Event) (entry : Entry) → Answers picks h event entry h' → h'.settings ≡ h.settings
-settings_kept {K} picks h h' (events.Send message) (entries.Sent sent) r =
-    ap (λ (x : Holdings K). x.settings) r.1 ∙ settings_unless h (command_of message.items) (refusal (balance_of h) (outstanding_of h) message.items)
-settings_kept {K} picks h h' events.Take (entries.Taken end) r = ap (λ (x : Holdings K). x.settings) r.1
-settings_kept picks h h' (events.Step k) (entries.Stepped report) r = r.settings
-settings_kept {K} picks h h' events.Look (entries.Looked list) r = ap (λ (x : Holdings K). x.settings) r.1
-settings_kept picks h h' (events.Send message) (entries.Taken end) r = absurd r
-settings_kept picks h h' (events.Send message) (entries.Stepped report) r = absurd r
-settings_kept picks h h' (events.Send message) (entries.Looked list) r = absurd r
-settings_kept picks h h' events.Take (entries.Sent sent) r = absurd r
-settings_kept picks h h' events.Take (entries.Stepped report) r = absurd r
-settings_kept picks h h' events.Take (entries.Looked list) r = absurd r
-settings_kept picks h h' (events.Step k) (entries.Sent sent) r = absurd r
-settings_kept picks h h' (events.Step k) (entries.Taken end) r = absurd r
-settings_kept picks h h' (events.Step k) (entries.Looked list) r = absurd r
-settings_kept picks h h' events.Look (entries.Sent sent) r = absurd r
-settings_kept picks h h' events.Look (entries.Taken end) r = absurd r
-settings_kept picks h h' events.Look (entries.Stepped report) r = absurd r
-
 -- ---- a whole history
 
 -- what is known after each part of a history
@@ -149,7 +126,7 @@ comes_more {K} c picks t h h' event entry v r k =
     let turn : Turns c picks t m h' =
     subst (λ s. Turns s picks t m h') k.settings (turns picks h h' t event entry (subst IsValid (sym k.settings) v) (subst (λ s. Agrees s t h) (sym k.settings) k.agrees) r) in
     record {
-      settings = settings_kept picks h h' event entry r ∙ k.settings;
+      settings = (owner_kept picks h h' event entry r).0 ∙ k.settings;
       legal = legal_more c t m k.legal turn.sends.right;
       picked = picked_more c picks t m k.picked turn.picked;
       agrees = turn.sends.agrees;

@@ -1,6 +1,6 @@
 -- What each event keeps of what a controller holds.
-use Rattle.std.proofs.Common.{◌≡◌, ℕ, ◌+◌, ◌<◌, ◌≤◌, List, [], ◌∷◌, ◌++◌, map, length, take, drop, ap, refl, sym, subst, ◌∙◌, arith}
-use Rattle.std.specs.Prelude.{option_to_list, Option, Some, None}
+use Rattle.std.proofs.Common.{◌≡◌, ℕ, ◌+◌, ◌<◌, ◌≤◌, true, false, List, [], ◌∷◌, ◌++◌, map, length, take, drop, ap, refl, sym, subst, ◌∙◌, arith}
+use Rattle.std.specs.Prelude.{if◌then◌else◌, option_to_list, Option, Some, None}
 use Rattle.std.proofs.lemmas.List.{length-append, length-drop, length-map, length-take-le}
 use Rattle.mscp_packet.specs.declared.end.End.{End}
 use Rattle.mscp_drive.specs.Shape.{Shape}
@@ -15,7 +15,15 @@ use Rattle.mscp_queue.specs.Lines.{Line, Serves, ServesAt}
 use Rattle.mscp_queue.specs.Records.{Record, cost_of, passed_by, record_at, remains}
 use Rattle.mscp_queue.specs.Serving.{drive_at, end_given}
 use Rattle.mscp_control.specs.Settings.{Settings, IsValid, room}
-use Rattle.mscp_control.specs.Holdings.{ends_reported}
+use Rattle.mscp_packet.specs.declared.command.Command.{Command}
+use Rattle.mscp_packet.specs.Commands.{command_of}
+use Rattle.mscp_control.specs.declared.event.SendFault.{SendFault}
+use Rattle.mscp_control.specs.declared.event.Event.{Event}
+use Rattle.mscp_control.specs.declared.event.Event.TheVariants as events
+use Rattle.mscp_control.specs.declared.event.Entry.{Entry}
+use Rattle.mscp_control.specs.declared.event.Entry.TheVariants as entries
+use Rattle.mscp_control.specs.Arrival.{refusal, is_queued}
+use Rattle.mscp_control.specs.Holdings.{Answers, Holdings, answered_end, balance_of, ended, ends_reported, held_unless, line_of, outstanding_of, queued}
 use Rattle.mscp_control.specs.Kept.{IsHeld}
 
 -- ---- nothing came
@@ -99,3 +107,33 @@ end_fits {K} c picks k old report new us h s =
     let covered = h.covered in
     let few = h.valid.few_credits in
     omega (arith, count)
+
+-- ---- any event
+
+-- the settings and the picker are the same
+abbrev pub IsSameOwner : {K : Type 0} → Holdings K → Holdings K → Type 0
+IsSameOwner h h' = (h'.settings ≡ h.settings) × (h'.picker ≡ h.picker)
+
+owner_unless : {K : Type 0} (h : Holdings K) (command : Command) (o : Option SendFault) → IsSameOwner h (held_unless h command o)
+owner_unless h command (Some fault) = (refl, refl)
+owner_unless h command None = elim (is_queued h.settings command) as (λ b. IsSameOwner h (if b then queued h command else ended h (answered_end h command))) [ true ↦ (refl, refl) | false ↦ (refl, refl) ]
+
+-- no event changes the settings or the picker
+pub owner_kept : {K : Type 0} (picks : List Choice → ℕ → Type 0) (h h' : Holdings K) (event : Event) (entry : Entry) → Answers picks h event entry h' → IsSameOwner h h'
+owner_kept {K} picks h h' (events.Send message) (entries.Sent sent) r =
+    subst (λ (x : Holdings K). IsSameOwner h x) (sym r.1) (owner_unless h (command_of message.items) (refusal (balance_of h) (outstanding_of h) message.items))
+owner_kept {K} picks h h' events.Take (entries.Taken end) r = subst (λ (x : Holdings K). IsSameOwner h x) (sym r.1) (refl, refl)
+owner_kept picks h h' (events.Step k) (entries.Stepped report) r = (r.settings, (stays picks k (line_of h) report (line_of h') r.serves).3)
+owner_kept {K} picks h h' events.Look (entries.Looked list) r = subst (λ (x : Holdings K). IsSameOwner h x) (sym r.1) (refl, refl)
+owner_kept picks h h' (events.Send message) (entries.Taken end) r = absurd r
+owner_kept picks h h' (events.Send message) (entries.Stepped report) r = absurd r
+owner_kept picks h h' (events.Send message) (entries.Looked list) r = absurd r
+owner_kept picks h h' events.Take (entries.Sent sent) r = absurd r
+owner_kept picks h h' events.Take (entries.Stepped report) r = absurd r
+owner_kept picks h h' events.Take (entries.Looked list) r = absurd r
+owner_kept picks h h' (events.Step k) (entries.Sent sent) r = absurd r
+owner_kept picks h h' (events.Step k) (entries.Taken end) r = absurd r
+owner_kept picks h h' (events.Step k) (entries.Looked list) r = absurd r
+owner_kept picks h h' events.Look (entries.Sent sent) r = absurd r
+owner_kept picks h h' events.Look (entries.Taken end) r = absurd r
+owner_kept picks h h' events.Look (entries.Stepped report) r = absurd r
