@@ -1,17 +1,10 @@
 -- One more answer of a controller.
-use Rattle.std.proofs.Common.{◌≡◌, ℕ, ◌+◌, ◌<◌, true, false, List, [], ◌∷◌, ◌++◌, take, get_or, length, refl, ap, sym, ◌∙◌, subst, arith}
-use Rattle.std.specs.Prelude.{Option, Some, None, if◌then◌else◌}
+use Rattle.std.proofs.Common.{◌≡◌, ℕ, ◌+◌, ◌<◌, List, [], ◌∷◌, ◌++◌, take, get_or, length, refl, ap, sym, ◌∙◌, subst, arith}
 use Rattle.std.proofs.lemmas.List.{length_push, take_more}
-use Rattle.mscp_packet.specs.declared.command.Command.{Command}
-use Rattle.mscp_packet.specs.Commands.{command_of}
 use Rattle.mscp_queue.specs.declared.view.Choice.{Choice}
-use Rattle.mscp_control.specs.declared.event.SendFault.{SendFault}
 use Rattle.mscp_control.specs.declared.event.Event.{Event}
-use Rattle.mscp_control.specs.declared.event.Event.TheVariants as events
 use Rattle.mscp_control.specs.declared.event.Entry.{Entry}
-use Rattle.mscp_control.specs.declared.event.Entry.TheVariants as entries
-use Rattle.mscp_control.specs.Arrival.{is_queued, refusal}
-use Rattle.mscp_control.specs.Holdings.{Answered, Answers, Holdings, answered_end, balance_of, ended, held_unless, line_of, outstanding_of, queued}
+use Rattle.mscp_control.specs.Holdings.{Answered, Answers, Holdings}
 use Rattle.mscp_control.proofs.Bridge.Keeping.{owner_kept}
 
 -- one more answer, behind the others

@@ -1,14 +1,14 @@
 -- The drives of a controller are those of the run: each unit's state and head.
-use Rattle.std.proofs.Common.{◌≡◌, ◌≢◌, ℕ, suc, ◌+◌, ◌<◌, Bool, true, false, cond, List, [], ◌∷◌, ◌++◌, map, refl, ap, sym, ◌∙◌, subst, append_assoc, arith}
-use Rattle.std.specs.Prelude.{find, nat_eq, slice_index_or, unwrap_or, if◌then◌else◌, Option, Some, None, is_some, option_map}
+use Rattle.std.proofs.Common.{◌≡◌, ◌≢◌, ℕ, Bool, true, false, cond, List, [], ◌∷◌, ◌++◌, map, refl, ap, sym, ◌∙◌}
+use Rattle.std.specs.Prelude.{find, nat_eq, unwrap_or, if◌then◌else◌, Option, Some, None, is_some, option_map}
 use Rattle.std.specs.List.{AllByRecursion}
-use Rattle.std.proofs.lemmas.Bool.{eqb-true, eqb-false, ne_eqb, eq-eqb, true≢false, false≢true}
+use Rattle.std.proofs.lemmas.Bool.{eqb-true, eqb-false, true≢false, false≢true}
 use Rattle.mscp_packet.specs.declared.command.Command.{Command}
 use Rattle.mscp_packet.specs.declared.command.Order.{Order}
 use Rattle.mscp_packet.specs.declared.command.Order.TheVariants as orders
 use Rattle.mscp_packet.specs.declared.end.End.{End}
 use Rattle.mscp_drive.specs.Shape.{Shape, cylinder_of}
-use Rattle.mscp_drive.specs.UnitList.{IsUnitList, NumbersRise}
+use Rattle.mscp_drive.specs.UnitList.{IsUnitList}
 use Rattle.mscp_queue.specs.declared.block.Block.{Block}
 use Rattle.mscp_queue.specs.declared.drive.Drive.{Drive}
 use Rattle.mscp_control.specs.Settings.{Settings, unit_found, unit_shape}
@@ -22,11 +22,11 @@ use Rattle.mscp_control.specs.Ends.{outcome}
 use Rattle.mscp_control.specs.Legal.{IsRight, block_of, end_of, seek_to}
 use Rattle.mscp_queue.specs.Serving.{drive_after, end_given, seek_from, state_left, touched}
 use Rattle.mscp_control.specs.Controllers.{drive_at}
-use Rattle.mscp_queue.proofs.Lists.{Pairs, every_from, every_weaker, pairs_middle}
+use Rattle.mscp_queue.proofs.Lists.{every_from, every_weaker}
 use Rattle.mscp_control.proofs.Promise.Served.{Step, some_same}
 use Rattle.mscp_control.proofs.Promise.Queued.{each_queued, queued_open}
 use Rattle.mscp_queue.proofs.Turns.{units_found}
-use Rattle.mscp_queue.proofs.Placed.{find_first, map_map, map_on}
+use Rattle.mscp_queue.proofs.Placed.{map_map, map_on}
 use Rattle.mscp_control.proofs.Bridge.Legals.{service_by}
 use Rattle.mscp_control.proofs.Promise.States.{head_empty, head_kept, head_other, head_own, is_online_empty, is_online_ended, is_online_kept, is_online_other, is_online_unended}
 use Rattle.mscp_control.proofs.Bridge.Held.{held_of}

@@ -1,11 +1,9 @@
 -- Every answer is right and picked, and what is then held is that of the run.
-use Rattle.std.proofs.Common.{◌≡◌, ℕ, suc, ◌≤◌, true, false, List, [], ◌∷◌, ◌++◌, map, drop, length, refl, ap, sym, ◌∙◌, subst, append-nil, arith}
-use Rattle.std.specs.Prelude.{zip, if◌then◌else◌, slice_get, Option, Some, None, option_map}
+use Rattle.std.proofs.Common.{◌≡◌, ℕ, suc, ◌≤◌, List, [], ◌∷◌, ◌++◌, map, drop, length, refl, ap, sym, ◌∙◌, subst, append-nil, arith}
+use Rattle.std.specs.Prelude.{zip, slice_get, Some, None, option_map}
 use Rattle.std.proofs.lemmas.List.{append_assoc}
 use Rattle.arrayvec.specs.ArrayVec.{ArrayVec}
-use Rattle.mscp_packet.specs.declared.command.Command.{Command}
 use Rattle.mscp_packet.specs.declared.end.End.{End}
-use Rattle.mscp_packet.specs.Commands.{command_of}
 use Rattle.mscp_packet.specs.Ends.{end_bytes}
 use Rattle.mscp_queue.specs.declared.block.Block.{Block}
 use Rattle.mscp_queue.specs.declared.report.Report.{Report}
@@ -13,18 +11,16 @@ use Rattle.mscp_queue.specs.declared.report.Report.TheVariants as reports
 use Rattle.mscp_queue.specs.declared.view.Choice.{Choice}
 use Rattle.mscp_queue.specs.Figures.{figures}
 use Rattle.mscp_queue.specs.Lines.{Line}
-use Rattle.mscp_control.specs.declared.event.SendFault.{SendFault}
 use Rattle.mscp_control.specs.declared.event.Event.{Event}
 use Rattle.mscp_control.specs.declared.event.Event.TheVariants as events
 use Rattle.mscp_control.specs.declared.event.Entry.{Entry}
 use Rattle.mscp_control.specs.declared.event.Entry.TheVariants as entries
 use Rattle.mscp_control.specs.Settings.{Settings, IsValid}
-use Rattle.mscp_control.specs.Arrival.{is_queued, refusal}
 use Rattle.mscp_control.specs.History.{Trace, Moment, collect}
 use Rattle.mscp_control.specs.Commands.{waiting}
 use Rattle.mscp_control.specs.Ends.{ends, untaken}
 use Rattle.mscp_control.specs.Legal.{IsLegal, IsPicked, IsRight}
-use Rattle.mscp_control.specs.Holdings.{Answered, Answers, Holdings, Steps, after_message, answered_end, answer_to_message, balance_of, end_taken, ended, fresh, held_unless, outstanding_of, queued}
+use Rattle.mscp_control.specs.Holdings.{Answered, Answers, Holdings, Steps, after_message, answer_to_message, end_taken, ended, fresh}
 use Rattle.mscp_control.proofs.Promise.Known.{known_empty}
 use Rattle.mscp_control.proofs.Bridge.Keeping.{owner_kept}
 use Rattle.mscp_control.proofs.Bridge.Legals.{legal_more, picked_more}
