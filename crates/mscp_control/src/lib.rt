@@ -8,8 +8,6 @@ mod controller;
 mod event;
 mod law;
 mod memory;
-#[cfg(test)]
-mod picking;
 mod running;
 #[cfg(test)]
 mod tests;

@@ -2,6 +2,8 @@
 
 ghost use Rattle.std.specs.Prelude.{◌≡◌, ◌+◌, length};
 
+mod picking;
+
 use crate::{Block, Config, Controller, Oldest, Picker, Report, SendFault, View};
 use arrayvec::ArrayVec;
 use mscp_drive::{Unit, Units};

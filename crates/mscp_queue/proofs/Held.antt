@@ -46,7 +46,8 @@ held_fresh room passing longest us rs ds a b c d e u n f =
 
 -- ---- a command comes
 
-some_steps : (o : Order) → 1 ≤ order_weight o
+-- each order takes a step
+pub some_steps : (o : Order) → 1 ≤ order_weight o
 some_steps (orders.Move kind count block) = omega arith
 some_steps (orders.Abort other) = omega arith
 some_steps (orders.Status other) = omega arith

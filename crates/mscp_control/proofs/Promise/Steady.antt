@@ -7,6 +7,7 @@ use Rattle.std.proofs.lemmas.Bool.{ltb-true, or_cases, true≢false, false≢tru
 use Rattle.mscp_packet.specs.declared.command.Command.{Command}
 use Rattle.mscp_packet.specs.declared.command.Order.{Order}
 use Rattle.mscp_packet.specs.declared.command.Order.TheVariants as orders
+use Rattle.mscp_queue.proofs.Held.{some_steps}
 use Rattle.mscp_queue.specs.declared.block.Block.{Block}
 use Rattle.mscp_drive.specs.Extent as extent
 use Rattle.mscp_control.specs.Settings.{Settings}
@@ -38,17 +39,6 @@ pub record Steady (c : Settings) (t : Trace) : Type 0 where
   pub single : Single t (waiting t)
 
 -- ---- from one run to the next
-
-pub weight_some : (o : Order) → 0 < order_weight o
-weight_some (orders.Move kind count block) = omega (arith, le-max_left 1 (extent.blocks count))
-weight_some (orders.Abort other) = omega arith
-weight_some (orders.Status other) = omega arith
-weight_some orders.UnitStatus = omega arith
-weight_some (orders.SetController version) = omega arith
-weight_some orders.Available = omega arith
-weight_some orders.Online = omega arith
-weight_some orders.SetUnit = omega arith
-weight_some (orders.Invalid opcode status) = omega arith
 
 pub weight_before : (t : Trace) (m : Moment) (x : ℕ) → x < length t → weight (t ++ m ∷ []) x ≡ weight t x
 weight_before t m x h = ap (λ (k : Command). order_weight k.order) (command_before t m x h)
@@ -98,7 +88,7 @@ quiet c t m r s e =
     let same = every_weaker (λ x. x < length t) (λ x. done t' x ≡ done t x) (λ x l. done_kept t m x e l) kept below in
     let unfinished = unfinished_same t m kept below same (every_kept (λ x. done t x < weight t x) keep (waiting t) s.unfinished) in
     let single = single_same t t' kept same (pairs_filter (λ x z. (done t x ≡ 0) ⊎ (done t z ≡ 0)) keep (waiting t) s.single) in
-    let new : Unfinished t' (length t ∷ []) = (omega (arith, done_last t m, weight_some (order t' (length t))), tt) in
+    let new : Unfinished t' (length t ∷ []) = (omega (arith, done_last t m, some_steps (order t' (length t))), tt) in
     let news : AllByRecursion (λ x. (done t' x ≡ 0) ⊎ (done t' (length t) ≡ 0)) kept = every_weaker (λ x. x < length t) (λ x. (done t' x ≡ 0) ⊎ (done t' (length t) ≡ 0)) (λ x l. inr (done_last t m)) kept below in
     record {
       apart = apart_more c t m r s.apart;

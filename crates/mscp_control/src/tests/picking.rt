@@ -1,23 +1,10 @@
 // Who is served, under one picker and under another.
 
-ghost use Rattle.std.specs.Prelude.{◌≡◌, ◌+◌, length};
-
-use crate::{Block, Config, Controller, Oldest, Picker, Report, View};
+use super::Newest;
+use crate::{Block, Config, Controller, Oldest, Picker, Report};
 use mscp_drive::{Unit, Units};
 use mscp_packet::{Command, MoveKind, Order, write_command};
 use std::process::Abort;
-
-/// Picks the newest command that may start.
-#[derive(Drop)]
-struct Newest;
-
-impl Picker for Newest {
-    ghost picks = { λ _ view place. place + 1 ≡ length view };
-
-    fn pick(&self, view: &View) -> usize {
-        view.choices().len().saturating_sub(1)
-    }
-}
 
 /// A unit of 1000 blocks, 20 blocks a cylinder.
 fn unit(rt: &impl Abort, number: u16) -> Unit {
