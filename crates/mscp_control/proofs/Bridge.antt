@@ -7,6 +7,7 @@ pub mod Drives
 pub mod Sending
 pub mod Viewed
 pub mod Stepped
+pub mod Swept
 pub mod Following
 pub mod Controllers
 pub mod Answering

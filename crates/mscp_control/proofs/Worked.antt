@@ -7,4 +7,5 @@ pub mod Credits
 pub mod Refused
 pub mod States
 pub mod Heads
+pub mod Sweep
 pub mod Wrong

@@ -13,6 +13,7 @@ use Rattle.mscp_control.specs.Figures.{figure_of}
 use Rattle.mscp_control.specs.Units.{head, is_online}
 use Rattle.mscp_control.specs.Credits.{balance}
 use Rattle.mscp_control.specs.Legal.{IsPicked}
+use Rattle.mscp_control.specs.Sweeping.{IsSweeping, Sweeps}
 use Rattle.mscp_control.specs.Headline.{Headline}
 
 -- a unit with its state and its head after t (manual, heads are the profile's)
@@ -26,6 +27,8 @@ pub record KeepsPromise {K : Type 0} (picks : List Choice → ℕ → Type 0) (c
   pub headline : Headline c events entries
   -- each start is one that its picker may pick (profile)
   pub picked : IsPicked c picks (zip events entries)
+  -- where the picker sweeps, each start is the one of least cost, and of those the oldest (profile)
+  pub swept : Sweeps picks → IsSweeping c (zip events entries)
   -- the figure that it now tells of a reference number is that of the history (profile)
   pub figure : (reference : ℕ) → figure_of_reference c.passing c.longest held.waiting reference
       ≡ figure_of c (zip events entries) reference

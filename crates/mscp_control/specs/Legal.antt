@@ -19,7 +19,7 @@ use Rattle.mscp_control.specs.History.{Trace, moment, Service, service_in, WhenS
 use Rattle.mscp_control.specs.Commands.{reference, name, service_name, unit, order, is_waiting, waiting, done, left, in_service}
 use Rattle.mscp_control.specs.Passing.{is_startable, startable}
 use Rattle.mscp_control.specs.Figures.{figure}
-use Rattle.mscp_control.specs.Units.{is_online, head_cylinder}
+use Rattle.mscp_control.specs.Units.{cost, is_online, head_cylinder}
 use Rattle.mscp_control.specs.Ends.{outcome, untaken}
 use Rattle.mscp_control.specs.Credits.{arrival}
 
@@ -81,12 +81,13 @@ IsLegal c t = (i : ℕ) → i < length t → IsRight c (take i t) (moment t i).0
 -- ---- picks
 
 -- what a picker sees of a command that waits (profile)
-abbrev pub choice : Trace → ℕ → Choice
-choice t y = record { reference = reference t y; unit = unit t y; class = order_class (order t y); cost = 0 }
+abbrev pub choice : Settings → Trace → ℕ → Choice
+choice c t y =
+    record { reference = reference t y; unit = unit t y; class = order_class (order t y); cost = cost c t y }
 
 -- what it sees after t: the commands that may start, in the order in which they came (profile)
 abbrev pub view : Settings → Trace → List Choice
-view c t = map (choice t) (startable c t)
+view c t = map (choice c t) (startable c t)
 
 -- the service is of a command that stands in the view at a place that the picker's relation allows (profile)
 abbrev pub IsPick : Settings → (List Choice → ℕ → Type 0) → Trace → Service → Type 0

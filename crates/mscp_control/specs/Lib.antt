@@ -11,6 +11,7 @@ pub mod Units
 pub mod Ends
 pub mod Credits
 pub mod Legal
+pub mod Sweeping
 pub mod Headline
 pub mod Controllers
 pub mod Sizes

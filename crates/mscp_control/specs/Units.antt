@@ -1,4 +1,4 @@
--- Each unit's state and head after a run.
+-- Each unit's state and head after a run, and what starts cost its head.
 use Rattle.std.specs.Prelude.{ℕ, Bool, true, false, nat_eq, nat_lt, if◌then◌else◌, ◌==◌, List, [], ◌∷◌, Option, Some, None, option_map, option_to_list, flat_map}
 use Rattle.mscp_packet.specs.declared.command.Order.{Order}
 use Rattle.mscp_packet.specs.declared.command.Order.TheVariants as orders
@@ -9,6 +9,7 @@ use Rattle.mscp_control.specs.Settings.{Settings, unit_shape}
 use Rattle.mscp_queue.specs.Names.{Name, same_name}
 use Rattle.mscp_queue.specs.Outcomes.{is_success}
 use Rattle.mscp_control.specs.History.{Moment, Trace, collect, last_or, Service, service_in}
+use Rattle.mscp_queue.specs.Orders.{order_cost}
 use Rattle.mscp_control.specs.Commands.{name, service_name, unit, order, waiting}
 
 -- ---- states
@@ -71,3 +72,8 @@ head_up c t u =
 -- where the unit's head is, and which way it goes (profile)
 abbrev pub head : Settings → Trace → ℕ → Head
 head c t u = record { cylinder = head_cylinder c t u; up = head_up c t u }
+
+-- what the start of y costs the head of its unit: the way to its first block, and nothing where it is sequential
+-- (profile)
+unfoldable pub cost : Settings → Trace → ℕ → ℕ
+cost c t y = order_cost (unit_shape c (unit t y)) (head c t (unit t y)) (order t y)

@@ -4,6 +4,7 @@ ghost use Rattle.std.specs.Prelude.{◌≡◌, ◌+◌, ◌<◌, ◌≤◌, List
 ghost use Rattle.mscp_control.specs.Holdings.{Answered};
 ghost use Rattle.mscp_control.specs.Headline.{Headline};
 ghost use Rattle.mscp_control.specs.Legal.{IsPicked};
+ghost use Rattle.mscp_control.specs.Sweeping.{IsSweeping, Sweeps};
 ghost use Rattle.mscp_control.specs.Settings.{IsValid};
 
 #[cfg(test)]
@@ -44,8 +45,9 @@ fn answer_each<K: Picker>(
 }
 
 /// What a new controller answers to the events, one entry an event, whatever its picker picks: a legal trace, with all
-/// that is promised of one, and each start is one that the picker may pick. Memory is asked for once, for all entries,
-/// and nothing is answered where it is refused.
+/// that is promised of one, and each start is one that the picker may pick: where it picks as `Sweep` does, the one of
+/// least cost, and of those the oldest. Memory is asked for once, for all entries, and nothing is answered where it is
+/// refused.
 pub fn run<K: Picker + Drop>(
     alloc: Global,
     config: Config,
@@ -55,6 +57,8 @@ pub fn run<K: Picker + Drop>(
     ensures valid { IsValid config }
     ensures headline { IfOk result (λ entries. Headline config events.now entries.items) }
     ensures picked { IfOk result (λ entries. IsPicked config (K.picks picker) (zip events.now entries.items)) }
+    ensures swept { Sweeps (K.picks picker)
+        → IfOk result (λ entries. IsSweeping config (zip events.now entries.items)) }
 {
     let mut controller = Controller::new(config, picker);
     let mut entries = Vec::with_capacity(alloc, events.len())?;

@@ -35,15 +35,14 @@ impl Head {
         requires target { to ≤ last_cylinder unit.now }
         ensures { result ≡ sweep_cost (last_cylinder unit.now) self.now.cylinder self.now.up to }
     {
-        let last = u64::from(unit.last_cylinder());
         let from = u64::from(self.cylinder);
         let to = u64::from(to);
         if self.up {
             if from <= to {
-                to - from
-            } else {
-                (last - from) + (last - to)
+                return to - from;
             }
+            let last = u64::from(unit.last_cylinder());
+            (last - from) + (last - to)
         } else if to <= from {
             from - to
         } else {

@@ -9,7 +9,7 @@ use Rattle.std.proofs.lemmas.Bool.{cases_lt, eq-eqb, eqb-true, le-leb, le-ltb, l
 use Rattle.mscp_queue.proofs.Lists.{every_weaker}
 use Rattle.mscp_queue.specs.declared.drive.Drive.{Drive}
 use Rattle.mscp_queue.specs.declared.front.Front.{Front}
-use Rattle.mscp_queue.specs.Drives.{has_number}
+use Rattle.mscp_queue.specs.Drives.{drive_of, fresh_drive, has_number, one_block}
 use Rattle.mscp_queue.specs.Fronts.{drive_place, is_let, nobody, with_record}
 use Rattle.mscp_queue.specs.Kept.{is_known, units_of}
 use Rattle.mscp_queue.specs.Orders.{is_sequential}
@@ -19,23 +19,31 @@ use Rattle.mscp_queue.specs.Views.{fences, is_free, is_open}
 -- ---- the place of a drive
 
 -- the drive of a known unit stands at its place
-pub known_at : (ds : List Drive) (n : ℕ) (other : Drive) → is_known (units_of ds) n ≡ true → (drive_place ds n < length ds) × ((get_or ds (drive_place ds n) other).unit.number ≡ n)
+pub record IsPlaced (ds : List Drive) (n place : ℕ) (other : Drive) : Type 0 where
+  pub inside : place < length ds
+  pub drive : get_or ds place other ≡ drive_of ds n
+  pub number : (get_or ds place other).unit.number ≡ n
+
+pub known_at : (ds : List Drive) (n : ℕ) (other : Drive) → is_known (units_of ds) n ≡ true → IsPlaced ds n (drive_place ds n) other
 known_at [] n other h = absurd (false≢true h)
 known_at (d ∷ ds) n other h =
-    let P : ℕ → Type 0 = λ i. (i < length (d ∷ ds)) × ((get_or (d ∷ ds) i other).unit.number ≡ n) in
-    let both : (b : Bool) → nat_eq d.unit.number n ≡ b → is_some (cond b (Some d.unit) (find (λ s. nat_eq s.number n) (units_of ds))) ≡ true → P (cond (not b) (1 + drive_place ds n) 0) =
-    λ b. elim b as (λ b. nat_eq d.unit.number n ≡ b → is_some (cond b (Some d.unit) (find (λ s. nat_eq s.number n) (units_of ds))) ≡ true → P (cond (not b) (1 + drive_place ds n) 0)) [
-      | true ↦ λ e k. (omega arith, eqb-true d.unit.number n e)
+    let found : Bool → Drive = λ b. unwrap_or (cond b (Some d) (find (has_number n) ds)) (fresh_drive one_block) in
+    let P : Bool → ℕ → Type 0 = λ b i. (i < length (d ∷ ds)) × (get_or (d ∷ ds) i other ≡ found b) × ((get_or (d ∷ ds) i other).unit.number ≡ n) in
+    let both : (b : Bool) → nat_eq d.unit.number n ≡ b → is_some (cond b (Some d.unit) (find (λ s. nat_eq s.number n) (units_of ds))) ≡ true → P b (cond (not b) (1 + drive_place ds n) 0) =
+    λ b. elim b as (λ b. nat_eq d.unit.number n ≡ b → is_some (cond b (Some d.unit) (find (λ s. nat_eq s.number n) (units_of ds))) ≡ true → P b (cond (not b) (1 + drive_place ds n) 0)) [
+      | true ↦ λ e k. (omega arith, refl, eqb-true d.unit.number n e)
       | false ↦ λ e k.
           let rest = known_at ds n other k in
+          let inside = rest.inside in
           let one : suc (drive_place ds n) ≡ 1 + drive_place ds n = omega arith in
-          subst P one (omega (arith, rest.0), rest.1)
+          subst (P false) one (omega arith, rest.drive, rest.number)
     ] in
-    both (nat_eq d.unit.number n) refl h
+    let all = both (nat_eq d.unit.number n) refl h in
+    record { inside = all.0; drive = all.1; number = all.2 }
 
 pub known_inside : (ds : List Drive) (n : ℕ) → is_known (units_of ds) n ≡ true → drive_place ds n < length ds
 known_inside [] n h = absurd (false≢true h)
-known_inside (d ∷ ds) n h = (known_at (d ∷ ds) n d h).0
+known_inside (d ∷ ds) n h = (known_at (d ∷ ds) n d h).inside
 
 pub place_found : (ds : List Drive) (n other : ℕ) → is_known (units_of ds) n ≡ true → unwrap_or (position (has_number n) ds) other ≡ drive_place ds n
 place_found ds n other h =
@@ -48,8 +56,8 @@ apart_by_place ds other a b h k =
     λ q. elim q as (λ q. nat_eq a b ≡ q → nat_eq (drive_place ds a) (drive_place ds b) ≡ q) [
       | true ↦ λ e. eq-eqb (drive_place ds a) (drive_place ds b) (ap (drive_place ds) (eqb-true a b e))
       | false ↦ λ e. ne_eqb (drive_place ds a) (drive_place ds b) (λ same.
-          let na = (known_at ds a other h).1 in
-          let nb = (known_at ds b other k).1 in
+          let na = (known_at ds a other h).number in
+          let nb = (known_at ds b other k).number in
           let eq : a ≡ b = sym na ∙ (ap (λ i. (get_or ds i other).unit.number) same ∙ nb) in
           false≢true (sym e ∙ eq-eqb a b eq))
     ] in

@@ -7,3 +7,4 @@ pub mod Sums
 pub mod Held
 pub mod Turns
 pub mod Nexts
+pub mod Least

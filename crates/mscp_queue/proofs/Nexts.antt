@@ -5,6 +5,7 @@ use Rattle.std.specs.List.{position}
 use Rattle.std.proofs.lemmas.List.{get_or_at, length-append}
 use Rattle.std.proofs.lemmas.List.Elements.{All-from_recursion}
 use Rattle.std.proofs.lemmas.Bool.{eqb-true, false≢true, ltb-false, ltb-true, true≢false}
+use Rattle.mscp_queue.specs.declared.drive.Drive.{Drive}
 use Rattle.mscp_queue.specs.declared.view.Choice.{Choice}
 use Rattle.mscp_queue.specs.Records.{Record, is_in_service, is_unstarted, no_record, record_at}
 use Rattle.mscp_queue.specs.Serving.{IsNext}
@@ -32,8 +33,8 @@ not_unstarted : (r : Record) → is_in_service r ≡ true → is_unstarted r ≡
 not_unstarted r h e = let a = ltb-true 0 r.done h in let b = eqb-true r.done 0 e in omega arith
 
 -- the record in service is next
-pub serving_next : (picks : List Choice → ℕ → Type 0) (passing : ℕ) (rs : List Record) (place : ℕ) → position is_in_service rs ≡ Some place → IsNext picks passing rs place
-serving_next picks passing rs place h =
+pub serving_next : (picks : List Choice → ℕ → Type 0) (passing : ℕ) (ds : List Drive) (rs : List Record) (place : ℕ) → position is_in_service rs ≡ Some place → IsNext picks passing ds rs place
+serving_next picks passing ds rs place h =
     let f = found_at is_in_service rs place h in
     record {
       inside = f.0;
@@ -51,5 +52,5 @@ none_serving rs h =
     absurd (true≢false (ap is_some (sym (position_first is_in_service some.0 some.1 some.2 f.before f.passes) ∙ (ap (position is_in_service) (sym f.is) ∙ h)))))
     (find_cases is_in_service rs)
 
-pub picked_next : (picks : List Choice → ℕ → Type 0) (passing : ℕ) (rs : List Record) (place : ℕ) → position is_in_service rs ≡ None → place < length rs → IsPick picks passing rs place → IsNext picks passing rs place
-picked_next picks passing rs place h l p = record { inside = l; idle = λ e. none_serving rs h; picked = λ e. p }
+pub picked_next : (picks : List Choice → ℕ → Type 0) (passing : ℕ) (ds : List Drive) (rs : List Record) (place : ℕ) → position is_in_service rs ≡ None → place < length rs → IsPick picks passing ds rs place → IsNext picks passing ds rs place
+picked_next picks passing ds rs place h l p = record { inside = l; idle = λ e. none_serving rs h; picked = λ e. p }

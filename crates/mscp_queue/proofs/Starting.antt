@@ -1,46 +1,84 @@
 -- The places that may start, found one after the other.
-use Rattle.std.proofs.Common.{◌≡◌, ℕ, ◌+◌, ◌<◌, ◌≤◌, true, cond, List, [], ◌∷◌, ◌++◌, take, get_or, length, ap, sym, ◌∙◌, subst, arith}
-use Rattle.std.specs.Prelude.{All, filter}
+use Rattle.std.proofs.Common.{append-nil, ◌≡◌, ℕ, ◌+◌, ◌<◌, ◌≤◌, Bool, true, false, cond, List, [], ◌∷◌, ◌++◌, take, get_or, length, ap, sym, ◌∙◌, subst, arith}
+use Rattle.std.specs.Prelude.{All, filter, unwrap_or}
 use Rattle.std.specs.List.{range_with_len}
-use Rattle.std.proofs.lemmas.List.{get_or_default, take_more}
-use Rattle.mscp_queue.specs.Drives.{fresh_drive, one_block}
+use Rattle.std.proofs.lemmas.List.{get_or_default, length-append, map-append, take_more}
+use Rattle.mscp_queue.specs.Drives.{drive_of, fresh_drive, one_block}
 use Rattle.std.proofs.lemmas.List.Elements.{All-from_recursion, All-take, filter-append, recursion_from_All}
+use Rattle.mscp_drive.specs.Shape.{Shape}
+use Rattle.mscp_drive.specs.UnitList.{unit_found}
 use Rattle.mscp_queue.specs.declared.drive.Drive.{Drive}
+use Rattle.mscp_queue.specs.declared.view.Choice.{Choice}
 use Rattle.mscp_queue.specs.declared.front.Front.{Front}
 use Rattle.mscp_queue.specs.Fronts.{drive_place, is_let, nobody, with_record}
-use Rattle.mscp_queue.specs.Kept.{is_known, units_of}
-use Rattle.mscp_queue.specs.Records.{Record, no_record, record_at}
-use Rattle.mscp_queue.specs.Views.{is_open, is_open_at, open_places}
+use Rattle.mscp_queue.specs.Kept.{HasBlocks, is_known, units_of}
+use Rattle.mscp_queue.specs.Orders.{first_block, is_move}
+use Rattle.mscp_queue.specs.Records.{Record, drive_at, no_record, record_at}
+use Rattle.mscp_queue.specs.Views.{choice_of, choices_at, is_open, is_open_at, open_places}
 use Rattle.mscp_queue.proofs.Lists.{every_kept, every_weaker, range_below, range_more}
-use Rattle.mscp_queue.proofs.Fronts.{IsFront, front_more, front_none, let_is}
+use Rattle.mscp_queue.proofs.Fronts.{IsFront, front_more, front_none, known_at, let_is}
+use Rattle.mscp_queue.proofs.Held.{some_steps}
+use Rattle.mscp_queue.proofs.Turns.{found_unit, inside_of}
 
--- what is known of the records in front of a place, and of the places among them that may start
-pub record Looks (passing : ℕ) (ds : List Drive) (rs : List Record) (place : ℕ) (f : Front) (places : List ℕ) : Type 0 where
+-- what is known of the records in front of a place, of the places among them that may start, and of what a picker sees
+-- of those
+pub record Looks (passing : ℕ) (ds : List Drive) (rs : List Record) (place : ℕ) (f : Front) (places : List ℕ) (choices : List Choice) : Type 0 where
   pub front : IsFront passing ds (take place rs) f
   pub opens : places ≡ filter (is_open_at passing rs) (range_with_len 0 place)
+  pub shown : choices ≡ choices_at ds rs places
   pub few : length places ≤ place
 
-abbrev pub AllKnown : List Drive → List Record → Type 0
-AllKnown ds rs = All (λ r. is_known (units_of ds) r.command.unit ≡ true) rs
+-- each unit has the blocks of its commands
+abbrev pub AllInside : List Drive → List Record → Type 0
+AllInside ds rs = All (λ r. HasBlocks (units_of ds) r.command) rs
 
-pub looks_more : (passing : ℕ) (ds : List Drive) (rs : List Record) (place : ℕ) (f : Front) (places new : List ℕ) (r : Record) (at : ℕ) → place < length rs → at < 16
-    → at ≡ drive_place ds r.command.unit → r ≡ get_or rs place r → AllKnown ds rs → new ≡ places ++ cond (is_let f r at) (place ∷ []) [] → length new ≤ length places + 1
-    → Looks passing ds rs place f places → Looks passing ds rs (place + 1) (with_record passing f r at) new
-looks_more passing ds rs place f places new r at l few e same known n long h =
+-- one more place, if it is put there
+appended : (places : List ℕ) (place : ℕ) (b : Bool) → length (places ++ cond b (place ∷ []) []) ≤ length places + 1
+appended places place true = omega (arith, length-append places (place ∷ []))
+appended places place false = omega (arith, ap length (append-nil places))
+
+shown_more : (ds : List Drive) (rs : List Record) (places : List ℕ) (place : ℕ) (b : Bool) → choices_at ds rs (places ++ cond b (place ∷ []) []) ≡ choices_at ds rs places ++ cond b (choice_of (drive_at ds rs place) (record_at rs place) ∷ []) []
+shown_more ds rs places place true = map-append (λ i. choice_of (drive_at ds rs i) (record_at rs i)) places (place ∷ [])
+shown_more ds rs places place false = ap (choices_at ds rs) (append-nil places) ∙ sym (append-nil (choices_at ds rs places))
+
+pub looks_more : (passing : ℕ) (ds : List Drive) (rs : List Record) (place : ℕ) (f f' : Front) (places places' : List ℕ) (choices choices' : List Choice) (r : Record) (d : Drive) (at : ℕ) → place < length rs → at < 16
+    → at ≡ drive_place ds r.command.unit → r ≡ get_or rs place r → d ≡ get_or ds at d → AllInside ds rs
+    → f' ≡ with_record passing f r at → places' ≡ places ++ cond (is_let f r at) (place ∷ []) [] → choices' ≡ choices ++ cond (is_let f r at) (choice_of d r ∷ []) []
+    → Looks passing ds rs place f places choices → Looks passing ds rs (place + 1) f' places' choices'
+looks_more passing ds rs place f f' places places' choices choices' r d at l few e same found inside added put shown h =
     let is : r ≡ record_at rs place = same ∙ get_or_default rs place r no_record l in
+    let known : All (λ z. is_known (units_of ds) z.command.unit ≡ true) rs = λ i other k. (inside i other k).0 in
     let own : is_known (units_of ds) r.command.unit ≡ true = subst (λ (q : Record). is_known (units_of ds) q.command.unit ≡ true) (sym is) (known place no_record l) in
+    let drive : d ≡ drive_at ds rs place = found ∙ (ap (λ i. get_or ds i d) e ∙ ((known_at ds r.command.unit d own).drive ∙ ap (λ (q : Record). drive_of ds q.command.unit) is)) in
     let front = recursion_from_All (λ z. is_known (units_of ds) z.command.unit ≡ true) (take place rs) (All-take (λ z. is_known (units_of ds) z.command.unit ≡ true) place rs known) in
     let more : take (place + 1) rs ≡ take place rs ++ r ∷ [] = take_more rs place no_record l ∙ ap (λ q. take place rs ++ q ∷ []) (sym is) in
-    let opens : is_let f r at ≡ is_open_at passing rs place =
+    let b = is_let f r at in
+    let opens : b ≡ is_open_at passing rs place =
     ap (is_let f r) e ∙ (let_is passing ds (take place rs) f r (fresh_drive one_block) h.front (subst (λ i. i < 16) e few) own front ∙ ap (λ (q : Record). is_open passing q (take place rs)) is) in
     record {
-      front = subst (λ zs. IsFront passing ds zs (with_record passing f r at)) (sym more) (front_more passing ds (take place rs) f r at few e h.front);
+      front = subst (IsFront passing ds (take (place + 1) rs)) (sym added) (subst (λ zs. IsFront passing ds zs (with_record passing f r at)) (sym more) (front_more passing ds (take place rs) f r at few e h.front));
       opens =
-          n ∙ (ap (λ ps. ps ++ cond (is_let f r at) (place ∷ []) []) h.opens
+          put ∙ (ap (λ ps. ps ++ cond b (place ∷ []) []) h.opens
           ∙ (ap (λ b. filter (is_open_at passing rs) (range_with_len 0 place) ++ cond b (place ∷ []) []) opens
           ∙ (sym (filter-append (is_open_at passing rs) (range_with_len 0 place) (place ∷ [])) ∙ ap (filter (is_open_at passing rs)) (sym (range_more place)))));
-      few = let k = h.few in omega arith;
+      shown =
+          shown ∙ (ap (λ cs. cs ++ cond b (choice_of d r ∷ []) []) h.shown
+          ∙ (ap (λ q. choices_at ds rs places ++ cond b (q ∷ []) []) (ap (choice_of d) is ∙ ap (λ d. choice_of d (record_at rs place)) drive) ∙ (sym (shown_more ds rs places place b) ∙ ap (choices_at ds rs) (sym put))));
+      few = let k = h.few in omega (arith, ap length put, appended places place b);
     }
+
+pub looks_none : (passing : ℕ) (ds : List Drive) (rs : List Record) (f : Front) (places : List ℕ) (choices : List Choice) → f ≡ nobody → places ≡ [] → choices ≡ [] → Looks passing ds rs 0 f places choices
+looks_none passing ds rs f places choices e n s =
+    record { front = subst (IsFront passing ds []) (sym e) (front_none passing ds); opens = n; shown = s ∙ ap (choices_at ds rs) (sym n); few = omega (arith, ap length n) }
+
+-- a unit that has the blocks of a transfer has the first of them
+pub first_inside : (ds : List Drive) (r : Record) (at : ℕ) (d : Drive) → at ≡ drive_place ds r.command.unit → d ≡ get_or ds at d → HasBlocks (units_of ds) r.command
+    → is_move r.command.order ≡ true → first_block r.command.order < d.unit.size
+first_inside ds r at d e found h m =
+    let drive : d ≡ drive_of ds r.command.unit = found ∙ (ap (λ i. get_or ds i d) e ∙ (known_at ds r.command.unit d h.0).drive) in
+    let inside = inside_of (units_of ds) r.command.unit r.command.order m h.1 in
+    let unit : (unwrap_or (unit_found (units_of ds) r.command.unit) one_block).size ≡ d.unit.size = ap (λ (s : Shape). s.size) (found_unit r.command.unit ds ∙ ap (λ (d : Drive). d.unit) (sym drive)) in
+    omega (arith, inside, unit, some_steps r.command.order)
 
 -- the places that may start are places
 pub places_inside : (passing : ℕ) (rs : List Record) → All (λ place. place < length rs) (open_places passing rs)
@@ -53,6 +91,3 @@ places_inside passing rs =
 pub some_place : (passing : ℕ) (rs : List Record) → 0 < length rs → 0 < length (open_places passing rs)
 some_place passing [] h = absurd (omega arith)
 some_place passing (r ∷ rs) h = omega arith
-
-pub looks_none : (passing : ℕ) (ds : List Drive) (rs : List Record) (f : Front) (places : List ℕ) → f ≡ nobody → places ≡ [] → Looks passing ds rs 0 f places
-looks_none passing ds rs f places e n = record { front = subst (IsFront passing ds []) (sym e) (front_none passing ds); opens = n; few = omega (arith, ap length n) }

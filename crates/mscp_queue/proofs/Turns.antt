@@ -18,7 +18,7 @@ use Rattle.mscp_queue.specs.Outcomes.{goes_on, is_good_block, outcome_at, touche
 use Rattle.mscp_queue.specs.Orders.{first_block, is_move, order_weight}
 use Rattle.mscp_queue.specs.Drives.{IsOnUnit, drive_of, fresh_drive, has_number, one_block, replaced}
 use Rattle.mscp_queue.specs.Kept.{IsHeld, IsInside, IsKept, units_of}
-use Rattle.mscp_queue.specs.Records.{Record, advanced, cost_of, is_in_service, is_unstarted, left_of, no_record, passed_by, record_at}
+use Rattle.mscp_queue.specs.Records.{Record, advanced, step_toll, is_in_service, is_unstarted, left_of, no_record, passed_by, record_at}
 use Rattle.mscp_queue.specs.Serving.{IsNext, drive_after, end_given, touched}
 use Rattle.mscp_queue.specs.Views.{IsPick, is_affordable, is_free, is_open_at, open_places}
 use Rattle.mscp_queue.proofs.Lists.{Pairs, every_filter, every_from, every_parts, every_weaker, pairs_middle}
@@ -41,8 +41,8 @@ opened passing rs =
     (every_weaker (λ place. Unit {0} × (is_open_at passing rs place ≡ true)) (λ place. is_open_at passing rs place ≡ true) (λ place h. h.1) (open_places passing rs)
     (every_filter (λ place. Unit {0}) (is_open_at passing rs) (range_with_len 0 (length rs)) (every_from (λ place. Unit {0}) (λ place. tt) (range_with_len 0 (length rs)))))
 
-picked_opens : (picks : List Choice → ℕ → Type 0) (passing : ℕ) (rs : List Record) (place : ℕ) → IsPick picks passing rs place → is_open_at passing rs place ≡ true
-picked_opens picks passing rs place h = subst (λ p. is_open_at passing rs p ≡ true) h.2 (opened passing rs h.0 0 h.1)
+picked_opens : (picks : List Choice → ℕ → Type 0) (passing : ℕ) (ds : List Drive) (rs : List Record) (place : ℕ) → IsPick picks passing ds rs place → is_open_at passing rs place ≡ true
+picked_opens picks passing ds rs place h = subst (λ p. is_open_at passing rs p ≡ true) h.2 (opened passing rs h.0 0 h.1)
 
 -- none of those in front is passed too often by a start that may be picked
 front_affordable : (passing : ℕ) (rs : List Record) (place : ℕ) → is_open_at passing rs place ≡ true → AllByRecursion (λ z. z.passes + 1 ≤ passing) (take place rs)
@@ -74,8 +74,8 @@ more_left k d r None h =
     record { left = inr (refl, omega arith) }
 
 pub next_turn : (room passing longest place : ℕ) (picks : List Choice → ℕ → Type 0) (rs : List Record) (ds : List Drive) (k : Block) (d : Drive) → IsHeld room passing longest rs ds
-    → IsNext picks passing rs place
-    → IsTurn passing (cost_of (record_at rs place)) (take place rs) (record_at rs place) (drop (place + 1) rs) (cond (is_some (end_given k d (record_at rs place))) [] (advanced (record_at rs place) ∷ []))
+    → IsNext picks passing ds rs place
+    → IsTurn passing (step_toll (record_at rs place)) (take place rs) (record_at rs place) (drop (place + 1) rs) (cond (is_some (end_given k d (record_at rs place))) [] (advanced (record_at rs place) ∷ []))
 next_turn room passing longest place picks rs ds k d h n =
     let r = record_at rs place in
     let A = take place rs in
@@ -88,7 +88,7 @@ next_turn room passing longest place picks rs ds k d h n =
     λ b. elim b as (λ b. is_unstarted r ≡ b → IsTurn passing (cond b 1 0) A r B own) [
       | true ↦ λ e.
           let idle = every_parts (λ z. z.done ≡ 0) A (r ∷ B) (subst AreIdle cut (recursion_from_All (λ z. z.done ≡ 0) rs (n.idle e))) in
-          record { before = idle.0; behind = idle.1.1; affordable = front_affordable passing rs place (picked_opens picks passing rs place (n.picked e)); left = left }
+          record { before = idle.0; behind = idle.1.1; affordable = front_affordable passing rs place (picked_opens picks passing ds rs place (n.picked e)); left = left }
       | false ↦ λ e.
           let some = eqb-false r.done 0 e in
           let one = h.one in
@@ -160,7 +160,7 @@ when_some : (b : Bool) (n lbn : ℕ) → (if b then Some n else None) ≡ Some l
 when_some true n lbn h = (refl, some_is n lbn h)
 when_some false n lbn h = absurd (false≢true (ap is_some h))
 
-inside_of : (us : List Shape) (n : ℕ) (o : Order) → is_move o ≡ true → IsInside us n o → first_block o + order_weight o ≤ (unwrap_or (unit_found us n) one_block).size
+pub inside_of : (us : List Shape) (n : ℕ) (o : Order) → is_move o ≡ true → IsInside us n o → first_block o + order_weight o ≤ (unwrap_or (unit_found us n) one_block).size
 inside_of us n (orders.Move kind count block) m h = h
 inside_of us n (orders.Abort other) m h = absurd (false≢true m)
 inside_of us n (orders.Status other) m h = absurd (false≢true m)
@@ -186,8 +186,8 @@ touched_inside passing longest ds r d e k lbn h =
 -- ---- the whole step
 
 pub held_served : (room passing longest place : ℕ) (picks : List Choice → ℕ → Type 0) (rs new : List Record) (ds ds' : List Drive) (k : Block) (d d' : Drive) → IsHeld room passing longest rs ds
-    → IsNext picks passing rs place → d ≡ drive_of ds (record_at rs place).command.unit → d' ≡ drive_after k d (record_at rs place) → IsOnUnit d'
-    → new ≡ map (passed_by (cost_of (record_at rs place))) (take place rs) ++ (cond (is_some (end_given k d (record_at rs place))) [] (advanced (record_at rs place) ∷ []) ++ drop (place + 1) rs)
+    → IsNext picks passing ds rs place → d ≡ drive_of ds (record_at rs place).command.unit → d' ≡ drive_after k d (record_at rs place) → IsOnUnit d'
+    → new ≡ map (passed_by (step_toll (record_at rs place))) (take place rs) ++ (cond (is_some (end_given k d (record_at rs place))) [] (advanced (record_at rs place) ∷ []) ++ drop (place + 1) rs)
     → ds' ≡ replaced (record_at rs place).command.unit d' ds → IsHeld room passing longest new ds'
 held_served room passing longest place picks rs new ds ds' k d d' h n e f on w v =
     let r = record_at rs place in
@@ -199,7 +199,7 @@ held_served room passing longest place picks rs new ds ds' k d d' h n e f on w v
     let turn = next_turn room passing longest place picks rs ds k d h n in
     subst (λ zs. IsHeld room passing longest new zs) (sym v)
     (subst (λ zs. IsHeld room passing longest zs (replaced number d' ds)) (sym w)
-    (held_turn room passing longest (cost_of r) (take place rs) r (drop (place + 1) rs) (cond (is_some (end_given k d r)) [] (advanced r ∷ [])) ds (replaced number d' ds)
+    (held_turn room passing longest (step_toll r) (take place rs) r (drop (place + 1) rs) (cond (is_some (end_given k d r)) [] (advanced r ∷ [])) ds (replaced number d' ds)
     (subst (λ zs. IsHeld room passing longest zs ds) cut h) turn (units_replaced number d' ds same) heads))
 
 head_found : (n : ℕ) (ds : List Drive) → AllByRecursion IsOnUnit ds → IsOnUnit (drive_of ds n)
@@ -214,8 +214,8 @@ head_kept room passing longest n rs ds h = head_found n ds (recursion_from_All I
 
 -- the same as it is found out, step by step
 pub held_step : (room passing longest place : ℕ) (picks : List Choice → ℕ → Type 0) (rs new : List Record) (ds ds' : List Drive) (k : Block) (r : Record) (command : Command) (d d' : Drive)
-    (e : Option End) (ends : Bool) (toll : ℕ) → IsHeld room passing longest rs ds → IsNext picks passing rs place → r ≡ record_at rs place → command ≡ r.command → d ≡ drive_of ds command.unit
-    → e ≡ end_given k d r → ends ≡ is_some e → d' ≡ drive_after k d r → toll ≡ cost_of r
+    (e : Option End) (ends : Bool) (toll : ℕ) → IsHeld room passing longest rs ds → IsNext picks passing ds rs place → r ≡ record_at rs place → command ≡ r.command → d ≡ drive_of ds command.unit
+    → e ≡ end_given k d r → ends ≡ is_some e → d' ≡ drive_after k d r → toll ≡ step_toll r
     → (((lbn : ℕ) → touched d r ≡ Some lbn → lbn < d.unit.size) → IsOnUnit d → IsOnUnit d')
     → new ≡ map (passed_by toll) (take place rs) ++ (cond ends [] (advanced (record_at rs place) ∷ []) ++ drop (place + 1) rs)
     → ds' ≡ replaced command.unit d' ds → IsHeld room passing longest new ds'
@@ -226,8 +226,8 @@ held_step room passing longest place picks rs new ds ds' k r command d d' e ends
     let kept : IsKept passing longest (units_of ds) r = subst (IsKept passing longest (units_of ds)) (sym is) (h.each place no_record n.inside) in
     let head : IsOnUnit d = subst IsOnUnit (sym drive) (head_kept room passing longest command.unit rs ds h) in
     held_served room passing longest place picks rs new ds ds' k d d' h n (drive ∙ ap (drive_of ds) unit) (after ∙ ap (drive_after k d) is) (on (touched_inside passing longest ds r d found kept) head)
-    (w ∙ (ap (λ t. map (passed_by t) (take place rs) ++ (cond ends [] own ++ drop (place + 1) rs)) (cost ∙ ap cost_of is)
-    ∙ ap (λ b. map (passed_by (cost_of (record_at rs place))) (take place rs) ++ (cond b [] own ++ drop (place + 1) rs)) (some ∙ (ap is_some ended ∙ ap (λ r. is_some (end_given k d r)) is))))
+    (w ∙ (ap (λ t. map (passed_by t) (take place rs) ++ (cond ends [] own ++ drop (place + 1) rs)) (cost ∙ ap step_toll is)
+    ∙ ap (λ b. map (passed_by (step_toll (record_at rs place))) (take place rs) ++ (cond b [] own ++ drop (place + 1) rs)) (some ∙ (ap is_some ended ∙ ap (λ r. is_some (end_given k d r)) is))))
     (v ∙ ap (λ u. replaced u d' ds) unit)
 
 -- a step changes no unit

@@ -26,6 +26,10 @@ IsInside units number (orders.Move kind count block) =
     block + order_weight (orders.Move kind count block) ≤ (unwrap_or (unit_found units number) one_block).size
 IsInside units number order = Unit {0}
 
+-- the command is to one of the units, which has the blocks of its steps
+abbrev pub HasBlocks : List Shape → Command → Type 0
+HasBlocks units command = (is_known units command.unit ≡ true) × IsInside units command.unit command.order
+
 -- a command that may wait is sequential or a transfer, to one of the units, and no step of it reaches past its unit
 pub record IsWaitable (longest : ℕ) (units : List Shape) (command : Command) : Type 0 where
   pub order : (is_sequential command.order || is_move command.order) ≡ true

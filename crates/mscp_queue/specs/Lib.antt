@@ -4,6 +4,7 @@ pub mod Outcomes
 pub mod Drives
 pub mod Records
 pub mod Views
+pub mod Pickers
 pub mod Serving
 pub mod Figures
 pub mod Lines

@@ -8,8 +8,8 @@ use Rattle.mscp_queue.specs.declared.report.Report.TheVariants.{Idle}
 use Rattle.mscp_queue.specs.declared.drive.Drive.{Drive}
 use Rattle.mscp_queue.specs.declared.view.Choice.{Choice}
 use Rattle.mscp_queue.specs.Drives.{fresh_drive}
-use Rattle.mscp_queue.specs.Records.{Record, fresh_record, record_at}
-use Rattle.mscp_queue.specs.Serving.{IsNext, drive_at, drives_after, report_of, waiting_after}
+use Rattle.mscp_queue.specs.Records.{Record, drive_at, fresh_record, record_at}
+use Rattle.mscp_queue.specs.Serving.{IsNext, drives_after, report_of, waiting_after}
 
 -- how many commands may wait, how often one may be passed, and the longest transfer in blocks (profile); the waiting
 -- commands, in order of arrival; the drives, in the order of their units; and who picks
@@ -47,7 +47,7 @@ served k line place = record line {
 pub record ServesAt {K : Type 0} (picks : List Choice → ℕ → Type 0)
     (k : Block) (old : Line K) (report : Report) (new : Line K) (place : ℕ) : Type 0 where
   -- it may be served next (profile)
-  pub next : IsNext picks old.passing old.waiting place
+  pub next : IsNext picks old.passing old.drives old.waiting place
   -- this is what is reported of it (manual, the seek is the profile's)
   pub told : report ≡ report_of k (drive_at old.drives old.waiting place) (record_at old.waiting place)
   -- and this is what it leaves

@@ -6,7 +6,10 @@ use Rattle.mscp_packet.specs.declared.command.Order.TheVariants as orders
 use Rattle.mscp_packet.specs.Opcodes.{class}
 use Rattle.mscp_packet.specs.Commands.{opcode_byte}
 use Rattle.mscp_packet.specs.Statuses.{invalid_opcode}
+use Rattle.mscp_drive.specs.declared.head.Head.{Head}
 use Rattle.mscp_drive.specs.Extent as extent
+use Rattle.mscp_drive.specs.Heads.{sweep_cost}
+use Rattle.mscp_drive.specs.Shape.{Shape, cylinder_of, last_cylinder}
 
 -- how many steps an order takes: one for each block of a transfer, and at least one (profile)
 abbrev pub order_weight : Order → ℕ
@@ -33,6 +36,13 @@ order_class order = class (opcode_byte order)
 abbrev pub first_block : Order → ℕ
 first_block (orders.Move kind count block) = block
 first_block order = 0
+
+-- what the start of an order costs the head of its unit: the way to the first block, and nothing where it is sequential
+-- (profile)
+abbrev pub order_cost : Shape → Head → Order → ℕ
+order_cost u head (orders.Move kind count block) =
+    sweep_cost (last_cylinder u) head.cylinder head.up (cylinder_of u block)
+order_cost u head order = 0
 
 -- the endcode: the opcode with the top bit set. An opcode that is unknown, or isn't served so far, has that
 -- bit alone (manual, the latter is the profile's)

@@ -3,6 +3,8 @@ use Rattle.std.specs.Prelude.{ℕ, ◌+◌, ◌-◌, cond, Bool, nat_eq, nat_lt,
 use Rattle.mscp_packet.specs.declared.command.Command.{Command}
 use Rattle.mscp_packet.specs.declared.command.Order.TheVariants as orders
 use Rattle.mscp_packet.specs.declared.end.End.{End}
+use Rattle.mscp_queue.specs.declared.drive.Drive.{Drive}
+use Rattle.mscp_queue.specs.Drives.{drive_of}
 use Rattle.mscp_queue.specs.Names.{name_of, same_name}
 use Rattle.mscp_queue.specs.Orders.{order_weight}
 
@@ -38,6 +40,10 @@ record_at rs place = slice_index_or rs place no_record
 abbrev pub has_reference : ℕ → Record → Bool
 has_reference reference r = same_name (name_of r.command) reference
 
+-- the drive of the record at a place
+abbrev pub drive_at : List Drive → List Record → ℕ → Drive
+drive_at ds rs place = drive_of ds (record_at rs place).command.unit
+
 -- how many steps are left of a record (profile)
 abbrev pub left_of : Record → ℕ
 left_of r = r.weight - r.done
@@ -55,8 +61,8 @@ abbrev pub toll : Record → ℕ
 toll r = 1
 
 -- what a step of a record costs each earlier command: the toll of a start (profile)
-abbrev pub cost_of : Record → ℕ
-cost_of r = cond (is_unstarted r) (toll r) 0
+abbrev pub step_toll : Record → ℕ
+step_toll r = cond (is_unstarted r) (toll r) 0
 
 -- the record once its command was passed at this toll
 abbrev pub passed_by : ℕ → Record → Record

@@ -10,8 +10,8 @@ use Rattle.mscp_queue.specs.declared.report.Report.TheVariants.{Served}
 use Rattle.mscp_queue.specs.declared.drive.Drive.{Drive}
 use Rattle.mscp_queue.specs.declared.view.Choice.{Choice}
 use Rattle.mscp_queue.specs.Outcomes.{block_touched, goes_on, head_after, outcome_at, state_after}
-use Rattle.mscp_queue.specs.Drives.{drive_of, replaced}
-use Rattle.mscp_queue.specs.Records.{Record, cost_of, is_unstarted, left_of, passed_by, record_at, remains}
+use Rattle.mscp_queue.specs.Drives.{replaced}
+use Rattle.mscp_queue.specs.Records.{Record, drive_at, step_toll, is_unstarted, left_of, passed_by, record_at, remains}
 use Rattle.mscp_queue.specs.Views.{IsPick}
 
 -- ---- a record on its drive
@@ -55,18 +55,15 @@ report_of k d r =
 -- the waiting commands after a step of the record at a place: each one in front of a start was passed (profile)
 abbrev pub waiting_after : Block → Drive → List Record → ℕ → List Record
 waiting_after k d rs place =
-    map (passed_by (cost_of (record_at rs place))) (take place rs)
+    map (passed_by (step_toll (record_at rs place))) (take place rs)
     ++ (remains (record_at rs place) (end_given k d (record_at rs place)) ++ drop (place + 1) rs)
 
 -- the record at a place may be served next: it is in service, or nothing is and the picker may pick it (profile)
-pub record IsNext (picks : List Choice → ℕ → Type 0) (passing : ℕ) (rs : List Record) (place : ℕ) : Type 0 where
+pub record IsNext (picks : List Choice → ℕ → Type 0) (passing : ℕ)
+    (ds : List Drive) (rs : List Record) (place : ℕ) : Type 0 where
   pub inside : place < length rs
   pub idle : is_unstarted (record_at rs place) ≡ true → All (λ r. r.done ≡ 0) rs
-  pub picked : is_unstarted (record_at rs place) ≡ true → IsPick picks passing rs place
-
--- the drive of the record at a place
-abbrev pub drive_at : List Drive → List Record → ℕ → Drive
-drive_at ds rs place = drive_of ds (record_at rs place).command.unit
+  pub picked : is_unstarted (record_at rs place) ≡ true → IsPick picks passing ds rs place
 
 -- the drives after a step of the record at a place: that of its unit has changed
 abbrev pub drives_after : Block → List Drive → List Record → ℕ → List Drive

@@ -1,9 +1,10 @@
 -- What may start, and what a picker sees of it.
 use Rattle.std.specs.Prelude.{◌≡◌, ℕ, ◌+◌, ◌<◌, Bool, not, ◌&&◌, ◌||◌, nat_eq, nat_le, List, length, map, take, filter, slice_index_or}
 use Rattle.std.specs.List.{list_all, range_with_len}
+use Rattle.mscp_queue.specs.declared.drive.Drive.{Drive}
 use Rattle.mscp_queue.specs.declared.view.Choice.{Choice}
-use Rattle.mscp_queue.specs.Orders.{is_sequential, order_class}
-use Rattle.mscp_queue.specs.Records.{Record, record_at, toll}
+use Rattle.mscp_queue.specs.Orders.{is_sequential, order_class, order_cost}
+use Rattle.mscp_queue.specs.Records.{Record, drive_at, record_at, toll}
 
 -- r has to stay behind z: both are of one unit, and one of them is sequential (manual, "Command Categories and
 -- Execution Order")
@@ -31,24 +32,25 @@ is_open_at passing rs place = is_open passing (record_at rs place) (take place r
 abbrev pub open_places : ℕ → List Record → List ℕ
 open_places passing rs = filter (is_open_at passing rs) (range_with_len 0 (length rs))
 
--- what a picker sees of a record (profile)
-abbrev pub choice_of : Record → Choice
-choice_of r =
-    record { reference = r.command.reference; unit = r.command.unit; class = order_class r.command.order; cost = 0 }
+-- what a picker sees of a record whose unit's drive is this (profile)
+abbrev pub choice_of : Drive → Record → Choice
+choice_of d r = record {
+  reference = r.command.reference;
+  unit = r.command.unit;
+  class = order_class r.command.order;
+  cost = order_cost d.unit d.head r.command.order;
+}
 
-abbrev pub choices_at : List Record → List ℕ → List Choice
-choices_at rs places = map (λ place. choice_of (record_at rs place)) places
+-- the same of the records at these places
+abbrev pub choices_at : List Drive → List Record → List ℕ → List Choice
+choices_at ds rs places = map (λ place. choice_of (drive_at ds rs place) (record_at rs place)) places
 
 -- what a picker sees where nothing is in service: exactly the records that may start, in order of arrival (profile)
-abbrev pub view_of : ℕ → List Record → List Choice
-view_of passing rs = choices_at rs (open_places passing rs)
+abbrev pub view_of : ℕ → List Drive → List Record → List Choice
+view_of passing ds rs = choices_at ds rs (open_places passing rs)
 
 -- the record at a place may be picked: it stands in the view, at a place that the picker's relation allows (profile)
-abbrev pub IsPick : (List Choice → ℕ → Type 0) → ℕ → List Record → ℕ → Type 0
-IsPick picks passing rs place =
+abbrev pub IsPick : (List Choice → ℕ → Type 0) → ℕ → List Drive → List Record → ℕ → Type 0
+IsPick picks passing ds rs place =
     (i : ℕ) × (i < length (open_places passing rs)) × (slice_index_or (open_places passing rs) i 0 ≡ place)
-    × picks (view_of passing rs) i
-
--- what picks the oldest may pick: the first place of a view (profile)
-abbrev pub IsOldest : List Choice → ℕ → Type 0
-IsOldest view place = place ≡ 0
+    × picks (view_of passing ds rs) i

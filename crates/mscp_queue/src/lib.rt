@@ -20,7 +20,7 @@ mod view;
 pub use crate::block::{Block, FaultStatus};
 pub use crate::drive::Drive;
 pub use crate::outcome::{end_with, endcode_of};
-pub use crate::picker::{Oldest, Picker};
+pub use crate::picker::{Oldest, Picker, Sweep};
 pub use crate::queue::{Queue, Waiting};
 pub use crate::record::Record;
 pub use crate::report::Report;

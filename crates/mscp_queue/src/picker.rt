@@ -1,6 +1,7 @@
 // Who picks the command that starts.
 
-ghost use Rattle.std.specs.Prelude.{◌≡◌};
+ghost use Rattle.std.specs.Prelude.{◌≡◌, ◌<◌, [], length};
+ghost use Rattle.mscp_queue.specs.Pickers.{IsSweep};
 
 use crate::view::View;
 
@@ -25,7 +26,7 @@ pub trait Picker {
 pub struct Oldest;
 
 impl Picker for Oldest {
-    ghost use Rattle.mscp_queue.specs.Views.{IsOldest};
+    ghost use Rattle.mscp_queue.specs.Pickers.{IsOldest};
 
     ghost picks = { λ _ view place. IsOldest view place };
 
@@ -33,5 +34,27 @@ impl Picker for Oldest {
         ensures oldest { result ≡ 0 }
     {
         0
+    }
+}
+
+/// Picks the command whose start costs the least, and of those the oldest: an elevator over all units (profile).
+#[derive(Clone, Copy, Debug, Default, PartialEq, Eq)]
+pub struct Sweep;
+
+impl Picker for Sweep {
+    ghost picks = { λ _ view place. IsSweep view place };
+
+    fn pick(&self, view: &View) -> usize
+        ensures empty { view.now ≡ [] → result ≡ 0 }
+        ensures sweep { 0 < length view.now → IsSweep view.now result }
+    {
+        let choices = view.choices();
+        let mut best = 0;
+        for place in 1..choices.len() {
+            if choices[place].cost < choices[best].cost {
+                best = place;
+            }
+        }
+        best
     }
 }

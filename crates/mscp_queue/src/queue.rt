@@ -156,7 +156,7 @@ impl<K: Picker> Queue<K> {
     /// The place of the command that is served next: that in service, or one that the picker picks.
     fn next_place(&self) -> Option<usize>
         ensures none { IfNone result (self.now.waiting ≡ []) }
-        ensures some { IfSome result (λ place. IsNext (K.picks self.now.picker) self.now.passing self.now.waiting place) }
+        ensures some { IfSome result (λ place. IsNext (K.picks self.now.picker) self.now.passing self.now.drives self.now.waiting place) }
     {
         let waiting = self.waiting.as_slice();
         if waiting.is_empty() {
@@ -170,7 +170,7 @@ impl<K: Picker> Queue<K> {
 
     /// Serves a block, with this outcome, to the record at the place.
     fn serve_at(&mut self, place: usize, block: &Block) -> Report
-        requires { IsNext (K.picks self.old.picker) self.old.passing self.old.waiting place }
+        requires { IsNext (K.picks self.old.picker) self.old.passing self.old.drives self.old.waiting place }
         ensures served { ServesAt (K.picks self.old.picker) block.now self.old result self.new place }
         ensures units { units_of self.new.drives ≡ units_of self.old.drives }
     {
@@ -181,7 +181,7 @@ impl<K: Picker> Queue<K> {
         leave(
             &mut self.waiting,
             place,
-            record.cost(),
+            record.step_toll(),
             service.ended.is_some(),
         );
         replace_drive(self.drives.as_mut_slice(), command.unit, &service.drive);

@@ -2,7 +2,7 @@
 
 ghost use Rattle.std.specs.Prelude.{◌≡◌, ◌+◌, ◌-◌, ◌<◌, ◌≤◌, ◌^◌, nat_eq};
 ghost use Rattle.mscp_queue.specs.Orders.{order_weight};
-ghost use Rattle.mscp_queue.specs.Records.{advanced, cost_of, fresh_record, left_of, no_record, passed_by};
+ghost use Rattle.mscp_queue.specs.Records.{advanced, step_toll, fresh_record, left_of, no_record, passed_by};
 
 use mscp_packet::{Command, Order};
 use std::marker::Model;
@@ -104,9 +104,9 @@ impl Record {
         }
     }
 
-    /// What a step of the command costs each earlier one: a pass where it starts.
-    pub fn cost(&self) -> u32
-        ensures value { result ≡ cost_of self.now }
+    /// How many passes a step of the command costs each earlier one: one where it starts.
+    pub fn step_toll(&self) -> u32
+        ensures value { result ≡ step_toll self.now }
         ensures small { result ≤ 1 }
     {
         u32::from(self.is_unstarted())

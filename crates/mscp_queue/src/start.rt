@@ -2,11 +2,11 @@
 
 ghost use Rattle.std.specs.Prelude.{◌≡◌, ◌++◌, [], ◌∷◌, ◌+◌, ◌<◌, ◌≤◌, true, cond, length, All};
 ghost use Rattle.std.specs.List.{position};
-ghost use Rattle.mscp_queue.specs.Drives.{has_number};
+ghost use Rattle.mscp_queue.specs.Drives.{IsOnUnit, has_number};
 ghost use Rattle.mscp_queue.specs.Fronts.{drive_place};
-ghost use Rattle.mscp_queue.specs.Kept.{is_known, units_of};
-ghost use Rattle.mscp_queue.specs.Records.{record_at};
-ghost use Rattle.mscp_queue.specs.Views.{IsPick, choice_of, choices_at, open_places};
+ghost use Rattle.mscp_queue.specs.Kept.{HasBlocks, is_known, units_of};
+ghost use Rattle.mscp_queue.specs.Orders.{first_block, is_move, order_cost};
+ghost use Rattle.mscp_queue.specs.Views.{IsPick, choice_of, open_places, view_of};
 
 use crate::drive::Drive;
 use crate::front::Front;
@@ -14,7 +14,7 @@ use crate::picker::Picker;
 use crate::record::Record;
 use crate::view::{Choice, View};
 use arrayvec::ArrayVec;
-use mscp_packet::class_of;
+use mscp_packet::{Order, class_of};
 
 /// The place of the drive of the unit with this number, if there is one.
 fn find_place(drives: &[Drive], number: u16) -> Option<usize>
@@ -35,60 +35,89 @@ fn place_of_drive(drives: &[Drive], number: u16) -> usize
     find_place(drives, number).unwrap_or(drives.len())
 }
 
-/// Appends a place if it is to stand there.
-fn put_if(places: &mut ArrayVec<usize, 64>, place: usize, stands: bool)
-    requires { length places.old.items < 64 }
-    ensures items { places.new.items ≡ places.old.items ++ cond stands (place ∷ []) [] }
-    ensures few { length places.new.items ≤ length places.old.items + 1 }
+/// What the start of an order costs the head of this drive: the way to the first block, and nothing where it is
+/// sequential.
+fn cost_of(order: &Order, drive: &Drive) -> u64
+    requires head { IsOnUnit drive.now }
+    requires block { is_move order.now ≡ true → first_block order.now < drive.now.unit.size }
+    ensures { result ≡ order_cost drive.now.unit drive.now.head order.now }
 {
-    if stands {
-        places.push(place);
+    match order {
+        Order::Move(_, _, block) => drive.head.cost(&drive.unit, drive.unit.cylinder(*block)),
+        _ => 0,
     }
 }
 
-/// The places of the records that may start, in order of arrival. It looks at each record once: what is fenced is known
-/// from what was seen of each unit, and whether one in front may be passed no more is one flag.
-fn startable(records: &[Record], drives: &[Drive], passing: u32) -> ArrayVec<usize, 64>
-    requires few { length records.now ≤ 64 }
-    requires drives { length drives.now ≤ 16 }
-    requires known { All (λ r. is_known (units_of drives.now) r.command.unit ≡ true) records.now }
-    ensures { result.items ≡ open_places passing records.now }
-{
-    let mut front = Front::new();
-    let mut places = ArrayVec::new();
-    for place in 0..records.len() {
-        let record = records[place];
-        let drive = place_of_drive(drives, record.command().unit);
-        put_if(&mut places, place, front.lets(&record, drive));
-        front.add(&record, drive, passing);
-    }
-    places
-}
-
-/// What a picker sees of a record.
-fn choice_of(record: &Record) -> Choice
-    ensures { result ≡ choice_of «record».now }
+/// What a picker sees of a record whose unit's drive is this.
+fn choice_of(record: &Record, drive: &Drive) -> Choice
+    requires head { IsOnUnit drive.now }
+    requires block { is_move «record».now.command.order ≡ true
+        → first_block «record».now.command.order < drive.now.unit.size }
+    ensures { result ≡ choice_of drive.now «record».now }
 {
     let command = record.command();
     Choice {
         reference: command.reference,
         unit: command.unit,
         class: class_of(command.opcode()),
-        cost: 0,
+        cost: cost_of(&command.order, drive),
     }
 }
 
-/// What a picker sees of the records at these places.
-fn view_at(records: &[Record], places: &[usize]) -> View
-    requires places { All (λ place. place < length records.now) places.now }
-    requires few { length places.now ≤ 64 }
-    ensures { result ≡ choices_at records.now places.now }
-{
-    let mut choices = ArrayVec::new();
-    for place in places {
-        choices.push(choice_of(&records[*place]));
+/// The records that may start: their places, and what a picker sees of them, in order of arrival.
+struct Startable {
+    places: ArrayVec<usize, 64>,
+    choices: ArrayVec<Choice, 64>,
+}
+
+impl Startable {
+    fn new() -> Startable
+        ensures places { result.places.items ≡ [] }
+        ensures choices { result.choices.items ≡ [] }
+    {
+        Startable {
+            places: ArrayVec::new(),
+            choices: ArrayVec::new(),
+        }
     }
-    View::of(choices)
+
+    /// Appends a record, which stands at this place and whose unit's drive is this, if it may start.
+    fn put_if(&mut self, may_start: bool, place: usize, record: &Record, drive: &Drive)
+        requires places { length self.old.places.items < 64 }
+        requires choices { length self.old.choices.items < 64 }
+        requires head { IsOnUnit drive.now }
+        requires block { is_move «record».now.command.order ≡ true
+            → first_block «record».now.command.order < drive.now.unit.size }
+        ensures places { self.new.places.items ≡ self.old.places.items ++ cond may_start (place ∷ []) [] }
+        ensures choices { self.new.choices.items
+            ≡ self.old.choices.items ++ cond may_start (choice_of drive.now «record».now ∷ []) [] }
+    {
+        if may_start {
+            self.places.push(place);
+            self.choices.push(choice_of(record, drive));
+        }
+    }
+}
+
+/// The records that may start. It looks at each record once: what is fenced is known from what was seen of each unit, and whether one in front may be passed no more
+/// is one flag.
+fn find_startable(records: &[Record], drives: &[Drive], passing: u32) -> Startable
+    requires few { length records.now ≤ 64 }
+    requires drives { length drives.now ≤ 16 }
+    requires heads { All IsOnUnit drives.now }
+    requires inside { All (λ r. HasBlocks (units_of drives.now) r.command) records.now }
+    ensures places { result.places.items ≡ open_places passing records.now }
+    ensures choices { result.choices.items ≡ view_of passing drives.now records.now }
+{
+    let mut front = Front::new();
+    let mut open = Startable::new();
+    for place in 0..records.len() {
+        let record = records[place];
+        let at = place_of_drive(drives, record.command().unit);
+        open.put_if(front.lets(&record, at), place, &record, &drives[at]);
+        front.add(&record, at, passing);
+    }
+    open
 }
 
 /// The place of the record that the picker picks, of those that may start.
@@ -101,11 +130,12 @@ pub(crate) fn picked_place<K: Picker>(
     requires some { 0 < length records.now }
     requires few { length records.now ≤ 64 }
     requires drives { length drives.now ≤ 16 }
-    requires known { All (λ r. is_known (units_of drives.now) r.command.unit ≡ true) records.now }
+    requires heads { All IsOnUnit drives.now }
+    requires inside { All (λ r. HasBlocks (units_of drives.now) r.command) records.now }
     ensures inside { result < length records.now }
-    ensures picked { IsPick (K.picks picker.now) passing records.now result }
+    ensures picked { IsPick (K.picks picker.now) passing drives.now records.now result }
 {
-    let places = startable(records, drives, passing);
-    let view = view_at(records, places.as_slice());
+    let Startable { places, choices } = find_startable(records, drives, passing);
+    let view = View::of(choices);
     places[picker.pick(&view)]
 }

@@ -15,7 +15,8 @@ pub struct Choice {
     pub unit: u16,
     /// Sequential, or Free for a transfer.
     pub class: Class,
-    /// What its start costs the head of its unit. So far this is 0.
+    /// How many cylinders the head of its unit crosses to its first block if it goes on the way it goes, and turns only
+    /// at the ends (profile). A sequential command costs 0.
     pub cost: u64,
 }
 

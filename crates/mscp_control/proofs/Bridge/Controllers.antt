@@ -8,6 +8,7 @@ use Rattle.mscp_control.specs.declared.event.Entry.{Entry}
 use Rattle.mscp_control.specs.Settings.{Settings, IsValid}
 use Rattle.mscp_control.specs.Holdings.{Answered, Holdings, fresh}
 use Rattle.mscp_control.specs.Controllers.{KeepsPromise}
+use Rattle.mscp_control.proofs.Bridge.Swept.{sweeping}
 use Rattle.mscp_control.proofs.Bridge.Held.{figure_of_held}
 use Rattle.mscp_control.proofs.Promise.Progress.{progress}
 use Rattle.mscp_control.proofs.Bridge.Sending.{balance_held}
@@ -22,6 +23,7 @@ keeps_promise c picks picker es ns h v r =
     record {
       headline = record { answers = as_many picks (fresh c picker) h es ns r; legal = k.legal; promise = progress c t v k.legal };
       picked = k.picked;
+      swept = λ w. sweeping c picks t w k.picked;
       figure = λ reference. ap (λ ws. figure_of_reference c.passing c.longest ws reference) f.waits ∙ figure_of_held c t reference;
       drives = k.agrees.driven.drives;
       balance = ap (λ (s : Settings). s.credits - (length h.waiting + length h.untaken)) k.settings ∙ balance_held c t h.waiting h.untaken f;

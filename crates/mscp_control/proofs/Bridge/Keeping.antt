@@ -12,8 +12,8 @@ use Rattle.mscp_queue.specs.Drives.{fresh_drive}
 use Rattle.mscp_queue.specs.Kept.{units_of}
 use Rattle.mscp_queue.specs.Lines as lines
 use Rattle.mscp_queue.specs.Lines.{Line, Serves, ServesAt}
-use Rattle.mscp_queue.specs.Records.{Record, cost_of, passed_by, record_at, remains}
-use Rattle.mscp_queue.specs.Serving.{drive_at, end_given}
+use Rattle.mscp_queue.specs.Records.{Record, drive_at, step_toll, passed_by, record_at, remains}
+use Rattle.mscp_queue.specs.Serving.{end_given}
 use Rattle.mscp_control.specs.Settings.{Settings, IsValid, room}
 use Rattle.mscp_packet.specs.declared.command.Command.{Command}
 use Rattle.mscp_packet.specs.Commands.{command_of}
@@ -71,7 +71,7 @@ count_stepped {K} picks k old (reports.Served reference unit lbn started seek en
     let r = record_at old.waiting place in
     let e = end_given k (drive_at old.drives old.waiting place) r in
     let ends : ends_reported (reports.Served reference unit lbn started seek ended) ≡ option_to_list e = ap ends_reported s.told in
-    omega (arith, ap (λ (l : Line K). length l.waiting) s.left, ap length ends, count_after (cost_of r) place r old.waiting e s.next.inside)
+    omega (arith, ap (λ (l : Line K). length l.waiting) s.left, ap length ends, count_after (step_toll r) place r old.waiting e s.next.inside)
 
 -- and the limits and the picker stay
 pub stays : {K : Type 0} (picks : List Choice → ℕ → Type 0) (k : Block) (old : Line K) (report : Report) (new : Line K) → Serves picks k old report new

@@ -2,6 +2,7 @@
 use Rattle.std.proofs.Common.{◌≡◌, ℕ, ◌+◌, ◌<◌, Bool, true, false, cond, ◌&&◌, ◌||◌, List, [], ◌∷◌, ◌++◌, map, take, drop, get_or, length, refl, ap, sym, ◌∙◌, subst, arith}
 use Rattle.std.specs.Prelude.{All, filter, nat_eq, nat_lt, Option, Some, None, is_some, option_to_list, if◌then◌else◌}
 use Rattle.std.specs.List.{AllByRecursion, list_all, range_with_len}
+use Rattle.std.proofs.Math.Bool.{and-false}
 use Rattle.std.proofs.lemmas.Bool.{eq-eqb, eqb-false, lt-ltb, true≢false, false≢true}
 use Rattle.std.proofs.lemmas.List.{get_or-map, length-map, map-append, take-map, drop-map}
 use Rattle.std.proofs.lemmas.List.Elements.{All-from_recursion, recursion_from_All}
@@ -16,7 +17,7 @@ use Rattle.mscp_queue.specs.Drives.{drive_of, replaced}
 use Rattle.mscp_queue.specs.Lines.{Line, ServesAt}
 use Rattle.mscp_queue.specs.Orders.{order_weight}
 use Rattle.mscp_queue.specs.Outcomes.{goes_on, is_good_block, touches}
-use Rattle.mscp_queue.specs.Records.{Record, advanced, cost_of, passed_by, record_at, remains}
+use Rattle.mscp_queue.specs.Records.{Record, advanced, step_toll, passed_by, record_at, remains}
 use Rattle.mscp_queue.specs.Records as recorded
 use Rattle.mscp_queue.specs.Serving.{IsNext, drive_after, end_given, report_of, waiting_after}
 use Rattle.mscp_queue.specs.Views.{is_open_at, open_places}
@@ -49,7 +50,7 @@ use Rattle.mscp_control.proofs.Bridge.Viewed.{cut_at, record_held, startable_hel
 
 -- ---- it may be served
 
-all_of : (p : ℕ → Bool) (xs : List ℕ) → AllByRecursion (λ x. p x ≡ true) xs → list_all p xs ≡ true
+pub all_of : (p : ℕ → Bool) (xs : List ℕ) → AllByRecursion (λ x. p x ≡ true) xs → list_all p xs ≡ true
 all_of p [] h = refl
 all_of p (x ∷ xs) h = ap (λ b. b && list_all p xs) h.0 ∙ all_of p xs h.1
 
@@ -57,11 +58,7 @@ or_right : (a b : Bool) → b ≡ true → (a || b) ≡ true
 or_right true b h = refl
 or_right false b h = h
 
-and_false : (a : Bool) → (a && false) ≡ false
-and_false true = refl
-and_false false = refl
-
-every_unmapped : {X Y : Type 0} (f : X → Y) (P : Y → Type 0) (xs : List X) → AllByRecursion P (map f xs) → AllByRecursion (λ x. P (f x)) xs
+pub every_unmapped : {X Y : Type 0} (f : X → Y) (P : Y → Type 0) (xs : List X) → AllByRecursion P (map f xs) → AllByRecursion (λ x. P (f x)) xs
 every_unmapped f P [] h = tt
 every_unmapped f P (x ∷ xs) h = (h.0, every_unmapped f P xs h.1)
 
@@ -88,8 +85,8 @@ pub record Next (c : Settings) (picks : List Choice → ℕ → Type 0) (t : Tra
   pub next : (in_service t (waiting_at t place) || is_startable c t (waiting_at t place)) ≡ true
   pub picked : nat_eq (done t (waiting_at t place)) 0 ≡ true → (i : ℕ) × (i < length (startable c t)) × (get_or (startable c t) i 0 ≡ waiting_at t place) × picks (view c t) i
 
-next_held : (c : Settings) (picks : List Choice → ℕ → Type 0) (t : Trace) (place : ℕ) → IsNext picks c.passing (map (held_of t) (waiting t)) place → Next c picks t place
-next_held c picks t place n =
+next_held : (c : Settings) (picks : List Choice → ℕ → Type 0) (t : Trace) (ds : List Drive) (place : ℕ) → Driven c t ds → IsNext picks c.passing ds (map (held_of t) (waiting t)) place → Next c picks t place
+next_held c picks t ds place d n =
     let rs = map (held_of t) (waiting t) in
     let y = waiting_at t place in
     let inside : place < length (waiting t) = let l = n.inside in omega (arith, length-map (waiting t) (held_of t)) in
@@ -117,7 +114,7 @@ next_held c picks t place n =
             i,
             (let l = p.1 in omega (arith, ap length at, length-map places (waiting_at t))),
             ap (λ xs. get_or xs i 0) at ∙ (get_or-map (waiting_at t) places i 0 0 p.1 ∙ ap (waiting_at t) p.2),
-            subst (λ v. picks v i) (sym (view_held c t idle)) p.3,
+            subst (λ v. picks v i) (sym (view_held c t ds d idle)) p.3,
           );
     }
 
@@ -193,33 +190,33 @@ held_passed t m x n l d g p = λ i.
     let k = command_before t m x l in
     record { command = k i; weight = order_weight (k i).order; done = d i; good = g i; passes = p i }
 
-cost_held : (t : Trace) (y : ℕ) (b : Bool) → nat_eq (done t y) 0 ≡ b → cost_of (held_of t y) ≡ cond b 1 0
+cost_held : (t : Trace) (y : ℕ) (b : Bool) → nat_eq (done t y) 0 ≡ b → step_toll (held_of t y) ≡ cond b 1 0
 cost_held t y b e = ap (λ b. cond b 1 0) e
 
 -- how often a command in front was passed then
 passes_front : (c : Settings) (t : Trace) (k : Block) (y : ℕ) (A B : List ℕ) → Step c t (serving c t k y) (service_by c t k y) k y A B → (nat_eq (done t y) 0 ≡ true → AllByRecursion (λ x. passing.is_unstarted t x ≡ true) A)
-    → AllByRecursion (λ x. passes (t ++ serving c t k y ∷ []) x ≡ passes t x + cost_of (held_of t y)) A
+    → AllByRecursion (λ x. passes (t ++ serving c t k y ∷ []) x ≡ passes t x + step_toll (held_of t y)) A
 passes_front c t k y A B st idle =
     let m = serving c t k y in
     let s = service_by c t k y in
     let at = st.serves.among.at in
     let Q : ℕ → ℕ → Type 0 = λ n x. passes (t ++ m ∷ []) x ≡ passes t x + n in
-    let both : (b : Bool) → nat_eq (done t y) 0 ≡ b → AllByRecursion (Q (cost_of (held_of t y))) A =
-    λ b. elim b as (λ b. nat_eq (done t y) 0 ≡ b → AllByRecursion (Q (cost_of (held_of t y))) A) [
+    let both : (b : Bool) → nat_eq (done t y) 0 ≡ b → AllByRecursion (Q (step_toll (held_of t y))) A =
+    λ b. elim b as (λ b. nat_eq (done t y) 0 ≡ b → AllByRecursion (Q (step_toll (held_of t y))) A) [
       | true ↦ λ e. subst (λ n. AllByRecursion (Q n) A) (sym (cost_held t y true e))
           (every_weaker (λ x. (x < y) × (passing.is_unstarted t x ≡ true)) (Q 1) (λ x h. passed_front c t m s k y A B st e x h.0 h.1) A (every_both (λ x. x < y) (λ x. passing.is_unstarted t x ≡ true) A at.before (idle e)))
       | false ↦ λ e. subst (λ n. AllByRecursion (Q n) A) (sym (cost_held t y false e))
-          (every_from (Q 0) (λ x. none_starts t m x (λ r. ap (λ b. nat_eq (reference t y) r && b) e ∙ and_false (nat_eq (reference t y) r)) ∙ omega arith) A)
+          (every_from (Q 0) (λ x. none_starts t m x (λ r. ap (λ b. nat_eq (reference t y) r && b) e ∙ and-false (nat_eq (reference t y) r)) ∙ omega arith) A)
     ] in
     both (nat_eq (done t y) 0) refl
 
 -- the commands in front of it were passed
 front_passed : (c : Settings) (t : Trace) (k : Block) (y : ℕ) (A B : List ℕ) → Step c t (serving c t k y) (service_by c t k y) k y A B → (nat_eq (done t y) 0 ≡ true → AllByRecursion (λ x. passing.is_unstarted t x ≡ true) A)
-    → map (passed_by (cost_of (held_of t y))) (map (held_of t) A) ≡ map (held_of (t ++ serving c t k y ∷ [])) A
+    → map (passed_by (step_toll (held_of t y))) (map (held_of t) A) ≡ map (held_of (t ++ serving c t k y ∷ [])) A
 front_passed c t k y A B st idle =
     let m = serving c t k y in
     let t' = t ++ m ∷ [] in
-    let n = cost_of (held_of t y) in
+    let n = step_toll (held_of t y) in
     let at = st.serves.among.at in
     let D : ℕ → Type 0 = λ x. (x < length t) × (done t' x ≡ done t x) in
     let P : ℕ → Type 0 = λ x. passes t' x ≡ passes t x + n in
@@ -287,12 +284,12 @@ waiting_served c picks t k place d apart n e idle =
     let o = end_of c t k y in
     let st = step_at c picks t k place apart n in
     let gone = cond (is_some o) [] (y ∷ []) in
-    let leaves : Drive → Record → List Record → List Record → List Record = λ d r front back. map (passed_by (cost_of r)) front ++ (remains r (end_given k d r) ++ back) in
+    let leaves : Drive → Record → List Record → List Record → List Record = λ d r front back. map (passed_by (step_toll r)) front ++ (remains r (end_given k d r) ++ back) in
     ap (λ r. leaves d r (take place rs) (drop (place + 1) rs)) (record_held t place n.inside)
     ∙ (ap (λ d. leaves d (held_of t y) (take place rs) (drop (place + 1) rs)) e
     ∙ (ap (λ a. leaves (drive_by c t (unit t y)) (held_of t y) a (drop (place + 1) rs)) (take-map (held_of t) place (waiting t))
     ∙ (ap (λ b. leaves (drive_by c t (unit t y)) (held_of t y) (map (held_of t) A) b) (drop-map (held_of t) (place + 1) (waiting t))
-    ∙ (ap (λ x. map (passed_by (cost_of (held_of t y))) (map (held_of t) A) ++ (remains (held_of t y) x ++ map (held_of t) B)) (end_held c t k y)
+    ∙ (ap (λ x. map (passed_by (step_toll (held_of t y))) (map (held_of t) A) ++ (remains (held_of t y) x ++ map (held_of t) B)) (end_held c t k y)
     ∙ (ap (λ a. a ++ (remains (held_of t y) o ++ map (held_of t) B)) (front_passed c t k y A B st idle)
     ∙ (ap (λ r. map h' A ++ (r ++ map (held_of t) B)) (own_remains c t k y A B st o refl)
     ∙ (ap (λ b. map h' A ++ (map h' gone ++ b)) (sym (behind_kept c t k y A B st))
@@ -310,9 +307,9 @@ unstarted_by t x l w d =
     ∙ (ap (λ b. b && nat_eq (done t x) 0) w ∙ eq-eqb (done t x) 0 d)
 
 -- where one starts, each that waits was never served
-unstarted_front : (c : Settings) (picks : List Choice → ℕ → Type 0) (t : Trace) (place : ℕ) (rs : List Record) → rs ≡ map (held_of t) (waiting t) → IsNext picks c.passing rs place → Next c picks t place
+unstarted_front : (c : Settings) (picks : List Choice → ℕ → Type 0) (t : Trace) (place : ℕ) (ds : List Drive) (rs : List Record) → rs ≡ map (held_of t) (waiting t) → IsNext picks c.passing ds rs place → Next c picks t place
     → nat_eq (done t (waiting_at t place)) 0 ≡ true → AllByRecursion (λ x. passing.is_unstarted t x ≡ true) (take place (waiting t))
-unstarted_front c picks t place rs e n held u =
+unstarted_front c picks t place ds rs e n held u =
     let W = waiting t in
     let here : recorded.is_unstarted (record_at rs place) ≡ true = ap (λ l. recorded.is_unstarted (record_at l place)) e ∙ (ap recorded.is_unstarted (record_held t place held.inside) ∙ u) in
     let done_all = every_unmapped (held_of t) (λ r. r.done ≡ 0) W (recursion_from_All (λ r. r.done ≡ 0) (map (held_of t) W) (subst (All (λ r. r.done ≡ 0)) e (n.idle here))) in
@@ -329,14 +326,14 @@ turns_at {K} picks h h' t k report place v a s u =
     let W = waiting t in
     let rs = map (held_of t) W in
     let f = a.follows in
-    let next : IsNext picks c.passing rs place = subst (λ ws. IsNext picks c.passing ws place) f.waits s.next in
-    let n = next_held c picks t place next in
+    let next : IsNext picks c.passing h.drives rs place = subst (λ ws. IsNext picks c.passing h.drives ws place) f.waits s.next in
+    let n = next_held c picks t h.drives place a.driven next in
     let y = waiting_at t place in
     let m = serving c t k y in
     let t' = t ++ m ∷ [] in
     let apart = f.known.steady.apart in
     let st = step_at c picks t k place apart n in
-    let idle = unstarted_front c picks t place rs refl next n in
+    let idle = unstarted_front c picks t place h.drives rs refl next n in
     let found : is_some (unit_found c (unit t y)) ≡ true =
     (every_parts (λ x. is_some (unit_found c (unit t x)) ≡ true) (take place W) (y ∷ drop (place + 1) W) (subst (AllByRecursion (λ x. is_some (unit_found c (unit t x)) ≡ true)) (cut_at t place n.inside) a.driven.configured)).1.0 in
     let drive : drive_of h.drives (unit t y) ≡ drive_by c t (unit t y) = drive_found c t h.drives (unit t y) a.driven found in

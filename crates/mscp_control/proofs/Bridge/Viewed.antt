@@ -4,17 +4,22 @@ use Rattle.std.specs.Prelude.{filter, nat_le}
 use Rattle.std.specs.List.{range_with_len, list_all}
 use Rattle.std.proofs.lemmas.List.{drop_more, get_or-map, length-map, take-append-drop, take-map}
 use Rattle.std.proofs.lemmas.List.Folds.{list_all-map}
-use Rattle.mscp_queue.specs.Records.{Record, no_record, record_at}
+use Rattle.std.proofs.lemmas.List.Elements.{All-from_recursion}
+use Rattle.mscp_queue.specs.declared.drive.Drive.{Drive}
+use Rattle.mscp_queue.specs.Drives.{drive_of}
+use Rattle.mscp_queue.specs.Records.{Record, drive_at, no_record, record_at}
 use Rattle.mscp_queue.specs.Views.{choice_of, is_open_at, open_places, view_of}
 use Rattle.mscp_queue.specs.Views as records
 use Rattle.mscp_control.specs.Settings.{Settings}
 use Rattle.mscp_control.specs.History.{Trace}
-use Rattle.mscp_control.specs.Commands.{waiting, earlier, is_idle}
+use Rattle.mscp_control.specs.Commands.{command, unit, waiting, earlier, is_idle}
 use Rattle.mscp_control.specs.Passing.{fences, is_affordable, is_free, is_startable, passes, startable}
+use Rattle.mscp_control.specs.Units.{cost}
 use Rattle.mscp_control.specs.Legal.{choice, view}
 use Rattle.mscp_queue.proofs.Lists.{every_kept, every_weaker, range_below}
 use Rattle.mscp_queue.proofs.Placed.{map_map, map_on}
 use Rattle.mscp_control.proofs.Promise.Waits.{cut_of, earlier_is}
+use Rattle.mscp_control.proofs.Bridge.Drives.{Driven, IsConfigured, drive_by, drive_found}
 use Rattle.mscp_control.proofs.Bridge.Held.{held_of}
 
 -- the command at a place of those that wait
@@ -85,14 +90,28 @@ startable_places c t idle =
     filter_places (is_startable c t) q (waiting_at t) 0 W (λ i l. let z : 0 + i ≡ i = omega arith in (ap (waiting_at t) z, startable_held c t i l idle ∙ ap q (sym z)))
     ∙ ap (λ n. map (waiting_at t) (filter q (range_with_len 0 n))) (sym (length-map W (held_of t)))
 
+-- what a picker sees of a record is what it sees of its command
+choice_held : (c : Settings) (t : Trace) (y : ℕ) → choice_of (drive_by c t (unit t y)) (held_of t y) ≡ choice c t y
+unfolding cost
+choice_held c t y = refl
+
+choice_at : (c : Settings) (t : Trace) (ds : List Drive) (place : ℕ) → Driven c t ds → place < length (waiting t)
+    → choice_of (drive_at ds (map (held_of t) (waiting t)) place) (record_at (map (held_of t) (waiting t)) place) ≡ choice c t (waiting_at t place)
+choice_at c t ds place d l =
+    let y = waiting_at t place in
+    let known = All-from_recursion (λ x. IsConfigured c (command t x)) (waiting t) d.configured place 0 l in
+    ap (λ (r : Record). choice_of (drive_of ds r.command.unit) r) (record_held t place l)
+    ∙ (ap (λ q. choice_of q (held_of t y)) (drive_found c t ds (unit t y) d known) ∙ choice_held c t y)
+
 -- and so the view is the same
-pub view_held : (c : Settings) (t : Trace) → is_idle t ≡ true → view c t ≡ view_of c.passing (map (held_of t) (waiting t))
-view_held c t idle =
+pub view_held : (c : Settings) (t : Trace) (ds : List Drive) → Driven c t ds → is_idle t ≡ true → view c t ≡ view_of c.passing ds (map (held_of t) (waiting t))
+view_held c t ds d idle =
     let rs = map (held_of t) (waiting t) in
     let places = open_places c.passing rs in
-    ap (map (choice t)) (startable_places c t idle)
-    ∙ (map_map (waiting_at t) (choice t) places
-    ∙ map_on (λ place. choice t (waiting_at t place)) (λ place. choice_of (record_at rs place)) places
-    (every_kept (λ place. choice t (waiting_at t place) ≡ choice_of (record_at rs place)) (is_open_at c.passing rs) (range_with_len 0 (length rs))
-    (every_weaker (λ place. (0 ≤ place) × (place < 0 + length rs)) (λ place. choice t (waiting_at t place) ≡ choice_of (record_at rs place))
-    (λ place b. sym (ap choice_of (record_held t place (omega (arith, b, length-map (waiting t) (held_of t)))))) (range_with_len 0 (length rs)) (range_below 0 (length rs)))))
+    let same : ℕ → Type 0 = λ place. choice c t (waiting_at t place) ≡ choice_of (drive_at ds rs place) (record_at rs place) in
+    ap (map (choice c t)) (startable_places c t idle)
+    ∙ (map_map (waiting_at t) (choice c t) places
+    ∙ map_on (λ place. choice c t (waiting_at t place)) (λ place. choice_of (drive_at ds rs place) (record_at rs place)) places
+    (every_kept same (is_open_at c.passing rs) (range_with_len 0 (length rs))
+    (every_weaker (λ place. (0 ≤ place) × (place < 0 + length rs)) same
+    (λ place b. sym (choice_at c t ds place d (omega (arith, b, length-map (waiting t) (held_of t))))) (range_with_len 0 (length rs)) (range_below 0 (length rs)))))

@@ -15,7 +15,7 @@ use Rattle.mscp_queue.proofs.Lists.{every_weaker, every_append, every_parts, fil
 use Rattle.mscp_control.proofs.Promise.Grows.{is_waiting_before}
 use Rattle.mscp_control.proofs.Promise.Waits.{waiting_waits, waiting_below, cut_of, earlier_is, later_is}
 use Rattle.mscp_control.proofs.Promise.Served.{kept_own}
-use Rattle.mscp_control.proofs.Promise.Figured.{Figured, record_of, tolled, cost_of, served, record_left, Marks}
+use Rattle.mscp_control.proofs.Promise.Figured.{Figured, record_of, tolled, step_toll, served, record_left, Marks}
 
 -- the blocks left of those in service
 abbrev pub working : Trace → List ℕ → ℕ
@@ -145,17 +145,17 @@ falls_front c t m s front y back f A x B q =
     let t' = t ++ m ∷ [] in
     let ch = f.marks in
     let own : List ℕ = cond (is_some s.ended) [] (y ∷ []) in
-    let Same : ℕ → Type 0 = λ z. record_of t' z ≡ tolled (cost_of t s y) (record_of t z) in
+    let Same : ℕ → Type 0 = λ z. record_of t' z ≡ tolled (step_toll t s y) (record_of t z) in
     let new = every_parts Same A (x ∷ B) (subst (λ l. AllByRecursion Same l) q ch.at_front) in
     let idle = every_parts (λ z. done t z ≡ 0) A (x ∷ B) (subst (λ l. AllByRecursion (λ z. done t z ≡ 0) l) q f.idle_front) in
     let e : waiting t ≡ A ++ x ∷ (B ++ y ∷ back) = f.is ∙ (ap (λ l. l ++ y ∷ back) q ∙ append_assoc A (x ∷ B) (y ∷ back)) in
     let e' : waiting t' ≡ A ++ x ∷ (B ++ (own ++ back)) = f.after ∙ (ap (λ l. l ++ (own ++ back)) q ∙ append_assoc A (x ∷ B) (own ++ back)) in
     let old = figure_idle c t A x (B ++ y ∷ back) e idle.1.0 in
     let now = figure_idle c t' A x (B ++ (own ++ back)) e' (ap (λ (r : Figured). r.done) new.1.0 ∙ idle.1.0) in
-    let sA = left_all t t' (cost_of t s y) A new.0 in
+    let sA = left_all t t' (step_toll t s y) A new.0 in
     let lx : left t' x ≡ left t x = ap record_left new.1.0 in
     let w = working_before c t m s front y back B f idle.1.1 in
-    let w' = working_after t t' s y back B ch.at_own (idle_stays t t' (cost_of t s y) B new.1.1 idle.1.1) (idle_same t t' back ch.at_back f.idle_back) in
+    let w' = working_after t t' s y back B ch.at_own (idle_stays t t' (step_toll t s y) B new.1.1 idle.1.1) (idle_same t t' back ch.at_back f.idle_back) in
     let o = own_left t t' s y ch.at_own f.more f.unfinished in
     let small = f.short in
     let affordable : s.started ≡ true → passes t x + toll t y ≤ c.passing = λ h. (every_parts (λ z. passes t z + toll t y ≤ c.passing) A (x ∷ B) (subst (λ l. AllByRecursion (λ z. passes t z + toll t y ≤ c.passing) l) q (f.affordable h))).1.0 in
@@ -174,7 +174,7 @@ falls_back c t m s front y back f A x B q =
     let e' : waiting t' ≡ (front ++ (own ++ A)) ++ x ∷ B = f.after ∙ (ap (λ l. front ++ (own ++ l)) q ∙ (ap (λ l. front ++ l) (sym (append_assoc own A (x ∷ B))) ∙ sym (append_assoc front (own ++ A) (x ∷ B)))) in
     let old = figure_idle c t (front ++ y ∷ A) x B e idle.1.0 in
     let now = figure_idle c t' (front ++ (own ++ A)) x B e' (ap (λ (r : Figured). r.done) new.1.0 ∙ idle.1.0) in
-    let sF = left_all t t' (cost_of t s y) front ch.at_front in
+    let sF = left_all t t' (step_toll t s y) front ch.at_front in
     let sA = left_same t t' A new.0 in
     let s1 = sum_by-append (left t) front (y ∷ A) in
     let s2 = sum_by-cons (left t) y A in

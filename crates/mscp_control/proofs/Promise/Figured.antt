@@ -34,8 +34,8 @@ abbrev pub record_left : Figured → ℕ
 record_left r = r.weight - r.done
 
 -- what a step of y costs each earlier command
-abbrev pub cost_of : Trace → Service → ℕ → ℕ
-cost_of t s y = cond s.started (toll t y) 0
+abbrev pub step_toll : Trace → Service → ℕ → ℕ
+step_toll t s y = cond s.started (toll t y) 0
 
 abbrev pub made : ℕ → ℕ → ℕ → Figured
 made w d p = record { weight = w; done = d; passes = p }
@@ -45,11 +45,11 @@ made_is w d p w' d' p' e f g = ap (λ w. made w d p) e ∙ (ap (λ d. made w' d 
 
 -- how a step of y changes what figures read
 pub record Marks (t t' : Trace) (s : Service) (front : List ℕ) (y : ℕ) (back : List ℕ) : Type 0 where
-  pub at_front : AllByRecursion (λ x. record_of t' x ≡ tolled (cost_of t s y) (record_of t x)) front
+  pub at_front : AllByRecursion (λ x. record_of t' x ≡ tolled (step_toll t s y) (record_of t x)) front
   pub at_own : record_of t' y ≡ served (record_of t y)
   pub at_back : AllByRecursion (λ x. record_of t' x ≡ record_of t x) back
 
-front_passes : (c : Settings) (t : Trace) (m : Moment) (s : Service) (k : Block) (y : ℕ) (front back : List ℕ) → Step c t m s k y front back → (x : ℕ) → x < length t → is_waiting t x ≡ true → done t x ≡ 0 → x < y → passes (t ++ m ∷ []) x ≡ passes t x + cost_of t s y
+front_passes : (c : Settings) (t : Trace) (m : Moment) (s : Service) (k : Block) (y : ℕ) (front back : List ℕ) → Step c t m s k y front back → (x : ℕ) → x < length t → is_waiting t x ≡ true → done t x ≡ 0 → x < y → passes (t ++ m ∷ []) x ≡ passes t x + step_toll t s y
 front_passes c t m s k y front back st x l w d h =
     let t' = t ++ m ∷ [] in
     let both : (b : Bool) → s.started ≡ b → passes t' x ≡ passes t x + cond b (toll t y) 0 =
@@ -72,8 +72,8 @@ marks c t m s k y front back st idle =
     let C : ℕ → Type 0 = λ x. B x × (x < y) in
     let D : ℕ → Type 0 = λ x. done t' x ≡ done t x in
     record {
-      at_front = every_weaker (λ x. C x × D x) (λ x. record_of t' x ≡ tolled (cost_of t s y) (record_of t x))
-          (λ x h. made_is (weight t' x) (done t' x) (passes t' x) (weight t x) (done t x) (passes t x + cost_of t s y) (weight_before t m x h.0.0.0.0) h.1 (front_passes c t m s k y front back st x h.0.0.0.0 h.0.0.0.1 h.0.0.1 h.0.1)) front
+      at_front = every_weaker (λ x. C x × D x) (λ x. record_of t' x ≡ tolled (step_toll t s y) (record_of t x))
+          (λ x h. made_is (weight t' x) (done t' x) (passes t' x) (weight t x) (done t x) (passes t x + step_toll t s y) (weight_before t m x h.0.0.0.0) h.1 (front_passes c t m s k y front back st x h.0.0.0.0 h.0.0.0.1 h.0.0.1 h.0.1)) front
           (every_both C D front (every_both B (λ x. x < y) front (every_both A (λ x. done t x ≡ 0) front (every_both (λ x. x < length t) (λ x. is_waiting t x ≡ true) front below.0 waits.0) idle) at.before) st.changes.front_done);
       at_own = made_is (weight t' y) (done t' y) (passes t' y) (weight t y) (done t y + 1) (passes t y) (weight_before t m y below.1.0) st.changes.own_done (passed_behind c t m s k y front back st y (omega arith));
       at_back = every_weaker (λ x. ((x < length t) × (y < x)) × D x) (λ x. record_of t' x ≡ record_of t x)

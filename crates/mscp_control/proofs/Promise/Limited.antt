@@ -13,7 +13,7 @@ use Rattle.mscp_control.proofs.Promise.Waits.{passes_last}
 use Rattle.mscp_control.proofs.Promise.Served.{step_right}
 use Rattle.mscp_control.proofs.Promise.Steady.{Steady}
 use Rattle.mscp_control.proofs.Promise.Queued.{Short}
-use Rattle.mscp_control.proofs.Promise.Figured.{Figured, record_of, tolled, cost_of}
+use Rattle.mscp_control.proofs.Promise.Figured.{Figured, record_of, tolled, step_toll}
 use Rattle.mscp_control.proofs.Promise.Falls.{Fit}
 use Rattle.mscp_control.proofs.Promise.Fitted.{fit_of, leaves_of}
 
@@ -21,7 +21,7 @@ abbrev pub Limited : Settings → Trace → List ℕ → Type 0
 Limited c t xs = AllByRecursion (λ x. passes t x ≤ c.passing) xs
 
 -- what a step costs those in front is there
-paid : (c : Settings) (t : Trace) (m : Moment) (s : Service) (front : List ℕ) (y : ℕ) (back : List ℕ) → Fit c t m s front y back → Limited c t front → AllByRecursion (λ x. passes t x + cost_of t s y ≤ c.passing) front
+paid : (c : Settings) (t : Trace) (m : Moment) (s : Service) (front : List ℕ) (y : ℕ) (back : List ℕ) → Fit c t m s front y back → Limited c t front → AllByRecursion (λ x. passes t x + step_toll t s y ≤ c.passing) front
 paid c t m s front y back f h =
     let both : (b : Bool) → s.started ≡ b → AllByRecursion (λ x. passes t x + cond b (toll t y) 0 ≤ c.passing) front =
     λ b. elim b as (λ b. s.started ≡ b → AllByRecursion (λ x. passes t x + cond b (toll t y) 0 ≤ c.passing) front) [
@@ -33,7 +33,7 @@ paid c t m s front y back f h =
 limited_step : (c : Settings) (t : Trace) (m : Moment) (s : Service) (front : List ℕ) (y : ℕ) (back : List ℕ) → Fit c t m s front y back → Limited c t (waiting t) → Limited c (t ++ m ∷ []) (waiting (t ++ m ∷ []))
 limited_step c t m s front y back f h =
     let t' = t ++ m ∷ [] in
-    let n = cost_of t s y in
+    let n = step_toll t s y in
     let Old : ℕ → Type 0 = λ x. passes t x ≤ c.passing in
     let New : ℕ → Type 0 = λ x. passes t' x ≤ c.passing in
     let parts = every_parts Old front (y ∷ back) (subst (AllByRecursion Old) f.is h) in

@@ -2,14 +2,10 @@
 use Rattle.std.proofs.Common.{◌≡◌, ◌⊎◌, inl, inr, ⊎_elim, ℕ, ◌+◌, ◌<◌, Bool, true, false, cond, not, ◌&&◌, ◌||◌, List, [], ◌∷◌, ◌++◌, length, refl, ap, sym, ◌∙◌, subst, arith, append-nil}
 use Rattle.std.specs.Prelude.{nat_lt, filter, if◌then◌else◌, Option, Some, None, is_some}
 use Rattle.std.specs.List.{AllByRecursion}
-use Rattle.std.proofs.Math.Nat.{le-max_left}
 use Rattle.std.proofs.lemmas.Bool.{ltb-true, or_cases, true≢false, false≢true}
 use Rattle.mscp_packet.specs.declared.command.Command.{Command}
-use Rattle.mscp_packet.specs.declared.command.Order.{Order}
-use Rattle.mscp_packet.specs.declared.command.Order.TheVariants as orders
 use Rattle.mscp_queue.proofs.Held.{some_steps}
 use Rattle.mscp_queue.specs.declared.block.Block.{Block}
-use Rattle.mscp_drive.specs.Extent as extent
 use Rattle.mscp_control.specs.Settings.{Settings}
 use Rattle.mscp_queue.specs.Orders.{order_weight}
 use Rattle.mscp_control.specs.History.{Trace, Moment, queues, Service, service_in}
