@@ -18,4 +18,4 @@ pub use crate::event::{Entry, Event, SendFault, Sent};
 pub use crate::law::{controllers_keep_the_promise, legal_traces_make_progress};
 pub use crate::memory::OutOfMemory;
 pub use crate::running::run;
-pub use mscp_queue::{Block, Choice, FaultStatus, Oldest, Picker, Report, View};
+pub use mscp_queue::{Block, Choice, FaultStatus, Oldest, Picker, Report, Sweep, View};
