@@ -4,6 +4,7 @@ pub mod Keeping
 pub mod Held
 pub mod Quiet
 pub mod Drives
+pub mod Aborting
 pub mod Sending
 pub mod Viewed
 pub mod Stepped

@@ -8,4 +8,5 @@ pub mod Refused
 pub mod States
 pub mod Heads
 pub mod Sweep
+pub mod Aborts
 pub mod Wrong

@@ -8,7 +8,7 @@ use Rattle.mscp_packet.specs.declared.command.Order.TheVariants as orders
 use Rattle.mscp_packet.specs.declared.command.Command.{Command}
 use Rattle.mscp_packet.specs.Number.{num}
 use Rattle.mscp_packet.specs.Opcodes.{class}
-use Rattle.mscp_packet.specs.Statuses.{invalid_opcode, invalid_version, unit_offline}
+use Rattle.mscp_packet.specs.Statuses.{invalid_version, unit_offline}
 use Rattle.mscp_drive.specs.Shape.{Shape}
 use Rattle.mscp_drive.specs.Extent as extent
 use Rattle.mscp_queue.specs.Orders.{order_weight}
@@ -68,8 +68,8 @@ unit_fault (Some unit) = None
 abbrev pub version_fault : ℕ → Option ℕ
 version_fault version = if version == 0 then None else Some invalid_version
 
--- the status that refuses an order to a unit when it comes, if one does. So far ABORT is answered as an unknown
--- opcode (manual, the order of the tests is the profile's)
+-- the status that refuses an order to a unit when it comes, if one does. ABORT, GET COMMAND STATUS and SET CONTROLLER
+-- CHARACTERISTICS look at no unit (manual, the order of the tests is the profile's)
 abbrev pub order_fault : Settings → ℕ → Order → Option ℕ
 order_fault c number (orders.Invalid opcode status) = Some status
 order_fault c number (orders.Status other) = None
@@ -79,7 +79,7 @@ order_fault c number orders.Available = unit_fault (unit_found c number)
 order_fault c number orders.Online = unit_fault (unit_found c number)
 order_fault c number orders.SetUnit = unit_fault (unit_found c number)
 order_fault c number (orders.SetController version) = version_fault version
-order_fault c number (orders.Abort other) = Some invalid_opcode
+order_fault c number (orders.Abort other) = None
 
 -- the same of a command (manual)
 abbrev pub fault_of : Settings → Command → Option ℕ

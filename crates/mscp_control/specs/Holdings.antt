@@ -1,6 +1,6 @@
 -- What a controller holds, and how each event changes it. Its queue is a list of records in order of arrival, and each
 -- unit has a drive.
-use Rattle.std.specs.Prelude.{◌≡◌, ℕ, ◌+◌, ◌-◌, if◌then◌else◌, List, [], ◌∷◌, ◌++◌, length, map, drop, slice_get, Option, Some, None, option_map, option_to_list, Result, Ok, Err}
+use Rattle.std.specs.Prelude.{◌≡◌, ℕ, ◌+◌, ◌-◌, find, if◌then◌else◌, List, [], ◌∷◌, ◌++◌, length, map, drop, slice_get, Option, Some, None, option_map, option_to_list, Result, Ok, Err}
 use Rattle.arrayvec.specs.ArrayVec.{ArrayVec}
 use Rattle.mscp_packet.specs.declared.command.Order.{Order}
 use Rattle.mscp_packet.specs.declared.command.Order.TheVariants as orders
@@ -14,7 +14,7 @@ use Rattle.mscp_queue.specs.declared.report.Report.TheVariants.{Idle, Served}
 use Rattle.mscp_queue.specs.declared.drive.Drive.{Drive}
 use Rattle.mscp_queue.specs.declared.view.Choice.{Choice}
 use Rattle.mscp_queue.specs.Drives.{drive_of, fresh_drive}
-use Rattle.mscp_queue.specs.Records.{Record, fresh_record}
+use Rattle.mscp_queue.specs.Records.{Record, aborted_record, fresh_record, has_reference, without}
 use Rattle.mscp_queue.specs.Names.{Name, end_name}
 use Rattle.mscp_queue.specs.Kept.{names}
 use Rattle.mscp_queue.specs.Figures.{figure_of_reference, figures}
@@ -76,10 +76,21 @@ abbrev pub figure_polled : Settings → List Record → Order → ℕ
 figure_polled c rs (orders.Status other) = figure_of_reference c.passing c.longest rs other
 figure_polled c rs order = 0
 
+-- the waiting command that an order names to be aborted, if there is one (manual)
+abbrev pub aborted : List Record → Order → Option Record
+aborted rs (orders.Abort other) = find (has_reference other) rs
+aborted rs order = None
+
+-- what waits once that command was aborted: the others (manual)
+abbrev pub unaborted : List Record → Order → List Record
+unaborted rs (orders.Abort other) = without other rs
+unaborted rs order = rs
+
 -- what a command becomes that isn't refused: it is queued, or answered at once (manual)
-abbrev pub taken_as : Settings → Command → Sent
-taken_as c command =
-    if is_queued c command then sents.Queued command.reference else sents.Answered command.reference None
+abbrev pub taken_as : {K : Type 0} → Holdings K → Command → Sent
+taken_as h command =
+    if is_queued h.settings command then sents.Queued command.reference
+    else sents.Answered command.reference (option_map (λ r. r.command.reference) (aborted h.waiting command.order))
 
 -- what is held once a command waits, or an end was made
 abbrev pub queued : {K : Type 0} → Holdings K → Command → Holdings K
@@ -88,20 +99,28 @@ queued h command = record h { waiting = h.waiting ++ fresh_record command ∷ []
 abbrev pub ended : {K : Type 0} → Holdings K → End → Holdings K
 ended h end = record h { untaken = h.untaken ++ end ∷ [] }
 
--- the end of an answered command, with the figure that it asks for
+-- what is held once the command that an order names was aborted: its end is untaken. A pass that it made isn't given
+-- back (manual, the latter is the profile's)
+abbrev pub aborting : {K : Type 0} → Holdings K → Order → Holdings K
+aborting h order = record h {
+  waiting = unaborted h.waiting order;
+  untaken = h.untaken ++ option_to_list (option_map aborted_record (aborted h.waiting order));
+}
+
+-- the end of an answered command, with the figure that it asks for (manual)
 abbrev pub answered_end : {K : Type 0} → Holdings K → Command → End
 answered_end h command =
     own_end h.settings (drive_of h.drives command.unit).online (figure_polled h.settings h.waiting command.order) command
 
--- what is held after the command
+-- what is held after the command: the end of one that it aborts stands before its own (manual)
 abbrev pub arrives : {K : Type 0} → Holdings K → Command → Holdings K
 arrives h command =
     if is_queued h.settings command then queued h command
-    else ended h (answered_end h command)
+    else ended (aborting h command.order) (answered_end h command)
 
-abbrev pub sent_unless : Settings → Command → Option SendFault → Result Sent SendFault
-sent_unless c command (Some fault) = Err fault
-sent_unless c command None = Ok (taken_as c command)
+abbrev pub sent_unless : {K : Type 0} → Holdings K → Command → Option SendFault → Result Sent SendFault
+sent_unless h command (Some fault) = Err fault
+sent_unless h command None = Ok (taken_as h command)
 
 abbrev pub held_unless : {K : Type 0} → Holdings K → Command → Option SendFault → Holdings K
 held_unless h command (Some fault) = h
@@ -109,7 +128,7 @@ held_unless h command None = arrives h command
 
 -- what is answered to a message (manual)
 abbrev pub answer_to_message : {K : Type 0} → Holdings K → List ℕ → Result Sent SendFault
-answer_to_message h b = sent_unless h.settings (command_of b) (refusal (balance_of h) (outstanding_of h) b)
+answer_to_message h b = sent_unless h (command_of b) (refusal (balance_of h) (outstanding_of h) b)
 
 -- what is held after it. A refusal changes nothing (manual)
 abbrev pub after_message : {K : Type 0} → Holdings K → List ℕ → Holdings K

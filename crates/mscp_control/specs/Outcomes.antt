@@ -41,6 +41,7 @@ controller_body c = bodies.Controller c.timeout c.id
 
 -- the body of an answered order that isn't refused, to this unit and with the figure that it asks for (manual)
 abbrev pub answer_body : Settings → ℕ → ℕ → Order → EndBody
+answer_body c figure number (orders.Abort other) = bodies.Abort other
 answer_body c figure number (orders.Status other) = bodies.Status other figure
 answer_body c figure number orders.UnitStatus = unit_body (unit_shape c number)
 answer_body c figure number (orders.SetController version) = controller_body c

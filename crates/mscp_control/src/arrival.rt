@@ -8,7 +8,7 @@ ghost use Rattle.mscp_control.specs.Settings.{unit_found};
 ghost use Rattle.mscp_drive.specs.Extent.{weighed, weight};
 
 use crate::config::Config;
-use mscp_packet::status::{INVALID_OPCODE, INVALID_VERSION, UNIT_OFFLINE};
+use mscp_packet::status::{INVALID_VERSION, UNIT_OFFLINE};
 use mscp_packet::{Class, Command, Order, class_of};
 
 /// Whether a command with this opcode byte is answered without a step, so that the last credit is enough
@@ -58,13 +58,12 @@ pub(crate) fn judge(config: &Config, command: &Command) -> Result<u32, u16>
 {
     match command.order {
         Order::Invalid { status, .. } => Err(status),
-        Order::Status(_) => Ok(1),
+        Order::Abort(_) | Order::Status(_) => Ok(1),
         Order::Move(_, count, block) => judge_move(config, command.unit, count, block),
         Order::UnitStatus | Order::Available | Order::Online | Order::SetUnit => {
             judge_unit(config, command.unit)
         }
         Order::SetController(version) => judge_version(version),
-        Order::Abort(_) => Err(INVALID_OPCODE),
     }
 }
 

@@ -1,12 +1,12 @@
 // A controller: its queue, its untaken ends, and its credits.
 
-ghost use Rattle.std.specs.Prelude.{◌≡◌, ◌+◌, ◌<◌, ◌≤◌, ◌^◌, true, false, [], ◌∷◌, ◌++◌, length, IfErr, IfOk, None, nat_eq};
+ghost use Rattle.std.specs.Prelude.{◌≡◌, ◌+◌, ◌<◌, ◌≤◌, ◌^◌, true, false, [], ◌∷◌, ◌++◌, length, IfErr, IfOk, None, nat_eq, option_map};
 ghost use Rattle.std.specs.List.{list_any};
 ghost use Rattle.mscp_queue.specs.Orders.{first_block, order_weight};
 ghost use Rattle.mscp_queue.specs.Figures.{figure_of_reference, figures};
 ghost use Rattle.mscp_control.specs.Arrival.{credit_fault, fault_of, holds, is_queued};
 ghost use Rattle.mscp_control.specs.Settings.{IsValid};
-ghost use Rattle.mscp_control.specs.Holdings.{Answers, IsBalanced, Steps, after_message, after_take, answer_to_message, answered_end, arrives, balance_of, end_taken, ended, ends_reported, fresh, outstanding_of, queued, taken_as};
+ghost use Rattle.mscp_control.specs.Holdings.{Answers, IsBalanced, Steps, aborted, aborting, after_message, after_take, answer_to_message, answered_end, arrives, balance_of, end_taken, ended, ends_reported, fresh, outstanding_of, queued, taken_as};
 
 #[cfg(test)]
 mod tests;
@@ -191,6 +191,7 @@ impl<K: Picker> Controller<K> {
         ensures { result ≡ answered_end self.now command.now }
     {
         match command.order {
+            Order::Abort(other) => end_with(command, SUCCESS, EndBody::Abort(other)),
             Order::Status(other) => {
                 let figure = self.figure(other);
                 end_with(command, SUCCESS, EndBody::Status { other, figure })
@@ -201,26 +202,60 @@ impl<K: Picker> Controller<K> {
         }
     }
 
+    /// Ends the waiting command that the order names to be aborted, if there is one, and tells its reference number.
+    fn abort(&mut self, order: &Order) -> Option<u32>
+        ensures reference { result ≡ option_map (λ r. r.command.reference) (aborted self.old.waiting order.now) }
+        ensures after { self.new ≡ aborting self.old order.now }
+        ensures balance { balance_of self.new ≡ balance_of self.old }
+    {
+        let Order::Abort(other) = order else {
+            return None;
+        };
+        let end = self.queue.abort(*other)?;
+        self.untaken.push(end);
+        Some(end.reference)
+    }
+
+    /// Answers a command at once that isn't refused: the end of one that it aborts stands before its own. Tells the
+    /// reference number of that one.
+    fn answer_now(&mut self, command: &Command) -> Option<u32>
+        requires sound { fault_of self.old.settings command.now ≡ None }
+        requires free { 1 ≤ balance_of self.old }
+        ensures aborted { result
+            ≡ option_map (λ r. r.command.reference) (aborted self.old.waiting command.now.order) }
+        ensures after { self.new
+            ≡ ended (aborting self.old command.now.order) (answered_end self.old command.now) }
+        ensures account { IsBalanced self.new }
+    {
+        let own = self.answered_end(command);
+        let aborted = self.abort(&command.order);
+        self.end(own);
+        aborted
+    }
+
     /// Queues a command that isn't refused for want of credit, or answers it at once.
     fn arrive(&mut self, command: Command) -> Sent
         requires free { 1 ≤ balance_of self.old }
         requires spare { is_queued self.old.settings command ≡ true → 2 ≤ balance_of self.old }
         requires new { holds (outstanding_of self.old) command.reference ≡ false }
-        ensures sent { result ≡ taken_as self.old.settings command }
+        ensures sent { result ≡ taken_as self.old command }
         ensures after { self.new ≡ arrives self.old command }
         ensures account { IsBalanced self.new }
     {
-        match judge(&self.config, &command) {
+        let aborted = match judge(&self.config, &command) {
             Ok(weight) if !is_immediate(&command.order) => {
                 self.queue(&command, weight);
                 return Sent::Queued(command.reference);
             }
-            Ok(_) => self.end(self.answered_end(&command)),
-            Err(status) => self.end(refused_end(&command, status)),
-        }
+            Ok(_) => self.answer_now(&command),
+            Err(status) => {
+                self.end(refused_end(&command, status));
+                None
+            }
+        };
         Sent::Answered {
             reference: command.reference,
-            aborted: None,
+            aborted,
         }
     }
 

@@ -8,3 +8,4 @@ pub mod Held
 pub mod Turns
 pub mod Nexts
 pub mod Least
+pub mod Aborts

@@ -35,7 +35,7 @@ behind_read f i xs ys d l e =
     ap (λ zs. get_or zs i d) (e ∙ ap (λ zs. map f (take i xs) ++ zs) (drop_more xs i d l))
     ∙ get_or_at (map f (take i xs)) (get_or xs i d) (drop (i + 1) xs) d i (front_length f i xs (omega arith))
 
-removed_at : {X : Type 0} (A : List X) (x : X) (B : List X) (i : ℕ) → length A ≡ i → remove (A ++ x ∷ B) i ≡ A ++ B
+pub removed_at : {X : Type 0} (A : List X) (x : X) (B : List X) (i : ℕ) → length A ≡ i → remove (A ++ x ∷ B) i ≡ A ++ B
 removed_at A x B i l =
     ap (λ ys. ys ++ drop (suc i) (A ++ x ∷ B)) (take_at A (x ∷ B) i l)
     ∙ ap (λ ys. A ++ ys) (ap (drop (suc i)) (sym (append_assoc A (x ∷ []) B)) ∙ drop_at (A ++ x ∷ []) B (suc i) (omega (arith, length-append A (x ∷ []))))

@@ -44,9 +44,8 @@ order_cost u head (orders.Move kind count block) =
     sweep_cost (last_cylinder u) head.cylinder head.up (cylinder_of u block)
 order_cost u head order = 0
 
--- the endcode: the opcode with the top bit set. An opcode that is unknown, or isn't served so far, has that
--- bit alone (manual, the latter is the profile's)
+-- the endcode: the opcode with the top bit set. An opcode that is unknown has that bit alone (manual, the latter is the
+-- profile's)
 abbrev pub endcode : Order → ℕ
 endcode (orders.Invalid opcode status) = if status == invalid_opcode then 0x80 else bit_or opcode 0x80
-endcode (orders.Abort other) = 0x80
 endcode order = bit_or (opcode_byte order) 0x80

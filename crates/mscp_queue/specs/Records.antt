@@ -1,5 +1,5 @@
 -- The waiting commands as records, in order of arrival.
-use Rattle.std.specs.Prelude.{ℕ, ◌+◌, ◌-◌, cond, Bool, nat_eq, nat_lt, List, [], ◌∷◌, slice_index_or, Option, Some, None}
+use Rattle.std.specs.Prelude.{ℕ, ◌+◌, ◌-◌, cond, Bool, not, nat_eq, nat_lt, filter, List, [], ◌∷◌, slice_index_or, Option, Some, None}
 use Rattle.mscp_packet.specs.declared.command.Command.{Command}
 use Rattle.mscp_packet.specs.declared.command.Order.TheVariants as orders
 use Rattle.mscp_packet.specs.declared.end.End.{End}
@@ -7,6 +7,7 @@ use Rattle.mscp_queue.specs.declared.drive.Drive.{Drive}
 use Rattle.mscp_queue.specs.Drives.{drive_of}
 use Rattle.mscp_queue.specs.Names.{name_of, same_name}
 use Rattle.mscp_queue.specs.Orders.{order_weight}
+use Rattle.mscp_queue.specs.Outcomes.{aborted_end}
 
 -- a waiting command: how many steps it takes, how many it had, how many of its blocks were good, and how often
 -- it was passed (profile)
@@ -43,6 +44,14 @@ has_reference reference r = same_name (name_of r.command) reference
 -- the drive of the record at a place
 abbrev pub drive_at : List Drive → List Record → ℕ → Drive
 drive_at ds rs place = drive_of ds (record_at rs place).command.unit
+
+-- the records without that of the command of this reference number
+abbrev pub without : ℕ → List Record → List Record
+without reference rs = filter (λ r. not (has_reference reference r)) rs
+
+-- the end of a record's command that is aborted, which counts the bytes of its good blocks (manual)
+abbrev pub aborted_record : Record → End
+aborted_record r = aborted_end r.command r.good
 
 -- how many steps are left of a record (profile)
 abbrev pub left_of : Record → ℕ

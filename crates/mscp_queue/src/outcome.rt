@@ -2,18 +2,17 @@
 
 ghost use Rattle.std.specs.Prelude.{◌≡◌, ◌+◌, ◌<◌, ◌^◌, cond};
 ghost use Rattle.mscp_queue.specs.Orders.{endcode};
-ghost use Rattle.mscp_queue.specs.Outcomes.{bad_status, end_with, good_status, is_success, moved_body, online_body, outcome_at, outcome_body, outcome_status, touches};
+ghost use Rattle.mscp_queue.specs.Outcomes.{aborted_end, bad_status, end_with, good_status, is_success, moved_body, online_body, outcome_at, outcome_body, outcome_status, touches};
 
 use crate::block::Block;
 use mscp_drive::Unit;
-use mscp_packet::status::{ALREADY_ONLINE, INVALID_OPCODE, SUCCESS, UNIT_AVAILABLE};
+use mscp_packet::status::{ABORTED, ALREADY_ONLINE, INVALID_OPCODE, SUCCESS, UNIT_AVAILABLE};
 use mscp_packet::{Command, End, EndBody, Order};
 
 /// The bytes of a block.
 const BLOCK_BYTES: u64 = 512;
 
-/// The endcode of a command's end: its opcode with the top bit set. An opcode that is unknown, or isn't served so
-/// far, has that bit alone.
+/// The endcode of a command's end: its opcode with the top bit set. An opcode that is unknown has that bit alone.
 pub fn endcode_of(command: &Command) -> u8
     ensures { result ≡ endcode command.now.order }
 {
@@ -22,7 +21,6 @@ pub fn endcode_of(command: &Command) -> u8
             status: INVALID_OPCODE,
             ..
         } => 0x80,
-        Order::Abort(_) => 0x80,
         _ => command.opcode() | 0x80,
     }
 }
@@ -138,4 +136,11 @@ pub(crate) fn outcome(unit: &Unit, online: bool, command: &Command, good: u32, b
     let touched = touches(online, &command.order) && matches!(block, Block::Good);
     let body = outcome_body(unit, status, command, good + u32::from(touched));
     end_with(command, status, body)
+}
+
+/// The end of a waiting command that is aborted when so many of its blocks were good.
+pub(crate) fn aborted_end(command: &Command, good: u32) -> End
+    ensures { result ≡ aborted_end command.now good }
+{
+    end_with(command, ABORTED, moved_body(command, good))
 }

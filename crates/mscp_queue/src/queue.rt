@@ -1,27 +1,28 @@
 // The queue of a disk controller: its waiting commands, its drives, and its picker.
 
-ghost use Rattle.std.specs.Prelude.{◌≡◌, ◌+◌, ◌*◌, ◌<◌, ◌≤◌, ◌^◌, [], length, true, false, IfNone, IfSome};
+ghost use Rattle.std.specs.Prelude.{◌≡◌, ◌+◌, ◌*◌, ◌<◌, ◌≤◌, ◌^◌, [], length, find, option_map, true, false, IfNone, IfSome};
 ghost use Rattle.std.specs.List.{list_any};
 ghost use Rattle.mscp_queue.specs.Drives.{is_online_in};
 ghost use Rattle.mscp_queue.specs.Figures.{figure_of_reference, figures};
 ghost use Rattle.mscp_queue.specs.Kept.{IsWaitable, units_of};
 ghost use Rattle.mscp_queue.specs.Lines.{Line, Serves, ServesAt, fresh, pushed};
 ghost use Rattle.mscp_queue.specs.Orders.{order_weight};
-ghost use Rattle.mscp_queue.specs.Records.{has_reference};
+ghost use Rattle.mscp_queue.specs.Records.{aborted_record, has_reference, without};
 ghost use Rattle.mscp_queue.specs.Serving.{IsNext};
 
 use crate::block::Block;
 use crate::drive::{Drive, drive_of, drives_of, replace_drive};
 use crate::figure::{figure_of_reference, figures};
+use crate::outcome::aborted_end;
 use crate::picker::Picker;
 use crate::record::Record;
 use crate::report::Report;
 use crate::service::serve;
 use crate::start::picked_place;
-use crate::turn::{leave, place_in_service};
+use crate::turn::{leave, place_in_service, take_out};
 use arrayvec::ArrayVec;
 use mscp_drive::Units;
-use mscp_packet::{Command, Order};
+use mscp_packet::{Command, End, Order};
 use std::marker::Model;
 
 /// A command that is to wait, and how many steps it takes.
@@ -151,6 +152,18 @@ impl<K: Picker> Queue<K> {
         ensures { result.items ≡ figures self.now.passing self.now.longest self.now.waiting }
     {
         figures(self.passing, self.longest, self.waiting.as_slice())
+    }
+
+    /// Ends the waiting command with the reference number, in service or not, and gives its end. A pass that its start
+    /// made isn't given back to the commands that it passed.
+    pub fn abort(&mut self, reference: u32) -> Option<End>
+        ensures end { result ≡ option_map aborted_record (find (has_reference reference) self.old.waiting) }
+        ensures after { self.new ≡ record self.old { waiting = without reference self.old.waiting } }
+        ensures unchanged { IfNone result (self.new ≡ self.old) }
+        ensures count { IfSome result (λ end. length self.new.waiting + 1 ≡ length self.old.waiting) }
+    {
+        let aborted = take_out(&mut self.waiting, reference)?;
+        Some(aborted_end(&aborted.command(), aborted.done()))
     }
 
     /// The place of the command that is served next: that in service, or one that the picker picks.

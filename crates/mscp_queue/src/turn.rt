@@ -1,9 +1,11 @@
-// What a step leaves of the waiting commands.
+// What a step or an abort leaves of the waiting commands.
 
-ghost use Rattle.std.specs.Prelude.{◌≡◌, ◌+◌, ◌<◌, ◌≤◌, ◌^◌, [], ◌∷◌, ◌++◌, cond, length, map, take, drop, All, nat_lt};
+ghost use Rattle.std.specs.Prelude.{◌≡◌, ◌+◌, ◌<◌, ◌≤◌, ◌^◌, [], ◌∷◌, ◌++◌, cond, length, map, take, drop, find, All, IfNone, IfSome, nat_lt};
 ghost use Rattle.std.specs.List.{position};
-ghost use Rattle.mscp_queue.specs.Records.{advanced, is_in_service, passed_by, record_at};
+ghost use Rattle.mscp_queue.specs.Kept.{AreApart, names};
+ghost use Rattle.mscp_queue.specs.Records.{advanced, has_reference, is_in_service, passed_by, record_at, without};
 
+use crate::figure::place_of;
 use crate::record::Record;
 use arrayvec::ArrayVec;
 
@@ -53,4 +55,16 @@ pub(crate) fn leave(waiting: &mut ArrayVec<Record, 64>, place: usize, toll: u32,
     if ends {
         waiting.remove(place);
     }
+}
+
+/// Takes the record of the command with the reference number out, if there is one.
+pub(crate) fn take_out(waiting: &mut ArrayVec<Record, 64>, reference: u32) -> Option<Record>
+    requires { AreApart (names waiting.old.items) }
+    ensures found { result ≡ find (has_reference reference) waiting.old.items }
+    ensures left { waiting.new.items ≡ without reference waiting.old.items }
+    ensures unchanged { IfNone result (waiting.new.items ≡ waiting.old.items) }
+    ensures count { IfSome result (λ r. length waiting.new.items + 1 ≡ length waiting.old.items) }
+{
+    let place = place_of(waiting.as_slice(), reference)?;
+    Some(waiting.remove(place))
 }

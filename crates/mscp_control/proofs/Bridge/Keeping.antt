@@ -23,7 +23,7 @@ use Rattle.mscp_control.specs.declared.event.Event.TheVariants as events
 use Rattle.mscp_control.specs.declared.event.Entry.{Entry}
 use Rattle.mscp_control.specs.declared.event.Entry.TheVariants as entries
 use Rattle.mscp_control.specs.Arrival.{refusal, is_queued}
-use Rattle.mscp_control.specs.Holdings.{Answers, Holdings, answered_end, balance_of, ended, ends_reported, held_unless, line_of, outstanding_of, queued}
+use Rattle.mscp_control.specs.Holdings.{Answers, Holdings, aborting, answered_end, balance_of, ended, ends_reported, held_unless, line_of, outstanding_of, queued}
 use Rattle.mscp_control.specs.Kept.{IsHeld}
 
 -- ---- nothing came
@@ -116,7 +116,7 @@ IsSameOwner h h' = (h'.settings ≡ h.settings) × (h'.picker ≡ h.picker)
 
 owner_unless : {K : Type 0} (h : Holdings K) (command : Command) (o : Option SendFault) → IsSameOwner h (held_unless h command o)
 owner_unless h command (Some fault) = (refl, refl)
-owner_unless h command None = elim (is_queued h.settings command) as (λ b. IsSameOwner h (if b then queued h command else ended h (answered_end h command))) [ true ↦ (refl, refl) | false ↦ (refl, refl) ]
+owner_unless h command None = elim (is_queued h.settings command) as (λ b. IsSameOwner h (if b then queued h command else ended (aborting h command.order) (answered_end h command))) [ true ↦ (refl, refl) | false ↦ (refl, refl) ]
 
 -- no event changes the settings or the picker
 pub owner_kept : {K : Type 0} (picks : List Choice → ℕ → Type 0) (h h' : Holdings K) (event : Event) (entry : Entry) → Answers picks h event entry h' → IsSameOwner h h'

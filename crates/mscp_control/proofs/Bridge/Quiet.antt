@@ -1,10 +1,11 @@
--- Moments that serve nobody and abort nobody: what is held after them.
-use Rattle.std.proofs.Common.{◌≡◌, ℕ, ◌+◌, ◌<◌, ◌≤◌, true, false, cond, not, ◌&&◌, List, [], ◌∷◌, ◌++◌, map, drop, length, ap, sym, ◌∙◌, append-nil, arith}
-use Rattle.std.specs.Prelude.{count_by, None}
+-- Moments that serve nobody: what is held after them.
+use Rattle.std.proofs.Common.{◌≡◌, ℕ, ◌+◌, ◌<◌, ◌≤◌, Bool, true, false, cond, not, ◌&&◌, List, [], ◌∷◌, ◌++◌, map, drop, length, ap, sym, ◌∙◌, append-nil, arith}
+use Rattle.std.specs.Prelude.{count_by, filter, None}
 use Rattle.std.specs.List.{AllByRecursion}
 use Rattle.std.proofs.lemmas.List.{drop-drop, map-append}
 use Rattle.mscp_packet.specs.declared.end.End.{End}
 use Rattle.mscp_packet.specs.Commands.{command_of}
+use Rattle.mscp_queue.specs.Names.{name_of}
 use Rattle.mscp_queue.specs.Records.{Record, fresh_record}
 use Rattle.mscp_control.specs.Settings.{Settings}
 use Rattle.mscp_queue.specs.Orders.{order_weight}
@@ -13,13 +14,13 @@ use Rattle.mscp_control.specs.Commands.{reference, waiting, done, good, service_
 use Rattle.mscp_control.specs.Passing.{passes}
 use Rattle.mscp_control.specs.Ends.{ends, ends_at, untaken}
 use Rattle.mscp_control.specs.Legal.{IsRight}
-use Rattle.mscp_queue.proofs.Lists.{every_weaker, every_from, filter_all}
+use Rattle.mscp_queue.proofs.Lists.{every_kept, every_weaker, every_from, filter_all}
 use Rattle.mscp_control.proofs.Promise.Grows.{command_before, command_last, done_last, good_before, good_last, waiting_more, taken_more, ends_more}
 use Rattle.mscp_control.proofs.Promise.Waits.{waiting_below, passes_last}
 use Rattle.mscp_control.proofs.Promise.Steady.{done_kept}
 use Rattle.mscp_control.proofs.Promise.Passed.{none_starts}
 use Rattle.mscp_control.proofs.Promise.Known.{known_more}
-use Rattle.mscp_queue.proofs.Placed.{map_on}
+use Rattle.mscp_queue.proofs.Placed.{filter_map_of, map_on}
 use Rattle.mscp_control.proofs.Bridge.Held.{held_of, Follows}
 
 -- the moment serves nobody and ends nobody
@@ -62,16 +63,19 @@ records_kept t t' xs k = map_on (held_of t') (held_of t) xs k
 
 -- ---- nobody comes
 
--- What is held after a quiet moment that queues nobody: the same records.
-pub follows_quiet : (c : Settings) (t : Trace) (m : Moment) (ws : List Record) (us us' : List End) → 1 ≤ c.longest → IsRight c t m.0 m.1 → IsQuiet m → queues m.1 ≡ false
-    → us' ≡ untaken c (t ++ m ∷ []) → Follows c t ws us → Follows c (t ++ m ∷ []) ws us'
-follows_quiet c t m ws us us' l r q n e f =
+-- What is held after a moment that serves nobody and queues nobody: the records of the commands that it doesn't end.
+pub follows_left : (c : Settings) (t : Trace) (m : Moment) (ws ws' : List Record) (us us' : List End) → 1 ≤ c.longest → IsRight c t m.0 m.1 → service_in m.1 ≡ None → queues m.1 ≡ false
+    → ws' ≡ filter (λ r. not (ends_in (name_of r.command) m.1)) ws → us' ≡ untaken c (t ++ m ∷ []) → Follows c t ws us → Follows c (t ++ m ∷ []) ws' us'
+follows_left c t m ws ws' us us' l r unserved n left e f =
     let t' = t ++ m ∷ [] in
-    let same : waiting t' ≡ waiting t = waiting_kept t m q ∙ (ap (λ b. waiting t ++ cond b (length t ∷ []) []) n ∙ append-nil (waiting t)) in
-    let k = keeps t m q.unserved in
+    let keep : ℕ → Bool = λ x. not (ends_in (reference t x) m.1) in
+    let stays : Record → Bool = λ r. not (ends_in (name_of r.command) m.1) in
+    let kept = filter keep (waiting t) in
+    let same : waiting t' ≡ kept = waiting_more t m ∙ (ap (λ b. kept ++ cond b (length t ∷ []) []) n ∙ append-nil kept) in
+    let k = every_kept (Keeps t t') keep (waiting t) (keeps t m unserved) in
     record {
       known = known_more c l t m r f.known;
-      waits = f.waits ∙ (sym (records_kept t t' (waiting t) k) ∙ ap (map (held_of t')) (sym same));
+      waits = left ∙ (ap (filter stays) f.waits ∙ (filter_map_of (held_of t) stays (waiting t) ∙ (sym (records_kept t t' kept k) ∙ ap (map (held_of t')) (sym same))));
       ends = e;
     }
 

@@ -1,6 +1,6 @@
 -- A message: the answer to it is right, and what is held after it.
-use Rattle.std.proofs.Common.{◌≡◌, ℕ, ◌+◌, ◌-◌, ◌≤◌, Bool, true, false, List, [], ◌∷◌, ◌++◌, map, length, refl, ap, sym, ◌∙◌, subst, append-nil, arith}
-use Rattle.std.specs.Prelude.{if◌then◌else◌, Option, Some, None, is_some, option_map, slice_get, Result, Ok, Err}
+use Rattle.std.proofs.Common.{◌≡◌, ℕ, ◌+◌, ◌-◌, ◌≤◌, Bool, true, false, not, List, [], ◌∷◌, ◌++◌, map, length, refl, ap, sym, ◌∙◌, subst, append-nil, append_assoc, arith}
+use Rattle.std.specs.Prelude.{filter, if◌then◌else◌, Option, Some, None, is_some, option_map, option_to_list, Result, Ok, Err}
 use Rattle.std.proofs.lemmas.List.{length-map}
 use Rattle.mscp_packet.specs.declared.command.Command.{Command}
 use Rattle.mscp_packet.specs.declared.command.Order.{Order}
@@ -9,7 +9,8 @@ use Rattle.mscp_packet.specs.declared.end.End.{End}
 use Rattle.mscp_packet.specs.Commands.{command_of}
 use Rattle.mscp_drive.specs.Shape.{Shape}
 use Rattle.mscp_queue.specs.declared.drive.Drive.{Drive}
-use Rattle.mscp_queue.specs.Records.{Record}
+use Rattle.mscp_queue.specs.Names.{name_of}
+use Rattle.mscp_queue.specs.Records.{Record, aborted_record}
 use Rattle.mscp_control.specs.declared.event.SendFault.{SendFault}
 use Rattle.mscp_control.specs.declared.event.Sent.{Sent}
 use Rattle.mscp_control.specs.declared.event.Sent.TheVariants as sents
@@ -18,21 +19,23 @@ use Rattle.mscp_control.specs.declared.event.Entry.TheVariants as entries
 use Rattle.mscp_control.specs.Settings.{Settings, unit_found}
 use Rattle.mscp_control.specs.Arrival.{is_queued, order_fault, refusal, unit_fault}
 use Rattle.mscp_control.specs.Outcomes.{answer_body, answer_status, own_end, own_end_with}
-use Rattle.mscp_queue.specs.Outcomes.{aborted_end, end_with}
-use Rattle.mscp_control.specs.History.{Trace, Moment, queues, sent_bytes, takes}
-use Rattle.mscp_control.specs.Commands.{command, good, reference, waiting}
+use Rattle.mscp_queue.specs.Outcomes.{end_with}
+use Rattle.mscp_control.specs.History.{Trace, Moment, queues, sent_bytes, service_in, takes}
+use Rattle.mscp_control.specs.Commands.{ends_in, reference, waiting}
 use Rattle.mscp_control.specs.Units.{is_online}
-use Rattle.mscp_control.specs.Ends.{aborted, aborted_unless, answer, ends_at, named, untaken}
+use Rattle.mscp_control.specs.Ends.{answer, ends_at, untaken}
 use Rattle.mscp_control.specs.Ends as history
 use Rattle.mscp_control.specs.Credits.{arrival, balance, becomes, becomes_unless, becomes_when, outstanding}
 use Rattle.mscp_control.specs.Legal.{IsRight}
-use Rattle.mscp_control.specs.Holdings.{Holdings, after_message, answer_to_message, answered_end, balance_of, ended, figure_polled, held_unless, outstanding_of, queued, sent_unless}
+use Rattle.mscp_control.specs.Holdings.{Holdings, aborted, aborting, after_message, answer_to_message, answered_end, balance_of, ended, figure_polled, held_unless, outstanding_of, queued, sent_unless}
 use Rattle.mscp_queue.specs.Drives.{drive_of}
 use Rattle.mscp_queue.specs.Figures.{figure_of_reference}
 use Rattle.mscp_control.proofs.Promise.Grows.{untaken_more}
+use Rattle.mscp_queue.proofs.Lists.{every_from, filter_all}
 use Rattle.mscp_queue.proofs.Placed.{map_map}
 use Rattle.mscp_control.proofs.Bridge.Held.{held_of, Follows, figure_of_held}
-use Rattle.mscp_control.proofs.Bridge.Quiet.{IsQuiet, follows_quiet, follows_queued}
+use Rattle.mscp_control.proofs.Bridge.Aborting.{end_made, others_wait, reference_told}
+use Rattle.mscp_control.proofs.Bridge.Quiet.{IsQuiet, follows_left, follows_queued}
 use Rattle.mscp_control.proofs.Bridge.Drives.{Driven, drive_found, driven_kept}
 
 -- all that is held is that of the run
@@ -60,19 +63,6 @@ outstanding_held c t ws us f =
 refusal_held : {K : Type 0} (h : Holdings K) (t : Trace) (b : List ℕ) → Follows h.settings t h.waiting h.untaken
     → refusal (balance_of h) (outstanding_of h) b ≡ refusal (balance h.settings t) (outstanding h.settings t) b
 refusal_held h t b f = λ i. refusal (balance_held h.settings t h.waiting h.untaken f i) (outstanding_held h.settings t h.waiting h.untaken f i) b
-
--- ---- aborts, of which there are none so far
-
-unnamed : (t : Trace) (o : Order) (fault : Option ℕ) → named t o ≡ [] → aborted_unless t o fault ≡ []
-unnamed t o None h = h
-unnamed t o (Some status) h = refl
-
-none_aborted_by : (c : Settings) (t : Trace) (u : ℕ) (o : Order) → aborted_unless t o (order_fault c u o) ≡ []
-none_aborted_by c t u (orders.Abort other) = refl
-none_aborted_by c t u o = unnamed t o (order_fault c u o) refl
-
-none_aborted : (c : Settings) (t : Trace) (k : Command) → aborted c t k ≡ []
-none_aborted c t k = none_aborted_by c t k.unit k.order
 
 -- ---- its end
 
@@ -103,16 +93,17 @@ own_same c on on' figure reference unit orders.UnitStatus h =
 own_same c on on' figure reference unit o h =
     let k : Command = record { reference = reference; unit = unit; order = o } in with_same c on on' figure k (order_fault c unit o) refl
 
-answer_held : {K : Type 0} (h : Holdings K) (t : Trace) (b : List ℕ) → Agrees h.settings t h → answered_end h (command_of b) ∷ [] ≡ answer h.settings t b
+answer_held : {K : Type 0} (h : Holdings K) (t : Trace) (b : List ℕ) → Agrees h.settings t h
+    → option_to_list (option_map aborted_record (aborted h.waiting (command_of b).order)) ++ answered_end h (command_of b) ∷ [] ≡ answer h.settings t b
 unfolding answer
 answer_held h t b a =
     let c = h.settings in
     let k = command_of b in
     let on = is_online t k.unit in
     let state = own_same c (drive_of h.drives k.unit).online on (figure_polled c h.waiting k.order) k.reference k.unit k.order (λ found. ap (λ (d : Drive). d.online) (drive_found c t h.drives k.unit a.driven found)) in
-    ap (λ e. e ∷ []) state
-    ∙ (ap (λ n. own_end c on n k ∷ []) (asked_held c t h.waiting h.untaken k.order a.follows)
-    ∙ ap (λ xs. map (λ x. aborted_end (command t x) (good t x)) xs ++ own_end c on (history.figure_asked c t k.order) k ∷ []) (sym (none_aborted c t k)))
+    let own : answered_end h k ≡ own_end c on (history.figure_asked c t k.order) k = state ∙ ap (λ n. own_end c on n k) (asked_held c t h.waiting h.untaken k.order a.follows) in
+    let made = end_made c t h.waiting k a.follows.known.steady.apart a.follows.waits in
+    (λ i. made i ++ own i ∷ [])
 
 -- ---- what becomes of it
 
@@ -125,20 +116,25 @@ pub record Sends {K : Type 0} (c : Settings) (t : Trace) (m : Moment) (h : Holdi
 abbrev pub sending : Event → Result Sent SendFault → Moment
 sending e s = (e, entries.Sent s)
 
--- A moment that serves nobody, queues nobody and changes the ends alone.
-pub quiet : {K : Type 0} (h h' : Holdings K) (t : Trace) (m : Moment) → 1 ≤ h.settings.longest → IsQuiet m → queues m.1 ≡ false → h'.waiting ≡ h.waiting → h'.drives ≡ h.drives → h'.untaken ≡ untaken h.settings (t ++ m ∷ [])
-    → Agrees h.settings t h → IsRight h.settings t m.0 m.1 → Sends h.settings t m h'
-quiet h h' t m l q n same stay e a r =
+-- A moment that serves nobody and queues nobody: those that it doesn't end wait on.
+leaves : {K : Type 0} (h h' : Holdings K) (t : Trace) (m : Moment) → 1 ≤ h.settings.longest → service_in m.1 ≡ None → queues m.1 ≡ false → h'.waiting ≡ filter (λ r. not (ends_in (name_of r.command) m.1)) h.waiting
+    → h'.drives ≡ h.drives → h'.untaken ≡ untaken h.settings (t ++ m ∷ []) → Agrees h.settings t h → IsRight h.settings t m.0 m.1 → Sends h.settings t m h'
+leaves h h' t m l unserved n left stay e a r =
     let c = h.settings in
-    let t' = t ++ m ∷ [] in
-    let follows = follows_quiet c t m h.waiting h.untaken h'.untaken l r q n e a.follows in
     record {
       right = r;
       agrees = record {
-        follows = subst (λ ws. Follows c t' ws h'.untaken) (sym same) follows;
-        driven = subst (Driven c t') (sym stay) (driven_kept c t m h.drives q.unserved r a.driven);
+        follows = follows_left c t m h.waiting h'.waiting h.untaken h'.untaken l r unserved n left e a.follows;
+        driven = subst (Driven c (t ++ m ∷ [])) (sym stay) (driven_kept c t m h.drives unserved r a.driven);
       };
     }
+
+-- The same where it ends nobody.
+pub quiet : {K : Type 0} (h h' : Holdings K) (t : Trace) (m : Moment) → 1 ≤ h.settings.longest → IsQuiet m → queues m.1 ≡ false → h'.waiting ≡ h.waiting → h'.drives ≡ h.drives → h'.untaken ≡ untaken h.settings (t ++ m ∷ [])
+    → Agrees h.settings t h → IsRight h.settings t m.0 m.1 → Sends h.settings t m h'
+quiet h h' t m l q n same stay e a r =
+    let stays : Record → Bool = λ r. not (ends_in (name_of r.command) m.1) in
+    leaves h h' t m l q.unserved n (same ∙ sym (filter_all stays h.waiting (every_from (λ r. stays r ≡ true) (λ r. ap not (q.kept (name_of r.command))) h.waiting))) stay e a r
 
 -- The ends where a moment takes none.
 pub ends_on : {K : Type 0} (h : Holdings K) (t : Trace) (m : Moment) → takes m.1 ≡ false → Agrees h.settings t h → (es : List End) → es ≡ ends_at h.settings t m → h.untaken ++ es ≡ untaken h.settings (t ++ m ∷ [])
@@ -168,22 +164,30 @@ waits h t e l a r =
       };
     }
 
+-- the reference number of the command that a message aborts
+abbrev pub told : {K : Type 0} → Holdings K → Command → Option ℕ
+told h k = option_map (λ r. r.command.reference) (aborted h.waiting k.order)
+
 answered : {K : Type 0} (h : Holdings K) (t : Trace) (e : Event) → 1 ≤ h.settings.longest → Agrees h.settings t h
-    → IsRight h.settings t e (entries.Sent (Ok (sents.Answered (command_of (sent_bytes e)).reference None)))
-    → Sends h.settings t (sending e (Ok (sents.Answered (command_of (sent_bytes e)).reference None))) (ended h (answered_end h (command_of (sent_bytes e))))
+    → IsRight h.settings t e (entries.Sent (Ok (sents.Answered (command_of (sent_bytes e)).reference (told h (command_of (sent_bytes e))))))
+    → Sends h.settings t (sending e (Ok (sents.Answered (command_of (sent_bytes e)).reference (told h (command_of (sent_bytes e))))))
+    (ended (aborting h (command_of (sent_bytes e)).order) (answered_end h (command_of (sent_bytes e))))
 answered h t e l a r =
-    let k = command_of (sent_bytes e) in
-    let m = sending e (Ok (sents.Answered k.reference None)) in
-    let own = answer_held h t (sent_bytes e) a ∙ sym (append-nil (answer h.settings t (sent_bytes e))) in
-    quiet h (ended h (answered_end h k)) t m l (record { unserved = refl; kept = λ r. refl }) refl refl refl (ends_on h t m refl a (answered_end h k ∷ []) own) a r
+    let b = sent_bytes e in
+    let k = command_of b in
+    let m = sending e (Ok (sents.Answered k.reference (told h k))) in
+    let made = option_to_list (option_map aborted_record (aborted h.waiting k.order)) in
+    let all = answer_held h t b a ∙ sym (append-nil (answer h.settings t b)) in
+    leaves h (ended (aborting h k.order) (answered_end h k)) t m l refl refl (others_wait k.reference h.waiting k.order) refl
+    (append_assoc h.untaken made (answered_end h k ∷ []) ∙ ends_on h t m refl a (made ++ answered_end h k ∷ []) all) a r
 
 -- ---- every message
 
 becomes_queued : (c : Settings) (t : Trace) (k : Command) → is_queued c k ≡ true → sents.Queued k.reference ≡ becomes c t k
 becomes_queued c t k q = sym (ap (becomes_when c t k) q)
 
-becomes_answered : (c : Settings) (t : Trace) (k : Command) → is_queued c k ≡ false → sents.Answered k.reference None ≡ becomes c t k
-becomes_answered c t k q = ap (λ xs. sents.Answered k.reference (option_map (reference t) (slice_get xs 0))) (sym (none_aborted c t k)) ∙ sym (ap (becomes_when c t k) q)
+becomes_answered : {K : Type 0} (h : Holdings K) (t : Trace) (k : Command) → Follows h.settings t h.waiting h.untaken → is_queued h.settings k ≡ false → sents.Answered k.reference (told h k) ≡ becomes h.settings t k
+becomes_answered h t k f q = ap (sents.Answered k.reference) (sym (reference_told h.settings t h.waiting k f.known.steady.apart f.waits)) ∙ sym (ap (becomes_when h.settings t k) q)
 
 -- what the history says of a message that is refused so, or isn't
 arrival_when : (c : Settings) (t : Trace) (b : List ℕ) (o : Option SendFault) → refusal (balance c t) (outstanding c t) b ≡ o → becomes_unless c t (command_of b) o ≡ arrival c t b
@@ -195,8 +199,8 @@ sends_taken : {K : Type 0} (h : Holdings K) (t : Trace) (e : Event) → 1 ≤ h.
     → refusal (balance h.settings t) (outstanding h.settings t) (sent_bytes e) ≡ None
     → (q : Bool) → is_queued h.settings (command_of (sent_bytes e)) ≡ q
     → let k = command_of (sent_bytes e) in
-    Sends h.settings t (sending e (Ok (if q then sents.Queued k.reference else sents.Answered k.reference None)))
-    (if q then queued h k else ended h (answered_end h k))
+    Sends h.settings t (sending e (Ok (if q then sents.Queued k.reference else sents.Answered k.reference (told h k))))
+    (if q then queued h k else ended (aborting h k.order) (answered_end h k))
 sends_taken h t e l f right none true q =
     let c = h.settings in
     let b = sent_bytes e in
@@ -204,12 +208,12 @@ sends_taken h t e l f right none true q =
 sends_taken h t e l f right none false q =
     let c = h.settings in
     let b = sent_bytes e in
-    answered h t e l f (right (Ok (sents.Answered (command_of b).reference None)) (ap Ok (becomes_answered c t (command_of b) q) ∙ arrival_when c t b None none))
+    answered h t e l f (right (Ok (sents.Answered (command_of b).reference (told h (command_of b)))) (ap Ok (becomes_answered h t (command_of b) f.follows q) ∙ arrival_when c t b None none))
 
 sends_when : {K : Type 0} (h : Holdings K) (t : Trace) (e : Event) → 1 ≤ h.settings.longest → Agrees h.settings t h
     → ((s : Result Sent SendFault) → s ≡ arrival h.settings t (sent_bytes e) → IsRight h.settings t e (entries.Sent s))
     → (o : Option SendFault) → refusal (balance h.settings t) (outstanding h.settings t) (sent_bytes e) ≡ o
-    → Sends h.settings t (sending e (sent_unless h.settings (command_of (sent_bytes e)) o)) (held_unless h (command_of (sent_bytes e)) o)
+    → Sends h.settings t (sending e (sent_unless h (command_of (sent_bytes e)) o)) (held_unless h (command_of (sent_bytes e)) o)
 sends_when h t e l f right (Some fault) r = refused h t e fault l f (right (Err fault) (arrival_when h.settings t (sent_bytes e) (Some fault) r))
 sends_when h t e l f right None r = sends_taken h t e l f right r (is_queued h.settings (command_of (sent_bytes e))) refl
 

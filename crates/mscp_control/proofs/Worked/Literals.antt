@@ -52,6 +52,14 @@ queued r u o = (message r u o, entries.Sent (Ok (sents.Queued r)))
 abbrev pub answered : ℕ → ℕ → Order → Moment
 answered r u o = (message r u o, entries.Sent (Ok (sents.Answered r None)))
 
+-- an ABORT, to this unit, of the command of another reference number, which waits
+abbrev pub aborted_from : ℕ → ℕ → ℕ → Moment
+aborted_from u r other = (message r u (orders.Abort other), entries.Sent (Ok (sents.Answered r (Some other))))
+
+-- the same to unit 0
+abbrev pub aborted : ℕ → ℕ → Moment
+aborted r other = aborted_from 0 r other
+
 abbrev pub refused : ℕ → ℕ → Order → SendFault → Moment
 refused r u o fault = (message r u o, entries.Sent (Err fault))
 

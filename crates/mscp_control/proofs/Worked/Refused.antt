@@ -83,24 +83,3 @@ told =
 pub told_legal : IsLegal (settings 4 2) told
 unfolding moment collect command_of command is_waiting waiting done good passes_at passes is_free is_startable startable figure figure_of is_online head_cylinder head_up answer outcome ends untaken balance outstanding arrival block_of
 told_legal = legal_from (settings 4 2) told (refl, (refl, tt))
-
--- Until aborts are served an abort is answered as an unknown opcode, and aborts nothing: the read goes on.
-abbrev pub unserved : Trace
-unserved =
-    came_online
-    ++ queued 1 0 (read 1536 0)
-    ∷ served Good 1 0 (Some 0) true 0 None
-    ∷ answered 2 0 (orders.Abort 1)
-    ∷ took (2 ∷ 0 ∷ 0 ∷ 0 ∷ 0 ∷ 0 ∷ 0 ∷ 0 ∷ 0x80 ∷ 0 ∷ 1 ∷ 8 ∷ [])
-    ∷ looked ((1, 2) ∷ [])
-    ∷ served Good 1 0 (Some 1) false 0 None
-    ∷ served Good 1 0 (Some 2) false 0 (moved 1 0 0 1536)
-    ∷ []
-
-pub unserved_legal : IsLegal (settings 5 2) unserved
-unfolding moment collect command_of command is_waiting waiting done good passes_at passes is_free is_startable startable figure figure_of is_online head_cylinder head_up answer outcome ends untaken balance outstanding arrival block_of
-unserved_legal = legal_from (settings 5 2) unserved (refl, (by_serving 0 refl refl refl, (refl, (refl, (by_serving 3 refl refl refl, (refl, (refl, (refl, (by_serving 3 refl refl refl, (by_serving 3 refl refl refl, tt))))))))))
-
--- A read of three blocks that is aborted after one ends with what was moved.
-aborted_read : end_bytes (aborted_end (record { reference = 1; unit = 0; order = read 1536 0 }) 1) ≡ (1 ∷ 0 ∷ 0 ∷ 0 ∷ 0 ∷ 0 ∷ 0 ∷ 0 ∷ 0xA1 ∷ 0 ∷ 2 ∷ 0 ∷ 0 ∷ 2 ∷ 0 ∷ 0 ∷ []) ++ replicate 16 0
-aborted_read = refl

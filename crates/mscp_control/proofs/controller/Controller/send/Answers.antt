@@ -13,8 +13,8 @@ returns-in-None-clause-answer g c =
     let command = c.in_ok-command.command in
     let free : refusal (balance_of h) (outstanding_of h) b ≡ None = taken (balance_of h) (outstanding_of h) b command c.in_ok-command.ensures.command
     (ap (λ n. credit_fault (balance_of h) (outstanding_of h) n command.reference) (sym (c.opcode.ensures ∙ c.in_ok-command.ensures.opcode)) ∙ (sym c.credit_fault.ensures.fault ∙ c.in-None.is)) in
-    ap Ok (c.arrive.ensures.sent ∙ ap (taken_as h.settings) (command_is b command c.in_ok-command.ensures.command))
-    ∙ sym (ap (sent_unless h.settings (command_of b)) free)
+    ap Ok (c.arrive.ensures.sent ∙ ap (taken_as h) (command_is b command c.in_ok-command.ensures.command))
+    ∙ sym (ap (sent_unless h (command_of b)) free)
 
 pub returns-in-None-clause-after : goal.returns-in-None-clause-after
 returns-in-None-clause-after g c =

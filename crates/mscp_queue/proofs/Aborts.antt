@@ -1,0 +1,159 @@
+-- A command that is aborted is taken out of those that wait, and no other.
+use Rattle.std.proofs.Common.{◌≡◌, ◌≢◌, ⊎_elim, ℕ, ◌+◌, ◌<◌, ◌≤◌, Bool, true, false, cond, not, List, [], ◌∷◌, ◌++◌, map, take, drop, get_or, length, refl, ap, sym, ◌∙◌, subst, arith}
+use Rattle.std.specs.Prelude.{All, filter, find, nat_eq, option_to_list, remove, unwrap_or, is_some, Option, Some, None}
+use Rattle.std.specs.List.{AllByRecursion, position}
+use Rattle.std.proofs.lemmas.Bool.{eqb-true, false≢true, ne_eqb, true≢false}
+use Rattle.std.proofs.lemmas.List.{get_or_at, length-append, map-append}
+use Rattle.std.proofs.lemmas.List.Elements.{All-from_recursion, filter-append, recursion_from_All}
+use Rattle.mscp_queue.specs.declared.drive.Drive.{Drive}
+use Rattle.mscp_queue.specs.Kept.{AreApart, IsHeld, IsKept, names, units_of}
+use Rattle.mscp_queue.specs.Records.{Record, has_reference, is_in_service, no_record, record_at, without}
+use Rattle.mscp_queue.proofs.Lists.{every_kept, every_parts, every_weaker, filter_all, filter_none, filter_one}
+use Rattle.mscp_queue.proofs.Mapped.{removed_at}
+use Rattle.mscp_queue.proofs.Placed.{Found, find_cases, find_first, find_none, position_first, position_none}
+
+-- ---- names that stand once
+
+apart_behind : (A : List ℕ) (x : ℕ) (B : List ℕ) → AreApart (A ++ x ∷ B) → AllByRecursion (λ y. y ≢ x) B
+apart_behind [] x B h = h.0
+apart_behind (y ∷ ys) x B h = apart_behind ys x B h.1
+
+others : (reference : ℕ) (rs : List Record) → AllByRecursion (λ y. y ≢ reference) (names rs) → AllByRecursion (λ r. has_reference reference r ≡ false) rs
+others reference [] h = tt
+others reference (r ∷ rs) h = (ne_eqb r.command.reference reference h.0, others reference rs h.1)
+
+-- the records where one of them has the reference number
+pub record Cut (reference : ℕ) (rs A : List Record) (r : Record) (B : List Record) : Type 0 where
+  pub is : rs ≡ A ++ r ∷ B
+  pub own : has_reference reference r ≡ true
+  pub before : AllByRecursion (λ z. has_reference reference z ≡ false) A
+  pub behind : AllByRecursion (λ z. has_reference reference z ≡ false) B
+
+cut_by : (reference : ℕ) (rs A : List Record) (r : Record) (B : List Record) → AreApart (names rs) → Found (has_reference reference) rs A r B → Cut reference rs A r B
+cut_by reference rs A r B apart f =
+    let same : names rs ≡ names A ++ r.command.reference ∷ names B = ap names f.is ∙ map-append (λ (q : Record). q.command.reference) A (r ∷ B) in
+    let number : r.command.reference ≡ reference = eqb-true r.command.reference reference f.passes in
+    record {
+      is = f.is;
+      own = f.passes;
+      before = f.before;
+      behind = others reference B (subst (λ n. AllByRecursion (λ y. y ≢ n) (names B)) number (apart_behind (names A) r.command.reference (names B) (subst AreApart same apart)));
+    }
+
+without_cut : (reference : ℕ) (rs A : List Record) (r : Record) (B : List Record) → Cut reference rs A r B → without reference rs ≡ A ++ B
+without_cut reference rs A r B k =
+    let keep : Record → Bool = λ z. not (has_reference reference z) in
+    let stays : (zs : List Record) → AllByRecursion (λ z. has_reference reference z ≡ false) zs → filter keep zs ≡ zs =
+    λ zs h. filter_all keep zs (every_weaker (λ z. has_reference reference z ≡ false) (λ z. keep z ≡ true) (λ z e. ap not e) zs h) in
+    ap (filter keep) k.is
+    ∙ (filter-append keep A (r ∷ B) ∙ (ap (λ zs. zs ++ filter keep (r ∷ B)) (stays A k.before) ∙ (ap (λ b. A ++ cond (not b) (r ∷ filter keep B) (filter keep B)) k.own ∙ ap (λ zs. A ++ zs) (stays B k.behind))))
+
+-- ---- the one that is found
+
+-- what is taken out where a record is found at a place
+pub record Aborts (reference : ℕ) (rs : List Record) (place : ℕ) : Type 0 where
+  pub inside : place < length rs
+  pub found : find (has_reference reference) rs ≡ Some (record_at rs place)
+  pub left : remove rs place ≡ without reference rs
+  pub count : length (without reference rs) + 1 ≡ length rs
+
+pub aborts_at : (reference : ℕ) (rs : List Record) (place : ℕ) → AreApart (names rs) → position (has_reference reference) rs ≡ Some place → Aborts reference rs place
+aborts_at reference rs place apart h =
+    ⊎_elim
+    (λ none. absurd (false≢true (ap is_some (sym (position_none (has_reference reference) rs none) ∙ h))))
+    (λ some.
+    let A = some.0 in
+    let r = some.1 in
+    let B = some.2 in
+    let f = some.3 in
+    let k = cut_by reference rs A r B apart f in
+    let first : length A ≡ place = ap (λ o. unwrap_or o place) (sym (position_first (has_reference reference) A r B f.before f.passes) ∙ (ap (position (has_reference reference)) (sym f.is) ∙ h)) in
+    let at : record_at rs place ≡ r = ap (λ zs. record_at zs place) f.is ∙ get_or_at A r B no_record place first in
+    record {
+      inside = omega (arith, first, ap length f.is, length-append A (r ∷ B));
+      found = ap (find (has_reference reference)) f.is ∙ (find_first (has_reference reference) A r B f.before f.passes ∙ ap Some (sym at));
+      left = ap (λ zs. remove zs place) f.is ∙ (removed_at A r B place first ∙ sym (without_cut reference rs A r B k));
+      count = omega (arith, ap length f.is, length-append A (r ∷ B), ap length (without_cut reference rs A r B k), length-append A B);
+    })
+    (find_cases (has_reference reference) rs)
+
+-- nothing is taken out where none is found
+pub record AbortsNone (reference : ℕ) (rs : List Record) : Type 0 where
+  pub found : find (has_reference reference) rs ≡ None
+  pub left : without reference rs ≡ rs
+
+pub aborts_none : (reference : ℕ) (rs : List Record) → position (has_reference reference) rs ≡ None → AbortsNone reference rs
+aborts_none reference rs h =
+    ⊎_elim
+    (λ none. record {
+      found = find_none (has_reference reference) rs none;
+      left = filter_all (λ z. not (has_reference reference z)) rs (every_weaker (λ z. has_reference reference z ≡ false) (λ z. not (has_reference reference z) ≡ true) (λ z e. ap not e) rs none);
+    })
+    (λ some. let f = some.3 in absurd (true≢false (ap is_some (sym (position_first (has_reference reference) some.0 some.1 some.2 f.before f.passes) ∙ (ap (position (has_reference reference)) (sym f.is) ∙ h)))))
+    (find_cases (has_reference reference) rs)
+
+-- the records that have the reference number are the one that is found
+pub found_once : (reference : ℕ) (rs : List Record) → AreApart (names rs) → filter (has_reference reference) rs ≡ option_to_list (find (has_reference reference) rs)
+found_once reference rs apart =
+    let p = has_reference reference in
+    ⊎_elim
+    (λ none. filter_none p rs none ∙ ap option_to_list (sym (find_none p rs none)))
+    (λ some.
+    let A = some.0 in
+    let r = some.1 in
+    let B = some.2 in
+    let k = cut_by reference rs A r B apart some.3 in
+    ap (filter p) k.is ∙ (filter_one p A r B k.before k.own k.behind ∙ ap option_to_list (sym (ap (find p) k.is ∙ find_first p A r B k.before k.own))))
+    (find_cases p rs)
+
+-- ---- what is true of each queue stays true
+
+names_kept : (p : Record → Bool) (P : ℕ → Type 0) (rs : List Record) → AllByRecursion P (names rs) → AllByRecursion P (names (filter p rs))
+names_kept p P [] h = tt
+names_kept p P (r ∷ rs) h =
+    let rest = names_kept p P rs h.1 in
+    elim (p r) as (λ b. AllByRecursion P (names (cond b (r ∷ filter p rs) (filter p rs)))) [ true ↦ (h.0, rest) | false ↦ rest ]
+
+apart_kept : (p : Record → Bool) (rs : List Record) → AreApart (names rs) → AreApart (names (filter p rs))
+apart_kept p [] h = tt
+apart_kept p (r ∷ rs) h =
+    let rest = apart_kept p rs h.1 in
+    elim (p r) as (λ b. AreApart (names (cond b (r ∷ filter p rs) (filter p rs)))) [ true ↦ (names_kept p (λ y. y ≢ r.command.reference) rs h.0, rest) | false ↦ rest ]
+
+fewer : {X : Type 0} (p : X → Bool) (xs : List X) → length (filter p xs) ≤ length xs
+fewer p [] = omega arith
+fewer p (x ∷ xs) =
+    let rest = fewer p xs in
+    elim (p x) as (λ b. length (cond b (x ∷ filter p xs) (filter p xs)) ≤ length (x ∷ xs)) [ true ↦ omega arith | false ↦ omega arith ]
+
+fewer_of : {X : Type 0} (p q : X → Bool) (xs : List X) → length (filter p (filter q xs)) ≤ length (filter p xs)
+fewer_of p q [] = omega arith
+fewer_of {X} p q (x ∷ xs) =
+    let rest = fewer_of p q xs in
+    let both : (b d : Bool) → length (cond b (cond d (x ∷ filter p (filter q xs)) (filter p (filter q xs))) (filter p (filter q xs))) ≤ length (cond d (x ∷ filter p xs) (filter p xs)) =
+    λ b d. elim d as (λ d. length (cond b (cond d (x ∷ filter p (filter q xs)) (filter p (filter q xs))) (filter p (filter q xs))) ≤ length (cond d (x ∷ filter p xs) (filter p xs))) [
+      | true ↦ elim b as (λ b. length (cond b (x ∷ filter p (filter q xs)) (filter p (filter q xs))) ≤ length (x ∷ filter p xs)) [ true ↦ omega arith | false ↦ omega arith ]
+      | false ↦ elim b as (λ b. length (cond b (filter p (filter q xs)) (filter p (filter q xs))) ≤ length (filter p xs)) [ true ↦ rest | false ↦ rest ]
+    ] in
+    let split : (b : Bool) → length (filter p (cond b (x ∷ filter q xs) (filter q xs))) ≤ length (filter p (x ∷ xs)) =
+    λ b. elim b as (λ b. length (filter p (cond b (x ∷ filter q xs) (filter q xs))) ≤ length (filter p (x ∷ xs))) [ true ↦ both true (p x) | false ↦ both false (p x) ] in
+    split (q x)
+
+pub held_aborted : (room passing longest reference : ℕ) (rs new : List Record) (ds : List Drive) → IsHeld room passing longest rs ds → new ≡ without reference rs → IsHeld room passing longest new ds
+held_aborted room passing longest reference rs new ds h e =
+    let keep : Record → Bool = λ z. not (has_reference reference z) in
+    let K = IsKept passing longest (units_of ds) in
+    let all : IsHeld room passing longest (without reference rs) ds = record {
+      some_room = h.some_room;
+      few = h.few;
+      some_blocks = h.some_blocks;
+      short = h.short;
+      small = h.small;
+      fits = let f = h.fits in omega (arith, fewer keep rs);
+      each = All-from_recursion K (without reference rs) (every_kept K keep rs (recursion_from_All K rs h.each));
+      apart = apart_kept keep rs h.apart;
+      one = let o = h.one in omega (arith, fewer_of is_in_service keep rs);
+      units = h.units;
+      heads = h.heads;
+    } in
+    subst (λ zs. IsHeld room passing longest zs ds) (sym e) all
