@@ -2,6 +2,7 @@
 
 ghost use Rattle.std.specs.Prelude.{◌≡◌, ◌+◌, length};
 
+mod aborting;
 mod picking;
 
 use crate::{Block, Config, Controller, Oldest, Picker, Report, SendFault, View};

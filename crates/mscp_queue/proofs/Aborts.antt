@@ -1,6 +1,6 @@
 -- A command that is aborted is taken out of those that wait, and no other.
-use Rattle.std.proofs.Common.{◌≡◌, ◌≢◌, ⊎_elim, ℕ, ◌+◌, ◌<◌, ◌≤◌, Bool, true, false, cond, not, List, [], ◌∷◌, ◌++◌, map, take, drop, get_or, length, refl, ap, sym, ◌∙◌, subst, arith}
-use Rattle.std.specs.Prelude.{All, filter, find, nat_eq, option_to_list, remove, unwrap_or, is_some, Option, Some, None}
+use Rattle.std.proofs.Common.{◌≡◌, ◌≢◌, ⊎_elim, ℕ, ◌+◌, ◌<◌, ◌≤◌, Bool, true, false, cond, not, List, [], ◌∷◌, ◌++◌, length, ap, sym, ◌∙◌, subst, arith}
+use Rattle.std.specs.Prelude.{filter, find, option_to_list, remove, unwrap_or, is_some, Some, None}
 use Rattle.std.specs.List.{AllByRecursion, position}
 use Rattle.std.proofs.lemmas.Bool.{eqb-true, false≢true, ne_eqb, true≢false}
 use Rattle.std.proofs.lemmas.List.{get_or_at, length-append, map-append}
@@ -8,7 +8,7 @@ use Rattle.std.proofs.lemmas.List.Elements.{All-from_recursion, filter-append, r
 use Rattle.mscp_queue.specs.declared.drive.Drive.{Drive}
 use Rattle.mscp_queue.specs.Kept.{AreApart, IsHeld, IsKept, names, units_of}
 use Rattle.mscp_queue.specs.Records.{Record, has_reference, is_in_service, no_record, record_at, without}
-use Rattle.mscp_queue.proofs.Lists.{every_kept, every_parts, every_weaker, filter_all, filter_none, filter_one}
+use Rattle.mscp_queue.proofs.Lists.{every_kept, every_weaker, filter_all, filter_none, filter_one}
 use Rattle.mscp_queue.proofs.Mapped.{removed_at}
 use Rattle.mscp_queue.proofs.Placed.{Found, find_cases, find_first, find_none, position_first, position_none}
 

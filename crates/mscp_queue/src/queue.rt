@@ -169,7 +169,8 @@ impl<K: Picker> Queue<K> {
     /// The place of the command that is served next: that in service, or one that the picker picks.
     fn next_place(&self) -> Option<usize>
         ensures none { IfNone result (self.now.waiting ≡ []) }
-        ensures some { IfSome result (λ place. IsNext (K.picks self.now.picker) self.now.passing self.now.drives self.now.waiting place) }
+        ensures some { IfSome result (λ place.
+            IsNext (K.picks self.now.picker) self.now.passing self.now.drives self.now.waiting place) }
     {
         let waiting = self.waiting.as_slice();
         if waiting.is_empty() {

@@ -99,8 +99,8 @@ impl Startable {
     }
 }
 
-/// The records that may start. It looks at each record once: what is fenced is known from what was seen of each unit, and whether one in front may be passed no more
-/// is one flag.
+/// The records that may start. It looks at each record once: what is fenced is known from what was seen of each unit, and
+/// whether one in front may be passed no more is one flag.
 fn find_startable(records: &[Record], drives: &[Drive], passing: u32) -> Startable
     requires few { length records.now ≤ 64 }
     requires drives { length drives.now ≤ 16 }

@@ -6,7 +6,6 @@ use Rattle.std.proofs.lemmas.Bool.{eq-eqb, eqb-false, eqb-true, ne_eqb}
 use Rattle.mscp_packet.specs.declared.command.Command.{Command}
 use Rattle.mscp_packet.specs.declared.command.Order.{Order}
 use Rattle.mscp_packet.specs.declared.command.Order.TheVariants as orders
-use Rattle.mscp_packet.specs.declared.end.End.{End}
 use Rattle.mscp_queue.specs.Kept.{AreApart, names}
 use Rattle.mscp_queue.specs.Names.{name_of}
 use Rattle.mscp_queue.specs.Outcomes.{aborted_end}

@@ -1,5 +1,5 @@
 -- A controller of a picker keeps the promise, and a run has it.
-use Rattle.std.proofs.Common.{ℕ, ◌-◌, ◌+◌, List, length, ap, ◌∙◌}
+use Rattle.std.proofs.Common.{◌≡◌, ℕ, ◌-◌, ◌+◌, List, length, ap, subst, ◌∙◌}
 use Rattle.std.specs.Prelude.{zip}
 use Rattle.mscp_queue.specs.declared.view.Choice.{Choice}
 use Rattle.mscp_queue.specs.Figures.{figure_of_reference}
@@ -28,3 +28,8 @@ keeps_promise c picks picker es ns h v r =
       drives = k.agrees.driven.drives;
       balance = ap (λ (s : Settings). s.credits - (length h.waiting + length h.untaken)) k.settings ∙ balance_held c t h.waiting h.untaken f;
     }
+
+-- the same where the controller is known to be new
+pub new_keeps_promise : {K : Type 0} (c : Settings) (picks : K → List Choice → ℕ → Type 0) (picker : K) (new : Holdings K) (es : List Event) (ns : List Entry) (h : Holdings K) → IsValid c → new ≡ fresh c picker
+    → Answered (picks new.picker) new es ns h → KeepsPromise (picks picker) c es ns h
+new_keeps_promise {K} c picks picker new es ns h v e r = keeps_promise c (picks picker) picker es ns h v (subst (λ (n : Holdings K). Answered (picks n.picker) n es ns h) e r)

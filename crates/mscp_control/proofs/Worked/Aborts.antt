@@ -1,5 +1,5 @@
 -- Commands that are aborted, in service and before, and what that leaves of the figures of others.
-use Rattle.std.proofs.Common.{◌≡◌, true, false, [], ◌∷◌, ◌++◌, take, refl}
+use Rattle.std.proofs.Common.{◌≡◌, true, [], ◌∷◌, ◌++◌, refl}
 use Rattle.std.specs.Prelude.{replicate, Some, None}
 use Rattle.mscp_packet.specs.declared.command.Order.TheVariants as orders
 use Rattle.mscp_packet.specs.Commands.{command_of}

@@ -1,12 +1,9 @@
--- Orders that are refused when they come, and what an abort will leave of a read.
-use Rattle.std.proofs.Common.{◌≡◌, true, false, [], ◌∷◌, ◌++◌, refl}
-use Rattle.std.specs.Prelude.{replicate, Some, None, Ok}
+-- Orders that are refused when they come.
+use Rattle.std.proofs.Common.{[], ◌∷◌, ◌++◌, refl}
+use Rattle.std.specs.Prelude.{replicate, None, Ok}
 use Rattle.mscp_packet.specs.declared.command.Order.TheVariants as orders
 use Rattle.mscp_packet.specs.Commands.{command_of}
-use Rattle.mscp_packet.specs.Ends.{end_bytes}
-use Rattle.mscp_queue.specs.declared.block.Block.TheVariants.{Good}
 use Rattle.mscp_control.specs.declared.event.Sent.TheVariants as sents
-use Rattle.mscp_queue.specs.Outcomes.{aborted_end}
 use Rattle.mscp_control.specs.History.{Trace, moment, collect}
 use Rattle.mscp_control.specs.Commands.{command, is_waiting, waiting, done, good}
 use Rattle.mscp_control.specs.Passing.{passes_at, passes, is_free, is_startable, startable}
@@ -15,8 +12,8 @@ use Rattle.mscp_control.specs.Units.{is_online, head_cylinder, head_up}
 use Rattle.mscp_control.specs.Ends.{answer, outcome, ends, untaken}
 use Rattle.mscp_control.specs.Credits.{balance, outstanding, arrival}
 use Rattle.mscp_control.specs.Legal.{IsLegal, block_of}
-use Rattle.mscp_control.proofs.Bridge.Legals.{legal_from, by_serving}
-use Rattle.mscp_control.proofs.Worked.Literals.{settings, came_online, read, raw, queued, answered, took, looked, served, moved}
+use Rattle.mscp_control.proofs.Bridge.Legals.{legal_from}
+use Rattle.mscp_control.proofs.Worked.Literals.{settings, read, raw, queued, answered, took, looked}
 
 -- Messages that are answered at once with a fault: an opcode that no command has, a unit that is not configured, a
 -- read of 31 bytes, and an MSCP version that there is not.

@@ -63,6 +63,7 @@ fn read_request(mut words: Words<'_>) -> Result<Request, Cause> {
         Some(b"setunit") => read_plain(Order::SetUnit, words),
         Some(b"unitstatus") => read_plain(Order::UnitStatus, words),
         Some(b"setcontroller") => read_controller(words),
+        Some(b"abort") => read_abort(words),
         Some(b"status") => read_status(words),
         Some(b"step") => read_steps(words),
         Some(b"take") => alone(Request::Take, words),
@@ -99,21 +100,35 @@ fn read_plain(order: Order, words: Words<'_>) -> Result<Request, Cause> {
 
 /// A SET CONTROLLER CHARACTERISTICS: its reference number.
 fn read_controller(words: Words<'_>) -> Result<Request, Cause> {
-    Ok(Request::Send(Command {
-        reference: words.exactly(1)?.wide()?,
-        unit: 0,
-        order: Order::SetController(0),
-    }))
+    let reference = words.exactly(1)?.wide()?;
+    Ok(to_unit_0(reference, Order::SetController(0)))
 }
 
-/// A poll: its reference number, and that of the command that it is about.
-fn read_status(words: Words<'_>) -> Result<Request, Cause> {
-    let mut fields = words.exactly(2)?;
-    Ok(Request::Send(Command {
-        reference: fields.wide()?,
+/// A command that looks at no unit.
+fn to_unit_0(reference: u32, order: Order) -> Request {
+    Request::Send(Command {
+        reference,
         unit: 0,
-        order: Order::Status(fields.wide()?),
-    }))
+        order,
+    })
+}
+
+/// Its reference number, and that of the command that it is about.
+fn read_about(words: Words<'_>) -> Result<(u32, u32), Cause> {
+    let mut fields = words.exactly(2)?;
+    Ok((fields.wide()?, fields.wide()?))
+}
+
+/// An ABORT.
+fn read_abort(words: Words<'_>) -> Result<Request, Cause> {
+    let (reference, other) = read_about(words)?;
+    Ok(to_unit_0(reference, Order::Abort(other)))
+}
+
+/// A poll.
+fn read_status(words: Words<'_>) -> Result<Request, Cause> {
+    let (reference, other) = read_about(words)?;
+    Ok(to_unit_0(reference, Order::Status(other)))
 }
 
 /// So many steps: at least one.

@@ -47,7 +47,7 @@ fn reads_a_header_and_events(rt: HostRuntime) -> Result<(), Fail> {
         &[
             HEADER,
             "read 1 0 1024 5\nstatus 2 1\ntake\nstep 1\nstatus 3 1\n take \n# no line\n\nstep 2\r\ntake\n",
-            "online 4 7\navailable 5 7\nsetunit 6 7\nunitstatus 7 7\nsetcontroller 8\nlook",
+            "online 4 7\navailable 5 7\nsetunit 6 7\nunitstatus 7 7\nsetcontroller 8\nlook\nabort 9 4294967295",
         ],
     );
     let script = read_script(rt.alloc(), text.as_bytes())?;
@@ -71,6 +71,7 @@ fn reads_a_header_and_events(rt: HostRuntime) -> Result<(), Fail> {
         sent(&rt, b"\x07\0\0\0\x07\0\0\0\x03\0\0\0"),
         sent(&rt, b"\x08\0\0\0\0\0\0\0\x04\0\0\0\0\0\0\0\0\0"),
         Event::Look,
+        sent(&rt, b"\x09\0\0\0\0\0\0\0\x01\0\0\0\xff\xff\xff\xff"),
     ];
     assert_eq!(rt; script.events.as_slice(), wanted.as_slice());
     Ok(())
@@ -221,7 +222,8 @@ fn tells_the_fault_of_an_event(rt: HostRuntime) {
         ("setcontroller", "line 7: count"),
         ("setcontroller 1 0", "line 7: count"),
         ("setcontroller one", "line 7: number"),
-        ("abort 1 2", "line 7: word"),
+        ("abort 1", "line 7: count"),
+        ("abort 1 x", "line 7: number"),
         ("credits 4", "line 7: word"),
         ("take\n\ntaken", "line 9: word"),
         ("take # now", "line 7: count"),
