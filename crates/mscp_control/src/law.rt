@@ -16,9 +16,10 @@ pub fn legal_traces_make_progress()
 {}
 
 /// The answers of a controller over this picker, one after the other from the first on, whoever calls it, are a legal
-/// trace, with all that is promised of one, and each start is one that the picker may pick. The figures and the balance
-/// that it tells are always those of that trace, and so are the states and the heads of its units. (An `Event` has room
-/// for 64 bytes: a longer message is in no list of events. It is refused, and changes nothing.)
+/// trace, with all that is promised of one, and each start is one that the picker may pick: where it picks as `Sweep`
+/// does, the one of least cost, and of those the oldest. The figures and the balance that it tells are always those of
+/// that trace, and so are the states and the heads of its units. (An `Event` has room for 64 bytes: a longer message is in
+/// no list of events. It is refused, and changes nothing.)
 pub fn controllers_keep_the_promise<K: Picker>(picker: &K)
     ensures { ControllersKeepThePromise (K.picks picker.now) picker.now }
 {

@@ -8,7 +8,7 @@ use Rattle.std.proofs.lemmas.List.Elements.{All-from_recursion, filter-append, r
 use Rattle.mscp_queue.specs.declared.drive.Drive.{Drive}
 use Rattle.mscp_queue.specs.Kept.{AreApart, IsHeld, IsKept, names, units_of}
 use Rattle.mscp_queue.specs.Records.{Record, has_reference, is_in_service, no_record, record_at, without}
-use Rattle.mscp_queue.proofs.Lists.{every_kept, every_weaker, filter_all, filter_none, filter_one}
+use Rattle.mscp_queue.proofs.Lists.{every_kept, every_weaker, fewer, filter_all, filter_none, filter_one}
 use Rattle.mscp_queue.proofs.Mapped.{removed_at}
 use Rattle.mscp_queue.proofs.Placed.{Found, find_cases, find_first, find_none, position_first, position_none}
 
@@ -119,12 +119,6 @@ apart_kept p [] h = tt
 apart_kept p (r ∷ rs) h =
     let rest = apart_kept p rs h.1 in
     elim (p r) as (λ b. AreApart (names (cond b (r ∷ filter p rs) (filter p rs)))) [ true ↦ (names_kept p (λ y. y ≢ r.command.reference) rs h.0, rest) | false ↦ rest ]
-
-fewer : {X : Type 0} (p : X → Bool) (xs : List X) → length (filter p xs) ≤ length xs
-fewer p [] = omega arith
-fewer p (x ∷ xs) =
-    let rest = fewer p xs in
-    elim (p x) as (λ b. length (cond b (x ∷ filter p xs) (filter p xs)) ≤ length (x ∷ xs)) [ true ↦ omega arith | false ↦ omega arith ]
 
 fewer_of : {X : Type 0} (p q : X → Bool) (xs : List X) → length (filter p (filter q xs)) ≤ length (filter p xs)
 fewer_of p q [] = omega arith

@@ -1,5 +1,5 @@
 -- Lists by recursion: what agrees at each element, ranges, and filters of filters.
-use Rattle.std.proofs.Common.{◌≡◌, ℕ, zero, suc, ◌+◌, ◌<◌, ◌≤◌, Bool, true, false, cond, ◌&&◌, List, [], ◌∷◌, ◌++◌, refl, ap, sym, ◌∙◌, arith}
+use Rattle.std.proofs.Common.{◌≡◌, ℕ, zero, suc, ◌+◌, ◌<◌, ◌≤◌, Bool, true, false, cond, ◌&&◌, List, [], ◌∷◌, ◌++◌, map, length, refl, ap, sym, ◌∙◌, arith}
 use Rattle.std.specs.Prelude.{filter, sum_by, flat_map}
 use Rattle.std.specs.List.{AllByRecursion, range_with_len}
 use Rattle.std.proofs.lemmas.List.{map-id}
@@ -34,6 +34,17 @@ every_filter {X} P p (x ∷ xs) h =
     let both : (b : Bool) → p x ≡ b → AllByRecursion (λ (y : X). P y × (p y ≡ true)) (cond b (x ∷ filter p xs) (filter p xs)) =
     λ b e. elim b as (λ b. p x ≡ b → AllByRecursion (λ (y : X). P y × (p y ≡ true)) (cond b (x ∷ filter p xs) (filter p xs))) [ true ↦ λ e. ((h.0, e), rest) | false ↦ λ e. rest ] e in
     both (p x) refl
+
+pub every_mapped : {X Y : Type 0} (f : X → Y) (P : Y → Type 0) (xs : List X) → AllByRecursion P (map f xs) → AllByRecursion (λ x. P (f x)) xs
+every_mapped f P [] h = tt
+every_mapped f P (x ∷ xs) h = (h.0, every_mapped f P xs h.1)
+
+-- a filter keeps no more than there is
+pub fewer : {X : Type 0} (p : X → Bool) (xs : List X) → length (filter p xs) ≤ length xs
+fewer p [] = omega arith
+fewer p (x ∷ xs) =
+    let rest = fewer p xs in
+    elim (p x) as (λ b. length (cond b (x ∷ filter p xs) (filter p xs)) ≤ length (x ∷ xs)) [ true ↦ omega arith | false ↦ omega arith ]
 
 pub filter_on : {X : Type 0} (p q : X → Bool) (xs : List X) → AllByRecursion (λ x. p x ≡ q x) xs → filter p xs ≡ filter q xs
 filter_on p q [] h = refl

@@ -21,7 +21,7 @@ use Rattle.mscp_queue.specs.Kept.{IsHeld, IsInside, IsKept, units_of}
 use Rattle.mscp_queue.specs.Records.{Record, advanced, step_toll, is_in_service, is_unstarted, left_of, no_record, passed_by, record_at}
 use Rattle.mscp_queue.specs.Serving.{IsNext, drive_after, end_given, touched}
 use Rattle.mscp_queue.specs.Views.{IsPick, is_affordable, is_free, is_open_at, open_places}
-use Rattle.mscp_queue.proofs.Lists.{Pairs, every_filter, every_from, every_parts, every_weaker, pairs_middle}
+use Rattle.mscp_queue.proofs.Lists.{Pairs, every_filter, every_from, every_mapped, every_parts, every_weaker, pairs_middle}
 use Rattle.mscp_queue.proofs.Placed.{find_first}
 use Rattle.mscp_queue.proofs.Held.{AreIdle, IsLeft, IsTurn, held_turn, heads_replaced, others_idle, units_replaced}
 
@@ -131,10 +131,6 @@ found_among A (s ∷ B) p =
 -- each unit of a list of units is found by its number
 pub units_found : (us : List Shape) → IsUnitList us → AllByRecursion (λ s. unit_found us s.number ≡ Some s) us
 units_found us l = found_among [] us (pairs_rise us l.rising)
-
-every_mapped : {X Y : Type 0} (f : X → Y) (P : Y → Type 0) (xs : List X) → AllByRecursion P (map f xs) → AllByRecursion (λ x. P (f x)) xs
-every_mapped f P [] h = tt
-every_mapped f P (x ∷ xs) h = (h.0, every_mapped f P xs h.1)
 
 -- the unit of the drive that is found
 pub found_unit : (n : ℕ) (ds : List Drive) → unwrap_or (unit_found (units_of ds) n) one_block ≡ (drive_of ds n).unit

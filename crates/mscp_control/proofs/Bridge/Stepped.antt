@@ -32,7 +32,7 @@ use Rattle.mscp_control.specs.Units.{is_online}
 use Rattle.mscp_control.specs.Ends.{outcome, untaken}
 use Rattle.mscp_control.specs.Legal.{IsPick, IsRight, block_of, end_of, IsServed, seek_to, view}
 use Rattle.mscp_control.specs.Holdings.{Holdings, ends_reported, line_of}
-use Rattle.mscp_queue.proofs.Lists.{every_weaker, every_both, every_filter, every_from, every_parts}
+use Rattle.mscp_queue.proofs.Lists.{every_mapped, every_weaker, every_both, every_filter, every_from, every_parts}
 use Rattle.mscp_control.proofs.Promise.Grows.{command_before, done_before, good_before, untaken_more}
 use Rattle.mscp_control.proofs.Promise.Waits.{cut_of, waiting_below, waiting_waits}
 use Rattle.mscp_control.proofs.Promise.Apart.{Apart}
@@ -58,10 +58,6 @@ or_right : (a b : Bool) → b ≡ true → (a || b) ≡ true
 or_right true b h = refl
 or_right false b h = h
 
-pub every_unmapped : {X Y : Type 0} (f : X → Y) (P : Y → Type 0) (xs : List X) → AllByRecursion P (map f xs) → AllByRecursion (λ x. P (f x)) xs
-every_unmapped f P [] h = tt
-every_unmapped f P (x ∷ xs) h = (h.0, every_unmapped f P xs h.1)
-
 -- each element of a filter passes
 filtered : (p : ℕ → Bool) (xs : List ℕ) (i : ℕ) → i < length (filter p xs) → p (get_or (filter p xs) i 0) ≡ true
 filtered p xs i l =
@@ -77,7 +73,7 @@ idle_held : (t : Trace) → All (λ r. r.done ≡ 0) (map (held_of t) (waiting t
 idle_held t h =
     all_of (λ x. nat_eq (done t x) 0) (waiting t)
     (every_weaker (λ x. done t x ≡ 0) (λ x. nat_eq (done t x) 0 ≡ true) (λ x d. eq-eqb (done t x) 0 d) (waiting t)
-    (every_unmapped (held_of t) (λ r. r.done ≡ 0) (waiting t) (recursion_from_All (λ r. r.done ≡ 0) (map (held_of t) (waiting t)) h)))
+    (every_mapped (held_of t) (λ r. r.done ≡ 0) (waiting t) (recursion_from_All (λ r. r.done ≡ 0) (map (held_of t) (waiting t)) h)))
 
 -- what is known of a record that may be served next: that its command may be
 pub record Next (c : Settings) (picks : List Choice → ℕ → Type 0) (t : Trace) (place : ℕ) : Type 0 where
@@ -312,7 +308,7 @@ unstarted_front : (c : Settings) (picks : List Choice → ℕ → Type 0) (t : T
 unstarted_front c picks t place ds rs e n held u =
     let W = waiting t in
     let here : recorded.is_unstarted (record_at rs place) ≡ true = ap (λ l. recorded.is_unstarted (record_at l place)) e ∙ (ap recorded.is_unstarted (record_held t place held.inside) ∙ u) in
-    let done_all = every_unmapped (held_of t) (λ r. r.done ≡ 0) W (recursion_from_All (λ r. r.done ≡ 0) (map (held_of t) W) (subst (All (λ r. r.done ≡ 0)) e (n.idle here))) in
+    let done_all = every_mapped (held_of t) (λ r. r.done ≡ 0) W (recursion_from_All (λ r. r.done ≡ 0) (map (held_of t) W) (subst (All (λ r. r.done ≡ 0)) e (n.idle here))) in
     let W' : AllByRecursion (λ x. (x < length t) × (is_waiting t x ≡ true)) W = every_both (λ x. x < length t) (λ x. is_waiting t x ≡ true) W (waiting_below t) (waiting_waits t) in
     let all = every_weaker (λ x. ((x < length t) × (is_waiting t x ≡ true)) × (done t x ≡ 0)) (λ x. passing.is_unstarted t x ≡ true)
     (λ x q. unstarted_by t x q.0.0 q.0.1 q.1) W (every_both (λ x. (x < length t) × (is_waiting t x ≡ true)) (λ x. done t x ≡ 0) W W' done_all) in

@@ -9,16 +9,17 @@ use Rattle.std.proofs.lemmas.List.Elements.{recursion_from_All}
 use Rattle.std.proofs.lemmas.List.Folds.{list_all-append}
 use Rattle.mscp_queue.specs.declared.view.Choice.{Choice}
 use Rattle.mscp_queue.specs.Pickers.{IsFirstLeast}
-use Rattle.mscp_queue.proofs.Lists.{Pairs, every_append, every_both, every_parts, every_weaker, pairs_filter, pairs_middle, pairs_range}
+use Rattle.mscp_queue.proofs.Lists.{Pairs, every_append, every_both, every_mapped, every_parts, every_weaker, pairs_filter, pairs_middle}
 use Rattle.mscp_queue.proofs.Placed.{find_first, map_map}
 use Rattle.mscp_control.specs.Settings.{Settings}
-use Rattle.mscp_control.specs.History.{Trace, moment, positions, Service, service_in, WhenStarted}
-use Rattle.mscp_control.specs.Commands.{name, is_waiting, waiting}
+use Rattle.mscp_control.specs.History.{Trace, moment, Service, service_in, WhenStarted}
+use Rattle.mscp_control.specs.Commands.{name, waiting}
 use Rattle.mscp_control.specs.Passing.{is_startable, startable}
 use Rattle.mscp_control.specs.Units.{cost}
 use Rattle.mscp_control.specs.Legal.{IsPick, IsPicked, choice}
 use Rattle.mscp_control.specs.Sweeping.{IsSwept, IsSweeping, Sweeps, goes_before, swept}
-use Rattle.mscp_control.proofs.Bridge.Stepped.{all_of, every_unmapped}
+use Rattle.mscp_control.proofs.Promise.Waits.{waiting_rises}
+use Rattle.mscp_control.proofs.Bridge.Stepped.{all_of}
 
 -- no other goes before what costs less, or as much and came earlier
 not_before : (c : Settings) (t : Trace) (x y : ℕ) → cost c t y ≤ cost c t x → y ≤ x → goes_before c t x y ≡ false
@@ -37,8 +38,8 @@ is_before c t x y l = ap (λ b. b || (nat_eq (cost c t x) (cost c t y) && nat_lt
 
 -- the commands that may start, in the order in which they came
 startable_rise : (c : Settings) (t : Trace) → Pairs ◌<◌ (startable c t)
-unfolding startable waiting
-startable_rise c t = pairs_filter ◌<◌ (is_startable c t) (waiting t) (pairs_filter ◌<◌ (is_waiting t) (positions t) (pairs_range 0 (length t)))
+unfolding startable
+startable_rise c t = pairs_filter ◌<◌ (is_startable c t) (waiting t) (waiting_rises t)
 
 -- the command at the first place that has the least cost is the one that no other goes before
 swept_at : (c : Settings) (t : Trace) (place : ℕ) → IsFirstLeast (map (cost c t) (startable c t)) place → place < length (startable c t) → swept c t ≡ Some (get_or (startable c t) place 0)
@@ -52,8 +53,8 @@ swept_at c t place h l =
     let cut : S ≡ A ++ y ∷ B = sym (take-append-drop place S) ∙ ap (λ xs. A ++ xs) (drop_more S place 0 l) in
     let own : get_or (map f S) place 0 ≡ f y = get_or-map f S place 0 0 l in
     let front : AllByRecursion (λ x. f y < f x) A =
-    every_unmapped f (λ n. f y < n) A (subst (λ ns. AllByRecursion (λ n. f y < n) ns) (take-map f place S) (subst (λ k. AllByRecursion (λ n. k < n) (take place (map f S))) own (recursion_from_All _ (take place (map f S)) h.first))) in
-    let least : AllByRecursion (λ x. f y ≤ f x) S = every_unmapped f (λ n. f y ≤ n) S (subst (λ k. AllByRecursion (λ n. k ≤ n) (map f S)) own (recursion_from_All _ (map f S) h.least)) in
+    every_mapped f (λ n. f y < n) A (subst (λ ns. AllByRecursion (λ n. f y < n) ns) (take-map f place S) (subst (λ k. AllByRecursion (λ n. k < n) (take place (map f S))) own (recursion_from_All _ (take place (map f S)) h.first))) in
+    let least : AllByRecursion (λ x. f y ≤ f x) S = every_mapped f (λ n. f y ≤ n) S (subst (λ k. AllByRecursion (λ n. k ≤ n) (map f S)) own (recursion_from_All _ (map f S) h.least)) in
     let back = (every_parts (λ x. f y ≤ f x) A (y ∷ B) (subst (AllByRecursion (λ x. f y ≤ f x)) cut least)).1.1 in
     let later = (pairs_middle ◌<◌ A y B (subst (Pairs ◌<◌) cut (startable_rise c t))).1 in
     let stays : ℕ → ℕ → Bool = λ z x. not (goes_before c t x z) in

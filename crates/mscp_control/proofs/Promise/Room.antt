@@ -23,7 +23,7 @@ use Rattle.mscp_queue.specs.Outcomes.{aborted_end}
 use Rattle.mscp_control.specs.Ends.{aborted, aborted_unless, answer, ends_at, ends, untaken}
 use Rattle.mscp_control.specs.Credits.{balance, becomes_when, aborted_reference}
 use Rattle.mscp_control.specs.Legal.{IsRight}
-use Rattle.mscp_queue.proofs.Lists.{every_weaker, every_filter, every_from}
+use Rattle.mscp_queue.proofs.Lists.{fewer, every_weaker, every_filter, every_from}
 use Rattle.mscp_control.proofs.Promise.Grows.{waiting_more, ends_more, taken_more, untaken_more}
 use Rattle.mscp_control.proofs.Promise.Arrivals.{arrives}
 use Rattle.mscp_control.proofs.Promise.Served.{step_right}
@@ -34,12 +34,6 @@ pub record Room (c : Settings) (t : Trace) : Type 0 where
   pub room : length (waiting t) + length (untaken c t) ≤ c.credits
 
 -- ---- lengths
-
-pub shorter : (p : ℕ → Bool) (xs : List ℕ) → length (filter p xs) ≤ length xs
-shorter p [] = omega arith
-shorter p (x ∷ xs) =
-    let h = shorter p xs in
-    elim (p x) as (λ b. length (cond b (x ∷ filter p xs) (filter p xs)) ≤ length (x ∷ xs)) [ true ↦ omega (arith, h) | false ↦ omega (arith, h) ]
 
 -- no element passes both tests
 two_filters : (p q : ℕ → Bool) (xs : List ℕ) → AllByRecursion (λ x. q x ≡ true → p x ≡ false) xs → length (filter p xs) + length (filter q xs) ≤ length xs
@@ -60,13 +54,13 @@ first_of_filter [] r n h l = absurd (omega (arith, l))
 first_of_filter (x ∷ xs) r n h l = ap Some h.0
 
 aborted_rest : (t : Trace) (q : ℕ) (o : Order) (f : Option ℕ) (a : Option ℕ) → a ≡ option_map (reference t) (slice_get (aborted_unless t o f) 0) → length (filter (λ x. not (aborts (reference t x) (entries.Sent (Ok (sents.Answered q a))))) (waiting t)) + length (aborted_unless t o f) ≤ length (waiting t)
-aborted_rest t q o (Some fault) a e = omega (arith, shorter (λ x. not (aborts (reference t x) (entries.Sent (Ok (sents.Answered q a))))) (waiting t))
+aborted_rest t q o (Some fault) a e = omega (arith, fewer (λ x. not (aborts (reference t x) (entries.Sent (Ok (sents.Answered q a))))) (waiting t))
 aborted_rest t q (orders.Abort other) None a e =
     let p : ℕ → Bool = λ x. nat_eq (reference t x) other in
     let keep : Option ℕ → ℕ → Bool = λ a x. not (aborts (reference t x) (entries.Sent (Ok (sents.Answered q a)))) in
     let both : (n : ℕ) → length (filter p (waiting t)) ≡ n → length (filter (keep a) (waiting t)) + length (filter p (waiting t)) ≤ length (waiting t) =
     λ n. elim n as (λ n. length (filter p (waiting t)) ≡ n → length (filter (keep a) (waiting t)) + length (filter p (waiting t)) ≤ length (waiting t)) [
-      | zero ↦ λ l. omega (arith, l, shorter (keep a) (waiting t))
+      | zero ↦ λ l. omega (arith, l, fewer (keep a) (waiting t))
       | suc n ↦ λ l.
           let each = every_weaker (λ x. Unit {0} × (p x ≡ true)) (λ x. reference t x ≡ other) (λ x h. eqb-true (reference t x) other h.1) (filter p (waiting t)) (every_filter (λ x. Unit {0}) p (waiting t) (every_from (λ x. Unit {0}) (λ x. tt) (waiting t))) in
           let is : a ≡ Some other = e ∙ first_of_filter (filter p (waiting t)) (reference t) other each (omega (arith, l)) in
@@ -74,7 +68,7 @@ aborted_rest t q (orders.Abort other) None a e =
           (λ x h. ap (λ a. keep a x) is ∙ ap not (eq-eqb other (reference t x) (sym (eqb-true (reference t x) other h)))) (waiting t))
     ] in
     both (length (filter p (waiting t))) refl
-aborted_rest t q o None a e = omega (arith, shorter (λ x. not (aborts (reference t x) (entries.Sent (Ok (sents.Answered q a))))) (waiting t))
+aborted_rest t q o None a e = omega (arith, fewer (λ x. not (aborts (reference t x) (entries.Sent (Ok (sents.Answered q a))))) (waiting t))
 
 answered_length : (c : Settings) (t : Trace) (b : List ℕ) → length (answer c t b) ≡ length (aborted c t (command_of b)) + 1
 unfolding answer
@@ -95,7 +89,7 @@ waiting_length t m = ap length (waiting_more t m) ∙ length-append (filter (λ 
 still : (c : Settings) (t : Trace) (m : Moment) → Room c t → queues m.1 ≡ false → ends_at c t m ≡ [] → Fits c t m
 still c t m h q e =
     let room = h.room in
-    omega (arith, room, ap length e, waiting_length t m ∙ ap (λ b. length (filter (λ x. not (ends_in (reference t x) m.1)) (waiting t)) + length (cond b (length t ∷ []) [])) q, shorter (λ x. not (ends_in (reference t x) m.1)) (waiting t))
+    omega (arith, room, ap length e, waiting_length t m ∙ ap (λ b. length (filter (λ x. not (ends_in (reference t x) m.1)) (waiting t)) + length (cond b (length t ∷ []) [])) q, fewer (λ x. not (ends_in (reference t x) m.1)) (waiting t))
 
 balance_some : (c : Settings) (t : Trace) → (balance c t ≡ 0 → ⊥) → length (waiting t) + length (untaken c t) + 1 ≤ c.credits
 unfolding balance
@@ -137,7 +131,7 @@ fits c t event (entries.Sent (Err fault)) h st r = still c t (event, entries.Sen
 fits c t (events.Send b) (entries.Sent (Ok (sents.Queued q))) h st r =
     let m : Moment = (events.Send b, entries.Sent (Ok (sents.Queued q))) in
     let a = arrives c t b.items (sents.Queued q) r in
-    omega (arith, balance_some c t a.taken.free, waiting_length t m, shorter (λ x. not (ends_in (reference t x) m.1)) (waiting t))
+    omega (arith, balance_some c t a.taken.free, waiting_length t m, fewer (λ x. not (ends_in (reference t x) m.1)) (waiting t))
 fits c t (events.Send b) (entries.Sent (Ok (sents.Answered q o))) h st r =
     let m : Moment = (events.Send b, entries.Sent (Ok (sents.Answered q o))) in
     let a = arrives c t b.items (sents.Answered q o) r in
@@ -183,7 +177,7 @@ room_more c t m r st h =
           let waits = waiting_length t m ∙ ap (λ b. length (filter (λ x. not (ends_in (reference t x) m.1)) (waiting t)) + length (cond b (length t ∷ []) [])) o.2 in
           record {
             taken = omega (arith, one, more, some, untaken_length c t);
-            room = omega (arith, room, waits, shorter (λ x. not (ends_in (reference t x) m.1)) (waiting t), untaken_length c (t ++ m ∷ []), untaken_length c t, one, more, none);
+            room = omega (arith, room, waits, fewer (λ x. not (ends_in (reference t x) m.1)) (waiting t), untaken_length c (t ++ m ∷ []), untaken_length c t, one, more, none);
           }
       | false ↦ λ e.
           let none = count ∙ ap (λ b. count_by (λ (n : Moment). takes n.1) t + cond b 1 0) e in

@@ -11,11 +11,10 @@ use Rattle.mscp_control.specs.Passing.{passes}
 use Rattle.mscp_control.specs.Figures.{figure}
 use Rattle.mscp_control.specs.Credits.{balance}
 use Rattle.mscp_control.specs.Legal.{IsRight}
-use Rattle.mscp_queue.proofs.Lists.{every_weaker, every_kept, every_append, every_parts, every_both}
+use Rattle.mscp_queue.proofs.Lists.{fewer, every_weaker, every_kept, every_append, every_parts, every_both}
 use Rattle.mscp_control.proofs.Promise.Grows.{waiting_more, done_last, steps_more, steps_last}
 use Rattle.mscp_control.proofs.Promise.Waits.{waiting_below, passes_last}
 use Rattle.mscp_control.proofs.Promise.Arrivals.{queued_right}
-use Rattle.mscp_control.proofs.Promise.Room.{shorter}
 use Rattle.mscp_control.proofs.Promise.Queued.{Short, two_free}
 use Rattle.mscp_control.proofs.Promise.Falls.{figure_idle}
 use Rattle.mscp_control.proofs.Promise.Falling.{Falling}
@@ -80,7 +79,7 @@ within_more c t m r f short w =
       | true ↦ λ e.
           let is : waiting t' ≡ kept ++ n ∷ [] = waiting_more t m ∙ ap (λ b. kept ++ cond b (n ∷ []) []) e in
           let room = room_for_two c t (two_free c t (sent_bytes m.0) (queued_right c t m.0 m.1 e r)) in
-          let few : length kept + 2 ≤ c.credits = omega (arith, room, shorter keep (waiting t)) in
+          let few : length kept + 2 ≤ c.credits = omega (arith, room, fewer keep (waiting t)) in
           let new = new_figure c t' kept n is (done_last t m) (passes_last t m) (subst (Short c t') is short) few in
           subst (AllByRecursion New) (sym is) (every_append New kept (n ∷ []) front (omega (arith, new, steps_last t m), tt))
       | false ↦ λ e. subst (AllByRecursion New) (sym (waiting_more t m ∙ (ap (λ b. kept ++ cond b (n ∷ []) []) e ∙ append-nil kept))) front
