@@ -1,6 +1,6 @@
 -- What a controller holds, and how each event changes it. Its queue is a list of records in order of arrival, and each
 -- unit has a drive.
-use Rattle.std.specs.Prelude.{◌≡◌, ℕ, ◌+◌, ◌-◌, find, if◌then◌else◌, List, [], ◌∷◌, ◌++◌, length, map, drop, slice_get, Option, Some, None, option_map, option_to_list, Result, Ok, Err}
+use Rattle.std.specs.Prelude.{◌≡◌, ℕ, ◌+◌, ◌-◌, true, false, find, if◌then◌else◌, List, [], ◌∷◌, ◌++◌, length, map, drop, slice_get, Option, Some, None, option_map, option_to_list, Result, Ok, Err}
 use Rattle.arrayvec.specs.ArrayVec.{ArrayVec}
 use Rattle.mscp_packet.specs.declared.command.Order.{Order}
 use Rattle.mscp_packet.specs.declared.command.Order.TheVariants as orders
@@ -12,14 +12,17 @@ use Rattle.mscp_queue.specs.declared.block.Block.{Block}
 use Rattle.mscp_queue.specs.declared.report.Report.{Report}
 use Rattle.mscp_queue.specs.declared.report.Report.TheVariants.{Idle, Served}
 use Rattle.mscp_queue.specs.declared.drive.Drive.{Drive}
+use Rattle.mscp_queue.specs.declared.upcoming.Upcoming.{Upcoming}
 use Rattle.mscp_queue.specs.declared.view.Choice.{Choice}
 use Rattle.mscp_queue.specs.Drives.{drive_of, fresh_drive}
 use Rattle.mscp_queue.specs.Records.{Record, aborted_record, fresh_record, has_reference, without}
 use Rattle.mscp_queue.specs.Names.{Name, end_name}
 use Rattle.mscp_queue.specs.Kept.{names}
 use Rattle.mscp_queue.specs.Figures.{figure_of_reference, figures}
-use Rattle.mscp_queue.specs.Lines.{Line, Serves}
+use Rattle.mscp_queue.specs.Lines.{Begins, Line, Serves}
+use Rattle.mscp_queue.specs.Serving.{is_begun}
 use Rattle.mscp_control.specs.declared.event.SendFault.{SendFault}
+use Rattle.mscp_control.specs.declared.event.Stale.{Stale}
 use Rattle.mscp_control.specs.declared.event.Sent.{Sent}
 use Rattle.mscp_control.specs.declared.event.Sent.TheVariants as sents
 use Rattle.mscp_control.specs.declared.event.Event.{Event}
@@ -31,12 +34,13 @@ use Rattle.mscp_control.specs.Arrival.{refusal, is_queued}
 use Rattle.mscp_control.specs.Outcomes.{own_end}
 
 -- the settings, the waiting commands and the ends that weren't taken, each oldest first, the drives in the order of
--- their units, and who picks
+-- their units, what was begun, if something was, and who picks
 pub record Holdings (K : Type 0) : Type 0 where
   pub settings : Settings
   pub waiting : List Record
   pub untaken : List End
   pub drives : List Drive
+  pub begun : Option Name
   pub picker : K
 
 -- its queue
@@ -47,12 +51,14 @@ line_of h = record {
   longest = h.settings.longest;
   waiting = h.waiting;
   drives = h.drives;
+  begun = h.begun;
   picker = h.picker;
 }
 
 -- a controller to which nothing came so far
 abbrev pub fresh : {K : Type 0} → Settings → K → Holdings K
-fresh c picker = record { settings = c; waiting = []; untaken = []; drives = map fresh_drive c.units; picker = picker }
+fresh c picker =
+    record { settings = c; waiting = []; untaken = []; drives = map fresh_drive c.units; begun = None; picker = picker }
 
 -- ---- credits
 
@@ -86,6 +92,11 @@ abbrev pub unaborted : List Record → Order → List Record
 unaborted rs (orders.Abort other) = without other rs
 unaborted rs order = rs
 
+-- what is begun then: nothing, where it was that command (profile)
+abbrev pub begun_after : Option Name → Order → Option Name
+begun_after begun (orders.Abort other) = if is_begun other begun then None else begun
+begun_after begun order = begun
+
 -- what a command becomes that isn't refused: it is queued, or answered at once (manual)
 abbrev pub taken_as : {K : Type 0} → Holdings K → Command → Sent
 taken_as h command =
@@ -105,6 +116,7 @@ abbrev pub aborting : {K : Type 0} → Holdings K → Order → Holdings K
 aborting h order = record h {
   waiting = unaborted h.waiting order;
   untaken = h.untaken ++ option_to_list (option_map aborted_record (aborted h.waiting order));
+  begun = begun_after h.begun order;
 }
 
 -- the end of an answered command, with the figure that it asks for (manual)
@@ -151,6 +163,23 @@ pub record Steps {K : Type 0} (picks : List Choice → ℕ → Type 0) (k : Bloc
   pub ends : new.untaken ≡ old.untaken ++ ends_reported report
   -- and the settings stay
   pub settings : new.settings ≡ old.settings
+
+-- ---- a begin
+
+-- what a begin may tell of the next step, and what is held after it: it is kept what was begun, and nothing else changes
+-- (profile)
+pub record Foretells {K : Type 0} (picks : List Choice → ℕ → Type 0)
+    (old : Holdings K) (upcoming : Option Upcoming) (new : Holdings K) : Type 0 where
+  pub begins : Begins picks (line_of old) upcoming (line_of new)
+  pub untaken : new.untaken ≡ old.untaken
+  pub settings : new.settings ≡ old.settings
+
+-- what the finish of a command may answer, whose block had this outcome, and what is held after it: where that command
+-- was begun it is a step, and else it is stale and changes nothing (profile)
+abbrev pub Finishes : {K : Type 0}
+    → (List Choice → ℕ → Type 0) → ℕ → Block → Holdings K → Result Report Stale → Holdings K → Type 0
+Finishes picks reference k old (Ok report) new = (is_begun reference old.begun ≡ true) × Steps picks k old report new
+Finishes picks reference k old (Err stale) new = (is_begun reference old.begun ≡ false) × (new ≡ old)
 
 -- ---- a take
 

@@ -12,6 +12,7 @@ use Rattle.mscp_control.specs.declared.event.Entry.TheVariants as entries
 use Rattle.mscp_drive.specs.Shape.{cylinder_of}
 use Rattle.mscp_drive.specs.Heads.{distance}
 use Rattle.mscp_queue.specs.declared.view.Choice.{Choice}
+use Rattle.mscp_queue.specs.Names.{Name}
 use Rattle.mscp_queue.specs.Orders.{order_class}
 use Rattle.mscp_control.specs.Settings.{Settings, unit_shape}
 use Rattle.mscp_queue.specs.Outcomes.{block_touched, goes_on}
@@ -89,12 +90,13 @@ choice c t y =
 abbrev pub view : Settings → Trace → List Choice
 view c t = map (choice c t) (startable c t)
 
--- the service is of a command that stands in the view at a place that the picker's relation allows (profile)
-abbrev pub IsPick : Settings → (List Choice → ℕ → Type 0) → Trace → Service → Type 0
-IsPick c picks t s =
-    (place : ℕ) × (place < length (startable c t)) × (name t (slice_index_or (startable c t) place 0) ≡ service_name s)
+-- the command of this name stands in the view at a place that the picker's relation allows (profile)
+abbrev pub IsPick : Settings → (List Choice → ℕ → Type 0) → Trace → Name → Type 0
+IsPick c picks t n =
+    (place : ℕ) × (place < length (startable c t)) × (name t (slice_index_or (startable c t) place 0) ≡ n)
     × picks (view c t) place
 
 -- each command that starts is one that the picker may pick, of those that may start then (profile)
 abbrev pub IsPicked : Settings → (List Choice → ℕ → Type 0) → Trace → Type 0
-IsPicked c picks t = (i : ℕ) → i < length t → WhenStarted (IsPick c picks (take i t)) (service_in (moment t i).1)
+IsPicked c picks t =
+    (i : ℕ) → i < length t → WhenStarted (λ s. IsPick c picks (take i t) (service_name s)) (service_in (moment t i).1)

@@ -2,6 +2,7 @@
 use Rattle.std.specs.Prelude.{◌≡◌, ℕ, ◌<◌, Bool, not, ◌&&◌, ◌||◌, nat_eq, nat_lt, length, take, find, List, Option, Some, option_map}
 use Rattle.std.specs.List.{list_all}
 use Rattle.mscp_queue.specs.declared.view.Choice.{Choice}
+use Rattle.mscp_queue.specs.Names.{Name}
 use Rattle.mscp_queue.specs.Pickers.{IsSweep}
 use Rattle.mscp_control.specs.Settings.{Settings}
 use Rattle.mscp_control.specs.History.{Trace, moment, Service, service_in, WhenStarted}
@@ -17,13 +18,14 @@ goes_before c t x y = nat_lt (cost c t x) (cost c t y) || (nat_eq (cost c t x) (
 unfoldable pub swept : Settings → Trace → Option ℕ
 swept c t = find (λ y. list_all (λ x. not (goes_before c t x y)) (startable c t)) (startable c t)
 
--- the service is of the command that the sweep starts (profile)
-abbrev pub IsSwept : Settings → Trace → Service → Type 0
-IsSwept c t s = option_map (name t) (swept c t) ≡ Some (service_name s)
+-- the command of this name is the one that the sweep starts (profile)
+abbrev pub IsSwept : Settings → Trace → Name → Type 0
+IsSwept c t n = option_map (name t) (swept c t) ≡ Some n
 
 -- each command that starts is the one that the sweep starts (profile)
 abbrev pub IsSweeping : Settings → Trace → Type 0
-IsSweeping c t = (i : ℕ) → i < length t → WhenStarted (IsSwept c (take i t)) (service_in (moment t i).1)
+IsSweeping c t =
+    (i : ℕ) → i < length t → WhenStarted (λ s. IsSwept c (take i t) (service_name s)) (service_in (moment t i).1)
 
 -- what these may pick, the sweep may pick too (profile)
 abbrev pub Sweeps : (List Choice → ℕ → Type 0) → Type 0

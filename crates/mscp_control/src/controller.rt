@@ -6,7 +6,7 @@ ghost use Rattle.mscp_queue.specs.Orders.{first_block, order_weight};
 ghost use Rattle.mscp_queue.specs.Figures.{figure_of_reference, figures};
 ghost use Rattle.mscp_control.specs.Arrival.{credit_fault, fault_of, holds, is_queued};
 ghost use Rattle.mscp_control.specs.Settings.{IsValid};
-ghost use Rattle.mscp_control.specs.Holdings.{Answers, IsBalanced, Steps, aborted, aborting, after_message, after_take, answer_to_message, answered_end, arrives, balance_of, end_taken, ended, ends_reported, fresh, outstanding_of, queued, taken_as};
+ghost use Rattle.mscp_control.specs.Holdings.{Answers, Finishes, Foretells, IsBalanced, Steps, aborted, aborting, after_message, after_take, answer_to_message, answered_end, arrives, balance_of, end_taken, ended, ends_reported, fresh, outstanding_of, queued, taken_as};
 
 #[cfg(test)]
 mod tests;
@@ -14,12 +14,12 @@ mod tests;
 use crate::answer::{controller_end, refused_end, unit_status_end};
 use crate::arrival::{is_immediate, judge, may_take_last_credit};
 use crate::config::Config;
-use crate::event::{Entry, Event, SendFault, Sent};
+use crate::event::{Entry, Event, SendFault, Sent, Stale};
 use arrayvec::ArrayVec;
 use mscp_drive::Units;
 use mscp_packet::status::SUCCESS;
 use mscp_packet::{Command, End, EndBody, Order, read_command, write_end};
-use mscp_queue::{Block, Picker, Queue, Report, Waiting, end_with};
+use mscp_queue::{Block, Picker, Queue, Report, Upcoming, Waiting, end_with};
 use std::marker::Model;
 
 /// Whether one of the ends has the reference number.
@@ -52,7 +52,7 @@ pub struct Controller<K> {
 }
 
 // A clause sees the settings, the waiting commands and the ends that weren't taken, each oldest first, the drives in
-// the order of their units, and the picker.
+// the order of their units, what was begun, and the picker.
 impl<K> Model for Controller<K> {
     ghost use Rattle.mscp_control.specs.Holdings.{Holdings};
     ghost use Rattle.mscp_control.specs.Kept.{IsHeld};
@@ -65,6 +65,7 @@ impl<K> Model for Controller<K> {
           waiting = h.queue.waiting;
           untaken = h.untaken.items;
           drives = h.queue.drives;
+          begun = h.queue.begun;
           picker = h.queue.picker;
         } };
 
@@ -93,6 +94,24 @@ impl<K: Picker> Controller<K> {
             queue,
             untaken: ArrayVec::new(),
         }
+    }
+
+    /// Forgets all that came to it, as a reset of its port makes it: it is as new, with the same settings and picker. Ends
+    /// that weren't taken are gone.
+    pub fn reset(&mut self)
+        ensures fresh { self.new ≡ fresh self.old.settings self.old.picker }
+        ensures account { IsBalanced self.new }
+    {
+        self.queue.reset();
+        self.untaken.clear();
+    }
+
+    /// Its settings.
+    pub fn config(&self) -> &Config
+        ensures value { result.now ≡ self.now.settings }
+        ensures account { IsBalanced self.now }
+    {
+        &self.config
     }
 
     /// How many credits are free: each waiting command and each untaken end holds one (manual, "Flow
@@ -288,8 +307,33 @@ impl<K: Picker> Controller<K> {
         Some(write_end(&end))
     }
 
-    /// Serves one block, with this outcome, if a command waits: to the command in service, or to one that the picker
-    /// picks of those that may start.
+    /// What the next step serves, if a command waits: the command, the block that it touches, and how many of its steps
+    /// it had and has in all. Where nothing is in service and nothing was begun the picker picks it, and its choice is
+    /// kept. Until the step, or an ABORT of that command, this answers the same, whatever comes in between; and it changes
+    /// nothing that `look`, `figure`, `balance`, `send` and `take` tell.
+    pub fn begin(&mut self) -> Option<Upcoming>
+        ensures begin { Foretells (K.picks self.old.picker) self.old result self.new }
+        ensures account { IsBalanced self.new }
+    {
+        self.queue.begin()
+    }
+
+    /// The step of the command with this reference number, which was begun, and whose block had this outcome. It is stale
+    /// where that command isn't the one that was begun, since an ABORT, a step or a reset came in between: then nothing
+    /// changes, and the block counts for nothing.
+    pub fn finish(&mut self, reference: u32, block: Block) -> Result<Report, Stale>
+        ensures finish { Finishes (K.picks self.old.picker) reference block self.old result self.new }
+        ensures account { IsBalanced self.new }
+    {
+        if self.queue.is_begun(reference) {
+            Ok(self.step(block))
+        } else {
+            Err(Stale)
+        }
+    }
+
+    /// Serves one block, with this outcome, if a command waits: to the command that was begun, or else to that in service,
+    /// or to one that the picker picks of those that may start.
     pub fn step(&mut self, block: Block) -> Report
         ensures step { Steps (K.picks self.old.picker) block self.old result self.new }
         ensures account { IsBalanced self.new }

@@ -33,6 +33,10 @@ impl From<PacketFault> for SendFault {
     }
 }
 
+/// Why a step can't be finished: its command isn't the one that was begun. Nothing is changed.
+#[derive(Clone, Copy, Debug, PartialEq, Eq)]
+pub struct Stale;
+
 /// What became of a message: each names its reference number.
 #[derive(Clone, Copy, Debug, PartialEq, Eq)]
 pub enum Sent {

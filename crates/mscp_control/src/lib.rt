@@ -14,8 +14,8 @@ mod tests;
 
 pub use crate::config::{Config, ConfigFault};
 pub use crate::controller::Controller;
-pub use crate::event::{Entry, Event, SendFault, Sent};
+pub use crate::event::{Entry, Event, SendFault, Sent, Stale};
 pub use crate::law::{controllers_keep_the_promise, legal_traces_make_progress};
 pub use crate::memory::OutOfMemory;
 pub use crate::running::run;
-pub use mscp_queue::{Block, Choice, FaultStatus, Oldest, Picker, Report, Sweep, View};
+pub use mscp_queue::{Block, Choice, FaultStatus, Oldest, Picker, Report, Sweep, Upcoming, View};

@@ -1,12 +1,15 @@
 -- A command that is aborted is taken out of those that wait, and no other.
-use Rattle.std.proofs.Common.{◌≡◌, ◌≢◌, ⊎_elim, ℕ, ◌+◌, ◌<◌, ◌≤◌, Bool, true, false, cond, not, List, [], ◌∷◌, ◌++◌, length, ap, sym, ◌∙◌, subst, arith}
-use Rattle.std.specs.Prelude.{filter, find, option_to_list, remove, unwrap_or, is_some, Some, None}
+use Rattle.std.proofs.Common.{◌≡◌, ◌≢◌, ⊎_elim, ℕ, ◌+◌, ◌<◌, ◌≤◌, Bool, true, false, cond, not, List, [], ◌∷◌, ◌++◌, length, refl, ap, sym, ◌∙◌, subst, arith}
+use Rattle.std.specs.Prelude.{filter, find, option_to_list, nat_eq, remove, slice_index_or, unwrap_or, is_some, if◌then◌else◌, Option, Some, None}
 use Rattle.std.specs.List.{AllByRecursion, position}
 use Rattle.std.proofs.lemmas.Bool.{eqb-true, false≢true, ne_eqb, true≢false}
 use Rattle.std.proofs.lemmas.List.{get_or_at, length-append, map-append}
 use Rattle.std.proofs.lemmas.List.Elements.{All-from_recursion, filter-append, recursion_from_All}
 use Rattle.mscp_queue.specs.declared.drive.Drive.{Drive}
-use Rattle.mscp_queue.specs.Kept.{AreApart, IsHeld, IsKept, names, units_of}
+use Rattle.mscp_queue.specs.Kept.{AreApart, IsHeld, IsKept, IsStillServable, names, units_of}
+use Rattle.mscp_queue.specs.Names.{Name}
+use Rattle.mscp_queue.specs.Serving.{is_begun}
+use Rattle.mscp_queue.proofs.Begun.{still_aborted, still_begun}
 use Rattle.mscp_queue.specs.Records.{Record, has_reference, is_in_service, no_record, record_at, without}
 use Rattle.mscp_queue.proofs.Lists.{every_kept, every_weaker, fewer, filter_all, filter_none, filter_one}
 use Rattle.mscp_queue.proofs.Mapped.{removed_at}
@@ -106,6 +109,12 @@ found_once reference rs apart =
     ap (filter p) k.is ∙ (filter_one p A r B k.before k.own k.behind ∙ ap option_to_list (sym (ap (find p) k.is ∙ find_first p A r B k.before k.own))))
     (find_cases p rs)
 
+-- none passes a test where none is found
+missing : (p : Record → Bool) (rs : List Record) (place : ℕ) (d : Record) → find p rs ≡ None → place < length rs → p (slice_index_or rs place d) ≡ false
+missing p rs place d h l =
+    ⊎_elim (λ none. All-from_recursion (λ r. p r ≡ false) rs none place d l)
+    (λ some. let f = some.3 in absurd (true≢false (ap is_some (sym (find_first p some.0 some.1 some.2 f.before f.passes) ∙ (ap (find p) (sym f.is) ∙ h))))) (find_cases p rs)
+
 -- ---- what is true of each queue stays true
 
 names_kept : (p : Record → Bool) (P : ℕ → Type 0) (rs : List Record) → AllByRecursion P (names rs) → AllByRecursion P (names (filter p rs))
@@ -133,11 +142,13 @@ fewer_of {X} p q (x ∷ xs) =
     λ b. elim b as (λ b. length (filter p (cond b (x ∷ filter q xs) (filter q xs))) ≤ length (filter p (x ∷ xs))) [ true ↦ both true (p x) | false ↦ both false (p x) ] in
     split (q x)
 
-pub held_aborted : (room passing longest reference : ℕ) (rs new : List Record) (ds : List Drive) → IsHeld room passing longest rs ds → new ≡ without reference rs → IsHeld room passing longest new ds
-held_aborted room passing longest reference rs new ds h e =
+pub held_aborted : (room passing longest reference : ℕ) (rs new : List Record) (ds : List Drive) (begun : Option Name) → IsHeld room passing longest rs ds begun → new ≡ without reference rs
+    → IsHeld room passing longest new ds (if is_begun reference begun then None else begun)
+held_aborted room passing longest reference rs new ds begun h e =
     let keep : Record → Bool = λ z. not (has_reference reference z) in
     let K = IsKept passing longest (units_of ds) in
-    let all : IsHeld room passing longest (without reference rs) ds = record {
+    let left = if is_begun reference begun then None else begun in
+    let all : IsHeld room passing longest (without reference rs) ds left = record {
       some_room = h.some_room;
       few = h.few;
       some_blocks = h.some_blocks;
@@ -149,5 +160,21 @@ held_aborted room passing longest reference rs new ds h e =
       one = let o = h.one in omega (arith, fewer_of is_in_service keep rs);
       units = h.units;
       heads = h.heads;
+      still = λ name k. let b = still_begun reference begun name k in still_aborted passing reference rs name b.1 (h.still name b.0);
     } in
-    subst (λ zs. IsHeld room passing longest zs ds) (sym e) all
+    subst (λ zs. IsHeld room passing longest zs ds left) (sym e) all
+
+-- where nothing is aborted, what was begun stays
+pub none_aborted : (passing reference : ℕ) (rs : List Record) (begun : Option Name) → ((name : Name) → begun ≡ Some name → IsStillServable passing rs name) → find (has_reference reference) rs ≡ None
+    → begun ≡ (if is_begun reference begun then None else begun)
+none_aborted passing reference rs None s h = refl
+none_aborted passing reference rs (Some name) s h =
+    let w = s name refl in
+    let both : (b : Bool) → nat_eq name reference ≡ b → Some name ≡ (if b then None else Some name) =
+    λ b. elim b as (λ b. nat_eq name reference ≡ b → Some name ≡ (if b then None else Some name)) [
+      | true ↦ λ e.
+          let own : has_reference reference (record_at rs w.0) ≡ true = subst (λ n. has_reference n (record_at rs w.0) ≡ true) (eqb-true name reference e) w.2 in
+          absurd (true≢false (sym own ∙ missing (has_reference reference) rs w.0 no_record h w.1.inside))
+      | false ↦ λ e. refl
+    ] in
+    both (nat_eq name reference) refl

@@ -1,10 +1,10 @@
 -- What is true of each queue stays true.
 use Rattle.std.proofs.Common.{◌≡◌, ◌≢◌, ◌⊎◌, ⊎_elim, ℕ, ◌+◌, ◌*◌, ◌<◌, ◌≤◌, Bool, true, false, cond, ◌||◌, List, [], ◌∷◌, ◌++◌, map, length, refl, ap, sym, ◌∙◌, subst, arith}
-use Rattle.std.specs.Prelude.{All, filter, nat_lt, if◌then◌else◌}
-use Rattle.std.specs.List.{AllByRecursion, list_any}
+use Rattle.std.specs.Prelude.{All, filter, nat_lt, if◌then◌else◌, is_some, Option, None}
+use Rattle.std.specs.List.{AllByRecursion, list_any, refill}
 use Rattle.std.proofs.lemmas.List.{length-append, length-map, map-append}
 use Rattle.std.proofs.lemmas.List.Elements.{All-from_recursion, All-nil, filter-append, recursion_from_All}
-use Rattle.std.proofs.lemmas.Bool.{eqb-false, ltb-false, lt-ltb, true≢false}
+use Rattle.std.proofs.lemmas.Bool.{eqb-false, ltb-false, lt-ltb, false≢true, true≢false}
 use Rattle.mscp_packet.specs.declared.command.Command.{Command}
 use Rattle.mscp_packet.specs.declared.command.Order.{Order}
 use Rattle.mscp_packet.specs.declared.command.Order.TheVariants as orders
@@ -13,9 +13,13 @@ use Rattle.mscp_drive.specs.UnitList.{IsUnitList}
 use Rattle.mscp_queue.specs.declared.drive.Drive.{Drive}
 use Rattle.mscp_queue.specs.Drives.{IsOnUnit, fresh_drive, has_number, replaced}
 use Rattle.mscp_queue.specs.Kept.{AreApart, IsHeld, IsKept, IsWaitable, names, units_of}
+use Rattle.mscp_queue.specs.Names.{Name}
 use Rattle.mscp_queue.specs.Orders.{order_weight}
 use Rattle.mscp_queue.specs.Records.{Record, advanced, fresh_record, has_reference, is_in_service, passed_by}
 use Rattle.mscp_queue.proofs.Lists.{every_append, every_parts}
+use Rattle.mscp_queue.proofs.Mapped.{refilled}
+use Rattle.mscp_queue.proofs.Placed.{map_map}
+use Rattle.mscp_queue.proofs.Begun.{still_pushed}
 
 -- ---- nothing came
 
@@ -28,7 +32,7 @@ heads_fresh [] = tt
 heads_fresh (u ∷ us) = (omega arith, heads_fresh us)
 
 pub held_fresh : (room passing longest : ℕ) (us : List Shape) (rs : List Record) (ds : List Drive) → 1 ≤ room → room ≤ 63 → 1 ≤ longest → longest ≤ 8388608
-    → (room + passing) * longest ≤ 4294967295 → IsUnitList us → rs ≡ [] → ds ≡ map fresh_drive us → IsHeld room passing longest rs ds
+    → (room + passing) * longest ≤ 4294967295 → IsUnitList us → rs ≡ [] → ds ≡ map fresh_drive us → IsHeld room passing longest rs ds None
 held_fresh room passing longest us rs ds a b c d e u n f =
     record {
       some_room = a;
@@ -42,7 +46,20 @@ held_fresh room passing longest us rs ds a b c d e u n f =
       one = subst (λ rs. length (filter is_in_service rs) ≤ 1) (sym n) (omega arith);
       units = subst IsUnitList (sym (ap units_of f ∙ units_fresh us)) u;
       heads = subst (All IsOnUnit) (sym f) (All-from_recursion IsOnUnit (map fresh_drive us) (heads_fresh us));
+      still = λ name k. absurd (false≢true (ap is_some k));
     }
+
+-- ---- a reset
+
+-- the drives are as new
+pub renewed : (ds ws : List Drive) → ws ≡ map (λ d. fresh_drive d.unit) ds → refill (length ds) ds ws ≡ map fresh_drive (units_of ds)
+renewed ds ws e = refilled ds ws (ap length e ∙ length-map ds (λ (d : Drive). fresh_drive d.unit)) ∙ (e ∙ sym (map_map (λ (d : Drive). d.unit) fresh_drive ds))
+
+pub held_renewed : (room passing longest : ℕ) (rs new : List Record) (ds ds' : List Drive) (begun : Option Name) → IsHeld room passing longest rs ds begun → new ≡ [] → ds' ≡ map fresh_drive (units_of ds)
+    → IsHeld room passing longest new ds' None
+held_renewed room passing longest rs new ds ds' begun h n e =
+    let s = h.small in
+    held_fresh room passing longest (units_of ds) new ds' h.some_room h.few h.some_blocks h.short (omega arith) h.units n e
 
 -- ---- a command comes
 
@@ -75,16 +92,16 @@ none_has reference (r ∷ rs) h =
     let p = or_parts (has_reference reference r) (list_any (has_reference reference) rs) h in
     ((λ e. eqb-false r.command.reference reference p.0 (sym e)), none_has reference rs p.1)
 
-pub held_pushed : (room passing longest : ℕ) (rs new : List Record) (ds : List Drive) (c : Command) → IsHeld room passing longest rs ds → length rs < room → IsWaitable longest (units_of ds) c
-    → list_any (has_reference c.reference) rs ≡ false → new ≡ rs ++ fresh_record c ∷ [] → IsHeld room passing longest new ds
-held_pushed room passing longest rs new ds c h l w n e =
+pub held_pushed : (room passing longest : ℕ) (rs new : List Record) (ds : List Drive) (begun : Option Name) (c : Command) → IsHeld room passing longest rs ds begun → length rs < room → IsWaitable longest (units_of ds) c
+    → list_any (has_reference c.reference) rs ≡ false → new ≡ rs ++ fresh_record c ∷ [] → IsHeld room passing longest new ds begun
+held_pushed room passing longest rs new ds begun c h l w n e =
     let K = IsKept passing longest (units_of ds) in
     let r = fresh_record c in
     let kept : All K (rs ++ r ∷ []) =
     All-from_recursion K (rs ++ r ∷ []) (every_append K rs (r ∷ []) (recursion_from_All K rs h.each) (fresh_kept passing longest (units_of ds) c w, tt)) in
     let numbers : names (rs ++ r ∷ []) ≡ names rs ++ c.reference ∷ [] = map-append (λ (q : Record). q.command.reference) rs (r ∷ []) in
     let serving : filter is_in_service (rs ++ r ∷ []) ≡ filter is_in_service rs ++ [] = filter-append is_in_service rs (r ∷ []) in
-    let all : IsHeld room passing longest (rs ++ r ∷ []) ds =
+    let all : IsHeld room passing longest (rs ++ r ∷ []) ds begun =
     record {
       some_room = h.some_room;
       few = h.few;
@@ -97,8 +114,9 @@ held_pushed room passing longest rs new ds c h l w n e =
       one = let o = h.one in omega (arith, ap length serving, length-append (filter is_in_service rs) []);
       units = h.units;
       heads = h.heads;
+      still = λ name k. still_pushed passing rs name r refl (h.still name k);
     } in
-    subst (λ zs. IsHeld room passing longest zs ds) (sym e) all
+    subst (λ zs. IsHeld room passing longest zs ds begun) (sym e) all
 
 -- ---- a step
 
@@ -185,9 +203,9 @@ pub record IsTurn (passing n : ℕ) (A : List Record) (r : Record) (B own : List
   pub affordable : AllByRecursion (λ z. z.passes + n ≤ passing) A
   pub left : IsLeft r own
 
-pub held_turn : (room passing longest n : ℕ) (A : List Record) (r : Record) (B own : List Record) (ds ds' : List Drive) → IsHeld room passing longest (A ++ r ∷ B) ds → IsTurn passing n A r B own
-    → units_of ds' ≡ units_of ds → All IsOnUnit ds' → IsHeld room passing longest (map (passed_by n) A ++ (own ++ B)) ds'
-held_turn room passing longest n A r B own ds ds' h t u heads =
+pub held_turn : (room passing longest n : ℕ) (A : List Record) (r : Record) (B own : List Record) (ds ds' : List Drive) (begun : Option Name) → IsHeld room passing longest (A ++ r ∷ B) ds begun → IsTurn passing n A r B own
+    → units_of ds' ≡ units_of ds → All IsOnUnit ds' → IsHeld room passing longest (map (passed_by n) A ++ (own ++ B)) ds' None
+held_turn room passing longest n A r B own ds ds' begun h t u heads =
     let K = IsKept passing longest (units_of ds) in
     let new = map (passed_by n) A ++ (own ++ B) in
     let parts = every_parts K A (r ∷ B) (recursion_from_All K (A ++ r ∷ B) h.each) in
@@ -215,6 +233,7 @@ held_turn room passing longest n A r B own ds ds' h t u heads =
       one = omega (arith, ap length serving, length-append (filter is_in_service (map (passed_by n) A)) (filter is_in_service (own ++ B)), ap length serving_own, length-append (filter is_in_service own) (filter is_in_service B), none_front, none_back, own_serving own few);
       units = subst IsUnitList (sym u) h.units;
       heads = heads;
+      still = λ name k. absurd (false≢true (ap is_some k));
     }
 
 -- ---- the drives

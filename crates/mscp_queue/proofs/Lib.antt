@@ -4,6 +4,7 @@ pub mod Mapped
 pub mod Fronts
 pub mod Starting
 pub mod Sums
+pub mod Begun
 pub mod Held
 pub mod Turns
 pub mod Nexts

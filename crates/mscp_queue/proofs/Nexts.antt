@@ -1,15 +1,18 @@
--- Which record is served next: that in service, or else one that may be picked.
-use Rattle.std.proofs.Common.{◌≡◌, ⊎_elim, ℕ, ◌<◌, Bool, true, false, List, ◌∷◌, length, ap, sym, ◌∙◌, arith}
-use Rattle.std.specs.Prelude.{All, is_some, unwrap_or, Some, None}
-use Rattle.std.specs.List.{position}
+-- Which record is served next: what was begun, or else that in service, or else one that may be picked.
+use Rattle.std.proofs.Common.{◌≡◌, ◌≢◌, ⊎_elim, ℕ, zero, suc, ◌<◌, Bool, true, false, List, [], ◌∷◌, length, refl, ap, sym, ◌∙◌, subst, arith}
+use Rattle.std.specs.Prelude.{All, IfNone, IfSome, is_some, unwrap_or, Option, Some, None}
+use Rattle.std.specs.List.{AllByRecursion, position}
 use Rattle.std.proofs.lemmas.List.{get_or_at, length-append}
 use Rattle.std.proofs.lemmas.List.Elements.{All-from_recursion}
 use Rattle.std.proofs.lemmas.Bool.{eqb-true, false≢true, ltb-false, ltb-true, true≢false}
 use Rattle.mscp_queue.specs.declared.drive.Drive.{Drive}
 use Rattle.mscp_queue.specs.declared.view.Choice.{Choice}
-use Rattle.mscp_queue.specs.Records.{Record, is_in_service, is_unstarted, no_record, record_at}
-use Rattle.mscp_queue.specs.Serving.{IsNext}
+use Rattle.mscp_queue.specs.Kept.{AreApart, IsStillServable, names}
+use Rattle.mscp_queue.specs.Names.{Name}
+use Rattle.mscp_queue.specs.Records.{Record, has_reference, is_in_service, is_unstarted, no_record, record_at}
+use Rattle.mscp_queue.specs.Serving.{IsNext, IsServable}
 use Rattle.mscp_queue.specs.Views.{IsPick}
+use Rattle.mscp_queue.proofs.Begun.{picked_opens}
 use Rattle.mscp_queue.proofs.Lists.{every_weaker}
 use Rattle.mscp_queue.proofs.Placed.{find_cases, position_first, position_none}
 
@@ -29,17 +32,32 @@ found_at p rs place h =
     ))
     (find_cases p rs)
 
+none_begun : (begun : Option Name) (name : Name) → begun ≡ None → begun ≡ Some name → ⊥
+none_begun begun name n e = true≢false (ap is_some (sym e ∙ n))
+
+some_is : (x y : Name) → Some x ≡ Some y → x ≡ y
+some_is x y e = ap (λ o. unwrap_or o x) e
+
+others_differ : (name : Name) (rs : List Record) (i : ℕ) → AllByRecursion (λ y. y ≢ name) (names rs) → i < length rs → (record_at rs i).command.reference ≢ name
+others_differ name [] i h l = λ e. absurd (omega (arith, l))
+others_differ name (r ∷ rs) zero h l = h.0
+others_differ name (r ∷ rs) (suc i) h l = others_differ name rs i h.1 (omega (arith, l))
+
 not_unstarted : (r : Record) → is_in_service r ≡ true → is_unstarted r ≡ true → r.done < r.done
 not_unstarted r h e = let a = ltb-true 0 r.done h in let b = eqb-true r.done 0 e in omega arith
 
 -- the record in service is next
-pub serving_next : (picks : List Choice → ℕ → Type 0) (passing : ℕ) (ds : List Drive) (rs : List Record) (place : ℕ) → position is_in_service rs ≡ Some place → IsNext picks passing ds rs place
-serving_next picks passing ds rs place h =
+pub serving_next : (picks : List Choice → ℕ → Type 0) (passing : ℕ) (ds : List Drive) (rs : List Record) (begun : Option Name) (place : ℕ) → begun ≡ None → position is_in_service rs ≡ Some place → IsNext picks passing ds rs begun place
+serving_next picks passing ds rs begun place n h =
     let f = found_at is_in_service rs place h in
     record {
-      inside = f.0;
-      idle = λ e. absurd (omega (arith, not_unstarted (record_at rs place) f.1 e));
-      picked = λ e. absurd (omega (arith, not_unstarted (record_at rs place) f.1 e));
+      servable = record {
+        inside = f.0;
+        idle = λ e. absurd (omega (arith, not_unstarted (record_at rs place) f.1 e));
+        opens = λ e. absurd (omega (arith, not_unstarted (record_at rs place) f.1 e));
+      };
+      same = λ name e. absurd (none_begun begun name n e);
+      picked = λ b e. absurd (omega (arith, not_unstarted (record_at rs place) f.1 e));
     }
 
 -- where none is, all are idle
@@ -52,5 +70,53 @@ none_serving rs h =
     absurd (true≢false (ap is_some (sym (position_first is_in_service some.0 some.1 some.2 f.before f.passes) ∙ (ap (position is_in_service) (sym f.is) ∙ h)))))
     (find_cases is_in_service rs)
 
-pub picked_next : (picks : List Choice → ℕ → Type 0) (passing : ℕ) (ds : List Drive) (rs : List Record) (place : ℕ) → position is_in_service rs ≡ None → place < length rs → IsPick picks passing ds rs place → IsNext picks passing ds rs place
-picked_next picks passing ds rs place h l p = record { inside = l; idle = λ e. none_serving rs h; picked = λ e. p }
+-- where none is, the record that is picked is
+pub picked_next : (picks : List Choice → ℕ → Type 0) (passing : ℕ) (ds : List Drive) (rs : List Record) (begun : Option Name) (place : ℕ) → begun ≡ None → position is_in_service rs ≡ None → place < length rs
+    → IsPick picks passing ds rs place → IsNext picks passing ds rs begun place
+picked_next picks passing ds rs begun place n h l p =
+    record {
+      servable = record { inside = l; idle = λ e. none_serving rs h; opens = λ e. picked_opens picks passing ds rs place p };
+      same = λ name e. absurd (none_begun begun name n e);
+      picked = λ b e. p;
+    }
+
+-- ---- what was begun
+
+-- a name stands at one place
+once : (rs : List Record) (i j : ℕ) → AreApart (names rs) → i < length rs → j < length rs → (record_at rs i).command.reference ≡ (record_at rs j).command.reference → i ≡ j
+once [] i j a k l e = absurd (omega (arith, k))
+once (r ∷ rs) zero zero a k l e = refl
+once (r ∷ rs) zero (suc j) a k l e = absurd (others_differ r.command.reference rs j a.0 (omega (arith, l)) (sym e))
+once (r ∷ rs) (suc i) zero a k l e = absurd (others_differ r.command.reference rs i a.0 (omega (arith, k)) e)
+once (r ∷ rs) (suc i) (suc j) a k l e = ap suc (once rs i j a.1 (omega (arith, k)) (omega (arith, l)) e)
+
+-- the record of what was begun is next
+begun_next : (picks : List Choice → ℕ → Type 0) (passing : ℕ) (ds : List Drive) (rs : List Record) (begun : Option Name) (name : Name) (place : ℕ) → AreApart (names rs) → begun ≡ Some name → IsStillServable passing rs name
+    → position (has_reference name) rs ≡ Some place → IsNext picks passing ds rs begun place
+begun_next picks passing ds rs begun name place a b s h =
+    let f = found_at (has_reference name) rs place h in
+    let number : (i : ℕ) → has_reference name (record_at rs i) ≡ true → (record_at rs i).command.reference ≡ name = λ i. eqb-true (record_at rs i).command.reference name in
+    let here : s.0 ≡ place = once rs s.0 place a s.1.inside f.0 (number s.0 s.2 ∙ sym (number place f.1)) in
+    record {
+      servable = subst (IsServable passing rs) here s.1;
+      same = λ other e. subst (λ n. has_reference n (record_at rs place) ≡ true) (some_is name other (sym b ∙ e)) f.1;
+      picked = λ n e. absurd (none_begun begun name n b);
+    }
+
+-- and it is found
+begun_found : (passing : ℕ) (rs : List Record) (name : Name) → IsStillServable passing rs name → position (has_reference name) rs ≡ None → ⊥
+begun_found passing rs name s h =
+    ⊎_elim
+    (λ none. true≢false (sym s.2 ∙ All-from_recursion (λ r. has_reference name r ≡ false) rs none s.0 no_record s.1.inside))
+    (λ some. let f = some.3 in true≢false (ap is_some (sym (position_first (has_reference name) some.0 some.1 some.2 f.before f.passes) ∙ (ap (position (has_reference name)) (sym f.is) ∙ h))))
+    (find_cases (has_reference name) rs)
+
+-- what is found of what was begun
+pub record Finds (picks : List Choice → ℕ → Type 0) (passing : ℕ) (ds : List Drive) (rs : List Record) (begun : Option Name) (o : Option ℕ) : Type 0 where
+  pub none : IfNone o (rs ≡ [])
+  pub some : IfSome o (λ place. IsNext picks passing ds rs begun place)
+
+pub finds_begun : (picks : List Choice → ℕ → Type 0) (passing : ℕ) (ds : List Drive) (rs : List Record) (begun : Option Name) (name : Name) (o : Option ℕ) → AreApart (names rs) → begun ≡ Some name → IsStillServable passing rs name
+    → o ≡ position (has_reference name) rs → Finds picks passing ds rs begun o
+finds_begun picks passing ds rs begun name None a b s h = absurd (begun_found passing rs name s (sym h))
+finds_begun picks passing ds rs begun name (Some place) a b s h = record { none = tt; some = begun_next picks passing ds rs begun name place a b s (sym h) }

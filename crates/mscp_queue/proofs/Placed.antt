@@ -1,9 +1,9 @@
 -- Lists cut at a place, and lists that a function makes of others.
-use Rattle.std.proofs.Common.{◌≡◌, ◌⊎◌, inl, inr, ℕ, ◌+◌, Bool, true, false, cond, not, List, [], ◌∷◌, ◌++◌, map, take, drop, get_or, length, refl, ap, sym, ◌∙◌, append_assoc, arith}
+use Rattle.std.proofs.Common.{◌≡◌, ◌⊎◌, inl, inr, ℕ, ◌+◌, ◌<◌, Bool, true, false, cond, not, List, [], ◌∷◌, ◌++◌, map, take, drop, get_or, length, refl, ap, sym, ◌∙◌, append_assoc, arith}
 use Rattle.std.specs.Prelude.{filter, find, nat_lt, sum_by, Some, None}
 use Rattle.std.specs.List.{AllByRecursion, position, position_or_len}
 use Rattle.std.proofs.lemmas.Bool.{lt-ltb, le-ltb}
-use Rattle.std.proofs.lemmas.List.{get_or_at, take_at, drop_at, length-append}
+use Rattle.std.proofs.lemmas.List.{drop_at, drop_more, get_or_at, length-append, take-append-drop, take_at}
 use Rattle.std.proofs.lemmas.List.Sums.{sum_by-cons}
 
 pub map_on : {X Y : Type 0} (f g : X → Y) (xs : List X) → AllByRecursion (λ x. f x ≡ g x) xs → map f xs ≡ map g xs
@@ -40,6 +40,10 @@ at_place {X} xs front x back k d e l =
       before = ap (take k) e ∙ take_at front (x ∷ back) k l;
       behind = ap (drop (k + 1)) one ∙ drop_at (front ++ x ∷ []) back (k + 1) more;
     }
+
+-- a list is cut at each of its places
+pub cut_at : {X : Type 0} (d : X) (xs : List X) (place : ℕ) → place < length xs → xs ≡ take place xs ++ get_or xs place d ∷ drop (place + 1) xs
+cut_at d xs place l = sym (take-append-drop place xs) ∙ ap (λ zs. take place xs ++ zs) (drop_more xs place d l)
 
 -- ---- the first element that passes a test
 

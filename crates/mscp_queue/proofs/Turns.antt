@@ -1,8 +1,7 @@
 -- A step of the record that may be served next is a turn among the others, and leaves each head on its unit.
 use Rattle.std.proofs.Common.{◌≡◌, inl, inr, ℕ, suc, ◌+◌, ◌<◌, ◌≤◌, Bool, true, false, cond, ◌&&◌, List, [], ◌∷◌, ◌++◌, map, take, drop, length, refl, ap, sym, ◌∙◌, subst, arith, append_assoc}
-use Rattle.std.specs.Prelude.{All, filter, find, nat_eq, nat_le, nat_lt, if◌then◌else◌, is_some, slice_index_or, unwrap_or, Option, Some, None}
-use Rattle.std.specs.List.{AllByRecursion, list_all, range_with_len}
-use Rattle.std.proofs.lemmas.List.{drop_more, take-append-drop}
+use Rattle.std.specs.Prelude.{filter, find, nat_eq, nat_le, nat_lt, if◌then◌else◌, is_some, slice_index_or, unwrap_or, Option, Some, None}
+use Rattle.std.specs.List.{AllByRecursion}
 use Rattle.std.proofs.lemmas.List.Elements.{All-from_recursion, recursion_from_All}
 use Rattle.std.proofs.lemmas.Bool.{and_parts, eq-eqb, eqb-false, eqb-true, leb-true, ltb-true, ne_eqb, false≢true, true≢false}
 use Rattle.mscp_packet.specs.declared.command.Command.{Command}
@@ -13,36 +12,17 @@ use Rattle.mscp_drive.specs.Shape.{Shape}
 use Rattle.mscp_drive.specs.UnitList.{IsUnitList, NumbersRise, unit_found}
 use Rattle.mscp_queue.specs.declared.block.Block.{Block}
 use Rattle.mscp_queue.specs.declared.drive.Drive.{Drive}
-use Rattle.mscp_queue.specs.declared.view.Choice.{Choice}
 use Rattle.mscp_queue.specs.Outcomes.{goes_on, is_good_block, outcome_at, touches}
+use Rattle.mscp_queue.specs.Names.{Name}
 use Rattle.mscp_queue.specs.Orders.{first_block, is_move, order_weight}
 use Rattle.mscp_queue.specs.Drives.{IsOnUnit, drive_of, fresh_drive, has_number, one_block, replaced}
 use Rattle.mscp_queue.specs.Kept.{IsHeld, IsInside, IsKept, units_of}
 use Rattle.mscp_queue.specs.Records.{Record, advanced, step_toll, is_in_service, is_unstarted, left_of, no_record, passed_by, record_at}
-use Rattle.mscp_queue.specs.Serving.{IsNext, drive_after, end_given, touched}
-use Rattle.mscp_queue.specs.Views.{IsPick, is_affordable, is_free, is_open_at, open_places}
-use Rattle.mscp_queue.proofs.Lists.{Pairs, every_filter, every_from, every_mapped, every_parts, every_weaker, pairs_middle}
-use Rattle.mscp_queue.proofs.Placed.{find_first}
+use Rattle.mscp_queue.specs.Serving.{IsServable, drive_after, end_given, touched}
+use Rattle.mscp_queue.specs.Views.{is_affordable, is_free, is_open_at}
+use Rattle.mscp_queue.proofs.Lists.{Pairs, every_mapped, every_of, every_parts, every_weaker, pairs_middle}
+use Rattle.mscp_queue.proofs.Placed.{cut_at, find_first}
 use Rattle.mscp_queue.proofs.Held.{AreIdle, IsLeft, IsTurn, held_turn, heads_replaced, others_idle, units_replaced}
-
--- ---- a list at a place
-
-pub cut_at : (rs : List Record) (place : ℕ) → place < length rs → rs ≡ take place rs ++ record_at rs place ∷ drop (place + 1) rs
-cut_at rs place l = sym (take-append-drop place rs) ∙ ap (λ zs. take place rs ++ zs) (drop_more rs place no_record l)
-
-every_of : {X : Type 0} (p : X → Bool) (xs : List X) → list_all p xs ≡ true → AllByRecursion (λ x. p x ≡ true) xs
-every_of p [] h = tt
-every_of p (x ∷ xs) h = let b = and_parts (p x) (list_all p xs) h in (b.0, every_of p xs b.1)
-
--- each place of the view may start
-opened : (passing : ℕ) (rs : List Record) → All (λ place. is_open_at passing rs place ≡ true) (open_places passing rs)
-opened passing rs =
-    All-from_recursion (λ place. is_open_at passing rs place ≡ true) (open_places passing rs)
-    (every_weaker (λ place. Unit {0} × (is_open_at passing rs place ≡ true)) (λ place. is_open_at passing rs place ≡ true) (λ place h. h.1) (open_places passing rs)
-    (every_filter (λ place. Unit {0}) (is_open_at passing rs) (range_with_len 0 (length rs)) (every_from (λ place. Unit {0}) (λ place. tt) (range_with_len 0 (length rs)))))
-
-picked_opens : (picks : List Choice → ℕ → Type 0) (passing : ℕ) (ds : List Drive) (rs : List Record) (place : ℕ) → IsPick picks passing ds rs place → is_open_at passing rs place ≡ true
-picked_opens picks passing ds rs place h = subst (λ p. is_open_at passing rs p ≡ true) h.2 (opened passing rs h.0 0 h.1)
 
 -- none of those in front is passed too often by a start that may be picked
 front_affordable : (passing : ℕ) (rs : List Record) (place : ℕ) → is_open_at passing rs place ≡ true → AllByRecursion (λ z. z.passes + 1 ≤ passing) (take place rs)
@@ -73,14 +53,14 @@ more_left k d r None h =
     let more = ltb-true 1 (left_of r) (last_of (touches d.online r.command.order) (is_good_block k) (nat_lt 1 (left_of r)) (when goes h)) in
     record { left = inr (refl, omega arith) }
 
-pub next_turn : (room passing longest place : ℕ) (picks : List Choice → ℕ → Type 0) (rs : List Record) (ds : List Drive) (k : Block) (d : Drive) → IsHeld room passing longest rs ds
-    → IsNext picks passing ds rs place
+pub next_turn : (room passing longest place : ℕ) (rs : List Record) (ds : List Drive) (begun : Option Name) (k : Block) (d : Drive) → IsHeld room passing longest rs ds begun
+    → IsServable passing rs place
     → IsTurn passing (step_toll (record_at rs place)) (take place rs) (record_at rs place) (drop (place + 1) rs) (cond (is_some (end_given k d (record_at rs place))) [] (advanced (record_at rs place) ∷ []))
-next_turn room passing longest place picks rs ds k d h n =
+next_turn room passing longest place rs ds begun k d h n =
     let r = record_at rs place in
     let A = take place rs in
     let B = drop (place + 1) rs in
-    let cut = cut_at rs place n.inside in
+    let cut = cut_at no_record rs place n.inside in
     let left = more_left k d r (end_given k d r) refl in
     let own = cond (is_some (end_given k d r)) [] (advanced r ∷ []) in
     let kept = (every_parts (IsKept passing longest (units_of ds)) A (r ∷ B) (subst (AllByRecursion (IsKept passing longest (units_of ds))) cut (recursion_from_All (IsKept passing longest (units_of ds)) rs h.each))).0 in
@@ -88,7 +68,7 @@ next_turn room passing longest place picks rs ds k d h n =
     λ b. elim b as (λ b. is_unstarted r ≡ b → IsTurn passing (cond b 1 0) A r B own) [
       | true ↦ λ e.
           let idle = every_parts (λ z. z.done ≡ 0) A (r ∷ B) (subst AreIdle cut (recursion_from_All (λ z. z.done ≡ 0) rs (n.idle e))) in
-          record { before = idle.0; behind = idle.1.1; affordable = front_affordable passing rs place (picked_opens picks passing ds rs place (n.picked e)); left = left }
+          record { before = idle.0; behind = idle.1.1; affordable = front_affordable passing rs place (n.opens e); left = left }
       | false ↦ λ e.
           let some = eqb-false r.done 0 e in
           let one = h.one in
@@ -181,22 +161,22 @@ touched_inside passing longest ds r d e k lbn h =
 
 -- ---- the whole step
 
-pub held_served : (room passing longest place : ℕ) (picks : List Choice → ℕ → Type 0) (rs new : List Record) (ds ds' : List Drive) (k : Block) (d d' : Drive) → IsHeld room passing longest rs ds
-    → IsNext picks passing ds rs place → d ≡ drive_of ds (record_at rs place).command.unit → d' ≡ drive_after k d (record_at rs place) → IsOnUnit d'
+pub held_served : (room passing longest place : ℕ) (rs new : List Record) (ds ds' : List Drive) (begun : Option Name) (k : Block) (d d' : Drive) → IsHeld room passing longest rs ds begun
+    → IsServable passing rs place → d ≡ drive_of ds (record_at rs place).command.unit → d' ≡ drive_after k d (record_at rs place) → IsOnUnit d'
     → new ≡ map (passed_by (step_toll (record_at rs place))) (take place rs) ++ (cond (is_some (end_given k d (record_at rs place))) [] (advanced (record_at rs place) ∷ []) ++ drop (place + 1) rs)
-    → ds' ≡ replaced (record_at rs place).command.unit d' ds → IsHeld room passing longest new ds'
-held_served room passing longest place picks rs new ds ds' k d d' h n e f on w v =
+    → ds' ≡ replaced (record_at rs place).command.unit d' ds → IsHeld room passing longest new ds' None
+held_served room passing longest place rs new ds ds' begun k d d' h n e f on w v =
     let r = record_at rs place in
     let number = r.command.unit in
-    let cut = cut_at rs place n.inside in
+    let cut = cut_at no_record rs place n.inside in
     let unit : d'.unit ≡ (drive_of ds number).unit = ap (λ (q : Drive). q.unit) f ∙ ap (λ (q : Drive). q.unit) e in
     let same = every_weaker (λ q. has_number number q ≡ true → q.unit ≡ (drive_of ds number).unit) (λ q. has_number number q ≡ true → q.unit ≡ d'.unit) (λ q g b. g b ∙ sym unit) ds (units_same number ds h.units) in
     let heads = All-from_recursion IsOnUnit (replaced number d' ds) (heads_replaced number d' ds on (recursion_from_All IsOnUnit ds h.heads)) in
-    let turn = next_turn room passing longest place picks rs ds k d h n in
-    subst (λ zs. IsHeld room passing longest new zs) (sym v)
-    (subst (λ zs. IsHeld room passing longest zs (replaced number d' ds)) (sym w)
-    (held_turn room passing longest (step_toll r) (take place rs) r (drop (place + 1) rs) (cond (is_some (end_given k d r)) [] (advanced r ∷ [])) ds (replaced number d' ds)
-    (subst (λ zs. IsHeld room passing longest zs ds) cut h) turn (units_replaced number d' ds same) heads))
+    let turn = next_turn room passing longest place rs ds begun k d h n in
+    subst (λ zs. IsHeld room passing longest new zs None) (sym v)
+    (subst (λ zs. IsHeld room passing longest zs (replaced number d' ds) None) (sym w)
+    (held_turn room passing longest (step_toll r) (take place rs) r (drop (place + 1) rs) (cond (is_some (end_given k d r)) [] (advanced r ∷ [])) ds (replaced number d' ds) begun
+    (subst (λ zs. IsHeld room passing longest zs ds begun) cut h) turn (units_replaced number d' ds same) heads))
 
 head_found : (n : ℕ) (ds : List Drive) → AllByRecursion IsOnUnit ds → IsOnUnit (drive_of ds n)
 head_found n [] h = omega arith
@@ -205,23 +185,23 @@ head_found n (d ∷ ds) h =
     elim (has_number n d) as (λ b. IsOnUnit (unwrap_or (cond b (Some d) (find (has_number n) ds)) (fresh_drive one_block))) [ true ↦ h.0 | false ↦ rest ]
 
 -- the drive that is found has its head on its unit
-pub head_kept : (room passing longest n : ℕ) (rs : List Record) (ds : List Drive) → IsHeld room passing longest rs ds → IsOnUnit (drive_of ds n)
-head_kept room passing longest n rs ds h = head_found n ds (recursion_from_All IsOnUnit ds h.heads)
+pub head_kept : (room passing longest n : ℕ) (rs : List Record) (ds : List Drive) (begun : Option Name) → IsHeld room passing longest rs ds begun → IsOnUnit (drive_of ds n)
+head_kept room passing longest n rs ds begun h = head_found n ds (recursion_from_All IsOnUnit ds h.heads)
 
 -- the same as it is found out, step by step
-pub held_step : (room passing longest place : ℕ) (picks : List Choice → ℕ → Type 0) (rs new : List Record) (ds ds' : List Drive) (k : Block) (r : Record) (command : Command) (d d' : Drive)
-    (e : Option End) (ends : Bool) (toll : ℕ) → IsHeld room passing longest rs ds → IsNext picks passing ds rs place → r ≡ record_at rs place → command ≡ r.command → d ≡ drive_of ds command.unit
+pub held_step : (room passing longest place : ℕ) (rs new : List Record) (ds ds' : List Drive) (begun : Option Name) (k : Block) (r : Record) (command : Command) (d d' : Drive)
+    (e : Option End) (ends : Bool) (toll : ℕ) → IsHeld room passing longest rs ds begun → IsServable passing rs place → r ≡ record_at rs place → command ≡ r.command → d ≡ drive_of ds command.unit
     → e ≡ end_given k d r → ends ≡ is_some e → d' ≡ drive_after k d r → toll ≡ step_toll r
     → (((lbn : ℕ) → touched d r ≡ Some lbn → lbn < d.unit.size) → IsOnUnit d → IsOnUnit d')
     → new ≡ map (passed_by toll) (take place rs) ++ (cond ends [] (advanced (record_at rs place) ∷ []) ++ drop (place + 1) rs)
-    → ds' ≡ replaced command.unit d' ds → IsHeld room passing longest new ds'
-held_step room passing longest place picks rs new ds ds' k r command d d' e ends toll h n is of drive ended some after cost on w v =
+    → ds' ≡ replaced command.unit d' ds → IsHeld room passing longest new ds' None
+held_step room passing longest place rs new ds ds' begun k r command d d' e ends toll h n is of drive ended some after cost on w v =
     let own = advanced (record_at rs place) ∷ [] in
     let unit : command.unit ≡ (record_at rs place).command.unit = ap (λ (c : Command). c.unit) of ∙ ap (λ (r : Record). r.command.unit) is in
     let found = drive ∙ ap (drive_of ds) (ap (λ (c : Command). c.unit) of) in
     let kept : IsKept passing longest (units_of ds) r = subst (IsKept passing longest (units_of ds)) (sym is) (h.each place no_record n.inside) in
-    let head : IsOnUnit d = subst IsOnUnit (sym drive) (head_kept room passing longest command.unit rs ds h) in
-    held_served room passing longest place picks rs new ds ds' k d d' h n (drive ∙ ap (drive_of ds) unit) (after ∙ ap (drive_after k d) is) (on (touched_inside passing longest ds r d found kept) head)
+    let head : IsOnUnit d = subst IsOnUnit (sym drive) (head_kept room passing longest command.unit rs ds begun h) in
+    held_served room passing longest place rs new ds ds' begun k d d' h n (drive ∙ ap (drive_of ds) unit) (after ∙ ap (drive_after k d) is) (on (touched_inside passing longest ds r d found kept) head)
     (w ∙ (ap (λ t. map (passed_by t) (take place rs) ++ (cond ends [] own ++ drop (place + 1) rs)) (cost ∙ ap step_toll is)
     ∙ ap (λ b. map (passed_by (step_toll (record_at rs place))) (take place rs) ++ (cond b [] own ++ drop (place + 1) rs)) (some ∙ (ap is_some ended ∙ ap (λ r. is_some (end_given k d r)) is))))
     (v ∙ ap (λ u. replaced u d' ds) unit)

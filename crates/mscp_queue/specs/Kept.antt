@@ -1,5 +1,5 @@
 -- What is true of each queue, whatever came to it, that no step or push can change.
-use Rattle.std.specs.Prelude.{◌≡◌, ◌≢◌, ℕ, ◌+◌, ◌*◌, ◌^◌, ◌<◌, ◌≤◌, Bool, true, ◌||◌, is_some, unwrap_or, List, [], ◌∷◌, length, map, filter, All}
+use Rattle.std.specs.Prelude.{◌≡◌, ◌≢◌, ℕ, ◌+◌, ◌*◌, ◌^◌, ◌<◌, ◌≤◌, Bool, true, ◌||◌, is_some, unwrap_or, List, [], ◌∷◌, length, map, filter, All, Option, Some}
 use Rattle.std.specs.List.{AllByRecursion}
 use Rattle.mscp_packet.specs.declared.command.Command.{Command}
 use Rattle.mscp_packet.specs.declared.command.Order.{Order}
@@ -10,7 +10,8 @@ use Rattle.mscp_queue.specs.declared.drive.Drive.{Drive}
 use Rattle.mscp_queue.specs.Names.{Name, name_of}
 use Rattle.mscp_queue.specs.Orders.{first_block, is_move, is_sequential, order_weight}
 use Rattle.mscp_queue.specs.Drives.{IsOnUnit, one_block}
-use Rattle.mscp_queue.specs.Records.{Record, is_in_service}
+use Rattle.mscp_queue.specs.Records.{Record, has_reference, is_in_service, record_at}
+use Rattle.mscp_queue.specs.Serving.{IsServable}
 
 -- the units of drives
 abbrev pub units_of : List Drive → List Shape
@@ -57,8 +58,13 @@ abbrev pub AreApart : List Name → Type 0
 AreApart [] = Unit {0}
 AreApart (x ∷ xs) = AllByRecursion (λ y. y ≢ x) xs × AreApart xs
 
--- the limits, the waiting commands and the drives of a queue
-pub record IsHeld (room passing longest : ℕ) (rs : List Record) (ds : List Drive) : Type 0 where
+-- the command of this name waits, and may be served
+abbrev pub IsStillServable : ℕ → List Record → Name → Type 0
+IsStillServable passing rs name =
+    (place : ℕ) × IsServable passing rs place × (has_reference name (record_at rs place) ≡ true)
+
+-- the limits, the waiting commands and the drives of a queue, and what was begun
+pub record IsHeld (room passing longest : ℕ) (rs : List Record) (ds : List Drive) (begun : Option Name) : Type 0 where
   pub some_room : 1 ≤ room
   pub few : room ≤ 63
   pub some_blocks : 1 ≤ longest
@@ -74,3 +80,5 @@ pub record IsHeld (room passing longest : ℕ) (rs : List Record) (ds : List Dri
   pub units : IsUnitList (units_of ds)
   -- each head is on a cylinder of its unit
   pub heads : All IsOnUnit ds
+  -- what was begun waits and may be served: what comes later and what is aborted takes nothing from it
+  pub still : (name : Name) → begun ≡ Some name → IsStillServable passing rs name

@@ -1,5 +1,5 @@
 -- One step: what it does with a record and its drive, and which record it may serve.
-use Rattle.std.specs.Prelude.{◌≡◌, ℕ, ◌+◌, ◌<◌, Bool, true, if◌then◌else◌, List, ◌++◌, length, map, take, drop, All, Option, Some, None, option_map}
+use Rattle.std.specs.Prelude.{◌≡◌, ℕ, ◌+◌, ◌<◌, Bool, true, false, if◌then◌else◌, List, ◌++◌, length, map, take, drop, All, Option, Some, None, option_map}
 use Rattle.mscp_packet.specs.declared.command.Order.{Order}
 use Rattle.mscp_packet.specs.declared.end.End.{End}
 use Rattle.mscp_drive.specs.Shape.{cylinder_of}
@@ -8,11 +8,13 @@ use Rattle.mscp_queue.specs.declared.block.Block.{Block}
 use Rattle.mscp_queue.specs.declared.report.Report.{Report}
 use Rattle.mscp_queue.specs.declared.report.Report.TheVariants.{Served}
 use Rattle.mscp_queue.specs.declared.drive.Drive.{Drive}
+use Rattle.mscp_queue.specs.declared.upcoming.Upcoming.{Upcoming}
 use Rattle.mscp_queue.specs.declared.view.Choice.{Choice}
+use Rattle.mscp_queue.specs.Names.{Name, same_name}
 use Rattle.mscp_queue.specs.Outcomes.{block_touched, goes_on, head_after, outcome_at, state_after}
 use Rattle.mscp_queue.specs.Drives.{replaced}
-use Rattle.mscp_queue.specs.Records.{Record, drive_at, step_toll, is_unstarted, left_of, passed_by, record_at, remains}
-use Rattle.mscp_queue.specs.Views.{IsPick}
+use Rattle.mscp_queue.specs.Records.{Record, drive_at, has_reference, step_toll, is_unstarted, left_of, passed_by, record_at, remains}
+use Rattle.mscp_queue.specs.Views.{IsPick, is_open_at}
 
 -- ---- a record on its drive
 
@@ -58,12 +60,30 @@ waiting_after k d rs place =
     map (passed_by (step_toll (record_at rs place))) (take place rs)
     ++ (remains (record_at rs place) (end_given k d (record_at rs place)) ++ drop (place + 1) rs)
 
--- the record at a place may be served next: it is in service, or nothing is and the picker may pick it (profile)
-pub record IsNext (picks : List Choice → ℕ → Type 0) (passing : ℕ)
-    (ds : List Drive) (rs : List Record) (place : ℕ) : Type 0 where
+-- the record at a place may be served: it is in service, or nothing is and it may start (manual, the passing limit is
+-- the profile's)
+pub record IsServable (passing : ℕ) (rs : List Record) (place : ℕ) : Type 0 where
   pub inside : place < length rs
   pub idle : is_unstarted (record_at rs place) ≡ true → All (λ r. r.done ≡ 0) rs
-  pub picked : is_unstarted (record_at rs place) ≡ true → IsPick picks passing ds rs place
+  pub opens : is_unstarted (record_at rs place) ≡ true → is_open_at passing rs place ≡ true
+
+-- the command of this reference number was begun (profile)
+abbrev pub is_begun : ℕ → Option Name → Bool
+is_begun reference None = false
+is_begun reference (Some name) = same_name name reference
+
+-- the record at a place may be served next: it is what was begun, or nothing was, and it is in service or the picker
+-- may pick it (profile)
+pub record IsNext (picks : List Choice → ℕ → Type 0) (passing : ℕ)
+    (ds : List Drive) (rs : List Record) (begun : Option Name) (place : ℕ) : Type 0 where
+  pub servable : IsServable passing rs place
+  pub same : (name : Name) → begun ≡ Some name → has_reference name (record_at rs place) ≡ true
+  pub picked : begun ≡ None → is_unstarted (record_at rs place) ≡ true → IsPick picks passing ds rs place
+
+-- what is told of a record before its step: its command, the block that the step touches, and how many steps the command
+-- had and takes (profile)
+abbrev pub upcoming_of : Drive → Record → Upcoming
+upcoming_of d r = record { command = r.command; lbn = touched d r; done = r.done; weight = r.weight }
 
 -- the drives after a step of the record at a place: that of its unit has changed
 abbrev pub drives_after : Block → List Drive → List Record → ℕ → List Drive

@@ -52,6 +52,15 @@ pub(crate) fn drives_of(units: &[Unit]) -> ArrayVec<Drive, 16>
     drives
 }
 
+/// Each drive is as new.
+pub(crate) fn renew_drives(drives: &mut [Drive])
+    ensures { drives.new ≡ map (λ d. fresh_drive d.unit) drives.old }
+{
+    for drive in drives.iter_mut() {
+        *drive = Drive::new(drive.unit);
+    }
+}
+
 /// The drive of the unit with this number, if the unit is configured.
 pub(crate) fn find_drive(drives: &[Drive], number: u16) -> Option<&Drive>
     ensures { option_copied result ≡ find (has_number number) drives.now }

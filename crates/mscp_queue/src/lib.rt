@@ -15,6 +15,7 @@ mod start;
 #[cfg(test)]
 mod tests;
 mod turn;
+mod upcoming;
 mod view;
 
 pub use crate::block::{Block, FaultStatus};
@@ -24,4 +25,5 @@ pub use crate::picker::{Oldest, Picker, Sweep};
 pub use crate::queue::{Queue, Waiting};
 pub use crate::record::Record;
 pub use crate::report::Report;
+pub use crate::upcoming::Upcoming;
 pub use crate::view::{Choice, View};

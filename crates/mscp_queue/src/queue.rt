@@ -5,21 +5,22 @@ ghost use Rattle.std.specs.List.{list_any};
 ghost use Rattle.mscp_queue.specs.Drives.{is_online_in};
 ghost use Rattle.mscp_queue.specs.Figures.{figure_of_reference, figures};
 ghost use Rattle.mscp_queue.specs.Kept.{IsWaitable, units_of};
-ghost use Rattle.mscp_queue.specs.Lines.{Line, Serves, ServesAt, fresh, pushed};
+ghost use Rattle.mscp_queue.specs.Lines.{Begins, BeginsAt, Line, Serves, ServesAt, aborted, fresh, pushed};
 ghost use Rattle.mscp_queue.specs.Orders.{order_weight};
-ghost use Rattle.mscp_queue.specs.Records.{aborted_record, has_reference, without};
-ghost use Rattle.mscp_queue.specs.Serving.{IsNext};
+ghost use Rattle.mscp_queue.specs.Records.{aborted_record, has_reference};
+ghost use Rattle.mscp_queue.specs.Serving.{IsNext, is_begun};
 
 use crate::block::Block;
-use crate::drive::{Drive, drive_of, drives_of, replace_drive};
-use crate::figure::{figure_of_reference, figures};
+use crate::drive::{Drive, drive_of, drives_of, renew_drives, replace_drive};
+use crate::figure::{figure_of_reference, figures, place_of};
 use crate::outcome::aborted_end;
 use crate::picker::Picker;
 use crate::record::Record;
 use crate::report::Report;
-use crate::service::serve;
+use crate::service::{serve, upcoming};
 use crate::start::picked_place;
 use crate::turn::{leave, place_in_service, take_out};
+use crate::upcoming::Upcoming;
 use arrayvec::ArrayVec;
 use mscp_drive::Units;
 use mscp_packet::{Command, End, Order};
@@ -46,11 +47,12 @@ pub struct Queue<K> {
     longest: u32,
     waiting: ArrayVec<Record, 64>,
     drives: ArrayVec<Drive, 16>,
+    begun: Option<u32>,
     picker: K,
 }
 
-// A clause sees the limits, the waiting commands in order of arrival, the drives in the order of their units, and the
-// picker.
+// A clause sees the limits, the waiting commands in order of arrival, the drives in the order of their units, what was
+// begun, and the picker.
 impl<K> Model for Queue<K> {
     ghost use Rattle.mscp_queue.specs.Lines.{Line};
     ghost use Rattle.mscp_queue.specs.Kept.{IsHeld};
@@ -64,10 +66,11 @@ impl<K> Model for Queue<K> {
           longest = q.longest;
           waiting = q.waiting.items;
           drives = q.drives.items;
+          begun = q.begun;
           picker = q.picker;
         } };
 
-    ghost invariant = { λ q. IsHeld q.room q.passing q.longest q.waiting.items q.drives.items };
+    ghost invariant = { λ q. IsHeld q.room q.passing q.longest q.waiting.items q.drives.items q.begun };
 }
 
 impl<K: Picker> Queue<K> {
@@ -88,8 +91,19 @@ impl<K: Picker> Queue<K> {
             longest,
             waiting: ArrayVec::new(),
             drives,
+            begun: None,
             picker,
         }
+    }
+
+    /// Forgets all that came to it: it is as new, with the same units, limits and picker.
+    pub fn reset(&mut self)
+        ensures { self.new
+            ≡ fresh (units_of self.old.drives) self.old.room self.old.passing self.old.longest self.old.picker }
+    {
+        self.waiting.clear();
+        renew_drives(self.drives.as_mut_slice());
+        self.begun = None;
     }
 
     /// How many commands wait.
@@ -158,33 +172,78 @@ impl<K: Picker> Queue<K> {
     /// made isn't given back to the commands that it passed.
     pub fn abort(&mut self, reference: u32) -> Option<End>
         ensures end { result ≡ option_map aborted_record (find (has_reference reference) self.old.waiting) }
-        ensures after { self.new ≡ record self.old { waiting = without reference self.old.waiting } }
+        ensures after { self.new ≡ aborted reference self.old }
         ensures unchanged { IfNone result (self.new ≡ self.old) }
         ensures count { IfSome result (λ end. length self.new.waiting + 1 ≡ length self.old.waiting) }
     {
+        let was_begun = self.is_begun(reference);
         let aborted = take_out(&mut self.waiting, reference)?;
+        if was_begun {
+            self.begun = None;
+        }
         Some(aborted_end(&aborted.command(), aborted.done()))
     }
 
-    /// The place of the command that is served next: that in service, or one that the picker picks.
+    /// Whether the command with the reference number was begun, and neither stepped nor aborted since.
+    pub fn is_begun(&self, reference: u32) -> bool
+        ensures { result ≡ is_begun reference self.now.begun }
+    {
+        match self.begun {
+            Some(begun) => begun == reference,
+            None => false,
+        }
+    }
+
+    /// The place of the command in service, or where none is of one that the picker picks.
+    fn place_to_begin(&self) -> usize
+        requires nothing { self.now.begun ≡ None }
+        requires some { 0 < length self.now.waiting }
+        ensures { IsNext (K.picks self.now.picker) self.now.passing self.now.drives self.now.waiting self.now.begun result }
+    {
+        let waiting = self.waiting.as_slice();
+        match place_in_service(waiting) {
+            Some(place) => place,
+            None => picked_place(waiting, self.drives.as_slice(), self.passing, &self.picker),
+        }
+    }
+
+    /// The place of the command that is served next: what was begun, or else that in service, or one that the picker
+    /// picks.
     fn next_place(&self) -> Option<usize>
         ensures none { IfNone result (self.now.waiting ≡ []) }
         ensures some { IfSome result (λ place.
-            IsNext (K.picks self.now.picker) self.now.passing self.now.drives self.now.waiting place) }
+            IsNext (K.picks self.now.picker) self.now.passing self.now.drives self.now.waiting self.now.begun place) }
     {
-        let waiting = self.waiting.as_slice();
-        if waiting.is_empty() {
-            return None;
+        match self.begun {
+            Some(reference) => place_of(self.waiting.as_slice(), reference),
+            None if self.waiting.is_empty() => None,
+            None => Some(self.place_to_begin()),
         }
-        match place_in_service(waiting) {
-            Some(place) => Some(place),
-            None => Some(picked_place(waiting, self.drives.as_slice(), self.passing, &self.picker)),
-        }
+    }
+
+    /// Begins the record at the place.
+    fn begin_at(&mut self, place: usize) -> Upcoming
+        requires { IsNext (K.picks self.old.picker) self.old.passing self.old.drives self.old.waiting self.old.begun place }
+        ensures { BeginsAt (K.picks self.old.picker) self.old result self.new place }
+    {
+        let record = self.waiting[place];
+        let command = record.command();
+        self.begun = Some(command.reference);
+        upcoming(&drive_of(self.drives.as_slice(), command.unit), &record)
+    }
+
+    /// What the next step serves, if a command waits. Where nothing is in service and nothing was begun the picker picks
+    /// it, and its choice is kept: until the step, or an abort of that command, this answers the same.
+    pub fn begin(&mut self) -> Option<Upcoming>
+        ensures { Begins (K.picks self.old.picker) self.old result self.new }
+    {
+        let place = self.next_place()?;
+        Some(self.begin_at(place))
     }
 
     /// Serves a block, with this outcome, to the record at the place.
     fn serve_at(&mut self, place: usize, block: &Block) -> Report
-        requires { IsNext (K.picks self.old.picker) self.old.passing self.old.drives self.old.waiting place }
+        requires { IsNext (K.picks self.old.picker) self.old.passing self.old.drives self.old.waiting self.old.begun place }
         ensures served { ServesAt (K.picks self.old.picker) block.now self.old result self.new place }
         ensures units { units_of self.new.drives ≡ units_of self.old.drives }
     {
@@ -199,6 +258,7 @@ impl<K: Picker> Queue<K> {
             service.ended.is_some(),
         );
         replace_drive(self.drives.as_mut_slice(), command.unit, &service.drive);
+        self.begun = None;
         Report::Served {
             reference: command.reference,
             unit: command.unit,
@@ -209,8 +269,8 @@ impl<K: Picker> Queue<K> {
         }
     }
 
-    /// Serves one block, with this outcome, if a command waits: to the command in service, or to one that the picker
-    /// picks of those that may start.
+    /// Serves one block, with this outcome, if a command waits: to what was begun, or else to the command in service, or
+    /// to one that the picker picks of those that may start.
     pub fn serve(&mut self, block: Block) -> Report
         ensures served { Serves (K.picks self.old.picker) block self.old result self.new }
         ensures units { units_of self.new.drives ≡ units_of self.old.drives }

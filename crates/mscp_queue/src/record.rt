@@ -60,6 +60,13 @@ impl Record {
         self.done
     }
 
+    /// How many steps the command takes.
+    pub fn weight(&self) -> u32
+        ensures { result ≡ self.now.weight }
+    {
+        self.weight
+    }
+
     /// How many steps are left of the command.
     pub fn left(&self) -> u32
         ensures value { result ≡ left_of self.now }

@@ -5,12 +5,13 @@ ghost use Rattle.mscp_drive.specs.Heads.{distance};
 ghost use Rattle.mscp_queue.specs.Drives.{IsOnUnit};
 ghost use Rattle.mscp_queue.specs.Orders.{first_block};
 ghost use Rattle.mscp_queue.specs.Outcomes.{head_after};
-ghost use Rattle.mscp_queue.specs.Serving.{drive_after, end_given, seek_from, state_left, touched};
+ghost use Rattle.mscp_queue.specs.Serving.{drive_after, end_given, seek_from, state_left, touched, upcoming_of};
 
 use crate::block::Block;
 use crate::drive::Drive;
 use crate::outcome::{is_success, outcome, touches};
 use crate::record::Record;
+use crate::upcoming::Upcoming;
 use mscp_drive::Head;
 use mscp_packet::{End, Order};
 
@@ -32,6 +33,19 @@ fn touched(drive: &Drive, served: &Record) -> Option<u32>
     match served.command().order {
         Order::Move(_, _, block) if drive.online => Some(block + served.done()),
         _ => None,
+    }
+}
+
+/// What the next step of the command serves.
+pub(crate) fn upcoming(drive: &Drive, served: &Record) -> Upcoming
+    requires { first_block served.now.command.order + served.now.done < 2 ^ 32 }
+    ensures { result ≡ upcoming_of drive.now served.now }
+{
+    Upcoming {
+        command: served.command(),
+        lbn: touched(drive, served),
+        done: served.done(),
+        weight: served.weight(),
     }
 }
 

@@ -22,7 +22,7 @@ use Rattle.mscp_control.specs.Ends.{ends, untaken}
 use Rattle.mscp_control.specs.Legal.{IsLegal, IsPicked, IsRight}
 use Rattle.mscp_control.specs.Holdings.{Answered, Answers, Holdings, Steps, after_message, answer_to_message, end_taken, ended, fresh}
 use Rattle.mscp_control.proofs.Promise.Known.{known_empty}
-use Rattle.mscp_control.proofs.Bridge.Keeping.{owner_kept}
+use Rattle.mscp_control.proofs.Bridge.Keeping.{owner_kept, unbegun_kept}
 use Rattle.mscp_control.proofs.Bridge.Legals.{legal_more, picked_more}
 use Rattle.mscp_control.proofs.Bridge.Held.{held_of, figures_held}
 use Rattle.mscp_control.proofs.Bridge.Quiet.{untaken_taken}
@@ -63,17 +63,17 @@ none_mapped f [] e = refl
 none_mapped f (x ∷ xs) e = absurd (omega (arith, ap length e))
 
 idles : {K : Type 0} (picks : List Choice → ℕ → Type 0) (h h' : Holdings K) (t : Trace) (k : Block) → IsValid h.settings → Agrees h.settings t h → Steps picks k h reports.Idle h'
-    → Turns h.settings picks t (events.Step k, entries.Stepped reports.Idle) h'
+    → Turns h.settings picks t (events.Step k, entries.Stepped reports.Idle) h.begun h'
 idles {K} picks h h' t k v a s =
     let c = h.settings in
     let m : Moment = (events.Step k, entries.Stepped reports.Idle) in
     let none : waiting t ≡ [] = none_mapped (held_of t) (waiting t) (sym a.follows.waits ∙ s.serves.0) in
     let same = s.serves.1 in
     let ends : h'.untaken ≡ untaken c (t ++ m ∷ []) = s.ends ∙ ends_on h t m refl a [] refl in
-    record { sends = quiet h h' t m v.some_blocks (record { unserved = refl; kept = λ r. refl }) refl (ap (λ (l : Line K). l.waiting) same) (ap (λ (l : Line K). l.drives) same) ends a none; picked = tt }
+    record { sends = quiet h h' t m v.some_blocks (record { unserved = refl; kept = λ r. refl }) refl (ap (λ (l : Line K). l.waiting) same) (ap (λ (l : Line K). l.drives) same) ends a none; same = λ n b. tt; picked = λ b. tt }
 
 steps : {K : Type 0} (picks : List Choice → ℕ → Type 0) (h h' : Holdings K) (t : Trace) (k : Block) (report : Report) → IsValid h.settings → Agrees h.settings t h → Steps picks k h report h'
-    → Turns h.settings picks t (events.Step k, entries.Stepped report) h'
+    → Turns h.settings picks t (events.Step k, entries.Stepped report) h.begun h'
 steps picks h h' t k reports.Idle v a s = idles picks h h' t k v a s
 steps picks h h' t k (reports.Served reference unit lbn started seek ended) v a s =
     turns_at picks h h' t k (reports.Served reference unit lbn started seek ended) s.serves.0 v a s.serves.1 s.ends
@@ -81,18 +81,18 @@ steps picks h h' t k (reports.Served reference unit lbn started seek ended) v a 
 -- ---- every event
 
 -- each answer is right and picked, and what is then held is that of the run
-turns : {K : Type 0} (picks : List Choice → ℕ → Type 0) (h h' : Holdings K) (t : Trace) (event : Event) (entry : Entry) → IsValid h.settings → Agrees h.settings t h → Answers picks h event entry h'
-    → Turns h.settings picks t (event, entry) h'
+pub turns : {K : Type 0} (picks : List Choice → ℕ → Type 0) (h h' : Holdings K) (t : Trace) (event : Event) (entry : Entry) → IsValid h.settings → Agrees h.settings t h → Answers picks h event entry h'
+    → Turns h.settings picks t (event, entry) h.begun h'
 turns {K} picks h h' t (events.Send message) (entries.Sent sent) v a r =
     let e = events.Send message in
-    let all : Turns h.settings picks t (e, entries.Sent (answer_to_message h message.items)) (after_message h message.items) = record { sends = sends h t e v.some_blocks a (λ s q. q); picked = tt } in
-    subst (λ s. Turns h.settings picks t (e, entries.Sent s) h') (sym r.0) (subst (λ (x : Holdings K). Turns h.settings picks t (e, entries.Sent (answer_to_message h message.items)) x) (sym r.1) all)
+    let all : Turns h.settings picks t (e, entries.Sent (answer_to_message h message.items)) h.begun (after_message h message.items) = record { sends = sends h t e v.some_blocks a (λ s q. q); same = λ n b. tt; picked = λ b. tt } in
+    subst (λ s. Turns h.settings picks t (e, entries.Sent s) h.begun h') (sym r.0) (subst (λ (x : Holdings K). Turns h.settings picks t (e, entries.Sent (answer_to_message h message.items)) h.begun x) (sym r.1) all)
 turns {K} picks h h' t events.Take (entries.Taken end) v a r =
-    let all : Turns h.settings picks t (events.Take, entries.Taken (end_taken h)) (record h { untaken = drop 1 h.untaken }) = record { sends = takes_when h t v.some_blocks a h.untaken refl; picked = tt } in
-    subst (λ s. Turns h.settings picks t (events.Take, entries.Taken s) h') (sym r.0) (subst (λ (x : Holdings K). Turns h.settings picks t (events.Take, entries.Taken (end_taken h)) x) (sym r.1) all)
+    let all : Turns h.settings picks t (events.Take, entries.Taken (end_taken h)) h.begun (record h { untaken = drop 1 h.untaken }) = record { sends = takes_when h t v.some_blocks a h.untaken refl; same = λ n b. tt; picked = λ b. tt } in
+    subst (λ s. Turns h.settings picks t (events.Take, entries.Taken s) h.begun h') (sym r.0) (subst (λ (x : Holdings K). Turns h.settings picks t (events.Take, entries.Taken (end_taken h)) h.begun x) (sym r.1) all)
 turns picks h h' t (events.Step k) (entries.Stepped report) v a r = steps picks h h' t k report v a r
 turns {K} picks h h' t events.Look (entries.Looked list) v a r =
-    subst (λ (x : Holdings K). Turns h.settings picks t (events.Look, entries.Looked list) x) (sym r.1) (record { sends = looks h t list v.some_blocks a r.0; picked = tt })
+    subst (λ (x : Holdings K). Turns h.settings picks t (events.Look, entries.Looked list) h.begun x) (sym r.1) (record { sends = looks h t list v.some_blocks a r.0; same = λ n b. tt; picked = λ b. tt })
 turns picks h h' t (events.Send message) (entries.Taken end) v a r = absurd r
 turns picks h h' t (events.Send message) (entries.Stepped report) v a r = absurd r
 turns picks h h' t (events.Send message) (entries.Looked list) v a r = absurd r
@@ -114,18 +114,20 @@ pub record Comes {K : Type 0} (c : Settings) (picks : List Choice → ℕ → Ty
   pub legal : IsLegal c t
   pub picked : IsPicked c picks t
   pub agrees : Agrees c t h
+  pub unbegun : h.begun ≡ None
 
 comes_more : {K : Type 0} (c : Settings) (picks : List Choice → ℕ → Type 0) (t : Trace) (h h' : Holdings K) (event : Event) (entry : Entry) → IsValid c → Answers picks h event entry h' → Comes c picks t h
     → Comes c picks (t ++ (event, entry) ∷ []) h'
 comes_more {K} c picks t h h' event entry v r k =
     let m : Moment = (event, entry) in
-    let turn : Turns c picks t m h' =
-    subst (λ s. Turns s picks t m h') k.settings (turns picks h h' t event entry (subst IsValid (sym k.settings) v) (subst (λ s. Agrees s t h) (sym k.settings) k.agrees) r) in
+    let turn : Turns c picks t m h.begun h' =
+    subst (λ s. Turns s picks t m h.begun h') k.settings (turns picks h h' t event entry (subst IsValid (sym k.settings) v) (subst (λ s. Agrees s t h) (sym k.settings) k.agrees) r) in
     record {
       settings = (owner_kept picks h h' event entry r).0 ∙ k.settings;
       legal = legal_more c t m k.legal turn.sends.right;
-      picked = picked_more c picks t m k.picked turn.picked;
+      picked = picked_more c picks t m k.picked (turn.picked k.unbegun);
       agrees = turn.sends.agrees;
+      unbegun = unbegun_kept picks h h' event entry k.unbegun r;
     }
 
 comes_after : {K : Type 0} (c : Settings) (picks : List Choice → ℕ → Type 0) (t : Trace) (h h' : Holdings K) (es : List Event) (ns : List Entry) → IsValid c → Answered picks h es ns h' → Comes c picks t h
@@ -138,7 +140,7 @@ comes_after {K} c picks t h h' (e ∷ es) (n ∷ ns) v r k =
 comes_after c picks t h h' [] (n ∷ ns) v r k = absurd r
 comes_after c picks t h h' (e ∷ es) [] v r k = absurd r
 
-none_held : {K : Type 0} (c : Settings) (picker : K) → Agrees c [] (fresh c picker)
+pub none_held : {K : Type 0} (c : Settings) (picker : K) → Agrees c [] (fresh c picker)
 unfolding waiting untaken ends collect
 none_held c picker = record { follows = record { known = known_empty c; waits = refl; ends = refl }; driven = driven_fresh c }
 
@@ -146,7 +148,7 @@ none_held c picker = record { follows = record { known = known_empty c; waits = 
 pub comes : {K : Type 0} (c : Settings) (picks : List Choice → ℕ → Type 0) (picker : K) (h : Holdings K) (es : List Event) (ns : List Entry) → IsValid c → Answered picks (fresh c picker) es ns h
     → Comes c picks (zip es ns) h
 comes {K} c picks picker h es ns v r =
-    comes_after c picks [] (fresh c picker) h es ns v r (record { settings = refl; legal = λ i l. absurd (omega (arith, l)); picked = λ i l. absurd (omega (arith, l)); agrees = none_held c picker })
+    comes_after c picks [] (fresh c picker) h es ns v r (record { settings = refl; legal = λ i l. absurd (omega (arith, l)); picked = λ i l. absurd (omega (arith, l)); agrees = none_held c picker; unbegun = refl })
 
 -- there is one entry an event
 pub as_many : {K : Type 0} (picks : List Choice → ℕ → Type 0) (h h' : Holdings K) (es : List Event) (ns : List Entry) → Answered picks h es ns h' → length ns ≡ length es

@@ -16,6 +16,8 @@ use Rattle.mscp_queue.specs.Records.{Record, drive_at, step_toll, passed_by, rec
 use Rattle.mscp_queue.specs.Serving.{end_given}
 use Rattle.mscp_control.specs.Settings.{Settings, IsValid, room}
 use Rattle.mscp_packet.specs.declared.command.Command.{Command}
+use Rattle.mscp_packet.specs.declared.command.Order.{Order}
+use Rattle.mscp_packet.specs.declared.command.Order.TheVariants as orders
 use Rattle.mscp_packet.specs.Commands.{command_of}
 use Rattle.mscp_control.specs.declared.event.SendFault.{SendFault}
 use Rattle.mscp_control.specs.declared.event.Event.{Event}
@@ -23,7 +25,7 @@ use Rattle.mscp_control.specs.declared.event.Event.TheVariants as events
 use Rattle.mscp_control.specs.declared.event.Entry.{Entry}
 use Rattle.mscp_control.specs.declared.event.Entry.TheVariants as entries
 use Rattle.mscp_control.specs.Arrival.{refusal, is_queued}
-use Rattle.mscp_control.specs.Holdings.{Answers, Holdings, aborting, answered_end, balance_of, ended, ends_reported, held_unless, line_of, outstanding_of, queued}
+use Rattle.mscp_control.specs.Holdings.{Answers, Holdings, aborting, answered_end, balance_of, begun_after, ended, ends_reported, held_unless, line_of, outstanding_of, queued}
 use Rattle.mscp_control.specs.Kept.{IsHeld}
 
 -- ---- nothing came
@@ -71,7 +73,7 @@ count_stepped {K} picks k old (reports.Served reference unit lbn started seek en
     let r = record_at old.waiting place in
     let e = end_given k (drive_at old.drives old.waiting place) r in
     let ends : ends_reported (reports.Served reference unit lbn started seek ended) ≡ option_to_list e = ap ends_reported s.told in
-    omega (arith, ap (λ (l : Line K). length l.waiting) s.left, ap length ends, count_after (step_toll r) place r old.waiting e s.next.inside)
+    omega (arith, ap (λ (l : Line K). length l.waiting) s.left, ap length ends, count_after (step_toll r) place r old.waiting e s.next.servable.inside)
 
 -- and the limits and the picker stay
 pub stays : {K : Type 0} (picks : List Choice → ℕ → Type 0) (k : Block) (old : Line K) (report : Report) (new : Line K) → Serves picks k old report new
@@ -137,3 +139,46 @@ owner_kept picks h h' (events.Step k) (entries.Looked list) r = absurd r
 owner_kept picks h h' events.Look (entries.Sent sent) r = absurd r
 owner_kept picks h h' events.Look (entries.Taken end) r = absurd r
 owner_kept picks h h' events.Look (entries.Stepped report) r = absurd r
+
+-- ---- nothing is begun
+
+begun_after_none : (o : Order) → begun_after None o ≡ None
+begun_after_none (orders.Abort other) = refl
+begun_after_none (orders.Status other) = refl
+begun_after_none orders.UnitStatus = refl
+begun_after_none (orders.SetController version) = refl
+begun_after_none orders.Available = refl
+begun_after_none orders.Online = refl
+begun_after_none orders.SetUnit = refl
+begun_after_none (orders.Move kind count block) = refl
+begun_after_none (orders.Invalid opcode status) = refl
+
+unbegun_unless : {K : Type 0} (h : Holdings K) (command : Command) (o : Option SendFault) → h.begun ≡ None → (held_unless h command o).begun ≡ None
+unbegun_unless h command (Some fault) n = n
+unbegun_unless {K} h command None n =
+    elim (is_queued h.settings command) as (λ b. (if b then queued h command else ended (aborting h command.order) (answered_end h command)).begun ≡ None)
+    [ true ↦ n | false ↦ ap (λ b. begun_after b command.order) n ∙ begun_after_none command.order ]
+
+unbegun_stepped : {K : Type 0} (picks : List Choice → ℕ → Type 0) (k : Block) (old : Line K) (report : Report) (new : Line K) → old.begun ≡ None → Serves picks k old report new → new.begun ≡ None
+unbegun_stepped {K} picks k old reports.Idle new n h = ap (λ (l : Line K). l.begun) h.1 ∙ n
+unbegun_stepped {K} picks k old (reports.Served reference unit lbn started seek ended) new n h = ap (λ (l : Line K). l.begun) h.1.left
+
+-- no event begins a command
+pub unbegun_kept : {K : Type 0} (picks : List Choice → ℕ → Type 0) (h h' : Holdings K) (event : Event) (entry : Entry) → h.begun ≡ None → Answers picks h event entry h' → h'.begun ≡ None
+unbegun_kept {K} picks h h' (events.Send message) (entries.Sent sent) n r =
+    ap (λ (x : Holdings K). x.begun) r.1 ∙ unbegun_unless h (command_of message.items) (refusal (balance_of h) (outstanding_of h) message.items) n
+unbegun_kept {K} picks h h' events.Take (entries.Taken end) n r = ap (λ (x : Holdings K). x.begun) r.1 ∙ n
+unbegun_kept picks h h' (events.Step k) (entries.Stepped report) n r = unbegun_stepped picks k (line_of h) report (line_of h') n r.serves
+unbegun_kept {K} picks h h' events.Look (entries.Looked list) n r = ap (λ (x : Holdings K). x.begun) r.1 ∙ n
+unbegun_kept picks h h' (events.Send message) (entries.Taken end) n r = absurd r
+unbegun_kept picks h h' (events.Send message) (entries.Stepped report) n r = absurd r
+unbegun_kept picks h h' (events.Send message) (entries.Looked list) n r = absurd r
+unbegun_kept picks h h' events.Take (entries.Sent sent) n r = absurd r
+unbegun_kept picks h h' events.Take (entries.Stepped report) n r = absurd r
+unbegun_kept picks h h' events.Take (entries.Looked list) n r = absurd r
+unbegun_kept picks h h' (events.Step k) (entries.Sent sent) n r = absurd r
+unbegun_kept picks h h' (events.Step k) (entries.Taken end) n r = absurd r
+unbegun_kept picks h h' (events.Step k) (entries.Looked list) n r = absurd r
+unbegun_kept picks h h' events.Look (entries.Sent sent) n r = absurd r
+unbegun_kept picks h h' events.Look (entries.Taken end) n r = absurd r
+unbegun_kept picks h h' events.Look (entries.Stepped report) n r = absurd r

@@ -6,7 +6,7 @@ use Rattle.std.proofs.lemmas.Bool.{cases_lt}
 use Rattle.mscp_queue.specs.declared.block.Block.{Block}
 use Rattle.mscp_control.specs.Settings.{Settings}
 use Rattle.mscp_control.specs.History.{Trace, Moment, moment, Service, service_in, WhenStarted}
-use Rattle.mscp_control.specs.Commands.{reference, unit, is_waiting, done, in_service}
+use Rattle.mscp_control.specs.Commands.{reference, service_name, unit, is_waiting, done, in_service}
 use Rattle.mscp_control.specs.Passing.{is_startable}
 use Rattle.mscp_queue.specs.declared.view.Choice.{Choice}
 use Rattle.mscp_control.specs.Legal.{IsPick, IsPicked, IsRight, IsLegal, IsServed, block_of, seek_to, end_of}
@@ -33,8 +33,8 @@ pub legal_more : (c : Settings) (t : Trace) (m : Moment) → IsLegal c t → IsR
 legal_more c t m l r = each_more (λ u n. IsRight c u n.0 n.1) t m l r
 
 -- One more picked moment.
-pub picked_more : (c : Settings) (picks : List Choice → ℕ → Type 0) (t : Trace) (m : Moment) → IsPicked c picks t → WhenStarted (IsPick c picks t) (service_in m.1) → IsPicked c picks (t ++ m ∷ [])
-picked_more c picks t m l r = each_more (λ u n. WhenStarted (IsPick c picks u) (service_in n.1)) t m l r
+pub picked_more : (c : Settings) (picks : List Choice → ℕ → Type 0) (t : Trace) (m : Moment) → IsPicked c picks t → WhenStarted (λ s. IsPick c picks t (service_name s)) (service_in m.1) → IsPicked c picks (t ++ m ∷ [])
+picked_more c picks t m l r = each_more (λ u n. WhenStarted (λ s. IsPick c picks u (service_name s)) (service_in n.1)) t m l r
 
 pub legal_onto : (c : Settings) (t ms : Trace) → IsLegal c t → RightFrom c t ms → IsLegal c (t ++ ms)
 legal_onto c t [] l r = subst (IsLegal c) (sym (append-nil t)) l

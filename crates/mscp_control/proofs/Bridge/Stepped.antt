@@ -3,7 +3,7 @@ use Rattle.std.proofs.Common.{◌≡◌, ℕ, ◌+◌, ◌<◌, Bool, true, fals
 use Rattle.std.specs.Prelude.{All, filter, nat_eq, nat_lt, Option, Some, None, is_some, option_to_list, if◌then◌else◌}
 use Rattle.std.specs.List.{AllByRecursion, list_all, range_with_len}
 use Rattle.std.proofs.Math.Bool.{and-false}
-use Rattle.std.proofs.lemmas.Bool.{eq-eqb, eqb-false, lt-ltb, true≢false, false≢true}
+use Rattle.std.proofs.lemmas.Bool.{eq-eqb, eqb-false, eqb-true, lt-ltb, true≢false, false≢true}
 use Rattle.std.proofs.lemmas.List.{get_or-map, length-map, map-append, take-map, drop-map}
 use Rattle.std.proofs.lemmas.List.Elements.{All-from_recursion, recursion_from_All}
 use Rattle.mscp_packet.specs.declared.end.End.{End}
@@ -15,6 +15,7 @@ use Rattle.mscp_queue.specs.declared.report.Report.TheVariants as reports
 use Rattle.mscp_queue.specs.declared.view.Choice.{Choice}
 use Rattle.mscp_queue.specs.Drives.{drive_of, replaced}
 use Rattle.mscp_queue.specs.Lines.{Line, ServesAt}
+use Rattle.mscp_queue.specs.Names.{Name}
 use Rattle.mscp_queue.specs.Orders.{order_weight}
 use Rattle.mscp_queue.specs.Outcomes.{goes_on, is_good_block, touches}
 use Rattle.mscp_queue.specs.Records.{Record, advanced, step_toll, passed_by, record_at, remains}
@@ -24,8 +25,8 @@ use Rattle.mscp_queue.specs.Views.{is_open_at, open_places}
 use Rattle.mscp_control.specs.declared.event.Event.TheVariants as events
 use Rattle.mscp_control.specs.declared.event.Entry.TheVariants as entries
 use Rattle.mscp_control.specs.Settings.{Settings, IsValid, unit_found}
-use Rattle.mscp_control.specs.History.{Trace, Moment, is_good, service_in, WhenStarted}
-use Rattle.mscp_control.specs.Commands.{reference, unit, order, is_idle, is_waiting, waiting, done, good, in_service, left, serves_in}
+use Rattle.mscp_control.specs.History.{Trace, Moment, is_good, Service, service_in, WhenStarted}
+use Rattle.mscp_control.specs.Commands.{reference, service_name, unit, order, is_idle, is_waiting, waiting, done, good, in_service, left, serves_in}
 use Rattle.mscp_control.specs.Passing.{is_startable, passes, startable, toll}
 use Rattle.mscp_control.specs.Passing as passing
 use Rattle.mscp_control.specs.Units.{is_online}
@@ -58,16 +59,6 @@ or_right : (a b : Bool) → b ≡ true → (a || b) ≡ true
 or_right true b h = refl
 or_right false b h = h
 
--- each element of a filter passes
-filtered : (p : ℕ → Bool) (xs : List ℕ) (i : ℕ) → i < length (filter p xs) → p (get_or (filter p xs) i 0) ≡ true
-filtered p xs i l =
-    All-from_recursion (λ x. p x ≡ true) (filter p xs)
-    (every_weaker (λ x. Unit {0} × (p x ≡ true)) (λ x. p x ≡ true) (λ x h. h.1) (filter p xs) (every_filter (λ x. Unit {0}) p xs (every_from (λ x. Unit {0}) (λ x. tt) xs))) i 0 l
-
--- each place of the view may start
-opened : (passing : ℕ) (rs : List Record) (i : ℕ) → i < length (open_places passing rs) → is_open_at passing rs (get_or (open_places passing rs) i 0) ≡ true
-opened passing rs i l = filtered (is_open_at passing rs) (range_with_len 0 (length rs)) i l
-
 -- the records are idle where the commands are
 idle_held : (t : Trace) → All (λ r. r.done ≡ 0) (map (held_of t) (waiting t)) → is_idle t ≡ true
 idle_held t h =
@@ -76,35 +67,38 @@ idle_held t h =
     (every_mapped (held_of t) (λ r. r.done ≡ 0) (waiting t) (recursion_from_All (λ r. r.done ≡ 0) (map (held_of t) (waiting t)) h)))
 
 -- what is known of a record that may be served next: that its command may be
-pub record Next (c : Settings) (picks : List Choice → ℕ → Type 0) (t : Trace) (place : ℕ) : Type 0 where
+pub record Next (c : Settings) (t : Trace) (place : ℕ) : Type 0 where
   pub inside : place < length (waiting t)
   pub next : (in_service t (waiting_at t place) || is_startable c t (waiting_at t place)) ≡ true
-  pub picked : nat_eq (done t (waiting_at t place)) 0 ≡ true → (i : ℕ) × (i < length (startable c t)) × (get_or (startable c t) i 0 ≡ waiting_at t place) × picks (view c t) i
 
-next_held : (c : Settings) (picks : List Choice → ℕ → Type 0) (t : Trace) (ds : List Drive) (place : ℕ) → Driven c t ds → IsNext picks c.passing ds (map (held_of t) (waiting t)) place → Next c picks t place
-next_held c picks t ds place d n =
+-- and that it was begun, or where nothing was, that it is picked
+pub record Chosen (c : Settings) (picks : List Choice → ℕ → Type 0) (t : Trace) (begun : Option Name) (place : ℕ) : Type 0 where
+  pub same : (n : Name) → begun ≡ Some n → reference t (waiting_at t place) ≡ n
+  pub picked : begun ≡ None → nat_eq (done t (waiting_at t place)) 0 ≡ true → (i : ℕ) × (i < length (startable c t)) × (get_or (startable c t) i 0 ≡ waiting_at t place) × picks (view c t) i
+
+pub next_held : (c : Settings) (picks : List Choice → ℕ → Type 0) (t : Trace) (ds : List Drive) (begun : Option Name) (place : ℕ) → Driven c t ds → IsNext picks c.passing ds (map (held_of t) (waiting t)) begun place
+    → Next c t place × Chosen c picks t begun place
+next_held c picks t ds begun place d n =
     let rs = map (held_of t) (waiting t) in
     let y = waiting_at t place in
-    let inside : place < length (waiting t) = let l = n.inside in omega (arith, length-map (waiting t) (held_of t)) in
+    let inside : place < length (waiting t) = let l = n.servable.inside in omega (arith, length-map (waiting t) (held_of t)) in
     let same : recorded.is_unstarted (record_at rs place) ≡ nat_eq (done t y) 0 = ap recorded.is_unstarted (record_held t place inside) in
     let places = open_places c.passing rs in
     let both : (b : Bool) → nat_eq (done t y) 0 ≡ b → (in_service t y || is_startable c t y) ≡ true =
     λ b. elim b as (λ b. nat_eq (done t y) 0 ≡ b → (in_service t y || is_startable c t y) ≡ true) [
       | true ↦ λ e.
-          let idle = idle_held t (n.idle (same ∙ e)) in
-          let p = n.picked (same ∙ e) in
-          let opens : is_open_at c.passing rs place ≡ true = subst (λ k. is_open_at c.passing rs k ≡ true) p.2 (opened c.passing rs p.0 p.1) in
-          or_right (in_service t y) (is_startable c t y) (startable_held c t place inside idle ∙ opens)
+          let idle = idle_held t (n.servable.idle (same ∙ e)) in
+          or_right (in_service t y) (is_startable c t y) (startable_held c t place inside idle ∙ n.servable.opens (same ∙ e))
       | false ↦ λ e.
           let some = eqb-false (done t y) 0 e in
           ap (λ b. b || is_startable c t y) (lt-ltb 0 (done t y) (omega arith))
     ] in
-    record {
-      inside = inside;
-      next = both (nat_eq (done t y) 0) refl;
-      picked = λ e.
-          let idle = idle_held t (n.idle (same ∙ e)) in
-          let p = n.picked (same ∙ e) in
+    let next : Next c t place = record { inside = inside; next = both (nat_eq (done t y) 0) refl } in
+    let chosen : Chosen c picks t begun place = record {
+      same = λ k e. ap (λ (r : Record). r.command.reference) (sym (record_held t place inside)) ∙ eqb-true (record_at rs place).command.reference k (n.same k e);
+      picked = λ b e.
+          let idle = idle_held t (n.servable.idle (same ∙ e)) in
+          let p = n.picked b (same ∙ e) in
           let at = startable_places c t idle in
           let i = p.0 in (
             i,
@@ -112,7 +106,8 @@ next_held c picks t ds place d n =
             ap (λ xs. get_or xs i 0) at ∙ (get_or-map (waiting_at t) places i 0 0 p.1 ∙ ap (waiting_at t) p.2),
             subst (λ v. picks v i) (sym (view_held c t ds d idle)) p.3,
           );
-    }
+    } in
+    (next, chosen)
 
 -- ---- what it says
 
@@ -127,8 +122,8 @@ report_held : (c : Settings) (t : Trace) (k : Block) (y : ℕ)
 unfolding block_of
 report_held c t k y = λ i. entries.Stepped (reports.Served (reference t y) (unit t y) (block_of t y) (nat_eq (done t y) 0) (seek_held c t (unit t y) (block_of t y) i) (end_held c t k y i))
 
-served_at : (c : Settings) (picks : List Choice → ℕ → Type 0) (t : Trace) (k : Block) (place : ℕ) → Next c picks t place → IsServed c t k (service_by c t k (waiting_at t place)) (waiting_at t place)
-served_at c picks t k place n =
+served_at : (c : Settings) (t : Trace) (k : Block) (place : ℕ) → Next c t place → IsServed c t k (service_by c t k (waiting_at t place)) (waiting_at t place)
+served_at c t k place n =
     let P : ℕ → Type 0 = λ x. is_waiting t x ≡ true in
     record {
       waits = (every_parts P (take place (waiting t)) (waiting_at t place ∷ drop (place + 1) (waiting t)) (subst (AllByRecursion P) (cut_at t place n.inside) (waiting_waits t))).1.0;
@@ -142,14 +137,14 @@ served_at c picks t k place n =
     }
 
 -- and so the step is one of the command there, among the others
-step_at : (c : Settings) (picks : List Choice → ℕ → Type 0) (t : Trace) (k : Block) (place : ℕ) → Apart t (waiting t) → Next c picks t place
+step_at : (c : Settings) (t : Trace) (k : Block) (place : ℕ) → Apart t (waiting t) → Next c t place
     → Step c t (serving c t k (waiting_at t place)) (service_by c t k (waiting_at t place)) k (waiting_at t place) (take place (waiting t)) (drop (place + 1) (waiting t))
-step_at c picks t k place apart n =
+step_at c t k place apart n =
     let y = waiting_at t place in
     let A = take place (waiting t) in
     let B = drop (place + 1) (waiting t) in
     let serves : Serves t (serving c t k y) (service_by c t k y) y A B = record { among = alone t y A B apart (cut_of t A y B (cut_at t place n.inside)); is = refl; same = refl } in
-    record { served = served_at c picks t k place n; serves = serves; changes = changes t (serving c t k y) (service_by c t k y) y A B serves }
+    record { served = served_at c t k place n; serves = serves; changes = changes t (serving c t k y) (service_by c t k y) y A B serves }
 
 -- ---- the others
 
@@ -266,10 +261,10 @@ own_remains c t k y A B st (Some end) e = refl
 -- ---- what is held afterwards
 
 -- the records after a step of the one at the place
-waiting_served : (c : Settings) (picks : List Choice → ℕ → Type 0) (t : Trace) (k : Block) (place : ℕ) (d : Drive) → Apart t (waiting t) → Next c picks t place → d ≡ drive_by c t (unit t (waiting_at t place))
+waiting_served : (c : Settings) (t : Trace) (k : Block) (place : ℕ) (d : Drive) → Apart t (waiting t) → Next c t place → d ≡ drive_by c t (unit t (waiting_at t place))
     → (nat_eq (done t (waiting_at t place)) 0 ≡ true → AllByRecursion (λ x. passing.is_unstarted t x ≡ true) (take place (waiting t)))
     → waiting_after k d (map (held_of t) (waiting t)) place ≡ map (held_of (t ++ serving c t k (waiting_at t place) ∷ [])) (waiting (t ++ serving c t k (waiting_at t place) ∷ []))
-waiting_served c picks t k place d apart n e idle =
+waiting_served c t k place d apart n e idle =
     let y = waiting_at t place in
     let A = take place (waiting t) in
     let B = drop (place + 1) (waiting t) in
@@ -278,7 +273,7 @@ waiting_served c picks t k place d apart n e idle =
     let t' = t ++ m ∷ [] in
     let h' = held_of t' in
     let o = end_of c t k y in
-    let st = step_at c picks t k place apart n in
+    let st = step_at c t k place apart n in
     let gone = cond (is_some o) [] (y ∷ []) in
     let leaves : Drive → Record → List Record → List Record → List Record = λ d r front back. map (passed_by (step_toll r)) front ++ (remains r (end_given k d r) ++ back) in
     ap (λ r. leaves d r (take place rs) (drop (place + 1) rs)) (record_held t place n.inside)
@@ -292,10 +287,18 @@ waiting_served c picks t k place d apart n e idle =
     ∙ (ap (λ l. map h' A ++ l) (sym (map-append h' gone B))
     ∙ (sym (map-append h' A (gone ++ B)) ∙ ap (map h') (sym st.changes.waits))))))))))
 
+-- if a command is served, the service obeys R
+abbrev pub WhenServed : (Service → Type 0) → Option Service → Type 0
+WhenServed R None = Unit {0}
+WhenServed R (Some s) = R s
+
 -- what is answered to a step is right and picked, and what is then held is that of the run
-pub record Turns {K : Type 0} (c : Settings) (picks : List Choice → ℕ → Type 0) (t : Trace) (m : Moment) (h : Holdings K) : Type 0 where
+pub record Turns {K : Type 0} (c : Settings) (picks : List Choice → ℕ → Type 0) (t : Trace) (m : Moment) (begun : Option Name) (h : Holdings K) : Type 0 where
   pub sends : Sends c t m h
-  pub picked : WhenStarted (IsPick c picks t) (service_in m.1)
+  -- what was begun is served
+  pub same : (n : Name) → begun ≡ Some n → WhenServed (λ s. service_name s ≡ n) (service_in m.1)
+  -- and where nothing was, what starts is picked
+  pub picked : begun ≡ None → WhenStarted (λ s. IsPick c picks t (service_name s)) (service_in m.1)
 
 unstarted_by : (t : Trace) (x : ℕ) → x < length t → is_waiting t x ≡ true → done t x ≡ 0 → passing.is_unstarted t x ≡ true
 unstarted_by t x l w d =
@@ -303,12 +306,12 @@ unstarted_by t x l w d =
     ∙ (ap (λ b. b && nat_eq (done t x) 0) w ∙ eq-eqb (done t x) 0 d)
 
 -- where one starts, each that waits was never served
-unstarted_front : (c : Settings) (picks : List Choice → ℕ → Type 0) (t : Trace) (place : ℕ) (ds : List Drive) (rs : List Record) → rs ≡ map (held_of t) (waiting t) → IsNext picks c.passing ds rs place → Next c picks t place
+unstarted_front : (c : Settings) (picks : List Choice → ℕ → Type 0) (t : Trace) (place : ℕ) (ds : List Drive) (rs : List Record) (begun : Option Name) → rs ≡ map (held_of t) (waiting t) → IsNext picks c.passing ds rs begun place → Next c t place
     → nat_eq (done t (waiting_at t place)) 0 ≡ true → AllByRecursion (λ x. passing.is_unstarted t x ≡ true) (take place (waiting t))
-unstarted_front c picks t place ds rs e n held u =
+unstarted_front c picks t place ds rs begun e n held u =
     let W = waiting t in
     let here : recorded.is_unstarted (record_at rs place) ≡ true = ap (λ l. recorded.is_unstarted (record_at l place)) e ∙ (ap recorded.is_unstarted (record_held t place held.inside) ∙ u) in
-    let done_all = every_mapped (held_of t) (λ r. r.done ≡ 0) W (recursion_from_All (λ r. r.done ≡ 0) (map (held_of t) W) (subst (All (λ r. r.done ≡ 0)) e (n.idle here))) in
+    let done_all = every_mapped (held_of t) (λ r. r.done ≡ 0) W (recursion_from_All (λ r. r.done ≡ 0) (map (held_of t) W) (subst (All (λ r. r.done ≡ 0)) e (n.servable.idle here))) in
     let W' : AllByRecursion (λ x. (x < length t) × (is_waiting t x ≡ true)) W = every_both (λ x. x < length t) (λ x. is_waiting t x ≡ true) W (waiting_below t) (waiting_waits t) in
     let all = every_weaker (λ x. ((x < length t) × (is_waiting t x ≡ true)) × (done t x ≡ 0)) (λ x. passing.is_unstarted t x ≡ true)
     (λ x q. unstarted_by t x q.0.0 q.0.1 q.1) W (every_both (λ x. (x < length t) × (is_waiting t x ≡ true)) (λ x. done t x ≡ 0) W W' done_all) in
@@ -316,20 +319,21 @@ unstarted_front c picks t place ds rs e n held u =
 
 -- A step of the record at a place.
 pub turns_at : {K : Type 0} (picks : List Choice → ℕ → Type 0) (h h' : Holdings K) (t : Trace) (k : Block) (report : Report) (place : ℕ) → IsValid h.settings → Agrees h.settings t h
-    → ServesAt picks k (line_of h) report (line_of h') place → h'.untaken ≡ h.untaken ++ ends_reported report → Turns h.settings picks t (events.Step k, entries.Stepped report) h'
+    → ServesAt picks k (line_of h) report (line_of h') place → h'.untaken ≡ h.untaken ++ ends_reported report → Turns h.settings picks t (events.Step k, entries.Stepped report) h.begun h'
 turns_at {K} picks h h' t k report place v a s u =
     let c = h.settings in
     let W = waiting t in
     let rs = map (held_of t) W in
     let f = a.follows in
-    let next : IsNext picks c.passing h.drives rs place = subst (λ ws. IsNext picks c.passing h.drives ws place) f.waits s.next in
-    let n = next_held c picks t h.drives place a.driven next in
+    let next : IsNext picks c.passing h.drives rs h.begun place = subst (λ ws. IsNext picks c.passing h.drives ws h.begun place) f.waits s.next in
+    let both = next_held c picks t h.drives h.begun place a.driven next in
+    let n = both.0 in
     let y = waiting_at t place in
     let m = serving c t k y in
     let t' = t ++ m ∷ [] in
     let apart = f.known.steady.apart in
-    let st = step_at c picks t k place apart n in
-    let idle = unstarted_front c picks t place h.drives rs refl next n in
+    let st = step_at c t k place apart n in
+    let idle = unstarted_front c picks t place h.drives rs h.begun refl next n in
     let found : is_some (unit_found c (unit t y)) ≡ true =
     (every_parts (λ x. is_some (unit_found c (unit t x)) ≡ true) (take place W) (y ∷ drop (place + 1) W) (subst (AllByRecursion (λ x. is_some (unit_found c (unit t x)) ≡ true)) (cut_at t place n.inside) a.driven.configured)).1.0 in
     let drive : drive_of h.drives (unit t y) ≡ drive_by c t (unit t y) = drive_found c t h.drives (unit t y) a.driven found in
@@ -337,17 +341,17 @@ turns_at {K} picks h h' t k report place v a s u =
     let at : drive_of h.drives (record_at h.waiting place).command.unit ≡ drive_by c t (unit t y) = ap (λ (r : Record). drive_of h.drives r.command.unit) own ∙ drive in
     let told : report ≡ report_of k (drive_by c t (unit t y)) (held_of t y) = s.told ∙ (λ i. report_of k (at i) (own i)) in
     let entry : entries.Stepped report ≡ m.1 = ap entries.Stepped told ∙ report_held c t k y in
-    let right : IsRight c t m.0 m.1 = (y, served_at c picks t k place n) in
+    let right : IsRight c t m.0 m.1 = (y, served_at c t k place n) in
     let known = known_more c v.some_blocks t m right f.known in
     let waits : h'.waiting ≡ map (held_of t') (waiting t') =
     ap (λ (l : Line K). l.waiting) s.left ∙ (ap (λ ws. waiting_after k (drive_of h.drives (record_at h.waiting place).command.unit) ws place) f.waits
-    ∙ waiting_served c picks t k place (drive_of h.drives (record_at h.waiting place).command.unit) apart n at idle) in
+    ∙ waiting_served c t k place (drive_of h.drives (record_at h.waiting place).command.unit) apart n at idle) in
     let ends : h'.untaken ≡ untaken c t' =
     u ∙ ((λ i. f.ends i ++ ends_reported (told i)) ∙ (ap (λ o. untaken c t ++ option_to_list o) (end_held c t k y) ∙ sym (untaken_more c t m refl f.known.room.taken))) in
     let drives : h'.drives ≡ replaced (unit t y) (drive_after k (drive_by c t (unit t y)) (held_of t y)) h.drives =
     ap (λ (l : Line K). l.drives) s.left ∙ (λ i. replaced (own i).command.unit (drive_after k (at i) (own i)) h.drives) in
     let driven = driven_served c t m k y (take place W) (drop (place + 1) W) h.drives v.unit_list st right a.driven in
-    let all : Turns c picks t m h' = record {
+    let all : Turns c picks t m h.begun h' = record {
       sends = record {
         right = right;
         agrees = record {
@@ -355,6 +359,7 @@ turns_at {K} picks h h' t k report place v a s u =
           driven = subst (Driven c t') (sym drives) driven;
         };
       };
-      picked = λ e. let p = n.picked e in (p.0, p.1, ap (reference t) p.2, p.3);
+      same = both.1.same;
+      picked = λ b e. let p = both.1.picked b e in (p.0, p.1, ap (reference t) p.2, p.3);
     } in
-    subst (λ q. Turns c picks t (events.Step k, q) h') (sym entry) all
+    subst (λ q. Turns c picks t (events.Step k, q) h.begun h') (sym entry) all

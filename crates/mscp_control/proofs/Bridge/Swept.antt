@@ -8,12 +8,13 @@ use Rattle.std.proofs.lemmas.List.{drop_more, get_or-map, take-append-drop, take
 use Rattle.std.proofs.lemmas.List.Elements.{recursion_from_All}
 use Rattle.std.proofs.lemmas.List.Folds.{list_all-append}
 use Rattle.mscp_queue.specs.declared.view.Choice.{Choice}
+use Rattle.mscp_queue.specs.Names.{Name}
 use Rattle.mscp_queue.specs.Pickers.{IsFirstLeast}
 use Rattle.mscp_queue.proofs.Lists.{Pairs, every_append, every_both, every_mapped, every_parts, every_weaker, pairs_filter, pairs_middle}
 use Rattle.mscp_queue.proofs.Placed.{find_first, map_map}
 use Rattle.mscp_control.specs.Settings.{Settings}
 use Rattle.mscp_control.specs.History.{Trace, moment, Service, service_in, WhenStarted}
-use Rattle.mscp_control.specs.Commands.{name, waiting}
+use Rattle.mscp_control.specs.Commands.{name, service_name, waiting}
 use Rattle.mscp_control.specs.Passing.{is_startable, startable}
 use Rattle.mscp_control.specs.Units.{cost}
 use Rattle.mscp_control.specs.Legal.{IsPick, IsPicked, choice}
@@ -70,16 +71,16 @@ swept_at c t place h l =
     ap (find p) cut ∙ find_first p A y B (every_weaker (λ x. f y < f x) (λ x. p x ≡ false) fails A front) passes
 
 -- a start that a sweeping picker may pick is the sweep's
-swept_pick : (c : Settings) (picks : List Choice → ℕ → Type 0) (t : Trace) (s : Service) → Sweeps picks → IsPick c picks t s → IsSwept c t s
-swept_pick c picks t s w p =
+pub swept_pick : (c : Settings) (picks : List Choice → ℕ → Type 0) (t : Trace) (n : Name) → Sweeps picks → IsPick c picks t n → IsSwept c t n
+swept_pick c picks t n w p =
     let S = startable c t in
     let place = p.0 in
     let least = w (map (choice c t) S) place p.3 in
     ap (option_map (name t)) (swept_at c t place (subst (λ ns. IsFirstLeast ns place) (map_map (choice c t) (λ (q : Choice). q.cost) S) least) p.1) ∙ ap Some p.2
 
-when_swept : (c : Settings) (picks : List Choice → ℕ → Type 0) (t : Trace) (o : Option Service) → Sweeps picks → WhenStarted (IsPick c picks t) o → WhenStarted (IsSwept c t) o
+when_swept : (c : Settings) (picks : List Choice → ℕ → Type 0) (t : Trace) (o : Option Service) → Sweeps picks → WhenStarted (λ s. IsPick c picks t (service_name s)) o → WhenStarted (λ s. IsSwept c t (service_name s)) o
 when_swept c picks t None w h = tt
-when_swept c picks t (Some s) w h = λ starts. swept_pick c picks t s w (h starts)
+when_swept c picks t (Some s) w h = λ starts. swept_pick c picks t (service_name s) w (h starts)
 
 -- Where the picker sweeps, so does the run.
 pub sweeping : (c : Settings) (picks : List Choice → ℕ → Type 0) (t : Trace) → Sweeps picks → IsPicked c picks t → IsSweeping c t

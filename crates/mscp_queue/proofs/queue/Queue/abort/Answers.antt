@@ -1,10 +1,31 @@
-use Rattle.mscp_queue.proofs.Aborts.{held_aborted}
+use Rattle.std.proofs.Common.{◌≡◌, true, false, ap, subst, sym, ◌∙◌}
+use Rattle.std.specs.Prelude.{if◌then◌else◌, None}
+use Rattle.mscp_queue.specs.Lines.{Line, aborted}
+use Rattle.mscp_queue.specs.Serving.{is_begun}
+use Rattle.mscp_queue.specs.Kept.{IsHeld}
+use Rattle.mscp_queue.proofs.Aborts.{held_aborted, none_aborted}
 use Rattle.mscp_queue.proofs.queue.Queue.abort.Goals as goal
 
-pub invariant_of-self : goal.invariant_of-self
-invariant_of-self g c =
-    let q = c.self.inside in held_aborted q.room q.passing q.longest c.args.reference q.waiting.items c.take_out.new.waiting.items q.drives.items c.self.invariant c.take_out.ensures.left
+pub returns-in_err-aborted-clause-after : goal.returns-in_err-aborted-clause-after
+returns-in_err-aborted-clause-after g c =
+    let K = g.row.K.Denot in
+    let q = c.self.inside in
+    let stays = none_aborted q.passing c.args.reference q.waiting.items q.begun c.self.invariant.still (sym c.take_out.ensures.found ∙ c.in_err-aborted.was) in
+    (λ i. record { room = q.room; passing = q.passing; longest = q.longest; waiting = c.take_out.ensures.left i; drives = q.drives.items; begun = stays i; picker = q.picker })
+    ∙ ap (λ (l : Line K). aborted c.args.reference l) c.self.view_is
 
-pub invariant_of-self-2 : goal.invariant_of-self-2
-invariant_of-self-2 g c =
-    let q = c.self.inside in held_aborted q.room q.passing q.longest c.args.reference q.waiting.items c.take_out.new.waiting.items q.drives.items c.self.invariant c.take_out.ensures.left
+pub invariant_of-self-then-was_begun : goal.invariant_of-self-then-was_begun
+invariant_of-self-then-was_begun g c =
+    let K = g.row.K.Denot in
+    let q = c.self.inside in
+    let own : is_begun c.args.reference q.begun ≡ true = ap (λ (l : Line K). is_begun c.args.reference l.begun) c.self.view_is ∙ sym c.if-was_begun.ensures in
+    subst (λ b. IsHeld q.room q.passing q.longest c.take_out.new.waiting.items q.drives.items (if b then None else q.begun)) own
+    (held_aborted q.room q.passing q.longest c.args.reference q.waiting.items c.take_out.new.waiting.items q.drives.items q.begun c.self.invariant c.take_out.ensures.left)
+
+pub invariant_of-self-else-was_begun : goal.invariant_of-self-else-was_begun
+invariant_of-self-else-was_begun g c =
+    let K = g.row.K.Denot in
+    let q = c.self.inside in
+    let other : is_begun c.args.reference q.begun ≡ false = ap (λ (l : Line K). is_begun c.args.reference l.begun) c.self.view_is ∙ sym c.if-was_begun.ensures in
+    subst (λ b. IsHeld q.room q.passing q.longest c.take_out.new.waiting.items q.drives.items (if b then None else q.begun)) other
+    (held_aborted q.room q.passing q.longest c.args.reference q.waiting.items c.take_out.new.waiting.items q.drives.items q.begun c.self.invariant c.take_out.ensures.left)

@@ -1,25 +1,22 @@
-use Rattle.std.proofs.Common.{subst, sym, ◌∙◌}
+use Rattle.std.proofs.Common.{ap, subst, ◌∙◌}
+use Rattle.std.specs.List.{position}
 use Rattle.mscp_queue.specs.Lines.{Line}
-use Rattle.mscp_queue.specs.Serving.{IsNext}
-use Rattle.mscp_queue.proofs.Nexts.{picked_next, serving_next}
+use Rattle.mscp_queue.specs.Records.{has_reference}
+use Rattle.mscp_queue.proofs.Nexts.{Finds, finds_begun}
 use Rattle.mscp_queue.proofs.queue.Queue.next_place.Goals as goal
 
-pub returns-in-Some-clause-some : goal.returns-in-Some-clause-some
-returns-in-Some-clause-some g c =
+-- what is found of what was begun
+found : (g : Rattle.mscp_queue.proofs.queue.Queue.next_place.Given.Over) (c : goal.After-place_of g) → Finds (g.K.Picker.picks c.args.self.now.picker) c.args.self.now.passing c.args.self.now.drives c.args.self.now.waiting c.args.self.now.begun c.place_of.result
+found g c =
     let K = g.row.K.Denot in
-    let picks = g.K.Picker.picks c.self.inside.picker in
-    let slice = c.as_slice-waiting in
-    subst (λ (l : Line K). IsNext (g.K.Picker.picks l.picker) l.passing l.drives l.waiting c.in-Some.place) c.self.view_is
-    (subst (λ rs. IsNext picks c.self.inside.passing c.self.inside.drives.items rs c.in-Some.place) slice.ensures.value
-    (serving_next picks c.self.inside.passing c.self.inside.drives.items slice.result.now c.in-Some.place (sym c.place_in_service.ensures ∙ c.in-Some.is)))
+    let q = c.self.inside in
+    let name = c.in-Some.reference in
+    subst (λ (l : Line K). Finds (g.K.Picker.picks l.picker) l.passing l.drives l.waiting l.begun c.place_of.result) c.self.view_is
+    (finds_begun (g.K.Picker.picks q.picker) q.passing q.drives.items q.waiting.items q.begun name c.place_of.result c.self.invariant.apart c.in-Some.is (c.self.invariant.still name c.in-Some.is)
+    (c.place_of.ensures ∙ ap (position (has_reference name)) c.as_slice.ensures.value))
 
-pub returns-in-None-clause-some : goal.returns-in-None-clause-some
-returns-in-None-clause-some g c =
-    let K = g.row.K.Denot in
-    let picks = g.K.Picker.picks c.self.inside.picker in
-    let slice = c.as_slice-waiting in
-    let place = c.picked_place.result in
-    subst (λ (l : Line K). IsNext (g.K.Picker.picks l.picker) l.passing l.drives l.waiting place) c.self.view_is
-    (subst (λ ds. IsNext picks c.self.inside.passing ds c.self.inside.waiting.items place) c.as_slice.ensures.value
-    (subst (λ rs. IsNext picks c.self.inside.passing c.as_slice.result.now rs place) slice.ensures.value
-    (picked_next picks c.self.inside.passing c.as_slice.result.now slice.result.now place (sym c.place_in_service.ensures ∙ c.in-None.is) c.picked_place.ensures.inside c.picked_place.ensures.picked)))
+pub returns-in-Some-clause-none : goal.returns-in-Some-clause-none
+returns-in-Some-clause-none g c = (found g c).none
+
+pub returns-in-Some-clause-some : goal.returns-in-Some-clause-some
+returns-in-Some-clause-some g c = (found g c).some

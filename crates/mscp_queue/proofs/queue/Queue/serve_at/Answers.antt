@@ -19,17 +19,17 @@ invariant_of-self g c =
     let ds = c.self.inside.drives.items in
     let place = c.args.place in
     let K = g.row.K.Denot in
-    let next : IsNext picks c.self.inside.passing ds rs place =
-    subst (λ (l : Line K). IsNext (g.K.Picker.picks l.picker) l.passing l.drives l.waiting place) (sym c.self.view_is) c.requires in
+    let next : IsNext picks c.self.inside.passing ds rs c.self.inside.begun place =
+    subst (λ (l : Line K). IsNext (g.K.Picker.picks l.picker) l.passing l.drives l.waiting l.begun place) (sym c.self.view_is) c.requires in
     let item = c.index-deref-place.result in
-    let read : item ≡ record_at rs place = c.index-deref-place.is ∙ (ap (λ l. get_or l place item) c.deref.ensures.0 ∙ get_or_default rs place item no_record next.inside) in
+    let read : item ≡ record_at rs place = c.index-deref-place.is ∙ (ap (λ l. get_or l place item) c.deref.ensures.0 ∙ get_or_default rs place item no_record next.servable.inside) in
     let slice = c.as_mut_slice.ensures.value in
     let new : c.replace_drive.new.drives ≡ replaced c.command-command.result.unit c.serve-service.result.drive ds =
     c.replace_drive.ensures ∙ ap (replaced c.command-command.result.unit c.serve-service.result.drive) slice in
     let long : length c.replace_drive.new.drives ≡ length ds = ap length new ∙ length-map ds (λ (d : Drive). if has_number c.command-command.result.unit d then c.serve-service.result.drive else d) in
-    held_step c.self.inside.room c.self.inside.passing c.self.inside.longest place picks rs c.leave.new.waiting.items ds (refill (length ds) ds c.replace_drive.new.drives) c.args.block.now item
+    held_step c.self.inside.room c.self.inside.passing c.self.inside.longest place rs c.leave.new.waiting.items ds (refill (length ds) ds c.replace_drive.new.drives) c.self.inside.begun c.args.block.now item
     c.command-command.result c.drive_of-drive.result c.serve-service.result.drive c.serve-service.result.ended c.is_some.result c.step_toll.result
-    c.self.invariant next read c.command-command.ensures (c.drive_of-drive.ensures ∙ ap (λ l. drive_of l c.command-command.result.unit) c.as_slice.ensures.value)
+    c.self.invariant next.servable read c.command-command.ensures (c.drive_of-drive.ensures ∙ ap (λ l. drive_of l c.command-command.result.unit) c.as_slice.ensures.value)
     c.serve-service.ensures.ended c.is_some.ensures c.serve-service.ensures.drive c.step_toll.ensures.value c.serve-service.ensures.on_unit
     c.leave.ensures (refilled ds c.replace_drive.new.drives long ∙ new)
 

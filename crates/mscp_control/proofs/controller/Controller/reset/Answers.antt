@@ -1,0 +1,10 @@
+use Rattle.mscp_queue.specs.Kept.{units_of}
+use Rattle.mscp_control.proofs.Bridge.Keeping.{held_fresh}
+use Rattle.mscp_control.proofs.controller.Controller.reset.Goals as goal
+
+pub invariant_of-self : goal.invariant_of-self
+invariant_of-self g c =
+    let h = c.self.inside in
+    let k = c.self.invariant in
+    held_fresh h.config (units_of h.queue.drives) h.queue.room h.queue.passing h.queue.longest h.queue.picker c.reset.new.self c.clear.new.self.items k.valid k.units k.same_room k.same_passing k.same_longest
+    c.reset.ensures c.clear.ensures

@@ -1,0 +1,22 @@
+use Rattle.std.proofs.Common.{ap, ◌∙◌}
+use Rattle.std.specs.Prelude.{map, None}
+use Rattle.mscp_queue.specs.declared.drive.Drive.{Drive}
+use Rattle.mscp_queue.specs.Drives.{fresh_drive}
+use Rattle.mscp_queue.specs.Kept.{units_of}
+use Rattle.mscp_queue.specs.Lines.{Line, fresh}
+use Rattle.mscp_queue.proofs.Held.{held_renewed, renewed}
+use Rattle.mscp_queue.proofs.queue.Queue.reset.Goals as goal
+
+pub invariant_of-self : goal.invariant_of-self
+invariant_of-self g c =
+    let q = c.self.inside in
+    held_renewed q.room q.passing q.longest q.waiting.items c.clear.new.self.items q.drives.items _ q.begun c.self.invariant c.clear.ensures
+    (renewed q.drives.items c.renew_drives.new.drives (c.renew_drives.ensures ∙ ap (map (λ (d : Drive). fresh_drive d.unit)) c.as_mut_slice.ensures.value))
+
+pub returns : goal.returns
+returns g c =
+    let q = c.self.inside in
+    let K = g.row.K.Denot in
+    let drives = renewed q.drives.items c.renew_drives.new.drives (c.renew_drives.ensures ∙ ap (map (λ (d : Drive). fresh_drive d.unit)) c.as_mut_slice.ensures.value) in
+    (λ i. record { room = q.room; passing = q.passing; longest = q.longest; waiting = c.clear.ensures i; drives = drives i; begun = None; picker = q.picker })
+    ∙ ap (λ (l : Line K). fresh (units_of l.drives) l.room l.passing l.longest l.picker) c.self.view_is

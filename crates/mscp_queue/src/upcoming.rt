@@ -1,0 +1,13 @@
+// What is told before a step.
+
+use mscp_packet::Command;
+
+/// What the next step serves: the command, the block that the step touches, how many steps the command had, and how many
+/// it takes in all. `lbn` is none for a sequential command, and for a transfer whose unit is available.
+#[derive(Clone, Copy, Debug, PartialEq, Eq)]
+pub struct Upcoming {
+    pub command: Command,
+    pub lbn: Option<u32>,
+    pub done: u32,
+    pub weight: u32,
+}
