@@ -10,6 +10,8 @@ pub mod Viewed
 pub mod Stepped
 pub mod Swept
 pub mod Following
+pub mod Begun
+pub mod Calling
 pub mod Controllers
 pub mod Answering
 pub mod Legals

@@ -1,45 +1,51 @@
 -- What is promised of a controller that somebody holds, from its making on.
-use Rattle.std.specs.Prelude.{◌≡◌, ℕ, List, map, zip}
+use Rattle.std.specs.Prelude.{◌≡◌, ℕ, List, map}
 use Rattle.mscp_drive.specs.Shape.{Shape}
 use Rattle.mscp_queue.specs.declared.drive.Drive.{Drive}
 use Rattle.mscp_queue.specs.declared.view.Choice.{Choice}
 use Rattle.mscp_queue.specs.Figures.{figure_of_reference}
-use Rattle.mscp_control.specs.declared.event.Event.{Event}
-use Rattle.mscp_control.specs.declared.event.Entry.{Entry}
 use Rattle.mscp_control.specs.Settings.{Settings, IsValid}
-use Rattle.mscp_control.specs.Holdings.{Answered, Holdings, balance_of, fresh}
+use Rattle.mscp_control.specs.Holdings.{Holdings, balance_of, fresh}
 use Rattle.mscp_control.specs.History.{Trace}
 use Rattle.mscp_control.specs.Figures.{figure_of}
 use Rattle.mscp_control.specs.Units.{head, is_online}
 use Rattle.mscp_control.specs.Credits.{balance}
-use Rattle.mscp_control.specs.Legal.{IsPicked}
-use Rattle.mscp_control.specs.Sweeping.{IsSweeping, Sweeps}
-use Rattle.mscp_control.specs.Headline.{Headline}
+use Rattle.mscp_control.specs.Legal.{IsLegal, IsPick}
+use Rattle.mscp_control.specs.Sweeping.{IsSwept, Sweeps}
+use Rattle.mscp_control.specs.Headline.{Promise}
+use Rattle.mscp_control.specs.Calls.{AtEachCall, Call, Called, HoldsToBegun, IsRightCall, StartsChosen, history}
 
 -- a unit with its state and its head after t (manual, heads are the profile's)
 abbrev pub drive_at : Settings → Trace → Shape → Drive
 drive_at c t u = record { unit = u; online = is_online t u.number; head = head c t u.number }
 
--- what is promised of a controller that answered so to these events, and now holds this
+-- what is promised of a controller that answered so to these calls, and now holds this
 pub record KeepsPromise {K : Type 0} (picks : List Choice → ℕ → Type 0) (c : Settings)
-    (events : List Event) (entries : List Entry) (held : Holdings K) : Type 0 where
-  -- its answers, one after the other, have the headline (profile)
-  pub headline : Headline c events entries
-  -- each start is one that its picker may pick (profile)
-  pub picked : IsPicked c picks (zip events entries)
-  -- where the picker sweeps, each start is the one of least cost, and of those the oldest (profile)
-  pub swept : Sweeps picks → IsSweeping c (zip events entries)
+    (calls : List Call) (held : Holdings K) : Type 0 where
+  -- each answer to an event, and each step that was finished, is right after what came before it (manual)
+  pub legal : IsLegal c (history calls)
+  -- and so all that a legal trace promises holds (profile)
+  pub promise : Promise c (history calls)
+  -- each begin tells what it may, and only what is begun is finished (profile)
+  pub right : AtEachCall calls (IsRightCall c)
+  -- what was begun stays so: it is what each begin tells and each step serves until it is served or aborted (profile)
+  pub begun : AtEachCall calls HoldsToBegun
+  -- each start is one that its picker may pick in the view at its begin, and in that at the step where nothing was begun
+  -- (profile)
+  pub picked : AtEachCall calls (StartsChosen (IsPick c picks))
+  -- where the picker sweeps, each start is the one of least cost there, and of those the oldest (profile)
+  pub swept : Sweeps picks → AtEachCall calls (StartsChosen (IsSwept c))
   -- the figure that it now tells of a reference number is that of the history (profile)
   pub figure : (reference : ℕ) → figure_of_reference c.passing c.longest held.waiting reference
-      ≡ figure_of c (zip events entries) reference
+      ≡ figure_of c (history calls) reference
   -- its drives are the units with the states and heads of the history, the way that each head goes too (manual, heads
   -- are the profile's)
-  pub drives : held.drives ≡ map (drive_at c (zip events entries)) c.units
+  pub drives : held.drives ≡ map (drive_at c (history calls)) c.units
   -- and its balance is that of the history (manual)
-  pub balance : balance_of held ≡ balance c (zip events entries)
+  pub balance : balance_of held ≡ balance c (history calls)
 
 -- the law of a picker: every controller that it picks for keeps the promise, whoever calls it (profile)
 abbrev pub ControllersKeepThePromise : {K : Type 0} → (List Choice → ℕ → Type 0) → K → Type 0
 ControllersKeepThePromise {K} picks picker =
-    (c : Settings) (events : List Event) (entries : List Entry) (held : Holdings K) → IsValid c
-    → Answered picks (fresh c picker) events entries held → KeepsPromise picks c events entries held
+    (c : Settings) (calls : List Call) (held : Holdings K) → IsValid c → Called picks (fresh c picker) calls held
+    → KeepsPromise picks c calls held

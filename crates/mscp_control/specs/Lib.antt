@@ -13,5 +13,6 @@ pub mod Credits
 pub mod Legal
 pub mod Sweeping
 pub mod Headline
+pub mod Calls
 pub mod Controllers
 pub mod Sizes

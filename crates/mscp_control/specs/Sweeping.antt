@@ -5,7 +5,7 @@ use Rattle.mscp_queue.specs.declared.view.Choice.{Choice}
 use Rattle.mscp_queue.specs.Names.{Name}
 use Rattle.mscp_queue.specs.Pickers.{IsSweep}
 use Rattle.mscp_control.specs.Settings.{Settings}
-use Rattle.mscp_control.specs.History.{Trace, moment, Service, service_in, WhenStarted}
+use Rattle.mscp_control.specs.History.{Trace, moment, service_in, WhenStarted}
 use Rattle.mscp_control.specs.Commands.{name, service_name}
 use Rattle.mscp_control.specs.Passing.{startable}
 use Rattle.mscp_control.specs.Units.{cost}

@@ -1,9 +1,9 @@
 -- Lists cut at a place, and lists that a function makes of others.
-use Rattle.std.proofs.Common.{◌≡◌, ◌⊎◌, inl, inr, ℕ, ◌+◌, ◌<◌, Bool, true, false, cond, not, List, [], ◌∷◌, ◌++◌, map, take, drop, get_or, length, refl, ap, sym, ◌∙◌, append_assoc, arith}
+use Rattle.std.proofs.Common.{◌≡◌, ◌⊎◌, ⊎_elim, inl, inr, ℕ, ◌+◌, ◌<◌, Bool, true, false, cond, not, List, [], ◌∷◌, ◌++◌, map, take, drop, get_or, length, refl, ap, sym, ◌∙◌, subst, append_assoc, arith}
 use Rattle.std.specs.Prelude.{filter, find, nat_lt, sum_by, Some, None}
 use Rattle.std.specs.List.{AllByRecursion, position, position_or_len}
-use Rattle.std.proofs.lemmas.Bool.{lt-ltb, le-ltb}
-use Rattle.std.proofs.lemmas.List.{drop_at, drop_more, get_or_at, length-append, take-append-drop, take_at}
+use Rattle.std.proofs.lemmas.Bool.{cases_lt, lt-ltb, le-ltb}
+use Rattle.std.proofs.lemmas.List.{drop_at, drop_more, get_or_append_left, get_or_at, length-append, take-append-drop, take-append-le, take_at}
 use Rattle.std.proofs.lemmas.List.Sums.{sum_by-cons}
 
 pub map_on : {X Y : Type 0} (f g : X → Y) (xs : List X) → AllByRecursion (λ x. f x ≡ g x) xs → map f xs ≡ map g xs
@@ -44,6 +44,18 @@ at_place {X} xs front x back k d e l =
 -- a list is cut at each of its places
 pub cut_at : {X : Type 0} (d : X) (xs : List X) (place : ℕ) → place < length xs → xs ≡ take place xs ++ get_or xs place d ∷ drop (place + 1) xs
 cut_at d xs place l = sym (take-append-drop place xs) ∙ ap (λ zs. take place xs ++ zs) (drop_more xs place d l)
+
+-- what holds of each element and of those in front of it, with one more
+pub each_push : {X : Type 0} (d : X) (R : List X → X → Type 0) (xs : List X) (x : X) → ((i : ℕ) → i < length xs → R (take i xs) (get_or xs i d)) → R xs x
+    → (i : ℕ) → i < length (xs ++ x ∷ []) → R (take i (xs ++ x ∷ [])) (get_or (xs ++ x ∷ []) i d)
+each_push {X} d R xs x l r i h =
+    let ys = xs ++ x ∷ [] in
+    ⊎_elim
+    (λ b. subst (λ (y : X). R (take i ys) y) (sym (get_or_append_left xs (x ∷ []) d i b)) (subst (λ zs. R zs (get_or xs i d)) (sym (take-append-le i xs (x ∷ []) (omega (arith, b)))) (l i b)))
+    (λ b. let e : length xs ≡ i = omega (arith, b, h, length-append xs (x ∷ [])) in
+    subst (λ i. R (take i ys) (get_or ys i d)) e
+    (subst (λ (y : X). R (take (length xs) ys) y) (sym (get_or_at xs x [] d (length xs) refl)) (subst (λ zs. R zs x) (sym (take_at xs (x ∷ []) (length xs) refl)) r)))
+    (cases_lt i (length xs))
 
 -- ---- the first element that passes a test
 

@@ -1,28 +1,29 @@
 -- What a message aborts: the same by records and by history.
 use Rattle.std.proofs.Common.{◌≡◌, ◌≢◌, ⊎_elim, ℕ, Bool, true, false, not, List, [], ◌∷◌, map, length, refl, ap, sym, ◌∙◌, subst, arith}
-use Rattle.std.specs.Prelude.{filter, find, nat_eq, Option, Some, None, option_map, option_to_list, slice_get, Ok}
+use Rattle.std.specs.Prelude.{filter, find, if◌then◌else◌, nat_eq, Option, Some, None, option_map, option_to_list, slice_get, Ok}
 use Rattle.std.specs.List.{AllByRecursion}
 use Rattle.std.proofs.lemmas.Bool.{eq-eqb, eqb-false, eqb-true, ne_eqb}
 use Rattle.mscp_packet.specs.declared.command.Command.{Command}
 use Rattle.mscp_packet.specs.declared.command.Order.{Order}
 use Rattle.mscp_packet.specs.declared.command.Order.TheVariants as orders
 use Rattle.mscp_queue.specs.Kept.{AreApart, names}
-use Rattle.mscp_queue.specs.Names.{name_of}
+use Rattle.mscp_queue.specs.Names.{Name, name_of}
 use Rattle.mscp_queue.specs.Outcomes.{aborted_end}
 use Rattle.mscp_queue.specs.Records.{Record, aborted_record, has_reference, without}
 use Rattle.mscp_queue.proofs.Aborts.{found_once}
-use Rattle.mscp_queue.proofs.Lists.{every_from, every_weaker, filter_all, filter_on}
+use Rattle.mscp_queue.proofs.Lists.{every_from, every_mapped, every_parts, every_weaker, filter_all, filter_on}
 use Rattle.mscp_queue.proofs.Placed.{filter_map_of, find_cases, find_first, find_none, map_map}
 use Rattle.mscp_control.specs.declared.event.Entry.TheVariants as entries
 use Rattle.mscp_control.specs.declared.event.Sent.TheVariants as sents
 use Rattle.mscp_control.specs.Settings.{Settings}
 use Rattle.mscp_control.specs.Arrival.{order_fault}
 use Rattle.mscp_control.specs.History.{Trace}
-use Rattle.mscp_control.specs.Commands.{command, reference, waiting, good, ends_in}
+use Rattle.mscp_control.specs.Commands.{command, reference, waiting, good, ends_in, is_waiting}
 use Rattle.mscp_control.specs.Ends as history
 use Rattle.mscp_control.specs.Ends.{aborted_unless, named}
-use Rattle.mscp_control.specs.Holdings.{aborted, unaborted}
+use Rattle.mscp_control.specs.Holdings.{aborted, begun_after, unaborted}
 use Rattle.mscp_control.proofs.Promise.Apart.{Apart}
+use Rattle.mscp_control.proofs.Promise.Waits.{cut, waits_below}
 use Rattle.mscp_control.proofs.Bridge.Held.{held_of}
 
 -- ---- who is aborted
@@ -138,3 +139,43 @@ others_wait q ws orders.Online = none_left q ws
 others_wait q ws orders.SetUnit = none_left q ws
 others_wait q ws (orders.Move kind count block) = none_left q ws
 others_wait q ws (orders.Invalid opcode status) = none_left q ws
+
+-- ---- what was begun
+
+with_other : (n other : ℕ) → (if nat_eq n other then None else Some n) ≡ (if not (nat_eq other n) then Some n else None)
+with_other n other =
+    ap (λ b. if b then None else Some n) (either_way n other)
+    ∙ elim (nat_eq other n) as (λ b. (if b then None else Some n) ≡ (if not b then Some n else None)) [ true ↦ refl | false ↦ refl ]
+
+-- it is begun no more where it is aborted
+abbrev Left : ℕ → List Record → Name → Order → Type 0
+Left q ws n o = begun_after (Some n) o ≡ (if not (ends_in n (Answer q (option_map (λ r. r.command.reference) (aborted ws o)))) then Some n else None)
+
+abort_left : (q other : ℕ) (t : Trace) (ws : List Record) (n : Name) (y : ℕ) → ws ≡ map (held_of t) (waiting t) → is_waiting t y ≡ true → reference t y ≡ n → Left q ws n (orders.Abort other)
+abort_left q other t ws n y e w own =
+    let p = has_reference other in
+    let left : Option Record → Option Name = λ o. if not (ends_in n (Answer q (option_map (λ r. r.command.reference) o))) then Some n else None in
+    ⊎_elim
+    (λ none.
+    let all = every_mapped (held_of t) (λ r. p r ≡ false) (waiting t) (subst (AllByRecursion (λ r. p r ≡ false)) e none) in
+    let c = cut t y (waits_below t y w) w in
+    let one : nat_eq (reference t y) other ≡ false = (every_parts (λ x. nat_eq (reference t x) other ≡ false) c.0 (y ∷ c.1) (subst (AllByRecursion (λ x. nat_eq (reference t x) other ≡ false)) c.2.is all)).1.0 in
+    ap (λ b. if b then None else Some n) (ap (λ k. nat_eq k other) (sym own) ∙ one) ∙ ap left (sym (find_none p ws none)))
+    (λ some.
+    let A = some.0 in
+    let r = some.1 in
+    let B = some.2 in
+    let f = some.3 in
+    with_other n other ∙ (ap (λ k. if not (nat_eq k n) then Some n else None) (sym (eqb-true r.command.reference other f.passes)) ∙ ap left (sym (ap (find p) f.is ∙ find_first p A r B f.before f.passes))))
+    (find_cases p ws)
+
+pub begun_left : (q : ℕ) (t : Trace) (ws : List Record) (n : Name) (y : ℕ) (o : Order) → ws ≡ map (held_of t) (waiting t) → is_waiting t y ≡ true → reference t y ≡ n → Left q ws n o
+begun_left q t ws n y (orders.Abort other) e w own = abort_left q other t ws n y e w own
+begun_left q t ws n y (orders.Status other) e w own = refl
+begun_left q t ws n y orders.UnitStatus e w own = refl
+begun_left q t ws n y (orders.SetController version) e w own = refl
+begun_left q t ws n y orders.Available e w own = refl
+begun_left q t ws n y orders.Online e w own = refl
+begun_left q t ws n y orders.SetUnit e w own = refl
+begun_left q t ws n y (orders.Move kind count block) e w own = refl
+begun_left q t ws n y (orders.Invalid opcode status) e w own = refl

@@ -1,35 +1,71 @@
 -- A controller of a picker keeps the promise, and a run has it.
-use Rattle.std.proofs.Common.{◌≡◌, ℕ, ◌-◌, ◌+◌, List, length, ap, subst, ◌∙◌}
-use Rattle.std.specs.Prelude.{zip}
+use Rattle.std.proofs.Common.{◌≡◌, inl, inr, ℕ, ◌-◌, ◌+◌, List, take, length, ap, subst, ◌∙◌}
+use Rattle.std.specs.Prelude.{IfSome, Option, Some, None, zip}
 use Rattle.mscp_queue.specs.declared.view.Choice.{Choice}
 use Rattle.mscp_queue.specs.Figures.{figure_of_reference}
+use Rattle.mscp_queue.specs.Names.{Name}
 use Rattle.mscp_control.specs.declared.event.Event.{Event}
 use Rattle.mscp_control.specs.declared.event.Entry.{Entry}
 use Rattle.mscp_control.specs.Settings.{Settings, IsValid}
 use Rattle.mscp_control.specs.Holdings.{Answered, Holdings, fresh}
+use Rattle.mscp_control.specs.Headline.{Headline}
+use Rattle.mscp_control.specs.Legal.{IsPick, IsPicked}
+use Rattle.mscp_control.specs.Sweeping.{IsSweeping, IsSwept, Sweeps}
+use Rattle.mscp_control.specs.Calls.{Call, Called, IsChosen, call_at, history, starts}
 use Rattle.mscp_control.specs.Controllers.{KeepsPromise}
-use Rattle.mscp_control.proofs.Bridge.Swept.{sweeping}
+use Rattle.mscp_control.proofs.Bridge.Swept.{sweeping, swept_pick}
 use Rattle.mscp_control.proofs.Bridge.Held.{figure_of_held}
 use Rattle.mscp_control.proofs.Promise.Progress.{progress}
 use Rattle.mscp_control.proofs.Bridge.Sending.{balance_held}
 use Rattle.mscp_control.proofs.Bridge.Following.{as_many, comes}
+use Rattle.mscp_control.proofs.Bridge.Calling.{called}
 
-pub keeps_promise : {K : Type 0} (c : Settings) (picks : List Choice → ℕ → Type 0) (picker : K) (es : List Event) (ns : List Entry) (h : Holdings K) → IsValid c → Answered picks (fresh c picker) es ns h
-    → KeepsPromise picks c es ns h
-keeps_promise c picks picker es ns h v r =
+-- ---- a run
+
+-- what a new controller answers to events
+pub record Runs (picks : List Choice → ℕ → Type 0) (c : Settings) (es : List Event) (ns : List Entry) : Type 0 where
+  pub headline : Headline c es ns
+  pub picked : IsPicked c picks (zip es ns)
+  pub swept : Sweeps picks → IsSweeping c (zip es ns)
+
+runs : {K : Type 0} (c : Settings) (picks : List Choice → ℕ → Type 0) (picker : K) (es : List Event) (ns : List Entry) (h : Holdings K) → IsValid c → Answered picks (fresh c picker) es ns h → Runs picks c es ns
+runs c picks picker es ns h v r =
     let t = zip es ns in
     let k = comes c picks picker h es ns v r in
-    let f = k.agrees.follows in
     record {
       headline = record { answers = as_many picks (fresh c picker) h es ns r; legal = k.legal; promise = progress c t v k.legal };
       picked = k.picked;
       swept = λ w. sweeping c picks t w k.picked;
+    }
+
+-- the same where the controller is known to be new
+pub new_runs : {K : Type 0} (c : Settings) (picks : K → List Choice → ℕ → Type 0) (picker : K) (new : Holdings K) (es : List Event) (ns : List Entry) (h : Holdings K) → IsValid c → new ≡ fresh c picker
+    → Answered (picks new.picker) new es ns h → Runs (picks picker) c es ns
+new_runs {K} c picks picker new es ns h v e r = runs c (picks picker) picker es ns h v (subst (λ (n : Holdings K). Answered (picks n.picker) n es ns h) e r)
+
+-- ---- whoever calls
+
+chosen_swept : (c : Settings) (picks : List Choice → ℕ → Type 0) (so_far : List Call) (n : Name) → Sweeps picks → IsChosen (IsPick c picks) so_far n → IsChosen (IsSwept c) so_far n
+chosen_swept c picks so_far n w (inl h) = inl (h.0, swept_pick c picks (history so_far) n w h.1)
+chosen_swept c picks so_far n w (inr h) = inr (h.0, h.1, h.2, h.3, h.4, swept_pick c picks (history (take h.2 so_far)) n w h.5)
+
+starts_swept : (c : Settings) (picks : List Choice → ℕ → Type 0) (so_far : List Call) (o : Option Name) → Sweeps picks → IfSome o (IsChosen (IsPick c picks) so_far) → IfSome o (IsChosen (IsSwept c) so_far)
+starts_swept c picks so_far None w h = tt
+starts_swept c picks so_far (Some n) w h = chosen_swept c picks so_far n w h
+
+pub keeps_promise : {K : Type 0} (c : Settings) (picks : List Choice → ℕ → Type 0) (picker : K) (calls : List Call) (h : Holdings K) → IsValid c → Called picks (fresh c picker) calls h → KeepsPromise picks c calls h
+keeps_promise c picks picker calls h v r =
+    let t = history calls in
+    let k = called c picks picker h calls v r in
+    let f = k.agrees.follows in
+    record {
+      legal = k.legal;
+      promise = progress c t v k.legal;
+      right = k.right;
+      begun = k.begun;
+      picked = k.picked;
+      swept = λ w i l. starts_swept c picks (take i calls) (starts (call_at calls i)) w (k.picked i l);
       figure = λ reference. ap (λ ws. figure_of_reference c.passing c.longest ws reference) f.waits ∙ figure_of_held c t reference;
       drives = k.agrees.driven.drives;
       balance = ap (λ (s : Settings). s.credits - (length h.waiting + length h.untaken)) k.settings ∙ balance_held c t h.waiting h.untaken f;
     }
-
--- the same where the controller is known to be new
-pub new_keeps_promise : {K : Type 0} (c : Settings) (picks : K → List Choice → ℕ → Type 0) (picker : K) (new : Holdings K) (es : List Event) (ns : List Entry) (h : Holdings K) → IsValid c → new ≡ fresh c picker
-    → Answered (picks new.picker) new es ns h → KeepsPromise (picks picker) c es ns h
-new_keeps_promise {K} c picks picker new es ns h v e r = keeps_promise c (picks picker) picker es ns h v (subst (λ (n : Holdings K). Answered (picks n.picker) n es ns h) e r)

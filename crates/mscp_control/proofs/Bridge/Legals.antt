@@ -1,8 +1,7 @@
 -- A run whose moments are right one by one is legal.
-use Rattle.std.proofs.Common.{◌≡◌, ℕ, ◌<◌, ⊎_elim, true, ◌||◌, List, [], ◌∷◌, ◌++◌, take, length, refl, ap, sym, subst, arith, append-nil}
-use Rattle.std.specs.Prelude.{nat_eq}
-use Rattle.std.proofs.lemmas.List.{length_push, take_at, take-append-le, append_assoc}
-use Rattle.std.proofs.lemmas.Bool.{cases_lt}
+use Rattle.std.proofs.Common.{◌≡◌, ℕ, ◌<◌, true, ◌||◌, List, [], ◌∷◌, ◌++◌, take, length, ap, sym, subst, arith, append-nil}
+use Rattle.std.specs.Prelude.{nat_eq, None}
+use Rattle.std.proofs.lemmas.List.{append_assoc}
 use Rattle.mscp_queue.specs.declared.block.Block.{Block}
 use Rattle.mscp_control.specs.Settings.{Settings}
 use Rattle.mscp_control.specs.History.{Trace, Moment, moment, Service, service_in, WhenStarted}
@@ -10,7 +9,9 @@ use Rattle.mscp_control.specs.Commands.{reference, service_name, unit, is_waitin
 use Rattle.mscp_control.specs.Passing.{is_startable}
 use Rattle.mscp_queue.specs.declared.view.Choice.{Choice}
 use Rattle.mscp_control.specs.Legal.{IsPick, IsPicked, IsRight, IsLegal, IsServed, block_of, seek_to, end_of}
-use Rattle.mscp_control.proofs.Promise.Grows.{moment_before, moment_last}
+use Rattle.mscp_control.specs.declared.event.Event.TheVariants as events
+use Rattle.mscp_control.specs.declared.event.Entry.TheVariants as entries
+use Rattle.mscp_queue.proofs.Placed.{each_push}
 
 -- each moment is right after those before it
 abbrev pub RightFrom : Settings → Trace → Trace → Type 0
@@ -18,15 +19,10 @@ RightFrom c t [] = Unit {0}
 RightFrom c t (m ∷ ms) = IsRight c t m.0 m.1 × RightFrom c (t ++ m ∷ []) ms
 
 -- What holds at each moment, with one more.
-pub each_more : (R : Trace → Moment → Type 0) (t : Trace) (m : Moment) → ((i : ℕ) → i < length t → R (take i t) (moment t i)) → R t m
+each_more : (R : Trace → Moment → Type 0) (t : Trace) (m : Moment) → ((i : ℕ) → i < length t → R (take i t) (moment t i)) → R t m
     → (i : ℕ) → i < length (t ++ m ∷ []) → R (take i (t ++ m ∷ [])) (moment (t ++ m ∷ []) i)
-each_more R t m l r i h =
-    ⊎_elim
-    (λ b. subst (λ (n : Moment). R (take i (t ++ m ∷ [])) n) (sym (moment_before t m i b)) (subst (λ u. R u (moment t i)) (sym (take-append-le i t (m ∷ []) (omega (arith, b)))) (l i b)))
-    (λ b. let e : length t ≡ i = omega (arith, b, h, length_push t m) in
-    subst (λ i. R (take i (t ++ m ∷ [])) (moment (t ++ m ∷ []) i)) e
-    (subst (λ (n : Moment). R (take (length t) (t ++ m ∷ [])) n) (sym (moment_last t m)) (subst (λ u. R u m) (sym (take_at t (m ∷ []) (length t) refl)) r)))
-    (cases_lt i (length t))
+unfolding moment
+each_more R t m l r = each_push (events.Take, entries.Taken None) R t m l r
 
 -- One more right moment.
 pub legal_more : (c : Settings) (t : Trace) (m : Moment) → IsLegal c t → IsRight c t m.0 m.1 → IsLegal c (t ++ m ∷ [])

@@ -1,11 +1,11 @@
 -- A step of the record that may be served next: it is right, it is picked, and what is held after it is that of the run.
 use Rattle.std.proofs.Common.{◌≡◌, ℕ, ◌+◌, ◌<◌, Bool, true, false, cond, ◌&&◌, ◌||◌, List, [], ◌∷◌, ◌++◌, map, take, drop, get_or, length, refl, ap, sym, ◌∙◌, subst, arith}
-use Rattle.std.specs.Prelude.{All, filter, nat_eq, nat_lt, Option, Some, None, is_some, option_to_list, if◌then◌else◌}
-use Rattle.std.specs.List.{AllByRecursion, list_all, range_with_len}
+use Rattle.std.specs.Prelude.{All, IfSome, nat_eq, nat_lt, Option, Some, None, is_some, option_to_list, if◌then◌else◌}
+use Rattle.std.specs.List.{AllByRecursion, list_all}
 use Rattle.std.proofs.Math.Bool.{and-false}
 use Rattle.std.proofs.lemmas.Bool.{eq-eqb, eqb-false, eqb-true, lt-ltb, true≢false, false≢true}
 use Rattle.std.proofs.lemmas.List.{get_or-map, length-map, map-append, take-map, drop-map}
-use Rattle.std.proofs.lemmas.List.Elements.{All-from_recursion, recursion_from_All}
+use Rattle.std.proofs.lemmas.List.Elements.{recursion_from_All}
 use Rattle.mscp_packet.specs.declared.end.End.{End}
 use Rattle.mscp_queue.specs.declared.block.Block.{Block}
 use Rattle.mscp_queue.specs.declared.block.Block.TheVariants.{Good, Bad}
@@ -21,11 +21,11 @@ use Rattle.mscp_queue.specs.Outcomes.{goes_on, is_good_block, touches}
 use Rattle.mscp_queue.specs.Records.{Record, advanced, step_toll, passed_by, record_at, remains}
 use Rattle.mscp_queue.specs.Records as recorded
 use Rattle.mscp_queue.specs.Serving.{IsNext, drive_after, end_given, report_of, waiting_after}
-use Rattle.mscp_queue.specs.Views.{is_open_at, open_places}
+use Rattle.mscp_queue.specs.Views.{open_places}
 use Rattle.mscp_control.specs.declared.event.Event.TheVariants as events
 use Rattle.mscp_control.specs.declared.event.Entry.TheVariants as entries
 use Rattle.mscp_control.specs.Settings.{Settings, IsValid, unit_found}
-use Rattle.mscp_control.specs.History.{Trace, Moment, is_good, Service, service_in, WhenStarted}
+use Rattle.mscp_control.specs.History.{Trace, Moment, is_good, service_in, WhenStarted}
 use Rattle.mscp_control.specs.Commands.{reference, service_name, unit, order, is_idle, is_waiting, waiting, done, good, in_service, left, serves_in}
 use Rattle.mscp_control.specs.Passing.{is_startable, passes, startable, toll}
 use Rattle.mscp_control.specs.Passing as passing
@@ -33,7 +33,7 @@ use Rattle.mscp_control.specs.Units.{is_online}
 use Rattle.mscp_control.specs.Ends.{outcome, untaken}
 use Rattle.mscp_control.specs.Legal.{IsPick, IsRight, block_of, end_of, IsServed, seek_to, view}
 use Rattle.mscp_control.specs.Holdings.{Holdings, ends_reported, line_of}
-use Rattle.mscp_queue.proofs.Lists.{every_mapped, every_weaker, every_both, every_filter, every_from, every_parts}
+use Rattle.mscp_queue.proofs.Lists.{every_mapped, every_weaker, every_both, every_from, every_parts}
 use Rattle.mscp_control.proofs.Promise.Grows.{command_before, done_before, good_before, untaken_more}
 use Rattle.mscp_control.proofs.Promise.Waits.{cut_of, waiting_below, waiting_waits}
 use Rattle.mscp_control.proofs.Promise.Apart.{Apart}
@@ -109,6 +109,20 @@ next_held c picks t ds begun place d n =
     } in
     (next, chosen)
 
+-- what is read of the record at a place: it is that of its command, and its drive that of its unit
+pub record Reads (c : Settings) (t : Trace) (ds : List Drive) (ws : List Record) (place : ℕ) : Type 0 where
+  pub own : record_at ws place ≡ held_of t (waiting_at t place)
+  pub at : drive_of ds (record_at ws place).command.unit ≡ drive_by c t (unit t (waiting_at t place))
+
+pub reads : (c : Settings) (t : Trace) (ds : List Drive) (ws : List Record) (place : ℕ) → Driven c t ds → ws ≡ map (held_of t) (waiting t) → place < length (waiting t) → Reads c t ds ws place
+reads c t ds ws place d e l =
+    let W = waiting t in
+    let y = waiting_at t place in
+    let found : is_some (unit_found c (unit t y)) ≡ true =
+    (every_parts (λ x. is_some (unit_found c (unit t x)) ≡ true) (take place W) (y ∷ drop (place + 1) W) (subst (AllByRecursion (λ x. is_some (unit_found c (unit t x)) ≡ true)) (cut_at t place l) d.configured)).1.0 in
+    let own : record_at ws place ≡ held_of t y = ap (λ zs. record_at zs place) e ∙ record_held t place l in
+    record { own = own; at = ap (λ (r : Record). drive_of ds r.command.unit) own ∙ drive_found c t ds (unit t y) d found }
+
 -- ---- what it says
 
 -- the moment that serves y
@@ -122,11 +136,16 @@ report_held : (c : Settings) (t : Trace) (k : Block) (y : ℕ)
 unfolding block_of
 report_held c t k y = λ i. entries.Stepped (reports.Served (reference t y) (unit t y) (block_of t y) (nat_eq (done t y) 0) (seek_held c t (unit t y) (block_of t y) i) (end_held c t k y i))
 
+-- the command at a place waits
+pub waits_at : (t : Trace) (place : ℕ) → place < length (waiting t) → is_waiting t (waiting_at t place) ≡ true
+waits_at t place l =
+    let P : ℕ → Type 0 = λ x. is_waiting t x ≡ true in
+    (every_parts P (take place (waiting t)) (waiting_at t place ∷ drop (place + 1) (waiting t)) (subst (AllByRecursion P) (cut_at t place l) (waiting_waits t))).1.0
+
 served_at : (c : Settings) (t : Trace) (k : Block) (place : ℕ) → Next c t place → IsServed c t k (service_by c t k (waiting_at t place)) (waiting_at t place)
 served_at c t k place n =
-    let P : ℕ → Type 0 = λ x. is_waiting t x ≡ true in
     record {
-      waits = (every_parts P (take place (waiting t)) (waiting_at t place ∷ drop (place + 1) (waiting t)) (subst (AllByRecursion P) (cut_at t place n.inside) (waiting_waits t))).1.0;
+      waits = waits_at t place n.inside;
       next = n.next;
       lbn = refl;
       started = refl;
@@ -287,16 +306,11 @@ waiting_served c t k place d apart n e idle =
     ∙ (ap (λ l. map h' A ++ l) (sym (map-append h' gone B))
     ∙ (sym (map-append h' A (gone ++ B)) ∙ ap (map h') (sym st.changes.waits))))))))))
 
--- if a command is served, the service obeys R
-abbrev pub WhenServed : (Service → Type 0) → Option Service → Type 0
-WhenServed R None = Unit {0}
-WhenServed R (Some s) = R s
-
 -- what is answered to a step is right and picked, and what is then held is that of the run
 pub record Turns {K : Type 0} (c : Settings) (picks : List Choice → ℕ → Type 0) (t : Trace) (m : Moment) (begun : Option Name) (h : Holdings K) : Type 0 where
   pub sends : Sends c t m h
   -- what was begun is served
-  pub same : (n : Name) → begun ≡ Some n → WhenServed (λ s. service_name s ≡ n) (service_in m.1)
+  pub same : (n : Name) → begun ≡ Some n → IfSome (service_in m.1) (λ s. service_name s ≡ n)
   -- and where nothing was, what starts is picked
   pub picked : begun ≡ None → WhenStarted (λ s. IsPick c picks t (service_name s)) (service_in m.1)
 
@@ -334,11 +348,9 @@ turns_at {K} picks h h' t k report place v a s u =
     let apart = f.known.steady.apart in
     let st = step_at c t k place apart n in
     let idle = unstarted_front c picks t place h.drives rs h.begun refl next n in
-    let found : is_some (unit_found c (unit t y)) ≡ true =
-    (every_parts (λ x. is_some (unit_found c (unit t x)) ≡ true) (take place W) (y ∷ drop (place + 1) W) (subst (AllByRecursion (λ x. is_some (unit_found c (unit t x)) ≡ true)) (cut_at t place n.inside) a.driven.configured)).1.0 in
-    let drive : drive_of h.drives (unit t y) ≡ drive_by c t (unit t y) = drive_found c t h.drives (unit t y) a.driven found in
-    let own : record_at h.waiting place ≡ held_of t y = ap (λ ws. record_at ws place) f.waits ∙ record_held t place n.inside in
-    let at : drive_of h.drives (record_at h.waiting place).command.unit ≡ drive_by c t (unit t y) = ap (λ (r : Record). drive_of h.drives r.command.unit) own ∙ drive in
+    let read = reads c t h.drives h.waiting place a.driven f.waits n.inside in
+    let own = read.own in
+    let at = read.at in
     let told : report ≡ report_of k (drive_by c t (unit t y)) (held_of t y) = s.told ∙ (λ i. report_of k (at i) (own i)) in
     let entry : entries.Stepped report ≡ m.1 = ap entries.Stepped told ∙ report_held c t k y in
     let right : IsRight c t m.0 m.1 = (y, served_at c t k place n) in

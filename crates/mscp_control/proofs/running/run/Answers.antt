@@ -1,14 +1,14 @@
-use Rattle.mscp_control.proofs.Bridge.Controllers.{new_keeps_promise}
+use Rattle.mscp_control.proofs.Bridge.Controllers.{new_runs}
 use Rattle.mscp_control.proofs.running.run.Goals as goal
 
 pub returns-clause-headline : goal.returns-clause-headline
 returns-clause-headline g c =
-    let new = c.new-controller in (new_keeps_promise c.args.config g.K.Picker.picks c.args.picker new.result c.args.events.now _ _ new.ensures.valid new.ensures.fresh c.answer_each.ensures).headline
+    let new = c.new-controller in (new_runs c.args.config g.K.Picker.picks c.args.picker new.result c.args.events.now _ _ new.ensures.valid new.ensures.fresh c.answer_each.ensures).headline
 
 pub returns-clause-picked : goal.returns-clause-picked
 returns-clause-picked g c =
-    let new = c.new-controller in (new_keeps_promise c.args.config g.K.Picker.picks c.args.picker new.result c.args.events.now _ _ new.ensures.valid new.ensures.fresh c.answer_each.ensures).picked
+    let new = c.new-controller in (new_runs c.args.config g.K.Picker.picks c.args.picker new.result c.args.events.now _ _ new.ensures.valid new.ensures.fresh c.answer_each.ensures).picked
 
 pub returns-clause-swept : goal.returns-clause-swept
 returns-clause-swept g c =
-    let new = c.new-controller in (new_keeps_promise c.args.config g.K.Picker.picks c.args.picker new.result c.args.events.now _ _ new.ensures.valid new.ensures.fresh c.answer_each.ensures).swept
+    let new = c.new-controller in (new_runs c.args.config g.K.Picker.picks c.args.picker new.result c.args.events.now _ _ new.ensures.valid new.ensures.fresh c.answer_each.ensures).swept

@@ -1,0 +1,160 @@
+-- What somebody calls who holds a controller, and what it answers: events, begins and finishes.
+use Rattle.std.specs.Prelude.{◌≡◌, ◌≢◌, ◌⊎◌, ℕ, ◌+◌, ◌<◌, Bool, true, false, ◌||◌, nat_eq, if◌then◌else◌, List, [], ◌∷◌, length, take, drop, flat_map, slice_index_or, Option, Some, None, IfSome, Result, Ok, Err}
+use Rattle.std.specs.List.{list_any}
+use Rattle.mscp_queue.specs.declared.block.Block.{Block}
+use Rattle.mscp_queue.specs.declared.report.Report.{Report}
+use Rattle.mscp_queue.specs.declared.upcoming.Upcoming.{Upcoming}
+use Rattle.mscp_queue.specs.declared.view.Choice.{Choice}
+use Rattle.mscp_queue.specs.Names.{Name, name_of}
+use Rattle.mscp_control.specs.declared.event.Event.{Event}
+use Rattle.mscp_control.specs.declared.event.Event.TheVariants as events
+use Rattle.mscp_control.specs.declared.event.Entry.{Entry}
+use Rattle.mscp_control.specs.declared.event.Entry.TheVariants as entries
+use Rattle.mscp_control.specs.declared.event.Stale.{Stale}
+use Rattle.mscp_control.specs.Settings.{Settings}
+use Rattle.mscp_control.specs.History.{Moment, Trace, Service, is_step, service_in}
+use Rattle.mscp_control.specs.Commands.{command, done, in_service, is_waiting, service_name, waiting, weight}
+use Rattle.mscp_control.specs.Passing.{is_startable}
+use Rattle.mscp_control.specs.Legal.{block_of}
+use Rattle.mscp_control.specs.Holdings.{Answers, Finishes, Foretells, Holdings}
+
+-- a call, and what was answered to it (profile)
+pub data Call : Type 0 where
+  -- an event: a message, a take, a step or a look
+  Plain : Event → Entry → Call
+  -- a begin, and what it told of the next step
+  Begin : Option Upcoming → Call
+  -- the finish of the command of this reference number, whose block had this outcome
+  Finish : ℕ → Block → Result Report Stale → Call
+
+-- the moments of a call: a finish that isn't stale is a step, and a begin is no moment (profile)
+abbrev pub moments_of : Call → List Moment
+moments_of (Plain event entry) = (event, entry) ∷ []
+moments_of (Begin upcoming) = []
+moments_of (Finish reference k (Ok report)) = (events.Step k, entries.Stepped report) ∷ []
+moments_of (Finish reference k (Err stale)) = []
+
+-- the history of calls, oldest first (profile)
+abbrev pub history : List Call → Trace
+history calls = flat_map moments_of calls
+
+-- the call at a position. Past the end it is one that tells nothing (profile)
+abbrev pub call_at : List Call → ℕ → Call
+call_at calls i = slice_index_or calls i (Begin None)
+
+-- ---- what one call says
+
+-- what a begin told of the next step
+abbrev pub told : Call → Option Upcoming
+told (Begin upcoming) = upcoming
+told call = None
+
+-- what is said of a step that served a command, if the call was one
+abbrev pub served : Call → Option Service
+served (Plain event entry) = service_in entry
+served (Begin upcoming) = None
+served (Finish reference k (Ok report)) = service_in (entries.Stepped report)
+served (Finish reference k (Err stale)) = None
+
+-- the call was a step
+abbrev pub steps : Call → Bool
+steps call = list_any (λ m. is_step m.0) (moments_of call)
+
+abbrev pub started : Option Service → Option Name
+started None = None
+started (Some s) = if s.started then Some (service_name s) else None
+
+-- the name of the command that a call starts, or of which it tells that the next step starts it
+abbrev pub starts : Call → Option Name
+starts (Begin None) = None
+starts (Begin (Some upcoming)) = if nat_eq upcoming.done 0 then Some (name_of upcoming.command) else None
+starts call = started (served call)
+
+-- ---- what was begun
+
+-- what is told of y before its next step (profile)
+abbrev pub foretold : Trace → ℕ → Upcoming
+foretold t y = record { command = command t y; lbn = block_of t y; done = done t y; weight = weight t y }
+
+-- after the calls y is begun, since the call at j: that was a begin which told this of y, no step came since, and y still
+-- waits (profile)
+pub record IsBegun (calls : List Call) (upcoming : Upcoming) (y j : ℕ) : Type 0 where
+  pub inside : j < length calls
+  pub told : told (call_at calls j) ≡ Some upcoming
+  pub own : upcoming ≡ foretold (history (take j calls)) y
+  pub waited : is_waiting (history (take j calls)) y ≡ true
+  pub unstepped : list_any steps (drop (j + 1) calls) ≡ false
+  pub waits : is_waiting (history calls) y ≡ true
+
+-- after the calls nothing is begun
+abbrev pub NothingBegun : List Call → Type 0
+NothingBegun calls = (upcoming : Upcoming) (y j : ℕ) → IsBegun calls upcoming y j → ⊥
+
+-- ---- what may be answered
+
+-- a begin may tell this: nothing where nothing waits, and else of a command that is in service or may start (profile)
+abbrev pub IsForetold : Settings → Trace → Option Upcoming → Type 0
+IsForetold c t None = waiting t ≡ []
+IsForetold c t (Some upcoming) =
+    (y : ℕ) × (is_waiting t y ≡ true) × ((in_service t y || is_startable c t y) ≡ true) × (upcoming ≡ foretold t y)
+
+-- the command of this reference number is begun
+abbrev pub IsBegunAs : List Call → ℕ → Type 0
+IsBegunAs calls reference =
+    (upcoming : Upcoming) × (y : ℕ) × (j : ℕ) × IsBegun calls upcoming y j × (upcoming.command.reference ≡ reference)
+
+-- after these calls this may be answered: a begin tells what it may, and only what is begun is finished. What may be
+-- answered to an event is said by IsLegal (profile)
+abbrev pub IsRightCall : Settings → List Call → Call → Type 0
+IsRightCall c so_far (Plain event entry) = Unit {0}
+IsRightCall c so_far (Begin upcoming) = IsForetold c (history so_far) upcoming
+IsRightCall c so_far (Finish reference k (Ok report)) = IsBegunAs so_far reference
+IsRightCall c so_far (Finish reference k (Err stale)) = Unit {0}
+
+-- the step serves what was told: this command, this block, and it is its first step if it had none (profile)
+pub record IsAsTold (upcoming : Upcoming) (s : Service) : Type 0 where
+  pub reference : s.reference ≡ upcoming.command.reference
+  pub unit : s.unit ≡ upcoming.command.unit
+  pub lbn : s.lbn ≡ upcoming.lbn
+  pub started : s.started ≡ nat_eq upcoming.done 0
+
+-- the call holds to what was begun: a begin tells the same, a step serves it, and a finish isn't stale where it is of this
+-- command, and only there (profile)
+abbrev pub HoldsTo : Upcoming → Call → Type 0
+HoldsTo upcoming (Plain event entry) = IfSome (service_in entry) (IsAsTold upcoming)
+HoldsTo upcoming (Begin again) = again ≡ Some upcoming
+HoldsTo upcoming (Finish reference k (Ok report)) =
+    (upcoming.command.reference ≡ reference) × IfSome (service_in (entries.Stepped report)) (IsAsTold upcoming)
+HoldsTo upcoming (Finish reference k (Err stale)) = upcoming.command.reference ≢ reference
+
+-- the call holds to all that was begun
+abbrev pub HoldsToBegun : List Call → Call → Type 0
+HoldsToBegun so_far call = (upcoming : Upcoming) (y j : ℕ) → IsBegun so_far upcoming y j → HoldsTo upcoming call
+
+-- the command of this name was chosen where R allowed it: now, where nothing is begun, or else at its begin (profile)
+abbrev pub IsChosen : (Trace → Name → Type 0) → List Call → Name → Type 0
+IsChosen R so_far n =
+    (NothingBegun so_far × R (history so_far) n)
+    ⊎ ((upcoming : Upcoming) × (y : ℕ) × (j : ℕ) × IsBegun so_far upcoming y j × (name_of upcoming.command ≡ n)
+    × R (history (take j so_far)) n)
+
+-- what the call starts, or tells that the next step starts it, was chosen where R allowed it
+abbrev pub StartsChosen : (Trace → Name → Type 0) → List Call → Call → Type 0
+StartsChosen R so_far call = IfSome (starts call) (IsChosen R so_far)
+
+-- R holds at each call, of the calls before it and of itself
+abbrev pub AtEachCall : List Call → (List Call → Call → Type 0) → Type 0
+AtEachCall calls R = (i : ℕ) → i < length calls → R (take i calls) (call_at calls i)
+
+-- ---- what is held
+
+-- what may be answered to a call, and what is held after it
+abbrev pub Calls : {K : Type 0} → (List Choice → ℕ → Type 0) → Holdings K → Call → Holdings K → Type 0
+Calls picks old (Plain event entry) new = Answers picks old event entry new
+Calls picks old (Begin upcoming) new = Foretells picks old upcoming new
+Calls picks old (Finish reference k answer) new = Finishes picks reference k old answer new
+
+-- the same of calls, one after the other
+abbrev pub Called : {K : Type 0} → (List Choice → ℕ → Type 0) → Holdings K → List Call → Holdings K → Type 0
+Called picks old [] new = new ≡ old
+Called {K} picks old (call ∷ calls) new = (next : Holdings K) × Calls picks old call next × Called picks next calls new
