@@ -11,6 +11,7 @@ pub mod Stepped
 pub mod Swept
 pub mod Following
 pub mod Begun
+pub mod Telling
 pub mod Calling
 pub mod Controllers
 pub mod Answering

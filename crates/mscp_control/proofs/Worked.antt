@@ -9,4 +9,5 @@ pub mod States
 pub mod Heads
 pub mod Sweep
 pub mod Aborts
+pub mod Begins
 pub mod Wrong

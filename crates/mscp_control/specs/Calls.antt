@@ -50,25 +50,26 @@ told (Begin upcoming) = upcoming
 told call = None
 
 -- what is said of a step that served a command, if the call was one
-abbrev pub served : Call → Option Service
-served (Plain event entry) = service_in entry
-served (Begin upcoming) = None
-served (Finish reference k (Ok report)) = service_in (entries.Stepped report)
-served (Finish reference k (Err stale)) = None
+abbrev pub service_of : Call → Option Service
+service_of (Plain event entry) = service_in entry
+service_of (Begin upcoming) = None
+service_of (Finish reference k (Ok report)) = service_in (entries.Stepped report)
+service_of (Finish reference k (Err stale)) = None
 
 -- the call was a step
 abbrev pub steps : Call → Bool
 steps call = list_any (λ m. is_step m.0) (moments_of call)
 
-abbrev pub started : Option Service → Option Name
-started None = None
-started (Some s) = if s.started then Some (service_name s) else None
+-- the name of the command that a service starts, if it starts one
+abbrev pub start_of : Option Service → Option Name
+start_of None = None
+start_of (Some s) = if s.started then Some (service_name s) else None
 
 -- the name of the command that a call starts, or of which it tells that the next step starts it
 abbrev pub starts : Call → Option Name
 starts (Begin None) = None
 starts (Begin (Some upcoming)) = if nat_eq upcoming.done 0 then Some (name_of upcoming.command) else None
-starts call = started (served call)
+starts call = start_of (service_of call)
 
 -- ---- what was begun
 

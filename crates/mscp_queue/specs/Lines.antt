@@ -64,8 +64,8 @@ abbrev pub begun_at : {K : Type 0} → Line K → ℕ → Line K
 begun_at line place = record line { begun = Some (name_of (record_at line.waiting place).command) }
 
 -- a queue once the command of this reference number was aborted: it is begun no more
-abbrev pub aborted : {K : Type 0} → ℕ → Line K → Line K
-aborted reference line = record line {
+abbrev pub aborting : {K : Type 0} → ℕ → Line K → Line K
+aborting reference line = record line {
   waiting = without reference line.waiting;
   begun = if is_begun reference line.begun then None else line.begun;
 }

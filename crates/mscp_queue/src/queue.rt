@@ -5,7 +5,7 @@ ghost use Rattle.std.specs.List.{list_any};
 ghost use Rattle.mscp_queue.specs.Drives.{is_online_in};
 ghost use Rattle.mscp_queue.specs.Figures.{figure_of_reference, figures};
 ghost use Rattle.mscp_queue.specs.Kept.{IsWaitable, units_of};
-ghost use Rattle.mscp_queue.specs.Lines.{Begins, BeginsAt, Line, Serves, ServesAt, aborted, fresh, pushed};
+ghost use Rattle.mscp_queue.specs.Lines.{Begins, BeginsAt, Line, Serves, ServesAt, aborting, fresh, pushed};
 ghost use Rattle.mscp_queue.specs.Orders.{order_weight};
 ghost use Rattle.mscp_queue.specs.Records.{aborted_record, has_reference};
 ghost use Rattle.mscp_queue.specs.Serving.{IsNext, is_begun};
@@ -172,7 +172,7 @@ impl<K: Picker> Queue<K> {
     /// made isn't given back to the commands that it passed.
     pub fn abort(&mut self, reference: u32) -> Option<End>
         ensures end { result ≡ option_map aborted_record (find (has_reference reference) self.old.waiting) }
-        ensures after { self.new ≡ aborted reference self.old }
+        ensures after { self.new ≡ aborting reference self.old }
         ensures unchanged { IfNone result (self.new ≡ self.old) }
         ensures count { IfSome result (λ end. length self.new.waiting + 1 ≡ length self.old.waiting) }
     {

@@ -12,13 +12,15 @@ use Rattle.mscp_queue.specs.Names.{Name, name_of}
 use Rattle.mscp_control.specs.Settings.{Settings}
 use Rattle.mscp_control.specs.History.{Trace}
 use Rattle.mscp_control.specs.Commands.{ends_in, is_waiting, reference, waiting}
-use Rattle.mscp_control.specs.Legal.{IsPick}
-use Rattle.mscp_control.specs.Calls.{Call, IsBegun, NothingBegun, call_at, foretold, history, moments_of, steps, told}
+use Rattle.mscp_control.specs.Legal.{IsLegal, IsPick}
+use Rattle.mscp_control.specs.Calls.{Call, HoldsToBegun, IsBegun, IsRightCall, NothingBegun, StartsChosen, call_at, foretold, history, moments_of, steps, told}
 use Rattle.mscp_control.specs.Calls.{Begin}
 use Rattle.mscp_control.proofs.Promise.Apart.{Apart}
 use Rattle.mscp_control.proofs.Promise.Among.{one_waits}
 use Rattle.mscp_control.proofs.Promise.Grows.{is_waiting_before}
-use Rattle.mscp_control.proofs.Promise.Waits.{waits_below}
+use Rattle.mscp_control.specs.Holdings.{Holdings}
+use Rattle.mscp_control.proofs.Bridge.Sending.{Agrees}
+use Rattle.mscp_control.proofs.Promise.Waits.{cut, waits_below}
 
 -- ---- one more call
 
@@ -217,3 +219,22 @@ holds_again c picks calls n up y j apart b =
 -- a begin that finds nothing
 pub nothing_told : (calls : List Call) → waiting (history calls) ≡ [] → NothingBegun calls → NothingBegun (calls ++ Begin None ∷ [])
 nothing_told calls e none up y j b = either ⊥ calls (Begin None) up y j (λ k z. none up y j k) (λ l. untold (Begin None) up refl l.told) b
+
+-- ---- a call
+
+-- what is known of a call, and of what is then held
+pub record Turned {K : Type 0} (c : Settings) (picks : List Choice → ℕ → Type 0) (calls : List Call) (call : Call) (h : Holdings K) : Type 0 where
+  pub legal : IsLegal c (history (calls ++ call ∷ []))
+  pub agrees : Agrees c (history (calls ++ call ∷ [])) h
+  pub right : IsRightCall c calls call
+  pub begun : HoldsToBegun calls call
+  pub picked : StartsChosen (IsPick c picks) calls call
+  pub holds : Holds c picks (calls ++ call ∷ []) h.begun
+
+-- what is held to be begun, and that it is
+abbrev pub Held : {K : Type 0} → Settings → (List Choice → ℕ → Type 0) → List Call → Holdings K → Option Name → Type 0
+Held c picks calls h o = (h.begun ≡ o) × Holds c picks calls o
+
+-- something waits that is begun
+pub none_waits : (t : Trace) (y : ℕ) → waiting t ≡ [] → is_waiting t y ≡ true → ⊥
+none_waits t y e w = let k = cut t y (waits_below t y w) w in absurd (omega (arith, ap length (sym e ∙ k.2.is), length-append k.0 (y ∷ k.1)))

@@ -2,7 +2,6 @@
 use Rattle.std.proofs.Common.{◌≡◌, inl, inr, ℕ, ◌<◌, Bool, true, false, not, ◌&&◌, ◌||◌, List, [], ◌∷◌, ◌++◌, map, take, length, refl, ap, sym, ◌∙◌, subst, append_assoc, append-nil, arith}
 use Rattle.std.specs.Prelude.{IfSome, if◌then◌else◌, nat_eq, option_map, Option, Some, None, Result, Ok, Err}
 use Rattle.std.proofs.lemmas.Bool.{eqb-false, eqb-true, false≢true}
-use Rattle.std.proofs.lemmas.List.{length-append}
 use Rattle.mscp_packet.specs.declared.command.Command.{Command}
 use Rattle.mscp_packet.specs.Commands.{command_of}
 use Rattle.mscp_queue.specs.declared.block.Block.{Block}
@@ -10,12 +9,12 @@ use Rattle.mscp_queue.specs.declared.report.Report.{Report}
 use Rattle.mscp_queue.specs.declared.report.Report.TheVariants as reports
 use Rattle.mscp_queue.specs.declared.upcoming.Upcoming.{Upcoming}
 use Rattle.mscp_queue.specs.declared.view.Choice.{Choice}
-use Rattle.mscp_queue.specs.Lines.{BeginsAt, Line}
-use Rattle.mscp_queue.specs.Names.{Name, name_of}
+use Rattle.mscp_queue.specs.Lines.{Line}
+use Rattle.mscp_queue.specs.Names.{Name}
 use Rattle.mscp_queue.specs.Orders.{order_weight}
 use Rattle.mscp_queue.specs.Outcomes.{block_touched}
 use Rattle.mscp_queue.specs.Records.{Record}
-use Rattle.mscp_queue.specs.Serving.{IsNext, is_begun, upcoming_of}
+use Rattle.mscp_queue.specs.Serving.{is_begun}
 use Rattle.mscp_control.specs.declared.event.Event.{Event}
 use Rattle.mscp_control.specs.declared.event.Event.TheVariants as events
 use Rattle.mscp_control.specs.declared.event.Entry.{Entry}
@@ -29,33 +28,23 @@ use Rattle.mscp_control.specs.History.{Trace, Moment, Service, is_step, service_
 use Rattle.mscp_control.specs.Commands.{ends_in, is_waiting, reference, unit, waiting}
 use Rattle.mscp_control.specs.Units.{is_online}
 use Rattle.mscp_control.specs.Legal.{IsLegal, IsPick, IsServed, block_of}
-use Rattle.mscp_control.specs.Holdings.{Answers, Finishes, Foretells, Holdings, Steps, aborted, aborting, answered_end, balance_of, begun_after, ended, fresh, held_unless, line_of, outstanding_of, queued, sent_unless}
-use Rattle.mscp_control.specs.Calls.{AtEachCall, Begin, Call, Called, Calls, Finish, HoldsToBegun, IsAsTold, IsBegun, IsBegunAs, IsChosen, IsRightCall, Plain, StartsChosen, foretold, history, started}
+use Rattle.mscp_control.specs.Holdings.{Answers, Finishes, Holdings, Steps, aborted, aborting, answered_end, balance_of, begun_after, ended, fresh, held_unless, outstanding_of, queued, sent_unless}
+use Rattle.mscp_control.specs.Calls.{AtEachCall, Begin, Call, Called, Calls, Finish, HoldsToBegun, IsAsTold, IsBegun, IsBegunAs, IsChosen, IsRightCall, Plain, StartsChosen, foretold, history, start_of}
 use Rattle.mscp_queue.proofs.Placed.{each_push}
 use Rattle.mscp_control.proofs.Promise.Among.{one_waits}
 use Rattle.mscp_control.proofs.Promise.Grows.{command_before, is_waiting_before}
 use Rattle.mscp_control.proofs.Promise.States.{is_online_kept}
 use Rattle.mscp_control.proofs.Promise.Steady.{done_kept}
-use Rattle.mscp_control.proofs.Promise.Waits.{cut, waits_below}
+use Rattle.mscp_control.proofs.Promise.Waits.{waits_below}
 use Rattle.mscp_control.proofs.Bridge.Aborting.{begun_left}
-use Rattle.mscp_control.proofs.Bridge.Begun.{Holds, begin_same, history_more, holds_again, holds_new, holds_on, nothing_stepped, nothing_told, reference_of}
-use Rattle.mscp_control.proofs.Bridge.Drives.{Driven, drive_by}
-use Rattle.mscp_control.proofs.Bridge.Following.{none_held, none_mapped, turns}
+use Rattle.mscp_control.proofs.Bridge.Begun.{Held, Turned, none_waits, Holds, history_more, holds_on, nothing_stepped, reference_of}
+use Rattle.mscp_control.proofs.Bridge.Following.{none_held, turns}
 use Rattle.mscp_control.proofs.Bridge.Held.{held_of}
 use Rattle.mscp_control.proofs.Bridge.Keeping.{owner_kept, unbegun_kept}
 use Rattle.mscp_control.proofs.Bridge.Legals.{legal_more}
 use Rattle.mscp_control.proofs.Bridge.Sending.{Agrees}
-use Rattle.mscp_control.proofs.Bridge.Stepped.{Turns, next_held, reads, waits_at}
-use Rattle.mscp_control.proofs.Bridge.Viewed.{waiting_at}
-
--- what is known of a call, and of what is then held
-pub record Turned {K : Type 0} (c : Settings) (picks : List Choice → ℕ → Type 0) (calls : List Call) (call : Call) (h : Holdings K) : Type 0 where
-  pub legal : IsLegal c (history (calls ++ call ∷ []))
-  pub agrees : Agrees c (history (calls ++ call ∷ [])) h
-  pub right : IsRightCall c calls call
-  pub begun : HoldsToBegun calls call
-  pub picked : StartsChosen (IsPick c picks) calls call
-  pub holds : Holds c picks (calls ++ call ∷ []) h.begun
+use Rattle.mscp_control.proofs.Bridge.Stepped.{Turns}
+use Rattle.mscp_control.proofs.Bridge.Telling.{begin}
 
 -- ---- an event that serves nobody
 
@@ -96,7 +85,7 @@ quiet c picks calls event entry h h' turn legal e s left none holds =
       agrees = subst (λ u. Agrees c u h') (sym same) turn.sends.agrees;
       right = tt;
       begun = λ up y j k. subst (λ o. IfSome o (IsAsTold up)) (sym e) tt;
-      picked = subst (λ o. IfSome (started o) (IsChosen (IsPick c picks) calls)) (sym e) tt;
+      picked = subst (λ o. IfSome (start_of o) (IsChosen (IsPick c picks) calls)) (sym e) tt;
       holds = holds_on c picks calls call h.begun h'.begun (ap (λ b. b || false) s) refl stays link none holds;
     }
 
@@ -111,10 +100,6 @@ begun_unless {K} h t k n y None e b w own =
     [ true ↦ b | false ↦ ap (λ o. begun_after o k.order) b ∙ begun_left k.reference t h.waiting n y k.order e w own ]
 
 -- ---- a step
-
--- what is held to be begun, and that it is
-abbrev Held : {K : Type 0} → Settings → (List Choice → ℕ → Type 0) → List Call → Holdings K → Option Name → Type 0
-Held c picks calls h o = (h.begun ≡ o) × Holds c picks calls o
 
 as_told : {K : Type 0} (c : Settings) (picks : List Choice → ℕ → Type 0) (calls : List Call) (k : Block) (report : Report) (h h' : Holdings K) (o : Option Name) → Agrees c (history calls) h → Held c picks calls h o
     → Turns c picks (history calls) (events.Step k, entries.Stepped report) h.begun h' → (up : Upcoming) (y j : ℕ) → IsBegun calls up y j → IfSome (service_in (entries.Stepped report)) (IsAsTold up)
@@ -137,7 +122,7 @@ as_told c picks calls k (reports.Served reference' unit' lbn started' seek ended
     subst (λ u. IsAsTold u s) (sym one.1) told
 
 starts_chosen : {K : Type 0} (c : Settings) (picks : List Choice → ℕ → Type 0) (calls : List Call) (k : Block) (report : Report) (h h' : Holdings K) (o : Option Name) → Agrees c (history calls) h → Held c picks calls h o
-    → Turns c picks (history calls) (events.Step k, entries.Stepped report) h.begun h' → IfSome (started (service_in (entries.Stepped report))) (IsChosen (IsPick c picks) calls)
+    → Turns c picks (history calls) (events.Step k, entries.Stepped report) h.begun h' → IfSome (start_of (service_in (entries.Stepped report))) (IsChosen (IsPick c picks) calls)
 starts_chosen c picks calls k reports.Idle h h' o a b turn = tt
 starts_chosen c picks calls k (reports.Served reference' unit' lbn false seek ended') h h' o a b turn = tt
 starts_chosen c picks calls k (reports.Served reference' unit' lbn true seek ended') h h' None a b turn = inl (b.1, turn.picked b.0 refl)
@@ -146,10 +131,6 @@ starts_chosen c picks calls k (reports.Served reference' unit' lbn true seek end
     let same : reference' ≡ n = turn.same n b.0 in
     let told = as_told c picks calls k (reports.Served reference' unit' lbn true seek ended') h h' (Some n) a b turn b.1.0 b.1.1 b.1.2 own.is in
     inr (b.1.0, b.1.1, b.1.2, own.is, own.own ∙ sym same, subst (IsPick c picks (history (take b.1.2 calls))) (sym same) (own.chosen (sym told.started)))
-
--- something waits that is begun
-none_waits : (t : Trace) (y : ℕ) → waiting t ≡ [] → is_waiting t y ≡ true → ⊥
-none_waits t y e w = let k = cut t y (waits_below t y w) w in absurd (omega (arith, ap length (sym e ∙ k.2.is), length-append k.0 (y ∷ k.1)))
 
 -- after a step nothing is begun
 unbegun_after : {K : Type 0} (c : Settings) (picks : List Choice → ℕ → Type 0) (calls : List Call) (k : Block) (report : Report) (h h' : Holdings K) (o : Option Name) → Held c picks calls h o
@@ -246,115 +227,6 @@ finish {K} picks calls number k (Err stale) h h' v a legal b r =
       picked = tt;
       holds = holds_on c picks calls call h.begun h'.begun refl refl (λ y w. ap (λ u. foretold u y) same) (λ n y e w own. held ∙ (e ∙ ap (λ b. if b then Some n else None) (sym (ap (λ u. is_waiting u y) same ∙ w)))) (λ n. held ∙ n) b;
     }
-
--- ---- a begin
-
-agrees_same : {K : Type 0} (c : Settings) (t : Trace) (h h' : Holdings K) → Agrees c t h → line_of h' ≡ record (line_of h) { begun = h'.begun } → h'.untaken ≡ h.untaken → Agrees c t h'
-agrees_same {K} c t h h' a e u =
-    record {
-      follows = record { known = a.follows.known; waits = ap (λ (l : Line K). l.waiting) e ∙ a.follows.waits; ends = u ∙ a.follows.ends };
-      driven = subst (Driven c t) (sym (ap (λ (l : Line K). l.drives) e)) a.driven;
-    }
-
--- what is told of the record at a place
-told_held : (c : Settings) (t : Trace) (y : ℕ) → upcoming_of (drive_by c t (unit t y)) (held_of t y) ≡ foretold t y
-unfolding block_of
-told_held c t y = refl
-
--- what is known of a begin of the command y
-record Tells {K : Type 0} (c : Settings) (picks : List Choice → ℕ → Type 0) (calls : List Call) (up : Upcoming) (h h' : Holdings K) (y : ℕ) : Type 0 where
-  pub waits : is_waiting (history calls) y ≡ true
-  pub own : up ≡ foretold (history calls) y
-  pub same : (n : Name) → h.begun ≡ Some n → reference (history calls) y ≡ n
-  pub picked : h.begun ≡ None → nat_eq up.done 0 ≡ true → IsPick c picks (history calls) (name_of up.command)
-  pub kept : h'.begun ≡ Some (name_of up.command)
-
--- it is what was begun, if something was
-tells_again : {K : Type 0} (c : Settings) (picks : List Choice → ℕ → Type 0) (calls : List Call) (up : Upcoming) (h h' : Holdings K) (y : ℕ) (n : Name) → Agrees c (history calls) h → h.begun ≡ Some n → (b : Holds c picks calls (Some n))
-    → Tells c picks calls up h h' y → up ≡ b.0
-tells_again c picks calls up h h' y n a e b k =
-    let t = history calls in
-    let one : y ≡ b.1 = one_waits t y b.1 a.follows.known.steady.apart k.waits b.3.is.waits (k.same n e ∙ sym (reference_of b.3)) in
-    k.own ∙ (ap (foretold t) one ∙ sym b.3.now)
-
-tells_begun : {K : Type 0} (c : Settings) (picks : List Choice → ℕ → Type 0) (calls : List Call) (up : Upcoming) (h h' : Holdings K) (y : ℕ) (o : Option Name) → Agrees c (history calls) h → Held c picks calls h o → Tells c picks calls up h h' y
-    → HoldsToBegun calls (Begin (Some up))
-tells_begun c picks calls up h h' y None a b k up' y' j' is = absurd (b.1 up' y' j' is)
-tells_begun c picks calls up h h' y (Some n) a b k up' y' j' is = ap Some (tells_again c picks calls up h h' y n a b.0 b.1 k ∙ sym (b.1.3.only up' y' j' is).1)
-
-tells_chosen : {K : Type 0} (c : Settings) (picks : List Choice → ℕ → Type 0) (calls : List Call) (up : Upcoming) (h h' : Holdings K) (y : ℕ) (o : Option Name) → Agrees c (history calls) h → Held c picks calls h o → Tells c picks calls up h h' y
-    → nat_eq up.done 0 ≡ true → IsChosen (IsPick c picks) calls (name_of up.command)
-tells_chosen c picks calls up h h' y None a b k e = inl (b.1, k.picked b.0 e)
-tells_chosen c picks calls up h h' y (Some n) a b k e =
-    let again = tells_again c picks calls up h h' y n a b.0 b.1 k in
-    let own = b.1.3 in
-    let name : name_of up.command ≡ n = ap (λ (u : Upcoming). u.command.reference) again ∙ own.own in
-    inr (b.1.0, b.1.1, b.1.2, own.is, own.own ∙ sym name, subst (IsPick c picks (history (take b.1.2 calls))) (sym name) (own.chosen (ap (λ (u : Upcoming). nat_eq u.done 0) (sym again) ∙ e)))
-
-tells_holds : {K : Type 0} (c : Settings) (picks : List Choice → ℕ → Type 0) (calls : List Call) (up : Upcoming) (h h' : Holdings K) (y : ℕ) (o : Option Name) → Agrees c (history calls) h → Held c picks calls h o → Tells c picks calls up h h' y
-    → Holds c picks (calls ++ Begin (Some up) ∷ []) (Some (name_of up.command))
-tells_holds c picks calls up h h' y None a b k = holds_new c picks calls (name_of up.command) up y a.follows.known.steady.apart b.1 k.waits k.own refl (k.picked b.0)
-tells_holds c picks calls up h h' y (Some n) a b k =
-    let again = tells_again c picks calls up h h' y n a b.0 b.1 k in
-    let name : n ≡ name_of up.command = sym b.1.3.own ∙ ap (λ (u : Upcoming). u.command.reference) (sym again) in
-    subst (λ u. Holds c picks (calls ++ Begin (Some u) ∷ []) (Some (name_of up.command))) (sym again)
-    (subst (λ k. Holds c picks (calls ++ Begin (Some b.1.0) ∷ []) (Some k)) name (holds_again c picks calls n b.1.0 b.1.1 b.1.2 a.follows.known.steady.apart b.1.3))
-
-begin_at : {K : Type 0} (picks : List Choice → ℕ → Type 0) (calls : List Call) (up : Upcoming) (h h' : Holdings K) (place : ℕ) → Agrees h.settings (history calls) h → IsLegal h.settings (history calls)
-    → Holds h.settings picks calls h.begun → BeginsAt picks (line_of h) up (line_of h') place → h'.untaken ≡ h.untaken → Turned h.settings picks calls (Begin (Some up)) h'
-begin_at {K} picks calls up h h' place a legal b s u =
-    let c = h.settings in
-    let t = history calls in
-    let y = waiting_at t place in
-    let next : IsNext picks c.passing h.drives (map (held_of t) (waiting t)) h.begun place = subst (λ ws. IsNext picks c.passing h.drives ws h.begun place) a.follows.waits s.next in
-    let both = next_held c picks t h.drives h.begun place a.driven next in
-    let inside = both.0.inside in
-    let read = reads c t h.drives h.waiting place a.driven a.follows.waits inside in
-    let own : up ≡ foretold t y = s.told ∙ ((λ i. upcoming_of (read.at i) (read.own i)) ∙ told_held c t y) in
-    let kept : h'.begun ≡ Some (reference t y) = ap (λ (l : Line K). l.begun) s.left ∙ ap (λ (r : Record). Some r.command.reference) read.own in
-    let tells : Tells c picks calls up h h' y = record {
-      waits = waits_at t place inside;
-      own = own;
-      same = both.1.same;
-      picked = λ n e.
-          let p = both.1.picked n (ap (λ (q : Upcoming). nat_eq q.done 0) (sym own) ∙ e) in
-          (p.0, p.1, ap (reference t) p.2 ∙ ap (λ (q : Upcoming). q.command.reference) (sym own), p.3);
-      kept = kept ∙ ap (λ (q : Upcoming). Some q.command.reference) (sym own);
-    } in
-    let same = begin_same calls (Some up) in
-    let chosen : (q : Bool) → nat_eq up.done 0 ≡ q → IfSome (if q then Some (name_of up.command) else None) (IsChosen (IsPick c picks) calls) =
-    λ q. elim q as (λ q. nat_eq up.done 0 ≡ q → IfSome (if q then Some (name_of up.command) else None) (IsChosen (IsPick c picks) calls)) [ true ↦ λ e. tells_chosen c picks calls up h h' y h.begun a (refl, b) tells e | false ↦ λ e. tt ] in
-    record {
-      legal = subst (IsLegal c) (sym same) legal;
-      agrees = subst (λ v. Agrees c v h') (sym same) (agrees_same c t h h' a (s.left ∙ ap (λ o. record (line_of h) { begun = o }) (sym (ap (λ (l : Line K). l.begun) s.left))) u);
-      right = (y, waits_at t place inside, both.0.next, own);
-      begun = tells_begun c picks calls up h h' y h.begun a (refl, b) tells;
-      picked = chosen (nat_eq up.done 0) refl;
-      holds = subst (Holds c picks (calls ++ Begin (Some up) ∷ [])) (sym tells.kept) (tells_holds c picks calls up h h' y h.begun a (refl, b) tells);
-    }
-
-begin_none : {K : Type 0} (picks : List Choice → ℕ → Type 0) (calls : List Call) (h h' : Holdings K) (o : Option Name) → Agrees h.settings (history calls) h → IsLegal h.settings (history calls)
-    → Held h.settings picks calls h o → h.waiting ≡ [] → line_of h' ≡ line_of h → h'.untaken ≡ h.untaken → Turned h.settings picks calls (Begin None) h'
-begin_none {K} picks calls h h' (Some n) a legal b e l u = absurd (none_waits (history calls) b.1.1 (none_mapped (held_of (history calls)) (waiting (history calls)) (sym a.follows.waits ∙ e)) b.1.3.is.waits)
-begin_none {K} picks calls h h' None a legal b e l u =
-    let c = h.settings in
-    let t = history calls in
-    let none : waiting t ≡ [] = none_mapped (held_of t) (waiting t) (sym a.follows.waits ∙ e) in
-    let same = begin_same calls None in
-    let held = ap (λ (k : Line K). k.begun) l in
-    record {
-      legal = subst (IsLegal c) (sym same) legal;
-      agrees = subst (λ v. Agrees c v h') (sym same) (agrees_same c t h h' a (l ∙ ap (λ o. record (line_of h) { begun = o }) (sym held)) u);
-      right = none;
-      begun = λ up y j is. absurd (b.1 up y j is);
-      picked = tt;
-      holds = subst (Holds c picks (calls ++ Begin None ∷ [])) (sym (held ∙ b.0)) (nothing_told calls none b.1);
-    }
-
-begin : {K : Type 0} (picks : List Choice → ℕ → Type 0) (calls : List Call) (upcoming : Option Upcoming) (h h' : Holdings K) → Agrees h.settings (history calls) h → IsLegal h.settings (history calls)
-    → Holds h.settings picks calls h.begun → Foretells picks h upcoming h' → Turned h.settings picks calls (Begin upcoming) h'
-begin picks calls None h h' a legal b r = begin_none picks calls h h' h.begun a legal (refl, b) r.begins.0 r.begins.1 r.untaken
-begin picks calls (Some up) h h' a legal b r = begin_at picks calls up h h' r.begins.0 a legal b r.begins.1 r.untaken
 
 -- ---- every call
 

@@ -1,6 +1,6 @@
 use Rattle.std.proofs.Common.{◌≡◌, true, false, ap, subst, sym, ◌∙◌}
 use Rattle.std.specs.Prelude.{if◌then◌else◌, None}
-use Rattle.mscp_queue.specs.Lines.{Line, aborted}
+use Rattle.mscp_queue.specs.Lines.{Line, aborting}
 use Rattle.mscp_queue.specs.Serving.{is_begun}
 use Rattle.mscp_queue.specs.Kept.{IsHeld}
 use Rattle.mscp_queue.proofs.Aborts.{held_aborted, none_aborted}
@@ -12,7 +12,7 @@ returns-in_err-aborted-clause-after g c =
     let q = c.self.inside in
     let stays = none_aborted q.passing c.args.reference q.waiting.items q.begun c.self.invariant.still (sym c.take_out.ensures.found ∙ c.in_err-aborted.was) in
     (λ i. record { room = q.room; passing = q.passing; longest = q.longest; waiting = c.take_out.ensures.left i; drives = q.drives.items; begun = stays i; picker = q.picker })
-    ∙ ap (λ (l : Line K). aborted c.args.reference l) c.self.view_is
+    ∙ ap (λ (l : Line K). aborting c.args.reference l) c.self.view_is
 
 pub invariant_of-self-then-was_begun : goal.invariant_of-self-then-was_begun
 invariant_of-self-then-was_begun g c =

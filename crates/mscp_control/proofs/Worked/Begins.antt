@@ -1,0 +1,98 @@
+-- What was begun is held to, whatever comes in between, until it is aborted.
+use Rattle.std.proofs.Common.{◌≡◌, ℕ, true, false, List, [], ◌∷◌, ◌++◌, map, take, refl, ap, arith}
+use Rattle.std.specs.Prelude.{Some, Ok, Err, unwrap_or}
+use Rattle.mscp_packet.specs.Commands.{command_of}
+use Rattle.mscp_queue.specs.declared.block.Block.TheVariants.{Good}
+use Rattle.mscp_queue.specs.declared.report.Report.TheVariants as reports
+use Rattle.mscp_queue.specs.declared.upcoming.Upcoming.{Upcoming}
+use Rattle.mscp_control.specs.declared.event.Stale.{Stale}
+use Rattle.mscp_control.specs.History.{Moment, moment, collect}
+use Rattle.mscp_control.specs.Commands.{command, is_waiting, waiting, done, good}
+use Rattle.mscp_control.specs.Passing.{passes_at, passes, is_free, is_startable, startable}
+use Rattle.mscp_control.specs.Figures.{figure, figure_of}
+use Rattle.mscp_control.specs.Units.{cost, is_online, head_cylinder, head_up}
+use Rattle.mscp_control.specs.Ends.{answer, outcome, ends, untaken}
+use Rattle.mscp_control.specs.Credits.{balance, outstanding, arrival}
+use Rattle.mscp_control.specs.Legal.{IsLegal, block_of}
+use Rattle.mscp_control.specs.Sweeping.{swept}
+use Rattle.mscp_control.specs.Calls.{Begin, Call, Finish, HoldsTo, HoldsToBegun, IsBegun, IsBegunAs, IsForetold, Plain, call_at, history}
+use Rattle.mscp_control.proofs.Bridge.Legals.{legal_from, by_serving}
+use Rattle.mscp_control.proofs.Worked.Literals.{settings, came_online, read, queued, aborted, served, moved}
+
+abbrev plain : Moment → Call
+plain m = Plain m.0 m.1
+
+-- what is told of a read of one block that had no step
+abbrev one_block : ℕ → ℕ → Upcoming
+one_block r block = record { command = record { reference = r; unit = 0; order = read 512 block }; lbn = Some block; done = 0; weight = 1 }
+
+abbrev stale : Stale
+stale = record {}
+
+-- A far read is begun. A near one comes, and changes nothing of that. The far one is aborted: it can't be finished any
+-- more, and the near one is begun and finished.
+abbrev begun_and_aborted : List Call
+begun_and_aborted =
+    map plain came_online
+    ++ plain (queued 1 0 (read 512 60))
+    ∷ Begin (Some (one_block 1 60))
+    ∷ plain (queued 2 0 (read 512 0))
+    ∷ Begin (Some (one_block 1 60))
+    ∷ plain (aborted 3 1)
+    ∷ Finish 1 Good (Err stale)
+    ∷ Begin (Some (one_block 2 0))
+    ∷ Finish 2 Good (Ok (reports.Served 2 0 (Some 0) true 0 (moved 2 0 0 512)))
+    ∷ []
+
+begun_legal : IsLegal (settings 8 8) (history begun_and_aborted)
+unfolding moment collect command_of command is_waiting waiting done good passes_at passes is_free is_startable startable figure figure_of is_online head_cylinder head_up cost swept answer outcome ends untaken balance outstanding arrival block_of
+begun_legal = legal_from (settings 8 8) (history begun_and_aborted) (refl, (by_serving 0 refl refl refl, (refl, (refl, (refl, (refl, (by_serving 4 refl refl refl, tt)))))))
+
+-- It is told of the far one,
+far_told : IsForetold (settings 8 8) (history (take 4 begun_and_aborted)) (Some (one_block 1 60))
+unfolding moment collect command_of command is_waiting waiting done good passes_at passes is_free is_startable startable figure figure_of is_online head_cylinder head_up cost swept answer outcome ends untaken balance outstanding arrival block_of
+far_told = (3, refl, refl, refl)
+
+-- which is begun when the near one has come, though the sweep would start that one.
+far_begun : IsBegun (take 6 begun_and_aborted) (one_block 1 60) 3 4
+unfolding moment collect command_of command is_waiting waiting done good passes_at passes is_free is_startable startable figure figure_of is_online head_cylinder head_up cost swept answer outcome ends untaken balance outstanding arrival block_of
+far_begun = record { inside = omega arith; told = refl; own = refl; waited = refl; unstepped = refl; waits = refl }
+
+near_swept : swept (settings 8 8) (history (take 6 begun_and_aborted)) ≡ Some 4
+unfolding moment collect command_of command is_waiting waiting done good passes_at passes is_free is_startable startable figure figure_of is_online head_cylinder head_up cost swept answer outcome ends untaken balance outstanding arrival block_of
+near_swept = refl
+
+-- So the next begin tells the same.
+told_again : HoldsTo (one_block 1 60) (call_at begun_and_aborted 6)
+told_again = refl
+
+-- No begin may tell of the near one then,
+near_untold : HoldsToBegun (take 6 begun_and_aborted) (Begin (Some (one_block 2 0))) → ⊥
+near_untold h = let e = ap (λ o. (unwrap_or o (one_block 0 0)).command.reference) (h (one_block 1 60) 3 4 far_begun) in absurd (omega (arith, e))
+
+-- no step may serve it,
+near_unserved : HoldsToBegun (take 6 begun_and_aborted) (plain (served Good 2 0 (Some 0) true 0 (moved 2 0 0 512))) → ⊥
+near_unserved h = let e = (h (one_block 1 60) 3 4 far_begun).reference in absurd (omega (arith, e))
+
+-- nor may another block of the far one be served,
+other_block_unserved : HoldsToBegun (take 6 begun_and_aborted) (plain (served Good 1 0 (Some 0) true 0 (moved 1 0 0 512))) → ⊥
+other_block_unserved h = let e = ap (λ o. unwrap_or o 1) (h (one_block 1 60) 3 4 far_begun).lbn in absurd (omega (arith, e))
+
+-- and no finish of the far one may be stale.
+far_not_stale : HoldsToBegun (take 6 begun_and_aborted) (Finish 1 Good (Err stale)) → ⊥
+far_not_stale h = h (one_block 1 60) 3 4 far_begun refl
+
+-- Once it is aborted it is begun no more,
+far_aborted : is_waiting (history (take 8 begun_and_aborted)) 3 ≡ false
+unfolding moment collect command_of command is_waiting waiting done good passes_at passes is_free is_startable startable figure figure_of is_online head_cylinder head_up cost swept answer outcome ends untaken balance outstanding arrival block_of
+far_aborted = refl
+
+-- the near one is told then,
+near_told : IsForetold (settings 8 8) (history (take 9 begun_and_aborted)) (Some (one_block 2 0))
+unfolding moment collect command_of command is_waiting waiting done good passes_at passes is_free is_startable startable figure figure_of is_online head_cylinder head_up cost swept answer outcome ends untaken balance outstanding arrival block_of
+near_told = (4, refl, refl, refl)
+
+-- and what is finished is that one.
+near_finished : IsBegunAs (take 10 begun_and_aborted) 2
+unfolding moment collect command_of command is_waiting waiting done good passes_at passes is_free is_startable startable figure figure_of is_online head_cylinder head_up cost swept answer outcome ends untaken balance outstanding arrival block_of
+near_finished = (one_block 2 0, 4, 9, record { inside = omega arith; told = refl; own = refl; waited = refl; unstepped = refl; waits = refl }, refl)
