@@ -1,4 +1,5 @@
--- What somebody calls who holds a controller, and what it answers: events, begins and finishes.
+-- What somebody calls who holds a controller, and what it answers: events, begins and finishes. A reset is none of them:
+-- it begins a new list.
 use Rattle.std.specs.Prelude.{◌≡◌, ◌≢◌, ◌⊎◌, ℕ, ◌+◌, ◌<◌, Bool, true, false, ◌||◌, nat_eq, if◌then◌else◌, List, [], ◌∷◌, length, take, drop, flat_map, slice_index_or, Option, Some, None, IfSome, Result, Ok, Err}
 use Rattle.std.specs.List.{list_any}
 use Rattle.mscp_queue.specs.declared.block.Block.{Block}
@@ -27,7 +28,7 @@ pub data Call : Type 0 where
   -- the finish of the command of this reference number, whose block had this outcome
   Finish : ℕ → Block → Result Report Stale → Call
 
--- the moments of a call: a finish that isn't stale is a step, and a begin is no moment (profile)
+-- the moments of a call: a finish that isn't stale is a step. One that is, and a begin, are no moment (profile)
 abbrev pub moments_of : Call → List Moment
 moments_of (Plain event entry) = (event, entry) ∷ []
 moments_of (Begin upcoming) = []
@@ -45,9 +46,9 @@ call_at calls i = slice_index_or calls i (Begin None)
 -- ---- what one call says
 
 -- what a begin told of the next step
-abbrev pub told : Call → Option Upcoming
-told (Begin upcoming) = upcoming
-told call = None
+abbrev pub upcoming_in : Call → Option Upcoming
+upcoming_in (Begin upcoming) = upcoming
+upcoming_in call = None
 
 -- what is said of a step that served a command, if the call was one
 abbrev pub service_of : Call → Option Service
@@ -79,9 +80,9 @@ foretold t y = record { command = command t y; lbn = block_of t y; done = done t
 
 -- after the calls y is begun, since the call at j: that was a begin which told this of y, no step came since, and y still
 -- waits (profile)
-pub record IsBegun (calls : List Call) (upcoming : Upcoming) (y j : ℕ) : Type 0 where
+pub record IsBegunSince (calls : List Call) (upcoming : Upcoming) (y j : ℕ) : Type 0 where
   pub inside : j < length calls
-  pub told : told (call_at calls j) ≡ Some upcoming
+  pub told : upcoming_in (call_at calls j) ≡ Some upcoming
   pub own : upcoming ≡ foretold (history (take j calls)) y
   pub waited : is_waiting (history (take j calls)) y ≡ true
   pub unstepped : list_any steps (drop (j + 1) calls) ≡ false
@@ -89,7 +90,7 @@ pub record IsBegun (calls : List Call) (upcoming : Upcoming) (y j : ℕ) : Type 
 
 -- after the calls nothing is begun
 abbrev pub NothingBegun : List Call → Type 0
-NothingBegun calls = (upcoming : Upcoming) (y j : ℕ) → IsBegun calls upcoming y j → ⊥
+NothingBegun calls = (upcoming : Upcoming) (y j : ℕ) → IsBegunSince calls upcoming y j → ⊥
 
 -- ---- what may be answered
 
@@ -100,43 +101,41 @@ IsForetold c t (Some upcoming) =
     (y : ℕ) × (is_waiting t y ≡ true) × ((in_service t y || is_startable c t y) ≡ true) × (upcoming ≡ foretold t y)
 
 -- the command of this reference number is begun
-abbrev pub IsBegunAs : List Call → ℕ → Type 0
-IsBegunAs calls reference =
-    (upcoming : Upcoming) × (y : ℕ) × (j : ℕ) × IsBegun calls upcoming y j × (upcoming.command.reference ≡ reference)
+abbrev pub IsBegun : List Call → ℕ → Type 0
+IsBegun calls reference =
+    (upcoming : Upcoming) × (y : ℕ) × (j : ℕ) × IsBegunSince calls upcoming y j × (name_of upcoming.command ≡ reference)
 
 -- after these calls this may be answered: a begin tells what it may, and only what is begun is finished. What may be
 -- answered to an event is said by IsLegal (profile)
 abbrev pub IsRightCall : Settings → List Call → Call → Type 0
 IsRightCall c so_far (Plain event entry) = Unit {0}
 IsRightCall c so_far (Begin upcoming) = IsForetold c (history so_far) upcoming
-IsRightCall c so_far (Finish reference k (Ok report)) = IsBegunAs so_far reference
+IsRightCall c so_far (Finish reference k (Ok report)) = IsBegun so_far reference
 IsRightCall c so_far (Finish reference k (Err stale)) = Unit {0}
 
--- the step serves what was told: this command, this block, and it is its first step if it had none (profile)
+-- the step serves what was told: this command and this block, and it is a start exactly if the command had no step
+-- (profile)
 pub record IsAsTold (upcoming : Upcoming) (s : Service) : Type 0 where
   pub reference : s.reference ≡ upcoming.command.reference
   pub unit : s.unit ≡ upcoming.command.unit
   pub lbn : s.lbn ≡ upcoming.lbn
   pub started : s.started ≡ nat_eq upcoming.done 0
 
--- the call holds to what was begun: a begin tells the same, a step serves it, and a finish isn't stale where it is of this
--- command, and only there (profile)
+-- the call holds to what was begun: a begin tells the same, a step serves it, and no finish of it is stale (profile)
 abbrev pub HoldsTo : Upcoming → Call → Type 0
-HoldsTo upcoming (Plain event entry) = IfSome (service_in entry) (IsAsTold upcoming)
 HoldsTo upcoming (Begin again) = again ≡ Some upcoming
-HoldsTo upcoming (Finish reference k (Ok report)) =
-    (upcoming.command.reference ≡ reference) × IfSome (service_in (entries.Stepped report)) (IsAsTold upcoming)
-HoldsTo upcoming (Finish reference k (Err stale)) = upcoming.command.reference ≢ reference
+HoldsTo upcoming (Finish reference k (Err stale)) = name_of upcoming.command ≢ reference
+HoldsTo upcoming call = IfSome (service_of call) (IsAsTold upcoming)
 
 -- the call holds to all that was begun
 abbrev pub HoldsToBegun : List Call → Call → Type 0
-HoldsToBegun so_far call = (upcoming : Upcoming) (y j : ℕ) → IsBegun so_far upcoming y j → HoldsTo upcoming call
+HoldsToBegun so_far call = (upcoming : Upcoming) (y j : ℕ) → IsBegunSince so_far upcoming y j → HoldsTo upcoming call
 
 -- the command of this name was chosen where R allowed it: now, where nothing is begun, or else at its begin (profile)
 abbrev pub IsChosen : (Trace → Name → Type 0) → List Call → Name → Type 0
 IsChosen R so_far n =
     (NothingBegun so_far × R (history so_far) n)
-    ⊎ ((upcoming : Upcoming) × (y : ℕ) × (j : ℕ) × IsBegun so_far upcoming y j × (name_of upcoming.command ≡ n)
+    ⊎ ((upcoming : Upcoming) × (y : ℕ) × (j : ℕ) × IsBegunSince so_far upcoming y j × (name_of upcoming.command ≡ n)
     × R (history (take j so_far)) n)
 
 -- what the call starts, or tells that the next step starts it, was chosen where R allowed it
@@ -150,12 +149,13 @@ AtEachCall calls R = (i : ℕ) → i < length calls → R (take i calls) (call_a
 -- ---- what is held
 
 -- what may be answered to a call, and what is held after it
-abbrev pub Calls : {K : Type 0} → (List Choice → ℕ → Type 0) → Holdings K → Call → Holdings K → Type 0
-Calls picks old (Plain event entry) new = Answers picks old event entry new
-Calls picks old (Begin upcoming) new = Foretells picks old upcoming new
-Calls picks old (Finish reference k answer) new = Finishes picks reference k old answer new
+abbrev pub AnswersCall : {K : Type 0} → (List Choice → ℕ → Type 0) → Holdings K → Call → Holdings K → Type 0
+AnswersCall picks old (Plain event entry) new = Answers picks old event entry new
+AnswersCall picks old (Begin upcoming) new = Foretells picks old upcoming new
+AnswersCall picks old (Finish reference k answer) new = Finishes picks reference k old answer new
 
 -- the same of calls, one after the other
-abbrev pub Called : {K : Type 0} → (List Choice → ℕ → Type 0) → Holdings K → List Call → Holdings K → Type 0
-Called picks old [] new = new ≡ old
-Called {K} picks old (call ∷ calls) new = (next : Holdings K) × Calls picks old call next × Called picks next calls new
+abbrev pub AnsweredCalls : {K : Type 0} → (List Choice → ℕ → Type 0) → Holdings K → List Call → Holdings K → Type 0
+AnsweredCalls picks old [] new = new ≡ old
+AnsweredCalls {K} picks old (call ∷ calls) new =
+    (next : Holdings K) × AnswersCall picks old call next × AnsweredCalls picks next calls new

@@ -1,4 +1,4 @@
--- What is promised of a controller that somebody holds, from its making on.
+-- What is promised of a controller that somebody holds, from its making or its last reset on: a reset leaves it as new.
 use Rattle.std.specs.Prelude.{◌≡◌, ℕ, List, map}
 use Rattle.mscp_drive.specs.Shape.{Shape}
 use Rattle.mscp_queue.specs.declared.drive.Drive.{Drive}
@@ -13,7 +13,7 @@ use Rattle.mscp_control.specs.Credits.{balance}
 use Rattle.mscp_control.specs.Legal.{IsLegal, IsPick}
 use Rattle.mscp_control.specs.Sweeping.{IsSwept, Sweeps}
 use Rattle.mscp_control.specs.Headline.{Promise}
-use Rattle.mscp_control.specs.Calls.{AtEachCall, Call, Called, HoldsToBegun, IsRightCall, StartsChosen, history}
+use Rattle.mscp_control.specs.Calls.{AtEachCall, AnsweredCalls, Call, HoldsToBegun, IsRightCall, StartsChosen, history}
 
 -- a unit with its state and its head after t (manual, heads are the profile's)
 abbrev pub drive_at : Settings → Trace → Shape → Drive
@@ -30,11 +30,13 @@ pub record KeepsPromise {K : Type 0} (picks : List Choice → ℕ → Type 0) (c
   pub right : AtEachCall calls (IsRightCall c)
   -- what was begun stays so: it is what each begin tells and each step serves until it is served or aborted (profile)
   pub begun : AtEachCall calls HoldsToBegun
-  -- each start is one that its picker may pick in the view at its begin, and in that at the step where nothing was begun
-  -- (profile)
+  -- each start, and each that a begin tells, is one that its picker may pick in the view at its begin, or at the step where
+  -- nothing was begun (profile)
   pub picked : AtEachCall calls (StartsChosen (IsPick c picks))
-  -- where the picker sweeps, each start is the one of least cost there, and of those the oldest (profile)
+  -- where the picker sweeps, each is the one of least cost in that view, and of those the oldest (profile)
   pub swept : Sweeps picks → AtEachCall calls (StartsChosen (IsSwept c))
+  -- its settings are those that it was made with (profile)
+  pub settings : held.settings ≡ c
   -- the figure that it now tells of a reference number is that of the history (profile)
   pub figure : (reference : ℕ) → figure_of_reference c.passing c.longest held.waiting reference
       ≡ figure_of c (history calls) reference
@@ -47,5 +49,5 @@ pub record KeepsPromise {K : Type 0} (picks : List Choice → ℕ → Type 0) (c
 -- the law of a picker: every controller that it picks for keeps the promise, whoever calls it (profile)
 abbrev pub ControllersKeepThePromise : {K : Type 0} → (List Choice → ℕ → Type 0) → K → Type 0
 ControllersKeepThePromise {K} picks picker =
-    (c : Settings) (calls : List Call) (held : Holdings K) → IsValid c → Called picks (fresh c picker) calls held
+    (c : Settings) (calls : List Call) (held : Holdings K) → IsValid c → AnsweredCalls picks (fresh c picker) calls held
     → KeepsPromise picks c calls held

@@ -20,7 +20,7 @@ use Rattle.mscp_queue.specs.Names.{Name, end_name}
 use Rattle.mscp_queue.specs.Kept.{names}
 use Rattle.mscp_queue.specs.Figures.{figure_of_reference, figures}
 use Rattle.mscp_queue.specs.Lines.{Begins, Line, Serves}
-use Rattle.mscp_queue.specs.Serving.{is_begun}
+use Rattle.mscp_queue.specs.Serving.{begun_without, is_begun}
 use Rattle.mscp_control.specs.declared.event.SendFault.{SendFault}
 use Rattle.mscp_control.specs.declared.event.Stale.{Stale}
 use Rattle.mscp_control.specs.declared.event.Sent.{Sent}
@@ -94,7 +94,7 @@ unaborted rs order = rs
 
 -- what is begun then: nothing, where it was that command (profile)
 abbrev pub begun_after : Option Name → Order → Option Name
-begun_after begun (orders.Abort other) = if is_begun other begun then None else begun
+begun_after begun (orders.Abort other) = begun_without other begun
 begun_after begun order = begun
 
 -- what a command becomes that isn't refused: it is queued, or answered at once (manual)
@@ -174,8 +174,8 @@ pub record Foretells {K : Type 0} (picks : List Choice → ℕ → Type 0)
   pub untaken : new.untaken ≡ old.untaken
   pub settings : new.settings ≡ old.settings
 
--- what the finish of a command may answer, whose block had this outcome, and what is held after it: where that command
--- was begun it is a step, and else it is stale and changes nothing (profile)
+-- what a finish may answer, whose block had this outcome, and what is held after it: where the command of this reference
+-- number is begun it is a step, and else it is stale and changes nothing (profile)
 abbrev pub Finishes : {K : Type 0}
     → (List Choice → ℕ → Type 0) → ℕ → Block → Holdings K → Result Report Stale → Holdings K → Type 0
 Finishes picks reference k old (Ok report) new = (is_begun reference old.begun ≡ true) × Steps picks k old report new

@@ -307,10 +307,10 @@ impl<K: Picker> Controller<K> {
         Some(write_end(&end))
     }
 
-    /// What the next step serves, if a command waits: the command, the block that it touches, and how many of its steps
-    /// it had and has in all. Where nothing is in service and nothing was begun the picker picks it, and its choice is
-    /// kept. Until the step, or an ABORT of that command, this answers the same, whatever comes in between; and it changes
-    /// nothing that `look`, `figure`, `balance`, `send` and `take` tell.
+    /// What the next step serves, if a command waits: the command, the block that it touches, how many steps it had, and
+    /// how many it takes in all. Where nothing is in service and nothing was begun the picker picks it, and its choice is
+    /// kept. Until a step, a reset, or an ABORT of that command, this answers the same; and it changes nothing that `look`,
+    /// `figure`, `balance`, `config`, `send` and `take` tell.
     pub fn begin(&mut self) -> Option<Upcoming>
         ensures begin { Foretells (K.picks self.old.picker) self.old result self.new }
         ensures account { IsBalanced self.new }
@@ -318,9 +318,9 @@ impl<K: Picker> Controller<K> {
         self.queue.begin()
     }
 
-    /// The step of the command with this reference number, which was begun, and whose block had this outcome. It is stale
-    /// where that command isn't the one that was begun, since an ABORT, a step or a reset came in between: then nothing
-    /// changes, and the block counts for nothing.
+    /// The step of the command with this reference number, where it is begun: its block had this outcome. Else it is stale:
+    /// nothing changes, and the block counts for nothing. A command is known by its number alone. So who begins anew after
+    /// a step, an ABORT or a reset must let no finish of an older begin come any more: the number may be the same.
     pub fn finish(&mut self, reference: u32, block: Block) -> Result<Report, Stale>
         ensures finish { Finishes (K.picks self.old.picker) reference block self.old result self.new }
         ensures account { IsBalanced self.new }

@@ -33,7 +33,7 @@ impl From<PacketFault> for SendFault {
     }
 }
 
-/// Why a step can't be finished: its command isn't the one that was begun. Nothing is changed.
+/// Why a step can't be finished: no command of its reference number is begun. Nothing is changed.
 #[derive(Clone, Copy, Debug, PartialEq, Eq)]
 pub struct Stale;
 

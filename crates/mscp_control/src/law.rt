@@ -15,11 +15,15 @@ pub fn legal_traces_make_progress()
     ensures { LegalTracesMakeProgress }
 {}
 
-/// The answers of a controller over this picker, one after the other from the first on, whoever calls it, are a legal
-/// trace, with all that is promised of one, and each start is one that the picker may pick: where it picks as `Sweep`
-/// does, the one of least cost, and of those the oldest. The figures and the balance that it tells are always those of
-/// that trace, and so are the states and the heads of its units. (An `Event` has room for 64 bytes: a longer message is in
-/// no list of events. It is refused, and changes nothing.)
+/// The answers of a controller over this picker, one after the other from its making on, whoever calls it, are a legal
+/// trace, with all that is promised of one: a finish that isn't stale is a step of it, and nothing else of begin and
+/// finish shows there. What was begun is what each begin tells and what the next step serves, until it is served or
+/// aborted; a finish is stale exactly where no command of its reference number is begun. Each start is one that the picker
+/// may pick in the view at its begin, or at the step where nothing was begun: where it picks as `Sweep` does, the one of
+/// least cost in that view, and of those the oldest. The figures and the balance that it tells are always those of that
+/// trace, and so are the states and the heads of its units. After a reset it is as new, and what follows is a trace of
+/// its own. (An `Event` has room for 64 bytes: a longer message is in no list of calls. It is refused, and changes
+/// nothing.)
 pub fn controllers_keep_the_promise<K: Picker>(picker: &K)
     ensures { ControllersKeepThePromise (K.picks picker.now) picker.now }
 {

@@ -114,9 +114,10 @@ begun_found passing rs name s h =
 -- what is found of what was begun
 pub record Finds (picks : List Choice → ℕ → Type 0) (passing : ℕ) (ds : List Drive) (rs : List Record) (begun : Option Name) (o : Option ℕ) : Type 0 where
   pub none : IfNone o (rs ≡ [])
+  pub unbegun : IfNone o (begun ≡ None)
   pub some : IfSome o (λ place. IsNext picks passing ds rs begun place)
 
 pub finds_begun : (picks : List Choice → ℕ → Type 0) (passing : ℕ) (ds : List Drive) (rs : List Record) (begun : Option Name) (name : Name) (o : Option ℕ) → AreApart (names rs) → begun ≡ Some name → IsStillServable passing rs name
     → o ≡ position (has_reference name) rs → Finds picks passing ds rs begun o
 finds_begun picks passing ds rs begun name None a b s h = absurd (begun_found passing rs name s (sym h))
-finds_begun picks passing ds rs begun name (Some place) a b s h = record { none = tt; some = begun_next picks passing ds rs begun name place a b s (sym h) }
+finds_begun picks passing ds rs begun name (Some place) a b s h = record { none = tt; unbegun = tt; some = begun_next picks passing ds rs begun name place a b s (sym h) }

@@ -1,4 +1,4 @@
--- What is true of each queue, whatever came to it, that no step or push can change.
+-- What is true of each queue, whatever came to it.
 use Rattle.std.specs.Prelude.{◌≡◌, ◌≢◌, ℕ, ◌+◌, ◌*◌, ◌^◌, ◌<◌, ◌≤◌, Bool, true, ◌||◌, is_some, unwrap_or, List, [], ◌∷◌, length, map, filter, All, Option, Some}
 use Rattle.std.specs.List.{AllByRecursion}
 use Rattle.mscp_packet.specs.declared.command.Command.{Command}
@@ -80,5 +80,5 @@ pub record IsHeld (room passing longest : ℕ) (rs : List Record) (ds : List Dri
   pub units : IsUnitList (units_of ds)
   -- each head is on a cylinder of its unit
   pub heads : All IsOnUnit ds
-  -- what was begun waits and may be served: what comes later and what is aborted takes nothing from it
+  -- what was begun waits and may be served
   pub still : (name : Name) → begun ≡ Some name → IsStillServable passing rs name

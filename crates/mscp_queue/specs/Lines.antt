@@ -1,5 +1,5 @@
 -- What callers see of a queue: its limits, its waiting commands, its drives and its picker.
-use Rattle.std.specs.Prelude.{◌≡◌, ℕ, if◌then◌else◌, List, [], ◌∷◌, ◌++◌, map, Option, Some, None}
+use Rattle.std.specs.Prelude.{◌≡◌, ℕ, List, [], ◌∷◌, ◌++◌, map, Option, Some, None}
 use Rattle.mscp_packet.specs.declared.command.Command.{Command}
 use Rattle.mscp_drive.specs.Shape.{Shape}
 use Rattle.mscp_queue.specs.declared.block.Block.{Block}
@@ -11,7 +11,7 @@ use Rattle.mscp_queue.specs.declared.view.Choice.{Choice}
 use Rattle.mscp_queue.specs.Drives.{fresh_drive}
 use Rattle.mscp_queue.specs.Names.{Name, name_of}
 use Rattle.mscp_queue.specs.Records.{Record, drive_at, fresh_record, record_at, without}
-use Rattle.mscp_queue.specs.Serving.{IsNext, drives_after, is_begun, report_of, upcoming_of, waiting_after}
+use Rattle.mscp_queue.specs.Serving.{IsNext, begun_without, drives_after, report_of, upcoming_of, waiting_after}
 
 -- how many commands may wait, how often one may be passed, and the longest transfer in blocks (profile); the waiting
 -- commands, in order of arrival; the drives, in the order of their units; what was begun, if something was; and who
@@ -41,6 +41,32 @@ fresh units room passing longest picker = record {
 abbrev pub pushed : {K : Type 0} → Line K → Command → Line K
 pushed line command = record line { waiting = line.waiting ++ fresh_record command ∷ [] }
 
+-- a queue once the command at a place was begun
+abbrev pub begun_at : {K : Type 0} → Line K → ℕ → Line K
+begun_at line place = record line { begun = Some (name_of (record_at line.waiting place).command) }
+
+-- the record at a place is begun
+pub record BeginsAt {K : Type 0} (picks : List Choice → ℕ → Type 0)
+    (old : Line K) (upcoming : Upcoming) (new : Line K) (place : ℕ) : Type 0 where
+  -- it may be served next (profile)
+  pub next : IsNext picks old.passing old.drives old.waiting old.begun place
+  -- this is what is told of it (profile)
+  pub told : upcoming ≡ upcoming_of (drive_at old.drives old.waiting place) (record_at old.waiting place)
+  -- and it is kept that it was begun
+  pub left : new ≡ begun_at old place
+
+-- what a begin may tell, and what it leaves (profile)
+abbrev pub Begins : {K : Type 0} → (List Choice → ℕ → Type 0) → Line K → Option Upcoming → Line K → Type 0
+Begins picks old None new = (old.waiting ≡ []) × (old.begun ≡ None) × (new ≡ old)
+Begins picks old (Some upcoming) new = (place : ℕ) × BeginsAt picks old upcoming new place
+
+-- a queue once the command of this reference number was aborted: it is begun no more
+abbrev pub aborting : {K : Type 0} → ℕ → Line K → Line K
+aborting reference line = record line {
+  waiting = without reference line.waiting;
+  begun = begun_without reference line.begun;
+}
+
 -- a queue after a step of the record at a place
 abbrev pub served : {K : Type 0} → Block → Line K → ℕ → Line K
 served k line place = record line {
@@ -59,34 +85,8 @@ pub record ServesAt {K : Type 0} (picks : List Choice → ℕ → Type 0)
   -- and this is what it leaves
   pub left : new ≡ served k old place
 
--- a queue once the command at a place was begun
-abbrev pub begun_at : {K : Type 0} → Line K → ℕ → Line K
-begun_at line place = record line { begun = Some (name_of (record_at line.waiting place).command) }
-
--- a queue once the command of this reference number was aborted: it is begun no more
-abbrev pub aborting : {K : Type 0} → ℕ → Line K → Line K
-aborting reference line = record line {
-  waiting = without reference line.waiting;
-  begun = if is_begun reference line.begun then None else line.begun;
-}
-
--- the record at a place is begun
-pub record BeginsAt {K : Type 0} (picks : List Choice → ℕ → Type 0)
-    (old : Line K) (upcoming : Upcoming) (new : Line K) (place : ℕ) : Type 0 where
-  -- it may be served next (profile)
-  pub next : IsNext picks old.passing old.drives old.waiting old.begun place
-  -- this is what is told of it (profile)
-  pub told : upcoming ≡ upcoming_of (drive_at old.drives old.waiting place) (record_at old.waiting place)
-  -- and it is kept that it was begun
-  pub left : new ≡ begun_at old place
-
--- what a begin may tell, and what it leaves (profile)
-abbrev pub Begins : {K : Type 0} → (List Choice → ℕ → Type 0) → Line K → Option Upcoming → Line K → Type 0
-Begins picks old None new = (old.waiting ≡ []) × (new ≡ old)
-Begins picks old (Some upcoming) new = (place : ℕ) × BeginsAt picks old upcoming new place
-
 -- what a step with this block may report, and what it leaves: a relation, since any record that may start may be the
 -- one that the picker picks (profile)
 abbrev pub Serves : {K : Type 0} → (List Choice → ℕ → Type 0) → Block → Line K → Report → Line K → Type 0
-Serves picks k old Idle new = (old.waiting ≡ []) × (new ≡ old)
+Serves picks k old Idle new = (old.waiting ≡ []) × (old.begun ≡ None) × (new ≡ old)
 Serves picks k old report new = (place : ℕ) × ServesAt picks k old report new place

@@ -1,4 +1,4 @@
--- One step: what it does with a record and its drive, and which record it may serve.
+-- One step: what it does with a record and its drive, what is told of it before, and which record it may serve.
 use Rattle.std.specs.Prelude.{◌≡◌, ℕ, ◌+◌, ◌<◌, Bool, true, false, if◌then◌else◌, List, ◌++◌, length, map, take, drop, All, Option, Some, None, option_map}
 use Rattle.mscp_packet.specs.declared.command.Order.{Order}
 use Rattle.mscp_packet.specs.declared.end.End.{End}
@@ -52,6 +52,11 @@ report_of k d r =
     Served r.command.reference r.command.unit (touched d r) (is_unstarted r) (seek_from d (touched d r))
     (end_given k d r)
 
+-- what is told of a record before its step: its command, the block that the step touches, and how many steps the command
+-- had and takes (profile)
+abbrev pub upcoming_of : Drive → Record → Upcoming
+upcoming_of d r = record { command = r.command; lbn = touched d r; done = r.done; weight = r.weight }
+
 -- ---- a record among the others
 
 -- the waiting commands after a step of the record at a place: each one in front of a start was passed (profile)
@@ -72,18 +77,17 @@ abbrev pub is_begun : ℕ → Option Name → Bool
 is_begun reference None = false
 is_begun reference (Some name) = same_name name reference
 
--- the record at a place may be served next: it is what was begun, or nothing was, and it is in service or the picker
--- may pick it (profile)
+-- what is begun without the command of this reference number: nothing, where it was that (profile)
+abbrev pub begun_without : ℕ → Option Name → Option Name
+begun_without reference begun = if is_begun reference begun then None else begun
+
+-- the record at a place may be served next: it may be served, and it is what was begun, or where nothing was, it is in
+-- service or the picker may pick it (profile)
 pub record IsNext (picks : List Choice → ℕ → Type 0) (passing : ℕ)
     (ds : List Drive) (rs : List Record) (begun : Option Name) (place : ℕ) : Type 0 where
   pub servable : IsServable passing rs place
   pub same : (name : Name) → begun ≡ Some name → has_reference name (record_at rs place) ≡ true
   pub picked : begun ≡ None → is_unstarted (record_at rs place) ≡ true → IsPick picks passing ds rs place
-
--- what is told of a record before its step: its command, the block that the step touches, and how many steps the command
--- had and takes (profile)
-abbrev pub upcoming_of : Drive → Record → Upcoming
-upcoming_of d r = record { command = r.command; lbn = touched d r; done = r.done; weight = r.weight }
 
 -- the drives after a step of the record at a place: that of its unit has changed
 abbrev pub drives_after : Block → List Drive → List Record → ℕ → List Drive

@@ -184,7 +184,7 @@ impl<K: Picker> Queue<K> {
         Some(aborted_end(&aborted.command(), aborted.done()))
     }
 
-    /// Whether the command with the reference number was begun, and neither stepped nor aborted since.
+    /// Whether the command with the reference number was begun, and neither served nor aborted since, nor the queue reset.
     pub fn is_begun(&self, reference: u32) -> bool
         ensures { result ≡ is_begun reference self.now.begun }
     {
@@ -194,7 +194,7 @@ impl<K: Picker> Queue<K> {
         }
     }
 
-    /// The place of the command in service, or where none is of one that the picker picks.
+    /// The place of the command in service, or, where none is, of one that the picker picks.
     fn place_to_begin(&self) -> usize
         requires nothing { self.now.begun ≡ None }
         requires some { 0 < length self.now.waiting }
@@ -211,6 +211,7 @@ impl<K: Picker> Queue<K> {
     /// picks.
     fn next_place(&self) -> Option<usize>
         ensures none { IfNone result (self.now.waiting ≡ []) }
+        ensures unbegun { IfNone result (self.now.begun ≡ None) }
         ensures some { IfSome result (λ place.
             IsNext (K.picks self.now.picker) self.now.passing self.now.drives self.now.waiting self.now.begun place) }
     {
@@ -233,7 +234,7 @@ impl<K: Picker> Queue<K> {
     }
 
     /// What the next step serves, if a command waits. Where nothing is in service and nothing was begun the picker picks
-    /// it, and its choice is kept: until the step, or an abort of that command, this answers the same.
+    /// it, and its choice is kept: until a step, a reset, or an abort of that command, this answers the same.
     pub fn begin(&mut self) -> Option<Upcoming>
         ensures { Begins (K.picks self.old.picker) self.old result self.new }
     {

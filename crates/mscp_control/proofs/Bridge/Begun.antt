@@ -13,7 +13,7 @@ use Rattle.mscp_control.specs.Settings.{Settings}
 use Rattle.mscp_control.specs.History.{Trace}
 use Rattle.mscp_control.specs.Commands.{ends_in, is_waiting, reference, waiting}
 use Rattle.mscp_control.specs.Legal.{IsLegal, IsPick}
-use Rattle.mscp_control.specs.Calls.{Call, HoldsToBegun, IsBegun, IsRightCall, NothingBegun, StartsChosen, call_at, foretold, history, moments_of, steps, told}
+use Rattle.mscp_control.specs.Calls.{Call, HoldsToBegun, IsBegunSince, IsRightCall, NothingBegun, StartsChosen, call_at, foretold, history, moments_of, steps, upcoming_in}
 use Rattle.mscp_control.specs.Calls.{Begin}
 use Rattle.mscp_control.proofs.Promise.Apart.{Apart}
 use Rattle.mscp_control.proofs.Promise.Among.{one_waits}
@@ -50,16 +50,16 @@ waits_before t (m ∷ ms) y l w =
     (and_parts (is_waiting t y) (not (ends_in (reference t y) m.1)) (sym (is_waiting_before t m y l) ∙ one)).0
 
 -- what was begun before the last call, and that the last was no step
-pub begun_before : (calls : List Call) (call : Call) (up : Upcoming) (y j : ℕ) → j < length calls → IsBegun (calls ++ call ∷ []) up y j → IsBegun calls up y j × (steps call ≡ false)
+pub begun_before : (calls : List Call) (call : Call) (up : Upcoming) (y j : ℕ) → j < length calls → IsBegunSince (calls ++ call ∷ []) up y j → IsBegunSince calls up y j × (steps call ≡ false)
 begun_before calls call up y j l b =
     let same = front_same calls call j l in
     let waited = subst (λ cs. is_waiting (history cs) y ≡ true) same b.waited in
     let behind : drop (j + 1) (calls ++ call ∷ []) ≡ drop (j + 1) calls ++ call ∷ [] = drop-append-le (j + 1) calls (call ∷ []) (omega (arith, l)) in
     let none = or_parts (list_any steps (drop (j + 1) calls)) (list_any steps (call ∷ [])) (sym (list_any-append steps (drop (j + 1) calls) (call ∷ [])) ∙ (ap (list_any steps) (sym behind) ∙ b.unstepped)) in
     let below : y < length (history calls) = omega (arith, waits_below (history (take j calls)) y waited, shorter calls j) in
-    let before : IsBegun calls up y j = record {
+    let before : IsBegunSince calls up y j = record {
       inside = l;
-      told = ap told (sym (call_before calls call j l)) ∙ b.told;
+      told = ap upcoming_in (sym (call_before calls call j l)) ∙ b.told;
       own = b.own ∙ ap (λ cs. foretold (history cs) y) same;
       waited = waited;
       unstepped = none.0;
@@ -69,32 +69,32 @@ begun_before calls call up y j l b =
 
 -- what the last call began
 pub record Last (calls : List Call) (call : Call) (up : Upcoming) (y : ℕ) : Type 0 where
-  pub told : told call ≡ Some up
+  pub told : upcoming_in call ≡ Some up
   pub own : up ≡ foretold (history calls) y
   pub waited : is_waiting (history calls) y ≡ true
 
-begun_last : (calls : List Call) (call : Call) (up : Upcoming) (y j : ℕ) → length calls ≡ j → IsBegun (calls ++ call ∷ []) up y j → Last calls call up y
+begun_last : (calls : List Call) (call : Call) (up : Upcoming) (y j : ℕ) → length calls ≡ j → IsBegunSince (calls ++ call ∷ []) up y j → Last calls call up y
 begun_last calls call up y j e b =
     let front : take j (calls ++ call ∷ []) ≡ calls = ap (λ i. take i (calls ++ call ∷ [])) (sym e) ∙ take_at calls (call ∷ []) (length calls) refl in
     record {
-      told = ap told (sym (call_last calls call)) ∙ (ap (λ i. told (call_at (calls ++ call ∷ []) i)) e ∙ b.told);
+      told = ap upcoming_in (sym (call_last calls call)) ∙ (ap (λ i. upcoming_in (call_at (calls ++ call ∷ []) i)) e ∙ b.told);
       own = b.own ∙ ap (λ cs. foretold (history cs) y) front;
       waited = subst (λ cs. is_waiting (history cs) y ≡ true) front b.waited;
     }
 
 -- either is known of what is begun after one more call
-pub either : (X : Type 0) (calls : List Call) (call : Call) (up : Upcoming) (y j : ℕ) → (IsBegun calls up y j → steps call ≡ false → X) → (Last calls call up y → X) → IsBegun (calls ++ call ∷ []) up y j → X
+pub either : (X : Type 0) (calls : List Call) (call : Call) (up : Upcoming) (y j : ℕ) → (IsBegunSince calls up y j → steps call ≡ false → X) → (Last calls call up y → X) → IsBegunSince (calls ++ call ∷ []) up y j → X
 either X calls call up y j before last b =
     ⊎_elim (λ l. let k = begun_before calls call up y j l b in before k.0 k.1) (λ l. last (begun_last calls call up y j (let i = b.inside in omega (arith, l, i, length-append calls (call ∷ []))) b)) (cases_lt j (length calls))
 
 -- what was begun is begun after a call that is no step, where it still waits
-pub begun_more : (calls : List Call) (call : Call) (up : Upcoming) (y j : ℕ) → IsBegun calls up y j → steps call ≡ false → is_waiting (history (calls ++ call ∷ [])) y ≡ true → IsBegun (calls ++ call ∷ []) up y j
+pub begun_more : (calls : List Call) (call : Call) (up : Upcoming) (y j : ℕ) → IsBegunSince calls up y j → steps call ≡ false → is_waiting (history (calls ++ call ∷ [])) y ≡ true → IsBegunSince (calls ++ call ∷ []) up y j
 begun_more calls call up y j b n w =
     let l = b.inside in
     let same = front_same calls call j l in
     record {
       inside = omega (arith, l, length-append calls (call ∷ []));
-      told = ap told (call_before calls call j l) ∙ b.told;
+      told = ap upcoming_in (call_before calls call j l) ∙ b.told;
       own = b.own ∙ ap (λ cs. foretold (history cs) y) (sym same);
       waited = subst (λ cs. is_waiting (history cs) y ≡ true) (sym same) b.waited;
       unstepped = ap (list_any steps) (drop-append-le (j + 1) calls (call ∷ []) (omega (arith, l))) ∙ (list_any-append steps (drop (j + 1) calls) (call ∷ []) ∙ (λ i. b.unstepped i || (n i || false)));
@@ -104,10 +104,10 @@ begun_more calls call up y j b n w =
 -- ---- what is known of what is begun
 
 pub record Begun (c : Settings) (picks : List Choice → ℕ → Type 0) (calls : List Call) (n : Name) (up : Upcoming) (y j : ℕ) : Type 0 where
-  pub is : IsBegun calls up y j
+  pub is : IsBegunSince calls up y j
   pub now : up ≡ foretold (history calls) y
   pub own : name_of up.command ≡ n
-  pub only : (up' : Upcoming) (y' j' : ℕ) → IsBegun calls up' y' j' → (y' ≡ y) × (up' ≡ up)
+  pub only : (up' : Upcoming) (y' j' : ℕ) → IsBegunSince calls up' y' j' → (y' ≡ y) × (up' ≡ up)
   pub chosen : nat_eq up.done 0 ≡ true → IsPick c picks (history (take j calls)) n
 
 -- what is held to be begun is what is begun
@@ -119,11 +119,11 @@ Holds c picks calls (Some n) = (up : Upcoming) × (y : ℕ) × (j : ℕ) × Begu
 pub reference_of : {c : Settings} {picks : List Choice → ℕ → Type 0} {calls : List Call} {n : Name} {up : Upcoming} {y j : ℕ} → Begun c picks calls n up y j → reference (history calls) y ≡ n
 reference_of b = ap (λ (u : Upcoming). u.command.reference) (sym b.now) ∙ b.own
 
-untold : (call : Call) (up : Upcoming) → told call ≡ None → told call ≡ Some up → ⊥
+untold : (call : Call) (up : Upcoming) → upcoming_in call ≡ None → upcoming_in call ≡ Some up → ⊥
 untold call up n e = true≢false (ap is_some (sym e ∙ n))
 
 -- a call that is no step, and tells nothing
-pub holds_on : (c : Settings) (picks : List Choice → ℕ → Type 0) (calls : List Call) (call : Call) (o o' : Option Name) → steps call ≡ false → told call ≡ None
+pub holds_on : (c : Settings) (picks : List Choice → ℕ → Type 0) (calls : List Call) (call : Call) (o o' : Option Name) → steps call ≡ false → upcoming_in call ≡ None
     → ((y : ℕ) → is_waiting (history calls) y ≡ true → foretold (history (calls ++ call ∷ [])) y ≡ foretold (history calls) y)
     → ((n : Name) (y : ℕ) → o ≡ Some n → is_waiting (history calls) y ≡ true → reference (history calls) y ≡ n → o' ≡ (if is_waiting (history (calls ++ call ∷ [])) y then Some n else None))
     → (o ≡ None → o' ≡ None) → Holds c picks calls o → Holds c picks (calls ++ call ∷ []) o'
@@ -155,7 +155,7 @@ holds_on c picks calls call (Some n) o' s q stay link none h =
     subst (Holds c picks calls') (sym (link n y refl b.is.waits (reference_of b))) (both (is_waiting t' y) refl)
 
 -- a step
-pub nothing_stepped : (calls : List Call) (call : Call) → steps call ≡ true → told call ≡ None → NothingBegun (calls ++ call ∷ [])
+pub nothing_stepped : (calls : List Call) (call : Call) → steps call ≡ true → upcoming_in call ≡ None → NothingBegun (calls ++ call ∷ [])
 nothing_stepped calls call s q up y j b = either ⊥ calls call up y j (λ k z. true≢false (sym s ∙ z)) (λ l. untold call up q l.told) b
 
 -- a begin that tells of y
@@ -184,9 +184,9 @@ holds_new c picks calls n up y apart none w e own p =
     let j = length calls in
     let same = begin_same calls (Some up) in
     let front : take j calls' ≡ calls = take_at calls (call ∷ []) j refl in
-    let is : IsBegun calls' up y j = record {
+    let is : IsBegunSince calls' up y j = record {
       inside = omega (arith, length-append calls (call ∷ []));
-      told = ap told (call_last calls call);
+      told = ap upcoming_in (call_last calls call);
       own = e ∙ ap (λ cs. foretold (history cs) y) (sym front);
       waited = subst (λ cs. is_waiting (history cs) y ≡ true) (sym front) w;
       unstepped = ap (list_any steps) (drop_all (j + 1) calls' (omega (arith, length-append calls (call ∷ []))));

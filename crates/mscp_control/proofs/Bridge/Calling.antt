@@ -29,7 +29,7 @@ use Rattle.mscp_control.specs.Commands.{ends_in, is_waiting, reference, unit, wa
 use Rattle.mscp_control.specs.Units.{is_online}
 use Rattle.mscp_control.specs.Legal.{IsLegal, IsPick, IsServed, block_of}
 use Rattle.mscp_control.specs.Holdings.{Answers, Finishes, Holdings, Steps, aborted, aborting, answered_end, balance_of, begun_after, ended, fresh, held_unless, outstanding_of, queued, sent_unless}
-use Rattle.mscp_control.specs.Calls.{AtEachCall, Begin, Call, Called, Calls, Finish, HoldsToBegun, IsAsTold, IsBegun, IsBegunAs, IsChosen, IsRightCall, Plain, StartsChosen, foretold, history, start_of}
+use Rattle.mscp_control.specs.Calls.{AnsweredCalls, AnswersCall, AtEachCall, Begin, Call, Finish, HoldsToBegun, IsAsTold, IsBegun, IsBegunSince, IsChosen, IsRightCall, Plain, StartsChosen, foretold, history, start_of}
 use Rattle.mscp_queue.proofs.Placed.{each_push}
 use Rattle.mscp_control.proofs.Promise.Among.{one_waits}
 use Rattle.mscp_control.proofs.Promise.Grows.{command_before, is_waiting_before}
@@ -102,7 +102,7 @@ begun_unless {K} h t k n y None e b w own =
 -- ---- a step
 
 as_told : {K : Type 0} (c : Settings) (picks : List Choice → ℕ → Type 0) (calls : List Call) (k : Block) (report : Report) (h h' : Holdings K) (o : Option Name) → Agrees c (history calls) h → Held c picks calls h o
-    → Turns c picks (history calls) (events.Step k, entries.Stepped report) h.begun h' → (up : Upcoming) (y j : ℕ) → IsBegun calls up y j → IfSome (service_in (entries.Stepped report)) (IsAsTold up)
+    → Turns c picks (history calls) (events.Step k, entries.Stepped report) h.begun h' → (up : Upcoming) (y j : ℕ) → IsBegunSince calls up y j → IfSome (service_in (entries.Stepped report)) (IsAsTold up)
 as_told c picks calls k reports.Idle h h' o a b turn up y j is = tt
 as_told c picks calls k (reports.Served reference' unit' lbn started' seek ended') h h' None a b turn up y j is = absurd (b.1 up y j is)
 as_told c picks calls k (reports.Served reference' unit' lbn started' seek ended') h h' (Some n) a b turn up y j is =
@@ -135,7 +135,7 @@ starts_chosen c picks calls k (reports.Served reference' unit' lbn true seek end
 -- after a step nothing is begun
 unbegun_after : {K : Type 0} (c : Settings) (picks : List Choice → ℕ → Type 0) (calls : List Call) (k : Block) (report : Report) (h h' : Holdings K) (o : Option Name) → Held c picks calls h o
     → Turns c picks (history calls) (events.Step k, entries.Stepped report) h.begun h' → Steps picks k h report h' → h'.begun ≡ None
-unbegun_after {K} c picks calls k reports.Idle h h' None b turn s = ap (λ (l : Line K). l.begun) s.serves.1 ∙ b.0
+unbegun_after {K} c picks calls k reports.Idle h h' None b turn s = ap (λ (l : Line K). l.begun) s.serves.2 ∙ b.0
 unbegun_after {K} c picks calls k reports.Idle h h' (Some n) b turn s = absurd (none_waits (history calls) b.1.1 turn.sends.right b.1.3.is.waits)
 unbegun_after {K} c picks calls k (reports.Served reference' unit' lbn started' seek ended') h h' o b turn s = ap (λ (l : Line K). l.begun) s.serves.1.left
 
@@ -189,12 +189,12 @@ plain picks calls events.Look (entries.Stepped report) h h' v a legal b r = absu
 
 -- ---- a finish
 
-begun_as : (c : Settings) (picks : List Choice → ℕ → Type 0) (calls : List Call) (number : ℕ) (o : Option Name) → is_begun number o ≡ true → Holds c picks calls o → IsBegunAs calls number
+begun_as : (c : Settings) (picks : List Choice → ℕ → Type 0) (calls : List Call) (number : ℕ) (o : Option Name) → is_begun number o ≡ true → Holds c picks calls o → IsBegun calls number
 begun_as c picks calls number None e b = absurd (false≢true e)
 begun_as c picks calls number (Some n) e b = (b.0, b.1, b.2, b.3.is, b.3.own ∙ eqb-true n number e)
 
 -- what is begun is of this number, or isn't
-only_begun : (c : Settings) (picks : List Choice → ℕ → Type 0) (calls : List Call) (number : ℕ) (o : Option Name) (q : Bool) → is_begun number o ≡ q → Holds c picks calls o → (up : Upcoming) (y j : ℕ) → IsBegun calls up y j → nat_eq up.command.reference number ≡ q
+only_begun : (c : Settings) (picks : List Choice → ℕ → Type 0) (calls : List Call) (number : ℕ) (o : Option Name) (q : Bool) → is_begun number o ≡ q → Holds c picks calls o → (up : Upcoming) (y j : ℕ) → IsBegunSince calls up y j → nat_eq up.command.reference number ≡ q
 only_begun c picks calls number None q e b up y j is = absurd (b up y j is)
 only_begun c picks calls number (Some n) q e b up y j is = ap (λ k. nat_eq k number) (ap (λ (u : Upcoming). u.command.reference) (b.3.only up y j is).1 ∙ b.3.own) ∙ e
 
@@ -209,7 +209,7 @@ finish picks calls number k (Ok report) h h' v a legal b r =
       legal = subst (IsLegal c) same step.legal;
       agrees = subst (λ u. Agrees c u h') same step.agrees;
       right = begun_as c picks calls number h.begun r.0 b;
-      begun = λ up y j is. (eqb-true up.command.reference number (only_begun c picks calls number h.begun true r.0 b up y j is), step.begun up y j is);
+      begun = step.begun;
       picked = step.picked;
       holds = subst (Holds c picks (calls ++ call ∷ [])) (sym (unbegun_after c picks calls k report h h' h.begun (refl, b) (turns picks h h' (history calls) (events.Step k) (entries.Stepped report) v a r.1) r.1)) (nothing_stepped calls call refl refl);
     }
@@ -231,12 +231,12 @@ finish {K} picks calls number k (Err stale) h h' v a legal b r =
 -- ---- every call
 
 turned : {K : Type 0} (picks : List Choice → ℕ → Type 0) (calls : List Call) (call : Call) (h h' : Holdings K) → IsValid h.settings → Agrees h.settings (history calls) h → IsLegal h.settings (history calls)
-    → Holds h.settings picks calls h.begun → Calls picks h call h' → Turned h.settings picks calls call h'
+    → Holds h.settings picks calls h.begun → AnswersCall picks h call h' → Turned h.settings picks calls call h'
 turned picks calls (Plain event entry) h h' v a legal b r = plain picks calls event entry h h' v a legal b r
 turned picks calls (Begin upcoming) h h' v a legal b r = begin picks calls upcoming h h' a legal b r
 turned picks calls (Finish number k answer) h h' v a legal b r = finish picks calls number k answer h h' v a legal b r
 
-settings_kept : {K : Type 0} (picks : List Choice → ℕ → Type 0) (h h' : Holdings K) (call : Call) → Calls picks h call h' → h'.settings ≡ h.settings
+settings_kept : {K : Type 0} (picks : List Choice → ℕ → Type 0) (h h' : Holdings K) (call : Call) → AnswersCall picks h call h' → h'.settings ≡ h.settings
 settings_kept picks h h' (Plain event entry) r = (owner_kept picks h h' event entry r).0
 settings_kept picks h h' (Begin upcoming) r = r.settings
 settings_kept picks h h' (Finish number k (Ok report)) r = r.1.settings
@@ -252,7 +252,7 @@ pub record Knows {K : Type 0} (c : Settings) (picks : List Choice → ℕ → Ty
   pub picked : AtEachCall calls (StartsChosen (IsPick c picks))
   pub holds : Holds c picks calls h.begun
 
-knows_more : {K : Type 0} (c : Settings) (picks : List Choice → ℕ → Type 0) (calls : List Call) (call : Call) (h h' : Holdings K) → IsValid c → Calls picks h call h' → Knows c picks calls h → Knows c picks (calls ++ call ∷ []) h'
+knows_more : {K : Type 0} (c : Settings) (picks : List Choice → ℕ → Type 0) (calls : List Call) (call : Call) (h h' : Holdings K) → IsValid c → AnswersCall picks h call h' → Knows c picks calls h → Knows c picks (calls ++ call ∷ []) h'
 knows_more {K} c picks calls call h h' v r k =
     let back = sym k.settings in
     let turn : Turned c picks calls call h' =
@@ -268,13 +268,13 @@ knows_more {K} c picks calls call h h' v r k =
       holds = turn.holds;
     }
 
-knows_after : {K : Type 0} (c : Settings) (picks : List Choice → ℕ → Type 0) (so_far : List Call) (h h' : Holdings K) (calls : List Call) → IsValid c → Called picks h calls h' → Knows c picks so_far h → Knows c picks (so_far ++ calls) h'
+knows_after : {K : Type 0} (c : Settings) (picks : List Choice → ℕ → Type 0) (so_far : List Call) (h h' : Holdings K) (calls : List Call) → IsValid c → AnsweredCalls picks h calls h' → Knows c picks so_far h → Knows c picks (so_far ++ calls) h'
 knows_after {K} c picks so_far h h' [] v r k = subst (λ (x : Holdings K). Knows c picks (so_far ++ []) x) (sym r) (subst (λ cs. Knows c picks cs h) (sym (append-nil so_far)) k)
 knows_after {K} c picks so_far h h' (call ∷ calls) v r k =
     subst (λ cs. Knows c picks cs h') (append_assoc so_far (call ∷ []) calls) (knows_after c picks (so_far ++ call ∷ []) r.0 h' calls v r.2 (knows_more c picks so_far call h r.0 v r.1 k))
 
 -- What somebody calls of a new controller is answered so.
-pub called : {K : Type 0} (c : Settings) (picks : List Choice → ℕ → Type 0) (picker : K) (h : Holdings K) (calls : List Call) → IsValid c → Called picks (fresh c picker) calls h → Knows c picks calls h
+pub called : {K : Type 0} (c : Settings) (picks : List Choice → ℕ → Type 0) (picker : K) (h : Holdings K) (calls : List Call) → IsValid c → AnsweredCalls picks (fresh c picker) calls h → Knows c picks calls h
 called c picks picker h calls v r =
     let past : (i : ℕ) → i < 0 → ⊥ = λ i l. absurd (omega (arith, l)) in
     knows_after c picks [] (fresh c picker) h calls v r

@@ -11,7 +11,7 @@ use Rattle.mscp_control.specs.Holdings.{Answered, Holdings, fresh}
 use Rattle.mscp_control.specs.Headline.{Headline}
 use Rattle.mscp_control.specs.Legal.{IsPick, IsPicked}
 use Rattle.mscp_control.specs.Sweeping.{IsSweeping, IsSwept, Sweeps}
-use Rattle.mscp_control.specs.Calls.{Call, Called, IsChosen, call_at, history, starts}
+use Rattle.mscp_control.specs.Calls.{AnsweredCalls, Call, IsChosen, call_at, history, starts}
 use Rattle.mscp_control.specs.Controllers.{KeepsPromise}
 use Rattle.mscp_control.proofs.Bridge.Swept.{sweeping, swept_pick}
 use Rattle.mscp_control.proofs.Bridge.Held.{figure_of_held}
@@ -53,7 +53,7 @@ starts_swept : (c : Settings) (picks : List Choice → ℕ → Type 0) (so_far :
 starts_swept c picks so_far None w h = tt
 starts_swept c picks so_far (Some n) w h = chosen_swept c picks so_far n w h
 
-pub keeps_promise : {K : Type 0} (c : Settings) (picks : List Choice → ℕ → Type 0) (picker : K) (calls : List Call) (h : Holdings K) → IsValid c → Called picks (fresh c picker) calls h → KeepsPromise picks c calls h
+pub keeps_promise : {K : Type 0} (c : Settings) (picks : List Choice → ℕ → Type 0) (picker : K) (calls : List Call) (h : Holdings K) → IsValid c → AnsweredCalls picks (fresh c picker) calls h → KeepsPromise picks c calls h
 keeps_promise c picks picker calls h v r =
     let t = history calls in
     let k = called c picks picker h calls v r in
@@ -65,6 +65,7 @@ keeps_promise c picks picker calls h v r =
       begun = k.begun;
       picked = k.picked;
       swept = λ w i l. starts_swept c picks (take i calls) (starts (call_at calls i)) w (k.picked i l);
+      settings = k.settings;
       figure = λ reference. ap (λ ws. figure_of_reference c.passing c.longest ws reference) f.waits ∙ figure_of_held c t reference;
       drives = k.agrees.driven.drives;
       balance = ap (λ (s : Settings). s.credits - (length h.waiting + length h.untaken)) k.settings ∙ balance_held c t h.waiting h.untaken f;

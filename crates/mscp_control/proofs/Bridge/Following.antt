@@ -68,7 +68,7 @@ idles {K} picks h h' t k v a s =
     let c = h.settings in
     let m : Moment = (events.Step k, entries.Stepped reports.Idle) in
     let none : waiting t ≡ [] = none_mapped (held_of t) (waiting t) (sym a.follows.waits ∙ s.serves.0) in
-    let same = s.serves.1 in
+    let same = s.serves.2 in
     let ends : h'.untaken ≡ untaken c (t ++ m ∷ []) = s.ends ∙ ends_on h t m refl a [] refl in
     record { sends = quiet h h' t m v.some_blocks (record { unserved = refl; kept = λ r. refl }) refl (ap (λ (l : Line K). l.waiting) same) (ap (λ (l : Line K). l.drives) same) ends a none; same = λ n b. tt; picked = λ b. tt }
 

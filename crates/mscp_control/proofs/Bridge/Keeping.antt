@@ -66,7 +66,7 @@ count_after n place r rs e l =
 -- the waiting commands and the ends that a step brings are as many as waited
 pub count_stepped : {K : Type 0} (picks : List Choice → ℕ → Type 0) (k : Block) (old : Line K) (report : Report) (new : Line K) → Serves picks k old report new
     → length new.waiting + length (ends_reported report) ≡ length old.waiting
-count_stepped {K} picks k old reports.Idle new h = let same = ap (λ (l : Line K). length l.waiting) h.1 in omega (arith, same)
+count_stepped {K} picks k old reports.Idle new h = let same = ap (λ (l : Line K). length l.waiting) h.2 in omega (arith, same)
 count_stepped {K} picks k old (reports.Served reference unit lbn started seek ended) new h =
     let place = h.0 in
     let s = h.1 in
@@ -79,7 +79,7 @@ count_stepped {K} picks k old (reports.Served reference unit lbn started seek en
 pub stays : {K : Type 0} (picks : List Choice → ℕ → Type 0) (k : Block) (old : Line K) (report : Report) (new : Line K) → Serves picks k old report new
     → (new.room ≡ old.room) × (new.passing ≡ old.passing) × (new.longest ≡ old.longest) × (new.picker ≡ old.picker)
 stays {K} picks k old reports.Idle new h =
-    (ap (λ (l : Line K). l.room) h.1, ap (λ (l : Line K). l.passing) h.1, ap (λ (l : Line K). l.longest) h.1, ap (λ (l : Line K). l.picker) h.1)
+    (ap (λ (l : Line K). l.room) h.2, ap (λ (l : Line K). l.passing) h.2, ap (λ (l : Line K). l.longest) h.2, ap (λ (l : Line K). l.picker) h.2)
 stays {K} picks k old (reports.Served reference unit lbn started seek ended) new h =
     let e = h.1.left in
     (ap (λ (l : Line K). l.room) e, ap (λ (l : Line K). l.passing) e, ap (λ (l : Line K). l.longest) e, ap (λ (l : Line K). l.picker) e)
@@ -160,7 +160,7 @@ unbegun_unless {K} h command None n =
     [ true ↦ n | false ↦ ap (λ b. begun_after b command.order) n ∙ begun_after_none command.order ]
 
 unbegun_stepped : {K : Type 0} (picks : List Choice → ℕ → Type 0) (k : Block) (old : Line K) (report : Report) (new : Line K) → old.begun ≡ None → Serves picks k old report new → new.begun ≡ None
-unbegun_stepped {K} picks k old reports.Idle new n h = ap (λ (l : Line K). l.begun) h.1 ∙ n
+unbegun_stepped {K} picks k old reports.Idle new n h = ap (λ (l : Line K). l.begun) h.2 ∙ n
 unbegun_stepped {K} picks k old (reports.Served reference unit lbn started seek ended) new n h = ap (λ (l : Line K). l.begun) h.1.left
 
 -- no event begins a command

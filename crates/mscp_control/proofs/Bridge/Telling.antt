@@ -12,9 +12,9 @@ use Rattle.mscp_control.specs.History.{Trace}
 use Rattle.mscp_control.specs.Commands.{is_waiting, reference, unit, waiting}
 use Rattle.mscp_control.specs.Legal.{IsLegal, IsPick, block_of}
 use Rattle.mscp_control.specs.Holdings.{Foretells, Holdings, line_of}
-use Rattle.mscp_control.specs.Calls.{Begin, Call, HoldsToBegun, IsChosen, foretold, history}
+use Rattle.mscp_control.specs.Calls.{Begin, Call, HoldsToBegun, IsChosen, NothingBegun, foretold, history}
 use Rattle.mscp_control.proofs.Promise.Among.{one_waits}
-use Rattle.mscp_control.proofs.Bridge.Begun.{Held, Turned, none_waits, Holds, begin_same, holds_again, holds_new, nothing_told, reference_of}
+use Rattle.mscp_control.proofs.Bridge.Begun.{Held, Turned, Holds, begin_same, holds_again, holds_new, nothing_told, reference_of}
 use Rattle.mscp_control.proofs.Bridge.Drives.{Driven, drive_by}
 use Rattle.mscp_control.proofs.Bridge.Following.{none_mapped}
 use Rattle.mscp_control.proofs.Bridge.Held.{held_of}
@@ -106,10 +106,9 @@ begin_at {K} picks calls up h h' place a legal b s u =
       holds = subst (Holds c picks (calls ++ Begin (Some up) ∷ [])) (sym tells.kept) (tells_holds c picks calls up h h' y h.begun a (refl, b) tells);
     }
 
-begin_none : {K : Type 0} (picks : List Choice → ℕ → Type 0) (calls : List Call) (h h' : Holdings K) (o : Option Name) → Agrees h.settings (history calls) h → IsLegal h.settings (history calls)
-    → Held h.settings picks calls h o → h.waiting ≡ [] → line_of h' ≡ line_of h → h'.untaken ≡ h.untaken → Turned h.settings picks calls (Begin None) h'
-begin_none {K} picks calls h h' (Some n) a legal b e l u = absurd (none_waits (history calls) b.1.1 (none_mapped (held_of (history calls)) (waiting (history calls)) (sym a.follows.waits ∙ e)) b.1.3.is.waits)
-begin_none {K} picks calls h h' None a legal b e l u =
+begin_none : {K : Type 0} (picks : List Choice → ℕ → Type 0) (calls : List Call) (h h' : Holdings K) → Agrees h.settings (history calls) h → IsLegal h.settings (history calls) → NothingBegun calls
+    → h.waiting ≡ [] → h.begun ≡ None → line_of h' ≡ line_of h → h'.untaken ≡ h.untaken → Turned h.settings picks calls (Begin None) h'
+begin_none {K} picks calls h h' a legal nothing e n l u =
     let c = h.settings in
     let t = history calls in
     let none : waiting t ≡ [] = none_mapped (held_of t) (waiting t) (sym a.follows.waits ∙ e) in
@@ -119,12 +118,13 @@ begin_none {K} picks calls h h' None a legal b e l u =
       legal = subst (IsLegal c) (sym same) legal;
       agrees = subst (λ v. Agrees c v h') (sym same) (agrees_same c t h h' a (l ∙ ap (λ o. record (line_of h) { begun = o }) (sym held)) u);
       right = none;
-      begun = λ up y j is. absurd (b.1 up y j is);
+      begun = λ up y j is. absurd (nothing up y j is);
       picked = tt;
-      holds = subst (Holds c picks (calls ++ Begin None ∷ [])) (sym (held ∙ b.0)) (nothing_told calls none b.1);
+      holds = subst (Holds c picks (calls ++ Begin None ∷ [])) (sym (held ∙ n)) (nothing_told calls none nothing);
     }
 
 pub begin : {K : Type 0} (picks : List Choice → ℕ → Type 0) (calls : List Call) (upcoming : Option Upcoming) (h h' : Holdings K) → Agrees h.settings (history calls) h → IsLegal h.settings (history calls)
     → Holds h.settings picks calls h.begun → Foretells picks h upcoming h' → Turned h.settings picks calls (Begin upcoming) h'
-begin picks calls None h h' a legal b r = begin_none picks calls h h' h.begun a legal (refl, b) r.begins.0 r.begins.1 r.untaken
+begin picks calls None h h' a legal b r =
+    begin_none picks calls h h' a legal (subst (Holds h.settings picks calls) r.begins.1 b) r.begins.0 r.begins.1 r.begins.2 r.untaken
 begin picks calls (Some up) h h' a legal b r = begin_at picks calls up h h' r.begins.0 a legal b r.begins.1 r.untaken

@@ -15,7 +15,7 @@ use Rattle.mscp_control.specs.Ends.{answer, outcome, ends, untaken}
 use Rattle.mscp_control.specs.Credits.{balance, outstanding, arrival}
 use Rattle.mscp_control.specs.Legal.{IsLegal, block_of}
 use Rattle.mscp_control.specs.Sweeping.{swept}
-use Rattle.mscp_control.specs.Calls.{Begin, Call, Finish, HoldsTo, HoldsToBegun, IsBegun, IsBegunAs, IsForetold, Plain, call_at, history}
+use Rattle.mscp_control.specs.Calls.{Begin, Call, Finish, HoldsTo, HoldsToBegun, IsBegun, IsBegunSince, IsForetold, Plain, call_at, history}
 use Rattle.mscp_control.proofs.Bridge.Legals.{legal_from, by_serving}
 use Rattle.mscp_control.proofs.Worked.Literals.{settings, came_online, read, queued, aborted, served, moved}
 
@@ -54,7 +54,7 @@ unfolding moment collect command_of command is_waiting waiting done good passes_
 far_told = (3, refl, refl, refl)
 
 -- which is begun when the near one has come, though the sweep would start that one.
-far_begun : IsBegun (take 6 begun_and_aborted) (one_block 1 60) 3 4
+far_begun : IsBegunSince (take 6 begun_and_aborted) (one_block 1 60) 3 4
 unfolding moment collect command_of command is_waiting waiting done good passes_at passes is_free is_startable startable figure figure_of is_online head_cylinder head_up cost swept answer outcome ends untaken balance outstanding arrival block_of
 far_begun = record { inside = omega arith; told = refl; own = refl; waited = refl; unstepped = refl; waits = refl }
 
@@ -93,6 +93,6 @@ unfolding moment collect command_of command is_waiting waiting done good passes_
 near_told = (4, refl, refl, refl)
 
 -- and what is finished is that one.
-near_finished : IsBegunAs (take 10 begun_and_aborted) 2
+near_finished : IsBegun (take 10 begun_and_aborted) 2
 unfolding moment collect command_of command is_waiting waiting done good passes_at passes is_free is_startable startable figure figure_of is_online head_cylinder head_up cost swept answer outcome ends untaken balance outstanding arrival block_of
 near_finished = (one_block 2 0, 4, 9, record { inside = omega arith; told = refl; own = refl; waited = refl; unstepped = refl; waits = refl }, refl)

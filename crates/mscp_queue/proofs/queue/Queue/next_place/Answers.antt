@@ -20,3 +20,6 @@ returns-in-Some-clause-none g c = (found g c).none
 
 pub returns-in-Some-clause-some : goal.returns-in-Some-clause-some
 returns-in-Some-clause-some g c = (found g c).some
+
+pub returns-in-Some-clause-unbegun : goal.returns-in-Some-clause-unbegun
+returns-in-Some-clause-unbegun g c = (found g c).unbegun
