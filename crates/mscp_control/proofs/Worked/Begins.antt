@@ -1,6 +1,7 @@
 -- What was begun is held to, whatever comes in between, until it is aborted.
 use Rattle.std.proofs.Common.{◌≡◌, ℕ, true, false, List, [], ◌∷◌, ◌++◌, map, take, refl, ap, arith}
-use Rattle.std.specs.Prelude.{Some, Ok, Err, unwrap_or}
+use Rattle.std.specs.Prelude.{Some, Ok, Err, unwrap_or, replicate}
+use Rattle.std.proofs.lemmas.Bool.{false≢true}
 use Rattle.mscp_packet.specs.Commands.{command_of}
 use Rattle.mscp_queue.specs.declared.block.Block.TheVariants.{Good}
 use Rattle.mscp_queue.specs.declared.report.Report.TheVariants as reports
@@ -17,7 +18,7 @@ use Rattle.mscp_control.specs.Legal.{IsLegal, block_of}
 use Rattle.mscp_control.specs.Sweeping.{swept}
 use Rattle.mscp_control.specs.Calls.{Begin, Call, Finish, HoldsTo, HoldsToBegun, IsBegun, IsBegunSince, IsForetold, Plain, call_at, history}
 use Rattle.mscp_control.proofs.Bridge.Legals.{legal_from, by_serving}
-use Rattle.mscp_control.proofs.Worked.Literals.{settings, came_online, read, queued, aborted, served, moved}
+use Rattle.mscp_control.proofs.Worked.Literals.{settings, came_online, read, queued, aborted, served, moved, took}
 
 abbrev plain : Moment → Call
 plain m = Plain m.0 m.1
@@ -96,3 +97,36 @@ near_told = (4, refl, refl, refl)
 near_finished : IsBegun (take 10 begun_and_aborted) 2
 unfolding moment collect command_of command is_waiting waiting done good passes_at passes is_free is_startable startable figure figure_of is_online head_cylinder head_up cost swept answer outcome ends untaken balance outstanding arrival block_of
 near_finished = (one_block 2 0, 4, 9, record { inside = omega arith; told = refl; own = refl; waited = refl; unstepped = refl; waits = refl }, refl)
+
+-- ---- a number that is used again
+
+-- The end of the far one is taken, and a third read comes under its number. The old begin isn't of that one: it can't be
+-- finished until a begin tells of it.
+abbrev number_again : List Call
+number_again =
+    take 8 begun_and_aborted
+    ++ plain (took (1 ∷ 0 ∷ 0 ∷ 0 ∷ 0 ∷ 0 ∷ 0 ∷ 0 ∷ 0xA1 ∷ 0 ∷ 2 ∷ replicate 21 0))
+    ∷ plain (queued 1 0 (read 512 80))
+    ∷ Finish 1 Good (Err stale)
+    ∷ Begin (Some (one_block 1 80))
+    ∷ Finish 1 Good (Ok (reports.Served 1 0 (Some 80) true 4 (moved 1 0 0 512)))
+    ∷ []
+
+again_legal : IsLegal (settings 8 8) (history number_again)
+unfolding moment collect command_of command is_waiting waiting done good passes_at passes is_free is_startable startable figure figure_of is_online head_cylinder head_up cost swept answer outcome ends untaken balance outstanding arrival block_of
+again_legal = legal_from (settings 8 8) (history number_again) (refl, (by_serving 0 refl refl refl, (refl, (refl, (refl, (refl, (refl, (refl, (by_serving 7 refl refl refl, tt)))))))))
+
+-- The old one waits no more,
+old_left : IsBegunSince (take 10 number_again) (one_block 1 60) 3 4 → ⊥
+unfolding moment collect command_of command is_waiting waiting done good passes_at passes is_free is_startable startable figure figure_of is_online head_cylinder head_up cost swept answer outcome ends untaken balance outstanding arrival block_of
+old_left b = false≢true b.waits
+
+-- the new one hadn't come when the old one was begun,
+new_unbegun : (upcoming : Upcoming) → IsBegunSince (take 10 number_again) upcoming 7 4 → ⊥
+unfolding moment collect command_of command is_waiting waiting done good passes_at passes is_free is_startable startable figure figure_of is_online head_cylinder head_up cost swept answer outcome ends untaken balance outstanding arrival block_of
+new_unbegun upcoming b = false≢true b.waited
+
+-- and what is finished in the end is the new one.
+new_finished : IsBegun (take 12 number_again) 1
+unfolding moment collect command_of command is_waiting waiting done good passes_at passes is_free is_startable startable figure figure_of is_online head_cylinder head_up cost swept answer outcome ends untaken balance outstanding arrival block_of
+new_finished = (one_block 1 80, 7, 11, record { inside = omega arith; told = refl; own = refl; waited = refl; unstepped = refl; waits = refl }, refl)
