@@ -1,2 +1,10 @@
 pub mod Fronts
 pub mod Padded
+pub mod Pieces
+pub mod Digits
+pub mod Outcomes
+pub mod Rising
+pub mod Sound
+pub mod Whole
+pub mod Faults
+mod RunsScripts

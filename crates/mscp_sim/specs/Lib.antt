@@ -1,5 +1,9 @@
 pub mod Whole
 pub mod Text
+pub mod Steps
+pub mod Lexical
 pub mod Requests
+pub mod Grammar
+pub mod Outcome
 pub mod Simulated
 pub mod Causes

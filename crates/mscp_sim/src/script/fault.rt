@@ -1,7 +1,8 @@
 // What can be wrong with a script.
 
-ghost use Rattle.std.specs.Prelude.{◌≡◌, ◌≤◌, length, MatchResult};
+ghost use Rattle.std.specs.Prelude.{◌≡◌, ◌≤◌, length};
 ghost use Rattle.mscp_sim.specs.Causes.{cause_word};
+ghost use Rattle.mscp_sim.specs.Outcome.{in_line};
 ghost use Rattle.mscp_sim.specs.declared.script.fault.ReadFault.TheVariants as variants;
 
 use mscp_control::OutOfMemory;
@@ -24,6 +25,10 @@ pub enum Cause {
     Count,
     /// A field isn't a number of 1 to 10 decimal digits, or is out of its range.
     Number,
+    /// A field isn't hexadecimal, has an odd number of digits, or a wrong length.
+    Hex,
+    /// The status of a bad block has a code below 5.
+    Status,
     /// The unit is refused.
     Unit,
     /// The limits are refused.
@@ -48,6 +53,8 @@ impl Cause {
             Cause::Word => "word",
             Cause::Count => "count",
             Cause::Number => "number",
+            Cause::Hex => "hex",
+            Cause::Status => "status",
             Cause::Unit => "unit",
             Cause::Config => "config",
             Cause::Header => "header",
@@ -95,8 +102,7 @@ impl From<OutOfMemory> for ReadFault {
 impl ScriptFault {
     /// The outcome of reading this line, with the line in its fault.
     pub(super) fn at<T>(line: u32, outcome: Result<T, Cause>) -> Result<T, ScriptFault>
-        ensures { MatchResult outcome (λ value. result ≡ Ok value)
-            (λ cause. result ≡ Err (record { line = line; cause = cause })) }
+        ensures { result ≡ in_line line outcome }
     {
         match outcome {
             Ok(value) => Ok(value),

@@ -1,9 +1,18 @@
-// The header of a script: each line once and in order.
+// The header of a script: each line once and in order, but for 1 to 16 units.
 
-ghost use Rattle.std.specs.Prelude.{◌<◌, ◌≤◌, length, IfErr, IfOk, IfSome};
+ghost use Rattle.std.specs.Prelude.{◌≡◌, ◌<◌, ◌≤◌, [], ℕ, nat_lt, length, IfOk, IfErr, OnOk};
+ghost use Rattle.std.specs.List.{list_all};
+ghost use Rattle.mscp_control.specs.Settings as settings;
+ghost use Rattle.mscp_drive.specs.UnitList.{IsUnitList, NumbersRise};
+ghost use Rattle.mscp_sim.specs.Steps.{Gives};
+ghost use Rattle.mscp_sim.specs.Lexical as lexical;
+ghost use Rattle.mscp_sim.specs.Grammar as grammar;
+ghost use Rattle.mscp_sim.specs.Grammar.{Place, Begins, HasTimeout, HasUnits, HasGone};
+ghost use Rattle.mscp_sim.specs.Outcome.{Sets, Leads, in_line, rest_outcome, settled, place_after};
 
 use crate::script::fault::{Cause, ScriptFault};
 use crate::script::lines::Lines;
+use crate::script::numbers::{narrow, number, wide};
 use crate::script::words::Words;
 use arrayvec::ArrayVec;
 use mscp_control::Config;
@@ -12,7 +21,7 @@ use mscp_drive::{Unit, Units};
 /// What a script's controller is known by.
 const IDENTIFIER: u64 = 1;
 
-/// The most units of a script.
+/// The most units that a controller may have.
 const MOST_UNITS: usize = 16;
 
 /// The limits of a header.
@@ -26,81 +35,176 @@ struct Limits {
 
 /// Reads the header, up to its `go`.
 pub fn read_header(lines: &mut Lines<'_>) -> Result<Config, ScriptFault>
-    ensures { IfErr result (λ fault. 1 ≤ fault.line) }
+    ensures fault { IfErr result (λ fault. 1 ≤ fault.line) }
+    ensures leads { Leads (λ config. HasGone config []) (rest_outcome lines.old.number Begins lines.old.rest.now)
+        lines.new.number lines.new.rest.now result }
 {
-    let limits = Limits {
-        credits: read_wide(lines, b"credits")?,
-        passing: read_wide(lines, b"passing")?,
-        longest: read_wide(lines, b"longest")?,
-        timeout: read_narrow(lines, b"timeout")?,
-    };
-    let mut units: ArrayVec<Unit, MOST_UNITS> = ArrayVec::new();
-    units.push(read_unit(lines)?);
+    let limits = read_limits(lines)?;
+    let mut units = ArrayVec::new();
+    read_unit(lines, limits, &mut units)?;
     loop {
-        let line = lines.header_line()?;
-        match ScriptFault::at(line.number, unit_or_go(line.words, units.as_slice()))? {
-            Some(unit) => units.push(unit),
-            None => return ScriptFault::at(line.number, configured(limits, units.as_slice())),
+        if let Some(config) = read_unit_or_go(lines, limits, &mut units)? {
+            return Ok(config);
         }
     }
 }
 
-/// Reads the line of this word and of a number from 0 to 4294967295.
-fn read_wide(lines: &mut Lines<'_>, word: &[u8]) -> Result<u32, ScriptFault>
-    ensures { IfErr result (λ fault. 1 ≤ fault.line) }
+/// Reads the lines before the units.
+fn read_limits(lines: &mut Lines<'_>) -> Result<Limits, ScriptFault>
+    ensures fault { IfErr result (λ fault. 1 ≤ fault.line) }
+    ensures leads { Leads (λ limits. HasTimeout (settled limits [])) (rest_outcome lines.old.number Begins
+        lines.old.rest.now) lines.new.number lines.new.rest.now result }
 {
-    let line = lines.header_line()?;
-    ScriptFault::at(line.number, wide_setting(line.words, word))
+    let credits = read_setting(lines, b"credits", 4_294_967_295)?;
+    let passing = read_setting(lines, b"passing", 4_294_967_295)?;
+    let longest = read_setting(lines, b"longest", 4_294_967_295)?;
+    let timeout = read_setting(lines, b"timeout", 65_535)?;
+    Ok(Limits {
+        credits,
+        passing,
+        longest,
+        timeout: timeout as u16,
+    })
 }
 
-/// Reads the line of this word and of a number from 0 to 65535.
-fn read_narrow(lines: &mut Lines<'_>, word: &[u8]) -> Result<u16, ScriptFault>
-    ensures { IfErr result (λ fault. 1 ≤ fault.line) }
+/// Reads the line of this word and of a number that is at most so much.
+fn read_setting(lines: &mut Lines<'_>, name: &[u8], most: u32) -> Result<u32, ScriptFault>
+    ensures fault { IfErr result (λ fault. 1 ≤ fault.line) }
+    ensures bound { IfOk result (λ value. value ≤ most) }
+    ensures leads { (p : Place) (made : ℕ → Place) → Sets p name.now most made → Leads made (rest_outcome
+        lines.old.number p lines.old.rest.now) lines.new.number lines.new.rest.now result }
 {
     let line = lines.header_line()?;
-    ScriptFault::at(line.number, narrow_setting(line.words, word))
+    ScriptFault::at(line.number, setting(line.words, name, most))
 }
 
-/// Reads the line of a unit.
-fn read_unit(lines: &mut Lines<'_>) -> Result<Unit, ScriptFault>
-    ensures { IfErr result (λ fault. 1 ≤ fault.line) }
+/// Reads the line of the first unit.
+fn read_unit(
+    lines: &mut Lines<'_>,
+    limits: Limits,
+    units: &mut ArrayVec<Unit, 16>,
+) -> Result<(), ScriptFault>
+    requires { units.old.items ≡ [] }
+    ensures fault { IfErr result (λ fault. 1 ≤ fault.line) }
+    ensures list { OnOk result (IsUnitList units.new.items) }
+    ensures leads { Leads (λ done. HasUnits (settled limits units.new.items)) (rest_outcome lines.old.number
+        (HasTimeout (settled limits [])) lines.old.rest.now) lines.new.number lines.new.rest.now result }
 {
     let line = lines.header_line()?;
-    ScriptFault::at(line.number, first_unit(line.words))
+    ScriptFault::at(line.number, first_unit(line.words, units))
+}
+
+/// Reads a line after a unit: one more unit, or the end of the header.
+fn read_unit_or_go(
+    lines: &mut Lines<'_>,
+    limits: Limits,
+    units: &mut ArrayVec<Unit, 16>,
+) -> Result<Option<Config>, ScriptFault>
+    requires { IsUnitList units.old.items }
+    ensures shorter { OnOk result (length lines.new.rest.now < length lines.old.rest.now) }
+    ensures fault { IfErr result (λ fault. 1 ≤ fault.line) }
+    ensures list { OnOk result (IsUnitList units.new.items) }
+    ensures leads { Leads (place_after (settled limits units.new.items)) (rest_outcome lines.old.number (HasUnits
+        (settled limits units.old.items)) lines.old.rest.now) lines.new.number lines.new.rest.now result }
+{
+    let line = lines.header_line()?;
+    ScriptFault::at(line.number, unit_or_go(line.words, limits, units))
 }
 
 /// The number of a line, whose first word is this one.
-fn wide_setting(mut words: Words<'_>, word: &[u8]) -> Result<u32, Cause> {
-    if words.next_word() != Some(word) {
+#[tactic(auto, unfolding(crate::specs::Grammar::setting))]
+fn setting(mut words: Words<'_>, name: &[u8], most: u32) -> Result<u32, Cause>
+    ensures bound { IfOk result (λ value. value ≤ most) }
+    ensures value { result ≡ grammar.setting name.now most (lexical.words words.entry.rest.now) }
+{
+    let Some(word) = words.next_word() else {
+        return Err(Cause::Word);
+    };
+    if word != name {
         return Err(Cause::Word);
     }
-    words.exactly(1)?.wide()
-}
-
-/// The same of a number from 0 to 65535.
-fn narrow_setting(mut words: Words<'_>, word: &[u8]) -> Result<u16, Cause> {
-    if words.next_word() != Some(word) {
-        return Err(Cause::Word);
-    }
-    words.exactly(1)?.narrow()
+    number(most, words.one()?)
 }
 
 /// The unit of a line, whose first word is `unit`.
-fn first_unit(mut words: Words<'_>) -> Result<Unit, Cause> {
+#[tactic(auto, unfolding(crate::specs::Grammar::first_units))]
+fn first_unit(mut words: Words<'_>, units: &mut ArrayVec<Unit, 16>) -> Result<(), Cause>
+    requires { units.old.items ≡ [] }
+    ensures list { OnOk result (IsUnitList units.new.items) }
+    ensures units { Gives (λ done. units.new.items) result (grammar.first_units (lexical.words words.entry.rest.now)) }
+{
     match words.next_word() {
-        Some(b"unit") => unit_of(words),
+        Some(b"unit") => add_unit(units, words),
         _ => Err(Cause::Word),
     }
 }
 
+/// What a line after a unit brings: one more unit, or the configuration.
+#[tactic(auto, unfolding(crate::specs::Grammar::unit_or_go, crate::specs::Grammar::with_unit, crate::specs::Grammar::gone))]
+fn unit_or_go(
+    mut words: Words<'_>,
+    limits: Limits,
+    units: &mut ArrayVec<Unit, 16>,
+) -> Result<Option<Config>, Cause>
+    requires { IsUnitList units.old.items }
+    ensures list { OnOk result (IsUnitList units.new.items) }
+    ensures place { Gives (place_after (settled limits units.new.items)) result (grammar.unit_or_go (settled limits
+        units.old.items) (lexical.words words.entry.rest.now)) }
+{
+    match words.next_word() {
+        Some(b"unit") => {
+            add_unit(units, words)?;
+            Ok(None)
+        }
+        Some(b"go") => {
+            words.none()?;
+            Ok(Some(configured(limits, units)?))
+        }
+        _ => Err(Cause::Word),
+    }
+}
+
+/// One more unit, of these fields. There are at most 16, each of a higher number than those before.
+#[tactic(auto, using(crate::proofs::Rising::one_more_rises, crate::proofs::Rising::has_room_some), unfolding(crate::specs::Grammar::more_units))]
+fn add_unit(units: &mut ArrayVec<Unit, 16>, words: Words<'_>) -> Result<(), Cause>
+    requires { NumbersRise units.old.items }
+    ensures list { OnOk result (IsUnitList units.new.items) }
+    ensures units { Gives (λ done. units.new.items) result (grammar.more_units units.old.items (lexical.words
+        words.entry.rest.now)) }
+{
+    let unit = unit_of(words)?;
+    if !has_room(units.as_slice(), unit.number()) {
+        return Err(Cause::Unit);
+    }
+    units.push(unit);
+    Ok(())
+}
+
+/// Whether there may be one more unit of this number.
+fn has_room(units: &[Unit], number: u16) -> bool
+    ensures { result ≡ grammar.has_room units.now number }
+{
+    units.len() < MOST_UNITS && is_above(units, number)
+}
+
+/// Whether each unit has a lower number.
+fn is_above(units: &[Unit], number: u16) -> bool
+    ensures { result ≡ list_all (λ other. nat_lt other.number number) units.now }
+{
+    units.iter().all(|other| other.number() < number)
+}
+
 /// The unit of these fields. Its identifier and its serial number are one more than its number.
-fn unit_of(words: Words<'_>) -> Result<Unit, Cause> {
-    let mut fields = words.exactly(5)?;
-    let number = fields.narrow()?;
-    let track = fields.narrow()?;
-    let group = fields.narrow()?;
-    let cylinder = fields.narrow()?;
-    let size = fields.wide()?;
+#[tactic(auto, unfolding(crate::specs::Grammar::unit_of))]
+fn unit_of(words: Words<'_>) -> Result<Unit, Cause>
+    ensures { result ≡ grammar.unit_of (lexical.words words.entry.rest.now) }
+{
+    let (number, track, group, cylinder, size) = words.five()?;
+    let number = narrow(number)?;
+    let track = narrow(track)?;
+    let group = narrow(group)?;
+    let cylinder = narrow(cylinder)?;
+    let size = wide(size)?;
     let id = u64::from(number) + 1;
     let serial = u32::from(number) + 1;
     match Unit::new(number, track, group, cylinder, size, id, 0, serial) {
@@ -109,47 +213,22 @@ fn unit_of(words: Words<'_>) -> Result<Unit, Cause> {
     }
 }
 
-/// What a line after these units brings: one more unit, or nothing where it is `go`. The words and numbers of a unit
-/// are judged before its number, which has to be above those of the units before it, and before there are too many.
-fn unit_or_go(mut words: Words<'_>, units: &[Unit]) -> Result<Option<Unit>, Cause>
-    ensures { IfOk result (λ found. IfSome found (λ _. length units.now < MOST_UNITS)) }
+/// The configuration of these settings.
+fn configured(limits: Limits, units: &ArrayVec<Unit, 16>) -> Result<Config, Cause>
+    requires { IsUnitList units.now.items }
+    ensures { result ≡ grammar.valid (settings.configured (settled limits units.now.items)) }
 {
-    match words.next_word() {
-        Some(b"go") => {
-            words.exactly(0)?;
-            Ok(None)
-        }
-        Some(b"unit") => {
-            let unit = unit_of(words)?;
-            if units.len() < MOST_UNITS && follows(units, &unit) {
-                Ok(Some(unit))
-            } else {
-                Err(Cause::Unit)
-            }
-        }
-        _ => Err(Cause::Word),
-    }
-}
-
-/// Whether the number of a unit is above that of the last one.
-fn follows(units: &[Unit], unit: &Unit) -> bool {
-    units
-        .last()
-        .is_none_or(|last| last.number() < unit.number())
-}
-
-/// The configuration of these limits and units.
-fn configured(limits: Limits, units: &[Unit]) -> Result<Config, Cause> {
-    let Limits {
-        credits,
-        passing,
-        longest,
-        timeout,
-    } = limits;
-    let Ok(units) = Units::new(units) else {
+    let Ok(units) = Units::new(units.as_slice()) else {
         return Err(Cause::Unit);
     };
-    match Config::new(credits, passing, longest, timeout, IDENTIFIER, units) {
+    match Config::new(
+        limits.credits,
+        limits.passing,
+        limits.longest,
+        limits.timeout,
+        IDENTIFIER,
+        units,
+    ) {
         Ok(config) => Ok(config),
         Err(_) => Err(Cause::Config),
     }

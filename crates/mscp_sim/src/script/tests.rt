@@ -1,6 +1,6 @@
 use super::*;
 use arrayvec::ArrayVec;
-use mscp_control::Block;
+use mscp_control::{Block, FaultStatus};
 use mscp_drive::{Unit, Units};
 use std::process::Abort;
 use std::test::Fail;
@@ -39,6 +39,10 @@ fn sent(rt: &impl Abort, bytes: &[u8]) -> Event {
     Event::Send(message)
 }
 
+fn bad(rt: &impl Abort, status: u16) -> Event {
+    Event::Step(Block::Bad(FaultStatus::new(status).expect(rt, "a code of at least 5")))
+}
+
 #[test]
 fn reads_a_header_and_events(rt: HostRuntime) -> Result<(), Fail> {
     let text = joined(
@@ -47,7 +51,8 @@ fn reads_a_header_and_events(rt: HostRuntime) -> Result<(), Fail> {
         &[
             HEADER,
             "read 1 0 1024 5\nstatus 2 1\ntake\nstep 1\nstatus 3 1\n take \n# no line\n\nstep 2\r\ntake\n",
-            "online 4 7\navailable 5 7\nsetunit 6 7\nunitstatus 7 7\nsetcontroller 8\nlook\nabort 9 4294967295",
+            "online 4 7\navailable 5 7\nsetunit 6 7\nunitstatus 7 7\nsetcontroller 8\nlook\nabort 9 4294967295\n",
+            "packet 0aFF\nbad 00e8\nbad FFe5\nonline 10 300\nread 11 65535 512 70000",
         ],
     );
     let script = read_script(rt.alloc(), text.as_bytes())?;
@@ -72,6 +77,14 @@ fn reads_a_header_and_events(rt: HostRuntime) -> Result<(), Fail> {
         sent(&rt, b"\x08\0\0\0\0\0\0\0\x04\0\0\0\0\0\0\0\0\0"),
         Event::Look,
         sent(&rt, b"\x09\0\0\0\0\0\0\0\x01\0\0\0\xff\xff\xff\xff"),
+        sent(&rt, b"\x0a\xff"),
+        bad(&rt, 0x00E8),
+        bad(&rt, 0xFFE5),
+        sent(&rt, b"\x0a\0\0\0\x2c\x01\0\0\x09\0\0\0"),
+        sent(
+            &rt,
+            b"\x0b\0\0\0\xff\xff\0\0\x21\0\0\0\0\x02\0\0\0\0\0\0\0\0\0\0\0\0\0\0\x70\x11\x01\0",
+        ),
     ];
     assert_eq!(rt; script.events.as_slice(), wanted.as_slice());
     Ok(())
@@ -99,6 +112,9 @@ fn tells_the_first_fault(rt: HostRuntime) {
         ("credits x\n", "line 1: number"),
         ("credits +4\n", "line 1: number"),
         ("credits 4294967296\n", "line 1: number"),
+        ("credits 4294967300\n", "line 1: number"),
+        ("credits 99999999999\n", "line 1: number"),
+        ("credits x y\n", "line 1: count"),
         ("credits 00000000004\n", "line 1: number"),
         ("credits 0000000004\n", "line 2: header"),
         ("credits 4294967295\n", "line 2: header"),
@@ -146,11 +162,13 @@ fn tells_the_fault_of_a_unit_or_of_limits(rt: HostRuntime) {
     let limits = [
         "credits 1\npassing 0\nlongest 8\ntimeout 60\n",
         "credits 65\npassing 0\nlongest 8\ntimeout 60\n",
+        "credits 260\npassing 0\nlongest 8\ntimeout 60\n",
         "credits 64\npassing 449\nlongest 8388608\ntimeout 60\n",
         "credits 4\npassing 0\nlongest 0\ntimeout 60\n",
         "credits 4\npassing 0\nlongest 8388609\ntimeout 60\n",
         "credits 4\npassing 0\nlongest 8\ntimeout 0\n",
         "credits 4\npassing 0\nlongest 8\ntimeout 256\n",
+        "credits 4\npassing 0\nlongest 8\ntimeout 257\n",
     ];
     for text in limits {
         let all = joined(&rt, rt.alloc(), &[text, "unit 0 10 2 1 1000\ngo\nnothing"]);
@@ -224,6 +242,19 @@ fn tells_the_fault_of_an_event(rt: HostRuntime) {
         ("setcontroller one", "line 7: number"),
         ("abort 1", "line 7: count"),
         ("abort 1 x", "line 7: number"),
+        ("read 4294967300 0 512 0", "line 7: number"),
+        ("read 1 x 512 0 0", "line 7: count"),
+        ("packet", "line 7: count"),
+        ("packet 00 00", "line 7: count"),
+        ("packet 0", "line 7: hex"),
+        ("packet 0g", "line 7: hex"),
+        ("bad 004", "line 7: hex"),
+        ("bad 00500", "line 7: hex"),
+        ("bad 000500", "line 7: hex"),
+        ("bad 0x05", "line 7: hex"),
+        ("bad 0004", "line 7: status"),
+        ("bad 0020", "line 7: status"),
+        ("bad", "line 7: count"),
         ("credits 4", "line 7: word"),
         ("take\n\ntaken", "line 9: word"),
         ("take # now", "line 7: count"),
@@ -258,6 +289,7 @@ fn keeps_the_limits(rt: HostRuntime) -> Result<(), Fail> {
         (b'\n', 1_000_000, "", "line 1000001: header"),
         (b'\n', 1_000_000, "#", "line 1000001: lines"),
         (b'\n', 1_000_000, "\n", "line 1000001: lines"),
+        (b'\n', 69_999, "credits x", "line 70000: number"),
         (b' ', 16_777_216, "", "line 1: long"),
         (b' ', 16_777_216, " ", "line 0: size"),
     ];
@@ -288,6 +320,29 @@ fn keeps_the_limit_of_events(rt: HostRuntime) -> Result<(), Fail> {
         all.push_str(last)?;
         let found = fault_text(&rt, rt.alloc(), all.as_bytes());
         assert_eq!(rt; found.as_str(), wanted);
+    }
+    Ok(())
+}
+
+// A message of a script has 1 to 64 bytes.
+#[test]
+fn reads_messages_of_any_length(rt: HostRuntime) -> Result<(), Fail> {
+    for (digits, is_read) in [(2, true), (127, false), (128, true), (130, false)] {
+        let mut text = joined(&rt, rt.alloc(), &[HEADER, "packet "]);
+        for _ in 0..digits {
+            text.push_str("5")?;
+        }
+        match read_script(rt.alloc(), text.as_bytes()) {
+            Ok(script) => {
+                assert!(rt; is_read);
+                let message = vec![in rt.alloc(); 0x55u8; digits / 2]?;
+                assert_eq!(rt; script.events.as_slice(), [sent(&rt, &message)].as_slice());
+            }
+            Err(fault) => {
+                assert!(rt; !is_read);
+                assert_eq!(rt; fault.to_string(rt.alloc())?.as_str(), "line 7: hex");
+            }
+        }
     }
     Ok(())
 }
