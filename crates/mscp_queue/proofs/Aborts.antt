@@ -8,7 +8,7 @@ use Rattle.std.proofs.lemmas.List.Elements.{All-from_recursion, filter-append, r
 use Rattle.mscp_queue.specs.declared.drive.Drive.{Drive}
 use Rattle.mscp_queue.specs.Kept.{AreApart, IsHeld, IsKept, IsStillServable, names, units_of}
 use Rattle.mscp_queue.specs.Names.{Name}
-use Rattle.mscp_queue.specs.Serving.{is_begun}
+use Rattle.mscp_queue.specs.Serving.{begun_without, is_begun}
 use Rattle.mscp_queue.proofs.Begun.{still_aborted, still_begun}
 use Rattle.mscp_queue.specs.Records.{Record, has_reference, is_in_service, no_record, record_at, without}
 use Rattle.mscp_queue.proofs.Lists.{every_kept, every_weaker, fewer, filter_all, filter_none, filter_one}
@@ -142,12 +142,12 @@ fewer_of {X} p q (x ∷ xs) =
     λ b. elim b as (λ b. length (filter p (cond b (x ∷ filter q xs) (filter q xs))) ≤ length (filter p (x ∷ xs))) [ true ↦ both true (p x) | false ↦ both false (p x) ] in
     split (q x)
 
-pub held_aborted : (room passing longest reference : ℕ) (rs new : List Record) (ds : List Drive) (begun : Option Name) → IsHeld room passing longest rs ds begun → new ≡ without reference rs
-    → IsHeld room passing longest new ds (if is_begun reference begun then None else begun)
-held_aborted room passing longest reference rs new ds begun h e =
+pub held_aborted : (room passing longest reference : ℕ) (rs new : List Record) (ds : List Drive) (begun : Option Name) (b : Bool) → is_begun reference begun ≡ b → IsHeld room passing longest rs ds begun → new ≡ without reference rs
+    → IsHeld room passing longest new ds (if b then None else begun)
+held_aborted room passing longest reference rs new ds begun b was h e =
     let keep : Record → Bool = λ z. not (has_reference reference z) in
     let K = IsKept passing longest (units_of ds) in
-    let left = if is_begun reference begun then None else begun in
+    let left = begun_without reference begun in
     let all : IsHeld room passing longest (without reference rs) ds left = record {
       some_room = h.some_room;
       few = h.few;
@@ -160,13 +160,13 @@ held_aborted room passing longest reference rs new ds begun h e =
       one = let o = h.one in omega (arith, fewer_of is_in_service keep rs);
       units = h.units;
       heads = h.heads;
-      still = λ name k. let b = still_begun reference begun name k in still_aborted passing reference rs name b.1 (h.still name b.0);
+      still = λ name k. let s = still_begun reference begun name k in still_aborted passing reference rs name s.1 (h.still name s.0);
     } in
-    subst (λ zs. IsHeld room passing longest zs ds left) (sym e) all
+    subst (λ q. IsHeld room passing longest new ds (if q then None else begun)) was (subst (λ zs. IsHeld room passing longest zs ds left) (sym e) all)
 
 -- where nothing is aborted, what was begun stays
 pub none_aborted : (passing reference : ℕ) (rs : List Record) (begun : Option Name) → ((name : Name) → begun ≡ Some name → IsStillServable passing rs name) → find (has_reference reference) rs ≡ None
-    → begun ≡ (if is_begun reference begun then None else begun)
+    → begun ≡ begun_without reference begun
 none_aborted passing reference rs None s h = refl
 none_aborted passing reference rs (Some name) s h =
     let w = s name refl in

@@ -11,7 +11,7 @@ use Rattle.mscp_queue.specs.declared.view.Choice.{Choice}
 use Rattle.mscp_queue.specs.Kept.{IsStillServable}
 use Rattle.mscp_queue.specs.Names.{Name}
 use Rattle.mscp_queue.specs.Records.{Record, has_reference, is_unstarted, no_record, record_at, toll, without}
-use Rattle.mscp_queue.specs.Serving.{IsServable, is_begun}
+use Rattle.mscp_queue.specs.Serving.{IsServable, begun_without}
 use Rattle.mscp_queue.specs.Views.{IsPick, fences, is_affordable, is_free, is_open, is_open_at, open_places}
 use Rattle.mscp_queue.proofs.Lists.{every_append, every_filter, every_from, every_kept, every_weaker}
 use Rattle.mscp_queue.proofs.Placed.{at_place, cut_at}
@@ -101,7 +101,7 @@ still_aborted passing reference rs name other s =
     })
 
 -- what is begun after an abort was begun before, and isn't what was aborted
-pub still_begun : (reference : ℕ) (begun : Option Name) (name : Name) → (if is_begun reference begun then None else begun) ≡ Some name → (begun ≡ Some name) × (nat_eq name reference ≡ false)
+pub still_begun : (reference : ℕ) (begun : Option Name) (name : Name) → begun_without reference begun ≡ Some name → (begun ≡ Some name) × (nat_eq name reference ≡ false)
 still_begun reference None name e = absurd (false≢true (ap is_some e))
 still_begun reference (Some x) name e =
     let both : (b : Bool) → nat_eq x reference ≡ b → (if b then None else Some x) ≡ Some name → (Some x ≡ Some name) × (nat_eq name reference ≡ false) =

@@ -1,8 +1,6 @@
-use Rattle.std.proofs.Common.{◌≡◌, true, false, ap, subst, sym, ◌∙◌}
-use Rattle.std.specs.Prelude.{if◌then◌else◌, None}
+use Rattle.std.proofs.Common.{ap, sym, ◌∙◌}
 use Rattle.mscp_queue.specs.Lines.{Line, aborting}
 use Rattle.mscp_queue.specs.Serving.{is_begun}
-use Rattle.mscp_queue.specs.Kept.{IsHeld}
 use Rattle.mscp_queue.proofs.Aborts.{held_aborted, none_aborted}
 use Rattle.mscp_queue.proofs.queue.Queue.abort.Goals as goal
 
@@ -18,14 +16,10 @@ pub invariant_of-self-then-was_begun : goal.invariant_of-self-then-was_begun
 invariant_of-self-then-was_begun g c =
     let K = g.row.K.Denot in
     let q = c.self.inside in
-    let own : is_begun c.args.reference q.begun ≡ true = ap (λ (l : Line K). is_begun c.args.reference l.begun) c.self.view_is ∙ sym c.if-was_begun.ensures in
-    subst (λ b. IsHeld q.room q.passing q.longest c.take_out.new.waiting.items q.drives.items (if b then None else q.begun)) own
-    (held_aborted q.room q.passing q.longest c.args.reference q.waiting.items c.take_out.new.waiting.items q.drives.items q.begun c.self.invariant c.take_out.ensures.left)
+    held_aborted q.room q.passing q.longest c.args.reference q.waiting.items c.take_out.new.waiting.items q.drives.items q.begun _ (ap (λ (l : Line K). is_begun c.args.reference l.begun) c.self.view_is ∙ sym c.if-was_begun.ensures) c.self.invariant c.take_out.ensures.left
 
 pub invariant_of-self-else-was_begun : goal.invariant_of-self-else-was_begun
 invariant_of-self-else-was_begun g c =
     let K = g.row.K.Denot in
     let q = c.self.inside in
-    let other : is_begun c.args.reference q.begun ≡ false = ap (λ (l : Line K). is_begun c.args.reference l.begun) c.self.view_is ∙ sym c.if-was_begun.ensures in
-    subst (λ b. IsHeld q.room q.passing q.longest c.take_out.new.waiting.items q.drives.items (if b then None else q.begun)) other
-    (held_aborted q.room q.passing q.longest c.args.reference q.waiting.items c.take_out.new.waiting.items q.drives.items q.begun c.self.invariant c.take_out.ensures.left)
+    held_aborted q.room q.passing q.longest c.args.reference q.waiting.items c.take_out.new.waiting.items q.drives.items q.begun _ (ap (λ (l : Line K). is_begun c.args.reference l.begun) c.self.view_is ∙ sym c.if-was_begun.ensures) c.self.invariant c.take_out.ensures.left
