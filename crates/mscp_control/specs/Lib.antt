@@ -13,6 +13,7 @@ pub mod Credits
 pub mod Legal
 pub mod Sweeping
 pub mod Headline
+pub mod Runs
 pub mod Calls
 pub mod Controllers
 pub mod Sizes

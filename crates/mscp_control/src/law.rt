@@ -2,6 +2,7 @@
 
 ghost use Rattle.mscp_control.specs.Controllers.{ControllersKeepThePromise};
 ghost use Rattle.mscp_control.specs.Headline.{LegalTracesMakeProgress};
+ghost use Rattle.mscp_control.specs.Runs.{RunsKeepThePromise};
 
 use mscp_queue::Picker;
 
@@ -14,6 +15,14 @@ use mscp_queue::Picker;
 pub fn legal_traces_make_progress()
     ensures { LegalTracesMakeProgress }
 {}
+
+/// What a new controller over this picker answers to events is a run of them, with all that `run` promises, whoever hands
+/// the events on, and whether or not the answers are kept in a list.
+pub fn runs_keep_the_promise<K: Picker>(picker: &K)
+    ensures { RunsKeepThePromise (K.picks picker.now) picker.now }
+{
+    let _ = picker;
+}
 
 /// The answers of a controller over this picker, one after the other from its making on, whoever calls it, are a legal
 /// trace, with all that is promised of one: a finish that isn't stale is a step of it, and nothing else of begin and

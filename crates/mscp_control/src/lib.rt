@@ -15,7 +15,9 @@ mod tests;
 pub use crate::config::{Config, ConfigFault};
 pub use crate::controller::Controller;
 pub use crate::event::{Entry, Event, SendFault, Sent, Stale};
-pub use crate::law::{controllers_keep_the_promise, legal_traces_make_progress};
+pub use crate::law::{
+    controllers_keep_the_promise, legal_traces_make_progress, runs_keep_the_promise,
+};
 pub use crate::memory::OutOfMemory;
 pub use crate::running::run;
 pub use mscp_queue::{Block, Choice, FaultStatus, Oldest, Picker, Report, Sweep, Upcoming, View};

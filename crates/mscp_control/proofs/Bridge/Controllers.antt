@@ -8,9 +8,9 @@ use Rattle.mscp_control.specs.declared.event.Event.{Event}
 use Rattle.mscp_control.specs.declared.event.Entry.{Entry}
 use Rattle.mscp_control.specs.Settings.{Settings, IsValid}
 use Rattle.mscp_control.specs.Holdings.{Answered, Holdings, fresh}
-use Rattle.mscp_control.specs.Headline.{Headline}
-use Rattle.mscp_control.specs.Legal.{IsPick, IsPicked}
-use Rattle.mscp_control.specs.Sweeping.{IsSweeping, IsSwept, Sweeps}
+use Rattle.mscp_control.specs.Runs.{IsRun}
+use Rattle.mscp_control.specs.Legal.{IsPick}
+use Rattle.mscp_control.specs.Sweeping.{IsSwept, Sweeps}
 use Rattle.mscp_control.specs.Calls.{AnsweredCalls, Call, IsChosen, call_at, history, starts}
 use Rattle.mscp_control.specs.Controllers.{KeepsPromise}
 use Rattle.mscp_control.proofs.Bridge.Swept.{sweeping, swept_pick}
@@ -22,13 +22,7 @@ use Rattle.mscp_control.proofs.Bridge.Calling.{called}
 
 -- ---- a run
 
--- what a new controller answers to events
-pub record Runs (picks : List Choice → ℕ → Type 0) (c : Settings) (es : List Event) (ns : List Entry) : Type 0 where
-  pub headline : Headline c es ns
-  pub picked : IsPicked c picks (zip es ns)
-  pub swept : Sweeps picks → IsSweeping c (zip es ns)
-
-runs : {K : Type 0} (c : Settings) (picks : List Choice → ℕ → Type 0) (picker : K) (es : List Event) (ns : List Entry) (h : Holdings K) → IsValid c → Answered picks (fresh c picker) es ns h → Runs picks c es ns
+pub runs : {K : Type 0} (c : Settings) (picks : List Choice → ℕ → Type 0) (picker : K) (es : List Event) (ns : List Entry) (h : Holdings K) → IsValid c → Answered picks (fresh c picker) es ns h → IsRun picks c es ns
 runs c picks picker es ns h v r =
     let t = zip es ns in
     let k = comes c picks picker h es ns v r in
@@ -40,7 +34,7 @@ runs c picks picker es ns h v r =
 
 -- the same where the controller is known to be new
 pub new_runs : {K : Type 0} (c : Settings) (picks : K → List Choice → ℕ → Type 0) (picker : K) (new : Holdings K) (es : List Event) (ns : List Entry) (h : Holdings K) → IsValid c → new ≡ fresh c picker
-    → Answered (picks new.picker) new es ns h → Runs (picks picker) c es ns
+    → Answered (picks new.picker) new es ns h → IsRun (picks picker) c es ns
 new_runs {K} c picks picker new es ns h v e r = runs c (picks picker) picker es ns h v (subst (λ (n : Holdings K). Answered (picks n.picker) n es ns h) e r)
 
 -- ---- whoever calls
