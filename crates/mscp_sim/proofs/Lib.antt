@@ -1,5 +1,5 @@
 pub mod Fronts
-pub mod Padded
+pub mod Growing
 pub mod Pieces
 pub mod Digits
 pub mod Outcomes

@@ -1,6 +1,6 @@
 // Scripts: a header, which makes a configuration, and then events.
 
-ghost use Rattle.std.specs.Prelude.{◌≡◌, ◌↔◌, ◌<◌, ◌≤◌, List, length, vec_len, IfOk, Ok, Err};
+ghost use Rattle.std.specs.Prelude.{◌≡◌, ◌↔◌, ◌<◌, ◌≤◌, List, length, vec_len, IfOk, IfErr, Ok, Err};
 ghost use Rattle.mscp_control.specs.Settings.{Settings};
 ghost use Rattle.mscp_control.specs.declared.event.Event.{Event};
 ghost use Rattle.mscp_sim.specs.Grammar.{Begins, Reads, IsFault};
@@ -13,15 +13,18 @@ mod law;
 mod lines;
 mod numbers;
 mod pieces;
+mod reported;
 #[cfg(test)]
 mod tests;
 mod words;
 
+pub use crate::script::events::Request;
 use crate::script::events::read_events;
 pub use crate::script::fault::{Cause, ReadFault, ScriptFault};
 use crate::script::header::read_header;
 pub use crate::script::law::scripts_have_one_meaning;
 use crate::script::lines::Lines;
+pub use crate::script::reported::report_script;
 use mscp_control::{Config, Event};
 use std::alloc::Global;
 
@@ -53,13 +56,23 @@ pub fn read_script(alloc: Global, bytes: &[u8]) -> Result<Script, ReadFault>
     ensures found { (s : Settings) (es : List Event) → Reads bytes.now s es → Tells meaning_of result (Ok (s, es)) }
     ensures told { (fault : ScriptFault) → IsFault bytes.now fault → Tells meaning_of result (Err fault) }
 {
+    read_lines(alloc, &mut lines_of(bytes)?)
+}
+
+/// The lines of a script that isn't too large.
+fn lines_of(bytes: &[u8]) -> Result<Lines<'_>, ScriptFault>
+    ensures lines { IfOk result (λ lines. (lines.number ≡ 0) × (lines.rest.now ≡ bytes.now)) }
+    ensures small { IfOk result (λ _. length bytes.now ≤ MOST_BYTES) }
+    ensures size { IfErr result (λ fault. (fault ≡ record { line = 0; cause = Cause.Size })
+        × (MOST_BYTES < length bytes.now)) }
+{
     if bytes.len() > MOST_BYTES {
-        return Err(ReadFault::Script(ScriptFault {
+        return Err(ScriptFault {
             line: 0,
             cause: Cause::Size,
-        }));
+        });
     }
-    read_lines(alloc, &mut Lines::new(bytes))
+    Ok(Lines::new(bytes))
 }
 
 /// What the lines of a script stand for, or the first fault.

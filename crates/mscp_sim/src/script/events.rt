@@ -89,15 +89,29 @@ fn read_line(events: &mut Vec<Event>, line: Line<'_>) -> Result<(), ReadFault>
     ensures next { (s : Settings) → Tells (λ done. HasGone s events.new.items) result
         (in_line line.entry.number (next (HasGone s events.old.items) (lexical.words line.entry.words.rest.now))) }
 {
-    let request = request_of(line)?;
-    if event_count(&request) > MOST_EVENTS - events.len() {
-        return Err(ReadFault::Script(ScriptFault {
-            line: line.number,
-            cause: Cause::Events,
-        }));
-    }
+    let request = request_after(line, events.len())?;
     add_events(events, request)?;
     Ok(())
+}
+
+/// What a line asks for, after so many events.
+#[tactic(auto, unfolding(crate::specs::Grammar::next))]
+pub fn request_after(line: Line<'_>, count: usize) -> Result<Request, ScriptFault>
+    requires { count ≤ MOST_EVENTS }
+    ensures line { IfErr result (λ fault. 1 ≤ fault.line) }
+    ensures few { IfOk result (λ request. count + length (requests.events_of request) ≤ MOST_EVENTS) }
+    ensures next { (s : Settings) (es : List Event) → length es ≡ count
+        → Gives (λ request. HasGone s (es ++ requests.events_of request)) result
+        (in_line line.entry.number (next (HasGone s es) (lexical.words line.entry.words.rest.now))) }
+{
+    let request = request_of(line)?;
+    if event_count(&request) > MOST_EVENTS - count {
+        return Err(ScriptFault {
+            line: line.number,
+            cause: Cause::Events,
+        });
+    }
+    Ok(request)
 }
 
 /// What a line asks for, with its number in its fault.
