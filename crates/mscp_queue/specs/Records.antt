@@ -1,5 +1,5 @@
 -- The waiting commands as records, in order of arrival.
-use Rattle.std.specs.Prelude.{ℕ, ◌+◌, ◌-◌, cond, Bool, not, nat_eq, nat_lt, filter, List, [], ◌∷◌, slice_index_or, Option, Some, None}
+use Rattle.std.specs.Prelude.{ℕ, ◌+◌, ◌-◌, cond, Bool, not, nat_eq, nat_lt, filter, List, [], ◌∷◌, slice_index_or, Option, Some, None, if◌then◌else◌}
 use Rattle.mscp_packet.specs.declared.command.Command.{Command}
 use Rattle.mscp_packet.specs.declared.command.Order.TheVariants as orders
 use Rattle.mscp_packet.specs.declared.end.End.{End}
@@ -60,6 +60,10 @@ left_of r = r.weight - r.done
 -- the record's command was served and waits for its next step (profile)
 abbrev pub is_in_service : Record → Bool
 is_in_service r = nat_lt 0 r.done
+
+-- how many steps are left of a record, if it is in service
+abbrev pub left_if_serving : Record → ℕ
+left_if_serving r = if is_in_service r then left_of r else 0
 
 -- the record's command was never served (profile)
 abbrev pub is_unstarted : Record → Bool

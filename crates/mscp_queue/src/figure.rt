@@ -1,9 +1,9 @@
 // Figures: how many steps a waiting command may still wait, at most.
 
-ghost use Rattle.std.specs.Prelude.{◌≡◌, ◌≤◌, ◌<◌, ◌+◌, ◌*◌, ◌^◌, length, filter, sum_by, All};
+ghost use Rattle.std.specs.Prelude.{◌≡◌, ◌≤◌, ◌<◌, ◌+◌, ◌*◌, ◌^◌, length, filter, sum_by, take, drop, All};
 ghost use Rattle.std.specs.List.{position};
 ghost use Rattle.mscp_queue.specs.Figures.{figure_at, figure_of_reference, figures};
-ghost use Rattle.mscp_queue.specs.Records.{has_reference, is_in_service, left_of};
+ghost use Rattle.mscp_queue.specs.Records.{has_reference, is_in_service, left_if_serving, left_of};
 
 use crate::record::Record;
 use arrayvec::ArrayVec;
@@ -30,12 +30,32 @@ fn left_in_service(records: &[Record]) -> u64
         .sum()
 }
 
-/// The figure of the record at the place, under this passing limit and this longest transfer.
-pub(crate) fn figure_at(passing: u32, longest: u32, records: &[Record], place: usize) -> u32
+/// How many steps are left of a record, if it is in service.
+fn left_if_serving(record: &Record) -> u64
+    ensures { result ≡ left_if_serving «record».now }
+{
+    if record.is_unstarted() {
+        0
+    } else {
+        u64::from(record.left())
+    }
+}
+
+/// The figure of the record at the place, where so many steps are left of the records before it, and of those after it
+/// that are in service.
+fn figure_from(
+    passing: u32,
+    longest: u32,
+    records: &[Record],
+    place: usize,
+    before: u64,
+    serving: u64,
+) -> u32
     requires place { place < length records.now }
-    requires few { length records.now ≤ 64 }
     requires short { All (λ r. left_of r ≤ longest) records.now }
     requires small { (length records.now + passing) * longest < 2 ^ 32 }
+    requires before { before ≡ sum_by left_of (take place records.now) }
+    requires serving { serving ≡ sum_by left_of (filter is_in_service (drop (place + 1) records.now)) }
     ensures { result ≡ figure_at passing longest records.now place }
 {
     let record = records[place];
@@ -44,9 +64,20 @@ pub(crate) fn figure_at(passing: u32, longest: u32, records: &[Record], place: u
         return left;
     }
     let passed = u64::from(passing.saturating_sub(record.passes())) * u64::from(longest);
+    (before + serving + passed + u64::from(left)) as u32
+}
+
+/// The figure of the record at the place, under this passing limit and this longest transfer.
+pub(crate) fn figure_at(passing: u32, longest: u32, records: &[Record], place: usize) -> u32
+    requires place { place < length records.now }
+    requires few { length records.now ≤ 64 }
+    requires short { All (λ r. left_of r ≤ longest) records.now }
+    requires small { (length records.now + passing) * longest < 2 ^ 32 }
+    ensures { result ≡ figure_at passing longest records.now place }
+{
     let before = left_of_all(&records[..place]);
     let serving = left_in_service(&records[place + 1..]);
-    (before + serving + passed + u64::from(left)) as u32
+    figure_from(passing, longest, records, place, before, serving)
 }
 
 /// The place of the record with the reference number, if there is one.
@@ -76,7 +107,8 @@ pub(crate) fn figure_of_reference(
     }
 }
 
-/// Reference number and figure of each record, in order.
+/// Reference number and figure of each record, in order. What is left before a record and of one in service after it is
+/// kept from place to place, so each record is looked at once.
 #[tactic(auto, using(crate::proofs::Sums::figures_more))]
 pub(crate) fn figures(passing: u32, longest: u32, records: &[Record]) -> ArrayVec<(u32, u32), 64>
     requires few { length records.now ≤ 64 }
@@ -85,9 +117,14 @@ pub(crate) fn figures(passing: u32, longest: u32, records: &[Record]) -> ArrayVe
     ensures { result.items ≡ figures passing longest records.now }
 {
     let mut list = ArrayVec::new();
+    let mut before = 0;
+    let mut serving = left_in_service(records);
     for place in 0..records.len() {
-        let reference = records[place].command().reference;
-        list.push((reference, figure_at(passing, longest, records, place)));
+        let record = records[place];
+        serving -= left_if_serving(&record);
+        let figure = figure_from(passing, longest, records, place, before, serving);
+        list.push((record.command().reference, figure));
+        before += u64::from(record.left());
     }
     list
 }

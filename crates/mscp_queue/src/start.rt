@@ -65,59 +65,60 @@ fn choice_of(record: &Record, drive: &Drive) -> Choice
 }
 
 /// The records that may start: their places, and what a picker sees of them, in order of arrival.
+#[derive(Drop)]
 struct Startable {
     places: ArrayVec<usize, 64>,
-    choices: ArrayVec<Choice, 64>,
+    view: View,
 }
 
 impl Startable {
     fn new() -> Startable
         ensures places { result.places.items ≡ [] }
-        ensures choices { result.choices.items ≡ [] }
+        ensures view { result.view ≡ [] }
     {
         Startable {
             places: ArrayVec::new(),
-            choices: ArrayVec::new(),
+            view: View::empty(),
         }
     }
 
     /// Appends a record, which stands at this place and whose unit's drive is this, if it may start.
     fn put_if(&mut self, may_start: bool, place: usize, record: &Record, drive: &Drive)
         requires places { length self.old.places.items < 64 }
-        requires choices { length self.old.choices.items < 64 }
+        requires view { length self.old.view < 64 }
         requires head { IsOnUnit drive.now }
         requires block { is_move «record».now.command.order ≡ true
             → first_block «record».now.command.order < drive.now.unit.size }
         ensures places { self.new.places.items ≡ self.old.places.items ++ cond may_start (place ∷ []) [] }
-        ensures choices { self.new.choices.items
-            ≡ self.old.choices.items ++ cond may_start (choice_of drive.now «record».now ∷ []) [] }
+        ensures view { self.new.view
+            ≡ self.old.view ++ cond may_start (choice_of drive.now «record».now ∷ []) [] }
     {
         if may_start {
             self.places.push(place);
-            self.choices.push(choice_of(record, drive));
+            self.view.push(choice_of(record, drive));
         }
     }
-}
 
-/// The records that may start. It looks at each record once: what is fenced is known from what was seen of each unit, and
-/// whether one in front may be passed no more is one flag.
-fn find_startable(records: &[Record], drives: &[Drive], passing: u32) -> Startable
-    requires few { length records.now ≤ 64 }
-    requires drives { length drives.now ≤ 16 }
-    requires heads { All IsOnUnit drives.now }
-    requires inside { All (λ r. HasBlocks (units_of drives.now) r.command) records.now }
-    ensures places { result.places.items ≡ open_places passing records.now }
-    ensures choices { result.choices.items ≡ view_of passing drives.now records.now }
-{
-    let mut front = Front::new();
-    let mut open = Startable::new();
-    for place in 0..records.len() {
-        let record = records[place];
-        let at = place_of_drive(drives, record.command().unit);
-        open.put_if(front.lets(&record, at), place, &record, &drives[at]);
-        front.add(&record, at, passing);
+    /// Appends the records that may start. It looks at each record once: what is fenced is known from what was seen of
+    /// each unit, and whether one in front may be passed no more is one flag. It is filled in place, since it is large.
+    fn fill(&mut self, records: &[Record], drives: &[Drive], passing: u32)
+        requires places { self.old.places.items ≡ [] }
+        requires view { self.old.view ≡ [] }
+        requires few { length records.now ≤ 64 }
+        requires drives { length drives.now ≤ 16 }
+        requires heads { All IsOnUnit drives.now }
+        requires inside { All (λ r. HasBlocks (units_of drives.now) r.command) records.now }
+        ensures places { self.new.places.items ≡ open_places passing records.now }
+        ensures view { self.new.view ≡ view_of passing drives.now records.now }
+    {
+        let mut front = Front::new();
+        for place in 0..records.len() {
+            let record = records[place];
+            let at = place_of_drive(drives, record.command().unit);
+            self.put_if(front.lets(&record, at), place, &record, &drives[at]);
+            front.add(&record, at, passing);
+        }
     }
-    open
 }
 
 /// The place of the record that the picker picks, of those that may start.
@@ -135,7 +136,7 @@ pub(crate) fn picked_place<K: Picker>(
     ensures inside { result < length records.now }
     ensures picked { IsPick (K.picks picker.now) passing drives.now records.now result }
 {
-    let Startable { places, choices } = find_startable(records, drives, passing);
-    let view = View::of(choices);
-    places[picker.pick(&view)]
+    let mut open = Startable::new();
+    open.fill(records, drives, passing);
+    open.places[picker.pick(&open.view)]
 }

@@ -1,6 +1,6 @@
 // What a picker sees.
 
-ghost use Rattle.std.specs.Prelude.{◌≡◌, ◌↔◌, ◌≤◌, length, IsSome, IfSome};
+ghost use Rattle.std.specs.Prelude.{◌≡◌, ◌↔◌, ◌<◌, ◌≤◌, [], ◌∷◌, ◌++◌, length, IsSome, IfSome};
 
 use arrayvec::ArrayVec;
 use mscp_packet::Class;
@@ -67,11 +67,21 @@ impl View {
         Some(View { choices: list })
     }
 
-    /// The view of a list of choices.
-    pub(crate) fn of(choices: ArrayVec<Choice, 64>) -> View
-        ensures { result ≡ choices.items }
+    /// The view of no choice.
+    pub(crate) fn empty() -> View
+        ensures { result ≡ [] }
     {
-        View { choices }
+        View {
+            choices: ArrayVec::new(),
+        }
+    }
+
+    /// Appends a choice.
+    pub(crate) fn push(&mut self, choice: Choice)
+        requires { length self.old < 64 }
+        ensures { self.new ≡ self.old ++ choice ∷ [] }
+    {
+        self.choices.push(choice);
     }
 
     /// The choices, in their order.

@@ -10,9 +10,9 @@ returns-clause-inside g c =
     let rs = c.args.records.now in
     let ds = c.args.drives.now in
     let open_ones = open_places c.args.passing rs in
-    let many : length c.of-view.result ≡ length open_ones =
-    ap length (c.of-view.ensures ∙ c.find_startable-places.ensures.choices) ∙ length-map open_ones (λ place. choice_of (drive_at ds rs place) (record_at rs place)) in
+    let many : length c.fill.new.self.view ≡ length open_ones =
+    ap length c.fill.ensures.view ∙ length-map open_ones (λ place. choice_of (drive_at ds rs place) (record_at rs place)) in
     let some = some_place c.args.passing rs c.requires.some in
     let place = c.pick.ensures.place (omega arith) in
-    subst (λ l. get_or l c.pick.result 0 < length rs) (sym (c.deref.ensures.0 ∙ c.find_startable-places.ensures.places))
+    subst (λ l. get_or l c.pick.result 0 < length rs) (sym (c.deref.ensures.0 ∙ c.fill.ensures.places))
     (places_inside c.args.passing rs c.pick.result 0 (omega arith))

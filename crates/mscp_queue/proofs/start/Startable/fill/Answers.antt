@@ -6,10 +6,10 @@ use Rattle.mscp_queue.specs.Kept.{HasBlocks, units_of}
 use Rattle.mscp_queue.specs.Records.{Record, no_record}
 use Rattle.mscp_queue.specs.Views.{choice_of}
 use Rattle.mscp_queue.proofs.Starting.{first_inside, looks_more, looks_none}
-use Rattle.mscp_queue.proofs.start.find_startable.Goals as goal
+use Rattle.mscp_queue.proofs.start.Startable.fill.Goals as goal
 
 pub loop-place-init : goal.loop-place-init
-loop-place-init c = looks_none c.args.passing c.args.drives.now c.args.records.now _ _ _ c.new-front.ensures c.new-open.ensures.places c.new-open.ensures.choices
+loop-place-init c = looks_none c.args.passing c.args.drives.now c.args.records.now _ _ _ c.new-front.ensures c.requires.places c.requires.view
 
 pub put_if-requires-clause-block : goal.put_if-requires-clause-block
 put_if-requires-clause-block c =
@@ -26,13 +26,13 @@ loop-place-preserved c =
     let rs = c.args.records.now in
     let ds = c.args.drives.now in
     let place = c.loop-place.place in
-    let places = c.loop-place.open.places.items in
-    let choices = c.loop-place.open.choices.items in
+    let places = c.loop-place.self.places.items in
+    let choices = c.loop-place.self.view in
     let r = c.index-records-place.result in
     let d = c.index-drives-at.result in
     let at = c.place_of_drive-at in
     let new_places = c.put_if.ensures.places ∙ ap (λ b. places ++ cond b (place ∷ []) []) c.lets.ensures in
-    let new_choices = c.put_if.ensures.choices ∙ ap (λ b. choices ++ cond b (choice_of d r ∷ []) []) c.lets.ensures in
+    let new_choices = c.put_if.ensures.view ∙ ap (λ b. choices ++ cond b (choice_of d r ∷ []) []) c.lets.ensures in
     looks_more c.args.passing ds rs place c.loop-place.front _ places _ choices _ r c.index-drives-at.result at.result (omega arith) (omega (arith, at.ensures.inside))
     (at.ensures.value ∙ ap (drive_place ds) (ap (λ (k : Command). k.unit) c.command.ensures)) c.index-records-place.is c.index-drives-at.is c.requires.inside
     c.add.ensures new_places new_choices c.loop-place.invariant
