@@ -1,1 +1,2 @@
 mod Cylinders
+pub mod Reciprocals

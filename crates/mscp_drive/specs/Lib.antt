@@ -1,4 +1,5 @@
 pub mod Shape
+pub mod Reciprocals
 pub mod Extent
 pub mod Heads
 pub mod UnitList

@@ -1,7 +1,8 @@
 // A unit: its sizes, the cylinder of a block, and whether it has the blocks of a transfer.
 
-ghost use Rattle.std.specs.Prelude.{◌≡◌, ◌≢◌, ◌↔◌, ◌+◌, ◌*◌, ◌/◌, ◌^◌, ◌<◌, ◌≤◌, IfOk};
-ghost use Rattle.mscp_drive.specs.Shape.{cylinder_blocks, cylinder_of, last_cylinder, shape};
+ghost use Rattle.std.specs.Prelude.{◌≡◌, ℕ, ◌≢◌, ◌↔◌, ◌+◌, ◌*◌, ◌/◌, ◌^◌, ◌<◌, ◌≤◌, IfOk};
+ghost use Rattle.mscp_drive.specs.Reciprocals.{reciprocal_of};
+ghost use Rattle.mscp_drive.specs.Shape.{cylinder_of, last_cylinder, shape};
 ghost use Rattle.mscp_drive.specs.Extent.{blocks, range_fault, weighed, weight};
 
 use std::marker::Model;
@@ -27,18 +28,24 @@ pub struct Unit {
     id: u64,
     media: u32,
     serial: u32,
+    // Both follow from the sizes, and save a division each time that a cylinder is asked for.
+    reciprocal: u64,
+    last: u32,
 }
 
-// A clause sees the eight numbers.
+// A clause sees the eight numbers that the unit was made of.
 impl Model for Unit {
-    ghost use Rattle.std.specs.Prelude.{◌<◌};
-    ghost use Rattle.mscp_drive.specs.Shape.{Shape, shape};
+    ghost use Rattle.std.specs.Prelude.{◌≡◌, ◌<◌, ◌-◌, ◌*◌, ◌/◌};
+    ghost use Rattle.mscp_drive.specs.Reciprocals.{reciprocal_of};
+    ghost use Rattle.mscp_drive.specs.Shape.{Shape, cylinder_blocks, last_cylinder, shape};
 
     ghost Value = { Shape };
 
     ghost view = { λ u. shape u.number u.track u.group u.cylinder u.size u.id u.media u.serial };
 
-    ghost invariant = { λ u. (0 < u.track) × (0 < u.group) × (0 < u.cylinder) × (0 < u.size) };
+    ghost invariant = { λ u. (0 < u.track) × (0 < u.group) × (0 < u.cylinder) × (0 < u.size)
+        × (u.reciprocal ≡ reciprocal_of (u.track * u.group * u.cylinder))
+        × (u.last ≡ (u.size - 1) / (u.track * u.group * u.cylinder)) };
 
     ghost inverse = { λ u. record {
       number = u.number;
@@ -49,6 +56,8 @@ impl Model for Unit {
       id = u.id;
       media = u.media;
       serial = u.serial;
+      reciprocal = reciprocal_of (cylinder_blocks u);
+      last = last_cylinder u;
     } };
 }
 
@@ -67,6 +76,8 @@ impl Default for Unit {
             id: 0,
             media: 0,
             serial: 0,
+            reciprocal: u64::MAX,
+            last: 0,
         }
     }
 }
@@ -117,6 +128,8 @@ impl Unit {
         if size == 0 {
             return Err(UnitFault::ZeroSize);
         }
+        let blocks = cylinder_blocks(track, group, cylinder);
+        let reciprocal = u64::MAX / blocks;
         Ok(Unit {
             number,
             track,
@@ -126,6 +139,8 @@ impl Unit {
             id,
             media,
             serial,
+            reciprocal,
+            last: high_half(size - 1, reciprocal),
         })
     }
 
@@ -189,29 +204,21 @@ impl Unit {
         self.serial
     }
 
-    // The product of three sizes may need 48 bits.
-    fn cylinder_blocks(&self) -> u64
-        ensures value { result ≡ cylinder_blocks self.now }
-        ensures some { 0 < result }
-    {
-        u64::from(self.track) * u64::from(self.group) * u64::from(self.cylinder)
-    }
-
     /// The cylinder of a block, from 0 on: the whole cylinders before it (profile). The block need not be one of
     /// the unit.
-    #[tactic(auto, using(crate::proofs::Cylinders::cylinder_within))]
+    #[tactic(auto, using(crate::proofs::Cylinders::cylinder_within, crate::proofs::Reciprocals::divides))]
     pub fn cylinder(&self, lbn: u32) -> u32
         ensures value { result ≡ cylinder_of self.now lbn }
         ensures within { lbn < self.now.size → result ≤ last_cylinder self.now }
     {
-        (u64::from(lbn) / self.cylinder_blocks()) as u32
+        high_half(lbn, self.reciprocal)
     }
 
     /// The cylinder of the unit's last block.
     pub fn last_cylinder(&self) -> u32
         ensures { result ≡ last_cylinder self.now }
     {
-        self.cylinder(self.size() - 1)
+        self.last
     }
 
     /// How many steps a transfer of so many bytes from block `lbn` on takes, at most `longest`: one for each
@@ -232,6 +239,22 @@ impl Unit {
         }
         Ok(weight)
     }
+}
+
+// The product of three sizes may need 48 bits.
+fn cylinder_blocks(track: u16, group: u16, cylinder: u16) -> u64
+    ensures value { result ≡ track * group * cylinder }
+    ensures some { 0 < track → 0 < group → 0 < cylinder → 0 < result }
+{
+    u64::from(track) * u64::from(group) * u64::from(cylinder)
+}
+
+// The high half of the product with the next of a reciprocal: the number divided by that which the reciprocal is of.
+#[tactic(auto, using(crate::proofs::Reciprocals::divides))]
+fn high_half(lbn: u32, reciprocal: u64) -> u32
+    ensures { (blocks : ℕ) → 0 < blocks → reciprocal ≡ reciprocal_of blocks → result ≡ lbn / blocks }
+{
+    ((u128::from(lbn) * (u128::from(reciprocal) + 1)) >> 64) as u32
 }
 
 // The blocks that so many bytes take.
