@@ -7,3 +7,5 @@ pub mod Grammar
 pub mod Outcome
 pub mod Simulated
 pub mod Causes
+pub mod Shown
+pub mod Chosen

@@ -1,0 +1,7 @@
+use Rattle.mscp_sim.proofs.Hexadecimal.{padded_two}
+use Rattle.mscp_sim.proofs.packet.text.put_code.Goals as goal
+
+pub returns : goal.returns
+returns c =
+    let w = rw (c.laid_out.ensures, c.in_radix.ensures) at c.write.ensures.bytes in
+    simp padded_two at w
