@@ -3,7 +3,8 @@
 ghost use Rattle.std.specs.Prelude.{◌≡◌};
 ghost use Rattle.mscpq.specs.declared.fault.Fault.TheVariants as faults;
 
-use mscp_sim::{LineFault, ShowFault, SimFault};
+use mscp_sim::{Failed, LineFault, ShowFault, SimFault};
+use std::alloc::AllocError;
 
 /// Why the program ends with another status than 0.
 #[derive(Clone, Copy, Debug, PartialEq, Eq)]
@@ -43,5 +44,22 @@ impl From<ShowFault> for Fault {
 
     fn from(fault: ShowFault) -> Fault {
         Fault::Packet(fault)
+    }
+}
+
+/// A write that fails.
+impl From<Failed> for Fault {
+    ghost from_gives = { λ _ e. e ≡ faults.Write };
+
+    fn from(_failure: Failed) -> Fault {
+        Fault::Write
+    }
+}
+
+impl From<AllocError> for Fault {
+    ghost from_gives = { λ _ e. e ≡ faults.OutOfMemory };
+
+    fn from(_refusal: AllocError) -> Fault {
+        Fault::OutOfMemory
     }
 }

@@ -19,10 +19,7 @@ use std::process::ExitCode;
 /// The words of the command line, without the program's name. One that is no text is a wrong word.
 fn words_of(rt: &HostRuntime) -> Result<Vec<String>, Fault> {
     let words = std::env::args(rt).map_err(|refusal| words_fault(refusal.kind()))?;
-    words
-        .skip(1)
-        .collect(rt.alloc())
-        .map_err(|_| Fault::OutOfMemory)
+    Ok(words.skip(1).collect(rt.alloc())?)
 }
 
 /// Runs the script that a reader gives, and writes its report on standard output.

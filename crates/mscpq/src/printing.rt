@@ -16,8 +16,5 @@ pub fn print_packet<W: Sink>(alloc: Global, word: &str, writer: &mut W) -> Resul
     ensures printed { Prints result (shown word.now) (W.contents writer.old) (W.contents writer.new) }
 {
     let line = show_packet(alloc, word)?;
-    match writer.write_all(&line) {
-        Ok(()) => Ok(()),
-        Err(_) => Err(Fault::Write),
-    }
+    Ok(writer.write_all(&line)?)
 }
