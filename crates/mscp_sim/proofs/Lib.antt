@@ -8,3 +8,7 @@ pub mod Sound
 pub mod Whole
 pub mod Faults
 mod RunsScripts
+pub mod Hexadecimal
+pub mod Packets
+pub mod Words
+mod ShowsPackets

@@ -9,3 +9,5 @@ pub mod Outcome
 pub mod Simulated
 pub mod Running
 pub mod Causes
+pub mod Shown
+pub mod Chosen

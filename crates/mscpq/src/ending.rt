@@ -1,28 +1,20 @@
 // How the program ends: its exit status, and the line on standard error.
 
-ghost use Rattle.std.specs.Prelude.{◌≡◌, ◌+◌, ◌≤◌, ◌++◌};
+ghost use Rattle.std.specs.Prelude.{◌≡◌, ◌+◌, ◌≤◌, ◌++◌, length};
 ghost use Rattle.arrayvec.specs.ArrayString.{array_string_len};
 ghost use Rattle.std.specs.Fmt.{decimal};
-ghost use Rattle.mscpq.specs.Endings.{error_line, exit_status, fault_status, fault_text};
+ghost use Rattle.mscpq.specs.Endings.{error_line, exit_status, fault_status, fault_text, show_text};
 
+use crate::fault::Fault;
 use arrayvec::ArrayString;
 use itoa::Buffer;
-use mscp_sim::SimFault;
-
-/// Why the program ends with another status than 0.
-#[derive(Clone, Copy, Debug, PartialEq, Eq)]
-pub enum Fault {
-    /// The words of the command line aren't those of a call.
-    Usage,
-    /// The script was not run, or its report not written.
-    Simulation(SimFault),
-}
+use mscp_sim::{ShowFault, SimFault};
 
 /// How the program ends.
 #[derive(Clone, Copy)]
 pub struct Ending {
-    /// The exit status: 0 where all was done, 1 for a script at fault, 2 for the command line, and 3 for a device
-    /// or memory.
+    /// The exit status: 0 where all was done, 1 for a script or a packet at fault, 2 for the command line, and 3 for a
+    /// device or memory.
     pub status: u8,
     /// The line on standard error, with its line feed. It is empty where all was done.
     pub line: ArrayString<40>,
@@ -54,9 +46,28 @@ fn fault_status(fault: &Fault) -> u8
     ensures { result ≡ fault_status fault.now }
 {
     match fault {
-        Fault::Simulation(SimFault::Script(_)) => 1,
+        Fault::Simulation(SimFault::Read | SimFault::Write | SimFault::OutOfMemory)
+        | Fault::Packet(ShowFault::OutOfMemory)
+        | Fault::Open
+        | Fault::Write
+        | Fault::OutOfMemory => 3,
         Fault::Usage => 2,
-        Fault::Simulation(SimFault::Read | SimFault::Write | SimFault::OutOfMemory) => 3,
+        Fault::Simulation(SimFault::Script(_)) | Fault::Packet(_) => 1,
+    }
+}
+
+/// What is said of a packet's fault.
+fn show_text(fault: ShowFault) -> &'static str
+    ensures value { result.now ≡ show_text fault }
+    ensures short { length result.now ≤ 39 }
+{
+    match fault {
+        ShowFault::Hex => "packet: hex",
+        ShowFault::Short => "packet: short",
+        ShowFault::Long => "packet: long",
+        ShowFault::Code => "packet: code",
+        ShowFault::Length => "packet: length",
+        ShowFault::OutOfMemory => "out of memory",
     }
 }
 
@@ -67,16 +78,19 @@ fn put_fault(line: &mut ArrayString<40>, fault: &Fault)
     ensures short { array_string_len line.new ≤ 39 }
 {
     match fault {
-        Fault::Usage => line.push_str("usage: mscpq"),
+        Fault::Usage => line.push_str("usage: mscpq [run FILE | packet HEX]"),
         Fault::Simulation(SimFault::Script(fault)) => {
             line.push_str("line ");
             put_number(line, fault.line);
             line.push_str(": ");
             line.push_str(fault.cause.word());
         }
-        Fault::Simulation(SimFault::Read) => line.push_str("cannot read"),
-        Fault::Simulation(SimFault::Write) => line.push_str("cannot write"),
-        Fault::Simulation(SimFault::OutOfMemory) => line.push_str("out of memory"),
+        Fault::Packet(fault) => line.push_str(show_text(*fault)),
+        Fault::Simulation(SimFault::Read) | Fault::Open => line.push_str("cannot read"),
+        Fault::Simulation(SimFault::Write) | Fault::Write => line.push_str("cannot write"),
+        Fault::Simulation(SimFault::OutOfMemory) | Fault::OutOfMemory => {
+            line.push_str("out of memory")
+        }
     }
 }
 

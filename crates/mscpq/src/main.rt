@@ -1,35 +1,48 @@
-//! Runs a script of commands through a disk controller, and prints what the controller did.
+//! Runs a script of commands through a disk controller and prints what the controller did, or shows a packet.
 #![tactic(auto)]
 
 mod ending;
+mod fault;
+mod printing;
+mod words;
 
-use crate::ending::{Ending, Fault};
-use mscp_sim::{SimFault, Stream, simulate};
+use crate::ending::Ending;
+use crate::fault::Fault;
+use crate::printing::print_packet;
+use crate::words::words_fault;
+use mscp_sim::{Deed, Stream, choose, simulate};
+use std::fs::File;
 use std::io;
-use std::io::ErrorKind;
+use std::io::Read;
 use std::process::ExitCode;
 
-/// Takes no words on the command line. An argument that is no text is a wrong word, and only want of memory is
-/// another fault.
-fn check_words(rt: &HostRuntime) -> Result<(), Fault> {
-    match std::env::args(rt) {
-        Ok(words) => match words.skip(1).next() {
-            Some(_) => Err(Fault::Usage),
-            None => Ok(()),
-        },
-        Err(refusal) if refusal.kind() == ErrorKind::OutOfMemory => {
-            Err(Fault::Simulation(SimFault::OutOfMemory))
-        }
-        Err(_) => Err(Fault::Usage),
-    }
+/// The words of the command line, without the program's name. One that is no text is a wrong word.
+fn words_of(rt: &HostRuntime) -> Result<Vec<String>, Fault> {
+    let words = std::env::args(rt).map_err(|refusal| words_fault(refusal.kind()))?;
+    Ok(words.skip(1).collect(rt.alloc())?)
 }
 
-/// Runs the script on standard input, and writes its report on standard output.
-fn act(rt: &HostRuntime) -> Result<(), Fault> {
-    check_words(rt)?;
-    let mut reader = Stream::new(rt.reader());
+/// Runs the script that a reader gives, and writes its report on standard output.
+fn run<R: Read + Drop>(rt: &HostRuntime, reader: R) -> Result<(), Fault> {
+    let mut reader = Stream::new(reader);
     let mut writer = Stream::new(io::writer(rt));
-    simulate(rt.alloc(), &mut reader, &mut writer).map_err(Fault::Simulation)
+    Ok(simulate(rt.alloc(), &mut reader, &mut writer)?)
+}
+
+/// Does what the words of the command line ask for.
+fn act(rt: &HostRuntime) -> Result<(), Fault> {
+    let words = words_of(rt)?;
+    match choose(&words)? {
+        Deed::Run("-") => run(rt, rt.reader()),
+        Deed::Run(file) => match File::open(rt, file) {
+            Ok(reader) => run(rt, reader),
+            Err(_) => Err(Fault::Open),
+        },
+        Deed::Packet(word) => {
+            let mut writer = Stream::new(io::writer(rt));
+            print_packet(rt.alloc(), word, &mut writer)
+        }
+    }
 }
 
 fn main(rt: HostRuntime) -> ExitCode {

@@ -1,45 +1,16 @@
 // The lines of a report.
 
-ghost use Rattle.std.specs.Prelude.{◌≡◌, ◌≤◌, ◌++◌, length, OnOk};
+ghost use Rattle.std.specs.Prelude.{◌≡◌, ◌++◌, OnOk};
 ghost use Rattle.std.specs.List.{flat_map};
-ghost use Rattle.hex.specs.Hex.{encode_lower};
 ghost use Rattle.mscp_control.specs.declared.event.Entry.TheVariants as entries;
 ghost use Rattle.mscp_sim.specs.Text.{aborted_part, block_word, ended_part, entry_lines, figure_line, last_line, refusal_word, sent_line, step_line};
 
+use crate::text::{put, put_field, put_hex, put_number};
 use crate::totals::Totals;
 use arrayvec::ArrayVec;
-use hex::encode_to_slice;
-use itoa::{Buffer, Integer};
 use mscp_control::{Report, SendFault, Sent};
 use mscp_packet::End;
 use std::alloc::AllocError;
-
-/// Appends a text.
-fn put(out: &mut Vec<u8>, text: &str) -> Result<(), AllocError>
-    ensures { OnOk result (out.new.items ≡ out.old.items ++ text.now) }
-{
-    out.extend_from_slice(text.as_bytes())
-}
-
-/// Appends a number, in decimal digits.
-fn put_number<N: Integer>(out: &mut Vec<u8>, number: N) -> Result<(), AllocError>
-    ensures { OnOk result (out.new.items ≡ out.old.items ++ N.text number) }
-{
-    put(out, Buffer::new().format(number))
-}
-
-/// Appends bytes, as two lower case hexadecimal digits each.
-fn put_hex(out: &mut Vec<u8>, bytes: &[u8]) -> Result<(), AllocError>
-    requires { length bytes.now ≤ 48 }
-    ensures { OnOk result (out.new.items ≡ out.old.items ++ encode_lower bytes.now) }
-{
-    let mut room = [0u8; 96];
-    let digits = &mut room[..2 * bytes.len()];
-    if encode_to_slice(bytes, digits).is_err() {
-        unreachable!();
-    }
-    out.extend_from_slice(digits)
-}
 
 /// The word of a refusal.
 fn refused(fault: SendFault) -> &'static str
@@ -59,10 +30,7 @@ fn put_aborted(out: &mut Vec<u8>, aborted: Option<u32>) -> Result<(), AllocError
     ensures { OnOk result (out.new.items ≡ out.old.items ++ aborted_part aborted) }
 {
     match aborted {
-        Some(other) => {
-            put(out, " aborted ")?;
-            put_number(out, other)
-        }
+        Some(other) => put_field(out, " aborted ", other),
         None => Ok(()),
     }
 }
@@ -72,13 +40,9 @@ fn put_taken_in(out: &mut Vec<u8>, sent: Sent) -> Result<(), AllocError>
     ensures { OnOk result (out.new.items ≡ out.old.items ++ sent_line sent) }
 {
     match sent {
-        Sent::Queued(reference) => {
-            put(out, "queued ")?;
-            put_number(out, reference)?;
-        }
+        Sent::Queued(reference) => put_field(out, "queued ", reference)?,
         Sent::Answered { reference, aborted } => {
-            put(out, "answered ")?;
-            put_number(out, reference)?;
+            put_field(out, "answered ", reference)?;
             put_aborted(out, aborted)?;
         }
     }
@@ -150,14 +114,11 @@ pub fn put_step(out: &mut Vec<u8>, report: &Report) -> Result<(), AllocError>
             seek,
             ended,
         } => {
-            put(out, "serve ")?;
-            put_number(out, *reference)?;
-            put(out, " unit ")?;
-            put_number(out, *unit)?;
+            put_field(out, "serve ", *reference)?;
+            put_field(out, " unit ", *unit)?;
             put(out, " block ")?;
             put_block(out, *lbn)?;
-            put(out, " seek ")?;
-            put_number(out, *seek)?;
+            put_field(out, " seek ", *seek)?;
             put_ended(out, ended)?;
             put(out, "\n")
         }
@@ -169,10 +130,8 @@ pub fn put_figures(out: &mut Vec<u8>, shown: &[(u32, u32)]) -> Result<(), AllocE
     ensures { OnOk result (out.new.items ≡ out.old.items ++ flat_map figure_line shown.now) }
 {
     for (reference, figure) in shown {
-        put(out, "figure ")?;
-        put_number(out, *reference)?;
-        put(out, " ")?;
-        put_number(out, *figure)?;
+        put_field(out, "figure ", *reference)?;
+        put_field(out, " ", *figure)?;
         put(out, "\n")?;
     }
     Ok(())
@@ -183,11 +142,8 @@ pub fn put_totals(out: &mut Vec<u8>, totals: &Totals) -> Result<(), AllocError>
     ensures { OnOk result (out.new.items ≡ out.old.items
         ++ last_line totals.now.steps totals.now.seeks totals.now.queued totals.now.ended) }
 {
-    put(out, "steps ")?;
-    put_number(out, totals.steps)?;
-    put(out, " seeks ")?;
-    put_number(out, totals.seeks)?;
-    put(out, " pending ")?;
-    put_number(out, totals.pending())?;
+    put_field(out, "steps ", totals.steps)?;
+    put_field(out, " seeks ", totals.seeks)?;
+    put_field(out, " pending ", totals.pending())?;
     put(out, "\n")
 }

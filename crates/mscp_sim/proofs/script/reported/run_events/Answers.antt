@@ -23,7 +23,7 @@ pub returns-in_err-line : goal.returns-in_err-line
 returns-in_err-line c =
     let p = err_from_is_err_and c.from_residual.result c.from_residual.ensures.1 in
     rw (p.1, p.2) (λ d begun.
-        let so_far = c.loop-line.invariant.going d begun in so_far.2 ∙ c.in_err-line.ensures.wrong (HasGone d so_far.0))
+    let so_far = c.loop-line.invariant.going d begun in so_far.2 ∙ c.in_err-line.ensures.wrong (HasGone d so_far.0))
 
 pub returns-in_err-run_line : goal.returns-in_err-run_line
 returns-in_err-run_line c =
@@ -31,8 +31,8 @@ returns-in_err-run_line c =
     let number = rw c.in-Some.is at (c.in_ok-line.ensures.number) in
     let p = err_from_is_err_and c.from_residual-in_err-run_line.result c.from_residual-in_err-run_line.ensures.1 in
     rw (p.1, p.2) (λ d begun.
-        let so_far = c.loop-line.invariant.going d begun in
-        onward_fails _ _ _ _ _ c.in_err-run_line.field-0.0 (rw number at (c.in_err-run_line.ensures.next d so_far.0 so_far.1)) (so_far.2 ∙ some (HasGone d so_far.0)))
+    let so_far = c.loop-line.invariant.going d begun in
+    onward_fails _ _ _ _ _ c.in_err-run_line.field-0.0 (rw number at (c.in_err-run_line.ensures.next d so_far.0 so_far.1)) (so_far.2 ∙ some (HasGone d so_far.0)))
 
 pub returns : goal.returns
 returns c =

@@ -4,7 +4,7 @@ use Rattle.mscp_sim.proofs.script.reported.run_line.Goals as goal
 
 pub returns-clause-next : goal.returns-clause-next
 returns-clause-next c = λ d es runs. (
-      es ++ events_of c.in_ok-request.request,
-      c.in_ok-meet.ensures.met d es runs,
-      c.in_ok-request.ensures.next d es (omega (arith, runs.count, c.count.ensures)),
-    )
+  es ++ events_of c.in_ok-request.request,
+  c.in_ok-meet.ensures.met d es runs,
+  c.in_ok-request.ensures.next d es (omega (arith, runs.count, c.count.ensures)),
+)

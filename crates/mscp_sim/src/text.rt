@@ -1,0 +1,43 @@
+// Text that grows: words, numbers and hexadecimal digits.
+
+ghost use Rattle.std.specs.Prelude.{◌≡◌, ◌≤◌, ◌++◌, length, OnOk};
+ghost use Rattle.hex.specs.Hex.{encode_lower};
+
+use hex::encode_to_slice;
+use itoa::{Buffer, Integer};
+use std::alloc::AllocError;
+
+/// Appends words.
+pub fn put(out: &mut Vec<u8>, words: &str) -> Result<(), AllocError>
+    ensures { OnOk result (out.new.items ≡ out.old.items ++ words.now) }
+{
+    out.extend_from_slice(words.as_bytes())
+}
+
+/// Appends a number, in decimal digits.
+pub fn put_number<N: Integer>(out: &mut Vec<u8>, number: N) -> Result<(), AllocError>
+    ensures { OnOk result (out.new.items ≡ out.old.items ++ N.text number) }
+{
+    put(out, Buffer::new().format(number))
+}
+
+/// Appends words and then a number.
+pub fn put_field<N: Integer>(out: &mut Vec<u8>, words: &str, number: N) -> Result<(), AllocError>
+    ensures { OnOk result (out.new.items ≡ out.old.items ++ (words.now ++ N.text number)) }
+{
+    put(out, words)?;
+    put_number(out, number)
+}
+
+/// Appends at most 48 bytes, each as two lower case hexadecimal digits.
+pub fn put_hex(out: &mut Vec<u8>, bytes: &[u8]) -> Result<(), AllocError>
+    requires { length bytes.now ≤ 48 }
+    ensures { OnOk result (out.new.items ≡ out.old.items ++ encode_lower bytes.now) }
+{
+    let mut room = [0u8; 96];
+    let digits = &mut room[..2 * bytes.len()];
+    if encode_to_slice(bytes, digits).is_err() {
+        unreachable!();
+    }
+    out.extend_from_slice(digits)
+}

@@ -1,0 +1,16 @@
+-- What the printing of a packet leaves in the writer.
+use Rattle.std.specs.Prelude.{◌≡◌, ℕ, List, Option, Result, Ok, Err, IsOk}
+use Rattle.std.specs.Io.KnownBytes.{Appends}
+use Rattle.mscp_sim.specs.Shown.{Shows}
+use Rattle.mscp_sim.specs.declared.packet.ShowFault.{ShowFault}
+use Rattle.mscpq.specs.declared.fault.Fault.{Fault}
+use Rattle.mscpq.specs.declared.fault.Fault.TheVariants as faults
+
+-- the line that is wanted is all that is written where there is no fault. Where there is none to write, its fault is told
+-- and nothing is written. Nothing is said of what went out where the write failed (profile)
+abbrev pub Prints : Result (Unit {0}) Fault
+    → Result (List ℕ) ShowFault → Option (List ℕ) → Option (List ℕ) → Type 0
+Prints (Ok done) wanted old new = (line : List ℕ) × (wanted ≡ Ok line) × Appends old new line
+Prints (Err (faults.Packet fault)) wanted old new = Shows (λ (line : List ℕ). line) (Err fault) wanted × (new ≡ old)
+Prints (Err faults.Write) wanted old new = IsOk wanted
+Prints (Err fault) wanted old new = ⊥

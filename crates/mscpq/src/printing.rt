@@ -1,0 +1,20 @@
+// The line of a packet, written.
+
+ghost use Rattle.std.specs.Prelude.{◌≡◌, ◌↔◌, true, false};
+ghost use Rattle.mscp_sim.specs.Shown.{shown};
+ghost use Rattle.mscpq.specs.Printed.{Prints};
+
+use crate::fault::Fault;
+use mscp_sim::{Sink, show_packet};
+use std::alloc::Global;
+
+/// Writes the line of the packet that a word is the hexadecimal digits of, in one write. Except where it says `Write`,
+/// nothing was written on a fault.
+pub fn print_packet<W: Sink>(alloc: Global, word: &str, writer: &mut W) -> Result<(), Fault>
+    requires { W.has_failed writer.old ≡ false }
+    ensures write { (result ≡ Err Fault.Write) ↔ (W.has_failed writer.new ≡ true) }
+    ensures printed { Prints result (shown word.now) (W.contents writer.old) (W.contents writer.new) }
+{
+    let line = show_packet(alloc, word)?;
+    Ok(writer.write_all(&line)?)
+}
