@@ -3,6 +3,7 @@ pub mod Placed
 pub mod Mapped
 pub mod Fronts
 pub mod Starting
+pub mod Closed
 pub mod Sums
 pub mod Begun
 pub mod Held

@@ -1,6 +1,6 @@
 -- What is kept of the records in front of a place while a view is made.
-use Rattle.std.specs.Prelude.{ℕ, Bool, true, false, not, ◌&&◌, if◌then◌else◌, nat_lt, List, replicate, slice_index_or, slice_set}
-use Rattle.std.specs.List.{position_or_len}
+use Rattle.std.specs.Prelude.{ℕ, Bool, true, false, not, ◌&&◌, ◌||◌, if◌then◌else◌, nat_lt, List, take, replicate, slice_index_or, slice_set}
+use Rattle.std.specs.List.{list_all, position_or_len}
 use Rattle.mscp_queue.specs.declared.drive.Drive.{Drive}
 use Rattle.mscp_queue.specs.declared.front.Front.{Front}
 use Rattle.mscp_queue.specs.Drives.{has_number}
@@ -21,6 +21,10 @@ is_let f r place =
     (if is_sequential r.command.order then not (slice_index_or f.seen place false)
     else not (slice_index_or f.fenced place false))
     && f.affordable
+
+-- those in front let nobody start, of so many drives: one may be passed no more, or of each drive one is sequential
+abbrev pub is_closed : Front → ℕ → Bool
+is_closed f drives = not f.affordable || list_all (λ fenced. fenced) (take drives f.fenced)
 
 -- a record among those in front, whose drive stands at this place
 abbrev pub with_record : ℕ → Front → Record → ℕ → Front

@@ -1,7 +1,8 @@
 // What the records in front of a place leave open to those behind them, kept while a view is made.
 
-ghost use Rattle.std.specs.Prelude.{◌≡◌, ◌<◌};
-ghost use Rattle.mscp_queue.specs.Fronts.{is_let, nobody, with_record};
+ghost use Rattle.std.specs.Prelude.{◌≡◌, ◌<◌, ◌≤◌};
+ghost use Rattle.std.specs.List.{list_all};
+ghost use Rattle.mscp_queue.specs.Fronts.{is_closed, is_let, nobody, with_record};
 ghost use Rattle.mscp_queue.specs.Orders.{is_sequential};
 
 use crate::record::Record;
@@ -21,6 +22,13 @@ fn is_sequential(order: &Order) -> bool
     ensures { result ≡ is_sequential order.now }
 {
     matches!(order, Order::Available | Order::Online | Order::SetUnit)
+}
+
+/// Whether each of the flags is set.
+fn are_set(flags: &[bool]) -> bool
+    ensures { result ≡ list_all (λ flag. flag) flags.now }
+{
+    flags.iter().all(|flag| *flag)
 }
 
 impl Front {
@@ -46,6 +54,15 @@ impl Front {
             !self.fenced[drive]
         };
         free && self.affordable
+    }
+
+    /// Whether nobody behind may start, whatever it is: one in front may be passed no more, or of each of so many drives
+    /// one is sequential.
+    pub fn is_closed(&self, drives: usize) -> bool
+        requires { drives ≤ 16 }
+        ensures { result ≡ is_closed self.now drives }
+    {
+        !self.affordable || are_set(&self.fenced[..drives])
     }
 
     /// Takes the record, whose drive stands at this place, among those in front.

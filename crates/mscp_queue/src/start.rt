@@ -5,7 +5,7 @@ ghost use Rattle.std.specs.List.{position};
 ghost use Rattle.mscp_queue.specs.Drives.{IsOnUnit, has_number};
 ghost use Rattle.mscp_queue.specs.Fronts.{drive_place};
 ghost use Rattle.mscp_queue.specs.Kept.{HasBlocks, is_known, units_of};
-ghost use Rattle.mscp_queue.specs.Orders.{first_block, is_move, order_cost};
+ghost use Rattle.mscp_queue.specs.Orders.{first_block, is_move, order_class, order_cost};
 ghost use Rattle.mscp_queue.specs.Views.{IsPick, choice_of, open_places, view_of};
 
 use crate::drive::Drive;
@@ -14,7 +14,7 @@ use crate::picker::Picker;
 use crate::record::Record;
 use crate::view::{Choice, View};
 use arrayvec::ArrayVec;
-use mscp_packet::{Order, class_of};
+use mscp_packet::{Class, Command, Order, class_of};
 
 /// The place of the drive of the unit with this number, if there is one.
 fn find_place(drives: &[Drive], number: u16) -> Option<usize>
@@ -48,6 +48,16 @@ fn cost_of(order: &Order, drive: &Drive) -> u64
     }
 }
 
+/// The class of a command. Most that wait are transfers, which need no look at the table of opcodes.
+fn class_of_command(command: &Command) -> Class
+    ensures { result ≡ order_class command.now.order }
+{
+    match command.order {
+        Order::Move(..) => Class::Free,
+        _ => class_of(command.opcode()),
+    }
+}
+
 /// What a picker sees of a record whose unit's drive is this.
 fn choice_of(record: &Record, drive: &Drive) -> Choice
     requires head { IsOnUnit drive.now }
@@ -59,7 +69,7 @@ fn choice_of(record: &Record, drive: &Drive) -> Choice
     Choice {
         reference: command.reference,
         unit: command.unit,
-        class: class_of(command.opcode()),
+        class: class_of_command(&command),
         cost: cost_of(&command.order, drive),
     }
 }
@@ -100,7 +110,8 @@ impl Startable {
     }
 
     /// Appends the records that may start. It looks at each record once: what is fenced is known from what was seen of
-    /// each unit, and whether one in front may be passed no more is one flag. It is filled in place, since it is large.
+    /// each unit, and whether one in front may be passed no more is one flag. Where nobody behind may start it ends. It
+    /// is filled in place, since it is large.
     fn fill(&mut self, records: &[Record], drives: &[Drive], passing: u32)
         requires places { self.old.places.items ≡ [] }
         requires view { self.old.view ≡ [] }
@@ -112,11 +123,13 @@ impl Startable {
         ensures view { self.new.view ≡ view_of passing drives.now records.now }
     {
         let mut front = Front::new();
-        for place in 0..records.len() {
+        let mut place = 0;
+        while place < records.len() && !front.is_closed(drives.len()) {
             let record = records[place];
             let at = place_of_drive(drives, record.command().unit);
             self.put_if(front.lets(&record, at), place, &record, &drives[at]);
             front.add(&record, at, passing);
+            place += 1;
         }
     }
 }

@@ -1,5 +1,12 @@
+use Rattle.std.proofs.Common.{◌-◌, ◌≤◌, length}
 use Rattle.mscp_queue.proofs.Starting.{Looks}
 use Rattle.mscp_queue.proofs.start.Startable.fill.Given as goal
 
 abbrev pub invariant-loop-place : goal.invariant-loop-place
-invariant-loop-place l = Looks l.passing l.drives l.records l.place l.front l.self.places.items l.self.view
+invariant-loop-place l = record {
+  looks : Looks l.passing l.drives l.records l.place l.front l.self.places.items l.self.view;
+  inside : l.place ≤ length l.records;
+}
+
+abbrev pub decreases-loop-place : goal.decreases-loop-place
+decreases-loop-place l = length l.records - l.place
