@@ -38,15 +38,17 @@ impl Head {
         let from = u64::from(self.cylinder);
         let to = u64::from(to);
         let last = u64::from(unit.last_cylinder());
-        // Both ways are worked out, since which one it is can't be foreseen.
-        let straight = from.abs_diff(to);
-        let around = if self.up {
-            (last - from) + (last - to)
+        if self.up {
+            if from <= to {
+                to - from
+            } else {
+                (last - from) + (last - to)
+            }
+        } else if to <= from {
+            from - to
         } else {
             from + to
-        };
-        let is_ahead = if self.up { from <= to } else { to <= from };
-        if is_ahead { straight } else { around }
+        }
     }
 
     /// How many cylinders lie between the head and cylinder `to`, whichever way it goes.

@@ -1,6 +1,6 @@
 // What the records in front of a place leave open to those behind them, kept while a view is made.
 
-ghost use Rattle.std.specs.Prelude.{◌≡◌, ◌<◌, ◌≤◌};
+ghost use Rattle.std.specs.Prelude.{◌≡◌, ◌<◌, ◌≤◌, false};
 ghost use Rattle.std.specs.List.{list_all};
 ghost use Rattle.mscp_queue.specs.Fronts.{is_closed, is_let, nobody, with_record};
 ghost use Rattle.mscp_queue.specs.Orders.{is_sequential};
@@ -65,17 +65,23 @@ impl Front {
         !self.affordable || are_set(&self.fenced[..drives])
     }
 
-    /// Takes the record, whose drive stands at this place, among those in front.
-    pub fn add(&mut self, behind: &Record, drive: usize, passing: u32)
-        requires { drive < 16 }
-        ensures { self.new ≡ with_record passing self.old behind.now drive }
+    /// Takes the record, whose drive stands at this place, among those in front, who are open so far to so many drives.
+    /// Tells whether they are closed then.
+    pub fn add(&mut self, behind: &Record, drive: usize, passing: u32, drives: usize) -> bool
+        requires drive { drive < 16 }
+        requires few { drives ≤ 16 }
+        requires open { is_closed self.old drives ≡ false }
+        ensures after { self.new ≡ with_record passing self.old behind.now drive }
+        ensures closed { result ≡ is_closed self.new drives }
     {
+        let fences = is_sequential(&behind.command().order);
         self.seen[drive] = true;
-        if is_sequential(&behind.command().order) {
+        if fences {
             self.fenced[drive] = true;
         }
         if behind.passes() >= passing {
             self.affordable = false;
         }
+        !self.affordable || (fences && are_set(&self.fenced[..drives]))
     }
 }

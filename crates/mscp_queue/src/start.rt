@@ -111,7 +111,8 @@ impl Startable {
 
     /// Appends the records that may start. It looks at each record once: what is fenced is known from what was seen of
     /// each unit, and whether one in front may be passed no more is one flag. Where nobody behind may start it ends. It
-    /// is filled in place, since it is large.
+    /// is filled in place, since it is large; and it isn't made part of its caller, so that the loop has all registers.
+    #[inline(never)]
     fn fill(&mut self, records: &[Record], drives: &[Drive], passing: u32)
         requires places { self.old.places.items ≡ [] }
         requires view { self.old.view ≡ [] }
@@ -123,12 +124,13 @@ impl Startable {
         ensures view { self.new.view ≡ view_of passing drives.now records.now }
     {
         let mut front = Front::new();
+        let mut closed = front.is_closed(drives.len());
         let mut place = 0;
-        while place < records.len() && !front.is_closed(drives.len()) {
+        while place < records.len() && !closed {
             let record = records[place];
             let at = place_of_drive(drives, record.command().unit);
             self.put_if(front.lets(&record, at), place, &record, &drives[at]);
-            front.add(&record, at, passing);
+            closed = front.add(&record, at, passing, drives.len());
             place += 1;
         }
     }

@@ -10,7 +10,7 @@ use Rattle.mscp_queue.proofs.Starting.{first_inside, looks_more, looks_none}
 use Rattle.mscp_queue.proofs.start.Startable.fill.Goals as goal
 
 pub loop-place-init : goal.loop-place-init
-loop-place-init c = record { looks = looks_none c.args.passing c.args.drives.now c.args.records.now _ _ _ c.new-front.ensures c.requires.places c.requires.view; inside = omega arith }
+loop-place-init c = record { looks = looks_none c.args.passing c.args.drives.now c.args.records.now _ _ _ c.new-front.ensures c.requires.places c.requires.view; inside = omega arith; closed = c.is_closed-closed.ensures }
 
 pub put_if-requires-clause-block : goal.put_if-requires-clause-block
 put_if-requires-clause-block c =
@@ -37,17 +37,18 @@ loop-place-preserved c =
     record {
       looks = looks_more c.args.passing ds rs place c.loop-place.front _ places _ choices _ r c.index-drives-at.result at.result (omega arith) (omega (arith, at.ensures.inside))
           (at.ensures.value ∙ ap (drive_place ds) (ap (λ (k : Command). k.unit) c.command.ensures)) c.index-records-place.is c.index-drives-at.is c.requires.inside
-          c.add.ensures new_places new_choices c.loop-place.invariant.looks;
+          c.add-closed.ensures.after new_places new_choices c.loop-place.invariant.looks;
       inside = omega arith;
+      closed = c.add-closed.ensures.closed;
     }
 
-found : (c : goal.Else-not-is_closed) → c.loop-place.self.places.items ≡ open_places c.args.passing c.args.records.now
+found : (c : goal.Else-not-closed) → c.loop-place.self.places.items ≡ open_places c.args.passing c.args.records.now
 found c =
     found_closed c.args.passing c.args.drives.now c.args.records.now c.loop-place.place c.loop-place.front _ _ c.requires.drives c.loop-place.invariant.inside c.requires.inside
-    (sym c.is_closed.ensures ∙ c.if-not-is_closed.false) c.loop-place.invariant.looks
+    (sym c.loop-place.invariant.closed ∙ c.if-not-closed.false) c.loop-place.invariant.looks
 
-pub returns-else-not-is_closed-clause-places : goal.returns-else-not-is_closed-clause-places
-returns-else-not-is_closed-clause-places c = found c
+pub returns-else-not-closed-clause-places : goal.returns-else-not-closed-clause-places
+returns-else-not-closed-clause-places c = found c
 
-pub returns-else-not-is_closed-clause-view : goal.returns-else-not-is_closed-clause-view
-returns-else-not-is_closed-clause-view c = c.loop-place.invariant.looks.shown ∙ ap (choices_at c.args.drives.now c.args.records.now) (found c)
+pub returns-else-not-closed-clause-view : goal.returns-else-not-closed-clause-view
+returns-else-not-closed-clause-view c = c.loop-place.invariant.looks.shown ∙ ap (choices_at c.args.drives.now c.args.records.now) (found c)

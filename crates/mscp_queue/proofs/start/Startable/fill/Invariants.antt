@@ -1,4 +1,5 @@
-use Rattle.std.proofs.Common.{◌-◌, ◌≤◌, length}
+use Rattle.std.proofs.Common.{◌≡◌, ◌-◌, ◌≤◌, length}
+use Rattle.mscp_queue.specs.Fronts.{is_closed}
 use Rattle.mscp_queue.proofs.Starting.{Looks}
 use Rattle.mscp_queue.proofs.start.Startable.fill.Given as goal
 
@@ -6,6 +7,7 @@ abbrev pub invariant-loop-place : goal.invariant-loop-place
 invariant-loop-place l = record {
   looks : Looks l.passing l.drives l.records l.place l.front l.self.places.items l.self.view;
   inside : l.place ≤ length l.records;
+  closed : l.closed ≡ is_closed l.front (length l.drives);
 }
 
 abbrev pub decreases-loop-place : goal.decreases-loop-place
