@@ -1,0 +1,13 @@
+//! The host's end of a disk controller: its account of credits, and its watch on the oldest command.
+#![tactic(auto)]
+
+mod host;
+mod news;
+mod outstanding;
+mod submission;
+#[cfg(test)]
+mod tests;
+mod watch;
+
+pub use crate::host::Host;
+pub use crate::news::{HostFault, News, Poll};

@@ -1,0 +1,74 @@
+// The list of the outstanding submissions.
+
+ghost use Rattle.std.specs.Prelude.{◌≡◌, ◌≤◌, length, find, not, option_copied};
+ghost use Rattle.std.specs.List.{list_any, position};
+ghost use Rattle.mscp_host.specs.Accounts.{has_reference, is_immediate, last_told, with_told, without};
+
+use crate::submission::{Submission, is_immediate};
+use arrayvec::ArrayVec;
+
+/// Whether one of the submissions has the reference number.
+pub fn has_any(submissions: &[Submission], reference: u32) -> bool
+    ensures { result ≡ list_any (has_reference reference) submissions.now }
+{
+    submissions
+        .iter()
+        .any(|submission| submission.reference == reference)
+}
+
+/// The submission of this reference number, if there is one.
+pub fn find_reference(submissions: &[Submission], reference: u32) -> Option<&Submission>
+    ensures { option_copied result ≡ find (has_reference reference) submissions.now }
+{
+    submissions
+        .iter()
+        .find(|submission| submission.reference == reference)
+}
+
+/// The first submission that isn't answered when it arrives.
+pub fn find_oldest(submissions: &[Submission]) -> Option<&Submission>
+    ensures { option_copied result ≡ find (λ s. not (is_immediate s.opcode)) submissions.now }
+{
+    submissions
+        .iter()
+        .find(|submission| !is_immediate(submission.opcode))
+}
+
+/// The place of the submission of this reference number, if there is one.
+fn place_of(submissions: &[Submission], reference: u32) -> Option<usize>
+    ensures { result ≡ position (has_reference reference) submissions.now }
+{
+    submissions
+        .iter()
+        .position(|submission| submission.reference == reference)
+}
+
+/// The figure that was last told of the command of this reference number, if there is one.
+pub fn last_told(submissions: &[Submission], reference: u32) -> Option<u32>
+    ensures { result ≡ last_told submissions.now reference }
+{
+    find_reference(submissions, reference).copied()?.told
+}
+
+/// Keeps the figure that was told of the submission of this reference number, if there is one.
+pub fn set_told(submissions: &mut [Submission], reference: u32, figure: u32)
+    ensures { submissions.new ≡ with_told reference figure submissions.old }
+{
+    if let Some(place) = place_of(submissions, reference) {
+        let told = Submission {
+            told: Some(figure),
+            ..submissions[place]
+        };
+        submissions[place] = told;
+    }
+}
+
+/// Removes the submission of this reference number, if there is one.
+pub fn remove(submissions: &mut ArrayVec<Submission, 64>, reference: u32)
+    ensures after { submissions.new.items ≡ without reference submissions.old.items }
+    ensures fewer { length submissions.new.items ≤ length submissions.old.items }
+{
+    if let Some(place) = place_of(submissions.as_slice(), reference) {
+        submissions.remove(place);
+    }
+}

@@ -1,0 +1,77 @@
+// The poll in flight.
+
+ghost use Rattle.std.specs.Prelude.{◌≡◌};
+ghost use Rattle.mscp_host.specs.Accounts.{answered, is_about_polled, stands, told_in, watch_after};
+
+use mscp_packet::{End, EndBody};
+
+/// The endcode of a GET COMMAND STATUS (manual, "End Messages").
+const STATUS_END: u8 = 0x82;
+
+/// A poll whose end wasn't received.
+#[derive(Clone, Copy, Debug, PartialEq, Eq)]
+pub struct Watch {
+    /// The poll's own reference number.
+    pub reference: u32,
+    /// The reference number of the submission that it is about.
+    pub polled: u32,
+    /// Whether that submission is still outstanding.
+    pub stands: bool,
+}
+
+/// The reference number that the end of a GET COMMAND STATUS tells, and its figure.
+fn told_in(body: &EndBody) -> Option<(u32, u32)>
+    ensures { result ≡ told_in body.now }
+{
+    match body {
+        EndBody::Status { other, figure } => Some((*other, *figure)),
+        _ => None,
+    }
+}
+
+/// What an end tells of a command that was polled: where it is that of the poll in flight, and the poll was served.
+pub fn answered(watch: &Option<Watch>, end: &End) -> Option<(u32, u32)>
+    ensures { result ≡ answered watch.now end.now }
+{
+    match watch {
+        Some(watch) if watch.reference == end.reference && end.code == STATUS_END => {
+            told_in(&end.body)
+        }
+        _ => None,
+    }
+}
+
+/// Whether an answer, if it is one, is about the command that was polled.
+pub fn is_about_polled(watch: &Option<Watch>, answer: &Option<(u32, u32)>) -> bool
+    ensures { result ≡ is_about_polled watch.now answer.now }
+{
+    match (watch, answer) {
+        (_, None) => true,
+        (None, Some(_)) => false,
+        (Some(watch), Some((number, _))) => watch.polled == *number,
+    }
+}
+
+/// Whether the polled submission is still outstanding.
+pub fn stands(watch: &Option<Watch>) -> bool
+    ensures { result ≡ stands watch.now }
+{
+    match watch {
+        Some(watch) => watch.stands,
+        None => false,
+    }
+}
+
+/// The poll in flight, once the end of the command of this reference number was received.
+pub fn watch_after(watch: Option<Watch>, reference: u32) -> Option<Watch>
+    ensures { result ≡ watch_after watch reference }
+{
+    match watch {
+        Some(watch) if watch.reference == reference => None,
+        Some(watch) if watch.polled == reference => Some(Watch {
+            stands: false,
+            ..watch
+        }),
+        _ => watch,
+    }
+}
