@@ -1,2 +1,2 @@
 mod Cylinders
-pub mod Reciprocals
+mod Reciprocals

@@ -23,7 +23,7 @@ low n b m q h k =
     let more : q * b * m ≤ n * m = mul-le-mul_right m h in
     grind (arith, all, more)
 
--- and not less, for a number of at most 33 bits
+-- and not less, for a number of at most 2^32
 high_small : (n b m q : ℕ) → n < 4294967296 → b ≤ 4294967296 → n < q * b + b → m * b ≤ whole + (b - 1) → n * m < q * whole + whole
 high_small n b m q few small over k =
     let spare : n * (b - 1) ≤ 4294967295 * 4294967295 = mul-le n (b - 1) 4294967295 4294967295 (omega arith) (omega arith) in

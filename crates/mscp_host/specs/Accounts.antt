@@ -35,14 +35,16 @@ fresh credits = record { credits = credits; outstanding = []; watch = None }
 
 -- ---- submissions
 
--- a command of this opcode byte is answered when it arrives (manual)
+-- a command of this class is answered when it arrives (manual, "Command Categories and Execution Order")
 abbrev pub is_immediate_class : Class → Bool
 is_immediate_class classes.Immediate = true
 is_immediate_class other = false
 
+-- a command of this opcode byte is answered when it arrives
 abbrev pub is_immediate : ℕ → Bool
 is_immediate opcode = is_immediate_class (class opcode)
 
+-- the submission has this reference number
 abbrev pub has_reference : ℕ → Submission → Bool
 has_reference reference s = nat_eq s.reference reference
 
@@ -62,6 +64,7 @@ refusal a opcode reference =
     if nat_eq (balance a) 1 && not (is_immediate opcode) then Some faults.LastCredit else (
     if list_any (has_reference reference) a.outstanding then Some faults.Doubled else None))
 
+-- what is kept once a command was sent: it is outstanding, behind the others
 abbrev pub submitted : Account → Command → Account
 submitted a c = record a { outstanding = a.outstanding ++ submission_of c ∷ [] }
 
@@ -70,6 +73,7 @@ abbrev pub submits_unless : Account → Command → Option HostFault → Result 
 submits_unless a c (Some fault) = (Err fault, a)
 submits_unless a c None = (Ok (record { items = command_bytes c }), submitted a c)
 
+-- what is answered where a command is to be sent, and what is kept then
 abbrev pub submits : Account → Command → Result (ArrayVec ℕ) HostFault × Account
 submits a c = submits_unless a c (refusal a (opcode_byte c.order) c.reference)
 
@@ -83,15 +87,19 @@ oldest a = find (λ s. not (is_immediate s.opcode)) a.outstanding
 abbrev pub poll_of : ℕ → Submission → Command
 poll_of reference s = record { reference = reference; unit = s.unit; order = orders.Status s.reference }
 
+-- what is kept once the poll of a submission was sent: it is outstanding too, and in flight
 abbrev pub watching : Account → ℕ → Submission → Account
 watching a reference s =
     record (submitted a (poll_of reference s)) { watch = Some (record { reference = reference; polled = s.reference; stands = true }) }
 
+-- what is answered to a poll of a submission, and what is kept then: its message, or why it may not be sent, and then
+-- nothing changes
 abbrev pub asks_unless : Account → ℕ → Submission → Option HostFault → Result Poll HostFault × Account
 asks_unless a reference s (Some fault) = (Err fault, a)
 asks_unless a reference s None =
     (Ok (polls.Ask (record { items = command_bytes (poll_of reference s) })), watching a reference s)
 
+-- what is answered to a poll of this submission, if there is one, and what is kept then
 abbrev pub asks : Account → ℕ → Option Submission → Result Poll HostFault × Account
 asks a reference None = (Ok polls.Nothing, a)
 asks a reference (Some s) = asks_unless a reference s (refusal a (opcode_byte (poll_of reference s).order) reference)
@@ -208,9 +216,11 @@ abbrev pub or_unreadable : Result End EndFault → Result End HostFault
 or_unreadable (Ok e) = Ok e
 or_unreadable (Err fault) = Err faults.Unreadable
 
+-- what is said of what bytes are read as, and what is kept then
 abbrev pub heard_in : Account → Result End EndFault → Result News HostFault × Account
 heard_in a (Err fault) = (Err faults.Unreadable, a)
 heard_in a (Ok e) = heard_of a e (find (has_reference e.reference) a.outstanding)
 
+-- what is said of bytes that are received, and what is kept then
 abbrev pub heard : Account → List ℕ → Result News HostFault × Account
 heard a b = heard_in a (end_in b)

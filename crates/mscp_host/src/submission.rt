@@ -30,13 +30,6 @@ impl Submission {
             told: None,
         }
     }
-
-    /// Whether the command is answered when it arrives.
-    pub fn is_immediate(&self) -> bool
-        ensures { result ≡ is_immediate self.now.opcode }
-    {
-        is_immediate(self.opcode)
-    }
 }
 
 /// Whether a command of this opcode byte is answered when it arrives.
