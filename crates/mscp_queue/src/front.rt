@@ -79,9 +79,8 @@ impl Front {
         if fences {
             self.fenced[drive] = true;
         }
-        if behind.passes() >= passing {
-            self.affordable = false;
-        }
+        // Those in front are all affordable, or they would be closed.
+        self.affordable = behind.passes() < passing;
         !self.affordable || (fences && are_set(&self.fenced[..drives]))
     }
 }

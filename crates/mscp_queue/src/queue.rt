@@ -1,13 +1,13 @@
 // The queue of a disk controller: its waiting commands, its drives, and its picker.
 
 ghost use Rattle.std.specs.Prelude.{◌≡◌, ◌+◌, ◌*◌, ◌<◌, ◌≤◌, ◌^◌, [], length, find, option_map, true, false, IfNone, IfSome};
-ghost use Rattle.std.specs.List.{list_any};
+ghost use Rattle.std.specs.List.{list_any, position};
 ghost use Rattle.mscp_queue.specs.Drives.{is_online_in};
 ghost use Rattle.mscp_queue.specs.Figures.{figure_of_reference, figures};
 ghost use Rattle.mscp_queue.specs.Kept.{IsWaitable, units_of};
 ghost use Rattle.mscp_queue.specs.Lines.{Begins, BeginsAt, Line, Serves, ServesAt, aborting, fresh, pushed};
 ghost use Rattle.mscp_queue.specs.Orders.{order_weight};
-ghost use Rattle.mscp_queue.specs.Records.{aborted_record, has_reference};
+ghost use Rattle.mscp_queue.specs.Records.{aborted_record, has_reference, is_in_service};
 ghost use Rattle.mscp_queue.specs.Serving.{IsNext, is_begun};
 
 use crate::block::Block;
@@ -48,6 +48,8 @@ pub struct Queue<K> {
     waiting: ArrayVec<Record, 64>,
     drives: ArrayVec<Drive, 16>,
     begun: Option<u32>,
+    // Whether one may be in service: where none is, nobody looks for it.
+    serving: bool,
     picker: K,
 }
 
@@ -70,7 +72,7 @@ impl<K> Model for Queue<K> {
           picker = q.picker;
         } };
 
-    ghost invariant = { λ q. IsHeld q.room q.passing q.longest q.waiting.items q.drives.items q.begun };
+    ghost invariant = { λ q. IsHeld q.room q.passing q.longest q.waiting.items q.drives.items q.begun q.serving };
 }
 
 impl<K: Picker> Queue<K> {
@@ -92,6 +94,7 @@ impl<K: Picker> Queue<K> {
             waiting: ArrayVec::new(),
             drives,
             begun: None,
+            serving: false,
             picker,
         }
     }
@@ -104,6 +107,7 @@ impl<K: Picker> Queue<K> {
         self.waiting.clear();
         renew_drives(self.drives.as_mut_slice());
         self.begun = None;
+        self.serving = false;
     }
 
     /// How many commands wait.
@@ -194,6 +198,17 @@ impl<K: Picker> Queue<K> {
         }
     }
 
+    /// The place of the command in service, if one is.
+    fn serving_place(&self) -> Option<usize>
+        ensures { result ≡ position is_in_service self.now.waiting }
+    {
+        if self.serving {
+            place_in_service(self.waiting.as_slice())
+        } else {
+            None
+        }
+    }
+
     /// The place of the command in service, or, where none is, of one that the picker picks.
     fn place_to_begin(&self) -> usize
         requires nothing { self.now.begun ≡ None }
@@ -201,7 +216,7 @@ impl<K: Picker> Queue<K> {
         ensures { IsNext (K.picks self.now.picker) self.now.passing self.now.drives self.now.waiting self.now.begun result }
     {
         let waiting = self.waiting.as_slice();
-        match place_in_service(waiting) {
+        match self.serving_place() {
             Some(place) => place,
             None => picked_place(waiting, self.drives.as_slice(), self.passing, &self.picker),
         }
@@ -252,14 +267,11 @@ impl<K: Picker> Queue<K> {
         let command = record.command();
         let drive = drive_of(self.drives.as_slice(), command.unit);
         let service = serve(&drive, &record, block);
-        leave(
-            &mut self.waiting,
-            place,
-            record.step_toll(),
-            service.ended.is_some(),
-        );
+        let ends = service.ended.is_some();
+        leave(&mut self.waiting, place, record.step_toll(), ends);
         replace_drive(self.drives.as_mut_slice(), command.unit, &service.drive);
         self.begun = None;
+        self.serving = !ends;
         Report::Served {
             reference: command.reference,
             unit: command.unit,

@@ -1,11 +1,14 @@
 use Rattle.std.proofs.Common.{◌≡◌, ◌-◌, ◌≤◌, length}
+use Rattle.std.specs.Prelude.{filter}
+use Rattle.std.specs.List.{range_with_len}
 use Rattle.mscp_queue.specs.Fronts.{is_closed}
+use Rattle.mscp_queue.specs.Views.{is_open_at}
 use Rattle.mscp_queue.proofs.Starting.{Looks}
-use Rattle.mscp_queue.proofs.start.Startable.fill.Given as goal
+use Rattle.mscp_queue.proofs.start.show.Given as goal
 
 abbrev pub invariant-loop-place : goal.invariant-loop-place
 invariant-loop-place l = record {
-  looks : Looks l.passing l.drives l.records l.place l.front l.self.places.items l.self.view;
+  looks : Looks l.passing l.drives l.records l.place l.front (filter (is_open_at l.passing l.records) (range_with_len 0 l.place)) l.view;
   inside : l.place ≤ length l.records;
   closed : l.closed ≡ is_closed l.front (length l.drives);
 }
