@@ -56,17 +56,9 @@ impl Front {
         free && self.affordable
     }
 
-    /// Whether nobody behind may start, whatever it is: one in front may be passed no more, or of each of so many drives
-    /// one is sequential.
-    pub fn is_closed(&self, drives: usize) -> bool
-        requires { drives ≤ 16 }
-        ensures { result ≡ is_closed self.now drives }
-    {
-        !self.affordable || are_set(&self.fenced[..drives])
-    }
-
-    /// Takes the record, whose drive stands at this place, among those in front, who are open so far to so many drives.
-    /// Tells whether they are closed then.
+    /// Takes the record, whose drive stands at this place, among those in front, who leave one of so many drives open so
+    /// far. Tells whether nobody behind may start then, whatever it is: one in front may be passed no more, or of each
+    /// drive one is sequential.
     pub fn add(&mut self, behind: &Record, drive: usize, passing: u32, drives: usize) -> bool
         requires drive { drive < 16 }
         requires few { drives ≤ 16 }

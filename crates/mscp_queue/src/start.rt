@@ -98,20 +98,19 @@ fn show(view: &mut View, records: &[Record], drives: &[Drive], passing: u32)
     requires view { view.old ≡ [] }
     requires few { length records.now ≤ 64 }
     requires drives { length drives.now ≤ 16 }
+    requires some_drive { 0 < length drives.now }
     requires heads { All IsOnUnit drives.now }
     requires waitable { All (λ r. (is_sequential r.command.order || is_move r.command.order) ≡ true) records.now }
     requires inside { All (λ r. HasBlocks (units_of drives.now) r.command) records.now }
     ensures { view.new ≡ view_of passing drives.now records.now }
 {
     let mut front = Front::new();
-    let mut closed = front.is_closed(drives.len());
-    let mut place = 0;
-    while place < records.len() && !closed {
-        let record = records[place];
+    for record in records {
         let at = place_of_drive(drives, record.command().unit);
-        show_if(front.lets(&record, at), view, &record, &drives[at]);
-        closed = front.add(&record, at, passing, drives.len());
-        place += 1;
+        show_if(front.lets(record, at), view, record, &drives[at]);
+        if front.add(record, at, passing, drives.len()) {
+            return;
+        }
     }
 }
 
@@ -126,6 +125,7 @@ pub(crate) fn picked_place<K: Picker>(
     requires some { 0 < length records.now }
     requires few { length records.now ≤ 64 }
     requires drives { length drives.now ≤ 16 }
+    requires some_drive { 0 < length drives.now }
     requires heads { All IsOnUnit drives.now }
     requires waitable { All (λ r. (is_sequential r.command.order || is_move r.command.order) ≡ true) records.now }
     requires inside { All (λ r. HasBlocks (units_of drives.now) r.command) records.now }

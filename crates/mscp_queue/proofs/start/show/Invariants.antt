@@ -1,4 +1,4 @@
-use Rattle.std.proofs.Common.{◌≡◌, ◌-◌, ◌≤◌, length}
+use Rattle.std.proofs.Common.{◌≡◌, false, length}
 use Rattle.std.specs.Prelude.{filter}
 use Rattle.std.specs.List.{range_with_len}
 use Rattle.mscp_queue.specs.Fronts.{is_closed}
@@ -6,12 +6,8 @@ use Rattle.mscp_queue.specs.Views.{is_open_at}
 use Rattle.mscp_queue.proofs.Starting.{Looks}
 use Rattle.mscp_queue.proofs.start.show.Given as goal
 
-abbrev pub invariant-loop-place : goal.invariant-loop-place
-invariant-loop-place l = record {
-  looks : Looks l.passing l.drives l.records l.place l.front (filter (is_open_at l.passing l.records) (range_with_len 0 l.place)) l.view;
-  inside : l.place ≤ length l.records;
-  closed : l.closed ≡ is_closed l.front (length l.drives);
+abbrev pub invariant-loop-record : goal.invariant-loop-record
+invariant-loop-record l = record {
+  looks : Looks l.passing l.drives l.records l.record-index l.front (filter (is_open_at l.passing l.records) (range_with_len 0 l.record-index)) l.view;
+  opens : is_closed l.front (length l.drives) ≡ false;
 }
-
-abbrev pub decreases-loop-place : goal.decreases-loop-place
-decreases-loop-place l = length l.records - l.place
