@@ -21,6 +21,7 @@ use crate::service::{serve, upcoming};
 use crate::start::picked_place;
 use crate::turn::{leave, place_in_service, take_out};
 use crate::upcoming::Upcoming;
+use crate::view::View;
 use arrayvec::ArrayVec;
 use mscp_drive::Units;
 use mscp_packet::{Command, End, Order};
@@ -51,6 +52,8 @@ pub struct Queue<K> {
     // Whether one may be in service: where none is, nobody looks for it.
     serving: bool,
     picker: K,
+    // What the picker saw last. It is kept for its room alone, since a new one would have to be cleared at each start.
+    view: View,
 }
 
 // A clause sees the limits, the waiting commands in order of arrival, the drives in the order of their units, what was
@@ -96,6 +99,7 @@ impl<K: Picker> Queue<K> {
             begun: None,
             serving: false,
             picker,
+            view: View::empty(),
         }
     }
 
@@ -210,25 +214,32 @@ impl<K: Picker> Queue<K> {
     }
 
     /// The place of the command in service, or, where none is, of one that the picker picks.
-    fn place_to_begin(&self) -> usize
-        requires nothing { self.now.begun ≡ None }
-        requires some { 0 < length self.now.waiting }
-        ensures { IsNext (K.picks self.now.picker) self.now.passing self.now.drives self.now.waiting self.now.begun result }
+    fn place_to_begin(&mut self) -> usize
+        requires nothing { self.old.begun ≡ None }
+        requires some { 0 < length self.old.waiting }
+        ensures next { IsNext (K.picks self.old.picker) self.old.passing self.old.drives self.old.waiting self.old.begun result }
+        ensures same { self.new ≡ self.old }
     {
-        let waiting = self.waiting.as_slice();
         match self.serving_place() {
             Some(place) => place,
-            None => picked_place(waiting, self.drives.as_slice(), self.passing, &self.picker),
+            None => picked_place(
+                self.waiting.as_slice(),
+                self.drives.as_slice(),
+                self.passing,
+                &self.picker,
+                &mut self.view,
+            ),
         }
     }
 
     /// The place of the command that is served next: what was begun, or else that in service, or one that the picker
     /// picks.
-    fn next_place(&self) -> Option<usize>
-        ensures none { IfNone result (self.now.waiting ≡ []) }
-        ensures unbegun { IfNone result (self.now.begun ≡ None) }
+    fn next_place(&mut self) -> Option<usize>
+        ensures none { IfNone result (self.old.waiting ≡ []) }
+        ensures unbegun { IfNone result (self.old.begun ≡ None) }
         ensures some { IfSome result (λ place.
-            IsNext (K.picks self.now.picker) self.now.passing self.now.drives self.now.waiting self.now.begun place) }
+            IsNext (K.picks self.old.picker) self.old.passing self.old.drives self.old.waiting self.old.begun place) }
+        ensures same { self.new ≡ self.old }
     {
         match self.begun {
             Some(reference) => place_of(self.waiting.as_slice(), reference),

@@ -91,11 +91,10 @@ fn show_if(may_start: bool, view: &mut View, record: &Record, drive: &Drive)
 }
 
 /// Shows the records that may start. It looks at each record once: what is fenced is known from what was seen of each
-/// unit, and whether one in front may be passed no more is one flag. Where nobody behind may start it ends. The view is
-/// filled in place, since it is large; and this isn't made part of its caller, so that the loop has all registers.
+/// unit, and whether one in front may be passed no more is one flag. Where nobody behind may start it ends. This isn't
+/// made part of its caller, so that the loop has all registers.
 #[inline(never)]
 fn show(view: &mut View, records: &[Record], drives: &[Drive], passing: u32)
-    requires view { view.old ≡ [] }
     requires few { length records.now ≤ 64 }
     requires drives { length drives.now ≤ 16 }
     requires some_drive { 0 < length drives.now }
@@ -104,6 +103,7 @@ fn show(view: &mut View, records: &[Record], drives: &[Drive], passing: u32)
     requires inside { All (λ r. HasBlocks (units_of drives.now) r.command) records.now }
     ensures { view.new ≡ view_of passing drives.now records.now }
 {
+    view.clear();
     let mut front = Front::new();
     for record in records {
         let at = place_of_drive(drives, record.command().unit);
@@ -114,13 +114,14 @@ fn show(view: &mut View, records: &[Record], drives: &[Drive], passing: u32)
     }
 }
 
-/// The place of the record that the picker picks, of those that may start. It is found by the reference number that the
-/// picker saw, since only one record has it.
+/// The place of the record that the picker picks, of those that may start: the view is made anew, and shows these. The
+/// record is found by the reference number that the picker saw, since only one has it.
 pub(crate) fn picked_place<K: Picker>(
     records: &[Record],
     drives: &[Drive],
     passing: u32,
     picker: &K,
+    view: &mut View,
 ) -> usize
     requires some { 0 < length records.now }
     requires few { length records.now ≤ 64 }
@@ -133,8 +134,7 @@ pub(crate) fn picked_place<K: Picker>(
     ensures inside { result < length records.now }
     ensures picked { IsPick (K.picks picker.now) passing drives.now records.now result }
 {
-    let mut view = View::empty();
-    show(&mut view, records, drives, passing);
-    let picked = view.choices()[picker.pick(&view)];
+    show(view, records, drives, passing);
+    let picked = view.choices()[picker.pick(view)];
     place_of(records, picked.reference).unwrap()
 }
