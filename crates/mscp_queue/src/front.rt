@@ -1,6 +1,6 @@
 // What the records in front of a place leave open to those behind them, kept while a view is made.
 
-ghost use Rattle.std.specs.Prelude.{◌≡◌, ◌<◌, ◌≤◌, false};
+ghost use Rattle.std.specs.Prelude.{◌≡◌, ◌<◌, ◌≤◌, true, false};
 ghost use Rattle.std.specs.List.{list_all};
 ghost use Rattle.mscp_queue.specs.Fronts.{is_closed, is_let, nobody, with_record};
 ghost use Rattle.mscp_queue.specs.Orders.{is_sequential};
@@ -43,17 +43,17 @@ impl Front {
         }
     }
 
-    /// Whether those in front let the record start, whose drive stands at this place.
+    /// Whether those in front let the record start, whose drive stands at this place. Each of them may be passed once more.
     pub fn lets(&self, behind: &Record, drive: usize) -> bool
-        requires { drive < 16 }
+        requires drive { drive < 16 }
+        requires affordable { self.now.affordable ≡ true }
         ensures { result ≡ is_let self.now behind.now drive }
     {
-        let free = if is_sequential(&behind.command().order) {
+        if is_sequential(&behind.command().order) {
             !self.seen[drive]
         } else {
             !self.fenced[drive]
-        };
-        free && self.affordable
+        }
     }
 
     /// Takes the record, whose drive stands at this place, among those in front, who leave one of so many drives open so
