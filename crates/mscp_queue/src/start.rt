@@ -95,6 +95,7 @@ fn show_if(may_start: bool, view: &mut View, record: &Record, drive: &Drive)
 /// made part of its caller, so that the loop has all registers.
 #[inline(never)]
 fn show(view: &mut View, records: &[Record], drives: &[Drive], passing: u32)
+    requires view { view.old ≡ [] }
     requires few { length records.now ≤ 64 }
     requires drives { length drives.now ≤ 16 }
     requires some_drive { 0 < length drives.now }
@@ -103,7 +104,6 @@ fn show(view: &mut View, records: &[Record], drives: &[Drive], passing: u32)
     requires inside { All (λ r. HasBlocks (units_of drives.now) r.command) records.now }
     ensures { view.new ≡ view_of passing drives.now records.now }
 {
-    view.clear();
     let mut front = Front::new();
     for record in records {
         let at = place_of_drive(drives, record.command().unit);
@@ -134,6 +134,7 @@ pub(crate) fn picked_place<K: Picker>(
     ensures inside { result < length records.now }
     ensures picked { IsPick (K.picks picker.now) passing drives.now records.now result }
 {
+    view.clear();
     show(view, records, drives, passing);
     let picked = view.choices()[picker.pick(view)];
     place_of(records, picked.reference).unwrap()
