@@ -1,4 +1,4 @@
-use Rattle.std.proofs.Common.{◌≡◌, ◌+◌, ◌++◌, [], ◌∷◌, cond, refl, ap, subst, sym, ◌∙◌, arith}
+use Rattle.std.proofs.Common.{◌+◌, ◌++◌, [], ◌∷◌, cond, refl, ap, subst, sym, ◌∙◌, arith}
 use Rattle.std.specs.Prelude.{filter}
 use Rattle.std.specs.List.{range_with_len}
 use Rattle.std.proofs.lemmas.List.{get_or_default}
@@ -37,8 +37,8 @@ more c =
     let shown = c.show_if.ensures ∙ ap (λ b. choices ++ cond b (choice_of d r ∷ []) []) c.lets.ensures in
     let looks : Looks c.args.passing ds rs (place + 1) c.add.new.self (found ++ cond (is_let c.loop-record.front r at.result) (place ∷ []) []) c.show_if.new.view =
     looks_more c.args.passing ds rs place c.loop-record.front _ found _ choices _ r d at.result c.loop-record-test.true (omega (arith, at.ensures.inside, c.requires.drives))
-        (at.ensures.value ∙ ap (drive_place ds) (ap (λ (k : Command). k.unit) c.command.ensures)) c.record-item.is c.index-drives-at.is c.requires.inside
-        c.add.ensures.after refl shown c.loop-record.invariant.looks in
+    (at.ensures.value ∙ ap (drive_place ds) (ap (λ (k : Command). k.unit) c.command.ensures)) c.record-item.is c.index-drives-at.is c.requires.inside
+    c.add.ensures.after refl shown c.loop-record.invariant.looks in
     subst (λ places. Looks c.args.passing ds rs (place + 1) c.add.new.self places c.show_if.new.view) looks.opens looks
 
 pub loop-record-preserved : goal.loop-record-preserved
