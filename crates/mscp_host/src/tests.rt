@@ -1,3 +1,5 @@
+mod driver;
+
 use super::*;
 use mscp_packet::{Command, End, EndBody, MoveKind, Order, write_end};
 use std::process::Abort;

@@ -1,6 +1,6 @@
 -- A talk of a host with a controller, and what is collected of it by positions. A command of the host is the turn in which
 -- it was sent, so a reference number that is used again names another command.
-use Rattle.std.specs.Prelude.{◌≡◌, ℕ, ◌<◌, ◌≤◌, Bool, true, false, not, ◌&&◌, nat_eq, nat_lt, if◌then◌else◌, List, [], ◌∷◌, length, take, map, filter, find, flat_map, slice_index_or, Option, Some, None, option_map, option_to_list}
+use Rattle.std.specs.Prelude.{ℕ, Bool, true, false, not, ◌&&◌, nat_eq, nat_lt, if◌then◌else◌, List, [], ◌∷◌, take, map, filter, find, flat_map, slice_index_or, Option, Some, None, option_map, option_to_list}
 use Rattle.std.specs.List.{list_any, range_with_len}
 use Rattle.mscp_packet.specs.declared.command.Order.TheVariants as orders
 use Rattle.mscp_packet.specs.Commands.{opcode_byte}

@@ -3,7 +3,6 @@ use Rattle.std.specs.Prelude.{◌≡◌, ◌≢◌, ◌↔◌, ℕ, ◌+◌, ◌
 use Rattle.arrayvec.specs.ArrayVec.{ArrayVec}
 use Rattle.mscp_packet.specs.declared.end.End.{End}
 use Rattle.mscp_packet.specs.Ends.{IsEnd, IsOfKind}
-use Rattle.mscp_queue.specs.declared.block.Block.{Block}
 use Rattle.mscp_queue.specs.declared.report.Report.{Report}
 use Rattle.mscp_queue.specs.declared.view.Choice.{Choice}
 use Rattle.mscp_control.specs.declared.event.Sent.{Sent}
@@ -26,7 +25,7 @@ use Rattle.mscp_sim.specs.declared.conversing.Turn.TheVariants as turns
 use Rattle.mscp_sim.specs.declared.conversing.Heard.{Heard}
 use Rattle.mscp_sim.specs.declared.conversing.Heard.TheVariants as hears
 use Rattle.mscp_sim.specs.Matches.{Match}
-use Rattle.mscp_sim.specs.Talks.{Said, Talk, account_at, asks, asks_about, ended, is_outstanding, last_answer, said, told_in, trace_of}
+use Rattle.mscp_sim.specs.Talks.{Said, Talk, account_at, asks_about, ended, is_outstanding, last_answer, said, told_in, trace_of}
 
 -- ---- one turn
 

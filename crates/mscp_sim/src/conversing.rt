@@ -6,6 +6,9 @@ ghost use Rattle.mscp_host.specs.Accounts.{Account};
 ghost use Rattle.mscp_sim.specs.TwoEnds.{AreTwoEnds, Goes, GoesOn};
 ghost use Rattle.mscp_sim.specs.Matches.{Match};
 
+#[cfg(test)]
+mod tests;
+
 use arrayvec::ArrayVec;
 use mscp_control::{
     Block, Config, Controller, Entry, Event, OutOfMemory, Picker, Report, Sent,
@@ -151,10 +154,7 @@ fn told_of_step(block: &Block, report: &Report) -> (Heard, Option<(Event, Entry)
 }
 
 /// The controller serves one block, with this outcome. The host has no part in it.
-fn step<K: Picker>(
-    controller: &mut Controller<K>,
-    block: Block,
-) -> (Heard, Option<(Event, Entry)>)
+fn step<K: Picker>(controller: &mut Controller<K>, block: Block) -> (Heard, Option<(Event, Entry)>)
     ensures { (host : Account) → Match host controller.old
         → Goes (K.picks controller.old.picker) host controller.old (Turn.Step block) result host controller.new }
 {
@@ -202,7 +202,7 @@ fn hear_each<K: Picker>(
 ) -> Result<(), OutOfMemory>
     requires { Match host.old controller.old }
     ensures { OnOk result (GoesOn (K.picks controller.old.picker) host.old controller.old turns.now (talk.old.heard.items, talk.old.trace.items)
-            (talk.new.heard.items, talk.new.trace.items) host.new controller.new) }
+        (talk.new.heard.items, talk.new.trace.items) host.new controller.new) }
 {
     for turn in turns {
         let (heard, moment) = hear(host, controller, *turn);

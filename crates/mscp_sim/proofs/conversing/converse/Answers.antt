@@ -1,9 +1,7 @@
-use Rattle.std.proofs.Common.{◌≡◌, refl, ap, sym, ◌∙◌, subst}
-use Rattle.mscp_control.specs.Holdings.{Holdings}
+use Rattle.std.proofs.Common.{ap, ◌∙◌, subst}
 use Rattle.mscp_host.specs.Accounts.{fresh}
-use Rattle.mscp_sim.specs.Matches.{Match}
 use Rattle.mscp_sim.specs.TwoEnds.{GoesOn}
-use Rattle.mscp_sim.proofs.Talked.{match_new, no_flight_yet, two_ends}
+use Rattle.mscp_sim.proofs.TwoEnds.Talked.{match_new, no_flight_yet, two_ends}
 use Rattle.mscp_sim.proofs.conversing.converse.Goals as goal
 
 pub hear_each-requires : goal.hear_each-requires

@@ -5,8 +5,7 @@ use Rattle.arrayvec.specs.ArrayVec.{ArrayVec}
 use Rattle.mscp_packet.specs.declared.end.End.{End}
 use Rattle.mscp_packet.specs.Ends.{IsEnd, IsOfKind}
 use Rattle.mscp_host.specs.Accounts.{heard}
-use Rattle.mscp_sim.specs.Matches.{Matches}
-use Rattle.mscp_sim.proofs.Taking.{handed_on, no_bytes, same_bytes, taken_none, taken_some}
+use Rattle.mscp_sim.proofs.TwoEnds.Taking.{handed_on, no_bytes, same_bytes, taken_none, taken_some}
 use Rattle.mscp_sim.proofs.conversing.hand_over.Goals as goal
 
 pub unreachable-requires : goal.unreachable-requires

@@ -1,7 +1,5 @@
-use Rattle.std.proofs.Common.{arith}
-use Rattle.std.specs.Prelude.{take}
 use Rattle.std.proofs.lemmas.List.{take_all}
-use Rattle.mscp_sim.proofs.Talking.{talks_none, talks_more}
+use Rattle.mscp_sim.proofs.TwoEnds.Talking.{talks_none, talks_more}
 use Rattle.mscp_sim.proofs.conversing.hear_each.Goals as goal
 
 pub loop-turn-init : goal.loop-turn-init

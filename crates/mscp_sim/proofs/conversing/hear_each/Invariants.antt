@@ -1,5 +1,5 @@
 use Rattle.std.specs.Prelude.{take}
-use Rattle.mscp_sim.proofs.Talking.{Talks}
+use Rattle.mscp_sim.proofs.TwoEnds.Talking.{Talks}
 use Rattle.mscp_sim.proofs.conversing.hear_each.Given as goal
 
 abbrev pub invariant-loop-turn : goal.invariant-loop-turn

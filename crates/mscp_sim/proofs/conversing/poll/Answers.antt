@@ -1,12 +1,11 @@
-use Rattle.std.proofs.Common.{◌≡◌, ap, sym, ◌∙◌, refl}
+use Rattle.std.proofs.Common.{ap, sym, ◌∙◌, refl}
 use Rattle.std.specs.Prelude.{is_ok, Ok}
 use Rattle.std.proofs.lemmas.Bool.{false≢true}
 use Rattle.mscp_control.specs.declared.event.Event.TheVariants as events
 use Rattle.mscp_control.specs.Holdings.{after_message, answer_to_message}
-use Rattle.mscp_host.specs.declared.news.Poll.TheVariants as polls
 use Rattle.mscp_sim.specs.Matches.{Match}
-use Rattle.mscp_sim.proofs.Sending.{told_now}
-use Rattle.mscp_sim.proofs.Submitting.{asks_match}
+use Rattle.mscp_sim.proofs.TwoEnds.Sending.{told_now}
+use Rattle.mscp_sim.proofs.TwoEnds.Submitting.{asks_match}
 use Rattle.mscp_sim.proofs.conversing.poll.Goals as goal
 
 pub unreachable-requires : goal.unreachable-requires

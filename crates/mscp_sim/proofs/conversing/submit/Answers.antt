@@ -1,11 +1,10 @@
-use Rattle.std.proofs.Common.{◌≡◌, ap, sym, ◌∙◌, refl}
+use Rattle.std.proofs.Common.{ap, sym, ◌∙◌, refl}
 use Rattle.std.specs.Prelude.{is_ok}
-use Rattle.std.proofs.lemmas.Bool.{false≢true, true≢false}
+use Rattle.std.proofs.lemmas.Bool.{false≢true}
 use Rattle.mscp_control.specs.declared.event.Event.TheVariants as events
-use Rattle.mscp_control.specs.declared.event.Entry.TheVariants as entries
 use Rattle.mscp_control.specs.Holdings.{after_message, answer_to_message}
 use Rattle.mscp_sim.specs.Matches.{Match}
-use Rattle.mscp_sim.proofs.Submitting.{submits_kept, submits_match}
+use Rattle.mscp_sim.proofs.TwoEnds.Submitting.{submits_kept, submits_match}
 use Rattle.mscp_sim.proofs.conversing.submit.Goals as goal
 
 pub unreachable-requires : goal.unreachable-requires

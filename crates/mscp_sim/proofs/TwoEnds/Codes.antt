@@ -1,5 +1,5 @@
 -- The endcodes of commands, and the ends that have them.
-use Rattle.std.proofs.Common.{◌≡◌, ⊎_elim, ℕ, Bool, true, false, cond, List, refl, ap, sym, ◌∙◌, length, subst}
+use Rattle.std.proofs.Common.{◌≡◌, ℕ, Bool, true, false, List, refl, length, subst}
 use Rattle.std.specs.Prelude.{find, nat_eq, nat_lt, if◌then◌else◌, slice_index, Option, Some, None, is_some}
 use Rattle.std.proofs.lemmas.Bool.{eqb-true, false≢true}
 use Rattle.mscp_packet.specs.declared.class.Opcode.{Opcode}
@@ -12,18 +12,17 @@ use Rattle.mscp_packet.specs.declared.end.BodyKind.{BodyKind}
 use Rattle.mscp_packet.specs.declared.end.BodyKind.TheVariants as kinds
 use Rattle.mscp_packet.specs.declared.end.EndBody.TheVariants as bodies
 use Rattle.mscp_packet.specs.Opcodes.{least, line_of, opcode_of, opcodes}
-use Rattle.mscp_packet.specs.Commands.{command_bytes, command_of, opcode_byte, order_with, parameters}
+use Rattle.mscp_packet.specs.Commands.{command_of, order_with, parameters}
 use Rattle.mscp_packet.specs.Ends.{IsOfKind, kind_of_body, kind_of_code, refused_body, zero_body}
 use Rattle.mscp_packet.specs.Statuses.{invalid_length}
 use Rattle.mscp_drive.specs.Shape.{Shape}
 use Rattle.mscp_queue.specs.declared.block.Block.{Block}
 use Rattle.mscp_queue.specs.Orders.{endcode}
-use Rattle.mscp_queue.specs.Outcomes.{aborted_end, end_with, is_success, moved_body, online_body, outcome_at, outcome_body}
+use Rattle.mscp_queue.specs.Outcomes.{aborted_end, is_success, moved_body, online_body, outcome_at, outcome_body}
 use Rattle.mscp_control.specs.Settings.{Settings}
 use Rattle.mscp_control.specs.Outcomes.{answer_body, own_end, own_end_with}
-use Rattle.mscp_host.specs.Accounts.{is_code_of}
 use Rattle.mscp_sim.specs.Matches.{IsCoded}
-use Rattle.mscp_sim.proofs.Counting.{found_is}
+use Rattle.mscp_sim.proofs.TwoEnds.Counting.{found_is}
 
 -- ---- what a message asks for has an endcode
 
@@ -95,7 +94,6 @@ moved_kind o good h = refl
 
 pub aborted_kind : (c : Command) (good : ℕ) → IsCoded c.order → IsOfKind (aborted_end c good)
 aborted_kind c good h = moved_kind c.order good h
-
 
 online_kind : (s : Shape) (status : ℕ) → Some kinds.Online ≡ Some (kind_of_body (online_body s status))
 online_kind s status =

@@ -1,7 +1,7 @@
 -- A whole talk: what is heard in each turn.
-use Rattle.std.proofs.Common.{◌≡◌, ⊎_elim, ℕ, suc, ◌+◌, ◌-◌, ◌<◌, ◌≤◌, Bool, true, false, List, [], ◌∷◌, ◌++◌, map, take, drop, length, get_or, refl, ap, sym, ◌∙◌, subst, arith, append-nil}
+use Rattle.std.proofs.Common.{◌≡◌, ⊎_elim, ℕ, suc, ◌+◌, ◌-◌, ◌<◌, ◌≤◌, false, List, [], ◌∷◌, ◌++◌, map, take, drop, length, get_or, refl, ap, sym, ◌∙◌, subst, arith}
 use Rattle.std.specs.Prelude.{zip, Option, Some, None, is_some, option_to_list}
-use Rattle.std.proofs.lemmas.Bool.{cases_eq, false≢true, true≢false}
+use Rattle.std.proofs.lemmas.Bool.{cases_eq, false≢true}
 use Rattle.std.proofs.lemmas.List.{drop-drop, length-drop, get_or-drop}
 use Rattle.mscp_queue.specs.declared.view.Choice.{Choice}
 use Rattle.mscp_control.specs.Legal.{IsLegal, IsPicked}
@@ -13,22 +13,21 @@ use Rattle.mscp_control.specs.Headline.{Promise}
 use Rattle.mscp_control.specs.History.{Moment, Trace}
 use Rattle.mscp_control.specs.Holdings.{Holdings}
 use Rattle.mscp_control.specs.Holdings as holdings
-use Rattle.mscp_control.specs.Runs.{IsRun, RunsKeepThePromise}
+use Rattle.mscp_control.specs.Runs.{RunsKeepThePromise}
 use Rattle.mscp_host.specs.Accounts.{Account, polled, submits}
 use Rattle.mscp_host.specs.Accounts as host
 use Rattle.mscp_sim.specs.declared.conversing.Turn.{Turn}
 use Rattle.mscp_sim.specs.declared.conversing.Turn.TheVariants as turns
 use Rattle.mscp_sim.specs.declared.conversing.Heard.{Heard}
 use Rattle.mscp_sim.specs.declared.conversing.Heard.TheVariants as hears
-use Rattle.mscp_sim.specs.Matches.{Flight, Match, Matches}
-use Rattle.mscp_sim.specs.Talks.{Said, Talk, account_at, in_flight, outstanding, said, trace_of}
+use Rattle.mscp_sim.specs.Matches.{Flight, Matches}
+use Rattle.mscp_sim.specs.Talks.{Said, Talk, outstanding, said, trace_of}
 use Rattle.mscp_sim.specs.TwoEnds.{AreTwoEnds, Converses, GoesOn, IsHeard, Meets, Says}
-use Rattle.mscp_sim.proofs.Asking.{poll_turn}
-use Rattle.mscp_sim.proofs.Between.{Known, never_reset}
-use Rattle.mscp_sim.proofs.News.{take_turn}
-use Rattle.mscp_sim.proofs.Receiving.{OnePoll}
-use Rattle.mscp_sim.proofs.Tracing.{answered_calls, calls_of, entries_of, events_of, history_of, zipped}
-use Rattle.mscp_sim.proofs.Turning.{At, Tells, Turns, step_turn, submit_turn}
+use Rattle.mscp_sim.proofs.TwoEnds.Asking.{poll_turn}
+use Rattle.mscp_sim.proofs.TwoEnds.Between.{Known, never_reset}
+use Rattle.mscp_sim.proofs.TwoEnds.News.{take_turn}
+use Rattle.mscp_sim.proofs.TwoEnds.Tracing.{answered_calls, calls_of, entries_of, events_of, history_of, zipped}
+use Rattle.mscp_sim.proofs.TwoEnds.Turning.{At, Turns, step_turn, submit_turn}
 
 -- ---- lists
 

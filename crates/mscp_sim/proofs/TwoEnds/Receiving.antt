@@ -1,22 +1,21 @@
 -- What a host keeps is what the talk so far says: after a turn that hands over an end.
-use Rattle.std.proofs.Common.{◌≡◌, ⊎_elim, ℕ, ◌+◌, ◌<◌, ◌≤◌, Bool, true, false, cond, List, [], ◌∷◌, ◌++◌, map, refl, ap, sym, ◌∙◌, subst, arith, append-nil}
-use Rattle.std.specs.Prelude.{filter, find, nat_eq, nat_lt, not, ◌&&◌, if◌then◌else◌, Option, Some, None, is_some, option_map, unwrap_or}
-use Rattle.std.specs.List.{AllByRecursion, list_any}
+use Rattle.std.proofs.Common.{◌≡◌, ℕ, ◌+◌, ◌<◌, ◌≤◌, Bool, true, false, cond, List, [], ◌∷◌, ◌++◌, map, refl, ap, sym, ◌∙◌, subst, arith, append-nil}
+use Rattle.std.specs.Prelude.{filter, find, nat_eq, not, ◌&&◌, if◌then◌else◌, Option, Some, None, is_some, option_map, unwrap_or}
+use Rattle.std.specs.List.{AllByRecursion}
 use Rattle.std.proofs.lemmas.Bool.{eqb-true, eq-eqb, false≢true, true≢false}
 use Rattle.mscp_packet.specs.declared.end.End.{End}
 use Rattle.mscp_packet.specs.declared.end.EndBody.TheVariants as bodies
-use Rattle.mscp_queue.proofs.Lists.{every_append, every_both, every_filter, every_weaker, filter_on, every_from}
-use Rattle.mscp_queue.proofs.Placed.{filter_map_of, map_map, map_on}
+use Rattle.mscp_queue.proofs.Lists.{every_weaker, filter_on, every_from}
+use Rattle.mscp_queue.proofs.Placed.{map_map, map_on}
 use Rattle.mscp_control.specs.Settings.{Settings}
 use Rattle.mscp_host.specs.declared.submission.Submission.{Submission}
-use Rattle.mscp_host.specs.declared.watch.Watch.{Watch}
-use Rattle.mscp_host.specs.Accounts.{Account, answered, outstanding_with, received, stands, told_in, watch_after, with_told, without}
+use Rattle.mscp_host.specs.Accounts.{answered, outstanding_with, told_in, with_told}
 use Rattle.mscp_sim.specs.Matches.{references, times}
 use Rattle.mscp_sim.specs.Talks as talks
 use Rattle.mscp_sim.specs.Talks.{Talk, account_at, answers_of, asks, before, ended, hands_over, in_flight, is_it, is_outstanding, last_answer, opcode, outstanding, polled, reference, reference_found, said, sends, still_stands, submission_at, unit_of_turn, watch_at}
-use Rattle.mscp_sim.proofs.Counting.{found_is}
-use Rattle.mscp_sim.proofs.Outstanding.{ends_now, found_below, found_stands, last_new, last_same, outstanding_are, outstanding_below, outstanding_more, stays_if}
-use Rattle.mscp_sim.proofs.Singled.{any_before, find_kept, find_none_kept, flip, found_in, none_found, only_one, without_kept}
+use Rattle.mscp_sim.proofs.TwoEnds.Counting.{found_is}
+use Rattle.mscp_sim.proofs.TwoEnds.Outstanding.{ends_now, found_below, last_new, last_same, outstanding_are, outstanding_more}
+use Rattle.mscp_sim.proofs.TwoEnds.Singled.{any_before, found_in, only_one}
 
 -- at most one poll is outstanding
 abbrev pub OnePoll : Talk → ℕ → Type 0
@@ -63,11 +62,13 @@ found_all P q (y ∷ ys) x h e =
 
 found_self : (xs : List ℕ) (P : ℕ → Type 0) → ((x : ℕ) → find (λ y. nat_eq y x) xs ≡ Some x → P x) → AllByRecursion P xs
 found_self [] P h = tt
-found_self (x ∷ xs) P h =
-    (h x (ap (λ b. cond b (Some x) (find (λ y. nat_eq y x) xs)) (eq-eqb x x refl)), found_self xs P (λ y m. h y (
-    let out : (b : Bool) → nat_eq x y ≡ b → cond b (Some x) (find (λ z. nat_eq z y) xs) ≡ Some y =
-    λ b. elim b as (λ b. nat_eq x y ≡ b → cond b (Some x) (find (λ z. nat_eq z y) xs) ≡ Some y) [ true ↦ λ e. ap Some (eqb-true x y e) | false ↦ λ e. m ] in
-    out (nat_eq x y) refl)))
+found_self (x ∷ xs) P h = (
+  h x (ap (λ b. cond b (Some x) (find (λ y. nat_eq y x) xs)) (eq-eqb x x refl)),
+  found_self xs P (λ y m. h y (
+      let out : (b : Bool) → nat_eq x y ≡ b → cond b (Some x) (find (λ z. nat_eq z y) xs) ≡ Some y =
+      λ b. elim b as (λ b. nat_eq x y ≡ b → cond b (Some x) (find (λ z. nat_eq z y) xs) ≡ Some y) [ true ↦ λ e. ap Some (eqb-true x y e) | false ↦ λ e. m ] in
+      out (nat_eq x y) refl)),
+)
 
 -- each that is found by itself
 every_members : (P : ℕ → Type 0) (xs : List ℕ) → ((x : ℕ) → find (λ y. nat_eq y x) xs ≡ Some x → P x) → AllByRecursion P xs
@@ -177,17 +178,17 @@ told_of_stands c talk j e g p (Some i) q s r true t =
     let before : p < j = found_below talk j p _ q in
     let there : find (λ x. nat_eq x i) (outstanding talk j) ≡ Some i = outstanding_found talk j i t (omega (arith, below, before)) in
     let own : (x : ℕ) → answers_of c talk x (ended talk j) ≡ cond (nat_eq i x) (f ∷ []) [] = λ x.
-        ap (answers_of c talk x) (g.found ∙ ap Some (sym s)) ∙ ((λ k. cond (asked k && is_it x (r k)) (f ∷ []) [])) in
+    ap (answers_of c talk x) (g.found ∙ ap Some (sym s)) ∙ ((λ k. cond (asked k && is_it x (r k)) (f ∷ []) [])) in
     subs_told c talk j n f (outstanding talk j)
     (every_members (λ x. IsTold c talk j n f x) (outstanding talk j) (λ x m. (
       λ y. own x ∙ ap (λ b. cond b (f ∷ []) []) (eq-eqb i x (same_command c talk j e _ _ i x g there m (sym (eqb-true (reference talk x) n y)))),
-      λ y. own x ∙ ap (λ b. cond b (f ∷ []) []) (differs i x (λ z. true≢false (sym (eq-eqb (reference talk x) n (ap (reference talk) (sym z))) ∙ y)))
+      λ y. own x ∙ ap (λ b. cond b (f ∷ []) []) (differs i x (λ z. true≢false (sym (eq-eqb (reference talk x) n (ap (reference talk) (sym z))) ∙ y))),
     ))) (once_at c talk j n e g)
 told_of_stands c talk j e g p o q s r false t =
     let f = talks.told_in c talk p in
     let asked : asks (said talk p).heard ≡ true = found_is (λ x. asks (said talk x).heard) (outstanding talk j) p q in
     sym (subs_kept c talk j (outstanding talk j) (every_weaker (λ x. is_outstanding talk j x ≡ true) (TellsNothing c talk j) (λ x m.
-        ap (answers_of c talk x) (g.found ∙ ap Some (sym s)) ∙ ((λ k. cond (asked k && is_it x (r k)) (f ∷ []) []) ∙ ap (λ b. cond b (f ∷ []) []) (gone_is talk j x o t m))) (outstanding talk j) (outstanding_are talk j)))
+    ap (answers_of c talk x) (g.found ∙ ap Some (sym s)) ∙ ((λ k. cond (asked k && is_it x (r k)) (f ∷ []) []) ∙ ap (λ b. cond b (f ∷ []) []) (gone_is talk j x o t m))) (outstanding talk j) (outstanding_are talk j)))
 
 told_when : (c : Settings) (talk : Talk) (j : ℕ) (e : End) (g : Gives c talk j e) (p : ℕ) → in_flight talk j ≡ Some p → (b : Bool) → nat_eq (reference talk p) e.reference ≡ b
     → outstanding_with (account_at c talk j) (if b && nat_eq e.code 0x82 then told_in e.body else None) ≡ map (submission_at c talk (j + 1)) (outstanding talk j)
@@ -199,8 +200,8 @@ told_when c talk j e g p q true n =
     rw (eq-eqb e.code 0x82 tells.0, tells.1, watch) (told_of_stands c talk j e g p (polled talk p) q same refl (still_stands talk j (polled talk p)) refl)
 told_when c talk j e g p q false n =
     let other : asks (said talk g.poll).heard ≡ false = not_asks c talk j e g (λ a.
-        let same : p ≡ g.poll = ap (λ o. unwrap_or o p) (sym q ∙ poll_asks c talk j e g a) in
-        true≢false (sym (eq-eqb (reference talk p) e.reference (ap (reference talk) same ∙ poll_named c talk j e g)) ∙ n)) in
+    let same : p ≡ g.poll = ap (λ o. unwrap_or o p) (sym q ∙ poll_asks c talk j e g a) in
+    true≢false (sym (eq-eqb (reference talk p) e.reference (ap (reference talk) same ∙ poll_named c talk j e g)) ∙ n)) in
     sym (subs_kept c talk j (outstanding talk j) (every_from (TellsNothing c talk j) (λ i. nothing_asked c talk j i e g other) (outstanding talk j)))
 
 -- ---- the answer that the end is, or that it is none

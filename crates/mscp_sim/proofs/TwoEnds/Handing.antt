@@ -1,6 +1,6 @@
 -- An end that is handed over: the host takes it, and the match is kept.
-use Rattle.std.proofs.Common.{◌≡◌, ⊎_elim, ℕ, suc, ◌+◌, ◌-◌, ◌<◌, ◌≤◌, Bool, true, false, cond, List, [], ◌∷◌, ◌++◌, map, drop, length, refl, ap, sym, ◌∙◌, subst, arith}
-use Rattle.std.specs.Prelude.{find, nat_eq, nat_lt, nat_le, not, ◌||◌, ◌&&◌, if◌then◌else◌, slice_index, Option, Some, None, is_some, option_map, option_to_list, slice_get, unwrap_or, Result, Ok, Err}
+use Rattle.std.proofs.Common.{◌≡◌, ℕ, suc, ◌+◌, Bool, true, false, cond, List, [], ◌∷◌, ◌++◌, map, drop, length, refl, ap, sym, ◌∙◌, subst, arith}
+use Rattle.std.specs.Prelude.{find, nat_eq, nat_lt, nat_le, ◌&&◌, if◌then◌else◌, slice_index, Option, Some, None, is_some, option_map, slice_get, unwrap_or, Ok}
 use Rattle.std.specs.List.{AllByRecursion, list_any}
 use Rattle.std.proofs.lemmas.Bool.{eqb-true, eq-eqb, false≢true, true≢false}
 use Rattle.std.proofs.lemmas.Bool.Decides.{nat_tests}
@@ -9,21 +9,18 @@ use Rattle.mscp_packet.specs.declared.end.End.{End}
 use Rattle.mscp_packet.specs.declared.end.EndBody.{EndBody}
 use Rattle.mscp_packet.specs.declared.end.EndBody.TheVariants as bodies
 use Rattle.mscp_packet.specs.declared.end.BodyKind.{BodyKind}
-use Rattle.mscp_packet.specs.declared.reading.EndFault.{EndFault}
-use Rattle.mscp_packet.specs.declared.reading.EndFault.TheVariants as faults
 use Rattle.mscp_packet.specs.Commands.{opcode_byte}
-use Rattle.mscp_packet.specs.Ends.{HasBody, IsEnd, body_at, end_at, end_length, kind_of_code, reading_with}
-use Rattle.mscp_packet.specs.Number.{num}
+use Rattle.mscp_packet.specs.Ends.{HasBody, IsEnd, end_at, end_length, kind_of_code, reading_with}
 use Rattle.mscp_queue.specs.Names.{end_name}
 use Rattle.mscp_queue.proofs.Lists.{every_weaker, every_both}
 use Rattle.mscp_control.specs.Holdings.{Holdings, outstanding_of}
 use Rattle.mscp_host.specs.declared.submission.Submission.{Submission}
 use Rattle.mscp_host.specs.declared.watch.Watch.{Watch}
-use Rattle.mscp_host.specs.Accounts.{Account, answered, end_in, has_reference, heard, is_about, is_about_polled, is_code_of, news_with, outstanding_with, received, stands, told_in, watch_after, with_told, without}
+use Rattle.mscp_host.specs.Accounts.{Account, answered, end_in, has_reference, heard, is_about_polled, is_code_of, news_with, outstanding_with, received, stands, told_in, watch_after, with_told, without}
 use Rattle.mscp_host.proofs.Hearing.{heard_ok}
-use Rattle.mscp_sim.specs.Matches.{Flight, HasFlight, IsAwaited, IsFlight, IsKnown, IsSmall, Matches, commands, opcode_found, references, times}
-use Rattle.mscp_sim.proofs.Counting.{length_without, opcode_told, opcode_without, references_told, small_told, small_without, times_append, times_without}
-use Rattle.mscp_sim.proofs.Matching.{called, counted_names, times_ends}
+use Rattle.mscp_sim.specs.Matches.{Flight, HasFlight, IsAwaited, IsFlight, IsKnown, Matches, commands, times}
+use Rattle.mscp_sim.proofs.TwoEnds.Counting.{length_without, opcode_told, opcode_without, references_told, small_told, small_without, times_append, times_without}
+use Rattle.mscp_sim.proofs.TwoEnds.Matching.{called, counted_names, times_ends}
 
 -- ---- reading
 
@@ -194,10 +191,10 @@ taken_out {K} a h told e us m u =
     let s = found_some (find (has_reference n) a.outstanding) own.opcode own.found in
     let apart = alone a h told e us m u in
     let counts : (r : ℕ) → times r (outstanding_of h) ≡ times r (n ∷ []) + times r (outstanding_of h') = λ r.
-        let old = counted_names r h in
-        let now = counted_names r h' in
-        let cut = ap (λ xs. times r (map end_name xs)) u ∙ times_append r (n ∷ []) (map end_name us) in
-        omega (arith, old, now, cut) in
+    let old = counted_names r h in
+    let now = counted_names r h' in
+    let cut = ap (λ xs. times r (map end_name xs)) u ∙ times_append r (n ∷ []) (map end_name us) in
+    omega (arith, old, now, cut) in
     record {
       credits = m.credits;
       many =
@@ -216,9 +213,9 @@ taken_out {K} a h told e us m u =
           omega (arith, c, one);
       small = small_without n a.outstanding m.small;
       waits = every_weaker (λ c. IsKnown a.outstanding c × (nat_eq n c.reference ≡ false)) (IsKnown (without n a.outstanding)) (λ c k. (opcode_without c.reference n (opcode_byte c.order) a.outstanding k.1 k.0.0, k.0.1)) (commands h.waiting)
-      (every_both (IsKnown a.outstanding) (λ c. nat_eq n c.reference ≡ false) (commands h.waiting) m.waits (other_commands n (commands h.waiting) apart.0));
+          (every_both (IsKnown a.outstanding) (λ c. nat_eq n c.reference ≡ false) (commands h.waiting) m.waits (other_commands n (commands h.waiting) apart.0));
       ends = every_weaker (λ x. IsAwaited a.outstanding x × (nat_eq n x.reference ≡ false)) (IsAwaited (without n a.outstanding)) (λ x k. record { opcode = k.0.opcode; found = opcode_without x.reference n k.0.opcode a.outstanding k.1 k.0.found; code = k.0.code; kind = k.0.kind }) us
-      (every_both (IsAwaited a.outstanding) (λ x. nat_eq n x.reference ≡ false) us ends.1 (other_ends n us apart.1));
+          (every_both (IsAwaited a.outstanding) (λ x. nat_eq n x.reference ≡ false) us ends.1 (other_ends n us apart.1));
       flight = flight_after e us a.watch told (subst (λ xs. HasFlight xs a.watch told) u m.flight);
     }
 

@@ -1,6 +1,6 @@
 -- A turn in which an end is handed over: what the host says of it.
-use Rattle.std.proofs.Common.{◌≡◌, ◌↔◌, ℕ, ◌+◌, ◌<◌, ◌≤◌, Bool, true, false, cond, List, [], ◌∷◌, ◌++◌, map, length, refl, ap, sym, ◌∙◌, subst, arith}
-use Rattle.std.specs.Prelude.{◌≢◌, find, nat_eq, nat_lt, ◌&&◌, if◌then◌else◌, slice_get, Option, Some, None, is_some, option_map, unwrap_or, Result, Ok, Err}
+use Rattle.std.proofs.Common.{◌≡◌, ◌↔◌, ℕ, ◌+◌, ◌<◌, ◌≤◌, Bool, true, false, List, ◌∷◌, length, refl, ap, sym, ◌∙◌, subst, arith}
+use Rattle.std.specs.Prelude.{find, nat_eq, nat_lt, ◌&&◌, if◌then◌else◌, slice_get, Option, Some, None, is_some, option_map, unwrap_or, Result, Ok, Err}
 use Rattle.std.specs.List.{AllByRecursion, list_any}
 use Rattle.std.proofs.lemmas.Bool.{eqb-true, eq-eqb, false≢true, true≢false}
 use Rattle.std.proofs.lemmas.Bool.Decides.{nat_tests}
@@ -8,34 +8,32 @@ use Rattle.arrayvec.specs.ArrayVec.{ArrayVec}
 use Rattle.mscp_packet.specs.declared.end.End.{End}
 use Rattle.mscp_packet.specs.declared.end.EndBody.TheVariants as bodies
 use Rattle.mscp_packet.specs.Ends.{IsEnd}
-use Rattle.mscp_packet.specs.Number.{num}
 use Rattle.mscp_queue.specs.declared.view.Choice.{Choice}
 use Rattle.mscp_control.specs.declared.event.Event.TheVariants as events
 use Rattle.mscp_control.specs.declared.event.Entry.TheVariants as entries
 use Rattle.mscp_control.specs.Settings.{Settings}
-use Rattle.mscp_control.specs.Holdings.{Holdings, after_take, end_taken, outstanding_of}
+use Rattle.mscp_control.specs.Holdings.{Holdings}
 use Rattle.mscp_host.specs.declared.news.HostFault.{HostFault}
 use Rattle.mscp_host.specs.declared.news.News.{News}
 use Rattle.mscp_host.specs.declared.news.News.TheVariants as news
 use Rattle.mscp_host.specs.declared.submission.Submission.{Submission}
-use Rattle.mscp_host.specs.declared.watch.Watch.{Watch}
 use Rattle.mscp_host.specs.Accounts as host
 use Rattle.mscp_host.specs.Accounts.{Account, answered, has_reference, heard, last_told, news_of_figure, news_with, received, told_of}
 use Rattle.mscp_sim.specs.declared.conversing.Turn.TheVariants as turns
 use Rattle.mscp_sim.specs.declared.conversing.Heard.{Heard}
 use Rattle.mscp_sim.specs.declared.conversing.Heard.TheVariants as hears
-use Rattle.mscp_sim.specs.Matches.{Flight, HasFlight, IsAwaited, IsFlight, Matches, references, times}
-use Rattle.mscp_sim.specs.Talks.{Talk, account_at, asks, asks_about, ended, hands_over, in_flight, is_it, is_outstanding, last_answer, outstanding, polled, reference, reference_found, said, sends, still_stands, submission_at, told_in, watch_at}
+use Rattle.mscp_sim.specs.Matches.{Flight, HasFlight, IsAwaited, IsFlight, Matches}
+use Rattle.mscp_sim.specs.Talks.{Talk, account_at, asks, ended, hands_over, in_flight, is_it, is_outstanding, last_answer, outstanding, polled, reference, reference_found, said, sends, still_stands, submission_at, told_in, watch_at}
 use Rattle.mscp_sim.specs.TwoEnds.{IsHanded, IsSound, Meets, Says, Stands}
-use Rattle.mscp_sim.proofs.Accounting.{find_map}
-use Rattle.mscp_sim.proofs.Counting.{found_is}
-use Rattle.mscp_sim.proofs.Handing.{alone, first_is}
-use Rattle.mscp_sim.proofs.Outstanding.{found_below}
-use Rattle.mscp_sim.proofs.Received.{account_received, flight_back, one_received}
-use Rattle.mscp_sim.proofs.Receiving.{Gives, OnePoll, once_at, outstanding_found, poll_asks, poll_named, same_poll}
-use Rattle.mscp_sim.proofs.Singled.{flip, only_one}
-use Rattle.mscp_sim.proofs.Taking.{Handed, taken_none, taken_some}
-use Rattle.mscp_sim.proofs.Turning.{At, Turns, heard_at, is_news, never_idle, no_end, quiet, reached_next, unqueued}
+use Rattle.mscp_sim.proofs.TwoEnds.Accounting.{find_map}
+use Rattle.mscp_sim.proofs.TwoEnds.Counting.{found_is}
+use Rattle.mscp_sim.proofs.TwoEnds.Handing.{alone, first_is}
+use Rattle.mscp_sim.proofs.TwoEnds.Outstanding.{found_below}
+use Rattle.mscp_sim.proofs.TwoEnds.Received.{account_received, flight_back, one_received}
+use Rattle.mscp_sim.proofs.TwoEnds.Receiving.{Gives, once_at, outstanding_found, poll_asks, poll_named, same_poll}
+use Rattle.mscp_sim.proofs.TwoEnds.Singled.{flip, only_one}
+use Rattle.mscp_sim.proofs.TwoEnds.Taking.{taken_none, taken_some}
+use Rattle.mscp_sim.proofs.TwoEnds.Turning.{At, Turns, heard_at, is_news, never_idle, no_end, quiet, reached_next, unqueued}
 
 -- ---- which command was it
 
@@ -75,9 +73,9 @@ answer_some {K} c picks picker talk j a h told e us p s u f n st =
     let flight : IsFlight (e ∷ us) (watch_at talk j p) told = subst (λ w. HasFlight (e ∷ us) w told) watch (subst (λ xs. HasFlight xs (account_at c talk j).watch told) u m.flight) in
     let first = first_is e us (watch_at talk j p) told flight (alone (account_at c talk j) h told e us m u).1 n in
     let waits : told.waited ≡ true =
-        let out : (b : Bool) → told.waited ≡ b → told.waited ≡ true =
-        λ b. elim b as (λ b. told.waited ≡ b → told.waited ≡ true) [ true ↦ λ q. q | false ↦ λ q. absurd (false≢true (ap (list_any (λ (x : End). nat_eq x.reference (reference_found talk (polled talk p)))) (sym first.0) ∙ flight.ended st q)) ] in
-        out told.waited refl in
+    let out : (b : Bool) → told.waited ≡ b → told.waited ≡ true =
+    λ b. elim b as (λ b. told.waited ≡ b → told.waited ≡ true) [ true ↦ λ q. q | false ↦ λ q. absurd (false≢true (ap (list_any (λ (x : End). nat_eq x.reference (reference_found talk (polled talk p)))) (sym first.0) ∙ flight.ended st q)) ] in
+    out told.waited refl in
     let both = s.flight p f in
     subst (λ k. 1 ≤ k) both.0 (both.1 waits)
 
@@ -145,12 +143,18 @@ said_figure c talk j f (Some l) some from to =
     let no : nat_eq f 0 ≡ false = grind (arith, nat_tests, some) in
     let both : (b : Bool) → nat_lt f l ≡ b → IsSaid c talk j (if b then (if nat_eq f 0 then news.Lost else news.Progress f) else news.Reset) =
     λ b. elim b as (λ b. nat_lt f l ≡ b → IsSaid c talk j (if b then (if nat_eq f 0 then news.Lost else news.Progress f) else news.Reset)) [
-      | true ↦ λ q. rw no (record { not_lost = refl; resets = (λ q. absurd (false≢true q), λ st.
-          let x = from st in
-          let same : l ≡ x.0 = ap (λ o. unwrap_or o l) x.1 in
-          let at_most = x.2 in
-          let below : f < l = grind (arith, nat_tests, q) in
-          absurd (omega (arith, same, at_most, below))) })
+      | true ↦ λ q. rw no (record {
+        not_lost = refl;
+        resets = (
+          λ q. absurd (false≢true q),
+          λ st.
+              let x = from st in
+              let same : l ≡ x.0 = ap (λ o. unwrap_or o l) x.1 in
+              let at_most = x.2 in
+              let below : f < l = grind (arith, nat_tests, q) in
+              absurd (omega (arith, same, at_most, below)),
+        );
+      })
       | false ↦ λ q. record { not_lost = refl; resets = (λ r. to l refl (grind (arith, nat_tests, q)), λ st. refl) }
     ] in
     both (nat_lt f l) refl
@@ -173,27 +177,27 @@ said_answer c talk j p e g q s (Some i) r true t some =
     let last = told_last c talk j i e g there in
     rw last (said_figure c talk j (told_in c talk p) (last_answer c talk j i) (some refl)
     (λ st.
-        let about = (asked_of (asks (said talk st.poll).heard) (is_it st.command (polled talk st.poll)) st.about).1 in
-        let poll : st.poll ≡ p = its_poll c talk j e g st ∙ sym s in
-        let same : i ≡ st.command = eqb-true i st.command (ap (is_it st.command) (sym (ap (polled talk) poll ∙ r)) ∙ about) in
-        (st.last, ap (last_answer c talk j) same ∙ st.told, subst (λ k. st.last ≤ told_in c talk k) poll st.not_less))
+    let about = (asked_of (asks (said talk st.poll).heard) (is_it st.command (polled talk st.poll)) st.about).1 in
+    let poll : st.poll ≡ p = its_poll c talk j e g st ∙ sym s in
+    let same : i ≡ st.command = eqb-true i st.command (ap (is_it st.command) (sym (ap (polled talk) poll ∙ r)) ∙ about) in
+    (st.last, ap (last_answer c talk j) same ∙ st.told, subst (λ k. st.last ≤ told_in c talk k) poll st.not_less))
     (λ l k m.
-        let asked : asks (said talk p).heard ≡ true = found_is (λ x. asks (said talk x).heard) (outstanding talk j) p q in
-        record {
-          poll = p;
-          command = i;
-          last = l;
-          handed = g.found ∙ ap Some (sym s);
-          about = (λ n. asked n && is_it i (r n)) ∙ eq-eqb i i refl;
-          outstanding = t;
-          told = k;
-          not_less = m;
-        }))
+    let asked : asks (said talk p).heard ≡ true = found_is (λ x. asks (said talk x).heard) (outstanding talk j) p q in
+    record {
+      poll = p;
+      command = i;
+      last = l;
+      handed = g.found ∙ ap Some (sym s);
+      about = (λ n. asked n && is_it i (r n)) ∙ eq-eqb i i refl;
+      outstanding = t;
+      told = k;
+      not_less = m;
+    }))
 said_answer c talk j p e g q s o r false t some =
     said_late c talk j (λ st.
-        let about = (asked_of (asks (said talk st.poll).heard) (is_it st.command (polled talk st.poll)) st.about).1 in
-        let poll : st.poll ≡ p = its_poll c talk j e g st ∙ sym s in
-        true≢false (sym (stands_it talk j st.command o (ap (is_it st.command) (sym (ap (polled talk) poll ∙ r)) ∙ about) st.outstanding) ∙ t))
+    let about = (asked_of (asks (said talk st.poll).heard) (is_it st.command (polled talk st.poll)) st.about).1 in
+    let poll : st.poll ≡ p = its_poll c talk j e g st ∙ sym s in
+    true≢false (sym (stands_it talk j st.command o (ap (is_it st.command) (sym (ap (polled talk) poll ∙ r)) ∙ about) st.outstanding) ∙ t))
 
 said_flight : (c : Settings) (talk : Talk) (j p : ℕ) (e : End) (g : Gives c talk j e) → in_flight talk j ≡ Some p → (b : Bool) → nat_eq (reference talk p) e.reference ≡ b → (b ≡ true → still_stands talk j (polled talk p) ≡ true → 1 ≤ told_in c talk p)
     → IsSaid c talk j (news_with (account_at c talk j) e (if b && nat_eq e.code 0x82 then host.told_in e.body else None))
@@ -205,8 +209,8 @@ said_flight c talk j p e g q true n some =
     rw (eq-eqb e.code 0x82 tells.0, tells.1, watch) (said_answer c talk j p e g q same (polled talk p) refl (still_stands talk j (polled talk p)) refl (some refl))
 said_flight c talk j p e g q false n some =
     said_ended c talk j e (λ st.
-        let same : p ≡ g.poll = ap (λ o. unwrap_or o p) (sym q ∙ in_flight_then c talk j e g st) in
-        true≢false (sym (eq-eqb (reference talk p) e.reference (ap (reference talk) same ∙ poll_named c talk j e g)) ∙ n))
+    let same : p ≡ g.poll = ap (λ o. unwrap_or o p) (sym q ∙ in_flight_then c talk j e g st) in
+    true≢false (sym (eq-eqb (reference talk p) e.reference (ap (reference talk) same ∙ poll_named c talk j e g)) ∙ n))
 
 said_with : (c : Settings) (talk : Talk) (j : ℕ) (e : End) (g : Gives c talk j e) (o : Option ℕ) → in_flight talk j ≡ o → ((p : ℕ) → in_flight talk j ≡ Some p → reference talk p ≡ e.reference → still_stands talk j (polled talk p) ≡ true → 1 ≤ told_in c talk p)
     → IsSaid c talk j (news_with (account_at c talk j) e (answered (option_map (watch_at talk j) o) e))

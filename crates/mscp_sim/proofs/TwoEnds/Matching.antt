@@ -1,9 +1,9 @@
 -- What a host and a controller keep of each other stays so, whatever comes.
-use Rattle.std.proofs.Common.{◌≡◌, ⊎_elim, ℕ, suc, ◌+◌, ◌-◌, ◌<◌, ◌≤◌, ◌^◌, Bool, true, false, cond, List, [], ◌∷◌, ◌++◌, map, take, drop, length, refl, ap, sym, ◌∙◌, subst, arith, append_assoc}
-use Rattle.std.specs.Prelude.{find, filter, nat_eq, nat_lt, not, ◌||◌, ◌&&◌, if◌then◌else◌, Option, Some, None, is_some, option_map, option_to_list, slice_get}
-use Rattle.std.specs.List.{AllByRecursion, list_any}
-use Rattle.std.proofs.lemmas.Bool.{eqb-true, eq-eqb, false≢true, true≢false}
-use Rattle.std.proofs.lemmas.List.{length-append, length-map, map-append}
+use Rattle.std.proofs.Common.{◌≡◌, ℕ, suc, ◌+◌, ◌≤◌, Bool, true, false, cond, List, [], ◌∷◌, ◌++◌, map, length, refl, ap, sym, ◌∙◌, subst, arith, append_assoc}
+use Rattle.std.specs.Prelude.{nat_eq, Option, Some, None}
+use Rattle.std.specs.List.{AllByRecursion}
+use Rattle.std.proofs.lemmas.Bool.{eqb-true}
+use Rattle.std.proofs.lemmas.List.{length-append, map-append}
 use Rattle.mscp_packet.specs.declared.command.Command.{Command}
 use Rattle.mscp_packet.specs.declared.end.End.{End}
 use Rattle.mscp_packet.specs.Commands.{opcode_byte}
@@ -16,9 +16,9 @@ use Rattle.mscp_queue.proofs.Lists.{every_append, every_parts, every_weaker}
 use Rattle.mscp_control.specs.Holdings.{Holdings, outstanding_of}
 use Rattle.mscp_host.specs.declared.submission.Submission.{Submission}
 use Rattle.mscp_host.specs.declared.watch.Watch.{Watch}
-use Rattle.mscp_host.specs.Accounts.{Account, has_reference, is_code_of}
-use Rattle.mscp_sim.specs.Matches.{Flight, HasFlight, IsAwaited, IsFlight, IsKnown, IsSmall, Matches, commands, opcode_found, references, times}
-use Rattle.mscp_sim.proofs.Counting.{times_append, opcode_pushed, opcode_new}
+use Rattle.mscp_host.specs.Accounts.{Account, is_code_of}
+use Rattle.mscp_sim.specs.Matches.{Flight, HasFlight, IsAwaited, IsKnown, IsSmall, Matches, commands, opcode_found, references, times}
+use Rattle.mscp_sim.proofs.TwoEnds.Counting.{times_append, opcode_pushed}
 
 -- ---- names
 

@@ -1,8 +1,8 @@
 -- A step, an abort and a command that arrives keep the match of host and controller.
-use Rattle.std.proofs.Common.{◌≡◌, ⊎_elim, ℕ, suc, ◌+◌, ◌-◌, ◌<◌, ◌≤◌, Bool, true, false, cond, List, [], ◌∷◌, ◌++◌, map, take, drop, length, refl, ap, sym, ◌∙◌, subst, arith, append_assoc, append-nil}
-use Rattle.std.specs.Prelude.{find, filter, nat_eq, nat_lt, not, if◌then◌else◌, Option, Some, None, is_some, option_map, option_to_list}
+use Rattle.std.proofs.Common.{◌≡◌, ⊎_elim, ℕ, ◌+◌, ◌<◌, Bool, true, false, cond, List, [], ◌∷◌, ◌++◌, map, take, drop, length, refl, ap, sym, ◌∙◌, subst, arith, append-nil}
+use Rattle.std.specs.Prelude.{find, nat_eq, not, if◌then◌else◌, Option, Some, None, is_some, option_map, option_to_list}
 use Rattle.std.specs.List.{AllByRecursion}
-use Rattle.std.proofs.lemmas.Bool.{eqb-true, eq-eqb, false≢true}
+use Rattle.std.proofs.lemmas.Bool.{eqb-true, false≢true}
 use Rattle.std.proofs.lemmas.List.{length-append, map-append}
 use Rattle.mscp_packet.specs.declared.command.Command.{Command}
 use Rattle.mscp_packet.specs.declared.command.Order.{Order}
@@ -15,23 +15,19 @@ use Rattle.mscp_queue.specs.declared.report.Report.{Report}
 use Rattle.mscp_queue.specs.declared.report.Report.TheVariants as reports
 use Rattle.mscp_queue.specs.declared.drive.Drive.{Drive}
 use Rattle.mscp_queue.specs.declared.view.Choice.{Choice}
-use Rattle.mscp_queue.specs.Kept.{names}
-use Rattle.mscp_queue.specs.Lines.{Line, ServesAt}
-use Rattle.mscp_queue.specs.Names.{end_name}
+use Rattle.mscp_queue.specs.Lines.{Line}
 use Rattle.mscp_queue.specs.Outcomes.{goes_on, outcome_at}
-use Rattle.mscp_queue.specs.Records.{Record, aborted_record, drive_at, fresh_record, has_reference, is_unstarted, left_of, no_record, passed_by, record_at, remains, step_toll, without}
+use Rattle.mscp_queue.specs.Records.{Record, aborted_record, drive_at, fresh_record, has_reference, left_of, no_record, passed_by, record_at, remains, step_toll, without}
 use Rattle.mscp_queue.specs.Serving.{end_given, waiting_after}
 use Rattle.mscp_queue.proofs.Lists.{every_append, every_parts}
 use Rattle.mscp_queue.proofs.Placed.{Found, cut_at, find_cases, find_none, find_first}
-use Rattle.mscp_control.specs.Arrival.{is_queued}
-use Rattle.mscp_control.specs.Holdings.{Holdings, Steps, aborting, answered_end, arrives, ended, ends_reported, line_of, outstanding_of, queued}
+use Rattle.mscp_control.specs.Holdings.{Holdings, Steps, aborting, ended, ends_reported, outstanding_of, queued}
 use Rattle.mscp_host.specs.declared.submission.Submission.{Submission}
-use Rattle.mscp_host.specs.declared.watch.Watch.{Watch}
 use Rattle.mscp_host.specs.Accounts.{Account, is_code_of}
-use Rattle.mscp_sim.specs.Matches.{Flight, HasFlight, IsAwaited, IsCoded, IsFlight, IsKnown, IsSmall, Matches, commands, opcode_found, references, times}
-use Rattle.mscp_sim.proofs.Codes.{aborted_kind, ended_kind, own_kind}
-use Rattle.mscp_sim.proofs.Counting.{opcode_new, times_append}
-use Rattle.mscp_sim.proofs.Matching.{Ends, Pushes, awaited_more, counted_names, ends_match, flight_on, known_more, pushes_match, stays, times_called, times_ends}
+use Rattle.mscp_sim.specs.Matches.{Flight, IsAwaited, IsCoded, IsKnown, IsSmall, Matches, commands, opcode_found, references, times}
+use Rattle.mscp_sim.proofs.TwoEnds.Codes.{aborted_kind, ended_kind}
+use Rattle.mscp_sim.proofs.TwoEnds.Counting.{opcode_new}
+use Rattle.mscp_sim.proofs.TwoEnds.Matching.{Ends, Pushes, awaited_more, counted_names, ends_match, known_more, stays, times_called, times_ends}
 
 -- ---- a step
 

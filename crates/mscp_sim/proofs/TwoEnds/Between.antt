@@ -2,12 +2,12 @@
 use Rattle.std.proofs.Common.{◌≡◌, ◌⊎◌, inl, inr, ⊎_elim, ℕ, zero, suc, ◌+◌, ◌-◌, ◌<◌, ◌≤◌, Bool, true, false, cond, List, [], ◌∷◌, ◌++◌, take, length, refl, ap, sym, ◌∙◌, subst, arith, append-nil}
 use Rattle.std.specs.Prelude.{find, flat_map, nat_eq, nat_lt, not, ◌&&◌, ◌||◌, Contains, Option, Some, None, is_some, option_to_list, unwrap_or}
 use Rattle.std.specs.List.{AllByRecursion, list_any}
-use Rattle.std.proofs.lemmas.Bool.{cases_eq, cases_lt, eqb-true, eq-eqb, false≢true, true≢false}
+use Rattle.std.proofs.lemmas.Bool.{cases_eq, cases_lt, eqb-true, false≢true, true≢false}
 use Rattle.std.proofs.lemmas.Bool.Decides.{nat_tests}
 use Rattle.std.proofs.lemmas.List.{length-append, take_all}
 use Rattle.std.proofs.Math.Seq.{take-append_seam}
 use Rattle.mscp_control.specs.Settings.{Settings}
-use Rattle.mscp_control.specs.History.{Moment, Trace, is_step, last_or, moment, queues}
+use Rattle.mscp_control.specs.History.{Moment, Trace, is_step, moment, queues}
 use Rattle.mscp_control.specs.Commands.{ends_in, is_waiting, reference, sent_command, waiting}
 use Rattle.mscp_control.specs.Figures.{figure, figure_found, figure_of}
 use Rattle.mscp_control.specs.Headline.{Promise}
@@ -22,12 +22,12 @@ use Rattle.mscp_sim.specs.declared.conversing.Turn.TheVariants as turns
 use Rattle.mscp_sim.specs.Talks as talks
 use Rattle.mscp_sim.specs.Talks.{Talk, account_at, answers_of, asks, asks_about, before, ended, hands_over, is_ended, is_it, is_outstanding, last_answer, last_of, outstanding, polled, reference_found, said, sends, told_in, trace_of}
 use Rattle.mscp_sim.specs.TwoEnds.{IsHeard, IsStepTurn, Stands, StepsBetweenPolls}
-use Rattle.mscp_sim.proofs.Counting.{found_is}
-use Rattle.mscp_sim.proofs.Outstanding.{any_more, before_below, found_below, found_stands, outstanding_are}
-use Rattle.mscp_sim.proofs.Receiving.{found_all, outstanding_found}
-use Rattle.mscp_sim.proofs.Singled.{any_before, none_found}
-use Rattle.mscp_sim.proofs.Tracing.{trace_more}
-use Rattle.mscp_sim.proofs.Turning.{Tells}
+use Rattle.mscp_sim.proofs.TwoEnds.Counting.{found_is}
+use Rattle.mscp_sim.proofs.TwoEnds.Outstanding.{any_more, before_below, found_below, found_stands}
+use Rattle.mscp_sim.proofs.TwoEnds.Receiving.{found_all, outstanding_found}
+use Rattle.mscp_sim.proofs.TwoEnds.Singled.{any_before, none_found}
+use Rattle.mscp_sim.proofs.TwoEnds.Tracing.{trace_more}
+use Rattle.mscp_sim.proofs.TwoEnds.Turning.{Tells}
 
 -- what is known of each turn, and of the trace after it
 pub record Known (c : Settings) (talk : Talk) (j : ℕ) : Type 0 where
@@ -130,14 +130,14 @@ order_of c talk j k p q known l m e f a b =
     ⊎_elim
     (λ less. less)
     (λ more. ⊎_elim
-      (λ same. absurd (true≢false (sym stands ∙ (ap (is_outstanding talk j) (sym same) ∙ gone talk j k p m e))))
-      (λ other.
-          let less : q < p = omega (arith, more, other) in
-          let there = outstanding_found talk p q (stood talk p j q (omega (arith, pk, m)) stands) less in
-          let idle = (known p (omega (arith, pk, m, l))).tells.idle a in
-          let silent = found_all (λ x. asks (said talk x).heard ≡ false) _ (outstanding talk p) q (none_found (λ x. asks (said talk x).heard) (outstanding talk p) idle) there in
-          absurd (true≢false (sym b ∙ silent)))
-      (cases_eq p q))
+    (λ same. absurd (true≢false (sym stands ∙ (ap (is_outstanding talk j) (sym same) ∙ gone talk j k p m e))))
+    (λ other.
+    let less : q < p = omega (arith, more, other) in
+    let there = outstanding_found talk p q (stood talk p j q (omega (arith, pk, m)) stands) less in
+    let idle = (known p (omega (arith, pk, m, l))).tells.idle a in
+    let silent = found_all (λ x. asks (said talk x).heard ≡ false) _ (outstanding talk p) q (none_found (λ x. asks (said talk x).heard) (outstanding talk p) idle) there in
+    absurd (true≢false (sym b ∙ silent)))
+    (cases_eq p q))
     (cases_lt p q)
 
 -- ---- figures
@@ -194,17 +194,17 @@ most_moment c t m n g s s' p new way most x w r =
     let inside : x < length t' = waits_below t' x w in
     ⊎_elim
     (λ below.
-        let was : (is_waiting t x && not (ends_in (reference t x) m.1)) ≡ true = sym (is_waiting_before t m x below) ∙ w in
-        let waits = (both_true (is_waiting t x) _ was).0 in
-        let named : reference t x ≡ n = sym (reference_before t m x below) ∙ r in
-        let old = most x waits named in
-        let there = contains_waiting t x waits in
-        let rises = never_rises_at c t m p x there in
-        ⊎_elim (λ same. omega (arith, old, rises, same)) (λ step. let falls = falls_at c t m p step.0 x there in let a = step.1 in let b = step.2 in omega (arith, old, falls, a, b)) way)
+    let was : (is_waiting t x && not (ends_in (reference t x) m.1)) ≡ true = sym (is_waiting_before t m x below) ∙ w in
+    let waits = (both_true (is_waiting t x) _ was).0 in
+    let named : reference t x ≡ n = sym (reference_before t m x below) ∙ r in
+    let old = most x waits named in
+    let there = contains_waiting t x waits in
+    let rises = never_rises_at c t m p x there in
+    ⊎_elim (λ same. omega (arith, old, rises, same)) (λ step. let falls = falls_at c t m p step.0 x there in let a = step.1 in let b = step.2 in omega (arith, old, falls, a, b)) way)
     (λ beyond.
-        let last : x ≡ length t = omega (arith, beyond, inside, size) in
-        let queued : queues m.1 ≡ true = sym (is_waiting_last t m) ∙ (ap (is_waiting t') (sym last) ∙ w) in
-        absurd (new queued (sym (reference_last t m) ∙ (ap (reference t') (sym last) ∙ r))))
+    let last : x ≡ length t = omega (arith, beyond, inside, size) in
+    let queued : queues m.1 ≡ true = sym (is_waiting_last t m) ∙ (ap (is_waiting t') (sym last) ∙ w) in
+    absurd (new queued (sym (reference_last t m) ∙ (ap (reference t') (sym last) ∙ r))))
     (cases_lt x (length t))
 
 -- ---- from poll to poll

@@ -1,41 +1,34 @@
 -- One turn of a talk: what is heard is what a host's rules say of what the talk says so far.
-use Rattle.std.proofs.Common.{◌≡◌, ◌↔◌, ℕ, ◌+◌, ◌<◌, ◌≤◌, ◌^◌, Bool, true, false, List, [], ◌∷◌, ◌++◌, map, take, length, refl, ap, sym, ◌∙◌, subst, arith}
-use Rattle.std.specs.Prelude.{◌≢◌, ◌||◌, cond, find, nat_eq, slice_get, Option, Some, None, is_some, is_ok, option_map, option_to_list, unwrap_or, Result, Ok, Err}
+use Rattle.std.proofs.Common.{◌≡◌, ◌↔◌, ℕ, ◌+◌, ◌<◌, ◌≤◌, Bool, true, false, List, [], ◌∷◌, map, take, length, refl, ap, sym, ◌∙◌, subst}
+use Rattle.std.specs.Prelude.{◌≢◌, ◌||◌, cond, find, nat_eq, Option, Some, None, is_some, unwrap_or, Result, Ok, Err}
 use Rattle.std.specs.List.{list_any}
 use Rattle.std.proofs.lemmas.Bool.{eq-eqb, false≢true, true≢false}
 use Rattle.arrayvec.specs.ArrayVec.{ArrayVec}
 use Rattle.mscp_packet.specs.declared.command.Command.{Command}
-use Rattle.mscp_packet.specs.declared.end.End.{End}
-use Rattle.mscp_packet.specs.Ends.{IsEnd, IsOfKind}
 use Rattle.mscp_queue.specs.declared.block.Block.{Block}
 use Rattle.mscp_queue.specs.declared.view.Choice.{Choice}
 use Rattle.mscp_control.specs.declared.event.Event.TheVariants as events
 use Rattle.mscp_control.specs.declared.event.Entry.TheVariants as entries
-use Rattle.mscp_control.specs.declared.event.Sent.{Sent}
 use Rattle.mscp_control.specs.Settings.{Settings}
 use Rattle.mscp_control.specs.History.{Moment, queues}
 use Rattle.mscp_control.specs.Commands.{sent_command}
 use Rattle.mscp_control.specs.Calls.{AnsweredCalls}
-use Rattle.mscp_control.specs.Holdings.{Answers, Holdings, fresh}
+use Rattle.mscp_control.specs.Holdings.{Holdings, fresh}
 use Rattle.mscp_host.specs.declared.news.HostFault.{HostFault}
 use Rattle.mscp_host.specs.declared.news.News.TheVariants as news
-use Rattle.mscp_host.specs.declared.news.Poll.{Poll}
-use Rattle.mscp_host.specs.declared.news.Poll.TheVariants as polls
 use Rattle.mscp_host.specs.Accounts.{Account, has_reference, submits, submitted}
-use Rattle.mscp_host.specs.Accounts as host
-use Rattle.mscp_sim.specs.declared.conversing.Turn.{Turn}
 use Rattle.mscp_sim.specs.declared.conversing.Turn.TheVariants as turns
 use Rattle.mscp_sim.specs.declared.conversing.Heard.{Heard}
 use Rattle.mscp_sim.specs.declared.conversing.Heard.TheVariants as hears
 use Rattle.mscp_sim.specs.Matches.{Flight, Matches}
 use Rattle.mscp_sim.specs.Talks.{Talk, account_at, asks, asks_about, ended, hands_over, in_flight, is_outstanding, outstanding, reference, said, sends, submission_at, told_in, trace_of}
-use Rattle.mscp_sim.specs.TwoEnds.{IsHeard, IsKeptBack, IsPolled, IsSent, IsSound, IsSubmitted, Meets, Says, Stands}
-use Rattle.mscp_sim.proofs.Accounting.{NoEnd, account_quiet, account_submitted, none_handed}
-use Rattle.mscp_sim.proofs.Polling.{flight_quiet, flight_submitted, one_quiet, one_submitted}
-use Rattle.mscp_sim.proofs.Receiving.{OnePoll, outstanding_found}
-use Rattle.mscp_sim.proofs.Serving.{steps_match}
-use Rattle.mscp_sim.proofs.Submitting.{is_ask, polled_kept, submits_kept, submits_match}
-use Rattle.mscp_sim.proofs.Tracing.{calls_of, reached_more, trace_more}
+use Rattle.mscp_sim.specs.TwoEnds.{IsHeard, IsKeptBack, IsSound, IsSubmitted, Meets, Says, Stands}
+use Rattle.mscp_sim.proofs.TwoEnds.Accounting.{NoEnd, account_quiet, account_submitted, none_handed}
+use Rattle.mscp_sim.proofs.TwoEnds.Polling.{flight_quiet, flight_submitted, one_quiet, one_submitted}
+use Rattle.mscp_sim.proofs.TwoEnds.Receiving.{OnePoll, outstanding_found}
+use Rattle.mscp_sim.proofs.TwoEnds.Serving.{steps_match}
+use Rattle.mscp_sim.proofs.TwoEnds.Submitting.{submits_kept, submits_match}
+use Rattle.mscp_sim.proofs.TwoEnds.Tracing.{calls_of, reached_more, trace_more}
 
 -- what host and controller keep before turn j is what the talk says
 pub record At {K : Type 0} (c : Settings) (picks : List Choice → ℕ → Type 0) (picker : K) (talk : Talk) (j : ℕ) (a : Account) (h : Holdings K) (told : Flight) : Type 0 where
@@ -185,7 +178,7 @@ submit_turn {K} c picks picker talk j a a' h h' told command l s r t (Ok b) e k 
     let silent : asks (said talk j).heard ≡ false = ap asks k.1 in
     let fresh = subst (λ (y : Account). list_any (has_reference command.reference) y.outstanding ≡ false) s.account x.fresh in
     let sent_new : (m : Moment) → (said talk j).moment ≡ Some m → queues m.1 ≡ true → (i : ℕ) → i < j → is_outstanding talk j i ≡ true → (sent_command m).reference ≢ reference talk i = λ m f q i l o e.
-        fresh_number c talk j command.reference i fresh l o ((sym x.named ∙ ap named_in (sym k.2 ∙ f)) ∙ e) in
+    fresh_number c talk j command.reference i fresh l o ((sym x.named ∙ ap named_in (sym k.2 ∙ f)) ∙ e) in
     let same : a' ≡ account_at c talk (j + 1) = x.left ∙ (ap (λ y. submitted y command) s.account ∙ sym (account_submitted c talk j command k.0 n t k.1)) in
     record {
       tells = record { says = heard_at c talk j a a' s.account same r.0; resets = no_news c talk j n (ap is_news k.1); no_lost = not_lost talk j (ap is_news k.1); new = sent_new; idle = never_idle talk j silent; some = none_some c talk j n };

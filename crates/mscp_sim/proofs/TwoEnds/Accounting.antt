@@ -1,8 +1,8 @@
 -- What a host keeps is what the talk so far says: after a turn that hands over no end.
-use Rattle.std.proofs.Common.{◌≡◌, ⊎_elim, ℕ, ◌+◌, ◌<◌, Bool, true, false, cond, List, [], ◌∷◌, ◌++◌, map, refl, ap, sym, ◌∙◌, subst, append-nil}
+use Rattle.std.proofs.Common.{◌≡◌, ℕ, ◌+◌, Bool, true, false, cond, List, [], ◌∷◌, ◌++◌, map, refl, ap, sym, ◌∙◌, append-nil}
 use Rattle.std.specs.Prelude.{filter, find, nat_lt, not, ◌&&◌, ◌||◌, Option, Some, None, is_some, option_map, unwrap_or}
 use Rattle.std.specs.Option.{option_or}
-use Rattle.std.specs.List.{AllByRecursion, list_any}
+use Rattle.std.specs.List.{list_any}
 use Rattle.std.proofs.lemmas.Bool.{false≢true, true≢false}
 use Rattle.std.proofs.lemmas.List.{map-append}
 use Rattle.std.proofs.lemmas.List.Folds.{find-append}
@@ -12,14 +12,13 @@ use Rattle.mscp_queue.proofs.Placed.{map_on}
 use Rattle.mscp_control.specs.Settings.{Settings}
 use Rattle.mscp_control.specs.declared.event.Sent.{Sent}
 use Rattle.mscp_host.specs.declared.submission.Submission.{Submission}
-use Rattle.mscp_host.specs.declared.watch.Watch.{Watch}
-use Rattle.mscp_host.specs.Accounts.{Account, is_immediate, oldest, poll_of, submission_of, submitted, watching}
+use Rattle.mscp_host.specs.Accounts.{is_immediate, oldest, poll_of, submission_of, submitted, watching}
 use Rattle.mscp_sim.specs.declared.conversing.Turn.{Turn}
 use Rattle.mscp_sim.specs.declared.conversing.Turn.TheVariants as turns
 use Rattle.mscp_sim.specs.declared.conversing.Heard.TheVariants as hears
 use Rattle.mscp_sim.specs.Talks.{Talk, account_at, answers_of, asks, before, ended, hands_over, in_flight, is_ended, is_outstanding, last_answer, opcode, opcode_in, outstanding, polled, reference, reference_found, reference_in, said, sends, still_stands, submission_at, unit_found, unit_in, unit_of_turn, watch_at}
-use Rattle.mscp_sim.proofs.Counting.{found_is}
-use Rattle.mscp_sim.proofs.Outstanding.{any_more, ends_now, found_stands, last_same, outstanding_more, stays_if, untold, found_below}
+use Rattle.mscp_sim.proofs.TwoEnds.Counting.{found_is}
+use Rattle.mscp_sim.proofs.TwoEnds.Outstanding.{any_more, ends_now, found_stands, last_same, outstanding_more, untold}
 
 -- ---- nothing is handed over
 

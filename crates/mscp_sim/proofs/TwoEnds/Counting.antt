@@ -1,5 +1,5 @@
 -- How often a reference number stands in a list, and the submission of a reference number.
-use Rattle.std.proofs.Common.{◌≡◌, ⊎_elim, ℕ, ◌+◌, ◌<◌, ◌≤◌, ◌-◌, Bool, true, false, cond, List, [], ◌∷◌, ◌++◌, map, length, refl, ap, sym, ◌∙◌, subst, arith}
+use Rattle.std.proofs.Common.{◌≡◌, ℕ, ◌+◌, Bool, true, false, cond, List, [], ◌∷◌, ◌++◌, length, refl, ap, sym, ◌∙◌, subst, arith}
 use Rattle.std.specs.Prelude.{find, nat_eq, nat_lt, ◌||◌, Option, Some, None, option_map, is_some}
 use Rattle.std.specs.List.{AllByRecursion, list_any}
 use Rattle.std.proofs.lemmas.Bool.{eqb-true, eq-eqb, false≢true}
@@ -36,7 +36,7 @@ pub times_without : (r n : ℕ) (xs : List Submission) (s : Submission) → find
 times_without r n [] s e = absurd (false≢true (ap is_some e))
 times_without r n (x ∷ xs) s e =
     let out : (b : Bool) → nat_eq x.reference n ≡ b → cond b (Some x) (find (has_reference n) xs) ≡ Some s
-        → times r (references (x ∷ xs)) ≡ times r (n ∷ []) + times r (references (cond b xs (x ∷ without n xs))) =
+    → times r (references (x ∷ xs)) ≡ times r (n ∷ []) + times r (references (cond b xs (x ∷ without n xs))) =
     λ b. elim b as (λ b. nat_eq x.reference n ≡ b → cond b (Some x) (find (has_reference n) xs) ≡ Some s → times r (references (x ∷ xs)) ≡ times r (n ∷ []) + times r (references (cond b xs (x ∷ without n xs)))) [
       | true ↦ λ q f. rw (eqb-true x.reference n q) (times_append r (n ∷ []) (references xs))
       | false ↦ λ q f.

@@ -1,14 +1,11 @@
 -- The controller's trace is that of the calls that came to it, and what that promises.
-use Rattle.std.proofs.Common.{◌≡◌, ◌↔◌, ℕ, suc, ◌+◌, ◌<◌, ◌≤◌, Bool, true, false, cond, List, [], ◌∷◌, ◌++◌, map, take, length, get_or, refl, ap, sym, ◌∙◌, subst, arith, append-nil}
-use Rattle.std.specs.Prelude.{find, flat_map, nat_eq, ◌||◌, zip, Contains, Option, Some, None, is_some, option_map, option_to_list, unwrap_or}
+use Rattle.std.proofs.Common.{◌≡◌, ◌↔◌, ℕ, suc, ◌+◌, ◌<◌, ◌≤◌, Bool, true, false, cond, List, [], ◌∷◌, ◌++◌, map, take, length, refl, ap, sym, ◌∙◌, subst, arith, append-nil}
+use Rattle.std.specs.Prelude.{find, nat_eq, ◌||◌, zip, Contains, Option, Some, None, option_to_list}
 use Rattle.std.specs.List.{list_any}
 use Rattle.std.proofs.lemmas.Bool.{false≢true}
 use Rattle.std.proofs.lemmas.Grind.{flat_map-append}
 use Rattle.std.proofs.lemmas.List.{map-append, take_more, take_all}
 use Rattle.mscp_queue.specs.declared.view.Choice.{Choice}
-use Rattle.mscp_queue.specs.Figures.{figure_of_reference}
-use Rattle.mscp_queue.specs.Kept.{names}
-use Rattle.mscp_queue.specs.Names.{Name, same_name}
 use Rattle.mscp_control.specs.declared.event.Event.{Event}
 use Rattle.mscp_control.specs.declared.event.Entry.{Entry}
 use Rattle.mscp_control.specs.Settings.{Settings}
@@ -16,11 +13,10 @@ use Rattle.mscp_control.specs.History.{Moment, Trace}
 use Rattle.mscp_control.specs.Commands.{name, waiting}
 use Rattle.mscp_control.specs.Figures.{figure, figure_found, figure_of}
 use Rattle.mscp_control.specs.Headline.{Promise}
-use Rattle.mscp_control.specs.Holdings.{Answered, Answers, Holdings, fresh}
+use Rattle.mscp_control.specs.Holdings.{Answered, Holdings}
 use Rattle.mscp_control.specs.Calls.{AnsweredCalls, AnswersCall, Call, Plain, history}
-use Rattle.mscp_host.specs.Accounts.{Account}
 use Rattle.mscp_sim.specs.Talks.{Said, Talk, said, trace_of}
-use Rattle.mscp_sim.specs.TwoEnds.{Converses, Meets}
+use Rattle.mscp_sim.specs.TwoEnds.{Meets}
 
 -- the calls of a trace
 abbrev pub calls_of : Trace → List Call

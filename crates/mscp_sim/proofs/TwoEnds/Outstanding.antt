@@ -1,15 +1,15 @@
 -- Which commands are outstanding, and what was told of them, after one more turn.
-use Rattle.std.proofs.Common.{◌≡◌, ⊎_elim, ℕ, suc, ◌+◌, ◌-◌, ◌<◌, ◌≤◌, Bool, true, false, cond, List, [], ◌∷◌, ◌++◌, map, length, refl, ap, sym, ◌∙◌, subst, arith, append-nil}
-use Rattle.std.specs.Prelude.{filter, find, flat_map, nat_eq, nat_lt, not, ◌&&◌, ◌||◌, if◌then◌else◌, Option, Some, None, is_some, option_map, option_to_list, unwrap_or}
-use Rattle.std.specs.List.{AllByRecursion, list_any, range_with_len}
-use Rattle.std.proofs.lemmas.Bool.{false≢true, true≢false}
+use Rattle.std.proofs.Common.{◌≡◌, ℕ, ◌+◌, ◌<◌, ◌≤◌, Bool, true, false, cond, List, [], ◌∷◌, ◌++◌, refl, ap, sym, ◌∙◌, subst, arith, append-nil}
+use Rattle.std.specs.Prelude.{filter, find, flat_map, nat_lt, not, ◌&&◌, ◌||◌, Option, Some, None, is_some, unwrap_or}
+use Rattle.std.specs.List.{AllByRecursion, list_any}
+use Rattle.std.proofs.lemmas.Bool.{false≢true}
 use Rattle.std.proofs.lemmas.Bool.Decides.{nat_tests}
 use Rattle.std.proofs.lemmas.Grind.{flat_map-append}
-use Rattle.std.proofs.lemmas.List.Folds.{list_any-append, find-append}
-use Rattle.mscp_queue.proofs.Lists.{every_kept, every_parts, every_weaker, filter_all, filter_filter, filter_on, range_below, range_more}
+use Rattle.std.proofs.lemmas.List.Folds.{list_any-append}
+use Rattle.mscp_queue.proofs.Lists.{every_kept, every_weaker, filter_filter, filter_on, range_below, range_more}
 use Rattle.mscp_control.specs.Settings.{Settings}
-use Rattle.mscp_control.specs.History.{Moment, last_or}
-use Rattle.mscp_sim.specs.Talks.{Talk, answers_about, answers_of, asks, asks_about, before, ended, hands_over, in_flight, is_ended, is_it, is_outstanding, last_answer, last_of, outstanding, polled, reference, said, sends, still_stands, told_in}
+use Rattle.mscp_control.specs.History.{last_or}
+use Rattle.mscp_sim.specs.Talks.{Talk, answers_about, answers_of, asks, before, ended, hands_over, is_ended, is_it, is_outstanding, last_answer, last_of, outstanding, polled, reference, said, sends, told_in}
 
 -- ---- one more turn
 

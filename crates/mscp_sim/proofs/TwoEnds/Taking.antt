@@ -1,6 +1,6 @@
 -- What a turn in which an end is handed over leaves, and one in which there is none.
-use Rattle.std.proofs.Common.{◌≡◌, ℕ, true, false, List, [], ◌∷◌, drop, refl, ap, sym, ◌∙◌, subst}
-use Rattle.std.specs.Prelude.{option_map, Option, Some, None, is_some, is_ok, slice_get, unwrap_or, IfSome, Result, Ok, Err}
+use Rattle.std.proofs.Common.{◌≡◌, ℕ, List, [], ◌∷◌, drop, refl, ap, sym, ◌∙◌, subst}
+use Rattle.std.specs.Prelude.{option_map, Option, Some, None, is_some, slice_get, unwrap_or, Result, Ok}
 use Rattle.std.proofs.lemmas.Bool.{false≢true, true≢false}
 use Rattle.std.specs.List.{AllByRecursion}
 use Rattle.arrayvec.specs.ArrayVec.{ArrayVec}
@@ -14,7 +14,7 @@ use Rattle.mscp_host.specs.declared.news.News.{News}
 use Rattle.mscp_host.specs.declared.news.HostFault.{HostFault}
 use Rattle.mscp_host.specs.Accounts.{Account, answered, heard, news_with, received}
 use Rattle.mscp_sim.specs.Matches.{Flight, IsAwaited, Matches}
-use Rattle.mscp_sim.proofs.Handing.{first_heard, received_match}
+use Rattle.mscp_sim.proofs.TwoEnds.Handing.{first_heard, received_match}
 
 -- an end as bytes
 abbrev end_of : Option End → Option (ArrayVec ℕ)

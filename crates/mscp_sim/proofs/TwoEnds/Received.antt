@@ -1,27 +1,19 @@
 -- A whole turn: what the host keeps is what the talk says, and at most one poll is outstanding.
-use Rattle.std.proofs.Common.{◌≡◌, ℕ, ◌+◌, ◌<◌, ◌≤◌, Bool, true, false, cond, List, [], ◌∷◌, ◌++◌, map, refl, ap, sym, ◌∙◌, subst, arith}
-use Rattle.std.specs.Prelude.{filter, find, nat_eq, nat_lt, not, ◌&&◌, if◌then◌else◌, Option, Some, None, is_some, option_map, unwrap_or}
+use Rattle.std.proofs.Common.{◌≡◌, ℕ, ◌+◌, ◌<◌, ◌≤◌, Bool, true, false, map, refl, ap, sym, ◌∙◌, subst, arith}
+use Rattle.std.specs.Prelude.{filter, find, nat_eq, not, ◌&&◌, if◌then◌else◌, Option, Some, None, is_some, option_map, unwrap_or}
 use Rattle.std.specs.List.{AllByRecursion}
-use Rattle.std.proofs.lemmas.Bool.{eqb-true, eq-eqb, false≢true, true≢false}
-use Rattle.std.proofs.lemmas.Bool.Decides.{nat_tests}
-use Rattle.mscp_packet.specs.declared.command.Command.{Command}
+use Rattle.std.proofs.lemmas.Bool.{false≢true, true≢false}
 use Rattle.mscp_packet.specs.declared.end.End.{End}
-use Rattle.mscp_queue.proofs.Lists.{every_append, every_filter, every_weaker}
+use Rattle.mscp_queue.proofs.Lists.{every_filter, every_weaker}
 use Rattle.mscp_queue.proofs.Placed.{filter_map_of}
 use Rattle.mscp_control.specs.Settings.{Settings}
-use Rattle.mscp_control.specs.declared.event.Sent.{Sent}
-use Rattle.mscp_host.specs.declared.submission.Submission.{Submission}
 use Rattle.mscp_host.specs.declared.watch.Watch.{Watch}
-use Rattle.mscp_host.specs.Accounts.{Account, answered, outstanding_with, received, watch_after, without}
-use Rattle.mscp_sim.specs.declared.conversing.Turn.TheVariants as turns
-use Rattle.mscp_sim.specs.declared.conversing.Heard.TheVariants as hears
+use Rattle.mscp_host.specs.Accounts.{answered, outstanding_with, received, watch_after, without}
 use Rattle.mscp_sim.specs.Matches.{references, times}
-use Rattle.mscp_sim.specs.Talks.{Talk, account_at, asks, in_flight, is_outstanding, outstanding, polled, reference, reference_found, said, sends, still_stands, submission_at, watch_at}
-use Rattle.mscp_sim.proofs.Accounting.{NoEnd}
-use Rattle.mscp_sim.proofs.Counting.{found_is}
-use Rattle.mscp_sim.proofs.Outstanding.{found_below, outstanding_more, stays_if}
-use Rattle.mscp_sim.proofs.Receiving.{Gives, OnePoll, all_told, keep, once_at, outs_after, references_at}
-use Rattle.mscp_sim.proofs.Singled.{find_kept, find_none_kept, flip, none_found, without_kept}
+use Rattle.mscp_sim.specs.Talks.{Talk, account_at, asks, in_flight, is_outstanding, outstanding, polled, reference, reference_found, said, still_stands, submission_at, watch_at}
+use Rattle.mscp_sim.proofs.TwoEnds.Outstanding.{found_below, stays_if}
+use Rattle.mscp_sim.proofs.TwoEnds.Receiving.{Gives, OnePoll, all_told, keep, once_at, outs_after, references_at}
+use Rattle.mscp_sim.proofs.TwoEnds.Singled.{find_kept, find_none_kept, flip, none_found, without_kept}
 
 and_no : (b : Bool) → (b && false) ≡ false
 and_no true = refl
@@ -92,7 +84,7 @@ watch_left c talk j e None g q = ap (option_map (watch_at talk (j + 1))) (flight
 watch_left c talk j e (Some p) g q =
     let w = watch_at talk j p in
     let both : (b : Bool) → nat_eq (reference talk p) e.reference ≡ b
-        → option_map (watch_at talk (j + 1)) (in_flight talk (j + 1)) ≡ (if b then None else (if nat_eq w.polled e.reference then Some (record w { stands = false }) else Some w)) =
+    → option_map (watch_at talk (j + 1)) (in_flight talk (j + 1)) ≡ (if b then None else (if nat_eq w.polled e.reference then Some (record w { stands = false }) else Some w)) =
     λ b. elim b as (λ b. nat_eq (reference talk p) e.reference ≡ b → option_map (watch_at talk (j + 1)) (in_flight talk (j + 1)) ≡ (if b then None else (if nat_eq w.polled e.reference then Some (record w { stands = false }) else Some w))) [
       | true ↦ λ n. ap (option_map (watch_at talk (j + 1))) (flight_gone c talk j e p g q n)
       | false ↦ λ n. ap (option_map (watch_at talk (j + 1))) (flight_kept c talk j e p g q n) ∙ stands_after c talk j e p (polled talk p) g (found_below talk j p _ q) (λ i f. found_below talk p i _ f)

@@ -1,21 +1,19 @@
 -- A turn in which the host polls.
-use Rattle.std.proofs.Common.{◌≡◌, ℕ, ◌+◌, ◌<◌, ◌≤◌, ◌^◌, Bool, true, false, List, map, take, length, refl, ap, sym, ◌∙◌, subst}
-use Rattle.std.specs.Prelude.{◌≢◌, nat_eq, Option, Some, None, is_some, unwrap_or, Result, Ok, Err}
+use Rattle.std.proofs.Common.{◌≡◌, ℕ, ◌+◌, ◌<◌, ◌≤◌, true, false, List, map, take, length, refl, ap, sym, ◌∙◌, subst}
+use Rattle.std.specs.Prelude.{◌≢◌, nat_eq, Some, None, is_some, unwrap_or, Result, Ok, Err}
 use Rattle.std.specs.List.{list_any}
-use Rattle.arrayvec.specs.ArrayVec.{ArrayVec}
 use Rattle.mscp_queue.specs.declared.view.Choice.{Choice}
 use Rattle.mscp_queue.specs.Figures.{figure_of_reference}
 use Rattle.mscp_queue.specs.Kept.{names}
 use Rattle.mscp_control.specs.declared.event.Event.TheVariants as events
 use Rattle.mscp_control.specs.declared.event.Entry.TheVariants as entries
 use Rattle.mscp_control.specs.Settings.{Settings, IsValid}
-use Rattle.mscp_control.specs.Calls.{AnsweredCalls, history}
 use Rattle.mscp_control.specs.Commands.{name, sent_command, waiting}
 use Rattle.mscp_control.specs.Controllers.{ControllersKeepThePromise, KeepsPromise}
 use Rattle.mscp_control.specs.Figures.{figure_of}
 use Rattle.mscp_control.specs.Headline.{Promise}
 use Rattle.mscp_control.specs.History.{Moment, Trace, queues}
-use Rattle.mscp_control.specs.Holdings.{Holdings, fresh}
+use Rattle.mscp_control.specs.Holdings.{Holdings}
 use Rattle.mscp_host.specs.declared.news.HostFault.{HostFault}
 use Rattle.mscp_host.specs.declared.news.Poll.{Poll}
 use Rattle.mscp_host.specs.declared.news.Poll.TheVariants as polls
@@ -27,12 +25,12 @@ use Rattle.mscp_sim.specs.Matches.{Flight, Matches}
 use Rattle.mscp_sim.specs.Talks as talks
 use Rattle.mscp_sim.specs.Talks.{Talk, account_at, asks, in_flight, is_outstanding, reference, reference_found, said, sends, told_in, trace_of}
 use Rattle.mscp_sim.specs.TwoEnds.{IsPolled, IsSound, Meets, Says}
-use Rattle.mscp_sim.proofs.Accounting.{account_asked, no_flight, polls_of}
-use Rattle.mscp_sim.proofs.Polling.{flight_asked, one_asked}
-use Rattle.mscp_sim.proofs.Sending.{told_now}
-use Rattle.mscp_sim.proofs.Submitting.{asks_match, polled_kept}
-use Rattle.mscp_sim.proofs.Tracing.{calls_of, history_of, some_figure}
-use Rattle.mscp_sim.proofs.Turning.{At, Turns, fresh_number, heard_at, is_news, kept_back, named_in, no_end, no_news, none_some, not_lost, reached_next}
+use Rattle.mscp_sim.proofs.TwoEnds.Accounting.{account_asked, no_flight, polls_of}
+use Rattle.mscp_sim.proofs.TwoEnds.Polling.{flight_asked, one_asked}
+use Rattle.mscp_sim.proofs.TwoEnds.Sending.{told_now}
+use Rattle.mscp_sim.proofs.TwoEnds.Submitting.{asks_match, polled_kept}
+use Rattle.mscp_sim.proofs.TwoEnds.Tracing.{calls_of, history_of, some_figure}
+use Rattle.mscp_sim.proofs.TwoEnds.Turning.{At, Turns, fresh_number, heard_at, is_news, kept_back, named_in, no_end, no_news, none_some, not_lost, reached_next}
 
 -- what the controller tells now of a number
 figure_now : {K : Type 0} (c : Settings) (picks : List Choice → ℕ → Type 0) (t : Trace) (h : Holdings K) (s : Submission) → KeepsPromise picks c (calls_of t) h → (told_now h s).figure ≡ figure_of c t s.reference
@@ -65,7 +63,7 @@ poll_turn {K} c picks picker talk j a a' h h' told r v law l s p t (Ok (polls.As
     let same : a' ≡ account_at c talk (j + 1) = x.left ∙ (ap (λ y. watching y r x.about) s.account ∙ sym (account_asked c talk j r x.about n t k.1 idle first)) in
     let fresh = subst (λ (y : Account). list_any (has_reference r) y.outstanding ≡ false) s.account x.fresh in
     let sent_new : (m : Moment) → (said talk j).moment ≡ Some m → queues m.1 ≡ true → (i : ℕ) → i < j → is_outstanding talk j i ≡ true → (sent_command m).reference ≢ reference talk i = λ m f q i l o e.
-        fresh_number c talk j r i fresh l o ((sym x.named ∙ ap named_in (sym k.2 ∙ f)) ∙ e) in
+    fresh_number c talk j r i fresh l o ((sym x.named ∙ ap named_in (sym k.2 ∙ f)) ∙ e) in
     let keeps = law c (calls_of (trace_of (take j talk))) h v s.reached in
     let now : (told_now h x.about).figure ≡ told_in c talk j = figure_now c picks (trace_of (take j talk)) h x.about keeps ∙ ap (figure_of c (trace_of (take j talk))) number in
     record {

@@ -1,6 +1,6 @@
 -- What a turn in which the host submits, or polls, leaves.
 use Rattle.std.proofs.Common.{◌≡◌, ℕ, ◌<◌, ◌^◌, Bool, true, false, List, refl, ap, sym, ◌∙◌, subst}
-use Rattle.std.specs.Prelude.{not, find, Option, Some, None, is_some, is_ok, Result, Ok, Err, if◌then◌else◌}
+use Rattle.std.specs.Prelude.{Option, Some, None, is_some, is_ok, Result, Ok, Err, if◌then◌else◌}
 use Rattle.std.specs.List.{list_any}
 use Rattle.std.proofs.lemmas.Bool.{false≢true, true≢false}
 use Rattle.arrayvec.specs.ArrayVec.{ArrayVec}
@@ -13,7 +13,7 @@ use Rattle.mscp_host.specs.declared.news.Poll.TheVariants as polls
 use Rattle.mscp_host.specs.declared.submission.Submission.{Submission}
 use Rattle.mscp_host.specs.Accounts.{Account, asks, asks_unless, has_reference, oldest, poll_of, polled, refusal, submits, submits_unless, submitted, watching}
 use Rattle.mscp_sim.specs.Matches.{Flight, Match, Matches}
-use Rattle.mscp_sim.proofs.Sending.{TakesIn, carries, free, polled_match, same_reference, submitted_match, told_now}
+use Rattle.mscp_sim.proofs.TwoEnds.Sending.{carries, free, polled_match, same_reference, submitted_match, told_now}
 
 -- ---- what was answered
 

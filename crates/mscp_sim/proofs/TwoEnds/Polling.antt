@@ -1,16 +1,16 @@
 -- At most one poll is outstanding, after a turn that hands over no end.
-use Rattle.std.proofs.Common.{◌≡◌, ℕ, ◌+◌, Bool, true, false, cond, List, [], ◌∷◌, ◌++◌, refl, ap, sym, ◌∙◌, subst, append-nil}
-use Rattle.std.specs.Prelude.{filter, find, not, Option, Some, None, is_some, option_map}
+use Rattle.std.proofs.Common.{◌≡◌, ℕ, ◌+◌, Bool, true, false, cond, [], ◌∷◌, ◌++◌, refl, ap, sym, ◌∙◌, subst, append-nil}
+use Rattle.std.specs.Prelude.{find, Option, Some, None, is_some}
 use Rattle.std.specs.Option.{option_or}
 use Rattle.std.specs.List.{AllByRecursion}
 use Rattle.std.proofs.lemmas.Bool.{false≢true, true≢false}
 use Rattle.std.proofs.lemmas.List.Folds.{find-append}
 use Rattle.mscp_queue.proofs.Lists.{every_append, every_weaker}
 use Rattle.mscp_sim.specs.Talks.{Talk, asks, in_flight, outstanding, said, sends}
-use Rattle.mscp_sim.proofs.Accounting.{NoEnd, all_stay, outs_sent}
-use Rattle.mscp_sim.proofs.Outstanding.{outstanding_more}
-use Rattle.mscp_sim.proofs.Receiving.{OnePoll}
-use Rattle.mscp_sim.proofs.Singled.{none_found}
+use Rattle.mscp_sim.proofs.TwoEnds.Accounting.{NoEnd, all_stay, outs_sent}
+use Rattle.mscp_sim.proofs.TwoEnds.Outstanding.{outstanding_more}
+use Rattle.mscp_sim.proofs.TwoEnds.Receiving.{OnePoll}
+use Rattle.mscp_sim.proofs.TwoEnds.Singled.{none_found}
 
 abbrev asking : Talk → ℕ → Bool
 asking talk p = asks (said talk p).heard

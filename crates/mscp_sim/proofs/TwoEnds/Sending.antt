@@ -1,32 +1,27 @@
 -- What a host sends the controller takes in, and the match is kept.
-use Rattle.std.proofs.Common.{◌≡◌, ⊎_elim, ℕ, suc, ◌+◌, ◌-◌, ◌<◌, ◌≤◌, ◌^◌, Bool, true, false, cond, List, [], ◌∷◌, ◌++◌, map, length, refl, ap, sym, ◌∙◌, subst, arith, append-nil}
-use Rattle.std.specs.Prelude.{find, nat_eq, nat_lt, not, ◌&&◌, ◌||◌, ◌==◌, if◌then◌else◌, slice_index, Option, Some, None, is_some, option_map, unwrap_or, Result, Ok, Err}
+use Rattle.std.proofs.Common.{◌≡◌, ℕ, ◌+◌, ◌-◌, ◌<◌, ◌^◌, Bool, true, false, cond, List, [], ◌∷◌, ◌++◌, map, length, refl, ap, sym, ◌∙◌, subst, arith, append-nil}
+use Rattle.std.specs.Prelude.{find, nat_eq, nat_lt, not, ◌&&◌, ◌||◌, if◌then◌else◌, slice_index, Option, Some, None, is_some, unwrap_or, Ok}
 use Rattle.std.specs.List.{AllByRecursion, list_any}
 use Rattle.std.proofs.lemmas.List.Folds.{list_any-append}
-use Rattle.std.proofs.lemmas.Bool.{eqb-true, eq-eqb, false≢true, true≢false}
+use Rattle.std.proofs.lemmas.Bool.{eq-eqb, false≢true, true≢false}
 use Rattle.std.proofs.lemmas.Bool.Decides.{nat_tests}
 use Rattle.mscp_packet.specs.declared.class.Class.{Class}
 use Rattle.mscp_packet.specs.declared.class.Class.TheVariants as classes
 use Rattle.mscp_packet.specs.declared.command.Command.{Command}
-use Rattle.mscp_packet.specs.declared.command.Order.{Order}
 use Rattle.mscp_packet.specs.declared.command.Order.TheVariants as orders
 use Rattle.mscp_packet.specs.declared.end.End.{End}
-use Rattle.mscp_packet.specs.declared.end.EndBody.TheVariants as bodies
-use Rattle.mscp_packet.specs.Commands.{HasCommandRange, IsCommand, IsValidOrder, command_bytes, command_of, opcode_byte, order_with}
+use Rattle.mscp_packet.specs.Commands.{HasCommandRange, IsCommand, IsValidOrder, command_bytes, command_of, opcode_byte}
 use Rattle.mscp_packet.specs.Number.{num}
-use Rattle.mscp_packet.specs.Opcodes.{class, opcode_of}
+use Rattle.mscp_packet.specs.Opcodes.{class}
 use Rattle.mscp_packet.proofs.Commands.{command_bytes_are_messages, command_read}
 use Rattle.mscp_packet.proofs.Kept.{opcode_kept}
-use Rattle.mscp_packet.proofs.Numbers.{two, four}
+use Rattle.mscp_packet.proofs.Numbers.{four}
 use Rattle.mscp_queue.specs.Kept.{names}
 use Rattle.mscp_queue.specs.Names.{end_name}
 use Rattle.mscp_queue.specs.Figures.{figure_of_reference}
-use Rattle.mscp_control.specs.declared.event.SendFault.{SendFault}
-use Rattle.mscp_control.specs.declared.event.SendFault.TheVariants as sends
 use Rattle.mscp_control.specs.Arrival as arrival
 use Rattle.mscp_control.specs.Arrival.{credit_fault, fault_of, holds, is_queued, refusal}
 use Rattle.mscp_control.specs.Holdings.{Holdings, aborting, after_message, answer_to_message, answered_end, arrives, balance_of, ended, outstanding_of, queued, taken_as}
-use Rattle.mscp_host.specs.declared.news.HostFault.{HostFault}
 use Rattle.mscp_host.specs.declared.news.HostFault.TheVariants as faults
 use Rattle.mscp_host.specs.declared.submission.Submission.{Submission}
 use Rattle.mscp_host.specs.declared.watch.Watch.{Watch}
@@ -36,10 +31,10 @@ use Rattle.mscp_queue.specs.Orders.{endcode}
 use Rattle.mscp_host.specs.Accounts as host
 use Rattle.mscp_host.specs.Accounts.{Account, balance, has_reference, is_code_of, is_immediate, poll_of, submission_of, submitted, watching}
 use Rattle.mscp_sim.specs.Matches.{Flight, HasFlight, IsCoded, IsSmall, Matches, references, times}
-use Rattle.mscp_sim.proofs.Codes.{coded, own_kind}
-use Rattle.mscp_sim.proofs.Counting.{any_alike, has_any}
-use Rattle.mscp_sim.proofs.Matching.{flight_on, pushes_match}
-use Rattle.mscp_sim.proofs.Serving.{aborting_matches, ended_pushes, queued_pushes}
+use Rattle.mscp_sim.proofs.TwoEnds.Codes.{coded, own_kind}
+use Rattle.mscp_sim.proofs.TwoEnds.Counting.{any_alike, has_any}
+use Rattle.mscp_sim.proofs.TwoEnds.Matching.{flight_on, pushes_match}
+use Rattle.mscp_sim.proofs.TwoEnds.Serving.{aborting_matches, ended_pushes, queued_pushes}
 
 -- ---- the message of a command
 
