@@ -20,3 +20,4 @@ pub mod Asking
 pub mod News
 pub mod Between
 pub mod Talked
+mod Worked
