@@ -1,0 +1,5 @@
+pub mod Given
+pub mod Made
+pub mod Served
+pub mod Statuses
+pub mod Told

@@ -1,0 +1,54 @@
+// What a call tells a program in C, as plain numbers.
+
+/// What became of a message: its reference number, and that of the command which it aborted, if it did.
+#[repr(C)]
+#[derive(Clone, Copy)]
+pub struct SentOut {
+    pub reference: u32,
+    pub aborted: u32,
+    pub has_aborted: bool,
+}
+
+/// The bytes of a message or an end, from the first on.
+#[repr(C)]
+#[derive(Drop)]
+pub struct PacketOut {
+    pub length: u32,
+    pub bytes: [u8; 48],
+}
+
+/// What the next step serves.
+#[repr(C)]
+#[derive(Clone, Copy)]
+pub struct UpcomingOut {
+    pub reference: u32,
+    pub bytes: u32,
+    pub lbn: u32,
+    pub done: u32,
+    pub weight: u32,
+    pub unit: u16,
+    pub opcode: u8,
+    pub touches: bool,
+}
+
+/// What a step did.
+#[repr(C)]
+#[derive(Clone, Copy)]
+pub struct ReportOut {
+    pub reference: u32,
+    pub lbn: u32,
+    pub seek: u32,
+    pub unit: u16,
+    pub status: u16,
+    pub touched: bool,
+    pub started: bool,
+    pub ended: bool,
+}
+
+/// A waiting command's reference number and figure.
+#[repr(C)]
+#[derive(Clone, Copy)]
+pub struct FigureOut {
+    pub reference: u32,
+    pub figure: u32,
+}
