@@ -1,4 +1,5 @@
 pub mod Given
+pub mod Hosted
 pub mod Made
 pub mod Served
 pub mod Statuses

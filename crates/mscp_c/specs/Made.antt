@@ -1,8 +1,7 @@
 -- What comes of an init.
-use Rattle.std.specs.Prelude.{◌≡◌, ℕ, ℤ, List, Option, Some, None, Result, Ok, Err}
-use Rattle.mscp_drive.specs.Shape.{Shape}
+use Rattle.std.specs.Prelude.{◌≡◌, ℕ, ℤ, List, Some, None, Result, Ok, Err}
 use Rattle.mscp_control.specs.Holdings.{fresh}
-use Rattle.mscp_control.specs.Settings.{IsValid, configured}
+use Rattle.mscp_control.specs.Settings.{configured}
 use Rattle.mscp_memory.specs.declared.controller.handle.Handle.{Handle}
 use Rattle.mscp_memory.specs.declared.policy.Policy.{Policy}
 use Rattle.mscp_memory.specs.ControllerHandles.{placed, room_fault}

@@ -8,6 +8,8 @@ use Rattle.mscp_control.specs.declared.config.ConfigFault.{ConfigFault}
 use Rattle.mscp_control.specs.declared.config.ConfigFault.TheVariants as limits
 use Rattle.mscp_control.specs.declared.event.SendFault.{SendFault}
 use Rattle.mscp_control.specs.declared.event.SendFault.TheVariants as sends
+use Rattle.mscp_host.specs.declared.news.HostFault.{HostFault}
+use Rattle.mscp_host.specs.declared.news.HostFault.TheVariants as hosts
 use Rattle.mscp_memory.specs.declared.fault.RoomFault.{RoomFault}
 use Rattle.mscp_memory.specs.declared.fault.RoomFault.TheVariants as rooms
 use Rattle.mscp_c.specs.declared.status.TheConstants as status
@@ -47,3 +49,12 @@ send_fault_code sends.Long = status.LONG
 send_fault_code sends.NoCredit = status.NO_CREDIT
 send_fault_code sends.LastCredit = status.LAST_CREDIT
 send_fault_code sends.Doubled = status.DOUBLED
+
+-- of what a host refuses
+abbrev pub host_code : HostFault → ℤ
+host_code hosts.Credits = status.BAD_CREDITS
+host_code hosts.NoCredit = status.NO_CREDIT
+host_code hosts.LastCredit = status.LAST_CREDIT
+host_code hosts.Doubled = status.DOUBLED
+host_code hosts.Unreadable = status.UNREADABLE
+host_code hosts.Unknown = status.UNKNOWN

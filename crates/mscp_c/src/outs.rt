@@ -52,3 +52,15 @@ pub struct FigureOut {
     pub reference: u32,
     pub figure: u32,
 }
+
+/// What a received end says: of a command that ended its end, and of a poll the figure. The rest is 0.
+#[repr(C)]
+#[derive(Clone, Copy)]
+pub struct NewsOut {
+    pub figure: u32,
+    pub reference: u32,
+    pub moved: u32,
+    pub unit: u16,
+    pub status: u16,
+    pub code: u8,
+}

@@ -16,10 +16,10 @@ use mscp_memory::controller::{Handle, is_made, lend};
 pub extern "C" fn mscp_look(handle: &mut Handle, out: &mut [FigureOut]) -> i32
     ensures count { is_made handle.old ≡ true
         → result ≡ pos (length (figures handle.old.held.settings.passing handle.old.held.settings.longest
-            handle.old.held.waiting)) }
+        handle.old.held.waiting)) }
     ensures told { is_made handle.old ≡ true
         → out.new ≡ figures_told
-            (figures handle.old.held.settings.passing handle.old.held.settings.longest handle.old.held.waiting) out.old }
+        (figures handle.old.held.settings.passing handle.old.held.settings.longest handle.old.held.waiting) out.old }
     ensures same { handle.new ≡ handle.old }
     ensures unmade { is_made handle.old ≡ false → (result ≡ NOT_MADE) × (out.new ≡ out.old) }
 {
@@ -36,7 +36,7 @@ pub extern "C" fn mscp_look(handle: &mut Handle, out: &mut [FigureOut]) -> i32
 pub extern "C" fn mscp_figure(handle: &mut Handle, reference: u32) -> i64
     ensures value { is_made handle.old ≡ true
         → result ≡ pos (figure_of_reference handle.old.held.settings.passing handle.old.held.settings.longest
-            handle.old.held.waiting reference) }
+        handle.old.held.waiting reference) }
     ensures same { handle.new ≡ handle.old }
     ensures unmade { is_made handle.old ≡ false → result ≡ NOT_MADE }
 {

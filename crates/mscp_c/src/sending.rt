@@ -6,7 +6,7 @@ ghost use Rattle.mscp_memory.specs.ControllerHandles.{is_made, with_held};
 ghost use Rattle.mscp_c.specs.Told.{TakeTold, send_code, sent_told, take_code};
 
 use crate::outs::{PacketOut, SentOut};
-use crate::status::{DONE, NOTHING, NOT_MADE};
+use crate::status::{DONE, NOT_MADE, NOTHING};
 use crate::telling::{tell_packet, tell_sent};
 use mscp_memory::controller::{Handle, is_made, lend};
 
