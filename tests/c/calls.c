@@ -92,6 +92,13 @@ static void inits_of_no_memory(void)
     free(memory);
 }
 
+/* malloc aligns well enough. */
+static void alignments(void)
+{
+    is("a controller's", sizeof(uint64_t) % mscp_align(), 0);
+    is("a host's", sizeof(uint64_t) % mscp_host_align(), 0);
+}
+
 static void inits_of_wrong_numbers(void)
 {
     size_t size = MSCP_HEAD + mscp_size();
@@ -348,6 +355,7 @@ static void host(void)
 
 int main(void)
 {
+    alignments();
     inits_of_no_memory();
     inits_of_wrong_numbers();
     calls_before_init();
