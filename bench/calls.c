@@ -23,7 +23,7 @@ static void put(uint8_t *to, unsigned bytes, uint32_t number)
         to[i] = (uint8_t)(number >> (8 * i));
 }
 
-static void send(struct mscp *mscp, uint32_t reference, uint8_t opcode)
+static void send_command(struct mscp *mscp, uint32_t reference, uint8_t opcode)
 {
     uint8_t message[32] = {0};
     struct mscp_sent sent;
@@ -44,13 +44,13 @@ static uint32_t from_c(uint32_t rounds, uint32_t depth, uint32_t picker)
     struct mscp_packet end;
     uint32_t sum = 0;
     mscp_init(mscp, &limits, &unit, 1, picker);
-    send(mscp, UINT32_MAX, MSCP_ONLINE);
+    send_command(mscp, UINT32_MAX, MSCP_ONLINE);
     mscp_step(mscp, 0, &report);
     mscp_take(mscp, &end);
     for (uint32_t round = 1; round < depth; round++)
-        send(mscp, round, MSCP_READ);
+        send_command(mscp, round, MSCP_READ);
     for (uint32_t round = 0; round < rounds; round++) {
-        send(mscp, depth + round, MSCP_READ);
+        send_command(mscp, depth + round, MSCP_READ);
         if (mscp_step(mscp, 0, &report) == MSCP_DONE)
             sum += report.seek;
         if (mscp_take(mscp, &end) == MSCP_DONE)

@@ -301,8 +301,8 @@ int64_t mscp_host_balance(struct mscp_host *host);
 int32_t mscp_host_submit(struct mscp_host *host, const uint8_t *message, size_t length);
 
 /* The oldest command that isn't answered when it arrives is to be polled, by a GET COMMAND STATUS of this reference
- * number. MSCP_DONE: send `message`, which is outstanding from now on. MSCP_BUSY and MSCP_NOTHING: there is nothing to send.
- * Or MSCP_NO_CREDIT or MSCP_DOUBLED. */
+ * number. MSCP_DONE: send `message`, which is outstanding from now on. MSCP_BUSY and MSCP_NOTHING: there is nothing to
+ * send. Or MSCP_NO_CREDIT or MSCP_DOUBLED. */
 int32_t mscp_host_poll(struct mscp_host *host, uint32_t reference, struct mscp_packet *message);
 
 /* An end was received. What it says is MSCP_ENDED to MSCP_LOST, and then `news` is filled and its command's credit is free
