@@ -142,13 +142,13 @@ fewer_of {X} p q (x ∷ xs) =
     λ b. elim b as (λ b. length (filter p (cond b (x ∷ filter q xs) (filter q xs))) ≤ length (filter p (x ∷ xs))) [ true ↦ both true (p x) | false ↦ both false (p x) ] in
     split (q x)
 
-pub held_aborted : (room passing longest reference : ℕ) (rs new : List Record) (ds : List Drive) (begun : Option Name) (b : Bool) → is_begun reference begun ≡ b → IsHeld room passing longest rs ds begun → new ≡ without reference rs
-    → IsHeld room passing longest new ds (if b then None else begun)
-held_aborted room passing longest reference rs new ds begun b was h e =
+pub held_aborted : (room passing longest reference : ℕ) (rs new : List Record) (ds : List Drive) (begun : Option Name) (serving b : Bool) → is_begun reference begun ≡ b → IsHeld room passing longest rs ds begun serving → new ≡ without reference rs
+    → IsHeld room passing longest new ds (if b then None else begun) serving
+held_aborted room passing longest reference rs new ds begun serving b was h e =
     let keep : Record → Bool = λ z. not (has_reference reference z) in
     let K = IsKept passing longest (units_of ds) in
     let left = begun_without reference begun in
-    let all : IsHeld room passing longest (without reference rs) ds left = record {
+    let all : IsHeld room passing longest (without reference rs) ds left serving = record {
       some_room = h.some_room;
       few = h.few;
       some_blocks = h.some_blocks;
@@ -158,11 +158,12 @@ held_aborted room passing longest reference rs new ds begun b was h e =
       each = All-from_recursion K (without reference rs) (every_kept K keep rs (recursion_from_All K rs h.each));
       apart = apart_kept keep rs h.apart;
       one = let o = h.one in omega (arith, fewer_of is_in_service keep rs);
+      idle = λ e. All-from_recursion (λ z. z.done ≡ 0) (without reference rs) (every_kept (λ z. z.done ≡ 0) keep rs (recursion_from_All (λ z. z.done ≡ 0) rs (h.idle e)));
       units = h.units;
       heads = h.heads;
       still = λ name k. let s = still_begun reference begun name k in still_aborted passing reference rs name s.1 (h.still name s.0);
     } in
-    subst (λ q. IsHeld room passing longest new ds (if q then None else begun)) was (subst (λ zs. IsHeld room passing longest zs ds left) (sym e) all)
+    subst (λ q. IsHeld room passing longest new ds (if q then None else begun) serving) was (subst (λ zs. IsHeld room passing longest zs ds left serving) (sym e) all)
 
 -- where nothing is aborted, what was begun stays
 pub none_aborted : (passing reference : ℕ) (rs : List Record) (begun : Option Name) → ((name : Name) → begun ≡ Some name → IsStillServable passing rs name) → find (has_reference reference) rs ≡ None

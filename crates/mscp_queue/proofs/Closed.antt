@@ -9,7 +9,7 @@ use Rattle.mscp_queue.specs.declared.drive.Drive.{Drive}
 use Rattle.mscp_queue.specs.declared.view.Choice.{Choice}
 use Rattle.mscp_queue.specs.declared.front.Front.{Front}
 use Rattle.mscp_queue.specs.Drives.{fresh_drive, one_block}
-use Rattle.mscp_queue.specs.Fronts.{drive_place, is_closed}
+use Rattle.mscp_queue.specs.Fronts.{drive_place, is_closed, nobody}
 use Rattle.mscp_queue.specs.Kept.{is_known, units_of}
 use Rattle.mscp_queue.specs.Orders.{is_sequential}
 use Rattle.mscp_queue.specs.Records.{Record, no_record, record_at}
@@ -100,3 +100,8 @@ found_closed passing ds rs place f places choices few l inside closed h =
     let each = recursion_from_All (λ z. is_known (units_of ds) z.command.unit ≡ true) (take place rs) (All-take (λ z. is_known (units_of ds) z.command.unit ≡ true) place rs known) in
     shut_on passing ds rs place (length rs - place) places (omega arith) inside
     (record { opens = h.opens; shut = λ r k. closed_open passing ds (take place rs) f r few h.front closed k each })
+
+-- at first they are open
+pub none_closed : (drives : ℕ) → 0 < drives → is_closed nobody drives ≡ false
+none_closed zero l = absurd (omega arith)
+none_closed (suc drives) l = refl

@@ -32,7 +32,7 @@ heads_fresh [] = tt
 heads_fresh (u ∷ us) = (omega arith, heads_fresh us)
 
 pub held_fresh : (room passing longest : ℕ) (us : List Shape) (rs : List Record) (ds : List Drive) → 1 ≤ room → room ≤ 63 → 1 ≤ longest → longest ≤ 8388608
-    → (room + passing) * longest ≤ 4294967295 → IsUnitList us → rs ≡ [] → ds ≡ map fresh_drive us → IsHeld room passing longest rs ds None
+    → (room + passing) * longest ≤ 4294967295 → IsUnitList us → rs ≡ [] → ds ≡ map fresh_drive us → IsHeld room passing longest rs ds None false
 held_fresh room passing longest us rs ds a b c d e u n f =
     record {
       some_room = a;
@@ -44,6 +44,7 @@ held_fresh room passing longest us rs ds a b c d e u n f =
       each = subst (All (IsKept passing longest (units_of ds))) (sym n) (All-nil (IsKept passing longest (units_of ds)));
       apart = subst (λ rs. AreApart (names rs)) (sym n) tt;
       one = subst (λ rs. length (filter is_in_service rs) ≤ 1) (sym n) (omega arith);
+      idle = λ e. subst (All (λ r. r.done ≡ 0)) (sym n) (All-nil (λ (r : Record). r.done ≡ 0));
       units = subst IsUnitList (sym (ap units_of f ∙ units_fresh us)) u;
       heads = subst (All IsOnUnit) (sym f) (All-from_recursion IsOnUnit (map fresh_drive us) (heads_fresh us));
       still = λ name k. absurd (false≢true (ap is_some k));
@@ -55,9 +56,9 @@ held_fresh room passing longest us rs ds a b c d e u n f =
 pub renewed : (ds ws : List Drive) → ws ≡ map (λ d. fresh_drive d.unit) ds → refill (length ds) ds ws ≡ map fresh_drive (units_of ds)
 renewed ds ws e = refilled ds ws (ap length e ∙ length-map ds (λ (d : Drive). fresh_drive d.unit)) ∙ (e ∙ sym (map_map (λ (d : Drive). d.unit) fresh_drive ds))
 
-pub held_renewed : (room passing longest : ℕ) (rs new : List Record) (ds ds' : List Drive) (begun : Option Name) → IsHeld room passing longest rs ds begun → new ≡ [] → ds' ≡ map fresh_drive (units_of ds)
-    → IsHeld room passing longest new ds' None
-held_renewed room passing longest rs new ds ds' begun h n e =
+pub held_renewed : (room passing longest : ℕ) (rs new : List Record) (ds ds' : List Drive) (begun : Option Name) (serving : Bool) → IsHeld room passing longest rs ds begun serving → new ≡ [] → ds' ≡ map fresh_drive (units_of ds)
+    → IsHeld room passing longest new ds' None false
+held_renewed room passing longest rs new ds ds' begun serving h n e =
     let s = h.small in
     held_fresh room passing longest (units_of ds) new ds' h.some_room h.few h.some_blocks h.short (omega arith) h.units n e
 
@@ -92,16 +93,16 @@ none_has reference (r ∷ rs) h =
     let p = or_parts (has_reference reference r) (list_any (has_reference reference) rs) h in
     ((λ e. eqb-false r.command.reference reference p.0 (sym e)), none_has reference rs p.1)
 
-pub held_pushed : (room passing longest : ℕ) (rs new : List Record) (ds : List Drive) (begun : Option Name) (c : Command) → IsHeld room passing longest rs ds begun → length rs < room → IsWaitable longest (units_of ds) c
-    → list_any (has_reference c.reference) rs ≡ false → new ≡ rs ++ fresh_record c ∷ [] → IsHeld room passing longest new ds begun
-held_pushed room passing longest rs new ds begun c h l w n e =
+pub held_pushed : (room passing longest : ℕ) (rs new : List Record) (ds : List Drive) (begun : Option Name) (serving : Bool) (c : Command) → IsHeld room passing longest rs ds begun serving → length rs < room → IsWaitable longest (units_of ds) c
+    → list_any (has_reference c.reference) rs ≡ false → new ≡ rs ++ fresh_record c ∷ [] → IsHeld room passing longest new ds begun serving
+held_pushed room passing longest rs new ds begun serving c h l w n e =
     let K = IsKept passing longest (units_of ds) in
     let r = fresh_record c in
     let kept : All K (rs ++ r ∷ []) =
     All-from_recursion K (rs ++ r ∷ []) (every_append K rs (r ∷ []) (recursion_from_All K rs h.each) (fresh_kept passing longest (units_of ds) c w, tt)) in
     let numbers : names (rs ++ r ∷ []) ≡ names rs ++ c.reference ∷ [] = map-append (λ (q : Record). q.command.reference) rs (r ∷ []) in
-    let serving : filter is_in_service (rs ++ r ∷ []) ≡ filter is_in_service rs ++ [] = filter-append is_in_service rs (r ∷ []) in
-    let all : IsHeld room passing longest (rs ++ r ∷ []) ds begun =
+    let served : filter is_in_service (rs ++ r ∷ []) ≡ filter is_in_service rs ++ [] = filter-append is_in_service rs (r ∷ []) in
+    let all : IsHeld room passing longest (rs ++ r ∷ []) ds begun serving =
     record {
       some_room = h.some_room;
       few = h.few;
@@ -111,12 +112,13 @@ held_pushed room passing longest rs new ds begun c h l w n e =
       fits = omega (arith, length-append rs (r ∷ []));
       each = kept;
       apart = subst AreApart (sym numbers) (apart_more (names rs) c.reference h.apart (none_has c.reference rs n));
-      one = let o = h.one in omega (arith, ap length serving, length-append (filter is_in_service rs) []);
+      one = let o = h.one in omega (arith, ap length served, length-append (filter is_in_service rs) []);
+      idle = λ e. All-from_recursion (λ z. z.done ≡ 0) (rs ++ r ∷ []) (every_append (λ z. z.done ≡ 0) rs (r ∷ []) (recursion_from_All (λ z. z.done ≡ 0) rs (h.idle e)) (refl, tt));
       units = h.units;
       heads = h.heads;
       still = λ name k. still_pushed passing rs name r refl (h.still name k);
     } in
-    subst (λ zs. IsHeld room passing longest zs ds begun) (sym e) all
+    subst (λ zs. IsHeld room passing longest zs ds begun serving) (sym e) all
 
 -- ---- a step
 
@@ -203,9 +205,9 @@ pub record IsTurn (passing n : ℕ) (A : List Record) (r : Record) (B own : List
   pub affordable : AllByRecursion (λ z. z.passes + n ≤ passing) A
   pub left : IsLeft r own
 
-pub held_turn : (room passing longest n : ℕ) (A : List Record) (r : Record) (B own : List Record) (ds ds' : List Drive) (begun : Option Name) → IsHeld room passing longest (A ++ r ∷ B) ds begun → IsTurn passing n A r B own
-    → units_of ds' ≡ units_of ds → All IsOnUnit ds' → IsHeld room passing longest (map (passed_by n) A ++ (own ++ B)) ds' None
-held_turn room passing longest n A r B own ds ds' begun h t u heads =
+pub held_turn : (room passing longest n : ℕ) (A : List Record) (r : Record) (B own : List Record) (ds ds' : List Drive) (begun : Option Name) (serving serves : Bool) → IsHeld room passing longest (A ++ r ∷ B) ds begun serving → IsTurn passing n A r B own
+    → (serves ≡ false → own ≡ []) → units_of ds' ≡ units_of ds → All IsOnUnit ds' → IsHeld room passing longest (map (passed_by n) A ++ (own ++ B)) ds' None serves
+held_turn room passing longest n A r B own ds ds' begun serving serves h t ended u heads =
     let K = IsKept passing longest (units_of ds) in
     let new = map (passed_by n) A ++ (own ++ B) in
     let parts = every_parts K A (r ∷ B) (recursion_from_All K (A ++ r ∷ B) h.each) in
@@ -217,8 +219,8 @@ held_turn room passing longest n A r B own ds ds' begun h t u heads =
     let numbers : names new ≡ names A ++ (names own ++ names B) =
     map-append ref (map (passed_by n) A) (own ++ B) ∙ (ap (λ xs. xs ++ names (own ++ B)) (names_passed n A) ∙ ap (λ xs. names A ++ xs) (map-append ref own B)) in
     let few = own_one r own t.left in
-    let serving = filter-append is_in_service (map (passed_by n) A) (own ++ B) in
-    let serving_own = filter-append is_in_service own B in
+    let served = filter-append is_in_service (map (passed_by n) A) (own ++ B) in
+    let served_own = filter-append is_in_service own B in
     let none_front = idle_none (map (passed_by n) A) (passed_idle n A t.before) in
     let none_back = idle_none B t.behind in
     record {
@@ -230,7 +232,9 @@ held_turn room passing longest n A r B own ds ds' begun h t u heads =
       fits = let f = h.fits in omega (arith, length-append A (r ∷ B), length-append (map (passed_by n) A) (own ++ B), length-map A (passed_by n), length-append own B);
       each = subst (λ us. All (IsKept passing longest us) new) (sym u) (All-from_recursion K new kept);
       apart = subst AreApart (sym numbers) (apart_left r own A B t.left (subst AreApart old_numbers h.apart));
-      one = omega (arith, ap length serving, length-append (filter is_in_service (map (passed_by n) A)) (filter is_in_service (own ++ B)), ap length serving_own, length-append (filter is_in_service own) (filter is_in_service B), none_front, none_back, own_serving own few);
+      one = omega (arith, ap length served, length-append (filter is_in_service (map (passed_by n) A)) (filter is_in_service (own ++ B)), ap length served_own, length-append (filter is_in_service own) (filter is_in_service B), none_front, none_back, own_serving own few);
+      idle = λ e. All-from_recursion (λ z. z.done ≡ 0) new
+          (every_append (λ z. z.done ≡ 0) (map (passed_by n) A) (own ++ B) (passed_idle n A t.before) (subst (λ zs. AreIdle (zs ++ B)) (sym (ended e)) t.behind));
       units = subst IsUnitList (sym u) h.units;
       heads = heads;
       still = λ name k. absurd (false≢true (ap is_some k));

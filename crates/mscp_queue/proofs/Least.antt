@@ -3,7 +3,7 @@ use Rattle.std.proofs.Common.{◌≡◌, refl, ℕ, ◌+◌, ◌<◌, ◌≤◌,
 use Rattle.std.specs.Prelude.{All}
 use Rattle.std.proofs.Math.Nat.{min-eq_left}
 use Rattle.std.proofs.Math.Seq.{get_or-append_seam, take-append_seam}
-use Rattle.std.proofs.lemmas.List.{get_or-map, get_or-take, get_or_append_left, length-append, length-map, length-take, take-append-le, take_more}
+use Rattle.std.proofs.lemmas.List.{get_or-map, get_or-take, get_or_append_left, get_or_default, length-append, length-map, length-take, take-append-le, take_more}
 use Rattle.std.proofs.lemmas.List.Elements.{All-append, All-from_recursion}
 use Rattle.mscp_queue.specs.declared.view.Choice.{Choice}
 use Rattle.mscp_queue.specs.Pickers.{IsFirstLeast, costs}
@@ -92,4 +92,20 @@ best_comes view place best other inside l h =
       below = omega arith;
       least = λ q. subst (λ ns. IsFirstLeast ns place) (sym k.more) (subst (IsFirstLeast (k.front ++ (get_or view place other).cost ∷ [])) k.many (least_comes k.front _ best (omega (arith, l, k.best_cost)) k.least));
       none = λ e. absurd (omega (arith, inside, ap length e));
+    }
+
+-- the best place, and its cost
+pub record IsCheapest (view : List Choice) (place at least : ℕ) : Type 0 where
+  pub best : IsBest view place at
+  pub cost : (other : Choice) → least ≡ (get_or view at other).cost
+
+pub cheapest_stays : (view : List Choice) (place best least : ℕ) (other : Choice) → place < length view → least ≤ (get_or view place other).cost → IsCheapest view place best least → IsCheapest view (place + 1) best least
+cheapest_stays view place best least other inside l h =
+    record { best = best_stays view place best other inside (omega (arith, l, h.cost other)) h.best; cost = h.cost }
+
+pub cheapest_comes : (view : List Choice) (place best least : ℕ) (other : Choice) → place < length view → (get_or view place other).cost < least → IsCheapest view place best least → IsCheapest view (place + 1) place (get_or view place other).cost
+cheapest_comes view place best least other inside l h =
+    record {
+      best = best_comes view place best other inside (omega (arith, l, h.cost other)) h.best;
+      cost = λ another. ap (λ (q : Choice). q.cost) (get_or_default view place other another inside);
     }

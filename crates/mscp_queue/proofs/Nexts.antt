@@ -1,20 +1,21 @@
 -- Which record is served next: what was begun, or else that in service, or else one that may be picked.
-use Rattle.std.proofs.Common.{◌≡◌, ◌≢◌, ⊎_elim, ℕ, zero, suc, ◌<◌, Bool, true, false, List, [], ◌∷◌, length, refl, ap, sym, ◌∙◌, subst, arith}
-use Rattle.std.specs.Prelude.{All, IfNone, IfSome, is_some, unwrap_or, Option, Some, None}
+use Rattle.std.proofs.Common.{◌≡◌, ◌≢◌, ⊎_elim, ℕ, zero, suc, ◌<◌, Bool, true, false, List, [], ◌∷◌, get_or, length, refl, ap, sym, ◌∙◌, subst, arith}
+use Rattle.std.specs.Prelude.{All, IfNone, IfSome, is_some, nat_lt, unwrap_or, Option, Some, None}
 use Rattle.std.specs.List.{AllByRecursion, position}
-use Rattle.std.proofs.lemmas.List.{get_or_at, length-append}
-use Rattle.std.proofs.lemmas.List.Elements.{All-from_recursion}
-use Rattle.std.proofs.lemmas.Bool.{eqb-true, false≢true, ltb-false, ltb-true, true≢false}
+use Rattle.std.proofs.lemmas.List.{get_or-map, get_or_at, length-append, length-map}
+use Rattle.std.proofs.lemmas.List.Elements.{All-from_recursion, recursion_from_All}
+use Rattle.std.proofs.lemmas.Bool.{eq-eqb, eqb-true, false≢true, ltb-false, ltb-true, true≢false}
 use Rattle.mscp_queue.specs.declared.drive.Drive.{Drive}
 use Rattle.mscp_queue.specs.declared.view.Choice.{Choice}
 use Rattle.mscp_queue.specs.Kept.{AreApart, IsStillServable, names}
 use Rattle.mscp_queue.specs.Names.{Name}
-use Rattle.mscp_queue.specs.Records.{Record, has_reference, is_in_service, is_unstarted, no_record, record_at}
+use Rattle.mscp_queue.specs.Records.{Record, drive_at, has_reference, is_in_service, is_unstarted, no_record, record_at}
 use Rattle.mscp_queue.specs.Serving.{IsNext, IsServable}
-use Rattle.mscp_queue.specs.Views.{IsPick}
+use Rattle.mscp_queue.specs.Views.{IsPick, choice_of, open_places, view_of}
 use Rattle.mscp_queue.proofs.Begun.{picked_opens}
 use Rattle.mscp_queue.proofs.Lists.{every_weaker}
 use Rattle.mscp_queue.proofs.Placed.{find_cases, position_first, position_none}
+use Rattle.mscp_queue.proofs.Starting.{places_inside}
 
 -- the place of the first record that passes a test
 found_at : (p : Record → Bool) (rs : List Record) (place : ℕ) → position p rs ≡ Some place → (place < length rs) × (p (record_at rs place) ≡ true)
@@ -70,6 +71,11 @@ none_serving rs h =
     absurd (true≢false (ap is_some (sym (position_first is_in_service some.0 some.1 some.2 f.before f.passes) ∙ (ap (position is_in_service) (sym f.is) ∙ h)))))
     (find_cases is_in_service rs)
 
+-- and where all are idle, none is
+pub idle_found : (rs : List Record) → All (λ r. r.done ≡ 0) rs → position is_in_service rs ≡ None
+idle_found rs h =
+    position_none is_in_service rs (every_weaker (λ r. r.done ≡ 0) (λ r. is_in_service r ≡ false) (λ r e. ap (nat_lt 0) e) rs (recursion_from_All (λ r. r.done ≡ 0) rs h))
+
 -- where none is, the record that is picked is
 pub picked_next : (picks : List Choice → ℕ → Type 0) (passing : ℕ) (ds : List Drive) (rs : List Record) (begun : Option Name) (place : ℕ) → begun ≡ None → position is_in_service rs ≡ None → place < length rs
     → IsPick picks passing ds rs place → IsNext picks passing ds rs begun place
@@ -89,6 +95,26 @@ once (r ∷ rs) zero zero a k l e = refl
 once (r ∷ rs) zero (suc j) a k l e = absurd (others_differ r.command.reference rs j a.0 (omega (arith, l)) (sym e))
 once (r ∷ rs) (suc i) zero a k l e = absurd (others_differ r.command.reference rs i a.0 (omega (arith, k)) e)
 once (r ∷ rs) (suc i) (suc j) a k l e = ap suc (once rs i j a.1 (omega (arith, k)) (omega (arith, l)) e)
+
+-- so it is found there
+pub name_found : (rs : List Record) (name : Name) (place : ℕ) (o : Option ℕ) → AreApart (names rs) → place < length rs → (record_at rs place).command.reference ≡ name → o ≡ position (has_reference name) rs → o ≡ Some place
+name_found rs name place None a l e h =
+    ⊎_elim
+    (λ none. absurd (true≢false (sym (eq-eqb (record_at rs place).command.reference name e) ∙ All-from_recursion (λ r. has_reference name r ≡ false) rs none place no_record l)))
+    (λ some. let f = some.3 in absurd (true≢false (ap is_some (sym (position_first (has_reference name) some.0 some.1 some.2 f.before f.passes) ∙ (ap (position (has_reference name)) (sym f.is) ∙ sym h)))))
+    (find_cases (has_reference name) rs)
+name_found rs name place (Some other) a l e h =
+    let f = found_at (has_reference name) rs other (sym h) in
+    ap Some (once rs other place a f.0 l (eqb-true (record_at rs other).command.reference name f.1 ∙ sym e))
+
+-- and so is the record that a choice of a view is of
+pub shown_found : (passing : ℕ) (ds : List Drive) (rs : List Record) (view : List Choice) (i : ℕ) (other : Choice) (o : Option ℕ) → AreApart (names rs) → view ≡ view_of passing ds rs → i < length view
+    → o ≡ position (has_reference (get_or view i other).reference) rs → o ≡ Some (get_or (open_places passing rs) i 0)
+shown_found passing ds rs view i other o a v l h =
+    let choice : ℕ → Choice = λ place. choice_of (drive_at ds rs place) (record_at rs place) in
+    let k : i < length (open_places passing rs) = omega (arith, l, ap length v, length-map (open_places passing rs) choice) in
+    let is = ap (λ vs. get_or vs i other) v ∙ get_or-map choice (open_places passing rs) i 0 other k in
+    name_found rs (get_or view i other).reference (get_or (open_places passing rs) i 0) o a (places_inside passing rs i 0 k) (sym (ap (λ (q : Choice). q.reference) is)) h
 
 -- the record of what was begun is next
 begun_next : (picks : List Choice → ℕ → Type 0) (passing : ℕ) (ds : List Drive) (rs : List Record) (begun : Option Name) (name : Name) (place : ℕ) → AreApart (names rs) → begun ≡ Some name → IsStillServable passing rs name

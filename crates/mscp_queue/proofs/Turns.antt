@@ -1,5 +1,5 @@
 -- A step of the record that may be served next is a turn among the others, and leaves each head on its unit.
-use Rattle.std.proofs.Common.{◌≡◌, inl, inr, ℕ, suc, ◌+◌, ◌<◌, ◌≤◌, Bool, true, false, cond, ◌&&◌, List, [], ◌∷◌, ◌++◌, map, take, drop, length, refl, ap, sym, ◌∙◌, subst, arith, append_assoc}
+use Rattle.std.proofs.Common.{◌≡◌, inl, inr, ℕ, suc, ◌+◌, ◌<◌, ◌≤◌, Bool, true, false, cond, not, ◌&&◌, List, [], ◌∷◌, ◌++◌, map, take, drop, length, refl, ap, sym, ◌∙◌, subst, arith, append_assoc}
 use Rattle.std.specs.Prelude.{filter, find, nat_eq, nat_le, nat_lt, if◌then◌else◌, is_some, slice_index_or, unwrap_or, Option, Some, None}
 use Rattle.std.specs.List.{AllByRecursion}
 use Rattle.std.proofs.lemmas.List.Elements.{All-from_recursion, recursion_from_All}
@@ -53,10 +53,10 @@ more_left k d r None h =
     let more = ltb-true 1 (left_of r) (last_of (touches d.online r.command.order) (is_good_block k) (nat_lt 1 (left_of r)) (when goes h)) in
     record { left = inr (refl, omega arith) }
 
-pub next_turn : (room passing longest place : ℕ) (rs : List Record) (ds : List Drive) (begun : Option Name) (k : Block) (d : Drive) → IsHeld room passing longest rs ds begun
+pub next_turn : (room passing longest place : ℕ) (rs : List Record) (ds : List Drive) (begun : Option Name) (serving : Bool) (k : Block) (d : Drive) → IsHeld room passing longest rs ds begun serving
     → IsServable passing rs place
     → IsTurn passing (step_toll (record_at rs place)) (take place rs) (record_at rs place) (drop (place + 1) rs) (cond (is_some (end_given k d (record_at rs place))) [] (advanced (record_at rs place) ∷ []))
-next_turn room passing longest place rs ds begun k d h n =
+next_turn room passing longest place rs ds begun serving k d h n =
     let r = record_at rs place in
     let A = take place rs in
     let B = drop (place + 1) rs in
@@ -161,22 +161,28 @@ touched_inside passing longest ds r d e k lbn h =
 
 -- ---- the whole step
 
-pub held_served : (room passing longest place : ℕ) (rs new : List Record) (ds ds' : List Drive) (begun : Option Name) (k : Block) (d d' : Drive) → IsHeld room passing longest rs ds begun
+ended_if : (b : Bool) → not b ≡ false → b ≡ true
+ended_if true e = refl
+ended_if false e = absurd (true≢false e)
+
+pub held_served : (room passing longest place : ℕ) (rs new : List Record) (ds ds' : List Drive) (begun : Option Name) (serving serves : Bool) (k : Block) (d d' : Drive) → IsHeld room passing longest rs ds begun serving
     → IsServable passing rs place → d ≡ drive_of ds (record_at rs place).command.unit → d' ≡ drive_after k d (record_at rs place) → IsOnUnit d'
     → new ≡ map (passed_by (step_toll (record_at rs place))) (take place rs) ++ (cond (is_some (end_given k d (record_at rs place))) [] (advanced (record_at rs place) ∷ []) ++ drop (place + 1) rs)
-    → ds' ≡ replaced (record_at rs place).command.unit d' ds → IsHeld room passing longest new ds' None
-held_served room passing longest place rs new ds ds' begun k d d' h n e f on w v =
+    → serves ≡ not (is_some (end_given k d (record_at rs place))) → ds' ≡ replaced (record_at rs place).command.unit d' ds → IsHeld room passing longest new ds' None serves
+held_served room passing longest place rs new ds ds' begun serving serves k d d' h n e f on w more v =
     let r = record_at rs place in
     let number = r.command.unit in
     let cut = cut_at no_record rs place n.inside in
     let unit : d'.unit ≡ (drive_of ds number).unit = ap (λ (q : Drive). q.unit) f ∙ ap (λ (q : Drive). q.unit) e in
     let same = every_weaker (λ q. has_number number q ≡ true → q.unit ≡ (drive_of ds number).unit) (λ q. has_number number q ≡ true → q.unit ≡ d'.unit) (λ q g b. g b ∙ sym unit) ds (units_same number ds h.units) in
     let heads = All-from_recursion IsOnUnit (replaced number d' ds) (heads_replaced number d' ds on (recursion_from_All IsOnUnit ds h.heads)) in
-    let turn = next_turn room passing longest place rs ds begun k d h n in
-    subst (λ zs. IsHeld room passing longest new zs None) (sym v)
-    (subst (λ zs. IsHeld room passing longest zs (replaced number d' ds) None) (sym w)
-    (held_turn room passing longest (step_toll r) (take place rs) r (drop (place + 1) rs) (cond (is_some (end_given k d r)) [] (advanced r ∷ [])) ds (replaced number d' ds) begun
-    (subst (λ zs. IsHeld room passing longest zs ds begun) cut h) turn (units_replaced number d' ds same) heads))
+    let turn = next_turn room passing longest place rs ds begun serving k d h n in
+    let ended : serves ≡ false → cond (is_some (end_given k d r)) [] (advanced r ∷ []) ≡ [] =
+    λ e. ap (λ b. cond b [] (advanced r ∷ [])) (ended_if (is_some (end_given k d r)) (sym more ∙ e)) in
+    subst (λ zs. IsHeld room passing longest new zs None serves) (sym v)
+    (subst (λ zs. IsHeld room passing longest zs (replaced number d' ds) None serves) (sym w)
+    (held_turn room passing longest (step_toll r) (take place rs) r (drop (place + 1) rs) (cond (is_some (end_given k d r)) [] (advanced r ∷ [])) ds (replaced number d' ds) begun serving serves
+    (subst (λ zs. IsHeld room passing longest zs ds begun serving) cut h) turn ended (units_replaced number d' ds same) heads))
 
 head_found : (n : ℕ) (ds : List Drive) → AllByRecursion IsOnUnit ds → IsOnUnit (drive_of ds n)
 head_found n [] h = omega arith
@@ -185,25 +191,27 @@ head_found n (d ∷ ds) h =
     elim (has_number n d) as (λ b. IsOnUnit (unwrap_or (cond b (Some d) (find (has_number n) ds)) (fresh_drive one_block))) [ true ↦ h.0 | false ↦ rest ]
 
 -- the drive that is found has its head on its unit
-pub head_kept : (room passing longest n : ℕ) (rs : List Record) (ds : List Drive) (begun : Option Name) → IsHeld room passing longest rs ds begun → IsOnUnit (drive_of ds n)
-head_kept room passing longest n rs ds begun h = head_found n ds (recursion_from_All IsOnUnit ds h.heads)
+pub head_kept : (room passing longest n : ℕ) (rs : List Record) (ds : List Drive) (begun : Option Name) (serving : Bool) → IsHeld room passing longest rs ds begun serving → IsOnUnit (drive_of ds n)
+head_kept room passing longest n rs ds begun serving h = head_found n ds (recursion_from_All IsOnUnit ds h.heads)
 
 -- the same as it is found out, step by step
-pub held_step : (room passing longest place : ℕ) (rs new : List Record) (ds ds' : List Drive) (begun : Option Name) (k : Block) (r : Record) (command : Command) (d d' : Drive)
-    (e : Option End) (ends : Bool) (toll : ℕ) → IsHeld room passing longest rs ds begun → IsServable passing rs place → r ≡ record_at rs place → command ≡ r.command → d ≡ drive_of ds command.unit
+pub held_step : (room passing longest place : ℕ) (rs new : List Record) (ds ds' : List Drive) (begun : Option Name) (serving serves : Bool) (k : Block) (r : Record) (command : Command) (d d' : Drive)
+    (e : Option End) (ends : Bool) (toll : ℕ) → IsHeld room passing longest rs ds begun serving → IsServable passing rs place → r ≡ record_at rs place → command ≡ r.command → d ≡ drive_of ds command.unit
     → e ≡ end_given k d r → ends ≡ is_some e → d' ≡ drive_after k d r → toll ≡ step_toll r
     → (((lbn : ℕ) → touched d r ≡ Some lbn → lbn < d.unit.size) → IsOnUnit d → IsOnUnit d')
     → new ≡ map (passed_by toll) (take place rs) ++ (cond ends [] (advanced (record_at rs place) ∷ []) ++ drop (place + 1) rs)
-    → ds' ≡ replaced command.unit d' ds → IsHeld room passing longest new ds' None
-held_step room passing longest place rs new ds ds' begun k r command d d' e ends toll h n is of drive ended some after cost on w v =
+    → serves ≡ not ends → ds' ≡ replaced command.unit d' ds → IsHeld room passing longest new ds' None serves
+held_step room passing longest place rs new ds ds' begun serving serves k r command d d' e ends toll h n is of drive ended some after cost on w more v =
     let own = advanced (record_at rs place) ∷ [] in
     let unit : command.unit ≡ (record_at rs place).command.unit = ap (λ (c : Command). c.unit) of ∙ ap (λ (r : Record). r.command.unit) is in
     let found = drive ∙ ap (drive_of ds) (ap (λ (c : Command). c.unit) of) in
     let kept : IsKept passing longest (units_of ds) r = subst (IsKept passing longest (units_of ds)) (sym is) (h.each place no_record n.inside) in
-    let head : IsOnUnit d = subst IsOnUnit (sym drive) (head_kept room passing longest command.unit rs ds begun h) in
-    held_served room passing longest place rs new ds ds' begun k d d' h n (drive ∙ ap (drive_of ds) unit) (after ∙ ap (drive_after k d) is) (on (touched_inside passing longest ds r d found kept) head)
+    let head : IsOnUnit d = subst IsOnUnit (sym drive) (head_kept room passing longest command.unit rs ds begun serving h) in
+    let same : ends ≡ is_some (end_given k d (record_at rs place)) = some ∙ (ap is_some ended ∙ ap (λ r. is_some (end_given k d r)) is) in
+    held_served room passing longest place rs new ds ds' begun serving serves k d d' h n (drive ∙ ap (drive_of ds) unit) (after ∙ ap (drive_after k d) is) (on (touched_inside passing longest ds r d found kept) head)
     (w ∙ (ap (λ t. map (passed_by t) (take place rs) ++ (cond ends [] own ++ drop (place + 1) rs)) (cost ∙ ap step_toll is)
-    ∙ ap (λ b. map (passed_by (step_toll (record_at rs place))) (take place rs) ++ (cond b [] own ++ drop (place + 1) rs)) (some ∙ (ap is_some ended ∙ ap (λ r. is_some (end_given k d r)) is))))
+    ∙ ap (λ b. map (passed_by (step_toll (record_at rs place))) (take place rs) ++ (cond b [] own ++ drop (place + 1) rs)) same))
+    (more ∙ ap not same)
     (v ∙ ap (λ u. replaced u d' ds) unit)
 
 -- a step changes no unit

@@ -1,5 +1,5 @@
 -- What is true of each queue, whatever came to it.
-use Rattle.std.specs.Prelude.{◌≡◌, ◌≢◌, ℕ, ◌+◌, ◌*◌, ◌^◌, ◌<◌, ◌≤◌, Bool, true, ◌||◌, is_some, unwrap_or, List, [], ◌∷◌, length, map, filter, All, Option, Some}
+use Rattle.std.specs.Prelude.{◌≡◌, ◌≢◌, ℕ, ◌+◌, ◌*◌, ◌^◌, ◌<◌, ◌≤◌, Bool, true, false, ◌||◌, is_some, unwrap_or, List, [], ◌∷◌, length, map, filter, All, Option, Some}
 use Rattle.std.specs.List.{AllByRecursion}
 use Rattle.mscp_packet.specs.declared.command.Command.{Command}
 use Rattle.mscp_packet.specs.declared.command.Order.{Order}
@@ -63,8 +63,8 @@ abbrev pub IsStillServable : ℕ → List Record → Name → Type 0
 IsStillServable passing rs name =
     (place : ℕ) × IsServable passing rs place × (has_reference name (record_at rs place) ≡ true)
 
--- the limits, the waiting commands and the drives of a queue, and what was begun
-pub record IsHeld (room passing longest : ℕ) (rs : List Record) (ds : List Drive) (begun : Option Name) : Type 0 where
+-- the limits, the waiting commands and the drives of a queue, what was begun, and whether one may be in service
+pub record IsHeld (room passing longest : ℕ) (rs : List Record) (ds : List Drive) (begun : Option Name) (serving : Bool) : Type 0 where
   pub some_room : 1 ≤ room
   pub few : room ≤ 63
   pub some_blocks : 1 ≤ longest
@@ -77,6 +77,8 @@ pub record IsHeld (room passing longest : ℕ) (rs : List Record) (ds : List Dri
   pub apart : AreApart (names rs)
   -- one is in service at the most
   pub one : length (filter is_in_service rs) ≤ 1
+  -- where none may be, none is
+  pub idle : serving ≡ false → All (λ r. r.done ≡ 0) rs
   pub units : IsUnitList (units_of ds)
   -- each head is on a cylinder of its unit
   pub heads : All IsOnUnit ds

@@ -1,6 +1,6 @@
 // What the records in front of a place leave open to those behind them, kept while a view is made.
 
-ghost use Rattle.std.specs.Prelude.{◌≡◌, ◌<◌, ◌≤◌, false};
+ghost use Rattle.std.specs.Prelude.{◌≡◌, ◌<◌, ◌≤◌, true, false};
 ghost use Rattle.std.specs.List.{list_all};
 ghost use Rattle.mscp_queue.specs.Fronts.{is_closed, is_let, nobody, with_record};
 ghost use Rattle.mscp_queue.specs.Orders.{is_sequential};
@@ -43,30 +43,22 @@ impl Front {
         }
     }
 
-    /// Whether those in front let the record start, whose drive stands at this place.
+    /// Whether those in front let the record start, whose drive stands at this place. Each of them may be passed once more.
     pub fn lets(&self, behind: &Record, drive: usize) -> bool
-        requires { drive < 16 }
+        requires drive { drive < 16 }
+        requires affordable { self.now.affordable ≡ true }
         ensures { result ≡ is_let self.now behind.now drive }
     {
-        let free = if is_sequential(&behind.command().order) {
+        if is_sequential(&behind.command().order) {
             !self.seen[drive]
         } else {
             !self.fenced[drive]
-        };
-        free && self.affordable
+        }
     }
 
-    /// Whether nobody behind may start, whatever it is: one in front may be passed no more, or of each of so many drives
-    /// one is sequential.
-    pub fn is_closed(&self, drives: usize) -> bool
-        requires { drives ≤ 16 }
-        ensures { result ≡ is_closed self.now drives }
-    {
-        !self.affordable || are_set(&self.fenced[..drives])
-    }
-
-    /// Takes the record, whose drive stands at this place, among those in front, who are open so far to so many drives.
-    /// Tells whether they are closed then.
+    /// Takes the record, whose drive stands at this place, among those in front, who leave one of so many drives open so
+    /// far. Tells whether nobody behind may start then, whatever it is: one in front may be passed no more, or of each
+    /// drive one is sequential.
     pub fn add(&mut self, behind: &Record, drive: usize, passing: u32, drives: usize) -> bool
         requires drive { drive < 16 }
         requires few { drives ≤ 16 }
@@ -79,9 +71,8 @@ impl Front {
         if fences {
             self.fenced[drive] = true;
         }
-        if behind.passes() >= passing {
-            self.affordable = false;
-        }
+        // Those in front are all affordable, or they would be closed.
+        self.affordable = behind.passes() < passing;
         !self.affordable || (fences && are_set(&self.fenced[..drives]))
     }
 }

@@ -49,10 +49,16 @@ impl Picker for Sweep {
         ensures sweep { 0 < length view.now → IsSweep view.now result }
     {
         let choices = view.choices();
+        let Some(first) = choices.first() else {
+            return 0;
+        };
         let mut best = 0;
+        let mut least = first.cost;
         for place in 1..choices.len() {
-            if choices[place].cost < choices[best].cost {
+            let cost = choices[place].cost;
+            if cost < least {
                 best = place;
+                least = cost;
             }
         }
         best

@@ -1,13 +1,13 @@
 // The queue of a disk controller: its waiting commands, its drives, and its picker.
 
 ghost use Rattle.std.specs.Prelude.{◌≡◌, ◌+◌, ◌*◌, ◌<◌, ◌≤◌, ◌^◌, [], length, find, option_map, true, false, IfNone, IfSome};
-ghost use Rattle.std.specs.List.{list_any};
+ghost use Rattle.std.specs.List.{list_any, position};
 ghost use Rattle.mscp_queue.specs.Drives.{is_online_in};
 ghost use Rattle.mscp_queue.specs.Figures.{figure_of_reference, figures};
 ghost use Rattle.mscp_queue.specs.Kept.{IsWaitable, units_of};
 ghost use Rattle.mscp_queue.specs.Lines.{Begins, BeginsAt, Line, Serves, ServesAt, aborting, fresh, pushed};
 ghost use Rattle.mscp_queue.specs.Orders.{order_weight};
-ghost use Rattle.mscp_queue.specs.Records.{aborted_record, has_reference};
+ghost use Rattle.mscp_queue.specs.Records.{aborted_record, has_reference, is_in_service};
 ghost use Rattle.mscp_queue.specs.Serving.{IsNext, is_begun};
 
 use crate::block::Block;
@@ -21,6 +21,7 @@ use crate::service::{serve, upcoming};
 use crate::start::picked_place;
 use crate::turn::{leave, place_in_service, take_out};
 use crate::upcoming::Upcoming;
+use crate::view::View;
 use arrayvec::ArrayVec;
 use mscp_drive::Units;
 use mscp_packet::{Command, End, Order};
@@ -48,7 +49,11 @@ pub struct Queue<K> {
     waiting: ArrayVec<Record, 64>,
     drives: ArrayVec<Drive, 16>,
     begun: Option<u32>,
+    // Whether one may be in service: where none is, nobody looks for it.
+    serving: bool,
     picker: K,
+    // What the picker saw last. It is kept for its room alone, since a new one would have to be cleared at each start.
+    view: View,
 }
 
 // A clause sees the limits, the waiting commands in order of arrival, the drives in the order of their units, what was
@@ -70,7 +75,7 @@ impl<K> Model for Queue<K> {
           picker = q.picker;
         } };
 
-    ghost invariant = { λ q. IsHeld q.room q.passing q.longest q.waiting.items q.drives.items q.begun };
+    ghost invariant = { λ q. IsHeld q.room q.passing q.longest q.waiting.items q.drives.items q.begun q.serving };
 }
 
 impl<K: Picker> Queue<K> {
@@ -92,7 +97,9 @@ impl<K: Picker> Queue<K> {
             waiting: ArrayVec::new(),
             drives,
             begun: None,
+            serving: false,
             picker,
+            view: View::empty(),
         }
     }
 
@@ -104,6 +111,7 @@ impl<K: Picker> Queue<K> {
         self.waiting.clear();
         renew_drives(self.drives.as_mut_slice());
         self.begun = None;
+        self.serving = false;
     }
 
     /// How many commands wait.
@@ -194,26 +202,44 @@ impl<K: Picker> Queue<K> {
         }
     }
 
-    /// The place of the command in service, or, where none is, of one that the picker picks.
-    fn place_to_begin(&self) -> usize
-        requires nothing { self.now.begun ≡ None }
-        requires some { 0 < length self.now.waiting }
-        ensures { IsNext (K.picks self.now.picker) self.now.passing self.now.drives self.now.waiting self.now.begun result }
+    /// The place of the command in service, if one is.
+    fn serving_place(&self) -> Option<usize>
+        ensures { result ≡ position is_in_service self.now.waiting }
     {
-        let waiting = self.waiting.as_slice();
-        match place_in_service(waiting) {
+        if self.serving {
+            place_in_service(self.waiting.as_slice())
+        } else {
+            None
+        }
+    }
+
+    /// The place of the command in service, or, where none is, of one that the picker picks.
+    fn place_to_begin(&mut self) -> usize
+        requires nothing { self.old.begun ≡ None }
+        requires some { 0 < length self.old.waiting }
+        ensures next { IsNext (K.picks self.old.picker) self.old.passing self.old.drives self.old.waiting self.old.begun result }
+        ensures same { self.new ≡ self.old }
+    {
+        match self.serving_place() {
             Some(place) => place,
-            None => picked_place(waiting, self.drives.as_slice(), self.passing, &self.picker),
+            None => picked_place(
+                self.waiting.as_slice(),
+                self.drives.as_slice(),
+                self.passing,
+                &self.picker,
+                &mut self.view,
+            ),
         }
     }
 
     /// The place of the command that is served next: what was begun, or else that in service, or one that the picker
     /// picks.
-    fn next_place(&self) -> Option<usize>
-        ensures none { IfNone result (self.now.waiting ≡ []) }
-        ensures unbegun { IfNone result (self.now.begun ≡ None) }
+    fn next_place(&mut self) -> Option<usize>
+        ensures none { IfNone result (self.old.waiting ≡ []) }
+        ensures unbegun { IfNone result (self.old.begun ≡ None) }
         ensures some { IfSome result (λ place.
-            IsNext (K.picks self.now.picker) self.now.passing self.now.drives self.now.waiting self.now.begun place) }
+            IsNext (K.picks self.old.picker) self.old.passing self.old.drives self.old.waiting self.old.begun place) }
+        ensures same { self.new ≡ self.old }
     {
         match self.begun {
             Some(reference) => place_of(self.waiting.as_slice(), reference),
@@ -252,14 +278,11 @@ impl<K: Picker> Queue<K> {
         let command = record.command();
         let drive = drive_of(self.drives.as_slice(), command.unit);
         let service = serve(&drive, &record, block);
-        leave(
-            &mut self.waiting,
-            place,
-            record.step_toll(),
-            service.ended.is_some(),
-        );
+        let ends = service.ended.is_some();
+        leave(&mut self.waiting, place, record.step_toll(), ends);
         replace_drive(self.drives.as_mut_slice(), command.unit, &service.drive);
         self.begun = None;
+        self.serving = !ends;
         Report::Served {
             reference: command.reference,
             unit: command.unit,

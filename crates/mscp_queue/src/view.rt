@@ -76,6 +76,13 @@ impl View {
         }
     }
 
+    /// Forgets all choices.
+    pub(crate) fn clear(&mut self)
+        ensures { self.new ≡ [] }
+    {
+        self.choices.clear();
+    }
+
     /// Appends a choice.
     pub(crate) fn push(&mut self, choice: Choice)
         requires { length self.old < 64 }

@@ -1,6 +1,7 @@
 // The lines of a report.
 
-ghost use Rattle.std.specs.Prelude.{◌≡◌, ◌++◌, OnOk};
+ghost use Rattle.std.specs.Prelude.{◌≡◌, ◌++◌, codes, OnOk};
+ghost use Rattle.std.specs.Fmt.{decimal};
 ghost use Rattle.std.specs.List.{flat_map};
 ghost use Rattle.mscp_control.specs.declared.event.Entry.TheVariants as entries;
 ghost use Rattle.mscp_sim.specs.Text.{aborted_part, block_word, ended_part, entry_lines, figure_line, last_line, refusal_word, sent_line, step_line};
@@ -8,6 +9,7 @@ ghost use Rattle.mscp_sim.specs.Text.{aborted_part, block_word, ended_part, entr
 use crate::text::{put, put_field, put_hex, put_number};
 use crate::totals::Totals;
 use arrayvec::ArrayVec;
+use itoa::write_digits;
 use mscp_control::{Report, SendFault, Sent};
 use mscp_packet::End;
 use std::alloc::AllocError;
@@ -125,14 +127,26 @@ pub fn put_step(out: &mut Vec<u8>, report: &Report) -> Result<(), AllocError>
     }
 }
 
+/// Appends two numbers with a space between them and a line feed behind them. They are written from the last digit to the
+/// first, and appended in one piece, since a look has such a line for each waiting command.
+fn put_two_numbers(out: &mut Vec<u8>, first: u32, second: u32) -> Result<(), AllocError>
+    ensures { OnOk result (out.new.items
+        ≡ out.old.items ++ (decimal first ++ (codes " " ++ (decimal second ++ codes "\n")))) }
+{
+    let mut room = [b'\n'; 22];
+    let at = write_digits(u64::from(second), &mut room, 21) - 1;
+    room[at] = b' ';
+    let start = write_digits(u64::from(first), &mut room, at);
+    out.extend_from_slice(&room[start..])
+}
+
 /// Appends the line of each waiting command.
 pub fn put_figures(out: &mut Vec<u8>, shown: &[(u32, u32)]) -> Result<(), AllocError>
     ensures { OnOk result (out.new.items ≡ out.old.items ++ flat_map figure_line shown.now) }
 {
     for (reference, figure) in shown {
-        put_field(out, "figure ", *reference)?;
-        put_field(out, " ", *figure)?;
-        put(out, "\n")?;
+        put(out, "figure ")?;
+        put_two_numbers(out, *reference, *figure)?;
     }
     Ok(())
 }

@@ -122,7 +122,9 @@ fn request_of(line: Line<'_>) -> Result<Request, ScriptFault>
     ScriptFault::at(line.number, read_request(line.words))
 }
 
-/// What the line of these words asks for.
+/// What the line of these words asks for. It isn't made part of its caller, where a request would be moved piece by piece
+/// from each way in which a line is read.
+#[inline(never)]
 #[tactic(auto, unfolding(crate::specs::Requests::request))]
 fn read_request(mut words: Words<'_>) -> Result<Request, Cause>
     ensures { result ≡ requests.request (lexical.words words.entry.rest.now) }

@@ -16,10 +16,10 @@ pub invariant_of-self-then-was_begun : goal.invariant_of-self-then-was_begun
 invariant_of-self-then-was_begun g c =
     let K = g.row.K.Denot in
     let q = c.self.inside in
-    held_aborted q.room q.passing q.longest c.args.reference q.waiting.items c.take_out.new.waiting.items q.drives.items q.begun _ (ap (λ (l : Line K). is_begun c.args.reference l.begun) c.self.view_is ∙ sym c.if-was_begun.ensures) c.self.invariant c.take_out.ensures.left
+    held_aborted q.room q.passing q.longest c.args.reference q.waiting.items c.take_out.new.waiting.items q.drives.items q.begun q.serving _ (ap (λ (l : Line K). is_begun c.args.reference l.begun) c.self.view_is ∙ sym c.if-was_begun.ensures) c.self.invariant c.take_out.ensures.left
 
 pub invariant_of-self-else-was_begun : goal.invariant_of-self-else-was_begun
 invariant_of-self-else-was_begun g c =
     let K = g.row.K.Denot in
     let q = c.self.inside in
-    held_aborted q.room q.passing q.longest c.args.reference q.waiting.items c.take_out.new.waiting.items q.drives.items q.begun _ (ap (λ (l : Line K). is_begun c.args.reference l.begun) c.self.view_is ∙ sym c.if-was_begun.ensures) c.self.invariant c.take_out.ensures.left
+    held_aborted q.room q.passing q.longest c.args.reference q.waiting.items c.take_out.new.waiting.items q.drives.items q.begun q.serving _ (ap (λ (l : Line K). is_begun c.args.reference l.begun) c.self.view_is ∙ sym c.if-was_begun.ensures) c.self.invariant c.take_out.ensures.left

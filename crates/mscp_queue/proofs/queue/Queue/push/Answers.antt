@@ -12,7 +12,7 @@ invariant_of-self g c =
     let seen = sym c.self.view_is in
     let K = g.row.K.Denot in
     let command : Command = record { reference = c.args.new.reference; unit = c.args.new.unit; order = c.args.new.order } in
-    held_pushed c.self.inside.room c.self.inside.passing c.self.inside.longest c.self.inside.waiting.items _ c.self.inside.drives.items c.self.inside.begun command c.self.invariant
+    held_pushed c.self.inside.room c.self.inside.passing c.self.inside.longest c.self.inside.waiting.items _ c.self.inside.drives.items c.self.inside.begun c.self.inside.serving command c.self.invariant
     (subst (λ (l : Line K). length l.waiting < l.room) seen c.requires.room)
     (subst (λ (l : Line K). IsWaitable l.longest (units_of l.drives) command) seen c.requires.waitable)
     (subst (λ (l : Line K). list_any (has_reference command.reference) l.waiting ≡ false) seen c.requires.apart)

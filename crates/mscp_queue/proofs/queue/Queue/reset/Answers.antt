@@ -10,7 +10,7 @@ use Rattle.mscp_queue.proofs.queue.Queue.reset.Goals as goal
 pub invariant_of-self : goal.invariant_of-self
 invariant_of-self g c =
     let q = c.self.inside in
-    held_renewed q.room q.passing q.longest q.waiting.items c.clear.new.self.items q.drives.items _ q.begun c.self.invariant c.clear.ensures
+    held_renewed q.room q.passing q.longest q.waiting.items c.clear.new.self.items q.drives.items _ q.begun q.serving c.self.invariant c.clear.ensures
     (renewed q.drives.items c.renew_drives.new.drives (c.renew_drives.ensures ∙ ap (map (λ (d : Drive). fresh_drive d.unit)) c.as_mut_slice.ensures.value))
 
 pub returns : goal.returns

@@ -1,4 +1,4 @@
-use Rattle.std.proofs.Common.{◌≡◌, get_or, length, ap, subst, sym, ◌∙◌}
+use Rattle.std.proofs.Common.{◌≡◌, refl, get_or, length, ap, subst, sym, ◌∙◌}
 use Rattle.std.specs.Prelude.{if◌then◌else◌}
 use Rattle.std.specs.List.{refill}
 use Rattle.std.proofs.lemmas.List.{get_or_default, length-map}
@@ -27,11 +27,11 @@ invariant_of-self g c =
     let new : c.replace_drive.new.drives ≡ replaced c.command-command.result.unit c.serve-service.result.drive ds =
     c.replace_drive.ensures ∙ ap (replaced c.command-command.result.unit c.serve-service.result.drive) slice in
     let long : length c.replace_drive.new.drives ≡ length ds = ap length new ∙ length-map ds (λ (d : Drive). if has_number c.command-command.result.unit d then c.serve-service.result.drive else d) in
-    held_step c.self.inside.room c.self.inside.passing c.self.inside.longest place rs c.leave.new.waiting.items ds (refill (length ds) ds c.replace_drive.new.drives) c.self.inside.begun c.args.block.now item
-    c.command-command.result c.drive_of-drive.result c.serve-service.result.drive c.serve-service.result.ended c.is_some.result c.step_toll.result
+    held_step c.self.inside.room c.self.inside.passing c.self.inside.longest place rs c.leave.new.waiting.items ds (refill (length ds) ds c.replace_drive.new.drives) c.self.inside.begun c.self.inside.serving _ c.args.block.now item
+    c.command-command.result c.drive_of-drive.result c.serve-service.result.drive c.serve-service.result.ended c.is_some-ends.result c.step_toll.result
     c.self.invariant next.servable read c.command-command.ensures (c.drive_of-drive.ensures ∙ ap (λ l. drive_of l c.command-command.result.unit) c.as_slice.ensures.value)
-    c.serve-service.ensures.ended c.is_some.ensures c.serve-service.ensures.drive c.step_toll.ensures.value c.serve-service.ensures.on_unit
-    c.leave.ensures (refilled ds c.replace_drive.new.drives long ∙ new)
+    c.serve-service.ensures.ended c.is_some-ends.ensures c.serve-service.ensures.drive c.step_toll.ensures.value c.serve-service.ensures.on_unit
+    c.leave.ensures refl (refilled ds c.replace_drive.new.drives long ∙ new)
 
 pub returns-clause-units : goal.returns-clause-units
 returns-clause-units g c =
