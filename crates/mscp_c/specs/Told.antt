@@ -10,9 +10,11 @@ use Rattle.mscp_queue.specs.declared.block.Block.TheVariants.{Good, Bad}
 use Rattle.mscp_queue.specs.declared.report.Report.{Report}
 use Rattle.mscp_queue.specs.declared.report.Report.TheVariants.{Idle, Served}
 use Rattle.mscp_queue.specs.declared.upcoming.Upcoming.{Upcoming}
+use Rattle.mscp_queue.specs.Figures.{figure_of_reference, figures}
 use Rattle.mscp_control.specs.declared.event.SendFault.{SendFault}
 use Rattle.mscp_control.specs.declared.event.Sent.{Sent}
 use Rattle.mscp_control.specs.declared.event.Sent.TheVariants.{Queued, Answered}
+use Rattle.mscp_memory.specs.ControllerRoom.{Held}
 use Rattle.mscp_c.specs.declared.status.TheConstants as status
 use Rattle.mscp_c.specs.declared.outs.SentOut.{SentOut}
 use Rattle.mscp_c.specs.declared.outs.PacketOut.{PacketOut}
@@ -110,6 +112,13 @@ report_told (Served reference unit lbn started seek ended) out = record {
 }
 
 -- ---- figures
+
+-- the figures of the waiting commands, and that of the command of this reference number, 0 where none waits
+abbrev pub figures_in : Held → List (ℕ × ℕ)
+figures_in h = figures h.settings.passing h.settings.longest h.waiting
+
+abbrev pub figure_in : Held → ℕ → ℕ
+figure_in h reference = figure_of_reference h.settings.passing h.settings.longest h.waiting reference
 
 -- a reference number and a figure
 abbrev pub figure_told : ℕ × ℕ → FigureOut

@@ -2,9 +2,8 @@
 
 ghost use Rattle.std.specs.Prelude.{◌≡◌, true, false, pos, length};
 ghost use Rattle.mscp_control.specs.Holdings.{balance_of};
-ghost use Rattle.mscp_queue.specs.Figures.{figure_of_reference, figures};
 ghost use Rattle.mscp_memory.specs.ControllerHandles.{is_made};
-ghost use Rattle.mscp_c.specs.Told.{figures_told};
+ghost use Rattle.mscp_c.specs.Told.{figure_in, figures_in, figures_told};
 
 use crate::outs::FigureOut;
 use crate::status::NOT_MADE;
@@ -14,12 +13,8 @@ use mscp_memory::controller::{Handle, is_made, lend};
 /// The figures of the waiting commands, oldest first, as many as there is room for: how many wait.
 #[unsafe(no_mangle)]
 pub extern "C" fn mscp_look(handle: &mut Handle, out: &mut [FigureOut]) -> i32
-    ensures count { is_made handle.old ≡ true
-        → result ≡ pos (length (figures handle.old.held.settings.passing handle.old.held.settings.longest
-        handle.old.held.waiting)) }
-    ensures told { is_made handle.old ≡ true
-        → out.new ≡ figures_told
-        (figures handle.old.held.settings.passing handle.old.held.settings.longest handle.old.held.waiting) out.old }
+    ensures count { is_made handle.old ≡ true → result ≡ pos (length (figures_in handle.old.held)) }
+    ensures told { is_made handle.old ≡ true → out.new ≡ figures_told (figures_in handle.old.held) out.old }
     ensures same { handle.new ≡ handle.old }
     ensures unmade { is_made handle.old ≡ false → (result ≡ NOT_MADE) × (out.new ≡ out.old) }
 {
@@ -34,9 +29,7 @@ pub extern "C" fn mscp_look(handle: &mut Handle, out: &mut [FigureOut]) -> i32
 /// The figure of a waiting command, 0 where none waits of that reference number.
 #[unsafe(no_mangle)]
 pub extern "C" fn mscp_figure(handle: &mut Handle, reference: u32) -> i64
-    ensures value { is_made handle.old ≡ true
-        → result ≡ pos (figure_of_reference handle.old.held.settings.passing handle.old.held.settings.longest
-        handle.old.held.waiting reference) }
+    ensures value { is_made handle.old ≡ true → result ≡ pos (figure_in handle.old.held reference) }
     ensures same { handle.new ≡ handle.old }
     ensures unmade { is_made handle.old ≡ false → result ≡ NOT_MADE }
 {
