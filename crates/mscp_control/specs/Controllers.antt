@@ -4,9 +4,12 @@ use Rattle.mscp_drive.specs.Shape.{Shape}
 use Rattle.mscp_queue.specs.declared.drive.Drive.{Drive}
 use Rattle.mscp_queue.specs.declared.view.Choice.{Choice}
 use Rattle.mscp_queue.specs.Figures.{figure_of_reference}
+use Rattle.mscp_queue.specs.Kept.{names}
 use Rattle.mscp_control.specs.Settings.{Settings, IsValid}
 use Rattle.mscp_control.specs.Holdings.{Holdings, balance_of, fresh}
 use Rattle.mscp_control.specs.History.{Trace}
+use Rattle.mscp_control.specs.Commands.{name, waiting}
+use Rattle.mscp_control.specs.Ends.{untaken}
 use Rattle.mscp_control.specs.Figures.{figure_of}
 use Rattle.mscp_control.specs.Units.{head, is_online}
 use Rattle.mscp_control.specs.Credits.{balance}
@@ -37,6 +40,9 @@ pub record KeepsPromise {K : Type 0} (picks : List Choice → ℕ → Type 0) (c
   pub swept : Sweeps picks → AtEachCall calls (StartsChosen (IsSwept c))
   -- its settings are those that it was made with (profile)
   pub settings : held.settings ≡ c
+  -- it holds the commands that wait after the history, and the ends that weren't taken (manual)
+  pub waiting : names held.waiting ≡ map (name (history calls)) (waiting (history calls))
+  pub untaken : held.untaken ≡ untaken c (history calls)
   -- the figure that it now tells of a reference number is that of the history (profile)
   pub figure : (reference : ℕ) → figure_of_reference c.passing c.longest held.waiting reference
       ≡ figure_of c (history calls) reference

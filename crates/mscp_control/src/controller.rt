@@ -1,7 +1,8 @@
 // A controller: its queue, its untaken ends, and its credits.
 
-ghost use Rattle.std.specs.Prelude.{◌≡◌, ◌+◌, ◌<◌, ◌≤◌, ◌^◌, true, false, [], ◌∷◌, ◌++◌, length, IfErr, IfOk, None, nat_eq, option_map};
+ghost use Rattle.std.specs.Prelude.{◌≡◌, ◌+◌, ◌<◌, ◌≤◌, ◌^◌, true, false, [], ◌∷◌, ◌++◌, length, slice_get, IfErr, IfOk, IfSome, None, Some, nat_eq, option_map};
 ghost use Rattle.std.specs.List.{list_any};
+ghost use Rattle.mscp_packet.specs.Ends.{IsEnd, IsOfKind};
 ghost use Rattle.mscp_queue.specs.Orders.{first_block, order_weight};
 ghost use Rattle.mscp_queue.specs.Figures.{figure_of_reference, figures};
 ghost use Rattle.mscp_control.specs.Arrival.{credit_fault, fault_of, holds, is_queued};
@@ -294,9 +295,11 @@ impl<K: Picker> Controller<K> {
         }
     }
 
-    /// Takes the oldest end that wasn't taken, as bytes, if there is one.
+    /// Takes the oldest end that wasn't taken, as bytes, if there is one. They are a message of that end.
     pub fn take(&mut self) -> Option<ArrayVec<u8, 48>>
         ensures answer { result ≡ end_taken self.old }
+        ensures reads_back { (end : End) → slice_get self.old.untaken 0 ≡ Some end → IsOfKind end
+            → IfSome result (λ b. IsEnd b.items end) }
         ensures after { self.new ≡ after_take self.old }
         ensures account { IsBalanced self.new }
     {

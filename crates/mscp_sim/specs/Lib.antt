@@ -11,3 +11,6 @@ pub mod Running
 pub mod Causes
 pub mod Shown
 pub mod Chosen
+pub mod Talks
+pub mod Matches
+pub mod TwoEnds

@@ -3,7 +3,9 @@ use Rattle.std.proofs.Common.{◌≡◌, inl, inr, ℕ, ◌-◌, ◌+◌, List, 
 use Rattle.std.specs.Prelude.{IfSome, Option, Some, None, zip}
 use Rattle.mscp_queue.specs.declared.view.Choice.{Choice}
 use Rattle.mscp_queue.specs.Figures.{figure_of_reference}
-use Rattle.mscp_queue.specs.Names.{Name}
+use Rattle.mscp_queue.specs.Names.{Name, name_of}
+use Rattle.mscp_queue.specs.Kept.{names}
+use Rattle.mscp_queue.proofs.Placed.{map_map}
 use Rattle.mscp_control.specs.declared.event.Event.{Event}
 use Rattle.mscp_control.specs.declared.event.Entry.{Entry}
 use Rattle.mscp_control.specs.Settings.{Settings, IsValid}
@@ -14,7 +16,8 @@ use Rattle.mscp_control.specs.Sweeping.{IsSwept, Sweeps}
 use Rattle.mscp_control.specs.Calls.{AnsweredCalls, Call, IsChosen, call_at, history, starts}
 use Rattle.mscp_control.specs.Controllers.{KeepsPromise}
 use Rattle.mscp_control.proofs.Bridge.Swept.{sweeping, swept_pick}
-use Rattle.mscp_control.proofs.Bridge.Held.{figure_of_held}
+use Rattle.mscp_control.specs.Commands.{waiting}
+use Rattle.mscp_control.proofs.Bridge.Held.{figure_of_held, held_of}
 use Rattle.mscp_control.proofs.Promise.Progress.{progress}
 use Rattle.mscp_control.proofs.Bridge.Sending.{balance_held}
 use Rattle.mscp_control.proofs.Bridge.Following.{as_many, comes}
@@ -60,6 +63,8 @@ keeps_promise c picks picker calls h v r =
       picked = k.picked;
       swept = λ w i l. starts_swept c picks (take i calls) (starts (call_at calls i)) w (k.picked i l);
       settings = k.settings;
+      waiting = ap names f.waits ∙ map_map (held_of t) (λ r. name_of r.command) (waiting t);
+      untaken = f.ends;
       figure = λ reference. ap (λ ws. figure_of_reference c.passing c.longest ws reference) f.waits ∙ figure_of_held c t reference;
       drives = k.agrees.driven.drives;
       balance = ap (λ (s : Settings). s.credits - (length h.waiting + length h.untaken)) k.settings ∙ balance_held c t h.waiting h.untaken f;

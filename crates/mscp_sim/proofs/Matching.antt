@@ -1,0 +1,184 @@
+-- What a host and a controller keep of each other stays so, whatever comes.
+use Rattle.std.proofs.Common.{◌≡◌, ⊎_elim, ℕ, suc, ◌+◌, ◌-◌, ◌<◌, ◌≤◌, ◌^◌, Bool, true, false, cond, List, [], ◌∷◌, ◌++◌, map, take, drop, length, refl, ap, sym, ◌∙◌, subst, arith, append_assoc}
+use Rattle.std.specs.Prelude.{find, filter, nat_eq, nat_lt, not, ◌||◌, ◌&&◌, if◌then◌else◌, Option, Some, None, is_some, option_map, option_to_list, slice_get}
+use Rattle.std.specs.List.{AllByRecursion, list_any}
+use Rattle.std.proofs.lemmas.Bool.{eqb-true, eq-eqb, false≢true, true≢false}
+use Rattle.std.proofs.lemmas.List.{length-append, length-map, map-append}
+use Rattle.mscp_packet.specs.declared.command.Command.{Command}
+use Rattle.mscp_packet.specs.declared.end.End.{End}
+use Rattle.mscp_packet.specs.Commands.{opcode_byte}
+use Rattle.mscp_packet.specs.Ends.{IsOfKind}
+use Rattle.mscp_queue.specs.Names.{end_name}
+use Rattle.mscp_queue.specs.Kept.{names}
+use Rattle.mscp_queue.specs.Orders.{endcode}
+use Rattle.mscp_queue.specs.Records.{Record}
+use Rattle.mscp_queue.proofs.Lists.{every_append, every_parts, every_weaker}
+use Rattle.mscp_control.specs.Holdings.{Holdings, outstanding_of}
+use Rattle.mscp_host.specs.declared.submission.Submission.{Submission}
+use Rattle.mscp_host.specs.declared.watch.Watch.{Watch}
+use Rattle.mscp_host.specs.Accounts.{Account, has_reference, is_code_of}
+use Rattle.mscp_sim.specs.Matches.{Flight, HasFlight, IsAwaited, IsFlight, IsKnown, IsSmall, Matches, commands, opcode_found, references, times}
+use Rattle.mscp_sim.proofs.Counting.{times_append, opcode_pushed, opcode_new}
+
+-- ---- names
+
+-- the names of commands
+abbrev pub called : List Command → List ℕ
+called cs = map (λ c. c.reference) cs
+
+names_called : (rs : List Record) → names rs ≡ called (commands rs)
+names_called [] = refl
+names_called (r ∷ rs) = ap (λ ns. r.command.reference ∷ ns) (names_called rs)
+
+length_commands : (rs : List Record) → length (commands rs) ≡ length rs
+length_commands [] = refl
+length_commands (r ∷ rs) = ap (λ n. suc n) (length_commands rs)
+
+-- how often a number stands among the commands that wait and the ends
+abbrev pub counted : ℕ → List Command → List End → ℕ
+counted r cs us = times r (called cs) + times r (map end_name us)
+
+pub counted_names : {K : Type 0} (r : ℕ) (h : Holdings K) → times r (outstanding_of h) ≡ counted r (commands h.waiting) h.untaken
+counted_names r h = times_append r (names h.waiting) (map end_name h.untaken) ∙ ap (λ ns. times r ns + times r (map end_name h.untaken)) (names_called h.waiting)
+
+pub times_called : (r : ℕ) (xs ys : List Command) → times r (called (xs ++ ys)) ≡ times r (called xs) + times r (called ys)
+times_called r xs ys = ap (times r) (map-append (λ (c : Command). c.reference) xs ys) ∙ times_append r (called xs) (called ys)
+
+pub times_ends : (r : ℕ) (xs ys : List End) → times r (map end_name (xs ++ ys)) ≡ times r (map end_name xs) + times r (map end_name ys)
+times_ends r xs ys = ap (times r) (map-append end_name xs ys) ∙ times_append r (map end_name xs) (map end_name ys)
+
+-- ---- the flight
+
+pub flight_on : (us : List End) (w : Option Watch) (told : Flight) (e : End) → HasFlight us w told → HasFlight (us ++ e ∷ []) w told
+flight_on us None told e f = tt
+flight_on us (Some w) told e f = record {
+  front = f.front;
+  end = f.end;
+  back = f.back ++ e ∷ [];
+  split = ap (λ xs. xs ++ e ∷ []) f.split ∙ append_assoc f.front (f.end ∷ f.back) (e ∷ []);
+  reference = f.reference;
+  code = f.code;
+  body = f.body;
+  ended = f.ended;
+}
+
+-- ---- the commands stay where they are
+
+-- nothing that a match asks for is changed
+pub stays : {K : Type 0} (a : Account) (h h' : Holdings K) (told : Flight) → commands h'.waiting ≡ commands h.waiting → h'.untaken ≡ h.untaken → h'.settings ≡ h.settings → Matches a h told → Matches a h' told
+stays {K} a h h' told w u s m =
+    let counts : (r : ℕ) → times r (outstanding_of h') ≡ times r (outstanding_of h) = λ r. counted_names r h' ∙ ((λ i. counted r (w i) (u i)) ∙ sym (counted_names r h)) in
+    let lengths = sym (length_commands h'.waiting) ∙ (ap length w ∙ length_commands h.waiting) in
+    record {
+      credits = m.credits ∙ ap (λ c. c.credits) (sym s);
+      many = m.many ∙ (λ i. sym lengths i + length (sym u i));
+      same = λ r. m.same r ∙ sym (counts r);
+      once = λ r. subst (λ n. n ≤ 1) (sym (counts r)) (m.once r);
+      small = m.small;
+      waits = subst (AllByRecursion (IsKnown a.outstanding)) (sym w) m.waits;
+      ends = subst (AllByRecursion (IsAwaited a.outstanding)) (sym u) m.ends;
+      flight = subst (λ us. HasFlight us a.watch told) (sym u) m.flight;
+    }
+
+-- ---- a command ends
+
+-- the command of a waiting record has its end
+pub record Ends {K : Type 0} (h h' : Holdings K) : Type 0 where
+  pub front : List Command
+  pub own : Command
+  pub back : List Command
+  pub end : End
+  pub waited : commands h.waiting ≡ front ++ own ∷ back
+  pub left : commands h'.waiting ≡ front ++ back
+  pub ends : h'.untaken ≡ h.untaken ++ end ∷ []
+  pub reference : end.reference ≡ own.reference
+  pub code : end.code ≡ endcode own.order
+  pub kind : IsOfKind end
+  pub settings : h'.settings ≡ h.settings
+
+ends_counted : {K : Type 0} (r : ℕ) (h h' : Holdings K) → (x : Ends h h') → times r (outstanding_of h') ≡ times r (outstanding_of h)
+ends_counted {K} r h h' x =
+    let own = times r (x.own.reference ∷ []) in
+    let old : times r (called (commands h.waiting)) ≡ times r (called x.front) + (own + times r (called x.back)) =
+    ap (λ cs. times r (called cs)) x.waited ∙ (times_called r x.front (x.own ∷ x.back) ∙ ap (λ n. times r (called x.front) + n) (times_called r (x.own ∷ []) x.back)) in
+    let new : times r (called (commands h'.waiting)) ≡ times r (called x.front) + times r (called x.back) = ap (λ cs. times r (called cs)) x.left ∙ times_called r x.front x.back in
+    let ends : times r (map end_name h'.untaken) ≡ times r (map end_name h.untaken) + own =
+    ap (λ us. times r (map end_name us)) x.ends ∙ (times_ends r h.untaken (x.end ∷ []) ∙ ap (λ n. times r (map end_name h.untaken) + times r (n ∷ [])) x.reference) in
+    let before = counted_names r h in
+    let after = counted_names r h' in
+    omega (arith, old, new, ends, before, after)
+
+pub ends_match : {K : Type 0} (a : Account) (h h' : Holdings K) (told : Flight) → Ends h h' → Matches a h told → Matches a h' told
+ends_match {K} a h h' told x m =
+    let counts : (r : ℕ) → times r (outstanding_of h') ≡ times r (outstanding_of h) = λ r. ends_counted r h h' x in
+    let waited = subst (AllByRecursion (IsKnown a.outstanding)) x.waited m.waits in
+    let parts = every_parts (IsKnown a.outstanding) x.front (x.own ∷ x.back) waited in
+    let before : length h.waiting ≡ length x.front + suc (length x.back) = sym (length_commands h.waiting) ∙ (ap length x.waited ∙ length-append x.front (x.own ∷ x.back)) in
+    let after : length h'.waiting ≡ length x.front + length x.back = sym (length_commands h'.waiting) ∙ (ap length x.left ∙ length-append x.front x.back) in
+    let ends : length h'.untaken ≡ length h.untaken + 1 = ap length x.ends ∙ length-append h.untaken (x.end ∷ []) in
+    let known = parts.1.0 in
+    let awaited : IsAwaited a.outstanding x.end = record {
+      opcode = opcode_byte x.own.order;
+      found = ap (opcode_found a.outstanding) x.reference ∙ known.0;
+      code = ap (λ k. is_code_of k (opcode_byte x.own.order)) x.code ∙ known.1.0;
+      kind = x.kind;
+    } in
+    record {
+      credits = m.credits ∙ ap (λ c. c.credits) (sym x.settings);
+      many = let many = m.many in omega (arith, many, before, after, ends);
+      same = λ r. m.same r ∙ sym (counts r);
+      once = λ r. subst (λ n. n ≤ 1) (sym (counts r)) (m.once r);
+      small = m.small;
+      waits = subst (AllByRecursion (IsKnown a.outstanding)) (sym x.left) (every_append (IsKnown a.outstanding) x.front x.back parts.0 parts.1.1);
+      ends = subst (AllByRecursion (IsAwaited a.outstanding)) (sym x.ends) (every_append (IsAwaited a.outstanding) h.untaken (x.end ∷ []) m.ends (awaited, tt));
+      flight = subst (λ us. HasFlight us a.watch told) (sym x.ends) (flight_on h.untaken a.watch told x.end m.flight);
+    }
+
+-- ---- a command arrives
+
+-- a submission is pushed whose number is new, and a record that waits, or an end
+pub known_more : (xs : List Submission) (s : Submission) (cs : List Command) → AllByRecursion (IsKnown xs) cs → AllByRecursion (IsKnown (xs ++ s ∷ [])) cs
+known_more xs s cs h =
+    every_weaker (IsKnown xs) (IsKnown (xs ++ s ∷ [])) (λ c k. (opcode_pushed c.reference (opcode_byte c.order) xs s k.0, k.1)) cs h
+
+pub awaited_more : (xs : List Submission) (s : Submission) (us : List End) → AllByRecursion (IsAwaited xs) us → AllByRecursion (IsAwaited (xs ++ s ∷ [])) us
+awaited_more xs s us h =
+    every_weaker (IsAwaited xs) (IsAwaited (xs ++ s ∷ [])) (λ e k. record { opcode = k.opcode; found = opcode_pushed e.reference k.opcode xs s k.found; code = k.code; kind = k.kind }) us h
+
+-- what is known where a submission is pushed: its number is new, and the controller has it once more
+pub record Pushes {K : Type 0} (a a' : Account) (h h' : Holdings K) (s : Submission) : Type 0 where
+  pub credits : a'.credits ≡ a.credits
+  pub outstanding : a'.outstanding ≡ a.outstanding ++ s ∷ []
+  pub small : IsSmall s
+  pub new : times s.reference (outstanding_of h) ≡ 0
+  pub counts : (r : ℕ) → times r (outstanding_of h') ≡ times r (outstanding_of h) + times r (s.reference ∷ [])
+  pub more : length h'.waiting + length h'.untaken ≡ length h.waiting + length h.untaken + 1
+  pub settings : h'.settings ≡ h.settings
+  pub waits : AllByRecursion (IsKnown (a.outstanding ++ s ∷ [])) (commands h'.waiting)
+  pub ends : AllByRecursion (IsAwaited (a.outstanding ++ s ∷ [])) h'.untaken
+
+once_pushed : (r n t : ℕ) → t ≤ 1 → (r ≡ n → t ≡ 0) → t + times r (n ∷ []) ≤ 1
+once_pushed r n t l z =
+    let both : (b : Bool) → nat_eq n r ≡ b → t + cond b 1 0 ≤ 1 =
+    λ b. elim b as (λ b. nat_eq n r ≡ b → t + cond b 1 0 ≤ 1) [
+      | true ↦ λ e. let none = z (sym (eqb-true n r e)) in omega (arith, none)
+      | false ↦ λ e. omega (arith, l)
+    ] in
+    both (nat_eq n r) refl
+
+pub pushes_match : {K : Type 0} (a a' : Account) (h h' : Holdings K) (s : Submission) (told told' : Flight) → Pushes a a' h h' s → Matches a h told → HasFlight h'.untaken a'.watch told' → Matches a' h' told'
+pushes_match {K} a a' h h' s told told' x m f =
+    record {
+      credits = x.credits ∙ (m.credits ∙ ap (λ c. c.credits) (sym x.settings));
+      many =
+          let pushed : length a'.outstanding ≡ length a.outstanding + 1 = ap length x.outstanding ∙ length-append a.outstanding (s ∷ []) in
+          let many = m.many in
+          let more = x.more in
+          omega (arith, pushed, many, more);
+      same = λ r. ap (λ xs. times r (references xs)) x.outstanding ∙ (ap (times r) (map-append (λ (q : Submission). q.reference) a.outstanding (s ∷ [])) ∙ (times_append r (references a.outstanding) (s.reference ∷ []) ∙ (ap (λ n. n + times r (s.reference ∷ [])) (m.same r) ∙ sym (x.counts r))));
+      once = λ r. subst (λ n. n ≤ 1) (sym (x.counts r)) (once_pushed r s.reference (times r (outstanding_of h)) (m.once r) (λ e. ap (λ n. times n (outstanding_of h)) e ∙ x.new));
+      small = subst (AllByRecursion IsSmall) (sym x.outstanding) (every_append IsSmall a.outstanding (s ∷ []) m.small (x.small, tt));
+      waits = subst (λ xs. AllByRecursion (IsKnown xs) (commands h'.waiting)) (sym x.outstanding) x.waits;
+      ends = subst (λ xs. AllByRecursion (IsAwaited xs) h'.untaken) (sym x.outstanding) x.ends;
+      flight = f;
+    }

@@ -1,0 +1,93 @@
+-- The controller's trace is that of the calls that came to it, and what that promises.
+use Rattle.std.proofs.Common.{◌≡◌, ◌↔◌, ℕ, suc, ◌+◌, ◌<◌, ◌≤◌, Bool, true, false, cond, List, [], ◌∷◌, ◌++◌, map, take, length, get_or, refl, ap, sym, ◌∙◌, subst, arith, append-nil}
+use Rattle.std.specs.Prelude.{find, flat_map, nat_eq, ◌||◌, zip, Contains, Option, Some, None, is_some, option_map, option_to_list, unwrap_or}
+use Rattle.std.specs.List.{list_any}
+use Rattle.std.proofs.lemmas.Bool.{false≢true}
+use Rattle.std.proofs.lemmas.Grind.{flat_map-append}
+use Rattle.std.proofs.lemmas.List.{map-append, take_more, take_all}
+use Rattle.mscp_queue.specs.declared.view.Choice.{Choice}
+use Rattle.mscp_queue.specs.Figures.{figure_of_reference}
+use Rattle.mscp_queue.specs.Kept.{names}
+use Rattle.mscp_queue.specs.Names.{Name, same_name}
+use Rattle.mscp_control.specs.declared.event.Event.{Event}
+use Rattle.mscp_control.specs.declared.event.Entry.{Entry}
+use Rattle.mscp_control.specs.Settings.{Settings}
+use Rattle.mscp_control.specs.History.{Moment, Trace}
+use Rattle.mscp_control.specs.Commands.{name, waiting}
+use Rattle.mscp_control.specs.Figures.{figure, figure_found, figure_of}
+use Rattle.mscp_control.specs.Headline.{Promise}
+use Rattle.mscp_control.specs.Holdings.{Answered, Answers, Holdings, fresh}
+use Rattle.mscp_control.specs.Calls.{AnsweredCalls, AnswersCall, Call, Plain, history}
+use Rattle.mscp_host.specs.Accounts.{Account}
+use Rattle.mscp_sim.specs.Talks.{Said, Talk, said, trace_of}
+use Rattle.mscp_sim.specs.TwoEnds.{Converses, Meets}
+
+-- the calls of a trace
+abbrev pub calls_of : Trace → List Call
+calls_of t = map (λ m. Plain m.0 m.1) t
+
+pub history_of : (t : Trace) → history (calls_of t) ≡ t
+history_of [] = refl
+history_of (m ∷ t) = ap (λ r. m ∷ r) (history_of t)
+
+calls_push : {K : Type 0} (picks : List Choice → ℕ → Type 0) (h m h' : Holdings K) (calls : List Call) (call : Call) → AnsweredCalls picks h calls m → AnswersCall picks m call h' → AnsweredCalls picks h (calls ++ call ∷ []) h'
+calls_push {K} picks h m h' [] call r a = (h', subst (λ (x : Holdings K). AnswersCall picks x call h') r a, refl)
+calls_push picks h m h' (c ∷ calls) call r a = (r.0, r.1, calls_push picks r.0 m h' calls call r.2 a)
+
+-- what came so far, and one more moment, if there is one
+pub reached_more : {K : Type 0} (picks : List Choice → ℕ → Type 0) (h m h' : Holdings K) (t : Trace) (o : Option Moment) → AnsweredCalls picks h (calls_of t) m → Meets picks m o h' → AnsweredCalls picks h (calls_of (t ++ option_to_list o)) h'
+reached_more {K} picks h m h' t None r a = subst (λ (x : Holdings K). AnsweredCalls picks h (calls_of (t ++ [])) x) (sym a) (subst (λ u. AnsweredCalls picks h (calls_of u) m) (sym (append-nil t)) r)
+reached_more {K} picks h m h' t (Some n) r a = subst (λ cs. AnsweredCalls picks h cs h') (sym (map-append (λ (x : Moment). Plain x.0 x.1) t (n ∷ []))) (calls_push picks h m h' (calls_of t) (Plain n.0 n.1) r a)
+
+-- the trace before the next turn
+pub trace_more : (talk : Talk) (j : ℕ) → j < length talk → trace_of (take (j + 1) talk) ≡ trace_of (take j talk) ++ option_to_list (said talk j).moment
+trace_more talk j l =
+    ap trace_of (take_more talk j _ l) ∙ (flat_map-append (λ (s : Said). option_to_list s.moment) (take j talk) (said talk j ∷ []) ∙ ap (λ xs. trace_of (take j talk) ++ xs) (append-nil (option_to_list (said talk j).moment)))
+
+-- ---- the whole trace
+
+-- its events and its entries
+abbrev pub events_of : Trace → List Event
+events_of t = map (λ m. m.0) t
+
+abbrev pub entries_of : Trace → List Entry
+entries_of t = map (λ m. m.1) t
+
+pub zipped : (t : Trace) → zip (events_of t) (entries_of t) ≡ t
+zipped [] = refl
+zipped (m ∷ t) = ap (λ r. m ∷ r) (zipped t)
+
+pub answered_calls : {K : Type 0} (picks : List Choice → ℕ → Type 0) (h h' : Holdings K) (t : Trace) → AnsweredCalls picks h (calls_of t) h' → Answered picks h (events_of t) (entries_of t) h'
+answered_calls picks h h' [] r = r
+answered_calls picks h h' (m ∷ t) r = (r.0, r.1, answered_calls picks r.0 h' t r.2)
+
+-- ---- a figure
+
+-- one that a test finds
+record Finds {X : Type 0} (p : X → Bool) (xs : List X) : Type 0 where
+  pub item : X
+  pub found : find p xs ≡ Some item
+  pub there : Contains xs item
+
+finds : {X Y : Type 0} (f : X → Y) (p : Y → Bool) (xs : List X) → list_any p (map f xs) ≡ true → Finds (λ x. p (f x)) xs
+finds f p [] e = absurd (false≢true e)
+finds {X} f p (x ∷ xs) e =
+    let out : (b : Bool) → p (f x) ≡ b → (b || list_any p (map f xs)) ≡ true → Finds (λ y. p (f y)) (x ∷ xs) =
+    λ b. elim b as (λ b. p (f x) ≡ b → (b || list_any p (map f xs)) ≡ true → Finds (λ y. p (f y)) (x ∷ xs)) [
+      | true ↦ λ q h. record { item = x; found = ap (λ b. cond b (Some x) (find (λ y. p (f y)) xs)) q; there = (0, omega arith, refl) }
+      | false ↦ λ q h.
+          let rest = finds f p xs h in
+          let l = rest.there.1 in
+          record { item = rest.item; found = ap (λ b. cond b (Some x) (find (λ y. p (f y)) xs)) q ∙ rest.found; there = (suc rest.there.0, omega (arith, l), rest.there.2) }
+    ] in
+    out (p (f x)) refl e
+
+-- the figure of a number that waits is at least 1
+pub some_figure : (c : Settings) (t : Trace) (n : ℕ) → Promise c t → list_any (λ x. nat_eq x n) (map (name t) (waiting t)) ≡ true → 1 ≤ figure_of c t n
+unfolding figure_of
+some_figure c t n p e =
+    let x = finds (name t) (λ y. nat_eq y n) (waiting t) e in
+    let whole : take (length t) t ≡ t = take_all (length t) t (omega arith) in
+    let positive = subst (λ u. (y : ℕ) → Contains (waiting u) y ↔ (1 ≤ figure c u y)) whole (p.positive (length t) (omega arith)) in
+    let some : 1 ≤ figure c t x.item = (positive x.item).0 x.there in
+    subst (λ o. 1 ≤ figure_found c t o) (sym x.found) some

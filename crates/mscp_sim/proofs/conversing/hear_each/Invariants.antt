@@ -1,0 +1,8 @@
+use Rattle.std.specs.Prelude.{take}
+use Rattle.mscp_sim.proofs.Talking.{Talks}
+use Rattle.mscp_sim.proofs.conversing.hear_each.Given as goal
+
+abbrev pub invariant-loop-turn : goal.invariant-loop-turn
+invariant-loop-turn g l =
+    Talks g.K.Picker.picks l.fn.host l.host l.fn.controller l.controller (take l.turn-index l.turns)
+    (l.fn.talk.heard.items, l.fn.talk.trace.items) (l.talk.heard.items, l.talk.trace.items)

@@ -1,0 +1,190 @@
+-- A talk of a host with a controller, and what is collected of it by positions. A command of the host is the turn in which
+-- it was sent, so a reference number that is used again names another command.
+use Rattle.std.specs.Prelude.{◌≡◌, ℕ, ◌<◌, ◌≤◌, Bool, true, false, not, ◌&&◌, nat_eq, nat_lt, if◌then◌else◌, List, [], ◌∷◌, length, take, map, filter, find, flat_map, slice_index_or, Option, Some, None, option_map, option_to_list}
+use Rattle.std.specs.List.{list_any, range_with_len}
+use Rattle.mscp_packet.specs.declared.command.Order.TheVariants as orders
+use Rattle.mscp_packet.specs.Commands.{opcode_byte}
+use Rattle.mscp_packet.specs.Number.{num}
+use Rattle.mscp_control.specs.declared.event.Entry.TheVariants as entries
+use Rattle.mscp_control.specs.Settings.{Settings}
+use Rattle.mscp_control.specs.History.{Moment, Trace, last_or}
+use Rattle.mscp_control.specs.Figures.{figure_of}
+use Rattle.mscp_host.specs.declared.submission.Submission.{Submission}
+use Rattle.mscp_host.specs.declared.watch.Watch.{Watch}
+use Rattle.mscp_host.specs.Accounts.{Account, is_immediate}
+use Rattle.mscp_sim.specs.declared.conversing.Turn.{Turn}
+use Rattle.mscp_sim.specs.declared.conversing.Turn.TheVariants as turns
+use Rattle.mscp_sim.specs.declared.conversing.Heard.{Heard}
+use Rattle.mscp_sim.specs.declared.conversing.Heard.TheVariants as hears
+
+-- a turn, what was heard in it, and the moment of the controller's trace that it made, if it made one (profile)
+pub record Said : Type 0 where
+  pub turn : Turn
+  pub heard : Heard
+  pub moment : Option Moment
+
+-- the turns of a talk, oldest first (profile)
+abbrev pub Talk : Type 0
+Talk = List Said
+
+-- what was said at a position. Past the end it is nothing (profile)
+abbrev pub said : Talk → ℕ → Said
+said talk j = slice_index_or talk j (record { turn = turns.Take; heard = hears.Quiet; moment = None })
+
+-- the controller's trace
+abbrev pub trace_of : Talk → Trace
+trace_of talk = flat_map (λ s. option_to_list s.moment) talk
+
+-- the positions before j, in order
+abbrev pub before : ℕ → List ℕ
+before j = range_with_len 0 j
+
+-- ---- what one turn says
+
+-- the host sent a command
+abbrev pub sends : Heard → Bool
+sends (hears.Submitted sent) = true
+sends hears.Asked = true
+sends heard = false
+
+-- it was a poll
+abbrev pub asks : Heard → Bool
+asks hears.Asked = true
+asks heard = false
+
+-- the reference number of the command that a turn is about
+abbrev pub reference_in : Turn → ℕ
+reference_in (turns.Submit command) = command.reference
+reference_in (turns.Poll reference) = reference
+reference_in turn = 0
+
+-- its opcode byte: that of GET COMMAND STATUS where it is a poll (manual)
+abbrev pub opcode_in : Turn → ℕ
+opcode_in (turns.Submit command) = opcode_byte command.order
+opcode_in (turns.Poll reference) = opcode_byte (orders.Status 0)
+opcode_in turn = 0
+
+-- the unit that a command names
+abbrev pub unit_in : Turn → ℕ
+unit_in (turns.Submit command) = command.unit
+unit_in turn = 0
+
+-- the turn hands over an end of this reference number (manual, "End Messages")
+abbrev pub hands_over : ℕ → Option Moment → Bool
+hands_over reference (Some (event, entries.Taken (Some b))) = nat_eq (num b.items 0 4) reference
+hands_over reference moment = false
+
+-- ---- commands
+
+-- the reference number of the command that was sent in turn i
+abbrev pub reference : Talk → ℕ → ℕ
+reference talk i = reference_in (said talk i).turn
+
+-- its opcode byte
+abbrev pub opcode : Talk → ℕ → ℕ
+opcode talk i = opcode_in (said talk i).turn
+
+-- its end is handed over in turn k
+abbrev pub is_ended : Talk → ℕ → ℕ → Bool
+is_ended talk i k = nat_lt i k && hands_over (reference talk i) (said talk k).moment
+
+-- a command was sent in turn i, and before turn j its end wasn't handed over (manual)
+abbrev pub is_outstanding : Talk → ℕ → ℕ → Bool
+is_outstanding talk j i = sends (said talk i).heard && not (list_any (is_ended talk i) (before j))
+
+-- the commands that are outstanding before turn j, oldest first (manual)
+unfoldable pub outstanding : Talk → ℕ → List ℕ
+outstanding talk j = filter (is_outstanding talk j) (before j)
+
+-- the command whose end turn k hands over, if it hands one over
+abbrev pub ended : Talk → ℕ → Option ℕ
+ended talk k = find (λ i. hands_over (reference talk i) (said talk k).moment) (outstanding talk k)
+
+-- ---- polls
+
+-- the command that a poll in turn j is about: the oldest outstanding one that isn't answered when it arrives (manual, "Host
+-- Command Timeouts")
+abbrev pub polled : Talk → ℕ → Option ℕ
+polled talk j = find (λ i. not (is_immediate (opcode talk i))) (outstanding talk j)
+
+-- its reference number, if there is one
+abbrev pub reference_found : Talk → Option ℕ → ℕ
+reference_found talk None = 0
+reference_found talk (Some i) = reference talk i
+
+-- its unit
+abbrev pub unit_found : Talk → Option ℕ → ℕ
+unit_found talk None = 0
+unit_found talk (Some i) = unit_in (said talk i).turn
+
+-- what the poll in turn j is told: the figure of that command after the trace so far (manual, "Host Command Timeouts")
+abbrev pub told_in : Settings → Talk → ℕ → ℕ
+told_in c talk j = figure_of c (trace_of (take j talk)) (reference_found talk (polled talk j))
+
+-- a command was found, and it is i
+abbrev pub is_it : ℕ → Option ℕ → Bool
+is_it i None = false
+is_it i (Some x) = nat_eq x i
+
+-- turn p was a poll about the command i
+abbrev pub asks_about : Talk → ℕ → ℕ → Bool
+asks_about talk i p = asks (said talk p).heard && is_it i (polled talk p)
+
+-- what the end of the command that was sent in turn p tells of the command i: an answer, if it was a poll about it
+abbrev pub answers_of : Settings → Talk → ℕ → Option ℕ → List ℕ
+answers_of c talk i None = []
+answers_of c talk i (Some p) = if asks_about talk i p then told_in c talk p ∷ [] else []
+
+-- all that the host was told of the command i before turn j, in order
+abbrev pub answers_about : Settings → Talk → ℕ → ℕ → List ℕ
+answers_about c talk j i = flat_map (λ k. answers_of c talk i (ended talk k)) (before j)
+
+-- the last of a list, if there is one
+abbrev pub last_of : List ℕ → Option ℕ
+last_of [] = None
+last_of (x ∷ xs) = Some (last_or xs x)
+
+-- the last that the host was told of the command i before turn j, if it was told something
+abbrev pub last_answer : Settings → Talk → ℕ → ℕ → Option ℕ
+last_answer c talk j i = last_of (answers_about c talk j i)
+
+-- ---- what the host keeps
+
+-- the unit that the command of turn i names: a poll names that of the command that it is about
+abbrev pub unit_of_turn : Talk → ℕ → Turn → ℕ
+unit_of_turn talk i (turns.Poll reference) = unit_found talk (polled talk i)
+unit_of_turn talk i turn = unit_in turn
+
+-- of the command i, before turn j
+abbrev pub submission_at : Settings → Talk → ℕ → ℕ → Submission
+submission_at c talk j i = record {
+  reference = reference talk i;
+  unit = unit_of_turn talk i (said talk i).turn;
+  opcode = opcode talk i;
+  told = last_answer c talk j i;
+}
+
+-- a command was found, and it is outstanding before turn j
+abbrev pub still_stands : Talk → ℕ → Option ℕ → Bool
+still_stands talk j None = false
+still_stands talk j (Some i) = is_outstanding talk j i
+
+-- of the poll of turn p, before turn j
+abbrev pub watch_at : Talk → ℕ → ℕ → Watch
+watch_at talk j p = record {
+  reference = reference talk p;
+  polled = reference_found talk (polled talk p);
+  stands = still_stands talk j (polled talk p);
+}
+
+-- the poll whose end wasn't handed over before turn j, if there is one
+abbrev pub in_flight : Talk → ℕ → Option ℕ
+in_flight talk j = find (λ p. asks (said talk p).heard) (outstanding talk j)
+
+-- before turn j
+abbrev pub account_at : Settings → Talk → ℕ → Account
+account_at c talk j = record {
+  credits = c.credits;
+  outstanding = map (submission_at c talk j) (outstanding talk j);
+  watch = option_map (watch_at talk j) (in_flight talk j);
+}

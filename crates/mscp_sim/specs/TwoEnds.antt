@@ -1,0 +1,162 @@
+-- What is promised of a host and a controller that talk.
+use Rattle.std.specs.Prelude.{◌≡◌, ◌≢◌, ◌↔◌, ℕ, ◌+◌, ◌<◌, ◌≤◌, ◌^◌, true, List, [], ◌∷◌, ◌++◌, length, map, slice_get, Option, Some, None, Result, Ok, Err}
+use Rattle.arrayvec.specs.ArrayVec.{ArrayVec}
+use Rattle.mscp_packet.specs.declared.end.End.{End}
+use Rattle.mscp_packet.specs.Ends.{IsEnd, IsOfKind}
+use Rattle.mscp_queue.specs.declared.block.Block.{Block}
+use Rattle.mscp_queue.specs.declared.report.Report.{Report}
+use Rattle.mscp_queue.specs.declared.view.Choice.{Choice}
+use Rattle.mscp_control.specs.declared.event.Sent.{Sent}
+use Rattle.mscp_control.specs.declared.event.Event.TheVariants as events
+use Rattle.mscp_control.specs.declared.event.Entry.TheVariants as entries
+use Rattle.mscp_control.specs.Settings.{Settings}
+use Rattle.mscp_control.specs.History.{Moment, Trace}
+use Rattle.mscp_control.specs.Holdings.{Answers, Holdings}
+use Rattle.mscp_control.specs.Headline.{Promise}
+use Rattle.mscp_control.specs.Legal.{IsLegal, IsPicked}
+use Rattle.mscp_control.specs.Sweeping.{IsSweeping, Sweeps}
+use Rattle.mscp_host.specs.declared.news.HostFault.{HostFault}
+use Rattle.mscp_host.specs.declared.news.News.{News}
+use Rattle.mscp_host.specs.declared.news.News.TheVariants as news
+use Rattle.mscp_host.specs.declared.news.Poll.{Poll}
+use Rattle.mscp_host.specs.declared.news.Poll.TheVariants as polls
+use Rattle.mscp_host.specs.Accounts.{Account, heard, polled, submits}
+use Rattle.mscp_sim.specs.declared.conversing.Turn.{Turn}
+use Rattle.mscp_sim.specs.declared.conversing.Turn.TheVariants as turns
+use Rattle.mscp_sim.specs.declared.conversing.Heard.{Heard}
+use Rattle.mscp_sim.specs.declared.conversing.Heard.TheVariants as hears
+use Rattle.mscp_sim.specs.Matches.{Match}
+use Rattle.mscp_sim.specs.Talks.{Said, Talk, account_at, asks, asks_about, ended, is_outstanding, last_answer, said, told_in, trace_of}
+
+-- ---- one turn
+
+-- the host said this, and nothing came to the controller
+abbrev pub IsKeptBack : Said → Heard → Type 0
+IsKeptBack s heard = (s.heard ≡ heard) × (s.moment ≡ None)
+
+-- this message came to the controller, which took it in as that
+abbrev pub IsSent : Said → ArrayVec ℕ → Sent → Type 0
+IsSent s message sent = s.moment ≡ Some (events.Send message, entries.Sent (Ok sent))
+
+-- what is heard where the host answers so to a command that is to be submitted (manual, "Flow Control")
+abbrev pub IsSubmitted : Said → Result (ArrayVec ℕ) HostFault → Type 0
+IsSubmitted s (Err fault) = IsKeptBack s (hears.Refused fault)
+IsSubmitted s (Ok message) = (sent : Sent) × (s.heard ≡ hears.Submitted sent) × IsSent s message sent
+
+-- and to a poll (manual, "Host Command Timeouts")
+abbrev pub IsPolled : Said → Result Poll HostFault → Type 0
+IsPolled s (Err fault) = IsKeptBack s (hears.Refused fault)
+IsPolled s (Ok polls.Nothing) = IsKeptBack s hears.Nothing
+IsPolled s (Ok polls.Busy) = IsKeptBack s hears.Busy
+IsPolled s (Ok (polls.Ask message)) = (sent : Sent) × (s.heard ≡ hears.Asked) × IsSent s message sent
+
+-- what is heard of an end that is handed over, or of none, and what the host keeps then
+abbrev pub IsHanded : Account → Option (ArrayVec ℕ) → Heard → Account → Type 0
+IsHanded old None said new = (said ≡ hears.Quiet) × (new ≡ old)
+IsHanded old (Some b) said new = (n : News) × (said ≡ hears.News n) × (heard old b.items ≡ (Ok n, new))
+
+-- what is heard in this turn by a host that keeps this, and what it keeps then: the rules of a host. The controller refuses
+-- nothing that it sends, and it refuses no end (profile)
+abbrev pub IsHeard : Account → Turn → Said → Account → Type 0
+IsHeard old (turns.Submit command) s new =
+    IsSubmitted s (submits old command).0 × (new ≡ (submits old command).1)
+IsHeard old (turns.Poll reference) s new = IsPolled s (polled old reference).0 × (new ≡ (polled old reference).1)
+IsHeard old (turns.Step k) s new =
+    (report : Report) × (s.heard ≡ hears.Stepped report)
+    × (s.moment ≡ Some (events.Step k, entries.Stepped report)) × (new ≡ old)
+IsHeard old turns.Take s new =
+    (end : Option (ArrayVec ℕ)) × (s.moment ≡ Some (events.Take, entries.Taken end)) × IsHanded old end s.heard new
+
+-- ---- one after the other
+
+-- what may be answered to what comes to the controller in a turn, and what it holds then
+abbrev pub Meets : {K : Type 0} → (List Choice → ℕ → Type 0) → Holdings K → Option Moment → Holdings K → Type 0
+Meets picks old None new = new ≡ old
+Meets picks old (Some moment) new = Answers picks old moment.0 moment.1 new
+
+-- the numbers of a turn fit their types, and the bytes of an end that is handed over are a message of it
+abbrev pub IsSound : {K : Type 0} → Holdings K → Turn → Option Moment → Type 0
+IsSound h (turns.Submit command) moment = (command.reference < 2 ^ 32) × (command.unit < 2 ^ 16)
+IsSound h (turns.Poll reference) moment = reference < 2 ^ 32
+IsSound h (turns.Step k) moment = Unit {0}
+IsSound h turns.Take moment =
+    (b : ArrayVec ℕ) (end : End) → moment ≡ Some (events.Take, entries.Taken (Some b))
+    → slice_get h.untaken 0 ≡ Some end → IsOfKind end → IsEnd b.items end
+
+-- what is said in this turn, and what host and controller keep and hold then
+abbrev pub Says : {K : Type 0}
+    → (List Choice → ℕ → Type 0) → Account → Holdings K → Said → Account → Holdings K → Type 0
+Says picks a h s a' h' = IsHeard a s.turn s a' × Meets picks h s.moment h' × IsSound h s.turn s.moment
+
+-- the same in one turn, of which this was returned: what was heard, and the moment
+abbrev pub Goes : {K : Type 0} → (List Choice → ℕ → Type 0)
+    → Account → Holdings K → Turn → Heard × Option Moment → Account → Holdings K → Type 0
+Goes picks a h turn told a' h' =
+    Says picks a h (record { turn = turn; heard = told.0; moment = told.1 }) a' h' × Match a' h'
+
+-- one turn after the other
+abbrev pub Converses : {K : Type 0}
+    → (List Choice → ℕ → Type 0) → Account → Holdings K → Talk → Account → Holdings K → Type 0
+Converses picks a h [] a' h' = (a' ≡ a) × (h' ≡ h)
+Converses {K} picks a h (s ∷ talk) a' h' =
+    (next : Account) × (left : Holdings K) × Says picks a h s next left × Converses picks next left talk a' h'
+
+-- these turns go on so, and the lists of what was heard and of the trace grow by that
+pub record GoesOn {K : Type 0} (picks : List Choice → ℕ → Type 0) (a : Account) (h : Holdings K) (ts : List Turn)
+    (old new : List Heard × Trace) (a' : Account) (h' : Holdings K) : Type 0 where
+  pub talk : Talk
+  pub turns : map (λ s. s.turn) talk ≡ ts
+  pub heard : new.0 ≡ old.0 ++ map (λ s. s.heard) talk
+  pub trace : new.1 ≡ old.1 ++ trace_of talk
+  pub says : Converses picks a h talk a' h'
+  pub match : Match a' h'
+
+-- ---- what is promised
+
+-- turn j hands over the end of a poll about a command that is still outstanding, of which the host was told before, and the
+-- answer isn't less than what it was told last (profile)
+pub record Stands (c : Settings) (talk : Talk) (j : ℕ) : Type 0 where
+  pub poll : ℕ
+  pub command : ℕ
+  pub last : ℕ
+  pub handed : ended talk j ≡ Some poll
+  pub about : asks_about talk command poll ≡ true
+  pub outstanding : is_outstanding talk j command ≡ true
+  pub told : last_answer c talk j command ≡ Some last
+  pub not_less : last ≤ told_in c talk poll
+
+-- turn k is a step
+abbrev pub IsStepTurn : Turn → Type 0
+IsStepTurn (turns.Step k) = Unit {0}
+IsStepTurn turn = ⊥
+
+-- a step lies between any two polls about one command (profile)
+abbrev pub StepsBetweenPolls : Talk → Type 0
+StepsBetweenPolls talk =
+    (i p q : ℕ) → p < q → q < length talk → asks_about talk i p ≡ true → asks_about talk i q ≡ true
+    → (k : ℕ) × (p < k) × (k < q) × IsStepTurn (said talk k).turn
+
+-- what is promised of a talk of these turns in which this was heard, and of the controller's trace
+pub record AreTwoEnds (picks : List Choice → ℕ → Type 0) (c : Settings) (ts : List Turn) (hs : List Heard) (t : Trace) : Type 0 where
+  -- one thing is heard in each turn, and each thing that comes to the controller is a moment of the trace
+  pub talk : Talk
+  pub turns : map (λ s. s.turn) talk ≡ ts
+  pub heard : map (λ s. s.heard) talk ≡ hs
+  pub trace : trace_of talk ≡ t
+  -- each answer of the controller is right after what came before it (manual)
+  pub legal : IsLegal c t
+  -- and so all that a legal trace promises holds (profile)
+  pub promise : Promise c t
+  -- each start is one that the picker may pick (profile)
+  pub picked : IsPicked c picks t
+  -- where the picker sweeps, it is the one of least cost, and of those the oldest (profile)
+  pub swept : Sweeps picks → IsSweeping c t
+  -- what is heard in each turn is what the rules of a host say of what it keeps then. The controller refuses nothing, and
+  -- the host refuses no end (profile)
+  pub says : (j : ℕ) → j < length talk → IsHeard (account_at c talk j) (said talk j).turn (said talk j) (account_at c talk (j + 1))
+  -- Reset is said exactly where the answer stands (profile)
+  pub resets : (j : ℕ) → j < length talk → ((said talk j).heard ≡ hears.News news.Reset) ↔ Stands c talk j
+  -- Lost is never said (profile)
+  pub no_lost : (j : ℕ) → j < length talk → (said talk j).heard ≢ hears.News news.Lost
+  -- Reset is never said where a step lies between any two polls about one command (profile)
+  pub no_reset : StepsBetweenPolls talk → (j : ℕ) → j < length talk → (said talk j).heard ≢ hears.News news.Reset
