@@ -2,6 +2,7 @@
 #ifndef EMULATOR_H
 #define EMULATOR_H
 #include "mscp.h"
+#include <stdbool.h>
 #include <stdio.h>
 
 #define EMULATOR_RING 4u    /* slots of each ring */

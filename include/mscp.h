@@ -16,7 +16,6 @@
  * Numbers are the machine's own. Messages and ends are bytes, as docs/FORMATS.md has them. */
 #ifndef MSCP_H
 #define MSCP_H
-#include <stdbool.h>
 #include <stddef.h>
 #include <stdint.h>
 #ifdef __cplusplus
@@ -132,11 +131,13 @@ struct mscp_host {
     uint64_t mark;
 };
 
+/* What calls tell. A flag ("whether ..") is 1 or 0. */
+
 /* What became of a message. */
 struct mscp_sent {
-    uint32_t reference; /* of its command */
-    uint32_t aborted;   /* the reference number of the command that an ABORT ended */
-    bool has_aborted;   /* whether it ended one */
+    uint32_t reference;  /* of its command */
+    uint32_t aborted;    /* the reference number of the command that an ABORT ended */
+    uint8_t has_aborted; /* whether it ended one */
 };
 
 /* A message or an end. */
@@ -154,7 +155,7 @@ struct mscp_upcoming {
     uint32_t weight;    /* the steps that it takes in all */
     uint16_t unit;
     uint8_t opcode;
-    bool touches;       /* whether the step touches a block */
+    uint8_t touches;    /* whether the step touches a block */
 };
 
 /* What a step did. */
@@ -164,9 +165,9 @@ struct mscp_report {
     uint32_t seek;      /* cylinders that the head went */
     uint16_t unit;
     uint16_t status;    /* of the end, if the command ended */
-    bool touched;       /* whether it touched a block */
-    bool started;       /* whether it was the command's first step */
-    bool ended;         /* whether the command ended: its end can be taken */
+    uint8_t touched;    /* whether it touched a block */
+    uint8_t started;    /* whether it was the command's first step */
+    uint8_t ended;      /* whether the command ended: its end can be taken */
 };
 
 /* A waiting command. */

@@ -207,7 +207,7 @@ static void messages_that_are_refused(void)
 {
     static const uint8_t zeros[65];
     struct mscp *mscp = controller();
-    struct mscp_sent sent = {7, 7, true};
+    struct mscp_sent sent = {7, 7, 1};
     is("short", mscp_send(mscp, zeros, 11, &sent), MSCP_SHORT);
     is("long", mscp_send(mscp, zeros, 65, &sent), MSCP_LONG);
     is("the longest", mscp_send(mscp, zeros, 64, &sent), MSCP_ANSWERED);
@@ -232,8 +232,8 @@ static void a_read_that_is_polled(void)
     struct mscp *mscp = controller();
     struct mscp_sent sent;
     struct mscp_packet end;
-    struct mscp_upcoming next = {7, 7, 7, 7, 7, 7, 7, true};
-    struct mscp_report report = {7, 7, 7, 7, 7, true, true, true};
+    struct mscp_upcoming next = {7, 7, 7, 7, 7, 7, 7, 7};
+    struct mscp_report report = {7, 7, 7, 7, 7, 7, 7, 7};
     struct mscp_figure figures[2] = {{7, 7}, {7, 7}};
     bring_online(mscp);
     is("begin of nothing", mscp_begin(mscp, &next), MSCP_NOTHING);

@@ -1,5 +1,5 @@
 -- How what a call answers is told.
-use Rattle.std.specs.Prelude.{◌≡◌, ℕ, ◌%◌, ℤ, nat_eq, nat_lt, if◌then◌else◌, false, is_some, unwrap_or, List, ◌++◌, length, map, take, drop, Option, Some, None, Result, Ok, Err}
+use Rattle.std.specs.Prelude.{◌≡◌, ℕ, ◌%◌, ℤ, nat_eq, nat_lt, if◌then◌else◌, Bool, true, false, is_some, unwrap_or, List, ◌++◌, length, map, take, drop, Option, Some, None, Result, Ok, Err}
 use Rattle.arrayvec.specs.ArrayVec.{ArrayVec}
 use Rattle.mscp_packet.specs.declared.command.Order.{Order}
 use Rattle.mscp_packet.specs.declared.command.Order.TheVariants as orders
@@ -23,6 +23,11 @@ use Rattle.mscp_c.specs.declared.outs.ReportOut.{ReportOut}
 use Rattle.mscp_c.specs.declared.outs.FigureOut.{FigureOut}
 use Rattle.mscp_c.specs.Statuses.{send_fault_code}
 
+-- a flag as a number
+abbrev pub flag : Bool → ℕ
+flag true = 1
+flag false = 0
+
 -- ---- a message
 
 -- the status of the answer
@@ -33,9 +38,9 @@ send_code (Err fault) = send_fault_code fault
 
 -- what is told of it. Of a refusal nothing is
 abbrev pub sent_told : Result Sent SendFault → SentOut → SentOut
-sent_told (Ok (Queued reference)) out = record { reference = reference; aborted = 0; has_aborted = false }
+sent_told (Ok (Queued reference)) out = record { reference = reference; aborted = 0; has_aborted = 0 }
 sent_told (Ok (Answered reference aborted)) out =
-    record { reference = reference; aborted = unwrap_or aborted 0; has_aborted = is_some aborted }
+    record { reference = reference; aborted = unwrap_or aborted 0; has_aborted = flag (is_some aborted) }
 sent_told (Err fault) out = out
 
 -- ---- a packet
@@ -78,7 +83,7 @@ upcoming_told (Some u) out = record {
   weight = u.weight;
   unit = u.command.unit;
   opcode = opcode_byte u.command.order;
-  touches = is_some u.lbn;
+  touches = flag (is_some u.lbn);
 }
 
 -- ---- a step
@@ -106,9 +111,9 @@ report_told (Served reference unit lbn started seek ended) out = record {
   seek = seek;
   unit = unit;
   status = status_told ended;
-  touched = is_some lbn;
-  started = started;
-  ended = is_some ended;
+  touched = flag (is_some lbn);
+  started = flag started;
+  ended = flag (is_some ended);
 }
 
 -- ---- figures

@@ -1,4 +1,5 @@
-// What a call tells a program in C, as plain numbers.
+// What a call tells a program in C, as plain numbers. A flag is 1 where it holds, and else 0: a number of which every value
+// is one, since C may hand in a struct that it has never written.
 
 /// What became of a message: its reference number, and that of the command which it aborted, if it did.
 #[repr(C)]
@@ -6,7 +7,7 @@
 pub struct SentOut {
     pub reference: u32,
     pub aborted: u32,
-    pub has_aborted: bool,
+    pub has_aborted: u8,
 }
 
 /// The bytes of a message or an end, from the first on.
@@ -28,7 +29,7 @@ pub struct UpcomingOut {
     pub weight: u32,
     pub unit: u16,
     pub opcode: u8,
-    pub touches: bool,
+    pub touches: u8,
 }
 
 /// What a step did.
@@ -40,9 +41,9 @@ pub struct ReportOut {
     pub seek: u32,
     pub unit: u16,
     pub status: u16,
-    pub touched: bool,
-    pub started: bool,
-    pub ended: bool,
+    pub touched: u8,
+    pub started: u8,
+    pub ended: u8,
 }
 
 /// A waiting command's reference number and figure.

@@ -1,13 +1,20 @@
 // How what a call answers is told.
 
 ghost use Rattle.std.specs.Prelude.{◌≡◌};
-ghost use Rattle.mscp_c.specs.Told.{PacketTold, begin_code, block_told, bytes_of, figures_told, report_code, report_told, send_code, sent_told, upcoming_told};
+ghost use Rattle.mscp_c.specs.Told.{PacketTold, begin_code, block_told, bytes_of, flag, figures_told, report_code, report_told, send_code, sent_told, upcoming_told};
 
 use crate::outs::{FigureOut, PacketOut, ReportOut, SentOut, UpcomingOut};
 use crate::status::{ANSWERED, DONE, NOTHING, QUEUED, send_fault_code};
 use arrayvec::ArrayVec;
 use mscp_control::{Block, FaultStatus, Report, SendFault, Sent, Upcoming};
 use mscp_packet::Order;
+
+/// A flag as a number.
+fn flag(holds: bool) -> u8
+    ensures { result ≡ flag holds }
+{
+    if holds { 1 } else { 0 }
+}
 
 /// Tells what became of a message.
 pub(crate) fn tell_sent(out: &mut SentOut, answer: &Result<Sent, SendFault>) -> i32
@@ -19,7 +26,7 @@ pub(crate) fn tell_sent(out: &mut SentOut, answer: &Result<Sent, SendFault>) -> 
             *out = SentOut {
                 reference,
                 aborted: 0,
-                has_aborted: false,
+                has_aborted: 0,
             };
             QUEUED
         }
@@ -27,7 +34,7 @@ pub(crate) fn tell_sent(out: &mut SentOut, answer: &Result<Sent, SendFault>) -> 
             *out = SentOut {
                 reference,
                 aborted: aborted.unwrap_or(0),
-                has_aborted: aborted.is_some(),
+                has_aborted: flag(aborted.is_some()),
             };
             ANSWERED
         }
@@ -70,7 +77,7 @@ pub(crate) fn tell_upcoming(out: &mut UpcomingOut, upcoming: &Option<Upcoming>) 
         weight: upcoming.weight,
         unit: upcoming.command.unit,
         opcode: upcoming.command.opcode(),
-        touches: upcoming.lbn.is_some(),
+        touches: flag(upcoming.lbn.is_some()),
     };
     DONE
 }
@@ -99,9 +106,9 @@ pub(crate) fn tell_report(out: &mut ReportOut, report: &Report) -> i32
                     Some(end) => end.status,
                     None => 0,
                 },
-                touched: lbn.is_some(),
-                started,
-                ended: ended.is_some(),
+                touched: flag(lbn.is_some()),
+                started: flag(started),
+                ended: flag(ended.is_some()),
             };
             DONE
         }
