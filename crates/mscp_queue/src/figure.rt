@@ -108,8 +108,10 @@ pub(crate) fn figure_of_reference(
 }
 
 /// Reference number and figure of each record, in order. What is left before a record and of one in service after it is
-/// kept from place to place, so each record is looked at once.
+/// kept from place to place, so each record is looked at once. It isn't made part of its caller, since the caller's caller
+/// would then have room for a list more than once on its stack.
 #[tactic(auto, using(crate::proofs::Sums::figures_more))]
+#[inline(never)]
 pub(crate) fn figures(passing: u32, longest: u32, records: &[Record]) -> ArrayVec<(u32, u32), 64>
     requires few { length records.now ≤ 64 }
     requires short { All (λ r. left_of r ≤ longest) records.now }

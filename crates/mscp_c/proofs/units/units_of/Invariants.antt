@@ -1,0 +1,9 @@
+use Rattle.std.proofs.Common.{◌≡◌, map, take, drop}
+use Rattle.mscp_c.specs.Given.{first_fault, unit_given}
+use Rattle.mscp_c.proofs.units.units_of.Given as goal
+
+abbrev pub invariant-loop-i : goal.invariant-loop-i
+invariant-loop-i l = record {
+  made : l.list.items ≡ map unit_given (take l.i l.given);
+  rest : first_fault (drop l.i l.given) ≡ first_fault l.given;
+}

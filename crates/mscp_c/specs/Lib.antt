@@ -1,0 +1,6 @@
+pub mod Given
+pub mod Hosted
+pub mod Made
+pub mod Served
+pub mod Statuses
+pub mod Told

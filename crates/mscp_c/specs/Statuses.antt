@@ -1,0 +1,60 @@
+-- The statuses of faults.
+use Rattle.std.specs.Prelude.{ℤ}
+use Rattle.mscp_drive.specs.declared.unit.UnitFault.{UnitFault}
+use Rattle.mscp_drive.specs.declared.unit.UnitFault.TheVariants as unit
+use Rattle.mscp_drive.specs.declared.units.UnitsFault.{UnitsFault}
+use Rattle.mscp_drive.specs.declared.units.UnitsFault.TheVariants as units
+use Rattle.mscp_control.specs.declared.config.ConfigFault.{ConfigFault}
+use Rattle.mscp_control.specs.declared.config.ConfigFault.TheVariants as limits
+use Rattle.mscp_control.specs.declared.event.SendFault.{SendFault}
+use Rattle.mscp_control.specs.declared.event.SendFault.TheVariants as sends
+use Rattle.mscp_host.specs.declared.news.HostFault.{HostFault}
+use Rattle.mscp_host.specs.declared.news.HostFault.TheVariants as hosts
+use Rattle.mscp_memory.specs.declared.fault.RoomFault.{RoomFault}
+use Rattle.mscp_memory.specs.declared.fault.RoomFault.TheVariants as rooms
+use Rattle.mscp_c.specs.declared.status.TheConstants as status
+
+-- of memory that is no room
+abbrev pub room_code : RoomFault → ℤ
+room_code rooms.Made = status.MADE
+room_code rooms.NoHandle = status.NO_HANDLE
+room_code rooms.Null = status.NO_MEMORY
+room_code rooms.Misaligned = status.MISALIGNED
+room_code rooms.Small = status.SMALL
+
+-- of a unit
+abbrev pub unit_code : UnitFault → ℤ
+unit_code unit.ZeroTrack = status.ZERO_TRACK
+unit_code unit.ZeroGroup = status.ZERO_GROUP
+unit_code unit.ZeroCylinder = status.ZERO_CYLINDER
+unit_code unit.ZeroSize = status.ZERO_SIZE
+
+-- of all units together
+abbrev pub units_code : UnitsFault → ℤ
+units_code units.TooMany = status.MANY_UNITS
+units_code units.NotAscending = status.UNITS_FALL
+units_code units.Empty = status.NO_UNITS
+
+-- of limits
+abbrev pub limits_code : ConfigFault → ℤ
+limits_code limits.Credits = status.BAD_CREDITS
+limits_code limits.Longest = status.BAD_LONGEST
+limits_code limits.Timeout = status.BAD_TIMEOUT
+limits_code limits.Figure = status.BAD_BOUND
+
+-- of a message
+abbrev pub send_fault_code : SendFault → ℤ
+send_fault_code sends.Short = status.SHORT
+send_fault_code sends.Long = status.LONG
+send_fault_code sends.NoCredit = status.NO_CREDIT
+send_fault_code sends.LastCredit = status.LAST_CREDIT
+send_fault_code sends.Doubled = status.DOUBLED
+
+-- of what a host refuses
+abbrev pub host_code : HostFault → ℤ
+host_code hosts.Credits = status.BAD_CREDITS
+host_code hosts.NoCredit = status.NO_CREDIT
+host_code hosts.LastCredit = status.LAST_CREDIT
+host_code hosts.Doubled = status.DOUBLED
+host_code hosts.Unreadable = status.UNREADABLE
+host_code hosts.Unknown = status.UNKNOWN

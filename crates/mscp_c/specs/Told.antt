@@ -1,0 +1,134 @@
+-- How what a call answers is told.
+use Rattle.std.specs.Prelude.{◌≡◌, ℕ, ◌%◌, ℤ, nat_eq, nat_lt, if◌then◌else◌, Bool, true, false, is_some, unwrap_or, List, ◌++◌, length, map, take, drop, Option, Some, None, Result, Ok, Err}
+use Rattle.arrayvec.specs.ArrayVec.{ArrayVec}
+use Rattle.mscp_packet.specs.declared.command.Order.{Order}
+use Rattle.mscp_packet.specs.declared.command.Order.TheVariants as orders
+use Rattle.mscp_packet.specs.declared.end.End.{End}
+use Rattle.mscp_packet.specs.Commands.{opcode_byte}
+use Rattle.mscp_queue.specs.declared.block.Block.{Block}
+use Rattle.mscp_queue.specs.declared.block.Block.TheVariants.{Good, Bad}
+use Rattle.mscp_queue.specs.declared.report.Report.{Report}
+use Rattle.mscp_queue.specs.declared.report.Report.TheVariants.{Idle, Served}
+use Rattle.mscp_queue.specs.declared.upcoming.Upcoming.{Upcoming}
+use Rattle.mscp_queue.specs.Figures.{figure_of_reference, figures}
+use Rattle.mscp_control.specs.declared.event.SendFault.{SendFault}
+use Rattle.mscp_control.specs.declared.event.Sent.{Sent}
+use Rattle.mscp_control.specs.declared.event.Sent.TheVariants.{Queued, Answered}
+use Rattle.mscp_memory.specs.ControllerRoom.{Held}
+use Rattle.mscp_c.specs.declared.status.TheConstants as status
+use Rattle.mscp_c.specs.declared.outs.SentOut.{SentOut}
+use Rattle.mscp_c.specs.declared.outs.PacketOut.{PacketOut}
+use Rattle.mscp_c.specs.declared.outs.UpcomingOut.{UpcomingOut}
+use Rattle.mscp_c.specs.declared.outs.ReportOut.{ReportOut}
+use Rattle.mscp_c.specs.declared.outs.FigureOut.{FigureOut}
+use Rattle.mscp_c.specs.Statuses.{send_fault_code}
+
+-- a flag as a number
+abbrev pub flag : Bool → ℕ
+flag true = 1
+flag false = 0
+
+-- ---- a message
+
+-- the status of the answer
+abbrev pub send_code : Result Sent SendFault → ℤ
+send_code (Ok (Queued reference)) = status.QUEUED
+send_code (Ok (Answered reference aborted)) = status.ANSWERED
+send_code (Err fault) = send_fault_code fault
+
+-- what is told of it. Of a refusal nothing is
+abbrev pub sent_told : Result Sent SendFault → SentOut → SentOut
+sent_told (Ok (Queued reference)) out = record { reference = reference; aborted = 0; has_aborted = 0 }
+sent_told (Ok (Answered reference aborted)) out =
+    record { reference = reference; aborted = unwrap_or aborted 0; has_aborted = flag (is_some aborted) }
+sent_told (Err fault) out = out
+
+-- ---- a packet
+
+-- these bytes are told: so many, from the first on
+pub record PacketTold (b : List ℕ) (out : PacketOut) : Type 0 where
+  pub count : out.length ≡ length b
+  pub bytes : take (length b) out.bytes ≡ b
+
+-- the status of a take
+abbrev pub take_code : Option (ArrayVec ℕ) → ℤ
+take_code None = status.NOTHING
+take_code (Some end) = status.DONE
+
+-- what is told of it. Where there is no end nothing is
+abbrev pub TakeTold : Option (ArrayVec ℕ) → PacketOut → PacketOut → Type 0
+TakeTold None old new = new ≡ old
+TakeTold (Some end) old new = PacketTold end.items new
+
+-- ---- a begin
+
+-- the bytes of a transfer, 0 of any other order
+abbrev pub bytes_of : Order → ℕ
+bytes_of (orders.Move kind bytes block) = bytes
+bytes_of order = 0
+
+-- the status of a begin
+abbrev pub begin_code : Option Upcoming → ℤ
+begin_code None = status.NOTHING
+begin_code (Some upcoming) = status.DONE
+
+-- what is told of it. Where nothing waits nothing is
+abbrev pub upcoming_told : Option Upcoming → UpcomingOut → UpcomingOut
+upcoming_told None out = out
+upcoming_told (Some u) out = record {
+  reference = u.command.reference;
+  bytes = bytes_of u.command.order;
+  lbn = unwrap_or u.lbn 0;
+  done = u.done;
+  weight = u.weight;
+  unit = u.command.unit;
+  opcode = opcode_byte u.command.order;
+  touches = flag (is_some u.lbn);
+}
+
+-- ---- a step
+
+-- the outcome of a block of this status, if it is one: good where it is 0
+abbrev pub block_told : ℕ → Option Block
+block_told status = if nat_eq status 0 then Some Good else (if nat_lt (status % 32) 5 then None else Some (Bad status))
+
+-- the status of a report
+abbrev pub report_code : Report → ℤ
+report_code Idle = status.NOTHING
+report_code (Served reference unit lbn started seek ended) = status.DONE
+
+-- the status of an end, 0 where there is none
+abbrev pub status_told : Option End → ℕ
+status_told None = 0
+status_told (Some end) = end.status
+
+-- what is told of a report. Where nothing waits nothing is
+abbrev pub report_told : Report → ReportOut → ReportOut
+report_told Idle out = out
+report_told (Served reference unit lbn started seek ended) out = record {
+  reference = reference;
+  lbn = unwrap_or lbn 0;
+  seek = seek;
+  unit = unit;
+  status = status_told ended;
+  touched = flag (is_some lbn);
+  started = flag started;
+  ended = flag (is_some ended);
+}
+
+-- ---- figures
+
+-- the figures of the waiting commands, and that of the command of this reference number, 0 where none waits
+abbrev pub figures_in : Held → List (ℕ × ℕ)
+figures_in h = figures h.settings.passing h.settings.longest h.waiting
+
+abbrev pub figure_in : Held → ℕ → ℕ
+figure_in h reference = figure_of_reference h.settings.passing h.settings.longest h.waiting reference
+
+-- a reference number and a figure
+abbrev pub figure_told : ℕ × ℕ → FigureOut
+figure_told f = record { reference = f.0; figure = f.1 }
+
+-- as many of the figures as there is room for, and then what was there
+abbrev pub figures_told : List (ℕ × ℕ) → List FigureOut → List FigureOut
+figures_told fs out = map figure_told (take (length out) fs) ++ drop (length fs) out

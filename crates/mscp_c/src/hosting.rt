@@ -1,0 +1,122 @@
+// The calls of a host.
+
+ghost use Rattle.std.specs.Prelude.{◌≡◌, true, false, pos};
+ghost use Rattle.mscp_host.specs.Accounts.{balance, heard, polled};
+ghost use Rattle.mscp_memory.specs.HostHandles.{is_made, with_held};
+ghost use Rattle.mscp_c.specs.Hosted.{PollTold, inits, message_read, news_code, news_told, poll_code, submits_message};
+
+use crate::hearing::{tell_news, tell_poll};
+use crate::outs::{NewsOut, PacketOut};
+use crate::status::{DONE, LONG, NOT_MADE, SHORT, host_code, room_code};
+use mscp_host::Host;
+use mscp_memory::host::{ALIGN, Handle, SIZE, is_made, lend, place, room_fault};
+use mscp_packet::{Command, PacketFault, read_command};
+
+/// How many bytes a host takes.
+#[unsafe(no_mangle)]
+pub extern "C" fn mscp_host_size() -> usize
+    ensures { result ≡ SIZE }
+{
+    SIZE
+}
+
+/// What the address of a host is a multiple of.
+#[unsafe(no_mangle)]
+pub extern "C" fn mscp_host_align() -> usize
+    ensures { result ≡ ALIGN }
+{
+    ALIGN
+}
+
+/// Makes a host of so many credits in the room that the handle has.
+#[unsafe(no_mangle)]
+pub extern "C" fn mscp_host_init(handle: &mut Handle, credits: u32) -> i32
+    ensures { (result, handle.new) ≡ inits handle.old credits }
+{
+    if let Some(fault) = room_fault(handle) {
+        return room_code(fault);
+    }
+    match Host::new(credits) {
+        Ok(host) => {
+            place(handle, host);
+            DONE
+        }
+        Err(fault) => host_code(fault),
+    }
+}
+
+/// How many credits are free.
+#[unsafe(no_mangle)]
+pub extern "C" fn mscp_host_balance(handle: &mut Handle) -> i64
+    ensures value { is_made handle.old ≡ true → result ≡ pos (balance handle.old.held) }
+    ensures same { handle.new ≡ handle.old }
+    ensures unmade { is_made handle.old ≡ false → result ≡ NOT_MADE }
+{
+    if !is_made(handle) {
+        return i64::from(NOT_MADE);
+    }
+    i64::from(lend(handle).balance())
+}
+
+/// The command that a message is.
+fn message_in(message: &[u8]) -> Result<Command, PacketFault>
+    ensures { result ≡ message_read message.now }
+{
+    read_command(message)
+}
+
+/// A message is to be sent: from now on its command is outstanding, or it may not be sent.
+#[unsafe(no_mangle)]
+pub extern "C" fn mscp_host_submit(handle: &mut Handle, message: &[u8]) -> i32
+    ensures code { is_made handle.old ≡ true → result ≡ (submits_message handle.old.held message.now).0 }
+    ensures after { is_made handle.old ≡ true
+        → handle.new ≡ with_held handle.old (submits_message handle.old.held message.now).1 }
+    ensures unmade { is_made handle.old ≡ false → (result ≡ NOT_MADE) × (handle.new ≡ handle.old) }
+{
+    if !is_made(handle) {
+        return NOT_MADE;
+    }
+    let command = match message_in(message) {
+        Ok(command) => command,
+        Err(PacketFault::Short) => return SHORT,
+        Err(PacketFault::Long) => return LONG,
+    };
+    match lend(handle).submit(&command) {
+        Ok(_) => DONE,
+        Err(fault) => host_code(fault),
+    }
+}
+
+/// What there is to do to poll the oldest command that isn't answered when it arrives.
+#[unsafe(no_mangle)]
+pub extern "C" fn mscp_host_poll(handle: &mut Handle, reference: u32, out: &mut PacketOut) -> i32
+    ensures code { is_made handle.old ≡ true → result ≡ poll_code (polled handle.old.held reference).0 }
+    ensures told { is_made handle.old ≡ true → PollTold (polled handle.old.held reference).0 out.old out.new }
+    ensures after { is_made handle.old ≡ true
+        → handle.new ≡ with_held handle.old (polled handle.old.held reference).1 }
+    ensures unmade { is_made handle.old ≡ false
+        → (result ≡ NOT_MADE) × (handle.new ≡ handle.old) × (out.new ≡ out.old) }
+{
+    if !is_made(handle) {
+        return NOT_MADE;
+    }
+    let answer = lend(handle).poll(reference);
+    tell_poll(out, &answer)
+}
+
+/// What an end says that was received.
+#[unsafe(no_mangle)]
+pub extern "C" fn mscp_host_receive(handle: &mut Handle, bytes: &[u8], out: &mut NewsOut) -> i32
+    ensures code { is_made handle.old ≡ true → result ≡ news_code (heard handle.old.held bytes.now).0 }
+    ensures told { is_made handle.old ≡ true → out.new ≡ news_told (heard handle.old.held bytes.now).0 out.old }
+    ensures after { is_made handle.old ≡ true
+        → handle.new ≡ with_held handle.old (heard handle.old.held bytes.now).1 }
+    ensures unmade { is_made handle.old ≡ false
+        → (result ≡ NOT_MADE) × (handle.new ≡ handle.old) × (out.new ≡ out.old) }
+{
+    if !is_made(handle) {
+        return NOT_MADE;
+    }
+    let answer = lend(handle).receive(bytes);
+    tell_news(out, &answer)
+}

@@ -1,0 +1,87 @@
+// The calls before a controller is there.
+
+ghost use Rattle.std.specs.Prelude.{◌≡◌, true, false};
+ghost use Rattle.mscp_control.specs.Holdings.{fresh};
+ghost use Rattle.mscp_memory.specs.ControllerHandles.{is_made, with_held};
+ghost use Rattle.mscp_c.specs.Made.{InitAnswers, Initializes};
+
+use crate::status::{DONE, NOT_MADE, init_code};
+use crate::units::{InitFault, Limits, UnitIn, policy_of, units_of};
+use mscp_control::{Config, Controller};
+use mscp_memory::controller::{ALIGN, Handle, SIZE, is_made, lend, place, room_fault};
+
+/// How many bytes a controller takes.
+#[unsafe(no_mangle)]
+pub extern "C" fn mscp_size() -> usize
+    ensures { result ≡ SIZE }
+{
+    SIZE
+}
+
+/// What the address of a controller is a multiple of.
+#[unsafe(no_mangle)]
+pub extern "C" fn mscp_align() -> usize
+    ensures { result ≡ ALIGN }
+{
+    ALIGN
+}
+
+/// Makes a controller in the room that the handle has, or says why not, and then nothing changes.
+fn init(
+    handle: &mut Handle,
+    limits: &Limits,
+    units: &[UnitIn],
+    picker: u32,
+) -> Result<(), InitFault>
+    ensures { InitAnswers handle.old limits.now units.now picker result handle.new }
+{
+    if let Some(fault) = room_fault(handle) {
+        return Err(InitFault::Room(fault));
+    }
+    let Some(policy) = policy_of(picker) else {
+        return Err(InitFault::Picker);
+    };
+    let units = units_of(units)?;
+    match Config::new(
+        limits.credits,
+        limits.passing,
+        limits.longest,
+        limits.timeout,
+        limits.id,
+        units,
+    ) {
+        Ok(config) => {
+            place(handle, Controller::new(config, policy));
+            Ok(())
+        }
+        Err(fault) => Err(InitFault::Limits(fault)),
+    }
+}
+
+/// Makes a controller of these limits and units in the room that the handle has.
+#[unsafe(no_mangle)]
+pub extern "C" fn mscp_init(
+    handle: &mut Handle,
+    limits: &Limits,
+    units: &[UnitIn],
+    picker: u32,
+) -> i32
+    ensures { Initializes handle.old limits.now units.now picker result handle.new }
+{
+    init_code(&init(handle, limits, units, picker))
+}
+
+/// Makes the controller as new: nothing waits, and the ends that weren't taken are gone.
+#[unsafe(no_mangle)]
+pub extern "C" fn mscp_reset(handle: &mut Handle) -> i32
+    ensures after { is_made handle.old ≡ true
+        → handle.new ≡ with_held handle.old (fresh handle.old.held.settings handle.old.held.picker) }
+    ensures done { is_made handle.old ≡ true → result ≡ DONE }
+    ensures unmade { is_made handle.old ≡ false → (result ≡ NOT_MADE) × (handle.new ≡ handle.old) }
+{
+    if !is_made(handle) {
+        return NOT_MADE;
+    }
+    lend(handle).reset();
+    DONE
+}

@@ -1,0 +1,67 @@
+// What a call tells a program in C, as plain numbers. A flag is 1 where it holds, and else 0: a number of which every value
+// is one, since C may hand in a struct that it has never written.
+
+/// What became of a message: its reference number, and that of the command which it aborted, if it did.
+#[repr(C)]
+#[derive(Clone, Copy)]
+pub struct SentOut {
+    pub reference: u32,
+    pub aborted: u32,
+    pub has_aborted: u8,
+}
+
+/// The bytes of a message or an end, from the first on.
+#[repr(C)]
+#[derive(Drop)]
+pub struct PacketOut {
+    pub length: u32,
+    pub bytes: [u8; 48],
+}
+
+/// What the next step serves.
+#[repr(C)]
+#[derive(Clone, Copy)]
+pub struct UpcomingOut {
+    pub reference: u32,
+    pub bytes: u32,
+    pub lbn: u32,
+    pub done: u32,
+    pub weight: u32,
+    pub unit: u16,
+    pub opcode: u8,
+    pub touches: u8,
+}
+
+/// What a step did.
+#[repr(C)]
+#[derive(Clone, Copy)]
+pub struct ReportOut {
+    pub reference: u32,
+    pub lbn: u32,
+    pub seek: u32,
+    pub unit: u16,
+    pub status: u16,
+    pub touched: u8,
+    pub started: u8,
+    pub ended: u8,
+}
+
+/// A waiting command's reference number and figure.
+#[repr(C)]
+#[derive(Clone, Copy)]
+pub struct FigureOut {
+    pub reference: u32,
+    pub figure: u32,
+}
+
+/// What a received end says: of a command that ended its end, and of a poll the figure. The rest is 0.
+#[repr(C)]
+#[derive(Clone, Copy)]
+pub struct NewsOut {
+    pub figure: u32,
+    pub reference: u32,
+    pub moved: u32,
+    pub unit: u16,
+    pub status: u16,
+    pub code: u8,
+}

@@ -1,0 +1,72 @@
+// The drive's work: what comes next, and how it went.
+
+ghost use Rattle.std.specs.Prelude.{◌≡◌, true, false, IfSome, None};
+ghost use Rattle.mscp_memory.specs.ControllerHandles.{is_made};
+ghost use Rattle.mscp_c.specs.Told.{block_told};
+ghost use Rattle.mscp_c.specs.Served.{Begins, Finishes, Steps};
+
+use crate::outs::{ReportOut, UpcomingOut};
+use crate::status::{BAD_STATUS, NOT_MADE, STALE};
+use crate::telling::{block_of, tell_report, tell_upcoming};
+use mscp_memory::controller::{Handle, is_made, lend};
+
+/// What the next step serves.
+#[unsafe(no_mangle)]
+pub extern "C" fn mscp_begin(handle: &mut Handle, out: &mut UpcomingOut) -> i32
+    ensures begin { is_made handle.old ≡ true → Begins handle.old out.old result handle.new out.new }
+    ensures unmade { is_made handle.old ≡ false
+        → (result ≡ NOT_MADE) × (handle.new ≡ handle.old) × (out.new ≡ out.old) }
+{
+    if !is_made(handle) {
+        return NOT_MADE;
+    }
+    let upcoming = lend(handle).begin();
+    tell_upcoming(out, &upcoming)
+}
+
+/// The step of the command of this reference number, where it is begun: its block had this status.
+#[unsafe(no_mangle)]
+pub extern "C" fn mscp_finish(
+    handle: &mut Handle,
+    reference: u32,
+    status: u16,
+    out: &mut ReportOut,
+) -> i32
+    ensures finish { is_made handle.old ≡ true → IfSome (block_told status) (λ k.
+        Finishes reference k handle.old out.old result handle.new out.new) }
+    ensures refused { is_made handle.old ≡ true → block_told status ≡ None
+        → (result ≡ BAD_STATUS) × (handle.new ≡ handle.old) × (out.new ≡ out.old) }
+    ensures unmade { is_made handle.old ≡ false
+        → (result ≡ NOT_MADE) × (handle.new ≡ handle.old) × (out.new ≡ out.old) }
+{
+    if !is_made(handle) {
+        return NOT_MADE;
+    }
+    let Some(block) = block_of(status) else {
+        return BAD_STATUS;
+    };
+    match lend(handle).finish(reference, block) {
+        Ok(report) => tell_report(out, &report),
+        Err(_) => STALE,
+    }
+}
+
+/// Serves one block, which had this status.
+#[unsafe(no_mangle)]
+pub extern "C" fn mscp_step(handle: &mut Handle, status: u16, out: &mut ReportOut) -> i32
+    ensures step { is_made handle.old ≡ true → IfSome (block_told status) (λ k.
+        Steps k handle.old out.old result handle.new out.new) }
+    ensures refused { is_made handle.old ≡ true → block_told status ≡ None
+        → (result ≡ BAD_STATUS) × (handle.new ≡ handle.old) × (out.new ≡ out.old) }
+    ensures unmade { is_made handle.old ≡ false
+        → (result ≡ NOT_MADE) × (handle.new ≡ handle.old) × (out.new ≡ out.old) }
+{
+    if !is_made(handle) {
+        return NOT_MADE;
+    }
+    let Some(block) = block_of(status) else {
+        return BAD_STATUS;
+    };
+    let report = lend(handle).step(block);
+    tell_report(out, &report)
+}

@@ -1,0 +1,179 @@
+// What the calls answer: 0 and up what came of a call, below 0 why it was refused.
+
+ghost use Rattle.std.specs.Prelude.{◌≡◌};
+ghost use Rattle.mscp_c.specs.Statuses.{host_code, limits_code, room_code, send_fault_code, unit_code, units_code};
+ghost use Rattle.mscp_c.specs.Made.{init_code};
+
+use crate::units::InitFault;
+use mscp_control::{ConfigFault, SendFault};
+use mscp_drive::{UnitFault, UnitsFault};
+use mscp_host::HostFault;
+use mscp_memory::RoomFault;
+
+/// There is nothing: no command waits, no end was made, no poll is to be sent.
+pub(crate) const NOTHING: i32 = 0;
+/// The call did what it says.
+pub(crate) const DONE: i32 = 1;
+/// The command waits for steps.
+pub(crate) const QUEUED: i32 = 2;
+/// The command's end was made at once.
+pub(crate) const ANSWERED: i32 = 3;
+/// The end of a poll is still to come.
+pub(crate) const BUSY: i32 = 4;
+/// A command ended, or a poll was refused.
+pub(crate) const ENDED: i32 = 5;
+/// The polled command's first figure.
+pub(crate) const FIRST: i32 = 6;
+/// The polled command's figure, which has fallen.
+pub(crate) const PROGRESS: i32 = 7;
+/// The polled command has ended in the meantime.
+pub(crate) const LATE: i32 = 8;
+/// The polled command's figure hasn't fallen.
+pub(crate) const RESET: i32 = 9;
+/// The controller doesn't know the polled command.
+pub(crate) const LOST: i32 = 10;
+
+pub(crate) const SHORT: i32 = -1;
+
+pub(crate) const LONG: i32 = -2;
+
+pub(crate) const NO_CREDIT: i32 = -3;
+
+pub(crate) const LAST_CREDIT: i32 = -4;
+
+pub(crate) const DOUBLED: i32 = -5;
+/// No command of that reference number is begun.
+pub(crate) const STALE: i32 = -6;
+/// Neither 0 nor the status of a bad block.
+pub(crate) const BAD_STATUS: i32 = -7;
+/// The bytes are no end.
+pub(crate) const UNREADABLE: i32 = -8;
+/// It is the end of no outstanding command.
+pub(crate) const UNKNOWN: i32 = -9;
+
+/// The handle's memory holds nothing that was made.
+pub(crate) const NOT_MADE: i32 = -10;
+
+pub(crate) const MADE: i32 = -11;
+
+pub(crate) const NO_HANDLE: i32 = -12;
+
+pub(crate) const NO_MEMORY: i32 = -13;
+
+pub(crate) const MISALIGNED: i32 = -14;
+
+pub(crate) const SMALL: i32 = -15;
+
+/// No picker has this number.
+pub(crate) const BAD_PICKER: i32 = -20;
+
+pub(crate) const ZERO_TRACK: i32 = -21;
+
+pub(crate) const ZERO_GROUP: i32 = -22;
+
+pub(crate) const ZERO_CYLINDER: i32 = -23;
+
+pub(crate) const ZERO_SIZE: i32 = -24;
+
+pub(crate) const MANY_UNITS: i32 = -25;
+
+pub(crate) const UNITS_FALL: i32 = -26;
+
+pub(crate) const NO_UNITS: i32 = -27;
+
+pub(crate) const BAD_CREDITS: i32 = -28;
+
+pub(crate) const BAD_LONGEST: i32 = -29;
+
+pub(crate) const BAD_TIMEOUT: i32 = -30;
+
+pub(crate) const BAD_BOUND: i32 = -31;
+
+/// The status of memory that is no room.
+pub(crate) fn room_code(fault: RoomFault) -> i32
+    ensures { result ≡ room_code fault }
+{
+    match fault {
+        RoomFault::Made => MADE,
+        RoomFault::NoHandle => NO_HANDLE,
+        RoomFault::Null => NO_MEMORY,
+        RoomFault::Misaligned => MISALIGNED,
+        RoomFault::Small => SMALL,
+    }
+}
+
+/// The status of a unit that is refused.
+pub(crate) fn unit_code(fault: UnitFault) -> i32
+    ensures { result ≡ unit_code fault }
+{
+    match fault {
+        UnitFault::ZeroTrack => ZERO_TRACK,
+        UnitFault::ZeroGroup => ZERO_GROUP,
+        UnitFault::ZeroCylinder => ZERO_CYLINDER,
+        UnitFault::ZeroSize => ZERO_SIZE,
+    }
+}
+
+/// The status of units that are refused together.
+pub(crate) fn units_code(fault: UnitsFault) -> i32
+    ensures { result ≡ units_code fault }
+{
+    match fault {
+        UnitsFault::TooMany => MANY_UNITS,
+        UnitsFault::NotAscending => UNITS_FALL,
+        UnitsFault::Empty => NO_UNITS,
+    }
+}
+
+/// The status of limits that are refused.
+pub(crate) fn limits_code(fault: ConfigFault) -> i32
+    ensures { result ≡ limits_code fault }
+{
+    match fault {
+        ConfigFault::Credits => BAD_CREDITS,
+        ConfigFault::Longest => BAD_LONGEST,
+        ConfigFault::Timeout => BAD_TIMEOUT,
+        ConfigFault::Figure => BAD_BOUND,
+    }
+}
+
+/// The status of a message that is refused.
+pub(crate) fn send_fault_code(fault: SendFault) -> i32
+    ensures { result ≡ send_fault_code fault }
+{
+    match fault {
+        SendFault::Short => SHORT,
+        SendFault::Long => LONG,
+        SendFault::NoCredit => NO_CREDIT,
+        SendFault::LastCredit => LAST_CREDIT,
+        SendFault::Doubled => DOUBLED,
+    }
+}
+
+/// The status of an init.
+pub(crate) fn init_code(answer: &Result<(), InitFault>) -> i32
+    ensures { result ≡ init_code answer.now }
+{
+    match *answer {
+        Ok(()) => DONE,
+        Err(InitFault::Room(fault)) => room_code(fault),
+        Err(InitFault::Picker) => BAD_PICKER,
+        Err(InitFault::Units(fault)) => units_code(fault),
+        Err(InitFault::Unit(fault)) => unit_code(fault),
+        Err(InitFault::Limits(fault)) => limits_code(fault),
+    }
+}
+
+/// The status of what a host refuses.
+pub(crate) fn host_code(fault: HostFault) -> i32
+    ensures { result ≡ host_code fault }
+{
+    match fault {
+        HostFault::Credits => BAD_CREDITS,
+        HostFault::NoCredit => NO_CREDIT,
+        HostFault::LastCredit => LAST_CREDIT,
+        HostFault::Doubled => DOUBLED,
+        HostFault::Unreadable => UNREADABLE,
+        HostFault::Unknown => UNKNOWN,
+    }
+}

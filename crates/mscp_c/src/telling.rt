@@ -1,0 +1,142 @@
+// How what a call answers is told.
+
+ghost use Rattle.std.specs.Prelude.{◌≡◌};
+ghost use Rattle.mscp_c.specs.Told.{PacketTold, begin_code, block_told, bytes_of, flag, figures_told, report_code, report_told, send_code, sent_told, upcoming_told};
+
+use crate::outs::{FigureOut, PacketOut, ReportOut, SentOut, UpcomingOut};
+use crate::status::{ANSWERED, DONE, NOTHING, QUEUED, send_fault_code};
+use arrayvec::ArrayVec;
+use mscp_control::{Block, FaultStatus, Report, SendFault, Sent, Upcoming};
+use mscp_packet::Order;
+
+/// A flag as a number.
+fn flag(holds: bool) -> u8
+    ensures { result ≡ flag holds }
+{
+    if holds { 1 } else { 0 }
+}
+
+/// Tells what became of a message.
+pub(crate) fn tell_sent(out: &mut SentOut, answer: &Result<Sent, SendFault>) -> i32
+    ensures code { result ≡ send_code answer.now }
+    ensures told { out.new ≡ sent_told answer.now out.old }
+{
+    match *answer {
+        Ok(Sent::Queued(reference)) => {
+            *out = SentOut {
+                reference,
+                aborted: 0,
+                has_aborted: 0,
+            };
+            QUEUED
+        }
+        Ok(Sent::Answered { reference, aborted }) => {
+            *out = SentOut {
+                reference,
+                aborted: aborted.unwrap_or(0),
+                has_aborted: flag(aborted.is_some()),
+            };
+            ANSWERED
+        }
+        Err(fault) => send_fault_code(fault),
+    }
+}
+
+/// Tells the bytes of a packet, and leaves what stands behind them.
+pub(crate) fn tell_packet(out: &mut PacketOut, packet: &ArrayVec<u8, 48>)
+    ensures { PacketTold packet.now.items out.new }
+{
+    let length = packet.len();
+    out.length = length as u32;
+    out.bytes[..length].copy_from_slice(packet.as_slice());
+}
+
+/// The bytes of a transfer, 0 of any other order.
+fn bytes_of(order: &Order) -> u32
+    ensures { result ≡ bytes_of order.now }
+{
+    match *order {
+        Order::Move(_, bytes, _) => bytes,
+        _ => 0,
+    }
+}
+
+/// Tells what the next step serves.
+pub(crate) fn tell_upcoming(out: &mut UpcomingOut, upcoming: &Option<Upcoming>) -> i32
+    ensures code { result ≡ begin_code upcoming.now }
+    ensures told { out.new ≡ upcoming_told upcoming.now out.old }
+{
+    let Some(upcoming) = upcoming else {
+        return NOTHING;
+    };
+    *out = UpcomingOut {
+        reference: upcoming.command.reference,
+        bytes: bytes_of(&upcoming.command.order),
+        lbn: upcoming.lbn.unwrap_or(0),
+        done: upcoming.done,
+        weight: upcoming.weight,
+        unit: upcoming.command.unit,
+        opcode: upcoming.command.opcode(),
+        touches: flag(upcoming.lbn.is_some()),
+    };
+    DONE
+}
+
+/// Tells what a step did.
+pub(crate) fn tell_report(out: &mut ReportOut, report: &Report) -> i32
+    ensures code { result ≡ report_code report.now }
+    ensures told { out.new ≡ report_told report.now out.old }
+{
+    match *report {
+        Report::Idle => NOTHING,
+        Report::Served {
+            reference,
+            unit,
+            lbn,
+            started,
+            seek,
+            ended,
+        } => {
+            *out = ReportOut {
+                reference,
+                lbn: lbn.unwrap_or(0),
+                seek,
+                unit,
+                status: match ended {
+                    Some(end) => end.status,
+                    None => 0,
+                },
+                touched: flag(lbn.is_some()),
+                started: flag(started),
+                ended: flag(ended.is_some()),
+            };
+            DONE
+        }
+    }
+}
+
+/// Tells as many of the figures as there is room for.
+pub(crate) fn tell_figures(out: &mut [FigureOut], list: &[(u32, u32)])
+    ensures { out.new ≡ figures_told list.now out.old }
+{
+    let count = list.len().min(out.len());
+    for i in 0..count {
+        out[i] = FigureOut {
+            reference: list[i].0,
+            figure: list[i].1,
+        };
+    }
+}
+
+/// The outcome of a block with this status: good where it is 0.
+pub(crate) fn block_of(status: u16) -> Option<Block>
+    ensures { result ≡ block_told status }
+{
+    if status == 0 {
+        return Some(Block::Good);
+    }
+    match FaultStatus::new(status) {
+        Some(fault) => Some(Block::Bad(fault)),
+        None => None,
+    }
+}

@@ -1,0 +1,96 @@
+// What a program in C gives for a controller.
+
+ghost use Rattle.std.specs.Prelude.{◌≡◌};
+ghost use Rattle.mscp_c.specs.Given.{UnitAnswers, UnitsAnswer, policy_given};
+
+use arrayvec::ArrayVec;
+use mscp_control::ConfigFault;
+use mscp_drive::{Unit, UnitFault, Units, UnitsFault};
+use mscp_memory::{Policy, RoomFault};
+
+/// The limits of a controller.
+#[repr(C)]
+#[derive(Clone, Copy)]
+pub struct Limits {
+    pub id: u64,
+    pub credits: u32,
+    pub passing: u32,
+    pub longest: u32,
+    pub timeout: u16,
+}
+
+/// The numbers of a unit.
+#[repr(C)]
+#[derive(Clone, Copy)]
+pub struct UnitIn {
+    pub id: u64,
+    pub size: u32,
+    pub media: u32,
+    pub serial: u32,
+    pub number: u16,
+    pub track: u16,
+    pub group: u16,
+    pub cylinder: u16,
+}
+
+/// Why no controller is made: the first that holds, in this order.
+#[derive(Clone, Copy, PartialEq, Eq)]
+pub(crate) enum InitFault {
+    /// The handle has no room.
+    Room(RoomFault),
+    /// No picker has this number.
+    Picker,
+    /// The units are refused together.
+    Units(UnitsFault),
+    /// This unit is refused, the first of them.
+    Unit(UnitFault),
+    /// The limits are refused.
+    Limits(ConfigFault),
+}
+
+/// The policy of this number: 0 the oldest, 1 the sweep.
+pub(crate) fn policy_of(number: u32) -> Option<Policy>
+    ensures { result ≡ policy_given number }
+{
+    match number {
+        0 => Some(Policy::Oldest),
+        1 => Some(Policy::Sweep),
+        _ => None,
+    }
+}
+
+/// The unit of these numbers, or why there is none.
+fn unit_of(given: &UnitIn) -> Result<Unit, UnitFault>
+    ensures { UnitAnswers given.now result }
+{
+    Unit::new(
+        given.number,
+        given.track,
+        given.group,
+        given.cylinder,
+        given.size,
+        given.id,
+        given.media,
+        given.serial,
+    )
+}
+
+/// The units of these numbers, or why there are none: too many, one of them is refused, or all together.
+pub(crate) fn units_of(given: &[UnitIn]) -> Result<Units, InitFault>
+    ensures { UnitsAnswer given.now result }
+{
+    if given.len() > 16 {
+        return Err(InitFault::Units(UnitsFault::TooMany));
+    }
+    let mut list: ArrayVec<Unit, 16> = ArrayVec::new();
+    for i in 0..given.len() {
+        match unit_of(&given[i]) {
+            Ok(unit) => list.push(unit),
+            Err(fault) => return Err(InitFault::Unit(fault)),
+        }
+    }
+    match Units::new(list.as_slice()) {
+        Ok(units) => Ok(units),
+        Err(fault) => Err(InitFault::Units(fault)),
+    }
+}

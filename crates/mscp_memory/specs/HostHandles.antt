@@ -1,0 +1,26 @@
+-- What a handle on a host's memory is.
+use Rattle.std.specs.Prelude.{Bool, Option, is_none}
+use Rattle.mscp_memory.specs.declared.host.handle.Handle.{Handle}
+use Rattle.mscp_memory.specs.declared.host.marks.TheConstants.{MADE}
+use Rattle.mscp_memory.specs.declared.fault.RoomFault.{RoomFault}
+use Rattle.mscp_memory.specs.HostRoom.{Held, is_made_of, fault_of}
+
+-- whether its memory holds a host
+abbrev pub is_made : Handle → Bool
+is_made h = is_made_of h.mark
+
+-- why its memory is no room for one, if it isn't
+abbrev pub room_fault : Handle → Option RoomFault
+room_fault h = fault_of h.address h.length h.mark
+
+-- whether its memory is room for one
+abbrev pub is_room : Handle → Bool
+is_room h = is_none (room_fault h)
+
+-- the handle, with this host there
+abbrev pub with_held : Handle → Held → Handle
+with_held h w = record h { held = w }
+
+-- the handle, once this host was moved into its room
+abbrev pub placed : Handle → Held → Handle
+placed h w = record h { held = w; mark = MADE }

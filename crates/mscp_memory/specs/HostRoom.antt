@@ -1,0 +1,24 @@
+-- What the words of a handle on a host's memory say.
+use Rattle.std.specs.Prelude.{ℕ, Bool, nat_eq, Option}
+use Rattle.std.specs.Borrow.{RattleType}
+use Rattle.mscp_host.specs.Accounts.{Account}
+use Rattle.mscp_host.specs.contracts.host.Host as hosts
+use Rattle.mscp_memory.specs.declared.fault.RoomFault.{RoomFault}
+use Rattle.mscp_memory.specs.declared.host.marks.TheConstants.{ROOM, MADE, SIZE, ALIGN}
+use Rattle.mscp_memory.specs.Rooms.{place_fault, fault_unless}
+
+-- what a host holds
+abbrev pub Held : Type 0
+Held = Account
+
+-- how a host lies in memory
+abbrev pub row : RattleType
+row = hosts.the_row
+
+-- the mark of a handle whose memory holds a host
+abbrev pub is_made_of : ℕ → Bool
+is_made_of mark = nat_eq mark MADE
+
+-- why an address, a length in bytes and a mark say that there is no room for one, if they do
+abbrev pub fault_of : ℕ → ℕ → ℕ → Option RoomFault
+fault_of address length mark = fault_unless (is_made_of mark) (nat_eq mark ROOM) (place_fault address length SIZE ALIGN)

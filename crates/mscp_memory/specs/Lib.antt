@@ -1,0 +1,6 @@
+pub mod ControllerHandles
+pub mod ControllerRoom
+pub mod HostHandles
+pub mod HostRoom
+pub mod Policies
+pub mod Rooms

@@ -1,0 +1,21 @@
+-- What is room, and what memory is.
+use base.Fml.{Fml}
+use Rattle.std.specs.Prelude.{ℕ, ◌%◌, Bool, true, false, nat_eq, nat_lt, not, if◌then◌else◌, Option, Some, None}
+use Rattle.mscp_memory.specs.declared.fault.RoomFault.{RoomFault}
+use Rattle.mscp_memory.specs.declared.fault.RoomFault.TheVariants.{Made, NoHandle, Null, Misaligned, Small}
+
+-- the first where the test is true, and otherwise the second
+abbrev pub one_of : Bool → Fml → Fml → Fml
+one_of true F G = F
+one_of false F G = G
+
+-- why nothing of this size and alignment fits in so many bytes from this address on, if it doesn't
+abbrev pub place_fault : ℕ → ℕ → ℕ → ℕ → Option RoomFault
+place_fault address length size align =
+    if nat_eq address 0 then Some Null else (
+    if not (nat_eq (address % align) 0) then Some Misaligned else (
+    if nat_lt length size then Some Small else None))
+
+-- why there is no room, by what the mark of a handle says and what becomes of its place
+abbrev pub fault_unless : Bool → Bool → Option RoomFault → Option RoomFault
+fault_unless made room fault = if made then Some Made else (if room then fault else Some NoHandle)

@@ -1,0 +1,29 @@
+// A handle on memory for a controller.
+
+ghost use Rattle.mscp_memory.specs.ControllerRoom.{Held};
+
+use std::marker::Model;
+
+/// Memory of the caller, and what is in it: by its mark a controller, or room for one. A handle of another mark, or on
+/// memory that doesn't fit, owns nothing.
+#[repr(C)]
+pub struct Handle {
+    pub(crate) at: *mut u8,
+    pub(crate) address: usize,
+    pub(crate) length: usize,
+    pub(crate) mark: u64,
+    pub ghost held: { Held },
+}
+
+impl Model for Handle {
+    ghost use base.Fml.{ftrue};
+    ghost use Rattle.std.specs.Prelude.{is_none};
+    ghost use Rattle.std.specs.Borrow.{full_share};
+    ghost use Rattle.std.specs.Ptr.{lies_at, room_at};
+    ghost use Rattle.mscp_memory.specs.Rooms.{one_of};
+    ghost use Rattle.mscp_memory.specs.ControllerRoom.{fault_of, is_made_of, row};
+
+    ghost also_owns = { λ h.
+        one_of (is_made_of h.mark) (lies_at row full_share h.at h.held)
+        (one_of (is_none (fault_of h.address h.length h.mark)) (room_at row h.at) ftrue) };
+}

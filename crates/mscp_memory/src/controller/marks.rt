@@ -1,0 +1,17 @@
+// The marks of handles, and the room that a controller takes.
+
+use crate::policy::Policy;
+use mscp_control::Controller;
+use std::mem::{align_of, size_of};
+
+/// How many bytes a controller takes.
+pub const SIZE: usize = size_of::<Controller<Policy>>();
+
+/// What the address of a controller is a multiple of.
+pub const ALIGN: usize = align_of::<Controller<Policy>>();
+
+/// The memory is room for a controller.
+pub const ROOM: u64 = 0x4D53_4350_524F_4F4D;
+
+/// The memory holds a controller.
+pub const MADE: u64 = 0x4D53_4350_4D41_4445;

@@ -1,0 +1,10 @@
+//! A controller, and a host, in memory that the caller owns.
+#![tactic(auto)]
+
+pub mod controller;
+mod fault;
+pub mod host;
+mod policy;
+
+pub use crate::fault::RoomFault;
+pub use crate::policy::Policy;

@@ -1,0 +1,27 @@
+// Which picker serves.
+
+ghost use Rattle.std.specs.Prelude.{◌≡◌};
+
+use mscp_control::{Oldest, Picker, Sweep, View};
+
+/// Which picker says what starts.
+#[derive(Clone, Copy, Debug, PartialEq, Eq)]
+pub enum Policy {
+    /// The oldest command that may start.
+    Oldest,
+    /// The command whose start costs the least.
+    Sweep,
+}
+
+impl Picker for Policy {
+    ghost use Rattle.mscp_memory.specs.Policies.{IsPicked};
+
+    ghost picks = { λ policy view place. IsPicked policy view place };
+
+    fn pick(&self, view: &View) -> usize {
+        match self {
+            Policy::Oldest => Oldest.pick(view),
+            Policy::Sweep => Sweep.pick(view),
+        }
+    }
+}

@@ -1,0 +1,316 @@
+/* mscp.h: the command queue of an MSCP disk controller, and a host's end of it, proved. C99 and C++.
+ *
+ * A controller lies in memory of yours. No call takes memory, waits, or keeps a pointer. What each answers is proved: see
+ * docs/PROVED.md, which also says what the proof asks of you:
+ *
+ * - No pointer that you pass is NULL, also to no elements, and each points to as much as its type or the length beside it
+ *   says. Those of one call don't overlap.
+ * - A handle is made by mscp_in_memory or mscp_over (of a host by mscp_host_in_memory or mscp_host_over), over memory that
+ *   is really there and really yours. After that only the calls write the handle and its memory. Two handles are never
+ *   over one memory, and no copy of a handle is used beside it.
+ * - One call at a time on a handle, and a handle stays on its thread.
+ *
+ * A fault changes nothing: not the handle, not its memory, nor what an out-pointer points to. Nor do MSCP_NOTHING and
+ * MSCP_BUSY write what an out-pointer points to.
+ *
+ * Numbers are the machine's own. Messages and ends are bytes, as docs/FORMATS.md has them. */
+#ifndef MSCP_H
+#define MSCP_H
+#include <stddef.h>
+#include <stdint.h>
+#ifdef __cplusplus
+extern "C" {
+#endif
+
+#define MSCP_CREDITS_MAX 64u  /* commands that wait and ends that weren't taken, together */
+#define MSCP_UNITS_MAX 16u    /* units of a controller */
+#define MSCP_MESSAGE_MIN 12u  /* bytes of a message */
+#define MSCP_MESSAGE_MAX 64u
+#define MSCP_PACKET_MAX 48u   /* bytes that a call writes of a message or an end, at most */
+#define MSCP_BLOCK 512u       /* bytes of a block */
+
+/* What a call answers: 0 and up what came of it, below 0 why it was refused. */
+enum mscp_status {
+    MSCP_NOTHING = 0,   /* no command waits, no end is there, no poll is to be sent */
+    MSCP_DONE = 1,      /* the call did what it says */
+    MSCP_QUEUED = 2,    /* mscp_send: the command waits for steps */
+    MSCP_ANSWERED = 3,  /* mscp_send: its end was made at once: take it */
+    MSCP_BUSY = 4,      /* mscp_host_poll: the end of the last poll is still to come */
+    MSCP_ENDED = 5,     /* mscp_host_receive: a command ended, or a poll was refused */
+    MSCP_FIRST = 6,     /* the polled command's figure, the first that was told of it */
+    MSCP_PROGRESS = 7,  /* the polled command's figure, which has fallen */
+    MSCP_LATE = 8,      /* the polled command has ended in the meantime */
+    MSCP_RESET = 9,     /* the polled command's figure hasn't fallen: reset the controller */
+    MSCP_LOST = 10,     /* the controller doesn't know the polled command: reset it */
+
+    MSCP_SHORT = -1,        /* the message has under 12 bytes */
+    MSCP_LONG = -2,         /* it has over 64 bytes */
+    MSCP_NO_CREDIT = -3,    /* no credit is free */
+    MSCP_LAST_CREDIT = -4,  /* one is free, which is kept for commands that are answered at once, as a poll */
+    MSCP_DOUBLED = -5,      /* the reference number is outstanding */
+    MSCP_STALE = -6,        /* mscp_finish: no command of that number is begun */
+    MSCP_BAD_STATUS = -7,   /* neither 0 nor a status whose low five bits are 5 to 31 */
+    MSCP_UNREADABLE = -8,   /* mscp_host_receive: the bytes are no end */
+    MSCP_UNKNOWN = -9,      /* mscp_host_receive: the end of no outstanding command */
+
+    MSCP_NOT_MADE = -10,    /* nothing was made in the handle's memory: init it first */
+    MSCP_MADE = -11,        /* an init, where something was made already: reset it instead */
+    MSCP_NO_HANDLE = -12,   /* an init of what is no handle */
+    MSCP_NO_MEMORY = -13,   /* an init: the memory is NULL */
+    MSCP_MISALIGNED = -14,  /* an init: its address isn't a multiple of the alignment */
+    MSCP_SMALL = -15,       /* an init: it has fewer bytes than the size */
+
+    MSCP_BAD_PICKER = -20,    /* mscp_init: no enum mscp_picker */
+    MSCP_ZERO_TRACK = -21,    /* the first unit that is refused has a track of no blocks */
+    MSCP_ZERO_GROUP = -22,    /* a group of no tracks */
+    MSCP_ZERO_CYLINDER = -23, /* a cylinder of no groups */
+    MSCP_ZERO_SIZE = -24,     /* no blocks */
+    MSCP_MANY_UNITS = -25,    /* there are more than 16 */
+    MSCP_UNITS_FALL = -26,    /* a unit's number isn't above that of the one before it */
+    MSCP_NO_UNITS = -27,      /* there is none */
+    MSCP_BAD_CREDITS = -28,   /* the credits aren't 2 to 64 */
+    MSCP_BAD_LONGEST = -29,   /* the longest transfer isn't 1 to 8388608 blocks */
+    MSCP_BAD_TIMEOUT = -30,   /* the timeout isn't 1 to 255 seconds */
+    MSCP_BAD_BOUND = -31      /* (credits - 1 + passing) * longest doesn't fit 32 bits */
+};
+
+/* Which of the commands that may start is started. */
+enum mscp_picker {
+    MSCP_OLDEST = 0, /* the oldest */
+    MSCP_SWEEP = 1   /* the one that costs the head the least: an elevator over all units */
+};
+
+/* The opcodes of commands: byte 8 of a message. */
+enum mscp_opcode {
+    MSCP_ABORT = 1,
+    MSCP_GET_COMMAND_STATUS = 2,
+    MSCP_GET_UNIT_STATUS = 3,
+    MSCP_SET_CONTROLLER_CHARACTERISTICS = 4,
+    MSCP_AVAILABLE = 8,
+    MSCP_ONLINE = 9,
+    MSCP_SET_UNIT_CHARACTERISTICS = 10,
+    MSCP_ACCESS = 16,
+    MSCP_ERASE = 18,
+    MSCP_COMPARE_HOST_DATA = 32,
+    MSCP_READ = 33,
+    MSCP_WRITE = 34
+};
+
+/* A unit. No size is 0. Its identifiers are told to the host. */
+struct mscp_unit {
+    uint64_t id;       /* of the unit */
+    uint32_t size;     /* in blocks */
+    uint32_t media;    /* the type of its media */
+    uint32_t serial;   /* of its volume */
+    uint16_t number;
+    uint16_t track;    /* in blocks */
+    uint16_t group;    /* in tracks */
+    uint16_t cylinder; /* in groups */
+};
+
+/* The limits of a controller: no command waits for more than (credits - 1 + passing) * longest steps. */
+struct mscp_limits {
+    uint64_t id;      /* of the controller, which the host is told */
+    uint32_t credits; /* commands that wait and ends that weren't taken, together: 2 to 64 */
+    uint32_t passing; /* how often a waiting command may be passed by a later one */
+    uint32_t longest; /* the longest transfer in blocks: 1 to 8388608 */
+    uint16_t timeout; /* in seconds, which the host is told: 1 to 255 */
+};
+
+/* A handle on memory of yours: where it is, and what is in it. Nothing in it is for you. */
+struct mscp {
+    void *at;
+    uintptr_t address;
+    size_t length;
+    uint64_t mark;
+};
+struct mscp_host {
+    void *at;
+    uintptr_t address;
+    size_t length;
+    uint64_t mark;
+};
+
+/* What calls tell. A flag ("whether ..") is 1 or 0. */
+
+/* What became of a message. */
+struct mscp_sent {
+    uint32_t reference;  /* of its command */
+    uint32_t aborted;    /* the reference number of the command that an ABORT ended */
+    uint8_t has_aborted; /* whether it ended one */
+};
+
+/* A message or an end. */
+struct mscp_packet {
+    uint32_t length;                /* of its bytes */
+    uint8_t bytes[MSCP_PACKET_MAX]; /* those behind them are what they were */
+};
+
+/* What the next step serves. */
+struct mscp_upcoming {
+    uint32_t reference; /* of the command */
+    uint32_t bytes;     /* of a transfer in all, 0 of another command */
+    uint32_t lbn;       /* the block that the step touches, if it touches one */
+    uint32_t done;      /* the steps that the command had: this one's data begin 512 * done bytes into its buffer */
+    uint32_t weight;    /* the steps that it takes in all */
+    uint16_t unit;
+    uint8_t opcode;
+    uint8_t touches;    /* whether the step touches a block */
+};
+
+/* What a step did. */
+struct mscp_report {
+    uint32_t reference; /* of the command */
+    uint32_t lbn;       /* the block that it touched, if it touched one */
+    uint32_t seek;      /* cylinders that the head went */
+    uint16_t unit;
+    uint16_t status;    /* of the end, if the command ended */
+    uint8_t touched;    /* whether it touched a block */
+    uint8_t started;    /* whether it was the command's first step */
+    uint8_t ended;      /* whether the command ended: its end can be taken */
+};
+
+/* A waiting command. */
+struct mscp_figure {
+    uint32_t reference;
+    uint32_t figure; /* how many steps it may still wait, at most */
+};
+
+/* What a received end says: of MSCP_ENDED all but the figure, of MSCP_FIRST and MSCP_PROGRESS the figure. The rest is 0. */
+struct mscp_news {
+    uint32_t figure;    /* of the polled command, in steps */
+    uint32_t reference; /* of the command that ended */
+    uint32_t moved;     /* bytes of its good blocks, if it is a transfer */
+    uint16_t unit;
+    uint16_t status;
+    uint8_t code;       /* its endcode */
+};
+
+/* ---- memory */
+
+/* How many bytes a controller takes, and what its address is a multiple of. malloc aligns so. */
+size_t mscp_size(void);
+size_t mscp_align(void);
+size_t mscp_host_size(void);
+size_t mscp_host_align(void);
+
+/* The bytes of a handle, at the head of the memory. */
+#define MSCP_HEAD sizeof(struct mscp)
+
+/* Marks of handles on memory where nothing was made yet. They are the version of what lies in memory, too. */
+#define MSCP_ROOM UINT64_C(0x4D534350524F4F4D)
+#define MSCP_HOST_ROOM UINT64_C(0x484F5354524F4F4D)
+
+/* A handle on memory that is yours, for mscp_init. The handle lies where you put it. */
+static inline struct mscp mscp_over(void *memory, size_t length)
+{
+    struct mscp handle = {memory, (uintptr_t)memory, length, MSCP_ROOM};
+    return handle;
+}
+static inline struct mscp_host mscp_host_over(void *memory, size_t length)
+{
+    struct mscp_host handle = {memory, (uintptr_t)memory, length, MSCP_HOST_ROOM};
+    return handle;
+}
+
+/* The same with the handle at the head of the memory, whose own pointer then serves each call. A controller takes
+ * MSCP_HEAD + mscp_size() bytes so. Where there isn't even room for a handle this answers one on no memory, for which
+ * mscp_init says why. */
+static inline struct mscp *mscp_in_memory(void *memory, size_t length)
+{
+    static struct mscp null = {NULL, 0, 0, MSCP_ROOM};
+    static struct mscp misaligned = {NULL, 1, 0, MSCP_ROOM};
+    static struct mscp small = {NULL, 4096, 0, MSCP_ROOM};
+    if (memory == NULL)
+        return &null;
+    if ((uintptr_t)memory % sizeof(uint64_t) != 0)
+        return &misaligned;
+    if (length < MSCP_HEAD)
+        return &small;
+    *(struct mscp *)memory = mscp_over((char *)memory + MSCP_HEAD, length - MSCP_HEAD);
+    return (struct mscp *)memory;
+}
+static inline struct mscp_host *mscp_host_in_memory(void *memory, size_t length)
+{
+    static struct mscp_host null = {NULL, 0, 0, MSCP_HOST_ROOM};
+    static struct mscp_host misaligned = {NULL, 1, 0, MSCP_HOST_ROOM};
+    static struct mscp_host small = {NULL, 4096, 0, MSCP_HOST_ROOM};
+    if (memory == NULL)
+        return &null;
+    if ((uintptr_t)memory % sizeof(uint64_t) != 0)
+        return &misaligned;
+    if (length < MSCP_HEAD)
+        return &small;
+    *(struct mscp_host *)memory = mscp_host_over((char *)memory + MSCP_HEAD, length - MSCP_HEAD);
+    return (struct mscp_host *)memory;
+}
+
+/* ---- the controller. Each call but mscp_init answers MSCP_NOT_MADE where there is none. */
+
+/* Makes a controller in the handle's memory: of these limits, of so many units in rising order of their numbers, served
+ * by a picker of enum mscp_picker. MSCP_DONE, or the first fault in this order: those of the memory (-11 to -15),
+ * MSCP_BAD_PICKER, MSCP_MANY_UNITS, those of the first unit that has one (-21 to -24), MSCP_UNITS_FALL, MSCP_NO_UNITS,
+ * those of the limits (-28 to -31). The memory may go at any time, without a call. */
+int32_t mscp_init(struct mscp *mscp, const struct mscp_limits *limits, const struct mscp_unit *units, size_t count,
+                  uint32_t picker);
+
+/* Forgets all that came, as a reset of the port does: the controller is as new, with its limits, units and picker. Ends
+ * that weren't taken are gone. MSCP_DONE. */
+int32_t mscp_reset(struct mscp *mscp);
+
+/* Takes a message of the host in. MSCP_QUEUED or MSCP_ANSWERED, and then `sent` is filled; or the first that holds of
+ * MSCP_SHORT, MSCP_LONG, MSCP_NO_CREDIT, MSCP_LAST_CREDIT and MSCP_DOUBLED. A message that names no valid command is no
+ * fault: it gets an end that says why. */
+int32_t mscp_send(struct mscp *mscp, const uint8_t *message, size_t length, struct mscp_sent *sent);
+
+/* Takes the oldest end that wasn't taken, which frees its credit. MSCP_DONE, or MSCP_NOTHING where there is none. */
+int32_t mscp_take(struct mscp *mscp, struct mscp_packet *end);
+
+/* What the next step serves. MSCP_DONE, or MSCP_NOTHING where no command waits. The choice is kept: until a step, an ABORT
+ * of that command or a reset this answers the same. It changes nothing that any other call tells. */
+int32_t mscp_begin(struct mscp *mscp, struct mscp_upcoming *upcoming);
+
+/* The step of the command of this reference number, where it is begun: its block had this status, 0 for a good one. Else
+ * the command ends with the status. MSCP_DONE, MSCP_STALE where it isn't begun (any more), MSCP_BAD_STATUS. Have one block
+ * at a time in work: a command is known by its number alone. */
+int32_t mscp_finish(struct mscp *mscp, uint32_t reference, uint16_t status, struct mscp_report *report);
+
+/* mscp_begin and mscp_finish in one: serves what was begun, or what the picker picks. MSCP_DONE, MSCP_NOTHING where no
+ * command waits, or MSCP_BAD_STATUS. */
+int32_t mscp_step(struct mscp *mscp, uint16_t status, struct mscp_report *report);
+
+/* The figures of the waiting commands, oldest first, as many as there is room for. How many wait: 0 to 63. */
+int32_t mscp_look(struct mscp *mscp, struct mscp_figure *list, size_t room);
+
+/* How many steps the waiting command of this reference number may still wait, at most; 0 where none waits of it. */
+int64_t mscp_figure(struct mscp *mscp, uint32_t reference);
+
+/* How many credits are free: 0 to 64. */
+int64_t mscp_balance(struct mscp *mscp);
+
+/* ---- the host's end. Each call but mscp_host_init answers MSCP_NOT_MADE where there is none. */
+
+/* Makes a host in the handle's memory, with as many credits as its controller gives: 2 to 64. MSCP_DONE, or a fault of the
+ * memory (-11 to -15), or MSCP_BAD_CREDITS. Do it anew (in fresh memory, or over a new handle) when the port is reset. */
+int32_t mscp_host_init(struct mscp_host *host, uint32_t credits);
+
+/* How many credits are free: 0 to 64. */
+int64_t mscp_host_balance(struct mscp_host *host);
+
+/* This message is to be sent. MSCP_DONE: send it; its command is outstanding from now on. Or the first that holds of
+ * MSCP_SHORT, MSCP_LONG, MSCP_NO_CREDIT, MSCP_LAST_CREDIT and MSCP_DOUBLED: don't. */
+int32_t mscp_host_submit(struct mscp_host *host, const uint8_t *message, size_t length);
+
+/* The oldest command that isn't answered when it arrives is to be polled, by a GET COMMAND STATUS of this reference
+ * number. MSCP_DONE: send `message`, which is outstanding from now on. MSCP_BUSY and MSCP_NOTHING: there is nothing to
+ * send. Or MSCP_NO_CREDIT or MSCP_DOUBLED. */
+int32_t mscp_host_poll(struct mscp_host *host, uint32_t reference, struct mscp_packet *message);
+
+/* An end was received. What it says is MSCP_ENDED to MSCP_LOST, and then `news` is filled and its command's credit is free
+ * again; or MSCP_UNREADABLE or MSCP_UNKNOWN. */
+int32_t mscp_host_receive(struct mscp_host *host, const uint8_t *bytes, size_t length, struct mscp_news *news);
+
+#ifdef __cplusplus
+}
+#endif
+#endif

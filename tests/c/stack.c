@@ -1,0 +1,117 @@
+/* How much stack each call of mscp.h takes: each runs on a stack that was painted. Prints a line for each, and ends with 1
+ * where one that isn't an init takes more than 2 KiB. */
+#include "mscp.h"
+#include <stdio.h>
+#include <string.h>
+#include <ucontext.h>
+
+enum {
+    NOTHING, SEND, BEGIN, FINISH, STEP, TAKE, LOOK, FIGURE, BALANCE, RESET, SUBMIT, POLL, RECEIVE, HOST_BALANCE, INIT,
+    HOST_INIT, CALLS
+};
+static const char *const NAMES[CALLS] = {
+    "nothing", "send", "begin", "finish", "step", "take", "look", "figure", "balance", "reset",
+    "host_submit", "host_poll", "host_receive", "host_balance", "init", "host_init",
+};
+
+/* Aligned for anything. */
+static union { long double number; void *pointer; unsigned char bytes[1 << 15]; } room, host_room, fresh, fresh_host;
+static unsigned char stack[1 << 16];
+static ucontext_t home, there;
+static struct mscp *mscp;
+static struct mscp_host *host;
+static const struct mscp_limits LIMITS = {1, 64, 2, 8, 60};
+static struct mscp_unit units[16];
+
+static void run(int call)
+{
+    static uint8_t read[32] = {64, 0, 0, 0, 0, 0, 0, 0, MSCP_READ, 0, 0, 0, 0, 16};
+    static uint8_t end[20] = {99, 0, 0, 0, 0, 0, 0, 0, 0x82, 0, 0, 0, 1, 0, 0, 0, 5};
+    static struct mscp_sent sent;
+    static struct mscp_packet packet;
+    static struct mscp_upcoming upcoming;
+    static struct mscp_report report;
+    static struct mscp_figure figures[64];
+    static struct mscp_news news;
+    switch (call) {
+    case SEND: mscp_send(mscp, read, 32, &sent); break;
+    case BEGIN: mscp_begin(mscp, &upcoming); break;
+    case FINISH: mscp_finish(mscp, upcoming.reference, 0, &report); break;
+    case STEP: mscp_step(mscp, 0, &report); break;
+    case TAKE: mscp_take(mscp, &packet); break;
+    case LOOK: mscp_look(mscp, figures, 64); break;
+    case FIGURE: mscp_figure(mscp, 63); break;
+    case BALANCE: mscp_balance(mscp); break;
+    case RESET: mscp_reset(mscp); break;
+    case SUBMIT: mscp_host_submit(host, read, 32); break;
+    case POLL: mscp_host_poll(host, 99, &packet); break;
+    case RECEIVE: mscp_host_receive(host, end, 20, &news); break;
+    case HOST_BALANCE: mscp_host_balance(host); break;
+    case INIT: mscp_init(mscp_in_memory(&fresh, sizeof fresh), &LIMITS, units, 16, MSCP_SWEEP); break;
+    case HOST_INIT: mscp_host_init(mscp_host_in_memory(&fresh_host, sizeof fresh_host), 64); break;
+    }
+}
+
+/* How deep a call goes. */
+static size_t depth(int call)
+{
+    size_t untouched = 0;
+    memset(stack, 0xA5, sizeof stack);
+    getcontext(&there);
+    there.uc_stack.ss_sp = stack;
+    there.uc_stack.ss_size = sizeof stack;
+    there.uc_link = &home;
+    makecontext(&there, (void (*)(void))run, 1, call);
+    swapcontext(&home, &there);
+    while (stack[untouched] == 0xA5)
+        untouched++;
+    return sizeof stack - untouched;
+}
+
+/* 16 units, the first online, and 62 READs that wait on all of them. */
+static void prepare(void)
+{
+    uint8_t message[32] = {0, 0, 0, 0, 0, 0, 0, 0, MSCP_ONLINE};
+    struct mscp_sent sent;
+    struct mscp_report report;
+    struct mscp_packet end;
+    for (uint16_t i = 0; i < 16; i++) {
+        struct mscp_unit unit = {1, 1000, 0, 1, 0, 10, 2, 1};
+        unit.number = i;
+        units[i] = unit;
+    }
+    mscp = mscp_in_memory(&room, sizeof room);
+    host = mscp_host_in_memory(&host_room, sizeof host_room);
+    mscp_init(mscp, &LIMITS, units, 16, MSCP_SWEEP);
+    mscp_host_init(host, 64);
+    mscp_send(mscp, message, 32, &sent);
+    mscp_step(mscp, 0, &report);
+    mscp_take(mscp, &end);
+    message[8] = MSCP_READ;
+    message[13] = 16;
+    for (uint8_t i = 1; i <= 62; i++) {
+        message[0] = i;
+        message[4] = i % 16;
+        mscp_send(mscp, message, 32, &sent);
+        mscp_host_submit(host, message, 32);
+    }
+}
+
+/* Each call is made once before: the first call of a function of the C library may go through the dynamic linker, which
+ * takes some stack of its own. */
+int main(void)
+{
+    int wrong = 0;
+    size_t frame;
+    prepare();
+    for (int call = SEND; call < CALLS; call++)
+        run(call);
+    prepare();
+    frame = depth(NOTHING);
+    for (int call = SEND; call < CALLS; call++) {
+        size_t bytes = depth(call) - frame;
+        printf("mscp_%s %zu\n", NAMES[call], bytes);
+        wrong |= call < INIT && bytes > 2048;
+    }
+    return wrong;
+}
