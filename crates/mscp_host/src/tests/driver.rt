@@ -47,8 +47,10 @@ impl Driver {
             Ok(Poll::Nothing) => (None, Deed::Wait),
             // A whole timeout, and the controller didn't answer.
             Ok(Poll::Busy) => (None, Deed::Resynchronise),
-            // All credits are in use: ends will come.
-            Err(_) => (None, Deed::Wait),
+            // The number has come round and is outstanding: the next one does.
+            Err(HostFault::Doubled) => (None, Deed::Wait),
+            // All credits are held by commands that are answered when they arrive, for a whole timeout.
+            Err(_) => (None, Deed::Resynchronise),
         }
     }
 
