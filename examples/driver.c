@@ -99,8 +99,11 @@ static void send_all(struct driver *driver)
 static void tick(struct driver *driver)
 {
     struct mscp_packet poll;
-    if (!has_slot(driver))
+    if (!has_slot(driver)) {
+        if (++driver->unanswered == PATIENCE)
+            reset(driver, "no message is taken");
         return;
+    }
     switch (mscp_host_poll(driver->host, driver->next_poll, &poll)) {
     case MSCP_DONE:
         emulator_post(driver->port, poll.bytes, poll.length, 0);
@@ -110,6 +113,9 @@ static void tick(struct driver *driver)
     case MSCP_BUSY:
         if (++driver->unanswered == PATIENCE)
             reset(driver, "no poll is answered");
+        break;
+    case MSCP_DOUBLED: /* the number has come round and is outstanding */
+        driver->next_poll++;
         break;
     default: /* nothing is outstanding, or no credit is free: the next tick may do it */
         break;

@@ -215,7 +215,7 @@ bool emulator_begin(struct emulator *emulator, struct job *job)
 {
     if (mscp_begin(emulator->mscp, &job->next) != MSCP_DONE)
         return false;
-    job->status = job->next.touches ? move(emulator, job) : 0;
+    job->status = job->next.touches && job->next.bytes > 0 ? move(emulator, job) : 0;
     return true;
 }
 

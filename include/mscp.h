@@ -155,7 +155,7 @@ struct mscp_upcoming {
     uint32_t weight;    /* the steps that it takes in all */
     uint16_t unit;
     uint8_t opcode;
-    uint8_t touches;    /* whether the step touches a block */
+    uint8_t touches;    /* whether the step touches a block: a transfer of 0 bytes touches its first, but moves nothing */
 };
 
 /* What a step did. */
