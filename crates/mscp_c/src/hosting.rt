@@ -1,7 +1,7 @@
 // The calls of a host.
 
 ghost use Rattle.std.specs.Prelude.{◌≡◌, true, false, pos};
-ghost use Rattle.mscp_host.specs.Accounts.{balance, heard, polled};
+ghost use Rattle.mscp_host.specs.Accounts.{balance, heard, polls_oldest};
 ghost use Rattle.mscp_memory.specs.HostHandles.{is_made, with_held};
 ghost use Rattle.mscp_c.specs.Hosted.{PollTold, inits, message_read, news_code, news_told, poll_code, submits_message};
 
@@ -90,10 +90,10 @@ pub extern "C" fn mscp_host_submit(handle: &mut Handle, message: &[u8]) -> i32
 /// What there is to do to poll the oldest command that isn't answered when it arrives.
 #[unsafe(no_mangle)]
 pub extern "C" fn mscp_host_poll(handle: &mut Handle, reference: u32, out: &mut PacketOut) -> i32
-    ensures code { is_made handle.old ≡ true → result ≡ poll_code (polled handle.old.held reference).0 }
-    ensures told { is_made handle.old ≡ true → PollTold (polled handle.old.held reference).0 out.old out.new }
+    ensures code { is_made handle.old ≡ true → result ≡ poll_code (polls_oldest handle.old.held reference).0 }
+    ensures told { is_made handle.old ≡ true → PollTold (polls_oldest handle.old.held reference).0 out.old out.new }
     ensures after { is_made handle.old ≡ true
-        → handle.new ≡ with_held handle.old (polled handle.old.held reference).1 }
+        → handle.new ≡ with_held handle.old (polls_oldest handle.old.held reference).1 }
     ensures unmade { is_made handle.old ≡ false
         → (result ≡ NOT_MADE) × (handle.new ≡ handle.old) × (out.new ≡ out.old) }
 {

@@ -1,13 +1,11 @@
 -- How a message is judged when it comes. Nothing here asks what came before it.
 use Rattle.std.specs.Prelude.{ℕ, Bool, true, false, not, ◌&&◌, nat_lt, if◌then◌else◌, ◌==◌, List, length, slice_index, Option, Some, None, is_none, Result}
 use Rattle.std.specs.List.{list_any}
-use Rattle.mscp_packet.specs.declared.class.Class.{Class}
-use Rattle.mscp_packet.specs.declared.class.Class.TheVariants.{Immediate}
 use Rattle.mscp_packet.specs.declared.command.Order.{Order}
 use Rattle.mscp_packet.specs.declared.command.Order.TheVariants as orders
 use Rattle.mscp_packet.specs.declared.command.Command.{Command}
 use Rattle.mscp_packet.specs.Number.{num}
-use Rattle.mscp_packet.specs.Opcodes.{class}
+use Rattle.mscp_packet.specs.Opcodes.{class, is_immediate_class}
 use Rattle.mscp_packet.specs.Statuses.{invalid_version, unit_offline}
 use Rattle.mscp_drive.specs.Shape.{Shape}
 use Rattle.mscp_drive.specs.Extent as extent
@@ -18,11 +16,6 @@ use Rattle.mscp_queue.specs.Names.{same_name}
 use Rattle.mscp_control.specs.Settings.{Settings, unit_found}
 
 -- ---- credits
-
--- a command of this class is answered when it comes (manual, "Command Categories and Execution Order")
-abbrev pub is_immediate_class : Class → Bool
-is_immediate_class Immediate = true
-is_immediate_class class = false
 
 -- a reference number is among these
 abbrev pub holds : List ℕ → ℕ → Bool

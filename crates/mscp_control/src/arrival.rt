@@ -1,22 +1,22 @@
 // How a message is judged when it comes.
 
 ghost use Rattle.std.specs.Prelude.{◌≡◌, ◌+◌, ◌≤◌, ◌^◌, IfOk};
-ghost use Rattle.mscp_packet.specs.Opcodes.{class};
-ghost use Rattle.mscp_control.specs.Arrival.{is_immediate, is_immediate_class, judged, move_fault, unit_fault, version_fault};
+ghost use Rattle.mscp_packet.specs.Opcodes.{class, is_immediate_class};
+ghost use Rattle.mscp_control.specs.Arrival.{is_immediate, judged, move_fault, unit_fault, version_fault};
 ghost use Rattle.mscp_queue.specs.Orders.{first_block};
 ghost use Rattle.mscp_control.specs.Settings.{unit_found};
 ghost use Rattle.mscp_drive.specs.Extent.{weighed, weight};
 
 use crate::config::Config;
 use mscp_packet::status::{INVALID_VERSION, UNIT_OFFLINE};
-use mscp_packet::{Class, Command, Order, class_of};
+use mscp_packet::{Command, Order, class_of};
 
 /// Whether a command with this opcode byte is answered without a step, so that the last credit is enough
 /// for it.
 pub(crate) fn may_take_last_credit(opcode: u8) -> bool
     ensures { result ≡ is_immediate_class (class opcode) }
 {
-    matches!(class_of(opcode), Class::Immediate)
+    class_of(opcode).is_immediate()
 }
 
 /// The weight of a transfer to the unit, or the status that refuses it.

@@ -1,6 +1,6 @@
 // A whole run.
 
-ghost use Rattle.std.specs.Prelude.{◌≡◌, ◌+◌, ◌<◌, ◌≤◌, List, [], ◌∷◌, ◌++◌, length, vec_capacity, vec_len, zip, IfOk};
+ghost use Rattle.std.specs.Prelude.{◌≡◌, ◌≤◌, List, [], length, vec_capacity, zip, IfOk};
 ghost use Rattle.mscp_control.specs.Holdings.{Answered};
 ghost use Rattle.mscp_control.specs.Headline.{Headline};
 ghost use Rattle.mscp_control.specs.Legal.{IsPicked};
@@ -13,21 +13,9 @@ mod tests;
 use crate::config::Config;
 use crate::controller::Controller;
 use crate::event::{Entry, Event};
-use crate::memory::OutOfMemory;
+use crate::memory::{OutOfMemory, put};
 use mscp_queue::Picker;
 use std::alloc::Global;
-
-/// Appends an entry to a list that has room for it, so that no memory is asked for.
-fn put(entries: &mut Vec<Entry>, entry: Entry)
-    requires { vec_len entries.old < vec_capacity entries.old }
-    ensures items { entries.new.items ≡ entries.old.items ++ entry ∷ [] }
-    ensures len { vec_len entries.new ≡ vec_len entries.old + 1 }
-    ensures capacity { vec_capacity entries.old ≤ vec_capacity entries.new }
-{
-    if entries.push(entry).is_err() {
-        unreachable!();
-    }
-}
 
 /// Appends what the controller answers to the events, one after the other. There is room, so it can't fail.
 fn answer_each<K: Picker>(

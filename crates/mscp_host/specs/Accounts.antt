@@ -2,9 +2,7 @@
 use Rattle.std.specs.Prelude.{ℕ, ◌+◌, ◌-◌, Bool, true, false, not, ◌&&◌, ◌||◌, nat_eq, nat_lt, nat_le, if◌then◌else◌, List, [], ◌∷◌, ◌++◌, length, find, slice_index, Option, Some, None, is_some, Result, Ok, Err}
 use Rattle.std.specs.List.{list_any}
 use Rattle.arrayvec.specs.ArrayVec.{ArrayVec}
-use Rattle.mscp_packet.specs.declared.class.Class.{Class}
-use Rattle.mscp_packet.specs.declared.class.Class.TheVariants as classes
-use Rattle.mscp_packet.specs.Opcodes.{class}
+use Rattle.mscp_packet.specs.Opcodes.{class, is_immediate_class}
 use Rattle.mscp_packet.specs.Commands.{command_bytes, opcode_byte}
 use Rattle.mscp_packet.specs.Ends.{kind_of_code, reading_with}
 use Rattle.mscp_packet.specs.declared.command.Command.{Command}
@@ -29,16 +27,11 @@ pub record Account : Type 0 where
   pub outstanding : List Submission
   pub watch : Option Watch
 
--- a host to which nothing came so far
+-- a host that sent nothing so far
 abbrev pub fresh : ℕ → Account
 fresh credits = record { credits = credits; outstanding = []; watch = None }
 
 -- ---- submissions
-
--- a command of this class is answered when it arrives (manual, "Command Categories and Execution Order")
-abbrev pub is_immediate_class : Class → Bool
-is_immediate_class classes.Immediate = true
-is_immediate_class other = false
 
 -- a command of this opcode byte is answered when it arrives
 abbrev pub is_immediate : ℕ → Bool
@@ -90,7 +83,7 @@ poll_of reference s = record { reference = reference; unit = s.unit; order = ord
 -- what is kept once the poll of a submission was sent: it is outstanding too, and in flight
 abbrev pub watching : Account → ℕ → Submission → Account
 watching a reference s =
-    record (submitted a (poll_of reference s)) { watch = Some (record { reference = reference; polled = s.reference; stands = true }) }
+    record (submitted a (poll_of reference s)) { watch = Some (record { reference = reference; polled = s.reference; is_outstanding = true }) }
 
 -- what is answered to a poll of a submission, and what is kept then: its message, or why it may not be sent, and then
 -- nothing changes
@@ -106,8 +99,8 @@ asks a reference (Some s) = asks_unless a reference s (refusal a (opcode_byte (p
 
 -- what is answered where the oldest command is to be polled under this reference number, and what is kept then: one poll
 -- at a time (profile)
-abbrev pub polled : Account → ℕ → Result Poll HostFault × Account
-polled a reference = if is_some a.watch then (Ok polls.Busy, a) else asks a reference (oldest a)
+abbrev pub polls_oldest : Account → ℕ → Result Poll HostFault × Account
+polls_oldest a reference = if is_some a.watch then (Ok polls.Busy, a) else asks a reference (oldest a)
 
 -- ---- an end
 
@@ -117,7 +110,7 @@ end_in b =
     if nat_le 12 (length b) && nat_le (length b) 64 then reading_with (kind_of_code (slice_index b 8)) b
     else Err ends.Length
 
--- the endcode is that of an unknown opcode, or that of this opcode byte (manual, "End Messages")
+-- the endcode is that of this opcode byte (manual, "End Messages"), or that of an unknown opcode (profile)
 abbrev pub is_code_of : ℕ → ℕ → Bool
 is_code_of code opcode = nat_eq code 0x80 || nat_eq code (opcode + 0x80)
 
@@ -126,10 +119,14 @@ abbrev pub told_in : EndBody → Option (ℕ × ℕ)
 told_in (bodies.Status other figure) = Some (other, figure)
 told_in body = None
 
+-- the endcode of a GET COMMAND STATUS (manual, "End Messages")
+abbrev pub status_end : ℕ
+status_end = 0x82
+
 -- what an end tells of a command that was polled: where it is that of the poll in flight, and the poll was served
 abbrev pub answered : Option Watch → End → Option (ℕ × ℕ)
 answered None e = None
-answered (Some w) e = if nat_eq w.reference e.reference && nat_eq e.code 0x82 then told_in e.body else None
+answered (Some w) e = if nat_eq w.reference e.reference && nat_eq e.code status_end then told_in e.body else None
 
 -- the poll in flight is about the command of this number
 abbrev pub is_about : Option Watch → ℕ → Bool
@@ -146,9 +143,9 @@ abbrev pub may_end : Account → End → Submission → Bool
 may_end a e s = is_code_of e.code s.opcode && is_about_polled a.watch (answered a.watch e)
 
 -- the polled submission is still outstanding
-abbrev pub stands : Option Watch → Bool
-stands None = false
-stands (Some w) = w.stands
+abbrev pub polled_is_outstanding : Option Watch → Bool
+polled_is_outstanding None = false
+polled_is_outstanding (Some w) = w.is_outstanding
 
 -- what was told of a submission, if it is one
 abbrev pub told_of : Option Submission → Option ℕ
@@ -170,7 +167,7 @@ news_of_figure None figure = if nat_eq figure 0 then news.Lost else news.First f
 abbrev pub news_with : Account → End → Option (ℕ × ℕ) → News
 news_with a e None = news.Ended e
 news_with a e (Some told) =
-    if stands a.watch then news_of_figure (last_told a.outstanding told.0) told.1 else news.Late
+    if polled_is_outstanding a.watch then news_of_figure (last_told a.outstanding told.0) told.1 else news.Late
 
 -- the submissions, where of the one of this number this figure was told
 abbrev pub with_told : ℕ → ℕ → List Submission → List Submission
@@ -183,18 +180,18 @@ abbrev pub without : ℕ → List Submission → List Submission
 without number [] = []
 without number (s ∷ rest) = if has_reference number s then rest else s ∷ without number rest
 
--- the submissions, once that was told of the polled one, if it still stands
+-- the submissions, once that was told of the polled one, if that is still outstanding
 abbrev pub outstanding_with : Account → Option (ℕ × ℕ) → List Submission
 outstanding_with a None = a.outstanding
 outstanding_with a (Some told) =
-    if stands a.watch then with_told told.0 told.1 a.outstanding else a.outstanding
+    if polled_is_outstanding a.watch then with_told told.0 told.1 a.outstanding else a.outstanding
 
 -- the poll in flight, once the end of the command of this number was received
 abbrev pub watch_after : Option Watch → ℕ → Option Watch
 watch_after None number = None
 watch_after (Some w) number =
     if nat_eq w.reference number then None else (
-    if nat_eq w.polled number then Some (record w { stands = false }) else Some w)
+    if nat_eq w.polled number then Some (record w { is_outstanding = false }) else Some w)
 
 -- what is kept once an end was received: its command is outstanding no more, so its credit is free again (manual, "Flow
 -- Control")

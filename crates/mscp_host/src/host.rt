@@ -3,12 +3,12 @@
 ghost use Rattle.std.specs.Prelude.{◌≡◌, ◌↔◌, ◌≤◌, length, find, IsOk, IfErr, IfOk};
 ghost use Rattle.std.specs.List.{list_any};
 ghost use Rattle.mscp_packet.specs.Commands.{command_bytes};
-ghost use Rattle.mscp_host.specs.Accounts.{answered, balance, end_in, fresh, has_reference, heard, news_with, oldest, or_unreadable, outstanding_with, polled, received, refusal, submits, submitted};
+ghost use Rattle.mscp_host.specs.Accounts.{answered, balance, end_in, fresh, has_reference, heard, news_with, oldest, or_unreadable, outstanding_with, polls_oldest, received, refusal, submits, submitted};
 
 use crate::news::{HostFault, News, Poll, is_code_of, news_of_figure};
 use crate::outstanding::{find_oldest, find_reference, has_any, last_told, remove, set_told};
 use crate::submission::{Submission, is_immediate};
-use crate::watch::{Watch, answered, is_about_polled, stands, watch_after};
+use crate::watch::{Watch, answered, is_about_polled, polled_is_outstanding, watch_after};
 use arrayvec::ArrayVec;
 use mscp_packet::{Command, End, Order, read_end, write_command};
 use std::marker::Model;
@@ -110,7 +110,7 @@ impl Host {
     /// outstanding from now on; or it may not be sent, and then nothing changes: the first that holds of `NoCredit` and
     /// `Doubled`.
     pub fn poll(&mut self, reference: u32) -> Result<Poll, HostFault>
-        ensures { (result, self.new) ≡ polled self.old reference }
+        ensures { (result, self.new) ≡ polls_oldest self.old reference }
     {
         if self.watch.is_some() {
             return Ok(Poll::Busy);
@@ -127,7 +127,7 @@ impl Host {
         self.watch = Some(Watch {
             reference,
             polled: polled.reference,
-            stands: true,
+            is_outstanding: true,
         });
         Ok(Poll::Ask(message))
     }
@@ -176,19 +176,19 @@ impl Host {
     {
         match answer {
             None => News::Ended(*end),
-            Some(_) if !stands(&self.watch) => News::Late,
+            Some(_) if !polled_is_outstanding(&self.watch) => News::Late,
             Some((number, figure)) => {
                 news_of_figure(last_told(self.outstanding.as_slice(), *number), *figure)
             }
         }
     }
 
-    /// Keeps what was told of the polled command, if it still stands.
+    /// Keeps what was told of the polled command, if that is still outstanding.
     fn keep_told(&mut self, answer: &Option<(u32, u32)>)
         ensures { self.new ≡ record self.old { outstanding = outstanding_with self.old answer.now } }
     {
         if let Some((number, figure)) = answer
-            && stands(&self.watch)
+            && polled_is_outstanding(&self.watch)
         {
             set_told(self.outstanding.as_mut_slice(), *number, *figure);
         }

@@ -52,9 +52,11 @@ pub enum News {
     First(u32),
     /// The polled command has ended in the meantime.
     Late,
-    /// The polled command's figure isn't less than the last one: the controller doesn't work on it, and is to be reset.
+    /// The polled command's figure isn't less than the last one: the controller doesn't work on it, and the host
+    /// resynchronises with it.
     Reset,
-    /// The controller doesn't know the polled command.
+    /// The polled command's figure is 0, and none came before or the last one was above 0: the controller doesn't know
+    /// the command.
     Lost,
 }
 

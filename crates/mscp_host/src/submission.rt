@@ -3,7 +3,7 @@
 ghost use Rattle.std.specs.Prelude.{◌≡◌};
 ghost use Rattle.mscp_host.specs.Accounts.{is_immediate, submission_of};
 
-use mscp_packet::{Class, Command, class_of};
+use mscp_packet::{Command, class_of};
 
 /// A command whose end wasn't received. It is a submission, and not a number: a number that is used again is another.
 #[derive(Clone, Copy, Debug, PartialEq, Eq)]
@@ -36,7 +36,7 @@ impl Submission {
 pub fn is_immediate(opcode: u8) -> bool
     ensures { result ≡ is_immediate opcode }
 {
-    matches!(class_of(opcode), Class::Immediate)
+    class_of(opcode).is_immediate()
 }
 
 /// A submission of nothing, which fills the places of a list that isn't full.

@@ -1,7 +1,7 @@
 // The poll in flight.
 
 ghost use Rattle.std.specs.Prelude.{◌≡◌};
-ghost use Rattle.mscp_host.specs.Accounts.{answered, is_about_polled, stands, told_in, watch_after};
+ghost use Rattle.mscp_host.specs.Accounts.{answered, is_about_polled, polled_is_outstanding, told_in, watch_after};
 
 use mscp_packet::{End, EndBody};
 
@@ -16,7 +16,7 @@ pub struct Watch {
     /// The reference number of the submission that it is about.
     pub polled: u32,
     /// Whether that submission is still outstanding.
-    pub stands: bool,
+    pub is_outstanding: bool,
 }
 
 /// The reference number that the end of a GET COMMAND STATUS tells, and its figure.
@@ -53,11 +53,11 @@ pub fn is_about_polled(watch: &Option<Watch>, answer: &Option<(u32, u32)>) -> bo
 }
 
 /// Whether the polled submission is still outstanding.
-pub fn stands(watch: &Option<Watch>) -> bool
-    ensures { result ≡ stands watch.now }
+pub fn polled_is_outstanding(watch: &Option<Watch>) -> bool
+    ensures { result ≡ polled_is_outstanding watch.now }
 {
     match watch {
-        Some(watch) => watch.stands,
+        Some(watch) => watch.is_outstanding,
         None => false,
     }
 }
@@ -69,7 +69,7 @@ pub fn watch_after(watch: Option<Watch>, reference: u32) -> Option<Watch>
     match watch {
         Some(watch) if watch.reference == reference => None,
         Some(watch) if watch.polled == reference => Some(Watch {
-            stands: false,
+            is_outstanding: false,
             ..watch
         }),
         _ => watch,

@@ -1,5 +1,5 @@
 -- The table of the opcodes.
-use Rattle.std.specs.Prelude.{ℕ, nat_eq, List, [], ◌∷◌, find, Option, Some, None}
+use Rattle.std.specs.Prelude.{ℕ, Bool, true, false, nat_eq, List, [], ◌∷◌, find, Option, Some, None}
 use Rattle.mscp_packet.specs.declared.class.Class.{Class}
 use Rattle.mscp_packet.specs.declared.class.Class.TheVariants.{Immediate, Sequential, Free, Unknown}
 use Rattle.mscp_packet.specs.declared.class.Opcode.{Opcode}
@@ -77,3 +77,8 @@ class_of_opcode (Some o) = (line_of o).scheduled
 -- the class of an opcode byte
 abbrev pub class : ℕ → Class
 class byte = class_of_opcode (opcode_of byte)
+
+-- a command of this class is answered when it arrives (manual, "Command Categories and Execution Order")
+abbrev pub is_immediate_class : Class → Bool
+is_immediate_class Immediate = true
+is_immediate_class other = false

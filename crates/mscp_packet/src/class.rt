@@ -1,7 +1,7 @@
 // The opcodes. All that is told of one stands in one line of a table, and everything else asks the table.
 
 ghost use Rattle.std.specs.Prelude.{◌≡◌};
-ghost use Rattle.mscp_packet.specs.Opcodes.{class, line_of, opcode_of};
+ghost use Rattle.mscp_packet.specs.Opcodes.{class, is_immediate_class, line_of, opcode_of};
 
 use crate::command::MoveKind;
 use crate::end::BodyKind;
@@ -17,6 +17,15 @@ pub enum Class {
     Free,
     /// No opcode that is known.
     Unknown,
+}
+
+impl Class {
+    /// Whether a command of this class is answered when it arrives, so that the last credit is enough for it.
+    pub fn is_immediate(self) -> bool
+        ensures { result ≡ is_immediate_class self }
+    {
+        matches!(self, Class::Immediate)
+    }
 }
 
 /// The twelve opcodes that are known.

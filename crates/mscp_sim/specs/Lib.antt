@@ -14,3 +14,5 @@ pub mod Chosen
 pub mod Talks
 pub mod Matches
 pub mod TwoEnds
+pub mod Conversing
+pub mod Rooms

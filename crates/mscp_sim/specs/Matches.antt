@@ -65,7 +65,7 @@ pub record IsFlight (untaken : List End) (w : Watch) (flight : Flight) : Type 0 
   pub reference : end.reference ≡ w.reference
   pub code : end.code ≡ 0x82
   pub body : end.body ≡ bodies.Status w.polled flight.figure
-  pub ended : w.stands ≡ true → flight.waited ≡ false → list_any (λ e. nat_eq e.reference w.polled) front ≡ true
+  pub ended : w.is_outstanding ≡ true → flight.waited ≡ false → list_any (λ e. nat_eq e.reference w.polled) front ≡ true
 
 abbrev pub HasFlight : List End → Option Watch → Flight → Type 0
 HasFlight untaken None flight = Unit {0}

@@ -48,9 +48,9 @@ sends hears.Asked = true
 sends heard = false
 
 -- it was a poll
-abbrev pub asks : Heard → Bool
-asks hears.Asked = true
-asks heard = false
+abbrev pub is_asked : Heard → Bool
+is_asked hears.Asked = true
+is_asked heard = false
 
 -- the reference number of the command that a turn is about
 abbrev pub reference_in : Turn → ℕ
@@ -118,8 +118,8 @@ unit_found talk None = 0
 unit_found talk (Some i) = unit_in (said talk i).turn
 
 -- what the poll in turn j is told: the figure of that command after the trace so far (manual, "Host Command Timeouts")
-abbrev pub told_in : Settings → Talk → ℕ → ℕ
-told_in c talk j = figure_of c (trace_of (take j talk)) (reference_found talk (polled talk j))
+abbrev pub figure_told : Settings → Talk → ℕ → ℕ
+figure_told c talk j = figure_of c (trace_of (take j talk)) (reference_found talk (polled talk j))
 
 -- a command was found, and it is i
 abbrev pub is_it : ℕ → Option ℕ → Bool
@@ -128,12 +128,12 @@ is_it i (Some x) = nat_eq x i
 
 -- turn p was a poll about the command i
 abbrev pub asks_about : Talk → ℕ → ℕ → Bool
-asks_about talk i p = asks (said talk p).heard && is_it i (polled talk p)
+asks_about talk i p = is_asked (said talk p).heard && is_it i (polled talk p)
 
 -- what the end of the command that was sent in turn p tells of the command i: an answer, if it was a poll about it
 abbrev pub answers_of : Settings → Talk → ℕ → Option ℕ → List ℕ
 answers_of c talk i None = []
-answers_of c talk i (Some p) = if asks_about talk i p then told_in c talk p ∷ [] else []
+answers_of c talk i (Some p) = if asks_about talk i p then figure_told c talk p ∷ [] else []
 
 -- all that the host was told of the command i before turn j, in order
 abbrev pub answers_about : Settings → Talk → ℕ → ℕ → List ℕ
@@ -165,21 +165,21 @@ submission_at c talk j i = record {
 }
 
 -- a command was found, and it is outstanding before turn j
-abbrev pub still_stands : Talk → ℕ → Option ℕ → Bool
-still_stands talk j None = false
-still_stands talk j (Some i) = is_outstanding talk j i
+abbrev pub polled_is_outstanding : Talk → ℕ → Option ℕ → Bool
+polled_is_outstanding talk j None = false
+polled_is_outstanding talk j (Some i) = is_outstanding talk j i
 
 -- of the poll of turn p, before turn j
 abbrev pub watch_at : Talk → ℕ → ℕ → Watch
 watch_at talk j p = record {
   reference = reference talk p;
   polled = reference_found talk (polled talk p);
-  stands = still_stands talk j (polled talk p);
+  is_outstanding = polled_is_outstanding talk j (polled talk p);
 }
 
 -- the poll whose end wasn't handed over before turn j, if there is one
 abbrev pub in_flight : Talk → ℕ → Option ℕ
-in_flight talk j = find (λ p. asks (said talk p).heard) (outstanding talk j)
+in_flight talk j = find (λ p. is_asked (said talk p).heard) (outstanding talk j)
 
 -- before turn j
 abbrev pub account_at : Settings → Talk → ℕ → Account

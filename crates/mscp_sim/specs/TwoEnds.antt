@@ -1,16 +1,13 @@
 -- What is promised of a host and a controller that talk.
-use Rattle.std.specs.Prelude.{◌≡◌, ◌≢◌, ◌↔◌, ℕ, ◌+◌, ◌<◌, ◌≤◌, ◌^◌, true, List, [], ◌∷◌, ◌++◌, length, map, slice_get, Option, Some, None, Result, Ok, Err}
+use Rattle.std.specs.Prelude.{◌≡◌, ◌≢◌, ◌↔◌, ℕ, ◌+◌, ◌<◌, ◌≤◌, true, List, length, map, Option, Some, None, Result, Ok, Err}
 use Rattle.arrayvec.specs.ArrayVec.{ArrayVec}
-use Rattle.mscp_packet.specs.declared.end.End.{End}
-use Rattle.mscp_packet.specs.Ends.{IsEnd, IsOfKind}
 use Rattle.mscp_queue.specs.declared.report.Report.{Report}
 use Rattle.mscp_queue.specs.declared.view.Choice.{Choice}
 use Rattle.mscp_control.specs.declared.event.Sent.{Sent}
 use Rattle.mscp_control.specs.declared.event.Event.TheVariants as events
 use Rattle.mscp_control.specs.declared.event.Entry.TheVariants as entries
 use Rattle.mscp_control.specs.Settings.{Settings}
-use Rattle.mscp_control.specs.History.{Moment, Trace}
-use Rattle.mscp_control.specs.Holdings.{Answers, Holdings}
+use Rattle.mscp_control.specs.History.{Trace}
 use Rattle.mscp_control.specs.Headline.{Promise}
 use Rattle.mscp_control.specs.Legal.{IsLegal, IsPicked}
 use Rattle.mscp_control.specs.Sweeping.{IsSweeping, Sweeps}
@@ -19,19 +16,18 @@ use Rattle.mscp_host.specs.declared.news.News.{News}
 use Rattle.mscp_host.specs.declared.news.News.TheVariants as news
 use Rattle.mscp_host.specs.declared.news.Poll.{Poll}
 use Rattle.mscp_host.specs.declared.news.Poll.TheVariants as polls
-use Rattle.mscp_host.specs.Accounts.{Account, heard, polled, submits}
+use Rattle.mscp_host.specs.Accounts.{Account, heard, polls_oldest, submits}
 use Rattle.mscp_sim.specs.declared.conversing.Turn.{Turn}
 use Rattle.mscp_sim.specs.declared.conversing.Turn.TheVariants as turns
 use Rattle.mscp_sim.specs.declared.conversing.Heard.{Heard}
 use Rattle.mscp_sim.specs.declared.conversing.Heard.TheVariants as hears
-use Rattle.mscp_sim.specs.Matches.{Match}
-use Rattle.mscp_sim.specs.Talks.{Said, Talk, account_at, asks_about, ended, is_outstanding, last_answer, said, told_in, trace_of}
+use Rattle.mscp_sim.specs.Talks.{Said, Talk, account_at, asks_about, ended, is_outstanding, last_answer, said, figure_told, trace_of}
 
 -- ---- one turn
 
 -- the host said this, and nothing came to the controller
 abbrev pub IsKeptBack : Said → Heard → Type 0
-IsKeptBack s heard = (s.heard ≡ heard) × (s.moment ≡ None)
+IsKeptBack s told = (s.heard ≡ told) × (s.moment ≡ None)
 
 -- this message came to the controller, which took it in as that
 abbrev pub IsSent : Said → ArrayVec ℕ → Sent → Type 0
@@ -51,64 +47,20 @@ IsPolled s (Ok (polls.Ask message)) = (sent : Sent) × (s.heard ≡ hears.Asked)
 
 -- what is heard of an end that is handed over, or of none, and what the host keeps then
 abbrev pub IsHanded : Account → Option (ArrayVec ℕ) → Heard → Account → Type 0
-IsHanded old None said new = (said ≡ hears.Quiet) × (new ≡ old)
-IsHanded old (Some b) said new = (n : News) × (said ≡ hears.News n) × (heard old b.items ≡ (Ok n, new))
+IsHanded old None told new = (told ≡ hears.Quiet) × (new ≡ old)
+IsHanded old (Some b) told new = (n : News) × (told ≡ hears.News n) × (heard old b.items ≡ (Ok n, new))
 
 -- what is heard in this turn by a host that keeps this, and what it keeps then: the rules of a host. The controller refuses
--- nothing that it sends, and it refuses no end (profile)
+-- nothing that the host sends, and the host refuses no end (profile)
 abbrev pub IsHeard : Account → Turn → Said → Account → Type 0
 IsHeard old (turns.Submit command) s new =
     IsSubmitted s (submits old command).0 × (new ≡ (submits old command).1)
-IsHeard old (turns.Poll reference) s new = IsPolled s (polled old reference).0 × (new ≡ (polled old reference).1)
+IsHeard old (turns.Poll reference) s new = IsPolled s (polls_oldest old reference).0 × (new ≡ (polls_oldest old reference).1)
 IsHeard old (turns.Step k) s new =
     (report : Report) × (s.heard ≡ hears.Stepped report)
     × (s.moment ≡ Some (events.Step k, entries.Stepped report)) × (new ≡ old)
 IsHeard old turns.Take s new =
     (end : Option (ArrayVec ℕ)) × (s.moment ≡ Some (events.Take, entries.Taken end)) × IsHanded old end s.heard new
-
--- ---- one after the other
-
--- what may be answered to what comes to the controller in a turn, and what it holds then
-abbrev pub Meets : {K : Type 0} → (List Choice → ℕ → Type 0) → Holdings K → Option Moment → Holdings K → Type 0
-Meets picks old None new = new ≡ old
-Meets picks old (Some moment) new = Answers picks old moment.0 moment.1 new
-
--- the numbers of a turn fit their types, and the bytes of an end that is handed over are a message of it
-abbrev pub IsSound : {K : Type 0} → Holdings K → Turn → Option Moment → Type 0
-IsSound h (turns.Submit command) moment = (command.reference < 2 ^ 32) × (command.unit < 2 ^ 16)
-IsSound h (turns.Poll reference) moment = reference < 2 ^ 32
-IsSound h (turns.Step k) moment = Unit {0}
-IsSound h turns.Take moment =
-    (b : ArrayVec ℕ) (end : End) → moment ≡ Some (events.Take, entries.Taken (Some b))
-    → slice_get h.untaken 0 ≡ Some end → IsOfKind end → IsEnd b.items end
-
--- what is said in this turn, and what host and controller keep and hold then
-abbrev pub Says : {K : Type 0}
-    → (List Choice → ℕ → Type 0) → Account → Holdings K → Said → Account → Holdings K → Type 0
-Says picks a h s a' h' = IsHeard a s.turn s a' × Meets picks h s.moment h' × IsSound h s.turn s.moment
-
--- the same in one turn, of which this was returned: what was heard, and the moment
-abbrev pub Goes : {K : Type 0} → (List Choice → ℕ → Type 0)
-    → Account → Holdings K → Turn → Heard × Option Moment → Account → Holdings K → Type 0
-Goes picks a h turn told a' h' =
-    Says picks a h (record { turn = turn; heard = told.0; moment = told.1 }) a' h' × Match a' h'
-
--- one turn after the other
-abbrev pub Converses : {K : Type 0}
-    → (List Choice → ℕ → Type 0) → Account → Holdings K → Talk → Account → Holdings K → Type 0
-Converses picks a h [] a' h' = (a' ≡ a) × (h' ≡ h)
-Converses {K} picks a h (s ∷ talk) a' h' =
-    (next : Account) × (left : Holdings K) × Says picks a h s next left × Converses picks next left talk a' h'
-
--- these turns go on so, and the lists of what was heard and of the trace grow by that
-pub record GoesOn {K : Type 0} (picks : List Choice → ℕ → Type 0) (a : Account) (h : Holdings K) (ts : List Turn)
-    (old new : List Heard × Trace) (a' : Account) (h' : Holdings K) : Type 0 where
-  pub talk : Talk
-  pub turns : map (λ s. s.turn) talk ≡ ts
-  pub heard : new.0 ≡ old.0 ++ map (λ s. s.heard) talk
-  pub trace : new.1 ≡ old.1 ++ trace_of talk
-  pub says : Converses picks a h talk a' h'
-  pub match : Match a' h'
 
 -- ---- what is promised
 
@@ -122,18 +74,22 @@ pub record Stands (c : Settings) (talk : Talk) (j : ℕ) : Type 0 where
   pub about : asks_about talk command poll ≡ true
   pub outstanding : is_outstanding talk j command ≡ true
   pub told : last_answer c talk j command ≡ Some last
-  pub not_less : last ≤ told_in c talk poll
+  pub not_less : last ≤ figure_told c talk poll
 
 -- turn k is a step
 abbrev pub IsStepTurn : Turn → Type 0
 IsStepTurn (turns.Step k) = Unit {0}
 IsStepTurn turn = ⊥
 
+-- a step lies between turn q and each poll about the command i that came before it (profile)
+abbrev pub StepsSincePolls : Talk → ℕ → ℕ → Type 0
+StepsSincePolls talk i q =
+    (p : ℕ) → p < q → asks_about talk i p ≡ true → (k : ℕ) × (p < k) × (k < q) × IsStepTurn (said talk k).turn
+
 -- a step lies between any two polls about one command (profile)
 abbrev pub StepsBetweenPolls : Talk → Type 0
 StepsBetweenPolls talk =
-    (i p q : ℕ) → p < q → q < length talk → asks_about talk i p ≡ true → asks_about talk i q ≡ true
-    → (k : ℕ) × (p < k) × (k < q) × IsStepTurn (said talk k).turn
+    (i q : ℕ) → q < length talk → asks_about talk i q ≡ true → StepsSincePolls talk i q
 
 -- what is promised of a talk of these turns in which this was heard, and of the controller's trace
 pub record AreTwoEnds (picks : List Choice → ℕ → Type 0) (c : Settings) (ts : List Turn) (hs : List Heard) (t : Trace) : Type 0 where
@@ -157,5 +113,8 @@ pub record AreTwoEnds (picks : List Choice → ℕ → Type 0) (c : Settings) (t
   pub resets : (j : ℕ) → j < length talk → ((said talk j).heard ≡ hears.News news.Reset) ↔ Stands c talk j
   -- Lost is never said (profile)
   pub no_lost : (j : ℕ) → j < length talk → (said talk j).heard ≢ hears.News news.Lost
-  -- Reset is never said where a step lies between any two polls about one command (profile)
+  -- Reset isn't said of the answer to a poll where a step lies between it and each one before about its command (profile)
+  pub falls : (j i q : ℕ) → j < length talk → ended talk j ≡ Some q → asks_about talk i q ≡ true
+    → StepsSincePolls talk i q → (said talk j).heard ≢ hears.News news.Reset
+  -- and so it is never said where a step lies between any two polls about one command (profile)
   pub no_reset : StepsBetweenPolls talk → (j : ℕ) → j < length talk → (said talk j).heard ≢ hears.News news.Reset

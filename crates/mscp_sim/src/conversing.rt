@@ -1,10 +1,12 @@
 // A host and a controller that talk.
 
-ghost use Rattle.std.specs.Prelude.{◌≡◌, ◌<◌, ◌≤◌, ◌^◌, [], ◌∷◌, ◌++◌, length, option_to_list, Some, IfOk, OnOk};
+ghost use Rattle.std.specs.Prelude.{◌≡◌, ℕ, ◌+◌, ◌<◌, ◌≤◌, ◌^◌, [], ◌∷◌, ◌++◌, length, option_to_list, Some, IfOk};
 ghost use Rattle.mscp_control.specs.Settings.{IsValid};
 ghost use Rattle.mscp_host.specs.Accounts.{Account};
-ghost use Rattle.mscp_sim.specs.TwoEnds.{AreTwoEnds, Goes, GoesOn};
+ghost use Rattle.mscp_sim.specs.Conversing.{Goes, GoesOn};
+ghost use Rattle.mscp_sim.specs.TwoEnds.{AreTwoEnds};
 ghost use Rattle.mscp_sim.specs.Matches.{Match};
+ghost use Rattle.mscp_sim.specs.Rooms.{HasRoom};
 
 #[cfg(test)]
 mod tests;
@@ -12,7 +14,7 @@ mod tests;
 use arrayvec::ArrayVec;
 use mscp_control::{
     Block, Config, Controller, Entry, Event, OutOfMemory, Picker, Report, Sent,
-    controllers_keep_the_promise, runs_keep_the_promise,
+    controllers_keep_the_promise, put, runs_keep_the_promise,
 };
 use mscp_host::{Host, HostFault, News, Poll};
 use mscp_packet::Command;
@@ -181,40 +183,42 @@ fn hear<K: Picker>(
 
 impl Talk {
     /// Keeps what was heard in a turn, and its moment, if it made one.
-    fn keep(&mut self, heard: Heard, moment: Option<(Event, Entry)>) -> Result<(), OutOfMemory>
-        ensures heard { OnOk result (self.new.heard.items ≡ self.old.heard.items ++ heard ∷ []) }
-        ensures trace { OnOk result (self.new.trace.items ≡ self.old.trace.items ++ option_to_list moment) }
+    fn keep(&mut self, heard: Heard, moment: Option<(Event, Entry)>)
+        requires { HasRoom self.old 1 }
+        ensures heard { self.new.heard.items ≡ self.old.heard.items ++ heard ∷ [] }
+        ensures trace { self.new.trace.items ≡ self.old.trace.items ++ option_to_list moment }
+        ensures room { (turns : ℕ) → HasRoom self.old (turns + 1) → HasRoom self.new turns }
     {
-        self.heard.push(heard)?;
+        put(&mut self.heard, heard);
         if let Some(moment) = moment {
-            self.trace.push(moment)?;
+            put(&mut self.trace, moment);
         }
-        Ok(())
     }
 }
 
-/// What is heard in the turns, one after the other.
+/// What is heard in the turns, one after the other. There is room, so it can't fail.
 fn hear_each<K: Picker>(
     host: &mut Host,
     controller: &mut Controller<K>,
     turns: &[Turn],
     talk: &mut Talk,
-) -> Result<(), OutOfMemory>
-    requires { Match host.old controller.old }
-    ensures { OnOk result (GoesOn (K.picks controller.old.picker) host.old controller.old turns.now (talk.old.heard.items, talk.old.trace.items)
-        (talk.new.heard.items, talk.new.trace.items) host.new controller.new) }
+)
+    requires both { Match host.old controller.old }
+    requires room { HasRoom talk.old (length turns.now) }
+    ensures { GoesOn (K.picks controller.old.picker) host.old controller.old turns.now (talk.old.heard.items, talk.old.trace.items)
+        (talk.new.heard.items, talk.new.trace.items) host.new controller.new }
 {
     for turn in turns {
         let (heard, moment) = hear(host, controller, *turn);
-        talk.keep(heard, moment)?;
+        talk.keep(heard, moment);
     }
-    Ok(())
 }
 
 /// A new host talks with a new controller, which has as many credits as the host: one thing is heard in each turn. Each
 /// message of the host comes to the controller at once, and a take hands the controller's oldest end to the host. Whatever
 /// the picker picks, the controller refuses no message, and the host no end; it says Reset exactly where the answer of a
-/// poll stands, never where a step lies between any two polls about one command, and it never says Lost.
+/// poll stands, never where a step lies between any two polls about one command, and it never says Lost. Memory is asked
+/// for before the first turn, and nothing is heard where it is refused.
 pub fn converse<K: Picker + Drop>(
     alloc: Global,
     config: Config,
@@ -232,9 +236,9 @@ pub fn converse<K: Picker + Drop>(
     };
     let mut controller = Controller::new(config, picker);
     let mut talk = Talk {
-        heard: Vec::new(alloc),
-        trace: Vec::new(alloc),
+        heard: Vec::with_capacity(alloc, turns.len())?,
+        trace: Vec::with_capacity(alloc, turns.len())?,
     };
-    hear_each(&mut host, &mut controller, turns, &mut talk)?;
+    hear_each(&mut host, &mut controller, turns, &mut talk);
     Ok(talk)
 }

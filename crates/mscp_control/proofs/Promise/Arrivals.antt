@@ -13,9 +13,9 @@ use Rattle.mscp_control.specs.declared.event.Entry.{Entry}
 use Rattle.mscp_control.specs.declared.event.Entry.TheVariants as entries
 use Rattle.mscp_control.specs.Settings.{Settings}
 use Rattle.mscp_packet.specs.Number.{num}
-use Rattle.mscp_packet.specs.Opcodes.{class}
+use Rattle.mscp_packet.specs.Opcodes.{class, is_immediate_class}
 use Rattle.mscp_packet.specs.Commands.{command_of}
-use Rattle.mscp_control.specs.Arrival.{is_immediate_class, is_queued, holds, refusal}
+use Rattle.mscp_control.specs.Arrival.{is_queued, holds, refusal}
 use Rattle.mscp_control.specs.History.{Trace, queues, sent_bytes}
 use Rattle.mscp_control.specs.Credits.{balance, outstanding, becomes, becomes_when, becomes_unless, arrival}
 use Rattle.mscp_control.specs.Legal.{IsRight}

@@ -9,13 +9,13 @@ use Rattle.mscp_packet.specs.declared.command.Command.{Command}
 use Rattle.mscp_packet.specs.declared.command.Order.{Order}
 use Rattle.mscp_packet.specs.declared.command.Order.TheVariants as orders
 use Rattle.mscp_packet.specs.Number.{num}
-use Rattle.mscp_packet.specs.Opcodes.{opcode_of, class_of_opcode, class}
+use Rattle.mscp_packet.specs.Opcodes.{opcode_of, class_of_opcode, class, is_immediate_class}
 use Rattle.mscp_packet.specs.Commands.{order_with, command_of}
 use Rattle.mscp_drive.specs.Shape.{Shape}
 use Rattle.mscp_drive.specs.Extent.{blocks}
 use Rattle.mscp_drive.specs.Extent as extent
 use Rattle.mscp_control.specs.Settings.{Settings, unit_found}
-use Rattle.mscp_control.specs.Arrival.{is_immediate_class, move_fault, order_fault, fault_of, is_immediate, is_queued}
+use Rattle.mscp_control.specs.Arrival.{move_fault, order_fault, fault_of, is_immediate, is_queued}
 use Rattle.mscp_queue.specs.Orders.{order_weight}
 use Rattle.mscp_control.specs.History.{Trace, Moment, queues, sent_bytes}
 use Rattle.mscp_control.specs.Commands.{command, reference, weight, waiting, ends_in}

@@ -16,7 +16,7 @@ use Rattle.mscp_host.specs.Accounts.{is_immediate, oldest, poll_of, submission_o
 use Rattle.mscp_sim.specs.declared.conversing.Turn.{Turn}
 use Rattle.mscp_sim.specs.declared.conversing.Turn.TheVariants as turns
 use Rattle.mscp_sim.specs.declared.conversing.Heard.TheVariants as hears
-use Rattle.mscp_sim.specs.Talks.{Talk, account_at, answers_of, asks, before, ended, hands_over, in_flight, is_ended, is_outstanding, last_answer, opcode, opcode_in, outstanding, polled, reference, reference_found, reference_in, said, sends, still_stands, submission_at, unit_found, unit_in, unit_of_turn, watch_at}
+use Rattle.mscp_sim.specs.Talks.{Talk, account_at, answers_of, is_asked, before, ended, hands_over, in_flight, is_ended, is_outstanding, last_answer, opcode, opcode_in, outstanding, polled, reference, reference_found, reference_in, said, sends, polled_is_outstanding, submission_at, unit_found, unit_in, unit_of_turn, watch_at}
 use Rattle.mscp_sim.proofs.TwoEnds.Counting.{found_is}
 use Rattle.mscp_sim.proofs.TwoEnds.Outstanding.{any_more, ends_now, found_stands, last_same, outstanding_more, untold}
 
@@ -57,20 +57,20 @@ subs_same c talk j xs n =
     map_on (submission_at c talk (j + 1)) (submission_at c talk j) xs
     (every_from (λ i. submission_at c talk (j + 1) i ≡ submission_at c talk j i) (λ i. ap (λ t. record { reference = reference talk i; unit = unit_of_turn talk i (said talk i).turn; opcode = opcode talk i; told = t }) (no_answer c talk j i n)) xs)
 
-stands_same : (talk : Talk) (j : ℕ) (o : Option ℕ) → NoEnd talk j → still_stands talk (j + 1) o ≡ still_stands talk j o
+stands_same : (talk : Talk) (j : ℕ) (o : Option ℕ) → NoEnd talk j → polled_is_outstanding talk (j + 1) o ≡ polled_is_outstanding talk j o
 stands_same talk j None n = refl
 stands_same talk j (Some i) n = outstanding_same talk j i n
 
 watch_same : (talk : Talk) (j : ℕ) (o : Option ℕ) → NoEnd talk j → option_map (watch_at talk (j + 1)) o ≡ option_map (watch_at talk j) o
 watch_same talk j None n = refl
-watch_same talk j (Some p) n = ap (λ b. Some (record { reference = reference talk p; polled = reference_found talk (polled talk p); stands = b })) (stands_same talk j (polled talk p) n)
+watch_same talk j (Some p) n = ap (λ b. Some (record { reference = reference talk p; polled = reference_found talk (polled talk p); is_outstanding = b })) (stands_same talk j (polled talk p) n)
 
 -- nothing is sent either
 pub account_quiet : (c : Settings) (talk : Talk) (j : ℕ) → NoEnd talk j → sends (said talk j).heard ≡ false → account_at c talk (j + 1) ≡ account_at c talk j
 account_quiet c talk j n s =
     let outs : outstanding talk (j + 1) ≡ outstanding talk j = outstanding_more talk j ∙ ((λ i. all_stay talk j n i ++ cond (s i) (j ∷ []) []) ∙ append-nil (outstanding talk j)) in
     let subs : map (submission_at c talk (j + 1)) (outstanding talk (j + 1)) ≡ map (submission_at c talk j) (outstanding talk j) = ap (map (submission_at c talk (j + 1))) outs ∙ subs_same c talk j (outstanding talk j) n in
-    let flight : in_flight talk (j + 1) ≡ in_flight talk j = ap (find (λ p. asks (said talk p).heard)) outs in
+    let flight : in_flight talk (j + 1) ≡ in_flight talk j = ap (find (λ p. is_asked (said talk p).heard)) outs in
     let watch = ap (option_map (watch_at talk (j + 1))) flight ∙ watch_same talk j (in_flight talk j) n in
     λ i. record { credits = c.credits; outstanding = subs i; watch = watch i }
 
@@ -96,8 +96,8 @@ account_submitted c talk j command sent n t h =
     let s : sends (said talk j).heard ≡ true = ap sends h in
     let new : record { reference = reference talk j; unit = unit_of_turn talk j (said talk j).turn; opcode = opcode talk j; told = None } ≡ submission_of command = ap (λ u. record { reference = reference_in u; unit = unit_of_turn talk j u; opcode = opcode_in u; told = None }) t in
     let subs = subs_sent c talk j n s ∙ ap (λ x. map (submission_at c talk j) (outstanding talk j) ++ x ∷ []) new in
-    let p : ℕ → Bool = λ p. asks (said talk p).heard in
-    let flight : in_flight talk (j + 1) ≡ in_flight talk j = ap (find p) (outs_sent talk j n s) ∙ (find-append p (outstanding talk j) (j ∷ []) ∙ (ap (λ b. option_or (in_flight talk j) (cond b (Some j) None)) (ap asks h) ∙ or_nothing (in_flight talk j))) in
+    let p : ℕ → Bool = λ p. is_asked (said talk p).heard in
+    let flight : in_flight talk (j + 1) ≡ in_flight talk j = ap (find p) (outs_sent talk j n s) ∙ (find-append p (outstanding talk j) (j ∷ []) ∙ (ap (λ b. option_or (in_flight talk j) (cond b (Some j) None)) (ap is_asked h) ∙ or_nothing (in_flight talk j))) in
     let watch = ap (option_map (watch_at talk (j + 1))) flight ∙ watch_same talk j (in_flight talk j) n in
     λ i. record { credits = c.credits; outstanding = subs i; watch = watch i }
 
@@ -142,10 +142,10 @@ account_asked c talk j r s n t h w o =
     let number : reference_found talk (polled talk j) ≡ s.reference = ap (reference_found talk) a.found ∙ ap (λ (x : Submission). x.reference) (sym a.is) in
     let new : record { reference = reference talk j; unit = unit_of_turn talk j (said talk j).turn; opcode = opcode talk j; told = None } ≡ submission_of (poll_of r s) = ap (λ u. record { reference = reference_in u; unit = unit_of_turn talk j u; opcode = opcode_in u; told = None }) t ∙ ap (λ u. record { reference = r; unit = u; opcode = 0x02; told = None }) unit in
     let subs = subs_sent c talk j n sent ∙ ap (λ x. map (submission_at c talk j) (outstanding talk j) ++ x ∷ []) new in
-    let p : ℕ → Bool = λ p. asks (said talk p).heard in
+    let p : ℕ → Bool = λ p. is_asked (said talk p).heard in
     let idle : in_flight talk j ≡ None = no_flight talk j (in_flight talk j) w in
-    let flight : in_flight talk (j + 1) ≡ Some j = ap (find p) (outs_sent talk j n sent) ∙ (find-append p (outstanding talk j) (j ∷ []) ∙ (λ k. option_or (idle k) (cond (asks (h k)) (Some j) None))) in
-    let there : still_stands talk (j + 1) (polled talk j) ≡ true = ap (still_stands talk (j + 1)) a.found ∙ (outstanding_same talk j i n ∙ found_stands talk j i _ a.found) in
-    let watch : option_map (watch_at talk (j + 1)) (in_flight talk (j + 1)) ≡ Some (record { reference = r; polled = s.reference; stands = true }) =
-    ap (option_map (watch_at talk (j + 1))) flight ∙ (λ k. Some (record { reference = reference_in (t k); polled = number k; stands = there k })) in
+    let flight : in_flight talk (j + 1) ≡ Some j = ap (find p) (outs_sent talk j n sent) ∙ (find-append p (outstanding talk j) (j ∷ []) ∙ (λ k. option_or (idle k) (cond (is_asked (h k)) (Some j) None))) in
+    let there : polled_is_outstanding talk (j + 1) (polled talk j) ≡ true = ap (polled_is_outstanding talk (j + 1)) a.found ∙ (outstanding_same talk j i n ∙ found_stands talk j i _ a.found) in
+    let watch : option_map (watch_at talk (j + 1)) (in_flight talk (j + 1)) ≡ Some (record { reference = r; polled = s.reference; is_outstanding = true }) =
+    ap (option_map (watch_at talk (j + 1))) flight ∙ (λ k. Some (record { reference = reference_in (t k); polled = number k; is_outstanding = there k })) in
     λ k. record { credits = c.credits; outstanding = subs k; watch = watch k }

@@ -20,8 +20,8 @@ use Rattle.mscp_host.specs.Accounts.{Account}
 use Rattle.mscp_sim.specs.declared.conversing.Turn.{Turn}
 use Rattle.mscp_sim.specs.declared.conversing.Turn.TheVariants as turns
 use Rattle.mscp_sim.specs.Talks as talks
-use Rattle.mscp_sim.specs.Talks.{Talk, account_at, answers_of, asks, asks_about, before, ended, hands_over, is_ended, is_it, is_outstanding, last_answer, last_of, outstanding, polled, reference_found, said, sends, told_in, trace_of}
-use Rattle.mscp_sim.specs.TwoEnds.{IsHeard, IsStepTurn, Stands, StepsBetweenPolls}
+use Rattle.mscp_sim.specs.Talks.{Talk, account_at, answers_of, is_asked, asks_about, before, ended, hands_over, is_ended, is_it, is_outstanding, last_answer, last_of, outstanding, polled, reference_found, said, sends, figure_told, trace_of}
+use Rattle.mscp_sim.specs.TwoEnds.{IsHeard, IsStepTurn, Stands, StepsSincePolls}
 use Rattle.mscp_sim.proofs.TwoEnds.Counting.{found_is}
 use Rattle.mscp_sim.proofs.TwoEnds.Outstanding.{any_more, before_below, found_below, found_stands}
 use Rattle.mscp_sim.proofs.TwoEnds.Receiving.{found_all, outstanding_found}
@@ -50,7 +50,7 @@ record Came (c : Settings) (talk : Talk) (j i l : ℕ) : Type 0 where
   pub early : turn < j
   pub handed : ended talk turn ≡ Some poll
   pub about : asks_about talk i poll ≡ true
-  pub told : told_in c talk poll ≡ l
+  pub told : figure_told c talk poll ≡ l
 
 came_from : (c : Settings) (talk : Talk) (j i l : ℕ) (ks : List ℕ) → AllByRecursion (λ k. k < j) ks → last_of (flat_map (λ k. answers_of c talk i (ended talk k)) ks) ≡ Some l → Came c talk j i l
 came_from c talk j i l [] h e = absurd (false≢true (ap is_some e))
@@ -60,12 +60,12 @@ came_from c talk j i l (k ∷ ks) h e =
     λ o. elim o as (λ o. ended talk k ≡ o → last_of (answers_of c talk i o ++ rest) ≡ Some l → Came c talk j i l) [
       | None ↦ λ q f. came_from c talk j i l ks h.1 f
       | Some p ↦ λ q.
-          let when : (b : Bool) → asks_about talk i p ≡ b → last_of (cond b (told_in c talk p ∷ []) [] ++ rest) ≡ Some l → Came c talk j i l =
-          λ b. elim b as (λ b. asks_about talk i p ≡ b → last_of (cond b (told_in c talk p ∷ []) [] ++ rest) ≡ Some l → Came c talk j i l) [
+          let when : (b : Bool) → asks_about talk i p ≡ b → last_of (cond b (figure_told c talk p ∷ []) [] ++ rest) ≡ Some l → Came c talk j i l =
+          λ b. elim b as (λ b. asks_about talk i p ≡ b → last_of (cond b (figure_told c talk p ∷ []) [] ++ rest) ≡ Some l → Came c talk j i l) [
             | false ↦ λ a f. came_from c talk j i l ks h.1 f
             | true ↦ λ a.
-                let tail : (ys : List ℕ) → rest ≡ ys → last_of (told_in c talk p ∷ ys) ≡ Some l → Came c talk j i l =
-                λ ys. elim ys as (λ ys. rest ≡ ys → last_of (told_in c talk p ∷ ys) ≡ Some l → Came c talk j i l) [
+                let tail : (ys : List ℕ) → rest ≡ ys → last_of (figure_told c talk p ∷ ys) ≡ Some l → Came c talk j i l =
+                λ ys. elim ys as (λ ys. rest ≡ ys → last_of (figure_told c talk p ∷ ys) ≡ Some l → Came c talk j i l) [
                   | [] ↦ λ r f. record { turn = k; poll = p; early = h.0; handed = q; about = a; told = ap (λ o. unwrap_or o l) f }
                   | y ∷ ys ↦ λ r f. came_from c talk j i l ks h.1 (ap last_of r ∙ f)
                 ] in
@@ -122,7 +122,7 @@ gone talk j k p l e =
 
 -- ---- the first poll came first
 
-order_of : (c : Settings) (talk : Talk) (j k p q : ℕ) → AllKnown c talk → j < length talk → k < j → ended talk k ≡ Some p → ended talk j ≡ Some q → asks (said talk p).heard ≡ true → asks (said talk q).heard ≡ true → p < q
+order_of : (c : Settings) (talk : Talk) (j k p q : ℕ) → AllKnown c talk → j < length talk → k < j → ended talk k ≡ Some p → ended talk j ≡ Some q → is_asked (said talk p).heard ≡ true → is_asked (said talk q).heard ≡ true → p < q
 order_of c talk j k p q known l m e f a b =
     let pk : p < k = found_below talk k p _ e in
     let qj : q < j = found_below talk j q _ f in
@@ -135,7 +135,7 @@ order_of c talk j k p q known l m e f a b =
     let less : q < p = omega (arith, more, other) in
     let there = outstanding_found talk p q (stood talk p j q (omega (arith, pk, m)) stands) less in
     let idle = (known p (omega (arith, pk, m, l))).tells.idle a in
-    let silent = found_all (λ x. asks (said talk x).heard ≡ false) _ (outstanding talk p) q (none_found (λ x. asks (said talk x).heard) (outstanding talk p) idle) there in
+    let silent = found_all (λ x. is_asked (said talk x).heard ≡ false) _ (outstanding talk p) q (none_found (λ x. is_asked (said talk x).heard) (outstanding talk p) idle) there in
     absurd (true≢false (sym b ∙ silent)))
     (cases_eq p q))
     (cases_lt p q)
@@ -273,35 +273,44 @@ waits_at : (c : Settings) (t : Trace) (n : ℕ) → 1 ≤ figure_of c t n → Wa
 unfolding figure_of
 waits_at c t n l = waits_of c t n (find (λ x. nat_eq (reference t x) n) (waiting t)) refl refl l
 
-pub never_reset : (c : Settings) (talk : Talk) → AllKnown c talk → StepsBetweenPolls talk → (j : ℕ) → j < length talk → Stands c talk j → ⊥
-never_reset c talk known steps j l st =
+pub never_reset : (c : Settings) (talk : Talk) → AllKnown c talk → (j : ℕ) → j < length talk → (st : Stands c talk j) → StepsSincePolls talk st.command st.poll → ⊥
+never_reset c talk known j l st steps =
     let i = st.command in
     let q = st.poll in
     let n = talks.reference talk i in
     let came = came_from c talk j i st.last (before j) (before_below j) st.told in
     let p = came.poll in
-    let ap_ = both_true (asks (said talk p).heard) (is_it i (polled talk p)) came.about in
-    let aq = both_true (asks (said talk q).heard) (is_it i (polled talk q)) st.about in
+    let ap_ = both_true (is_asked (said talk p).heard) (is_it i (polled talk p)) came.about in
+    let aq = both_true (is_asked (said talk q).heard) (is_it i (polled talk q)) st.about in
     let pp : polled talk p ≡ Some i = it_is i (polled talk p) ap_.1 in
     let pq : polled talk q ≡ Some i = it_is i (polled talk q) aq.1 in
     let less = order_of c talk j came.turn p q known l came.early came.handed st.handed ap_.0 aq.0 in
     let qj : q < j = found_below talk j q _ st.handed in
     let ql : q < length talk = omega (arith, qj, l) in
     let ip : i < p = found_below talk p i _ pp in
-    let step = steps i p q less ql came.about st.about in
+    let step = steps p less came.about in
     let stands : is_outstanding talk q i ≡ true = stood talk q j i (omega (arith, qj)) st.outstanding in
     let g = figure_of c (trace_at talk p) n in
     let first : st.last ≡ g = sym came.told ∙ ap (λ o. figure_of c (trace_at talk p) (reference_found talk o)) pp in
-    let second : told_in c talk q ≡ figure_of c (trace_at talk q) n = ap (λ o. figure_of c (trace_at talk q) (reference_found talk o)) pq in
+    let second : figure_told c talk q ≡ figure_of c (trace_at talk q) n = ap (λ o. figure_of c (trace_at talk q) (reference_found talk o)) pq in
     let at_p = first_most c talk p n known (omega (arith, less, ql)) in
     let pk = step.1 in
     let kq = step.2 in
     let at_k = most_until c talk p step.0 q i g 0 known ql (omega (arith, pk)) (omega (arith, kq)) ip stands at_p in
     let after = most_step c talk step.0 i g known (omega (arith, kq, ql)) (omega (arith, ip, pk)) (stood talk step.0 q i (omega (arith, kq)) stands) step.3 at_k in
     let at_q = most_until c talk (step.0 + 1) q q i g 1 known ql (omega (arith, kq)) (omega arith) (omega (arith, ip, pk)) stands after in
-    let some : 1 ≤ told_in c talk q = (known j l).tells.some q i st.handed st.about st.outstanding in
+    let some : 1 ≤ figure_told c talk q = (known j l).tells.some q i st.handed st.about st.outstanding in
     let x = waits_at c (trace_at talk q) n (subst (λ k. 1 ≤ k) second some) in
     let low = at_q x.command x.waits x.named in
     let fig = x.figure in
     let high = st.not_less in
     omega (arith, low, fig, high, first, second)
+
+-- the answer of the poll q about the command i doesn't stand where a step lies between it and each one before
+pub never_stands : (c : Settings) (talk : Talk) → AllKnown c talk → (j : ℕ) → j < length talk → (i q : ℕ) → ended talk j ≡ Some q → asks_about talk i q ≡ true → StepsSincePolls talk i q → Stands c talk j → ⊥
+never_stands c talk known j l i q h a steps st =
+    let poll : q ≡ st.poll = ap (λ o. unwrap_or o q) (sym h ∙ st.handed) in
+    let at : is_it i (polled talk q) ≡ true = (both_true (is_asked (said talk q).heard) _ a).1 in
+    let at' : is_it st.command (polled talk st.poll) ≡ true = (both_true (is_asked (said talk st.poll).heard) _ st.about).1 in
+    let command : i ≡ st.command = ap (λ o. unwrap_or o i) (sym (it_is i (polled talk q) at) ∙ (ap (polled talk) poll ∙ it_is st.command (polled talk st.poll) at')) in
+    never_reset c talk known j l st (subst (λ k. StepsSincePolls talk k st.poll) command (subst (StepsSincePolls talk i) poll steps))

@@ -16,7 +16,7 @@ use Rattle.mscp_queue.proofs.Lists.{every_weaker, every_both}
 use Rattle.mscp_control.specs.Holdings.{Holdings, outstanding_of}
 use Rattle.mscp_host.specs.declared.submission.Submission.{Submission}
 use Rattle.mscp_host.specs.declared.watch.Watch.{Watch}
-use Rattle.mscp_host.specs.Accounts.{Account, answered, end_in, has_reference, heard, is_about_polled, is_code_of, news_with, outstanding_with, received, stands, told_in, watch_after, with_told, without}
+use Rattle.mscp_host.specs.Accounts.{Account, answered, end_in, has_reference, heard, is_about_polled, is_code_of, news_with, outstanding_with, received, polled_is_outstanding, told_in, watch_after, with_told, without}
 use Rattle.mscp_host.proofs.Hearing.{heard_ok}
 use Rattle.mscp_sim.specs.Matches.{Flight, HasFlight, IsAwaited, IsFlight, IsKnown, Matches, commands, times}
 use Rattle.mscp_sim.proofs.TwoEnds.Counting.{length_without, opcode_told, opcode_without, references_told, small_told, small_without, times_append, times_without}
@@ -140,10 +140,10 @@ outstanding_told a o = record a { outstanding = outstanding_with a o }
 told_if : {K : Type 0} (a : Account) (h : Holdings K) (told : Flight) (o : Option (ℕ × ℕ)) → Matches a h told → Matches (outstanding_told a o) h told
 told_if a h told None m = m
 told_if {K} a h told (Some t) m =
-    elim (stands a.watch) as (λ b. Matches (record a { outstanding = if b then with_told t.0 t.1 a.outstanding else a.outstanding }) h told) [ true ↦ told_match a h told t.0 t.1 m | false ↦ m ]
+    elim (polled_is_outstanding a.watch) as (λ b. Matches (record a { outstanding = if b then with_told t.0 t.1 a.outstanding else a.outstanding }) h told) [ true ↦ told_match a h told t.0 t.1 m | false ↦ m ]
 
 flight_rest : (e : End) (us : List End) (w w' : Watch) (told : Flight) (f : IsFlight (e ∷ us) w told) → nat_eq w.reference e.reference ≡ false → w'.reference ≡ w.reference → w'.polled ≡ w.polled
-    → (w'.stands ≡ true → (w.stands ≡ true) × (nat_eq e.reference w.polled ≡ false)) → IsFlight us w' told
+    → (w'.is_outstanding ≡ true → (w.is_outstanding ≡ true) × (nat_eq e.reference w.polled ≡ false)) → IsFlight us w' told
 flight_rest e us w w' told f n r p s =
     let cases : (front : List End) → f.front ≡ front → e ∷ us ≡ front ++ f.end ∷ f.back → IsFlight us w' told =
     λ front. elim front as (λ front. f.front ≡ front → e ∷ us ≡ front ++ f.end ∷ f.back → IsFlight us w' told) [
@@ -172,9 +172,9 @@ flight_rest e us w w' told f n r p s =
     cases f.front refl f.split
 
 flight_with : (e : End) (us : List End) (w : Watch) (told : Flight) (b c : Bool) → nat_eq w.reference e.reference ≡ b → nat_eq w.polled e.reference ≡ c → IsFlight (e ∷ us) w told
-    → HasFlight us (if b then None else (if c then Some (record w { stands = false }) else Some w)) told
+    → HasFlight us (if b then None else (if c then Some (record w { is_outstanding = false }) else Some w)) told
 flight_with e us w told true c p q f = tt
-flight_with e us w told false true p q f = flight_rest e us w (record w { stands = false }) told f p refl refl (λ s. absurd (false≢true s))
+flight_with e us w told false true p q f = flight_rest e us w (record w { is_outstanding = false }) told f p refl refl (λ s. absurd (false≢true s))
 flight_with e us w told false false p q f = flight_rest e us w w told f p refl refl (λ s. (s, grind (arith, nat_tests, q)))
 
 flight_after : (e : End) (us : List End) (watch : Option Watch) (told : Flight) → HasFlight (e ∷ us) watch told → HasFlight us (watch_after watch e.reference) told

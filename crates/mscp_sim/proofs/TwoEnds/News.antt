@@ -23,8 +23,9 @@ use Rattle.mscp_sim.specs.declared.conversing.Turn.TheVariants as turns
 use Rattle.mscp_sim.specs.declared.conversing.Heard.{Heard}
 use Rattle.mscp_sim.specs.declared.conversing.Heard.TheVariants as hears
 use Rattle.mscp_sim.specs.Matches.{Flight, HasFlight, IsAwaited, IsFlight, Matches}
-use Rattle.mscp_sim.specs.Talks.{Talk, account_at, asks, ended, hands_over, in_flight, is_it, is_outstanding, last_answer, outstanding, polled, reference, reference_found, said, sends, still_stands, submission_at, told_in, watch_at}
-use Rattle.mscp_sim.specs.TwoEnds.{IsHanded, IsSound, Meets, Says, Stands}
+use Rattle.mscp_sim.specs.Talks.{Talk, account_at, is_asked, ended, hands_over, in_flight, is_it, is_outstanding, last_answer, outstanding, polled, reference, reference_found, said, sends, polled_is_outstanding, submission_at, figure_told, watch_at}
+use Rattle.mscp_sim.specs.Conversing.{IsSound, AnswersTurn, Says}
+use Rattle.mscp_sim.specs.TwoEnds.{IsHanded, Stands}
 use Rattle.mscp_sim.proofs.TwoEnds.Accounting.{find_map}
 use Rattle.mscp_sim.proofs.TwoEnds.Counting.{found_is}
 use Rattle.mscp_sim.proofs.TwoEnds.Handing.{alone, first_is}
@@ -66,7 +67,7 @@ gives {K} c picks picker talk j a h told e us s u hands silent =
 
 -- a poll's answer is at least 1 where its command still stands
 answer_some : {K : Type 0} (c : Settings) (picks : List Choice → ℕ → Type 0) (picker : K) (talk : Talk) (j : ℕ) (a : Account) (h : Holdings K) (told : Flight) (e : End) (us : List End) (p : ℕ) → At c picks picker talk j a h told → h.untaken ≡ e ∷ us → in_flight talk j ≡ Some p
-    → reference talk p ≡ e.reference → still_stands talk j (polled talk p) ≡ true → 1 ≤ told_in c talk p
+    → reference talk p ≡ e.reference → polled_is_outstanding talk j (polled talk p) ≡ true → 1 ≤ figure_told c talk p
 answer_some {K} c picks picker talk j a h told e us p s u f n st =
     let m = subst (λ (x : Account). Matches x h told) s.account s.match in
     let watch : (account_at c talk j).watch ≡ Some (watch_at talk j p) = ap (option_map (watch_at talk j)) f in
@@ -106,7 +107,7 @@ reset_is (news.First f) h = absurd (false≢true h)
 reset_is news.Late h = absurd (false≢true h)
 reset_is news.Lost h = absurd (false≢true h)
 
-stands_it : (talk : Talk) (j x : ℕ) (o : Option ℕ) → is_it x o ≡ true → is_outstanding talk j x ≡ true → still_stands talk j o ≡ true
+stands_it : (talk : Talk) (j x : ℕ) (o : Option ℕ) → is_it x o ≡ true → is_outstanding talk j x ≡ true → polled_is_outstanding talk j o ≡ true
 stands_it talk j x None h m = absurd (false≢true h)
 stands_it talk j x (Some i) h m = ap (is_outstanding talk j) (eqb-true i x h) ∙ m
 
@@ -125,8 +126,8 @@ its_poll c talk j e g st = ap (λ o. unwrap_or o st.poll) (sym st.handed ∙ g.f
 
 in_flight_then : (c : Settings) (talk : Talk) (j : ℕ) (e : End) (g : Gives c talk j e) → Stands c talk j → in_flight talk j ≡ Some g.poll
 in_flight_then c talk j e g st =
-    let asked = (asked_of (asks (said talk st.poll).heard) (is_it st.command (polled talk st.poll)) st.about).0 in
-    poll_asks c talk j e g (ap (λ p. asks (said talk p).heard) (sym (its_poll c talk j e g st)) ∙ asked)
+    let asked = (asked_of (is_asked (said talk st.poll).heard) (is_it st.command (polled talk st.poll)) st.about).0 in
+    poll_asks c talk j e g (ap (λ p. is_asked (said talk p).heard) (sym (its_poll c talk j e g st)) ∙ asked)
 
 -- a command's own end says no more than that it ended
 said_ended : (c : Settings) (talk : Talk) (j : ℕ) (e : End) → (Stands c talk j → ⊥) → IsSaid c talk j (news.Ended e)
@@ -167,22 +168,22 @@ told_last c talk j i e g f =
     ap told_of (find_map (submission_at c talk j) (has_reference (reference talk i)) (outstanding talk j)) ∙ ap (λ o. told_of (option_map (submission_at c talk j) o)) found
 
 -- what is said of the answer of the poll p, whose command is o
-said_answer : (c : Settings) (talk : Talk) (j p : ℕ) (e : End) (g : Gives c talk j e) → in_flight talk j ≡ Some p → p ≡ g.poll → (o : Option ℕ) → polled talk p ≡ o → (b : Bool) → still_stands talk j o ≡ b → (b ≡ true → 1 ≤ told_in c talk p)
-    → IsSaid c talk j (if b then news_of_figure (last_told (account_at c talk j).outstanding (reference_found talk o)) (told_in c talk p) else news.Late)
+said_answer : (c : Settings) (talk : Talk) (j p : ℕ) (e : End) (g : Gives c talk j e) → in_flight talk j ≡ Some p → p ≡ g.poll → (o : Option ℕ) → polled talk p ≡ o → (b : Bool) → polled_is_outstanding talk j o ≡ b → (b ≡ true → 1 ≤ figure_told c talk p)
+    → IsSaid c talk j (if b then news_of_figure (last_told (account_at c talk j).outstanding (reference_found talk o)) (figure_told c talk p) else news.Late)
 said_answer c talk j p e g q s None r true t some = absurd (false≢true t)
 said_answer c talk j p e g q s (Some i) r true t some =
     let below : i < p = found_below talk p i _ r in
     let before : p < j = found_below talk j p _ q in
     let there : find (λ x. nat_eq x i) (outstanding talk j) ≡ Some i = outstanding_found talk j i t (omega (arith, below, before)) in
     let last = told_last c talk j i e g there in
-    rw last (said_figure c talk j (told_in c talk p) (last_answer c talk j i) (some refl)
+    rw last (said_figure c talk j (figure_told c talk p) (last_answer c talk j i) (some refl)
     (λ st.
-    let about = (asked_of (asks (said talk st.poll).heard) (is_it st.command (polled talk st.poll)) st.about).1 in
+    let about = (asked_of (is_asked (said talk st.poll).heard) (is_it st.command (polled talk st.poll)) st.about).1 in
     let poll : st.poll ≡ p = its_poll c talk j e g st ∙ sym s in
     let same : i ≡ st.command = eqb-true i st.command (ap (is_it st.command) (sym (ap (polled talk) poll ∙ r)) ∙ about) in
-    (st.last, ap (last_answer c talk j) same ∙ st.told, subst (λ k. st.last ≤ told_in c talk k) poll st.not_less))
+    (st.last, ap (last_answer c talk j) same ∙ st.told, subst (λ k. st.last ≤ figure_told c talk k) poll st.not_less))
     (λ l k m.
-    let asked : asks (said talk p).heard ≡ true = found_is (λ x. asks (said talk x).heard) (outstanding talk j) p q in
+    let asked : is_asked (said talk p).heard ≡ true = found_is (λ x. is_asked (said talk x).heard) (outstanding talk j) p q in
     record {
       poll = p;
       command = i;
@@ -195,24 +196,24 @@ said_answer c talk j p e g q s (Some i) r true t some =
     }))
 said_answer c talk j p e g q s o r false t some =
     said_late c talk j (λ st.
-    let about = (asked_of (asks (said talk st.poll).heard) (is_it st.command (polled talk st.poll)) st.about).1 in
+    let about = (asked_of (is_asked (said talk st.poll).heard) (is_it st.command (polled talk st.poll)) st.about).1 in
     let poll : st.poll ≡ p = its_poll c talk j e g st ∙ sym s in
     true≢false (sym (stands_it talk j st.command o (ap (is_it st.command) (sym (ap (polled talk) poll ∙ r)) ∙ about) st.outstanding) ∙ t))
 
-said_flight : (c : Settings) (talk : Talk) (j p : ℕ) (e : End) (g : Gives c talk j e) → in_flight talk j ≡ Some p → (b : Bool) → nat_eq (reference talk p) e.reference ≡ b → (b ≡ true → still_stands talk j (polled talk p) ≡ true → 1 ≤ told_in c talk p)
+said_flight : (c : Settings) (talk : Talk) (j p : ℕ) (e : End) (g : Gives c talk j e) → in_flight talk j ≡ Some p → (b : Bool) → nat_eq (reference talk p) e.reference ≡ b → (b ≡ true → polled_is_outstanding talk j (polled talk p) ≡ true → 1 ≤ figure_told c talk p)
     → IsSaid c talk j (news_with (account_at c talk j) e (if b && nat_eq e.code 0x82 then host.told_in e.body else None))
 said_flight c talk j p e g q true n some =
     let named = eqb-true (reference talk p) e.reference n in
     let tells = g.tells p q named in
     let same : p ≡ g.poll = same_poll c talk j e _ p g q named in
     let watch : (account_at c talk j).watch ≡ Some (watch_at talk j p) = ap (option_map (watch_at talk j)) q in
-    rw (eq-eqb e.code 0x82 tells.0, tells.1, watch) (said_answer c talk j p e g q same (polled talk p) refl (still_stands talk j (polled talk p)) refl (some refl))
+    rw (eq-eqb e.code 0x82 tells.0, tells.1, watch) (said_answer c talk j p e g q same (polled talk p) refl (polled_is_outstanding talk j (polled talk p)) refl (some refl))
 said_flight c talk j p e g q false n some =
     said_ended c talk j e (λ st.
     let same : p ≡ g.poll = ap (λ o. unwrap_or o p) (sym q ∙ in_flight_then c talk j e g st) in
     true≢false (sym (eq-eqb (reference talk p) e.reference (ap (reference talk) same ∙ poll_named c talk j e g)) ∙ n))
 
-said_with : (c : Settings) (talk : Talk) (j : ℕ) (e : End) (g : Gives c talk j e) (o : Option ℕ) → in_flight talk j ≡ o → ((p : ℕ) → in_flight talk j ≡ Some p → reference talk p ≡ e.reference → still_stands talk j (polled talk p) ≡ true → 1 ≤ told_in c talk p)
+said_with : (c : Settings) (talk : Talk) (j : ℕ) (e : End) (g : Gives c talk j e) (o : Option ℕ) → in_flight talk j ≡ o → ((p : ℕ) → in_flight talk j ≡ Some p → reference talk p ≡ e.reference → polled_is_outstanding talk j (polled talk p) ≡ true → 1 ≤ figure_told c talk p)
     → IsSaid c talk j (news_with (account_at c talk j) e (answered (option_map (watch_at talk j) o) e))
 said_with c talk j e g None q some = said_ended c talk j e (λ st. true≢false (ap is_some (sym (in_flight_then c talk j e g st) ∙ q)))
 said_with c talk j e g (Some p) q some = said_flight c talk j p e g q (nat_eq (reference talk p) e.reference) refl (λ b. some p q (eqb-true (reference talk p) e.reference b))
@@ -223,7 +224,7 @@ take_none : {K : Type 0} (c : Settings) (picks : List Choice → ℕ → Type 0)
     → (said talk j).moment ≡ Some (events.Take, entries.Taken None) → IsHanded a None (said talk j).heard a' → Turns c picks picker talk j a' h'
 take_none {K} c picks picker talk j a a' h h' told l s r m k =
     let n = no_end talk j (Some (events.Take, entries.Taken None)) m (λ r. refl) in
-    let answers = subst (λ o. Meets picks h o h') m r.1 in
+    let answers = subst (λ o. AnswersTurn picks h o h') m r.1 in
     quiet c picks picker talk j a a' h h' told l s r (Some (events.Take, entries.Taken None)) m refl n (ap sends k.0) (ap is_news k.0) k.1 (subst (λ (y : Holdings K). Matches a y told) (sym answers.1) (taken_none a h told (sym answers.0) s.match))
 
 take_some : {K : Type 0} (c : Settings) (picks : List Choice → ℕ → Type 0) (picker : K) (talk : Talk) (j : ℕ) (a a' : Account) (h h' : Holdings K) (told : Flight) (b : ArrayVec ℕ) → j < length talk → At c picks picker talk j a h told → Says picks a h (said talk j) a' h'
@@ -231,7 +232,7 @@ take_some : {K : Type 0} (c : Settings) (picks : List Choice → ℕ → Type 0)
 take_some {K} c picks picker talk j a a' h h' told b l s r t m k =
     let n = k.0 in
     let sound = subst (λ u. IsSound h u (said talk j).moment) t r.2 in
-    let answers = subst (λ o. Meets picks h o h') m r.1 in
+    let answers = subst (λ o. AnswersTurn picks h o h') m r.1 in
     let x = taken_some a h told b (sym answers.0) (λ e f i. sound b e m f i) s.match in
     let e = x.end in
     let own = (subst (AllByRecursion (IsAwaited a.outstanding)) x.untaken s.match.ends).0 in
@@ -250,11 +251,11 @@ take_some {K} c picks picker talk j a a' h h' told b l s r t m k =
         resets = (λ q. known.resets.0 (ap (λ o. is_reset (news_in o)) (sym k.1 ∙ q)), λ st. k.1 ∙ ap hears.News (reset_is n (known.resets.1 st)));
         no_lost = λ q. true≢false (sym (ap (λ o. is_lost (news_in o)) (sym k.1 ∙ q)) ∙ known.not_lost);
         new = unqueued talk j (Some (events.Take, entries.Taken (Some b))) m refl;
-        idle = never_idle talk j (ap asks k.1);
+        idle = never_idle talk j (ap is_asked k.1);
         some = λ p i f about st.
             let this : p ≡ g.poll = ap (λ o. unwrap_or o p) (sym f ∙ g.found) in
-            let parts = asked_of (asks (said talk p).heard) (is_it i (polled talk p)) about in
-            let flight : in_flight talk j ≡ Some p = poll_asks c talk j e g (ap (λ q. asks (said talk q).heard) (sym this) ∙ parts.0) ∙ ap Some (sym this) in
+            let parts = asked_of (is_asked (said talk p).heard) (is_it i (polled talk p)) about in
+            let flight : in_flight talk j ≡ Some p = poll_asks c talk j e g (ap (λ q. is_asked (said talk q).heard) (sym this) ∙ parts.0) ∙ ap Some (sym this) in
             answer_some c picks picker talk j a h told e x.rest p s x.untaken flight (ap (reference talk) this ∙ poll_named c talk j e g) (stands_it talk j i (polled talk p) parts.1 st);
       };
       told = told;

@@ -9,7 +9,7 @@ use Rattle.std.proofs.lemmas.List.Folds.{list_any-append}
 use Rattle.mscp_queue.proofs.Lists.{every_kept, every_weaker, filter_filter, filter_on, range_below, range_more}
 use Rattle.mscp_control.specs.Settings.{Settings}
 use Rattle.mscp_control.specs.History.{last_or}
-use Rattle.mscp_sim.specs.Talks.{Talk, answers_about, answers_of, asks, before, ended, hands_over, is_ended, is_it, is_outstanding, last_answer, last_of, outstanding, polled, reference, said, sends, told_in}
+use Rattle.mscp_sim.specs.Talks.{Talk, answers_about, answers_of, is_asked, before, ended, hands_over, is_ended, is_it, is_outstanding, last_answer, last_of, outstanding, polled, reference, said, sends, figure_told}
 
 -- ---- one more turn
 
@@ -139,7 +139,7 @@ untold_of c talk j k l None e = refl
 untold_of c talk j k l (Some p) e =
     let below : p < k = found_below talk k p _ e in
     let no : is_it j (polled talk p) ≡ false = not_it j (polled talk p) (λ x q. let m = found_below talk p x _ q in omega (arith, l, below, m)) in
-    elim (asks (said talk p).heard) as (λ b. cond (b && is_it j (polled talk p)) (told_in c talk p ∷ []) [] ≡ []) [ true ↦ rw no refl | false ↦ refl ]
+    elim (is_asked (said talk p).heard) as (λ b. cond (b && is_it j (polled talk p)) (figure_told c talk p ∷ []) [] ≡ []) [ true ↦ rw no refl | false ↦ refl ]
 
 untold_in : (c : Settings) (talk : Talk) (j : ℕ) (ks : List ℕ) → AllByRecursion (λ k. k < j) ks → flat_map (λ k. answers_of c talk j (ended talk k)) ks ≡ []
 untold_in c talk j [] h = refl

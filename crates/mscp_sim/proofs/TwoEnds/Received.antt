@@ -10,7 +10,7 @@ use Rattle.mscp_control.specs.Settings.{Settings}
 use Rattle.mscp_host.specs.declared.watch.Watch.{Watch}
 use Rattle.mscp_host.specs.Accounts.{answered, outstanding_with, received, watch_after, without}
 use Rattle.mscp_sim.specs.Matches.{references, times}
-use Rattle.mscp_sim.specs.Talks.{Talk, account_at, asks, in_flight, is_outstanding, outstanding, polled, reference, reference_found, said, still_stands, submission_at, watch_at}
+use Rattle.mscp_sim.specs.Talks.{Talk, account_at, is_asked, in_flight, is_outstanding, outstanding, polled, reference, reference_found, said, polled_is_outstanding, submission_at, watch_at}
 use Rattle.mscp_sim.proofs.TwoEnds.Outstanding.{found_below, stays_if}
 use Rattle.mscp_sim.proofs.TwoEnds.Receiving.{Gives, OnePoll, all_told, keep, once_at, outs_after, references_at}
 use Rattle.mscp_sim.proofs.TwoEnds.Singled.{find_kept, find_none_kept, flip, none_found, without_kept}
@@ -44,29 +44,29 @@ left_subs c talk j e g =
 -- the poll in flight was answered
 flight_gone : (c : Settings) (talk : Talk) (j : ℕ) (e : End) (p : ℕ) → Gives c talk j e → in_flight talk j ≡ Some p → nat_eq (reference talk p) e.reference ≡ true → in_flight talk (j + 1) ≡ None
 flight_gone c talk j e p g q n =
-    ap (find (λ x. asks (said talk x).heard)) (outs_after c talk j e g)
-    ∙ find_none_kept (λ x. asks (said talk x).heard) (keep talk e) (outstanding talk j)
-    (every_weaker (λ x. asks (said talk x).heard ≡ true → in_flight talk j ≡ Some x) (λ x. asks (said talk x).heard ≡ true → keep talk e x ≡ false)
+    ap (find (λ x. is_asked (said talk x).heard)) (outs_after c talk j e g)
+    ∙ find_none_kept (λ x. is_asked (said talk x).heard) (keep talk e) (outstanding talk j)
+    (every_weaker (λ x. is_asked (said talk x).heard ≡ true → in_flight talk j ≡ Some x) (λ x. is_asked (said talk x).heard ≡ true → keep talk e x ≡ false)
     (λ x h a. ap not (flip e.reference (reference talk x) ∙ (ap (λ o. nat_eq (reference talk (unwrap_or o x)) e.reference) (sym (h a) ∙ q) ∙ n))) (outstanding talk j) g.one)
 
 flight_kept : (c : Settings) (talk : Talk) (j : ℕ) (e : End) (p : ℕ) → Gives c talk j e → in_flight talk j ≡ Some p → nat_eq (reference talk p) e.reference ≡ false → in_flight talk (j + 1) ≡ Some p
 flight_kept c talk j e p g q n =
-    ap (find (λ x. asks (said talk x).heard)) (outs_after c talk j e g)
-    ∙ find_kept (λ x. asks (said talk x).heard) (keep talk e) (outstanding talk j) p q (ap not (flip e.reference (reference talk p) ∙ n))
+    ap (find (λ x. is_asked (said talk x).heard)) (outs_after c talk j e g)
+    ∙ find_kept (λ x. is_asked (said talk x).heard) (keep talk e) (outstanding talk j) p q (ap not (flip e.reference (reference talk p) ∙ n))
 
 flight_none : (c : Settings) (talk : Talk) (j : ℕ) (e : End) → Gives c talk j e → in_flight talk j ≡ None → in_flight talk (j + 1) ≡ None
 flight_none c talk j e g q =
-    ap (find (λ x. asks (said talk x).heard)) (outs_after c talk j e g)
-    ∙ find_none_kept (λ x. asks (said talk x).heard) (keep talk e) (outstanding talk j)
-    (every_weaker (λ x. asks (said talk x).heard ≡ false) (λ x. asks (said talk x).heard ≡ true → keep talk e x ≡ false) (λ x h a. absurd (true≢false (sym a ∙ h))) (outstanding talk j) (none_found (λ x. asks (said talk x).heard) (outstanding talk j) q))
+    ap (find (λ x. is_asked (said talk x).heard)) (outs_after c talk j e g)
+    ∙ find_none_kept (λ x. is_asked (said talk x).heard) (keep talk e) (outstanding talk j)
+    (every_weaker (λ x. is_asked (said talk x).heard ≡ false) (λ x. is_asked (said talk x).heard ≡ true → keep talk e x ≡ false) (λ x h a. absurd (true≢false (sym a ∙ h))) (outstanding talk j) (none_found (λ x. is_asked (said talk x).heard) (outstanding talk j) q))
 
--- whether its command still stands
+-- whether its command is still outstanding
 abbrev watch_of : ℕ → ℕ → Bool → Watch
-watch_of reference polled stands = record { reference = reference; polled = polled; stands = stands }
+watch_of reference polled outstanding = record { reference = reference; polled = polled; is_outstanding = outstanding }
 
 stands_after : (c : Settings) (talk : Talk) (j : ℕ) (e : End) (p : ℕ) (o : Option ℕ) → Gives c talk j e → p < j → ((i : ℕ) → o ≡ Some i → i < p)
     → let w = watch_of (reference talk p) (reference_found talk o) in
-    Some (w (still_stands talk (j + 1) o)) ≡ (if nat_eq (reference_found talk o) e.reference then Some (w false) else Some (w (still_stands talk j o)))
+    Some (w (polled_is_outstanding talk (j + 1) o)) ≡ (if nat_eq (reference_found talk o) e.reference then Some (w false) else Some (w (polled_is_outstanding talk j o)))
 stands_after c talk j e p None g l b = elim (nat_eq 0 e.reference) as (λ d. Some (watch_of (reference talk p) 0 false) ≡ (if d then Some (watch_of (reference talk p) 0 false) else Some (watch_of (reference talk p) 0 false))) [ true ↦ refl | false ↦ refl ]
 stands_after c talk j e p (Some i) g l b =
     let w : Bool → Watch = watch_of (reference talk p) (reference talk i) in
@@ -84,8 +84,8 @@ watch_left c talk j e None g q = ap (option_map (watch_at talk (j + 1))) (flight
 watch_left c talk j e (Some p) g q =
     let w = watch_at talk j p in
     let both : (b : Bool) → nat_eq (reference talk p) e.reference ≡ b
-    → option_map (watch_at talk (j + 1)) (in_flight talk (j + 1)) ≡ (if b then None else (if nat_eq w.polled e.reference then Some (record w { stands = false }) else Some w)) =
-    λ b. elim b as (λ b. nat_eq (reference talk p) e.reference ≡ b → option_map (watch_at talk (j + 1)) (in_flight talk (j + 1)) ≡ (if b then None else (if nat_eq w.polled e.reference then Some (record w { stands = false }) else Some w))) [
+    → option_map (watch_at talk (j + 1)) (in_flight talk (j + 1)) ≡ (if b then None else (if nat_eq w.polled e.reference then Some (record w { is_outstanding = false }) else Some w)) =
+    λ b. elim b as (λ b. nat_eq (reference talk p) e.reference ≡ b → option_map (watch_at talk (j + 1)) (in_flight talk (j + 1)) ≡ (if b then None else (if nat_eq w.polled e.reference then Some (record w { is_outstanding = false }) else Some w))) [
       | true ↦ λ n. ap (option_map (watch_at talk (j + 1))) (flight_gone c talk j e p g q n)
       | false ↦ λ n. ap (option_map (watch_at talk (j + 1))) (flight_kept c talk j e p g q n) ∙ stands_after c talk j e p (polled talk p) g (found_below talk j p _ q) (λ i f. found_below talk p i _ f)
     ] in
@@ -101,10 +101,10 @@ account_received c talk j e g =
 
 pub one_received : (c : Settings) (talk : Talk) (j : ℕ) (e : End) → Gives c talk j e → OnePoll talk (j + 1)
 one_received c talk j e g =
-    subst (AllByRecursion (λ x. asks (said talk x).heard ≡ true → in_flight talk (j + 1) ≡ Some x)) (sym (outs_after c talk j e g))
-    (every_weaker (λ x. (asks (said talk x).heard ≡ true → in_flight talk j ≡ Some x) × (keep talk e x ≡ true)) (λ x. asks (said talk x).heard ≡ true → in_flight talk (j + 1) ≡ Some x)
+    subst (AllByRecursion (λ x. is_asked (said talk x).heard ≡ true → in_flight talk (j + 1) ≡ Some x)) (sym (outs_after c talk j e g))
+    (every_weaker (λ x. (is_asked (said talk x).heard ≡ true → in_flight talk j ≡ Some x) × (keep talk e x ≡ true)) (λ x. is_asked (said talk x).heard ≡ true → in_flight talk (j + 1) ≡ Some x)
     (λ x h a. flight_kept c talk j e x g (h.0 a) (other_number e.reference (reference talk x) h.1)) (filter (keep talk e) (outstanding talk j))
-    (every_filter (λ x. asks (said talk x).heard ≡ true → in_flight talk j ≡ Some x) (keep talk e) (outstanding talk j) g.one))
+    (every_filter (λ x. is_asked (said talk x).heard ≡ true → in_flight talk j ≡ Some x) (keep talk e) (outstanding talk j) g.one))
 
 -- a poll that is in flight after the turn was so before
 pub flight_back : (c : Settings) (talk : Talk) (j : ℕ) (e : End) (p : ℕ) → Gives c talk j e → in_flight talk (j + 1) ≡ Some p → in_flight talk j ≡ Some p

@@ -11,15 +11,14 @@ use Rattle.mscp_control.specs.Settings.{Settings}
 use Rattle.mscp_host.specs.declared.submission.Submission.{Submission}
 use Rattle.mscp_host.specs.Accounts.{answered, outstanding_with, told_in, with_told}
 use Rattle.mscp_sim.specs.Matches.{references, times}
-use Rattle.mscp_sim.specs.Talks as talks
-use Rattle.mscp_sim.specs.Talks.{Talk, account_at, answers_of, asks, before, ended, hands_over, in_flight, is_it, is_outstanding, last_answer, opcode, outstanding, polled, reference, reference_found, said, sends, still_stands, submission_at, unit_of_turn, watch_at}
+use Rattle.mscp_sim.specs.Talks.{Talk, account_at, answers_of, is_asked, before, ended, figure_told, hands_over, in_flight, is_it, is_outstanding, last_answer, opcode, outstanding, polled, reference, reference_found, said, sends, polled_is_outstanding, submission_at, unit_of_turn, watch_at}
 use Rattle.mscp_sim.proofs.TwoEnds.Counting.{found_is}
 use Rattle.mscp_sim.proofs.TwoEnds.Outstanding.{ends_now, found_below, last_new, last_same, outstanding_are, outstanding_more}
 use Rattle.mscp_sim.proofs.TwoEnds.Singled.{any_before, found_in, only_one}
 
 -- at most one poll is outstanding
 abbrev pub OnePoll : Talk → ℕ → Type 0
-OnePoll talk j = AllByRecursion (λ p. asks (said talk p).heard ≡ true → in_flight talk j ≡ Some p) (outstanding talk j)
+OnePoll talk j = AllByRecursion (λ p. is_asked (said talk p).heard ≡ true → in_flight talk j ≡ Some p) (outstanding talk j)
 
 -- what is known of a turn that hands over the end e
 pub record Gives (c : Settings) (talk : Talk) (j : ℕ) (e : End) : Type 0 where
@@ -31,7 +30,7 @@ pub record Gives (c : Settings) (talk : Talk) (j : ℕ) (e : End) : Type 0 where
   pub found : ended talk j ≡ Some poll
   -- the end of the poll in flight tells of its command
   pub tells : (p : ℕ) → in_flight talk j ≡ Some p → reference talk p ≡ e.reference
-      → (e.code ≡ 0x82) × (e.body ≡ bodies.Status (reference_found talk (polled talk p)) (talks.told_in c talk p))
+      → (e.code ≡ 0x82) × (e.body ≡ bodies.Status (reference_found talk (polled talk p)) (figure_told c talk p))
 
 abbrev pub keep : Talk → End → ℕ → Bool
 keep talk e i = not (nat_eq e.reference (reference talk i))
@@ -84,7 +83,7 @@ pub outstanding_found : (talk : Talk) (j i : ℕ) → is_outstanding talk j i �
 unfolding outstanding
 outstanding_found talk j i o l = found_in (is_outstanding talk j) (before j) i o (any_before i j l)
 
-gone_is : (talk : Talk) (j x : ℕ) (o : Option ℕ) → still_stands talk j o ≡ false → is_outstanding talk j x ≡ true → is_it x o ≡ false
+gone_is : (talk : Talk) (j x : ℕ) (o : Option ℕ) → polled_is_outstanding talk j o ≡ false → is_outstanding talk j x ≡ true → is_it x o ≡ false
 gone_is talk j x None t m = refl
 gone_is talk j x (Some i) t m = differs i x (λ z. true≢false (sym m ∙ (ap (is_outstanding talk j) (sym z) ∙ t)))
 
@@ -110,8 +109,8 @@ poll_named c talk j e g =
     let h = found_is (λ i. hands_over (reference talk i) (said talk j).moment) (outstanding talk j) g.poll g.found in
     sym (eqb-true e.reference (reference talk g.poll) (sym (g.hands (reference talk g.poll)) ∙ h))
 
-pub poll_asks : (c : Settings) (talk : Talk) (j : ℕ) (e : End) → (g : Gives c talk j e) → asks (said talk g.poll).heard ≡ true → in_flight talk j ≡ Some g.poll
-poll_asks c talk j e g a = found_all (λ p. asks (said talk p).heard ≡ true → in_flight talk j ≡ Some p) _ (outstanding talk j) g.poll g.one g.found a
+pub poll_asks : (c : Settings) (talk : Talk) (j : ℕ) (e : End) → (g : Gives c talk j e) → is_asked (said talk g.poll).heard ≡ true → in_flight talk j ≡ Some g.poll
+poll_asks c talk j e g a = found_all (λ p. is_asked (said talk p).heard ≡ true → in_flight talk j ≡ Some p) _ (outstanding talk j) g.poll g.one g.found a
 
 -- ---- what was told
 
@@ -119,8 +118,8 @@ poll_asks c talk j e g a = found_all (λ p. asks (said talk p).heard ≡ true �
 abbrev TellsNothing : Settings → Talk → ℕ → ℕ → Type 0
 TellsNothing c talk j i = answers_of c talk i (ended talk j) ≡ []
 
-nothing_asked : (c : Settings) (talk : Talk) (j i : ℕ) (e : End) → (g : Gives c talk j e) → asks (said talk g.poll).heard ≡ false → TellsNothing c talk j i
-nothing_asked c talk j i e g a = ap (answers_of c talk i) g.found ∙ ap (λ b. cond (b && is_it i (polled talk g.poll)) (talks.told_in c talk g.poll ∷ []) []) a
+nothing_asked : (c : Settings) (talk : Talk) (j i : ℕ) (e : End) → (g : Gives c talk j e) → is_asked (said talk g.poll).heard ≡ false → TellsNothing c talk j i
+nothing_asked c talk j i e g a = ap (answers_of c talk i) g.found ∙ ap (λ b. cond (b && is_it i (polled talk g.poll)) (figure_told c talk g.poll ∷ []) []) a
 
 subs_kept : (c : Settings) (talk : Talk) (j : ℕ) (xs : List ℕ) → AllByRecursion (TellsNothing c talk j) xs → map (submission_at c talk (j + 1)) xs ≡ map (submission_at c talk j) xs
 subs_kept c talk j xs h =
@@ -160,20 +159,20 @@ subs_told c talk j n f (x ∷ xs) h l =
     ] in
     out (nat_eq (reference talk x) n) refl l
 
-not_asks : (c : Settings) (talk : Talk) (j : ℕ) (e : End) (g : Gives c talk j e) → (asks (said talk g.poll).heard ≡ true → ⊥) → asks (said talk g.poll).heard ≡ false
+not_asks : (c : Settings) (talk : Talk) (j : ℕ) (e : End) (g : Gives c talk j e) → (is_asked (said talk g.poll).heard ≡ true → ⊥) → is_asked (said talk g.poll).heard ≡ false
 not_asks c talk j e g n =
-    let out : (b : Bool) → asks (said talk g.poll).heard ≡ b → asks (said talk g.poll).heard ≡ false =
-    λ b. elim b as (λ b. asks (said talk g.poll).heard ≡ b → asks (said talk g.poll).heard ≡ false) [ true ↦ λ a. absurd (n a) | false ↦ λ a. a ] in
-    out (asks (said talk g.poll).heard) refl
+    let out : (b : Bool) → is_asked (said talk g.poll).heard ≡ b → is_asked (said talk g.poll).heard ≡ false =
+    λ b. elim b as (λ b. is_asked (said talk g.poll).heard ≡ b → is_asked (said talk g.poll).heard ≡ false) [ true ↦ λ a. absurd (n a) | false ↦ λ a. a ] in
+    out (is_asked (said talk g.poll).heard) refl
 
 -- the poll p tells of its command, where that still stands
-told_of_stands : (c : Settings) (talk : Talk) (j : ℕ) (e : End) (g : Gives c talk j e) (p : ℕ) (o : Option ℕ) → in_flight talk j ≡ Some p → p ≡ g.poll → polled talk p ≡ o → (b : Bool) → still_stands talk j o ≡ b
-    → (if b then with_told (reference_found talk o) (talks.told_in c talk p) (account_at c talk j).outstanding else (account_at c talk j).outstanding) ≡ map (submission_at c talk (j + 1)) (outstanding talk j)
+told_of_stands : (c : Settings) (talk : Talk) (j : ℕ) (e : End) (g : Gives c talk j e) (p : ℕ) (o : Option ℕ) → in_flight talk j ≡ Some p → p ≡ g.poll → polled talk p ≡ o → (b : Bool) → polled_is_outstanding talk j o ≡ b
+    → (if b then with_told (reference_found talk o) (figure_told c talk p) (account_at c talk j).outstanding else (account_at c talk j).outstanding) ≡ map (submission_at c talk (j + 1)) (outstanding talk j)
 told_of_stands c talk j e g p None q s r true t = absurd (false≢true t)
 told_of_stands c talk j e g p (Some i) q s r true t =
     let n = reference talk i in
-    let f = talks.told_in c talk p in
-    let asked : asks (said talk p).heard ≡ true = found_is (λ x. asks (said talk x).heard) (outstanding talk j) p q in
+    let f = figure_told c talk p in
+    let asked : is_asked (said talk p).heard ≡ true = found_is (λ x. is_asked (said talk x).heard) (outstanding talk j) p q in
     let below : i < p = found_below talk p i _ r in
     let before : p < j = found_below talk j p _ q in
     let there : find (λ x. nat_eq x i) (outstanding talk j) ≡ Some i = outstanding_found talk j i t (omega (arith, below, before)) in
@@ -185,8 +184,8 @@ told_of_stands c talk j e g p (Some i) q s r true t =
       λ y. own x ∙ ap (λ b. cond b (f ∷ []) []) (differs i x (λ z. true≢false (sym (eq-eqb (reference talk x) n (ap (reference talk) (sym z))) ∙ y))),
     ))) (once_at c talk j n e g)
 told_of_stands c talk j e g p o q s r false t =
-    let f = talks.told_in c talk p in
-    let asked : asks (said talk p).heard ≡ true = found_is (λ x. asks (said talk x).heard) (outstanding talk j) p q in
+    let f = figure_told c talk p in
+    let asked : is_asked (said talk p).heard ≡ true = found_is (λ x. is_asked (said talk x).heard) (outstanding talk j) p q in
     sym (subs_kept c talk j (outstanding talk j) (every_weaker (λ x. is_outstanding talk j x ≡ true) (TellsNothing c talk j) (λ x m.
     ap (answers_of c talk x) (g.found ∙ ap Some (sym s)) ∙ ((λ k. cond (asked k && is_it x (r k)) (f ∷ []) []) ∙ ap (λ b. cond b (f ∷ []) []) (gone_is talk j x o t m))) (outstanding talk j) (outstanding_are talk j)))
 
@@ -197,9 +196,9 @@ told_when c talk j e g p q true n =
     let tells = g.tells p q named in
     let same : p ≡ g.poll = same_poll c talk j e _ p g q named in
     let watch : (account_at c talk j).watch ≡ Some (watch_at talk j p) = ap (option_map (watch_at talk j)) q in
-    rw (eq-eqb e.code 0x82 tells.0, tells.1, watch) (told_of_stands c talk j e g p (polled talk p) q same refl (still_stands talk j (polled talk p)) refl)
+    rw (eq-eqb e.code 0x82 tells.0, tells.1, watch) (told_of_stands c talk j e g p (polled talk p) q same refl (polled_is_outstanding talk j (polled talk p)) refl)
 told_when c talk j e g p q false n =
-    let other : asks (said talk g.poll).heard ≡ false = not_asks c talk j e g (λ a.
+    let other : is_asked (said talk g.poll).heard ≡ false = not_asks c talk j e g (λ a.
     let same : p ≡ g.poll = ap (λ o. unwrap_or o p) (sym q ∙ poll_asks c talk j e g a) in
     true≢false (sym (eq-eqb (reference talk p) e.reference (ap (reference talk) same ∙ poll_named c talk j e g)) ∙ n)) in
     sym (subs_kept c talk j (outstanding talk j) (every_from (TellsNothing c talk j) (λ i. nothing_asked c talk j i e g other) (outstanding talk j)))
@@ -209,6 +208,6 @@ told_when c talk j e g p q false n =
 pub all_told : (c : Settings) (talk : Talk) (j : ℕ) (e : End) (g : Gives c talk j e) (o : Option ℕ) → in_flight talk j ≡ o
     → outstanding_with (account_at c talk j) (answered (option_map (watch_at talk j) o) e) ≡ map (submission_at c talk (j + 1)) (outstanding talk j)
 all_told c talk j e g None q =
-    let quiet : asks (said talk g.poll).heard ≡ false = not_asks c talk j e g (λ a. true≢false (ap is_some (sym (poll_asks c talk j e g a) ∙ q))) in
+    let quiet : is_asked (said talk g.poll).heard ≡ false = not_asks c talk j e g (λ a. true≢false (ap is_some (sym (poll_asks c talk j e g a) ∙ q))) in
     sym (subs_kept c talk j (outstanding talk j) (every_from (TellsNothing c talk j) (λ i. nothing_asked c talk j i e g quiet) (outstanding talk j)))
 all_told c talk j e g (Some p) q = told_when c talk j e g p q (nat_eq (reference talk p) e.reference) refl

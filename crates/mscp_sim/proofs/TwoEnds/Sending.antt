@@ -55,10 +55,6 @@ same_opcode c k = opcode_kept (command_bytes c) (command_of (command_bytes c)).o
 
 -- ---- what one refuses, the other refuses
 
-same_class : (k : Class) → arrival.is_immediate_class k ≡ host.is_immediate_class k
-same_class classes.Immediate = refl
-same_class k = refl
-
 none_too : (p q d : Bool) → (if p then Some faults.NoCredit else (if q then Some faults.LastCredit else (if d then Some faults.Doubled else None))) ≡ None
     → (p ≡ false) × (q ≡ false) × (d ≡ false)
 none_too true q d e = absurd (true≢false (ap is_some e))
@@ -85,7 +81,7 @@ free a opcode reference e =
 
 unrefused : {K : Type 0} (a : Account) (h : Holdings K) (told : Flight) (opcode reference : ℕ) → Matches a h told → Free a opcode reference → credit_fault (balance_of h) (outstanding_of h) opcode reference ≡ None
 unrefused a h told opcode reference m f =
-    rw (same_balance a h told m, same_holds a h told reference m, same_class (class opcode), f.some, f.spare, f.new) refl
+    rw (same_balance a h told m, same_holds a h told reference m, f.some, f.spare, f.new) refl
 
 -- the controller takes in what the host sends
 taken_in : {K : Type 0} (a : Account) (h : Holdings K) (told : Flight) (c : Command) → Matches a h told → Carries c → Free a (opcode_byte c.order) c.reference → refusal (balance_of h) (outstanding_of h) (command_bytes c) ≡ None

@@ -11,7 +11,7 @@ use Rattle.mscp_host.specs.declared.news.HostFault.{HostFault}
 use Rattle.mscp_host.specs.declared.news.Poll.{Poll}
 use Rattle.mscp_host.specs.declared.news.Poll.TheVariants as polls
 use Rattle.mscp_host.specs.declared.submission.Submission.{Submission}
-use Rattle.mscp_host.specs.Accounts.{Account, asks, asks_unless, has_reference, oldest, poll_of, polled, refusal, submits, submits_unless, submitted, watching}
+use Rattle.mscp_host.specs.Accounts.{Account, asks, asks_unless, has_reference, oldest, poll_of, polls_oldest, refusal, submits, submits_unless, submitted, watching}
 use Rattle.mscp_sim.specs.Matches.{Flight, Match, Matches}
 use Rattle.mscp_sim.proofs.TwoEnds.Sending.{carries, free, polled_match, same_reference, submitted_match, told_now}
 
@@ -110,7 +110,7 @@ asks_idle : {K : Type 0} (a : Account) (h : Holdings K) (r : ℕ) (q : Bool) (b 
 asks_idle a h r true b a' l m w e = absurd (false≢true (ap (λ p. is_ask p.0) e))
 asks_idle a h r false b a' l m w e = asks_of a h r (oldest a) b a' l m w refl e
 
-pub asks_match : {K : Type 0} (a : Account) (h : Holdings K) (r : ℕ) (b : ArrayVec ℕ) (a' : Account) → r < 2 ^ 32 → Match a h → polled a r ≡ (Ok (polls.Ask b), a') → Asks a h r b.items a'
+pub asks_match : {K : Type 0} (a : Account) (h : Holdings K) (r : ℕ) (b : ArrayVec ℕ) (a' : Account) → r < 2 ^ 32 → Match a h → polls_oldest a r ≡ (Ok (polls.Ask b), a') → Asks a h r b.items a'
 asks_match a h r b a' l m e = asks_idle a h r (is_some a.watch) b a' l m refl e
 
 -- where it doesn't, nothing changes
@@ -122,7 +122,7 @@ unasked_of : (a : Account) (r : ℕ) (s : Option Submission) (p : Result Poll Ho
 unasked_of a r None p a' n e = ap (λ q. q.1) (sym e)
 unasked_of a r (Some s) p a' n e = unasked_when a r s (refusal a (opcode_byte (poll_of r s).order) r) p a' n e
 
-pub polled_kept : (a : Account) (r : ℕ) (p : Result Poll HostFault) (a' : Account) → is_ask p ≡ false → polled a r ≡ (p, a') → a' ≡ a
+pub polled_kept : (a : Account) (r : ℕ) (p : Result Poll HostFault) (a' : Account) → is_ask p ≡ false → polls_oldest a r ≡ (p, a') → a' ≡ a
 polled_kept a r p a' n e =
     let both : (b : Bool) → (if b then (Ok polls.Busy, a) else asks a r (oldest a)) ≡ (p, a') → a' ≡ a =
     λ b. elim b as (λ b. (if b then (Ok polls.Busy, a) else asks a r (oldest a)) ≡ (p, a') → a' ≡ a) [

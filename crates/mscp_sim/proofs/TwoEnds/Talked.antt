@@ -14,7 +14,7 @@ use Rattle.mscp_control.specs.History.{Moment, Trace}
 use Rattle.mscp_control.specs.Holdings.{Holdings}
 use Rattle.mscp_control.specs.Holdings as holdings
 use Rattle.mscp_control.specs.Runs.{RunsKeepThePromise}
-use Rattle.mscp_host.specs.Accounts.{Account, polled, submits}
+use Rattle.mscp_host.specs.Accounts.{Account, polls_oldest, submits}
 use Rattle.mscp_host.specs.Accounts as host
 use Rattle.mscp_sim.specs.declared.conversing.Turn.{Turn}
 use Rattle.mscp_sim.specs.declared.conversing.Turn.TheVariants as turns
@@ -22,10 +22,12 @@ use Rattle.mscp_sim.specs.declared.conversing.Heard.{Heard}
 use Rattle.mscp_sim.specs.declared.conversing.Heard.TheVariants as hears
 use Rattle.mscp_sim.specs.Matches.{Flight, Matches}
 use Rattle.mscp_sim.specs.Talks.{Said, Talk, outstanding, said, trace_of}
-use Rattle.mscp_sim.specs.TwoEnds.{AreTwoEnds, Converses, GoesOn, IsHeard, Meets, Says}
+use Rattle.mscp_sim.specs.Conversing.{Converses, GoesOn, AnswersTurn, Says}
+use Rattle.mscp_sim.specs.TwoEnds.{AreTwoEnds, IsHeard}
 use Rattle.mscp_sim.proofs.TwoEnds.Asking.{poll_turn}
-use Rattle.mscp_sim.proofs.TwoEnds.Between.{Known, never_reset}
+use Rattle.mscp_sim.proofs.TwoEnds.Between.{Known, never_reset, never_stands}
 use Rattle.mscp_sim.proofs.TwoEnds.News.{take_turn}
+use Rattle.mscp_sim.proofs.TwoEnds.Outstanding.{found_below}
 use Rattle.mscp_sim.proofs.TwoEnds.Tracing.{answered_calls, calls_of, entries_of, events_of, history_of, zipped}
 use Rattle.mscp_sim.proofs.TwoEnds.Turning.{At, Turns, step_turn, submit_turn}
 
@@ -43,7 +45,7 @@ turn_of : {K : Type 0} (c : Settings) (picks : List Choice → ℕ → Type 0) (
     → (t : Turn) → (said talk j).turn ≡ t → IsHeard a t (said talk j) a' → Turns c picks picker talk j a' h'
 turn_of c picks picker talk j a a' h h' told v law l s r (turns.Step k) t one = step_turn c picks picker talk j a a' h h' told k l s r t
 turn_of c picks picker talk j a a' h h' told v law l s r (turns.Submit command) t one = submit_turn c picks picker talk j a a' h h' told command l s r t (submits a command).0 (λ i. ((submits a command).0, sym one.1 i)) one.0
-turn_of c picks picker talk j a a' h h' told v law l s r (turns.Poll n) t one = poll_turn c picks picker talk j a a' h h' told n v law l s r t (polled a n).0 (λ i. ((polled a n).0, sym one.1 i)) one.0
+turn_of c picks picker talk j a a' h h' told v law l s r (turns.Poll n) t one = poll_turn c picks picker talk j a a' h h' told n v law l s r t (polls_oldest a n).0 (λ i. ((polls_oldest a n).0, sym one.1 i)) one.0
 turn_of c picks picker talk j a a' h h' told v law l s r turns.Take t one = take_turn c picks picker talk j a a' h h' told l s r t one.0 one.1 one.2
 
 kept : {K : Type 0} (c : Settings) (picks : List Choice → ℕ → Type 0) (picker : K) (talk : Talk) (j : ℕ) (a : Account) (h : Holdings K) (told : Flight) → IsValid c → ControllersKeepThePromise picks picker → At c picks picker talk j a h told → Promise c (trace_of (take j talk))
@@ -99,7 +101,7 @@ at_start c picks picker talk = record {
 
 -- ---- the whole trace
 
-calls_front : {K : Type 0} (picks : List Choice → ℕ → Type 0) (h m h' : Holdings K) (o : Option Moment) (t : Trace) → Meets picks h o m → AnsweredCalls picks m (calls_of t) h' → AnsweredCalls picks h (calls_of (option_to_list o ++ t)) h'
+calls_front : {K : Type 0} (picks : List Choice → ℕ → Type 0) (h m h' : Holdings K) (o : Option Moment) (t : Trace) → AnswersTurn picks h o m → AnsweredCalls picks m (calls_of t) h' → AnsweredCalls picks h (calls_of (option_to_list o ++ t)) h'
 calls_front {K} picks h m h' None t r a = subst (λ (x : Holdings K). AnsweredCalls picks x (calls_of t) h') r a
 calls_front picks h m h' (Some n) t r a = (m, r, a)
 
@@ -132,5 +134,9 @@ two_ends {K} c picks picker ts old new a a' h h' v runs law oh ot ea eh g =
       says = λ j l. (known j l).tells.says;
       resets = λ j l. (known j l).tells.resets;
       no_lost = λ j l. (known j l).tells.no_lost;
-      no_reset = λ b j l e. never_reset c talk known b j l ((known j l).tells.resets.0 e);
+      falls = λ j i q l h a b e. never_stands c talk known j l i q h a b ((known j l).tells.resets.0 e);
+      no_reset = λ b j l e.
+        let st = (known j l).tells.resets.0 e in
+        let below = found_below talk j st.poll _ st.handed in
+        never_reset c talk known j l st (b st.command st.poll (omega (arith, below, l)) st.about);
     }

@@ -12,7 +12,7 @@ use Rattle.mscp_sim.specs.declared.conversing.Turn.{Turn}
 use Rattle.mscp_sim.specs.declared.conversing.Heard.{Heard}
 use Rattle.mscp_sim.specs.Matches.{Match}
 use Rattle.mscp_sim.specs.Talks.{Said, Talk, trace_of}
-use Rattle.mscp_sim.specs.TwoEnds.{Converses, Goes, GoesOn, Meets, Says}
+use Rattle.mscp_sim.specs.Conversing.{Converses, Goes, GoesOn, AnswersTurn, Says}
 
 converses_push : {K : Type 0} (picks : List Choice → ℕ → Type 0) (a m a' : Account) (h n h' : Holdings K) (talk : Talk) (s : Said) → Converses picks a h talk m n → Says picks m n s a' h' → Converses picks a h (talk ++ s ∷ []) a' h'
 converses_push {K} picks a m a' h n h' [] s r one =
@@ -20,7 +20,7 @@ converses_push {K} picks a m a' h n h' [] s r one =
     (a', h', both, (refl, refl))
 converses_push picks a m a' h n h' (t ∷ talk) s r one = (r.0, r.1, r.2, converses_push picks r.0 m a' r.1 n h' talk s r.3 one)
 
-same_picker : {K : Type 0} (picks : List Choice → ℕ → Type 0) (h h' : Holdings K) (o : Option Moment) → Meets picks h o h' → h'.picker ≡ h.picker
+same_picker : {K : Type 0} (picks : List Choice → ℕ → Type 0) (h h' : Holdings K) (o : Option Moment) → AnswersTurn picks h o h' → h'.picker ≡ h.picker
 same_picker {K} picks h h' None r = ap (λ (x : Holdings K). x.picker) r
 same_picker picks h h' (Some m) r = (owner_kept picks h h' m.0 m.1 r).1
 

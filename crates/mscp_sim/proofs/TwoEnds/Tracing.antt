@@ -16,7 +16,7 @@ use Rattle.mscp_control.specs.Headline.{Promise}
 use Rattle.mscp_control.specs.Holdings.{Answered, Holdings}
 use Rattle.mscp_control.specs.Calls.{AnsweredCalls, AnswersCall, Call, Plain, history}
 use Rattle.mscp_sim.specs.Talks.{Said, Talk, said, trace_of}
-use Rattle.mscp_sim.specs.TwoEnds.{Meets}
+use Rattle.mscp_sim.specs.Conversing.{AnswersTurn}
 
 -- the calls of a trace
 abbrev pub calls_of : Trace → List Call
@@ -31,7 +31,7 @@ calls_push {K} picks h m h' [] call r a = (h', subst (λ (x : Holdings K). Answe
 calls_push picks h m h' (c ∷ calls) call r a = (r.0, r.1, calls_push picks r.0 m h' calls call r.2 a)
 
 -- what came so far, and one more moment, if there is one
-pub reached_more : {K : Type 0} (picks : List Choice → ℕ → Type 0) (h m h' : Holdings K) (t : Trace) (o : Option Moment) → AnsweredCalls picks h (calls_of t) m → Meets picks m o h' → AnsweredCalls picks h (calls_of (t ++ option_to_list o)) h'
+pub reached_more : {K : Type 0} (picks : List Choice → ℕ → Type 0) (h m h' : Holdings K) (t : Trace) (o : Option Moment) → AnsweredCalls picks h (calls_of t) m → AnswersTurn picks m o h' → AnsweredCalls picks h (calls_of (t ++ option_to_list o)) h'
 reached_more {K} picks h m h' t None r a = subst (λ (x : Holdings K). AnsweredCalls picks h (calls_of (t ++ [])) x) (sym a) (subst (λ u. AnsweredCalls picks h (calls_of u) m) (sym (append-nil t)) r)
 reached_more {K} picks h m h' t (Some n) r a = subst (λ cs. AnsweredCalls picks h cs h') (sym (map-append (λ (x : Moment). Plain x.0 x.1) t (n ∷ []))) (calls_push picks h m h' (calls_of t) (Plain n.0 n.1) r a)
 

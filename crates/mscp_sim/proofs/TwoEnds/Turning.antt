@@ -21,8 +21,9 @@ use Rattle.mscp_sim.specs.declared.conversing.Turn.TheVariants as turns
 use Rattle.mscp_sim.specs.declared.conversing.Heard.{Heard}
 use Rattle.mscp_sim.specs.declared.conversing.Heard.TheVariants as hears
 use Rattle.mscp_sim.specs.Matches.{Flight, Matches}
-use Rattle.mscp_sim.specs.Talks.{Talk, account_at, asks, asks_about, ended, hands_over, in_flight, is_outstanding, outstanding, reference, said, sends, submission_at, told_in, trace_of}
-use Rattle.mscp_sim.specs.TwoEnds.{IsHeard, IsKeptBack, IsSound, IsSubmitted, Meets, Says, Stands}
+use Rattle.mscp_sim.specs.Talks.{Talk, account_at, is_asked, asks_about, ended, hands_over, in_flight, is_outstanding, outstanding, reference, said, sends, submission_at, figure_told, trace_of}
+use Rattle.mscp_sim.specs.Conversing.{IsSound, AnswersTurn, Says}
+use Rattle.mscp_sim.specs.TwoEnds.{IsHeard, IsKeptBack, IsSubmitted, Stands}
 use Rattle.mscp_sim.proofs.TwoEnds.Accounting.{NoEnd, account_quiet, account_submitted, none_handed}
 use Rattle.mscp_sim.proofs.TwoEnds.Polling.{flight_quiet, flight_submitted, one_quiet, one_submitted}
 use Rattle.mscp_sim.proofs.TwoEnds.Receiving.{OnePoll, outstanding_found}
@@ -36,7 +37,7 @@ pub record At {K : Type 0} (c : Settings) (picks : List Choice → ℕ → Type 
   pub match : Matches a h told
   pub reached : AnsweredCalls picks (fresh c picker) (calls_of (trace_of (take j talk))) h
   pub one : OnePoll talk j
-  pub flight : (p : ℕ) → in_flight talk j ≡ Some p → (told.figure ≡ told_in c talk p) × (told.waited ≡ true → 1 ≤ told.figure)
+  pub flight : (p : ℕ) → in_flight talk j ≡ Some p → (told.figure ≡ figure_told c talk p) × (told.waited ≡ true → 1 ≤ told.figure)
 
 -- what is heard in turn j
 pub record Tells (c : Settings) (talk : Talk) (j : ℕ) : Type 0 where
@@ -46,9 +47,9 @@ pub record Tells (c : Settings) (talk : Talk) (j : ℕ) : Type 0 where
   -- a command that is queued has another number than those that are outstanding
   pub new : (m : Moment) → (said talk j).moment ≡ Some m → queues m.1 ≡ true → (i : ℕ) → i < j → is_outstanding talk j i ≡ true → (sent_command m).reference ≢ reference talk i
   -- no poll is sent where one is in flight
-  pub idle : asks (said talk j).heard ≡ true → in_flight talk j ≡ None
+  pub idle : is_asked (said talk j).heard ≡ true → in_flight talk j ≡ None
   -- what is told of a command that stands is at least 1
-  pub some : (p i : ℕ) → ended talk j ≡ Some p → asks_about talk i p ≡ true → is_outstanding talk j i ≡ true → 1 ≤ told_in c talk p
+  pub some : (p i : ℕ) → ended talk j ≡ Some p → asks_about talk i p ≡ true → is_outstanding talk j i ≡ true → 1 ≤ figure_told c talk p
 
 pub record Turns {K : Type 0} (c : Settings) (picks : List Choice → ℕ → Type 0) (picker : K) (talk : Talk) (j : ℕ) (a' : Account) (h' : Holdings K) : Type 0 where
   pub tells : Tells c talk j
@@ -78,7 +79,7 @@ no_news c talk j n q = (λ e. absurd (false≢true (sym q ∙ ap is_news e)), λ
 pub not_lost : (talk : Talk) (j : ℕ) → is_news (said talk j).heard ≡ false → (said talk j).heard ≢ hears.News news.Lost
 not_lost talk j q e = false≢true (sym q ∙ ap is_news e)
 
-pub reached_next : {K : Type 0} (c : Settings) (picks : List Choice → ℕ → Type 0) (picker : K) (talk : Talk) (j : ℕ) (a : Account) (h h' : Holdings K) (told : Flight) → j < length talk → At c picks picker talk j a h told → Meets picks h (said talk j).moment h'
+pub reached_next : {K : Type 0} (c : Settings) (picks : List Choice → ℕ → Type 0) (picker : K) (talk : Talk) (j : ℕ) (a : Account) (h h' : Holdings K) (told : Flight) → j < length talk → At c picks picker talk j a h told → AnswersTurn picks h (said talk j).moment h'
     → AnsweredCalls picks (fresh c picker) (calls_of (trace_of (take (j + 1) talk))) h'
 reached_next {K} c picks picker talk j a h h' told l s r =
     subst (λ t. AnsweredCalls picks (fresh c picker) (calls_of t) h') (sym (trace_more talk j l)) (reached_more picks (fresh c picker) h h' (trace_of (take j talk)) (said talk j).moment s.reached r)
@@ -91,14 +92,14 @@ or_true true q e = refl
 or_true false q e = e
 
 -- what asks also sends
-pub asks_sends : (heard : Heard) → sends heard ≡ false → asks heard ≡ false
+pub asks_sends : (heard : Heard) → sends heard ≡ false → is_asked heard ≡ false
 asks_sends hears.Asked e = e
 asks_sends heard e = refl
 
-pub never_idle : (talk : Talk) (j : ℕ) → asks (said talk j).heard ≡ false → asks (said talk j).heard ≡ true → in_flight talk j ≡ None
+pub never_idle : (talk : Talk) (j : ℕ) → is_asked (said talk j).heard ≡ false → is_asked (said talk j).heard ≡ true → in_flight talk j ≡ None
 never_idle talk j q e = absurd (true≢false (sym e ∙ q))
 
-pub none_some : (c : Settings) (talk : Talk) (j : ℕ) → NoEnd talk j → (p i : ℕ) → ended talk j ≡ Some p → asks_about talk i p ≡ true → is_outstanding talk j i ≡ true → 1 ≤ told_in c talk p
+pub none_some : (c : Settings) (talk : Talk) (j : ℕ) → NoEnd talk j → (p i : ℕ) → ended talk j ≡ Some p → asks_about talk i p ≡ true → is_outstanding talk j i ≡ true → 1 ≤ figure_told c talk p
 none_some c talk j n p i e a o = absurd (false≢true (ap is_some (sym (none_handed talk j n) ∙ e)))
 
 -- nothing is queued in a turn with this moment
@@ -153,7 +154,7 @@ step_turn {K} c picks picker talk j a a' h h' told k l s r t =
     let one : IsHeard a (turns.Step k) (said talk j) a' = subst (λ u. IsHeard a u (said talk j) a') t r.0 in
     let report = one.0 in
     let n = no_end talk j (Some (events.Step k, entries.Stepped report)) one.2 (λ r. refl) in
-    let steps = subst (λ o. Meets picks h o h') one.2 r.1 in
+    let steps = subst (λ o. AnswersTurn picks h o h') one.2 r.1 in
     quiet c picks picker talk j a a' h h' told l s r (Some (events.Step k, entries.Stepped report)) one.2 refl n (ap sends one.1) (ap is_news one.1) one.3 (steps_match picks a h h' told k report steps s.match)
 
 -- ---- a command
@@ -162,7 +163,7 @@ pub kept_back : {K : Type 0} (c : Settings) (picks : List Choice → ℕ → Typ
     → IsKeptBack (said talk j) heard → sends heard ≡ false → is_news heard ≡ false → a' ≡ a → Turns c picks picker talk j a' h'
 kept_back {K} c picks picker talk j a a' h h' told heard l s r k q w e =
     let n = no_end talk j None k.1 (λ r. refl) in
-    let left : h' ≡ h = subst (λ o. Meets picks h o h') k.1 r.1 in
+    let left : h' ≡ h = subst (λ o. AnswersTurn picks h o h') k.1 r.1 in
     quiet c picks picker talk j a a' h h' told l s r None k.1 refl n (ap sends k.0 ∙ q) (ap is_news k.0 ∙ w) e (subst (λ (x : Holdings K). Matches a x told) (sym left) s.match)
 
 pub submit_turn : {K : Type 0} (c : Settings) (picks : List Choice → ℕ → Type 0) (picker : K) (talk : Talk) (j : ℕ) (a a' : Account) (h h' : Holdings K) (told : Flight) (command : Command) → j < length talk → At c picks picker talk j a h told → Says picks a h (said talk j) a' h'
@@ -173,9 +174,9 @@ submit_turn {K} c picks picker talk j a a' h h' told command l s r t (Ok b) e k 
     let small = subst (λ u. IsSound h u (said talk j).moment) t r.2 in
     let x = submits_match a h told command b a' small.0 small.1 s.match e in
     let n = no_end talk j (Some (events.Send b, entries.Sent (Ok k.0))) k.2 (λ r. refl) in
-    let answers = subst (λ o. Meets picks h o h') k.2 r.1 in
+    let answers = subst (λ o. AnswersTurn picks h o h') k.2 r.1 in
     let sent : sends (said talk j).heard ≡ true = ap sends k.1 in
-    let silent : asks (said talk j).heard ≡ false = ap asks k.1 in
+    let silent : is_asked (said talk j).heard ≡ false = ap is_asked k.1 in
     let fresh = subst (λ (y : Account). list_any (has_reference command.reference) y.outstanding ≡ false) s.account x.fresh in
     let sent_new : (m : Moment) → (said talk j).moment ≡ Some m → queues m.1 ≡ true → (i : ℕ) → i < j → is_outstanding talk j i ≡ true → (sent_command m).reference ≢ reference talk i = λ m f q i l o e.
     fresh_number c talk j command.reference i fresh l o ((sym x.named ∙ ap named_in (sym k.2 ∙ f)) ∙ e) in

@@ -1,6 +1,7 @@
 -- Literal talks, worked by hand: what stands there, and what a host keeps.
-use Rattle.std.proofs.Common.{◌≡◌, ℕ, true, false, List, [], ◌∷◌, ◌++◌, Bool, refl, arith}
-use Rattle.std.specs.Prelude.{Option, Some, None}
+use Rattle.std.proofs.Common.{◌≡◌, ◌≤◌, ℕ, true, false, List, [], ◌∷◌, ◌++◌, Bool, refl, ap, sym, subst, arith}
+use Rattle.std.specs.Prelude.{Option, Some, None, unwrap_or}
+use Rattle.std.proofs.lemmas.Bool.{eqb-true, false≢true}
 use Rattle.mscp_packet.specs.declared.command.Order.{Order}
 use Rattle.mscp_packet.specs.declared.command.Order.TheVariants as orders
 use Rattle.mscp_packet.specs.declared.end.End.{End}
@@ -18,8 +19,8 @@ use Rattle.mscp_control.proofs.Worked.Literals.{answered, moved, onlined, queued
 use Rattle.mscp_host.specs.declared.news.News.TheVariants as news
 use Rattle.mscp_sim.specs.declared.conversing.Turn.TheVariants as turns
 use Rattle.mscp_sim.specs.declared.conversing.Heard.TheVariants as hears
-use Rattle.mscp_sim.specs.Talks.{Said, Talk, account_at, in_flight, last_answer, outstanding, polled, told_in}
-use Rattle.mscp_sim.specs.TwoEnds.{Stands}
+use Rattle.mscp_sim.specs.Talks.{Said, Talk, account_at, asks_about, figure_told, is_outstanding, last_answer, outstanding, said}
+use Rattle.mscp_sim.specs.TwoEnds.{IsHeard, Stands}
 
 -- ---- short words
 
@@ -72,7 +73,7 @@ opening =
 abbrev standing : Talk
 standing = opening ++ asks 11 ∷ hands (answer 11 18) news.Reset ∷ []
 
-first_told : told_in (settings 4 2) standing 4 ≡ 18
+first_told : figure_told (settings 4 2) standing 4 ≡ 18
 unfolding moment command_of command is_waiting waiting done passes_at passes figure figure_of outstanding
 first_told = refl
 
@@ -84,7 +85,7 @@ it_stands = record { poll = 6; command = 3; last = 18; handed = refl; about = re
 kept : account_at (settings 4 2) standing 7 ≡ record {
   credits = 4;
   outstanding = record { reference = 1; unit = 0; opcode = 0x21; told = Some 18 } ∷ record { reference = 11; unit = 0; opcode = 0x02; told = None } ∷ [];
-  watch = Some (record { reference = 11; polled = 1; stands = true });
+  watch = Some (record { reference = 11; polled = 1; is_outstanding = true });
 }
 unfolding moment command_of command is_waiting waiting done passes_at passes figure figure_of outstanding
 kept = refl
@@ -103,12 +104,11 @@ moving =
     ∷ hands (answer 12 0) news.Late
     ∷ []
 
-second_told : told_in (settings 4 2) moving 7 ≡ 1
+second_told : figure_told (settings 4 2) moving 7 ≡ 1
 unfolding moment command_of command is_waiting waiting done passes_at passes figure figure_of outstanding
 second_told = refl
 
--- it stands nowhere: 1 is less than 18, and the third answer comes after the command's end
-third_told : told_in (settings 4 2) moving 10 ≡ 0
+third_told : figure_told (settings 4 2) moving 10 ≡ 0
 unfolding moment command_of command is_waiting waiting done passes_at passes figure figure_of outstanding
 third_told = refl
 
@@ -116,11 +116,64 @@ last_before : last_answer (settings 4 2) moving 8 3 ≡ Some 18
 unfolding moment command_of command is_waiting waiting done passes_at passes figure figure_of outstanding
 last_before = refl
 
+-- the second answer doesn't stand: 1 is less than 18
+falls : Stands (settings 4 2) moving 8 → ⊥
+unfolding moment command_of command is_waiting waiting done passes_at passes figure figure_of outstanding
+falls st =
+    let poll : st.poll ≡ 7 = sym (ap (λ o. unwrap_or o 0) st.handed) in
+    let command : st.command ≡ 3 = sym (eqb-true 3 st.command (subst (λ p. asks_about moving st.command p ≡ true) poll st.about)) in
+    let last : 18 ≡ st.last = ap (λ o. unwrap_or o 0) (subst (λ i. last_answer (settings 4 2) moving 8 i ≡ Some st.last) command st.told) in
+    let low : st.last ≤ 1 = subst (λ p. st.last ≤ figure_told (settings 4 2) moving p) poll st.not_less in
+    omega (arith, last, low)
+
+-- and the third neither, which comes after the command's end
+late : Stands (settings 4 2) moving 12 → ⊥
+unfolding moment command_of command is_waiting waiting done passes_at passes figure figure_of outstanding
+late st =
+    let poll : st.poll ≡ 10 = sym (ap (λ o. unwrap_or o 0) st.handed) in
+    let command : st.command ≡ 3 = sym (eqb-true 3 st.command (subst (λ p. asks_about moving st.command p ≡ true) poll st.about)) in
+    false≢true (subst (λ i. is_outstanding moving 12 i ≡ true) command st.outstanding)
+
 -- when the third answer comes the READ is outstanding no more
 kept_late : account_at (settings 4 2) moving 12 ≡ record {
   credits = 4;
   outstanding = record { reference = 12; unit = 0; opcode = 0x02; told = None } ∷ [];
-  watch = Some (record { reference = 12; polled = 1; stands = false });
+  watch = Some (record { reference = 12; polled = 1; is_outstanding = false });
 }
 unfolding moment command_of command is_waiting waiting done passes_at passes figure figure_of outstanding
 kept_late = refl
+
+-- what is heard there is what the rules of a host say
+heard_late : IsHeard (account_at (settings 4 2) moving 12) turns.Take (said moving 12) (account_at (settings 4 2) moving 13)
+unfolding moment command_of command is_waiting waiting done passes_at passes figure figure_of outstanding
+heard_late = (Some (record { items = end_bytes (answer 12 0) }), refl, (news.Late, refl, refl))
+
+-- ---- a number that is used again
+
+-- READ 1 ends while its poll is under way, and another READ 1 waits before the answer comes
+abbrev again : Talk
+again =
+    opening
+    ++ steps 1 (Some 40) true 2 None
+    ∷ steps 1 (Some 41) false 0 (moved 1 0 0 1024)
+    ∷ asks 11
+    ∷ hands read_end (news.Ended read_end)
+    ∷ submits 1 (read 1024 40)
+    ∷ hands (answer 11 0) news.Late
+    ∷ asks 12
+    ∷ hands (answer 12 18) (news.First 18)
+    ∷ []
+
+-- of the second nothing was told yet
+untold : last_answer (settings 4 2) again 13 10 ≡ None
+unfolding moment command_of command is_waiting waiting done passes_at passes figure figure_of outstanding
+untold = refl
+
+-- though the figure is the one that was last told of the first
+kept_again : account_at (settings 4 2) again 13 ≡ record {
+  credits = 4;
+  outstanding = record { reference = 1; unit = 0; opcode = 0x21; told = None } ∷ record { reference = 12; unit = 0; opcode = 0x02; told = None } ∷ [];
+  watch = Some (record { reference = 12; polled = 1; is_outstanding = true });
+}
+unfolding moment command_of command is_waiting waiting done passes_at passes figure figure_of outstanding
+kept_again = refl

@@ -4,12 +4,17 @@ use mscp_drive::{Unit, Units};
 use mscp_packet::{End, EndBody, MoveKind, Order};
 use std::process::Abort;
 
-/// A controller of 4 credits, passing limit 2, and transfers of at most 8 blocks, with unit 0.
-fn config(rt: &impl Abort) -> Config {
-    let unit = Unit::new(0, 10, 2, 1, 1000, 1, 0, 1)
+/// A unit of 1000 blocks, 20 in a cylinder.
+fn unit(rt: &impl Abort, number: u16) -> Unit {
+    Unit::new(number, 10, 2, 1, 1000, 1, 0, 1)
         .ok()
-        .expect(rt, "sizes");
-    let units = Units::new(&[unit]).ok().expect(rt, "a unit");
+        .expect(rt, "sizes")
+}
+
+/// A controller of 4 credits, passing limit 2, and transfers of at most 8 blocks, with units 0 and 300.
+fn config(rt: &impl Abort) -> Config {
+    let units = [unit(rt, 0), unit(rt, 300)];
+    let units = Units::new(&units).ok().expect(rt, "two units");
     Config::new(4, 2, 8, 60, 1, units).ok().expect(rt, "limits")
 }
 
@@ -219,5 +224,74 @@ fn says_what_never_reaches_the_controller(rt: HostRuntime) {
     ];
     let talk = talk(&rt, rt.alloc(), &turns);
     assert_eq!(rt; talk.heard.as_slice(), wanted.as_slice());
-    assert_eq!(rt; talk.trace.len(), 5);
+    let trace = [
+        (Event::Take, Entry::Taken(None)),
+        queued(1),
+        (event_of(&ASKED), Entry::Sent(Ok(Sent::Answered { reference: 10, aborted: None }))),
+        queued(2),
+        (Event::Take, Entry::Taken(Some(bytes_of(&ANSWER)))),
+    ];
+    assert_eq!(rt; talk.trace.as_slice(), trace.as_slice());
+}
+
+/// GET COMMAND STATUS 10 about command 1.
+const ASKED: [u8; 16] = [10, 0, 0, 0, 0, 0, 0, 0, 2, 0, 0, 0, 1, 0, 0, 0];
+
+/// The end of it, with figure 18.
+const ANSWER: [u8; 20] = [
+    10, 0, 0, 0, 0, 0, 0, 0, 0x82, 0, 0, 0, 1, 0, 0, 0, 18, 0, 0, 0,
+];
+
+fn bytes_of(bytes: &[u8]) -> ArrayVec<u8, 48> {
+    let mut all = ArrayVec::new();
+    let _ = all.try_extend_from_slice(bytes);
+    all
+}
+
+/// The moment of READ of 1024 bytes at block 40, of this reference number, which is below 256.
+fn queued(reference: u8) -> (Event, Entry) {
+    let mut message = [0; 32];
+    message[0] = reference;
+    message[8] = 0x21;
+    message[13] = 4;
+    message[28] = 40;
+    let sent = Sent::Queued(u32::from(reference));
+    (event_of(&message), Entry::Sent(Ok(sent)))
+}
+
+#[test]
+fn a_poll_names_the_unit_of_its_command(rt: HostRuntime) {
+    let online = Turn::Submit(Command {
+        reference: 9,
+        unit: 300,
+        order: Order::Online,
+    });
+    let talk = talk(&rt, rt.alloc(), &[online, Turn::Poll(10), Turn::Take]);
+    let first = Heard::News(News::First(17));
+    assert!(rt; talk.heard.as_slice().get(2) == Some(&first));
+    let asked = [10, 0, 0, 0, 44, 1, 0, 0, 2, 0, 0, 0, 9, 0, 0, 0];
+    let answered = (event_of(&asked), Entry::Sent(Ok(Sent::Answered { reference: 10, aborted: None })));
+    assert!(rt; talk.trace.as_slice().get(1) == Some(&answered));
+}
+
+#[test]
+fn a_long_talk_is_heard_to_its_end(rt: HostRuntime) {
+    let cycle = [read(1), STEP, STEP, Turn::Take];
+    let mut turns = Vec::new(rt.alloc());
+    for turn in [online(), STEP, Turn::Take] {
+        turns.push(turn).ok().expect(&rt, "memory");
+    }
+    for _round in 0..25_000 {
+        turns.extend_from_slice(&cycle).ok().expect(&rt, "memory");
+    }
+    let talk = talk(&rt, rt.alloc(), &turns);
+    assert_eq!(rt; talk.heard.len(), 100_003);
+    assert_eq!(rt; talk.trace.len(), 100_003);
+    let wanted = [
+        QUEUED,
+        served(40, true, 0, None),
+        served(41, false, 0, Some(read_end())),
+        Heard::News(News::Ended(read_end())),
+    ];
+    assert_eq!(rt; &talk.heard.as_slice()[99_999..], wanted.as_slice());
 }

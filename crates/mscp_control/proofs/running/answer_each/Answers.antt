@@ -7,7 +7,7 @@ loop-event-preserved g c =
     let inv = c.loop-event.invariant in
     record {
       goes =
-          goes_more g.K.Picker.picks c.args.controller.now c.loop-event.controller c.answer.new.self c.args.events.now c.loop-event.event-index c.loop-event.entries.items c.put.new.entries.items
+          goes_more g.K.Picker.picks c.args.controller.now c.loop-event.controller c.answer.new.self c.args.events.now c.loop-event.event-index c.loop-event.entries.items c.put.new.items.items
           c.event-item.result c.answer.result (omega arith) c.event-item.is inv.goes c.answer.ensures c.put.ensures.items;
       len = c.put.ensures.len ∙ ap (λ n. n + 1) inv.len;
       room = omega (arith, inv.room, c.put.ensures.capacity);
