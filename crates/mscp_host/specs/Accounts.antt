@@ -49,8 +49,8 @@ submission_of c = record { reference = c.reference; unit = c.unit; opcode = opco
 abbrev pub balance : Account → ℕ
 balance a = a.credits - length a.outstanding
 
--- why a command of this opcode byte and reference number may not be sent, if it may not: the first that holds (manual, the
--- order is the profile's)
+-- why a command of this opcode byte and reference number may not be sent, if it may not: the first that holds (manual; the
+-- order, and that the last credit isn't for an unknown opcode, are the profile's)
 abbrev pub refusal : Account → ℕ → ℕ → Option HostFault
 refusal a opcode reference =
     if nat_eq (balance a) 0 then Some faults.NoCredit else (
@@ -138,7 +138,8 @@ abbrev pub is_about_polled : Option Watch → Option (ℕ × ℕ) → Bool
 is_about_polled watch None = true
 is_about_polled watch (Some told) = is_about watch told.0
 
--- the end may be that of this submission (manual, the second is the profile's)
+-- the end may be that of this submission: by its endcode (manual), and where it answers a poll, by what it is about
+-- (profile)
 abbrev pub may_end : Account → End → Submission → Bool
 may_end a e s = is_code_of e.code s.opcode && is_about_polled a.watch (answered a.watch e)
 

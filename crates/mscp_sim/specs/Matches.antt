@@ -12,7 +12,7 @@ use Rattle.mscp_queue.specs.Records.{Record}
 use Rattle.mscp_control.specs.Holdings.{Holdings, outstanding_of}
 use Rattle.mscp_host.specs.declared.submission.Submission.{Submission}
 use Rattle.mscp_host.specs.declared.watch.Watch.{Watch}
-use Rattle.mscp_host.specs.Accounts.{Account, has_reference, is_code_of}
+use Rattle.mscp_host.specs.Accounts.{Account, has_reference, is_code_of, status_end}
 
 -- how often a reference number stands among these
 abbrev pub times : ℕ → List ℕ → ℕ
@@ -31,7 +31,7 @@ opcode_found submissions reference = option_map (λ s. s.opcode) (find (has_refe
 abbrev pub IsSmall : Submission → Type 0
 IsSmall s = (s.reference < 2 ^ 32) × (s.unit < 2 ^ 16)
 
--- the endcode of an order is one, and that of its opcode byte, or that of an unknown opcode
+-- the endcode of an order is that of its opcode byte, or that of an unknown opcode, and ends have a shape for it
 abbrev pub IsCoded : Order → Type 0
 IsCoded order =
     (is_code_of (endcode order) (opcode_byte order) ≡ true) × (is_some (kind_of_code (endcode order)) ≡ true)
@@ -63,7 +63,7 @@ pub record IsFlight (untaken : List End) (w : Watch) (flight : Flight) : Type 0 
   pub back : List End
   pub split : untaken ≡ front ++ end ∷ back
   pub reference : end.reference ≡ w.reference
-  pub code : end.code ≡ 0x82
+  pub code : end.code ≡ status_end
   pub body : end.body ≡ bodies.Status w.polled flight.figure
   pub ended : w.is_outstanding ≡ true → flight.waited ≡ false → list_any (λ e. nat_eq e.reference w.polled) front ≡ true
 

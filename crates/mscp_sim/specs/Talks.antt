@@ -23,7 +23,7 @@ pub record Said : Type 0 where
   pub heard : Heard
   pub moment : Option Moment
 
--- the turns of a talk, oldest first (profile)
+-- the turns of a talk, oldest first (profile). The code's `Talk` has what was heard and the moments as two lists
 abbrev pub Talk : Type 0
 Talk = List Said
 
@@ -107,12 +107,12 @@ ended talk k = find (λ i. hands_over (reference talk i) (said talk k).moment) (
 abbrev pub polled : Talk → ℕ → Option ℕ
 polled talk j = find (λ i. not (is_immediate (opcode talk i))) (outstanding talk j)
 
--- its reference number, if there is one
+-- its reference number, 0 if there is none
 abbrev pub reference_found : Talk → Option ℕ → ℕ
 reference_found talk None = 0
 reference_found talk (Some i) = reference talk i
 
--- its unit
+-- its unit, 0 if there is none
 abbrev pub unit_found : Talk → Option ℕ → ℕ
 unit_found talk None = 0
 unit_found talk (Some i) = unit_in (said talk i).turn

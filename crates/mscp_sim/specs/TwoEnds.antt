@@ -38,7 +38,7 @@ abbrev pub IsSubmitted : Said → Result (ArrayVec ℕ) HostFault → Type 0
 IsSubmitted s (Err fault) = IsKeptBack s (hears.Refused fault)
 IsSubmitted s (Ok message) = (sent : Sent) × (s.heard ≡ hears.Submitted sent) × IsSent s message sent
 
--- and to a poll (manual, "Host Command Timeouts")
+-- and to a poll (manual, "Host Command Timeouts"; one at a time is the profile's)
 abbrev pub IsPolled : Said → Result Poll HostFault → Type 0
 IsPolled s (Err fault) = IsKeptBack s (hears.Refused fault)
 IsPolled s (Ok polls.Nothing) = IsKeptBack s hears.Nothing
