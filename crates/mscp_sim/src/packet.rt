@@ -11,18 +11,15 @@ ghost use Rattle.mscp_sim.specs.declared.packet.ShowFault.TheVariants as faults;
 mod tests;
 mod text;
 
+use crate::decoding::{MOST_BYTES, decode};
 use crate::packet::text::put_packet;
 use arrayvec::ArrayVec;
-use hex::decode_to_slice;
 use mscp_packet::{Command, End, EndFault, PacketFault, read_command, read_end};
 use std::alloc::{AllocError, Global};
 use thiserror::Error;
 
 /// The fewest bytes of a message.
 const LEAST_BYTES: usize = 12;
-
-/// The most bytes of a message.
-const MOST_BYTES: usize = 64;
 
 /// The bit of byte 8 that tells an end from a command.
 const END_BIT: u8 = 0x80;
@@ -115,17 +112,13 @@ fn message_of(word: &[u8]) -> Result<ArrayVec<u8, 64>, ShowFault>
             ShowFault::Hex
         });
     }
-    let mut room = [0u8; MOST_BYTES];
-    let bytes = &mut room[..count];
-    if decode_to_slice(word, bytes).is_err() {
+    let Ok(message) = decode(word) else {
         return Err(ShowFault::Hex);
-    }
+    };
     if count < LEAST_BYTES {
         return Err(ShowFault::Short);
     }
-    let mut all = ArrayVec::new();
-    all.try_extend_from_slice(bytes).unwrap();
-    Ok(all)
+    Ok(message)
 }
 
 /// The command or the end that a message is.
