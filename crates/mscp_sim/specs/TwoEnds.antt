@@ -115,6 +115,6 @@ pub record AreTwoEnds (picks : List Choice → ℕ → Type 0) (c : Settings) (t
   pub no_lost : (j : ℕ) → j < length talk → (said talk j).heard ≢ hears.News news.Lost
   -- Reset isn't said of the answer to a poll where a step lies between it and each one before about its command (profile)
   pub falls : (j i q : ℕ) → j < length talk → ended talk j ≡ Some q → asks_about talk i q ≡ true
-    → StepsSincePolls talk i q → (said talk j).heard ≢ hears.News news.Reset
+      → StepsSincePolls talk i q → (said talk j).heard ≢ hears.News news.Reset
   -- and so it is never said where a step lies between any two polls about one command (profile)
   pub no_reset : StepsBetweenPolls talk → (j : ℕ) → j < length talk → (said talk j).heard ≢ hears.News news.Reset

@@ -11,7 +11,7 @@ use Rattle.mscp_control.specs.Settings.{Settings}
 use Rattle.mscp_host.specs.declared.submission.Submission.{Submission}
 use Rattle.mscp_host.specs.Accounts.{answered, outstanding_with, told_in, with_told}
 use Rattle.mscp_sim.specs.Matches.{references, times}
-use Rattle.mscp_sim.specs.Talks.{Talk, account_at, answers_of, is_asked, before, ended, figure_told, hands_over, in_flight, is_it, is_outstanding, last_answer, opcode, outstanding, polled, reference, reference_found, said, sends, polled_is_outstanding, submission_at, unit_of_turn, watch_at}
+use Rattle.mscp_sim.specs.Talks.{Talk, account_at, answers_of, is_asked, before, ended, figure_told, hands_over, in_flight, is_it, is_outstanding, opcode, outstanding, polled, reference, reference_found, said, sends, polled_is_outstanding, submission_at, unit_of_turn, watch_at}
 use Rattle.mscp_sim.proofs.TwoEnds.Counting.{found_is}
 use Rattle.mscp_sim.proofs.TwoEnds.Outstanding.{ends_now, found_below, last_new, last_same, outstanding_are, outstanding_more}
 use Rattle.mscp_sim.proofs.TwoEnds.Singled.{any_before, found_in, only_one}

@@ -5,21 +5,17 @@ use Rattle.std.specs.List.{AllByRecursion, list_any}
 use Rattle.std.proofs.lemmas.List.Folds.{list_any-append}
 use Rattle.std.proofs.lemmas.Bool.{eq-eqb, false≢true, true≢false}
 use Rattle.std.proofs.lemmas.Bool.Decides.{nat_tests}
-use Rattle.mscp_packet.specs.declared.class.Class.{Class}
-use Rattle.mscp_packet.specs.declared.class.Class.TheVariants as classes
 use Rattle.mscp_packet.specs.declared.command.Command.{Command}
 use Rattle.mscp_packet.specs.declared.command.Order.TheVariants as orders
 use Rattle.mscp_packet.specs.declared.end.End.{End}
 use Rattle.mscp_packet.specs.Commands.{HasCommandRange, IsCommand, IsValidOrder, command_bytes, command_of, opcode_byte}
 use Rattle.mscp_packet.specs.Number.{num}
-use Rattle.mscp_packet.specs.Opcodes.{class}
 use Rattle.mscp_packet.proofs.Commands.{command_bytes_are_messages, command_read}
 use Rattle.mscp_packet.proofs.Kept.{opcode_kept}
 use Rattle.mscp_packet.proofs.Numbers.{four}
 use Rattle.mscp_queue.specs.Kept.{names}
 use Rattle.mscp_queue.specs.Names.{end_name}
 use Rattle.mscp_queue.specs.Figures.{figure_of_reference}
-use Rattle.mscp_control.specs.Arrival as arrival
 use Rattle.mscp_control.specs.Arrival.{credit_fault, fault_of, holds, is_queued, refusal}
 use Rattle.mscp_control.specs.Holdings.{Holdings, aborting, after_message, answer_to_message, answered_end, arrives, balance_of, ended, outstanding_of, queued, taken_as}
 use Rattle.mscp_host.specs.declared.news.HostFault.TheVariants as faults

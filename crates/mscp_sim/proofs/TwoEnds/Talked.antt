@@ -136,7 +136,7 @@ two_ends {K} c picks picker ts old new a a' h h' v runs law oh ot ea eh g =
       no_lost = λ j l. (known j l).tells.no_lost;
       falls = λ j i q l h a b e. never_stands c talk known j l i q h a b ((known j l).tells.resets.0 e);
       no_reset = λ b j l e.
-        let st = (known j l).tells.resets.0 e in
-        let below = found_below talk j st.poll _ st.handed in
-        never_reset c talk known j l st (b st.command st.poll (omega (arith, below, l)) st.about);
+          let st = (known j l).tells.resets.0 e in
+          let below = found_below talk j st.poll _ st.handed in
+          never_reset c talk known j l st (b st.command st.poll (omega (arith, below, l)) st.about);
     }

@@ -1,5 +1,5 @@
 -- Literal talks, worked by hand: what stands there, and what a host keeps.
-use Rattle.std.proofs.Common.{◌≡◌, ◌≤◌, ℕ, true, false, List, [], ◌∷◌, ◌++◌, Bool, refl, ap, sym, subst, arith}
+use Rattle.std.proofs.Common.{◌≡◌, ◌≤◌, ℕ, true, false, [], ◌∷◌, ◌++◌, Bool, refl, ap, sym, subst, arith}
 use Rattle.std.specs.Prelude.{Option, Some, None, unwrap_or}
 use Rattle.std.proofs.lemmas.Bool.{eqb-true, false≢true}
 use Rattle.mscp_packet.specs.declared.command.Order.{Order}
@@ -11,7 +11,7 @@ use Rattle.mscp_packet.specs.Ends.{end_bytes}
 use Rattle.mscp_queue.specs.declared.block.Block.TheVariants.{Good}
 use Rattle.mscp_queue.specs.declared.report.Report.TheVariants as reports
 use Rattle.mscp_control.specs.declared.event.Sent.TheVariants as sents
-use Rattle.mscp_control.specs.History.{Moment, moment}
+use Rattle.mscp_control.specs.History.{moment}
 use Rattle.mscp_control.specs.Commands.{command, is_waiting, waiting, done}
 use Rattle.mscp_control.specs.Passing.{passes_at, passes}
 use Rattle.mscp_control.specs.Figures.{figure, figure_of}

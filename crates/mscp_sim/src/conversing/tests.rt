@@ -227,7 +227,13 @@ fn says_what_never_reaches_the_controller(rt: HostRuntime) {
     let trace = [
         (Event::Take, Entry::Taken(None)),
         queued(1),
-        (event_of(&ASKED), Entry::Sent(Ok(Sent::Answered { reference: 10, aborted: None }))),
+        (
+            event_of(&ASKED),
+            Entry::Sent(Ok(Sent::Answered {
+                reference: 10,
+                aborted: None,
+            })),
+        ),
         queued(2),
         (Event::Take, Entry::Taken(Some(bytes_of(&ANSWER)))),
     ];
@@ -270,7 +276,13 @@ fn a_poll_names_the_unit_of_its_command(rt: HostRuntime) {
     let first = Heard::News(News::First(17));
     assert!(rt; talk.heard.as_slice().get(2) == Some(&first));
     let asked = [10, 0, 0, 0, 44, 1, 0, 0, 2, 0, 0, 0, 9, 0, 0, 0];
-    let answered = (event_of(&asked), Entry::Sent(Ok(Sent::Answered { reference: 10, aborted: None })));
+    let answered = (
+        event_of(&asked),
+        Entry::Sent(Ok(Sent::Answered {
+            reference: 10,
+            aborted: None,
+        })),
+    );
     assert!(rt; talk.trace.as_slice().get(1) == Some(&answered));
 }
 
