@@ -120,6 +120,19 @@ fn polls_one_at_a_time_and_the_oldest(rt: HostRuntime) {
 }
 
 #[test]
+fn a_poll_names_the_unit_of_its_command(rt: HostRuntime) {
+    let mut host = new_host(&rt, 4);
+    let online = Command {
+        reference: 7,
+        unit: 300,
+        order: Order::Online,
+    };
+    assert!(rt; host.submit(&online).is_ok());
+    let asked = [10, 0, 0, 0, 44, 1, 0, 0, 2, 0, 0, 0, 7, 0, 0, 0];
+    assert!(rt; asks(host.poll(10), &asked));
+}
+
+#[test]
 fn a_number_used_again_is_another_command(rt: HostRuntime) {
     let mut host = new_host(&rt, 4);
     assert!(rt; host.submit(&read(1)).is_ok());
