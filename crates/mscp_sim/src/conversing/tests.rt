@@ -98,40 +98,45 @@ fn online_told() -> [Heard; 3] {
     ]
 }
 
+/// Unit 0 comes online. What is heard then in these turns, and in no others.
+fn hears(rt: &impl Abort, alloc: Global, turns: &[Turn], wanted: &[Heard]) {
+    let mut all = Vec::new(alloc);
+    for turn in [online(), STEP, Turn::Take] {
+        all.push(turn).ok().expect(rt, "memory");
+    }
+    all.extend_from_slice(turns).ok().expect(rt, "memory");
+    let mut told = Vec::new(alloc);
+    for heard in online_told() {
+        told.push(heard).ok().expect(rt, "memory");
+    }
+    told.extend_from_slice(wanted).ok().expect(rt, "memory");
+    let talk = talk(rt, alloc, &all);
+    assert_eq!(rt; talk.heard.as_slice(), told.as_slice());
+    assert_eq!(rt; talk.trace.len(), all.len());
+}
+
 #[test]
 fn an_answer_that_stands_is_reset(rt: HostRuntime) {
     let turns = [
-        online(),
-        STEP,
-        Turn::Take,
         read(1),
         Turn::Poll(10),
         Turn::Take,
         Turn::Poll(11),
         Turn::Take,
     ];
-    let [submitted, stepped, ended] = online_told();
     let wanted = [
-        submitted,
-        stepped,
-        ended,
         QUEUED,
         Heard::Asked,
         Heard::News(News::First(18)),
         Heard::Asked,
         Heard::News(News::Reset),
     ];
-    let talk = talk(&rt, rt.alloc(), &turns);
-    assert_eq!(rt; talk.trace.len(), 8);
-    assert_eq!(rt; talk.heard.as_slice(), wanted.as_slice());
+    hears(&rt, rt.alloc(), &turns, &wanted);
 }
 
 #[test]
 fn converse_finds_memory(rt: HostRuntime) {
     let turns = [
-        online(),
-        STEP,
-        Turn::Take,
         read(1),
         Turn::Poll(10),
         Turn::Take,
@@ -143,11 +148,7 @@ fn converse_finds_memory(rt: HostRuntime) {
         Turn::Take,
         Turn::Take,
     ];
-    let [submitted, stepped, ended] = online_told();
     let wanted = [
-        submitted,
-        stepped,
-        ended,
         QUEUED,
         Heard::Asked,
         Heard::News(News::First(18)),
@@ -159,16 +160,12 @@ fn converse_finds_memory(rt: HostRuntime) {
         Heard::News(News::Ended(read_end())),
         Heard::News(News::Late),
     ];
-    let talk = talk(&rt, rt.alloc(), &turns);
-    assert_eq!(rt; talk.heard.as_slice(), wanted.as_slice());
+    hears(&rt, rt.alloc(), &turns, &wanted);
 }
 
 #[test]
 fn a_number_used_again_is_another_command(rt: HostRuntime) {
     let turns = [
-        online(),
-        STEP,
-        Turn::Take,
         read(1),
         STEP,
         STEP,
@@ -179,11 +176,7 @@ fn a_number_used_again_is_another_command(rt: HostRuntime) {
         Turn::Poll(11),
         Turn::Take,
     ];
-    let [submitted, stepped, ended] = online_told();
     let wanted = [
-        submitted,
-        stepped,
-        ended,
         QUEUED,
         served(40, true, 2, None),
         served(41, false, 0, Some(read_end())),
@@ -194,8 +187,7 @@ fn a_number_used_again_is_another_command(rt: HostRuntime) {
         Heard::Asked,
         Heard::News(News::First(18)),
     ];
-    let talk = talk(&rt, rt.alloc(), &turns);
-    assert_eq!(rt; talk.heard.as_slice(), wanted.as_slice());
+    hears(&rt, rt.alloc(), &turns, &wanted);
 }
 
 #[test]
