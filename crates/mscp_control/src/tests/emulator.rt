@@ -112,9 +112,8 @@ impl<K: Picker> Machine<K> {
 
     /// The drive does its work on the file, and tells how it went.
     fn work(&mut self, job: &mut Job) -> Block {
-        let (Order::Move(kind, bytes, _), Some(lbn)) =
-            (job.upcoming.command.order, job.upcoming.lbn)
-        else {
+        let upcoming = job.upcoming;
+        let (Order::Move(kind, bytes, _), Some(lbn)) = (upcoming.command.order, upcoming.lbn) else {
             return Block::Good;
         };
         // A transfer of no bytes names a block, and moves nothing.
