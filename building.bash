@@ -13,6 +13,7 @@
 
 room=$top/out/building.$$ # what is written before it can be trusted, also by rt: removed at every end
 wanted=''                 # the stamp of what is to be used
+unfinished=''             # a file beside the one that it is to become, while it is written: removed at every end, too
 rt=''                     # the process of rt, while it runs
 said=()                   # what rt said that a failure shows
 doing='' checked=''       # what rt is at, and how many functions of that crate are checked
@@ -184,6 +185,7 @@ stop() {
         wait "$rt" 2>/dev/null
         rt=''
     fi
+    [ -z "$unfinished" ] || rm -f -- "$unfinished"
     for _ in {1..9}; do
         ! rm -rf -- "$room" 2>/dev/null || break
         sleep 0.2

@@ -169,7 +169,12 @@ static void hear_all(struct driver *driver)
         hear(driver, &end);
 }
 
-/* ---- a machine with both, whose drive hangs for a while */
+/* ---- a machine with both, of which something stands still for a while */
+
+enum trouble {
+    DRIVE_HANGS,     /* the controller still answers polls, and serves nothing */
+    CONTROLLER_STOPS /* nothing comes or goes through the port */
+};
 
 static bool all_ended(const struct driver *driver)
 {
@@ -179,19 +184,18 @@ static bool all_ended(const struct driver *driver)
     return true;
 }
 
-/* Two turns of the controller pass between two ticks. From `from` on the drive hangs for so many ticks: then the controller
- * still answers polls, and serves nothing. */
-static void run(struct driver *driver, unsigned from, unsigned hangs)
+/* Two turns of the controller pass between two ticks. From `from` on there is trouble for so many ticks. */
+static void run(struct driver *driver, enum trouble trouble, unsigned from, unsigned ticks)
 {
     for (unsigned time = 0; time < TICKS && !all_ended(driver); time++) {
         send_all(driver);
         tick(driver);
         for (unsigned turn = 0; turn < 2; turn++) {
-            if (time >= from && time < from + hangs) {
+            if (time < from || time >= from + ticks) {
+                emulator_turn(driver->port);
+            } else if (trouble == DRIVE_HANGS) {
                 emulator_receive(driver->port);
                 emulator_deliver(driver->port);
-            } else {
-                emulator_turn(driver->port);
             }
             hear_all(driver);
         }
@@ -212,6 +216,21 @@ static bool is_read(const struct driver *driver)
     return true;
 }
 
+/* Reads all with this trouble. Whether it is read, and the port was reset. */
+static bool read_all(struct driver *driver, enum trouble trouble, unsigned from, unsigned ticks)
+{
+    memset(driver->port->memory, 0, MEMORY);
+    for (uint32_t i = 0; i < REQUESTS; i++) {
+        driver->requests[i].state = READY;
+        driver->requests[i].lbn = i * 17 % 58;
+    }
+    driver->resets = 0;
+    emulator_reset(driver->port);
+    begin_anew(driver);
+    run(driver, trouble, from, ticks);
+    return all_ended(driver) && is_read(driver) && driver->resets > 0;
+}
+
 int main(int words, char **word)
 {
     static uint8_t memory[MEMORY];
@@ -226,11 +245,10 @@ int main(int words, char **word)
         return 1;
     driver.memory_bytes = MSCP_HEAD + mscp_host_size();
     driver.memory = malloc(driver.memory_bytes);
-    for (uint32_t i = 0; i < REQUESTS; i++)
-        driver.requests[i].lbn = i * 17 % 58;
-    begin_anew(&driver);
-    run(&driver, 9, 3);
-    good = is_read(&driver) && driver.resets == 1;
+    printf("the drive hangs\n");
+    good = read_all(&driver, DRIVE_HANGS, 9, 3);
+    printf("%s\nthe controller stops\n", good ? "all is read" : "FAILED");
+    good = read_all(&driver, CONTROLLER_STOPS, 9, 8) && good;
     printf("%s\n", good ? "all is read" : "FAILED");
     free(driver.memory);
     emulator_close(&port);

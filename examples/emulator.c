@@ -4,8 +4,8 @@
  *     ./emulator IMAGE      (this writes blocks of the image)
  *
  * The first part is the emulator, which examples/driver.c uses too. The second, main and what it calls, is a host that
- * tries it: it writes blocks in an order that the sweep chooses, reads them back, polls after each step, aborts a command
- * that the drive has in work, and lets the ring of ends fill up. */
+ * tries it: it writes blocks in an order that the sweep chooses, reads them back, polls after each step, and aborts a
+ * command that the drive has in work. */
 #include "emulator.h"
 #include <stdlib.h>
 #include <string.h>
@@ -358,26 +358,6 @@ static void abort_in_between(void)
     printf("aborted: its block came too late\n");
 }
 
-/* Nobody takes ends: the ring of ends fills up, then the credits are gone, then the ring of commands is full. Once the host
- * takes ends all goes on, and nothing is lost. */
-static void full_rings(void)
-{
-    unsigned posted = 0, ended = 0;
-    struct mscp_packet end;
-    while (post(40 + posted, MSCP_GET_UNIT_STATUS, 0, 0, 0)) {
-        posted++;
-        emulator_turn(&disk);
-    }
-    printf("rings: %u commands, %u ends in the ring, balance %d\n", posted, disk.ends_count,
-           (int)mscp_balance(disk.mscp));
-    while (emulator_next(&disk, &end)) {
-        check(get_number(end.bytes, 4) == 40 + ended, "ends come in order");
-        ended++;
-        emulator_turn(&disk);
-    }
-    check(ended == posted && disk.port_errors == 0, "none is lost");
-}
-
 /* What goes wrong has an end that says so. */
 static void bad_transfers(void)
 {
@@ -407,7 +387,6 @@ int main(int words, char **word)
     write_and_read_back();
     poll_after_each_step();
     abort_in_between();
-    full_rings();
     bad_transfers();
     emulator_close(&disk);
     return failed;

@@ -1,10 +1,10 @@
 /* mscp.h: the command queue of an MSCP disk controller, and a host's end of it, proved. C99 and C++.
  *
- * A controller lies in memory of yours. No call takes memory, waits, or keeps a pointer. What each answers is proved: see
- * docs/PROVED.md, which also says what the proof asks of you:
+ * A controller lies in memory of yours. No call takes memory, waits, or keeps a pointer. What each answers is proved:
+ * docs/PROVED.md, in the sources of the library, says how, and what the proof asks of you:
  *
- * - No pointer that you pass is NULL, also to no elements, and each points to as much as its type or the length beside it
- *   says. Those of one call don't overlap.
+ * - No pointer that you pass is NULL, not even with a length of 0, and each points to as much as its type or the length
+ *   beside it says. Those of one call don't overlap.
  * - A handle is made by mscp_in_memory or mscp_over (of a host by mscp_host_in_memory or mscp_host_over), over memory that
  *   is really there and really yours. After that only the calls write the handle and its memory. Two handles are never
  *   over one memory, and no copy of a handle is used beside it.
@@ -13,7 +13,8 @@
  * A fault changes nothing: not the handle, not its memory, nor what an out-pointer points to. Nor do MSCP_NOTHING and
  * MSCP_BUSY write what an out-pointer points to.
  *
- * Numbers are the machine's own. Messages and ends are bytes, as docs/FORMATS.md has them. */
+ * Numbers are the machine's own. Messages and ends are bytes, as the manual (DEC AA-L619A-TK) has them, and docs/FORMATS.md
+ * in the sources. */
 #ifndef MSCP_H
 #define MSCP_H
 #include <stddef.h>
@@ -48,8 +49,8 @@ enum mscp_status {
     MSCP_NO_CREDIT = -3,    /* no credit is free */
     MSCP_LAST_CREDIT = -4,  /* one is free, which is kept for commands that are answered at once, as a poll */
     MSCP_DOUBLED = -5,      /* the reference number is outstanding */
-    MSCP_STALE = -6,        /* mscp_finish: no command of that number is begun */
-    MSCP_BAD_STATUS = -7,   /* neither 0 nor a status whose low five bits are 5 to 31 */
+    MSCP_STALE = -6,        /* mscp_finish: the command of that number isn't begun, or not any more */
+    MSCP_BAD_STATUS = -7,   /* mscp_finish, mscp_step: the block's is neither 0 nor one whose low five bits are 5 to 31 */
     MSCP_UNREADABLE = -8,   /* mscp_host_receive: the bytes are no end */
     MSCP_UNKNOWN = -9,      /* mscp_host_receive: the end of no outstanding command */
 
@@ -171,7 +172,7 @@ struct mscp_report {
 };
 
 /* A waiting command. */
-struct mscp_figure {
+struct mscp_waiting {
     uint32_t reference;
     uint32_t figure; /* how many steps it may still wait, at most */
 };
@@ -194,6 +195,11 @@ size_t mscp_align(void);
 size_t mscp_host_size(void);
 size_t mscp_host_align(void);
 
+/* At least those sizes, for memory that is there from the start, as
+ * static uint64_t memory[(MSCP_HEAD + MSCP_SIZE) / sizeof(uint64_t)]; */
+#define MSCP_SIZE 8032u
+#define MSCP_HOST_SIZE 1056u
+
 /* The bytes of a handle, at the head of the memory. */
 #define MSCP_HEAD sizeof(struct mscp)
 
@@ -215,7 +221,7 @@ static inline struct mscp_host mscp_host_over(void *memory, size_t length)
 
 /* The same with the handle at the head of the memory, whose own pointer then serves each call. A controller takes
  * MSCP_HEAD + mscp_size() bytes so. Where there isn't even room for a handle this answers one on no memory, for which
- * mscp_init says why. */
+ * mscp_init says why: that one isn't in your memory, so free the memory and never what this answers. */
 static inline struct mscp *mscp_in_memory(void *memory, size_t length)
 {
     static struct mscp null = {NULL, 0, 0, MSCP_ROOM};
@@ -250,7 +256,8 @@ static inline struct mscp_host *mscp_host_in_memory(void *memory, size_t length)
 /* Makes a controller in the handle's memory: of these limits, of so many units in rising order of their numbers, served
  * by a picker of enum mscp_picker. MSCP_DONE, or the first fault in this order: those of the memory (-11 to -15),
  * MSCP_BAD_PICKER, MSCP_MANY_UNITS, those of the first unit that has one (-21 to -24), MSCP_UNITS_FALL, MSCP_NO_UNITS,
- * those of the limits (-28 to -31). The memory may go at any time, without a call. */
+ * those of the limits (-28 to -31). The controller is made on the stack, of which this takes some 22 KiB (no other call
+ * takes over 2), and is moved into the memory. That may go at any time, without a call. */
 int32_t mscp_init(struct mscp *mscp, const struct mscp_limits *limits, const struct mscp_unit *units, size_t count,
                   uint32_t picker);
 
@@ -270,17 +277,17 @@ int32_t mscp_take(struct mscp *mscp, struct mscp_packet *end);
  * of that command or a reset this answers the same. It changes nothing that any other call tells. */
 int32_t mscp_begin(struct mscp *mscp, struct mscp_upcoming *upcoming);
 
-/* The step of the command of this reference number, where it is begun: its block had this status, 0 for a good one. Else
- * the command ends with the status. MSCP_DONE, MSCP_STALE where it isn't begun (any more), MSCP_BAD_STATUS. Have one block
- * at a time in work: a command is known by its number alone. */
+/* The step of the command that is begun, if that has this reference number. Its block had this status: 0 for a good one, and
+ * with another the command ends. MSCP_DONE, or the first that holds of MSCP_BAD_STATUS and MSCP_STALE (the command isn't
+ * begun, or not any more). Have one block at a time in work: a command is known by its number alone. */
 int32_t mscp_finish(struct mscp *mscp, uint32_t reference, uint16_t status, struct mscp_report *report);
 
-/* mscp_begin and mscp_finish in one: serves what was begun, or what the picker picks. MSCP_DONE, MSCP_NOTHING where no
- * command waits, or MSCP_BAD_STATUS. */
+/* mscp_begin and mscp_finish in one: serves what was begun, or what the picker picks. MSCP_DONE, or the first that holds of
+ * MSCP_BAD_STATUS and MSCP_NOTHING (no command waits). */
 int32_t mscp_step(struct mscp *mscp, uint16_t status, struct mscp_report *report);
 
 /* The figures of the waiting commands, oldest first, as many as there is room for. How many wait: 0 to 63. */
-int32_t mscp_look(struct mscp *mscp, struct mscp_figure *list, size_t room);
+int32_t mscp_look(struct mscp *mscp, struct mscp_waiting *list, size_t room);
 
 /* How many steps the waiting command of this reference number may still wait, at most; 0 where none waits of it. */
 int64_t mscp_figure(struct mscp *mscp, uint32_t reference);

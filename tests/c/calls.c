@@ -1,58 +1,8 @@
 /* Each call of mscp.h, with good input and with bad. Prints what is wrong, and ends with 1 where something is. */
-#include "mscp.h"
-#include <stdio.h>
-#include <stdlib.h>
-#include <string.h>
-
-#define COUNT(list) (sizeof(list) / sizeof((list)[0]))
-
-static int wrong;
-
-static void is(const char *what, int64_t got, int64_t wanted)
-{
-    if (got != wanted) {
-        printf("calls.c: %s: %lld, not %lld\n", what, (long long)got, (long long)wanted);
-        wrong = 1;
-    }
-}
+#include "trying.h"
 
 static const struct mscp_unit UNIT = {1, 1000, 0, 1, 0, 10, 2, 1};
 static const struct mscp_limits LIMITS = {1, 4, 2, 8, 60};
-
-static void put(uint8_t *to, unsigned bytes, uint32_t number)
-{
-    for (unsigned i = 0; i < bytes; i++)
-        to[i] = (uint8_t)(number >> (8 * i));
-}
-
-static uint32_t number(const uint8_t *from, unsigned bytes)
-{
-    uint32_t got = 0;
-    for (unsigned i = 0; i < bytes; i++)
-        got |= (uint32_t)from[i] << (8 * i);
-    return got;
-}
-
-/* A command: `first` stands in bytes 12 to 15 and `block` in 28 to 31. */
-static const uint8_t *command(uint32_t reference, uint8_t opcode, uint32_t first, uint32_t block)
-{
-    static uint8_t message[32];
-    memset(message, 0, sizeof message);
-    put(message, 4, reference);
-    message[8] = opcode;
-    put(message + 12, 4, first);
-    put(message + 28, 4, block);
-    return message;
-}
-
-static void *memory_of(size_t size)
-{
-    void *memory = malloc(size);
-    if (memory == NULL)
-        exit(2);
-    memset(memory, 0xA5, size);
-    return memory;
-}
 
 /* ---- inits */
 
@@ -149,7 +99,7 @@ static void calls_before_init(void)
         struct mscp_packet packet;
         struct mscp_upcoming upcoming;
         struct mscp_report report;
-        struct mscp_figure figure;
+        struct mscp_waiting figure;
         struct mscp_news news;
     } out, before;
     memset(&out, 0xA5, sizeof out);
@@ -208,6 +158,7 @@ static void messages_that_are_refused(void)
     static const uint8_t zeros[65];
     struct mscp *mscp = controller();
     struct mscp_sent sent = {7, 7, 1};
+    struct mscp_waiting waiting[2] = {{7, 7}, {7, 7}};
     is("short", mscp_send(mscp, zeros, 11, &sent), MSCP_SHORT);
     is("long", mscp_send(mscp, zeros, 65, &sent), MSCP_LONG);
     is("the longest", mscp_send(mscp, zeros, 64, &sent), MSCP_ANSWERED);
@@ -216,6 +167,8 @@ static void messages_that_are_refused(void)
     is("a second", mscp_send(mscp, command(1, MSCP_READ, 512, 0), 32, &sent), MSCP_QUEUED);
     is("a third", mscp_send(mscp, command(2, MSCP_READ, 512, 0), 32, &sent), MSCP_QUEUED);
     is("balance", mscp_balance(mscp), 1);
+    is("look with less room", mscp_look(mscp, waiting, 1), 2);
+    is("looked", waiting[0].reference == 1 && waiting[0].figure == 17 && waiting[1].reference == 7, 1);
     sent.reference = 7;
     is("the last", mscp_send(mscp, command(3, MSCP_READ, 512, 0), 32, &sent), MSCP_LAST_CREDIT);
     is("what was told", sent.reference, 7);
@@ -234,12 +187,14 @@ static void a_read_that_is_polled(void)
     struct mscp_packet end;
     struct mscp_upcoming next = {7, 7, 7, 7, 7, 7, 7, 7};
     struct mscp_report report = {7, 7, 7, 7, 7, 7, 7, 7};
-    struct mscp_figure figures[2] = {{7, 7}, {7, 7}};
+    struct mscp_waiting figures[2] = {{7, 7}, {7, 7}};
     bring_online(mscp);
     is("begin of nothing", mscp_begin(mscp, &next), MSCP_NOTHING);
     is("step of nothing", mscp_step(mscp, 0, &report), MSCP_NOTHING);
     is("what was told", next.lbn == 7 && report.lbn == 7, 1);
     is("finish of nothing", mscp_finish(mscp, 2, 0, &report), MSCP_STALE);
+    is("a bad finish of nothing", mscp_finish(mscp, 2, 4, &report), MSCP_BAD_STATUS);
+    is("a bad step of nothing", mscp_step(mscp, 4, &report), MSCP_BAD_STATUS);
     is("read", mscp_send(mscp, command(2, MSCP_READ, 1000, 40), 32, &sent), MSCP_QUEUED);
     is("poll", mscp_send(mscp, command(3, MSCP_GET_COMMAND_STATUS, 2, 0), 16, &sent), MSCP_ANSWERED);
     is("take", mscp_take(mscp, &end), MSCP_DONE);
@@ -310,6 +265,7 @@ static void pickers(void)
 
 static void host(void)
 {
+    static const uint8_t zeros[65];
     size_t size = MSCP_HEAD + mscp_host_size();
     void *memory = memory_of(size);
     struct mscp_host *host = mscp_host_in_memory(memory, size);
@@ -322,6 +278,7 @@ static void host(void)
     is("twice", mscp_host_init(host, 3), MSCP_MADE);
     is("nothing to poll", mscp_host_poll(host, 9, &poll), MSCP_NOTHING);
     is("short", mscp_host_submit(host, command(1, MSCP_READ, 512, 0), 11), MSCP_SHORT);
+    is("long", mscp_host_submit(host, zeros, 65), MSCP_LONG);
     is("submit", mscp_host_submit(host, command(1, MSCP_READ, 512, 0), 32), MSCP_DONE);
     is("again", mscp_host_submit(host, command(1, MSCP_READ, 512, 0), 32), MSCP_DOUBLED);
     is("balance", mscp_host_balance(host), 2);
@@ -353,6 +310,21 @@ static void host(void)
     free(memory);
 }
 
+/* Of two credits a READ has one, and a command that is answered at once the other. */
+static void host_without_a_credit(void)
+{
+    size_t size = mscp_host_size();
+    void *memory = memory_of(size);
+    struct mscp_host host = mscp_host_over(memory, size);
+    struct mscp_packet poll = {7, {7}};
+    is("init", mscp_host_init(&host, 2), MSCP_DONE);
+    is("read", mscp_host_submit(&host, command(1, MSCP_READ, 512, 0), 32), MSCP_DONE);
+    is("status", mscp_host_submit(&host, command(2, MSCP_GET_UNIT_STATUS, 0, 0), 12), MSCP_DONE);
+    is("poll", mscp_host_poll(&host, 3, &poll), MSCP_NO_CREDIT);
+    is("what was told", poll.length == 7 && poll.bytes[0] == 7, 1);
+    free(memory);
+}
+
 int main(void)
 {
     alignments();
@@ -364,5 +336,6 @@ int main(void)
     an_abort_in_between();
     pickers();
     host();
+    host_without_a_credit();
     return wrong;
 }

@@ -31,7 +31,7 @@ static void run(int call)
     static struct mscp_packet packet;
     static struct mscp_upcoming upcoming;
     static struct mscp_report report;
-    static struct mscp_figure figures[64];
+    static struct mscp_waiting figures[64];
     static struct mscp_news news;
     switch (call) {
     case SEND: mscp_send(mscp, read, 32, &sent); break;

@@ -66,7 +66,7 @@ poll_code (Err fault) = host_code fault
 
 -- what is told of it: the message, where one is to be sent
 abbrev pub PollTold : Result Poll HostFault → PacketOut → PacketOut → Type 0
-PollTold (Ok (polls.Ask message)) old new = PacketTold message.items new
+PollTold (Ok (polls.Ask message)) old new = PacketTold message.items old new
 PollTold answer old new = new ≡ old
 
 -- ---- an end

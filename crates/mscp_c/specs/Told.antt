@@ -45,10 +45,11 @@ sent_told (Err fault) out = out
 
 -- ---- a packet
 
--- these bytes are told: so many, from the first on
-pub record PacketTold (b : List ℕ) (out : PacketOut) : Type 0 where
-  pub count : out.length ≡ length b
-  pub bytes : take (length b) out.bytes ≡ b
+-- these bytes are told: so many, from the first on, and those behind them are what they were
+pub record PacketTold (b : List ℕ) (old new : PacketOut) : Type 0 where
+  pub count : new.length ≡ length b
+  pub bytes : take (length b) new.bytes ≡ b
+  pub rest : drop (length b) new.bytes ≡ drop (length b) old.bytes
 
 -- the status of a take
 abbrev pub take_code : Option (ArrayVec ℕ) → ℤ
@@ -58,7 +59,7 @@ take_code (Some end) = status.DONE
 -- what is told of it. Where there is no end nothing is
 abbrev pub TakeTold : Option (ArrayVec ℕ) → PacketOut → PacketOut → Type 0
 TakeTold None old new = new ≡ old
-TakeTold (Some end) old new = PacketTold end.items new
+TakeTold (Some end) old new = PacketTold end.items old new
 
 -- ---- a begin
 

@@ -44,7 +44,7 @@ pub(crate) fn tell_sent(out: &mut SentOut, answer: &Result<Sent, SendFault>) -> 
 
 /// Tells the bytes of a packet, and leaves what stands behind them.
 pub(crate) fn tell_packet(out: &mut PacketOut, packet: &ArrayVec<u8, 48>)
-    ensures { PacketTold packet.now.items out.new }
+    ensures { PacketTold packet.now.items out.old out.new }
 {
     let length = packet.len();
     out.length = length as u32;

@@ -3,7 +3,12 @@ use Rattle.std.specs.Prelude.{Bool, Option, is_none}
 use Rattle.mscp_memory.specs.declared.controller.handle.Handle.{Handle}
 use Rattle.mscp_memory.specs.declared.controller.marks.TheConstants.{MADE}
 use Rattle.mscp_memory.specs.declared.fault.RoomFault.{RoomFault}
+use Rattle.mscp_memory.specs.declared.head.Head.{Head}
 use Rattle.mscp_memory.specs.ControllerRoom.{Held, is_made_of, fault_of}
+
+-- what C said of it
+abbrev pub head_of : Handle → Head
+head_of h = record { address = h.address; length = h.length; mark = h.mark }
 
 -- whether its memory holds a controller
 abbrev pub is_made : Handle → Bool

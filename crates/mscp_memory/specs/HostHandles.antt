@@ -3,7 +3,12 @@ use Rattle.std.specs.Prelude.{Bool, Option, is_none}
 use Rattle.mscp_memory.specs.declared.host.handle.Handle.{Handle}
 use Rattle.mscp_memory.specs.declared.host.marks.TheConstants.{MADE}
 use Rattle.mscp_memory.specs.declared.fault.RoomFault.{RoomFault}
+use Rattle.mscp_memory.specs.declared.head.Head.{Head}
 use Rattle.mscp_memory.specs.HostRoom.{Held, is_made_of, fault_of}
+
+-- what C said of it
+abbrev pub head_of : Handle → Head
+head_of h = record { address = h.address; length = h.length; mark = h.mark }
 
 -- whether its memory holds a host
 abbrev pub is_made : Handle → Bool

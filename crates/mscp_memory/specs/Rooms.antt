@@ -2,6 +2,8 @@
 use base.Fml.{Fml}
 use Rattle.std.specs.Prelude.{ℕ, ◌%◌, Bool, true, false, nat_eq, nat_lt, not, if◌then◌else◌, Option, Some, None}
 use Rattle.mscp_memory.specs.declared.fault.RoomFault.{RoomFault}
+use Rattle.mscp_memory.specs.declared.head.Head.{Head}
+use Rattle.mscp_memory.specs.declared.head.Kind.{Kind}
 use Rattle.mscp_memory.specs.declared.fault.RoomFault.TheVariants.{Made, NoHandle, Null, Misaligned, Small}
 
 -- the first where the test is true, and otherwise the second
@@ -19,3 +21,7 @@ place_fault address length size align =
 -- why there is no room, by what the mark of a handle says and what becomes of its place
 abbrev pub fault_unless : Bool → Bool → Option RoomFault → Option RoomFault
 fault_unless made room fault = if made then Some Made else (if room then fault else Some NoHandle)
+
+-- why memory of which this was said is no room for a value of this kind, if it isn't
+abbrev pub kind_fault : Head → Kind → Option RoomFault
+kind_fault head kind = fault_unless (nat_eq head.mark kind.made) (nat_eq head.mark kind.room) (place_fault head.address head.length kind.size kind.align)

@@ -3,6 +3,7 @@
 
 pub mod controller;
 mod fault;
+mod head;
 pub mod host;
 mod policy;
 

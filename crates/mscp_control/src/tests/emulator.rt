@@ -112,10 +112,14 @@ impl<K: Picker> Machine<K> {
 
     /// The drive does its work on the file, and tells how it went.
     fn work(&mut self, job: &mut Job) -> Block {
-        let (Order::Move(kind, ..), Some(lbn)) = (job.upcoming.command.order, job.upcoming.lbn)
-        else {
+        let upcoming = job.upcoming;
+        let (Order::Move(kind, bytes, _), Some(lbn)) = (upcoming.command.order, upcoming.lbn) else {
             return Block::Good;
         };
+        // A transfer of no bytes names a block, and moves nothing.
+        if bytes == 0 {
+            return Block::Good;
+        }
         let Some(block) = self.disk.get_mut(lbn as usize) else {
             return data_error();
         };
@@ -255,6 +259,23 @@ fn data_go_to_the_disk_and_come_back(rt: HostRuntime) {
     assert!(rt; are_all(&machine.memory[3072..], 7));
     assert_eq!(rt; end(&rt, &mut machine), (2, 0, EndBody::Moved(1024)));
     assert!(rt; machine.buffers.is_empty());
+}
+
+// It names block 10, which keeps what it has.
+#[test]
+fn a_transfer_of_no_bytes_moves_nothing(rt: HostRuntime) {
+    let mut machine = online_machine(&rt, Oldest);
+    machine.disk[10] = [60; 512];
+    for (opcode, reference) in [(34, 1), (33, 2)] {
+        let empty = transfer(opcode, reference, 0, 10, 0);
+        assert_eq!(rt; machine.on_message(&empty), Ok(()));
+        let report = machine.on_turn().expect(&rt, "its step");
+        let number = u32::from(reference);
+        assert_eq!(rt; served(&report), Some((number, 0, Some(10))));
+        assert_eq!(rt; end(&rt, &mut machine), (number, 0, EndBody::Moved(0)));
+    }
+    assert!(rt; are_all(&machine.disk[10], 60));
+    assert!(rt; are_all(&machine.memory, 7));
 }
 
 // The unit has 1000 blocks, and the file only 64: block 63 is its last.

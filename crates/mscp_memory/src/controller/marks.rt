@@ -1,5 +1,6 @@
 // The marks of handles, and the room that a controller takes.
 
+use crate::head::Kind;
 use crate::policy::Policy;
 use mscp_control::Controller;
 use std::mem::{align_of, size_of};
@@ -15,3 +16,11 @@ pub const ROOM: u64 = 0x4D53_4350_524F_4F4D;
 
 /// The memory holds a controller.
 pub const MADE: u64 = 0x4D53_4350_4D41_4445;
+
+/// What handles on a controller's memory are judged by.
+pub(crate) const KIND: Kind = Kind {
+    room: ROOM,
+    made: MADE,
+    size: SIZE,
+    align: ALIGN,
+};

@@ -1,31 +1,22 @@
 // What a handle says of its memory.
 
 ghost use Rattle.std.specs.Prelude.{◌≡◌};
-ghost use Rattle.mscp_memory.specs.ControllerHandles.{is_made, room_fault};
+ghost use Rattle.mscp_memory.specs.ControllerHandles.{head_of, is_made, room_fault};
 
 use crate::controller::handle::Handle;
-use crate::controller::marks::{ALIGN, MADE, ROOM, SIZE};
-use crate::fault::{RoomFault, place_fault};
+use crate::controller::marks::{KIND, MADE};
+use crate::fault::RoomFault;
+use crate::head::{self, Head};
 
-/// The address that the caller gave.
-fn address(handle: &mut Handle) -> usize
-    ensures { (result ≡ handle.old.address) × (handle.new ≡ handle.old) }
+/// What the caller gave.
+fn head(handle: &mut Handle) -> Head
+    ensures { (result ≡ head_of handle.old) × (handle.new ≡ handle.old) }
 {
-    handle.address
-}
-
-/// The length that the caller gave.
-fn length(handle: &mut Handle) -> usize
-    ensures { (result ≡ handle.old.length) × (handle.new ≡ handle.old) }
-{
-    handle.length
-}
-
-/// The mark.
-fn mark(handle: &mut Handle) -> u64
-    ensures { (result ≡ handle.old.mark) × (handle.new ≡ handle.old) }
-{
-    handle.mark
+    Head {
+        address: handle.address,
+        length: handle.length,
+        mark: handle.mark,
+    }
 }
 
 /// Whether its memory holds a controller.
@@ -33,7 +24,7 @@ pub fn is_made(handle: &mut Handle) -> bool
     ensures value { result ≡ is_made handle.old }
     ensures same { handle.new ≡ handle.old }
 {
-    mark(handle) == MADE
+    head(handle).mark == MADE
 }
 
 /// Why its memory is no room for a controller, if it isn't.
@@ -41,14 +32,5 @@ pub fn room_fault(handle: &mut Handle) -> Option<RoomFault>
     ensures value { result ≡ room_fault handle.old }
     ensures same { handle.new ≡ handle.old }
 {
-    let mark = mark(handle);
-    if mark == MADE {
-        return Some(RoomFault::Made);
-    }
-    if mark != ROOM {
-        return Some(RoomFault::NoHandle);
-    }
-    let address = address(handle);
-    let length = length(handle);
-    place_fault(address, length, SIZE, ALIGN)
+    head::room_fault(head(handle), KIND)
 }

@@ -1,5 +1,6 @@
 // The marks of handles, and the room that a host takes.
 
+use crate::head::Kind;
 use mscp_host::Host;
 use std::mem::{align_of, size_of};
 
@@ -14,3 +15,11 @@ pub const ROOM: u64 = 0x484F_5354_524F_4F4D;
 
 /// The memory holds a host.
 pub const MADE: u64 = 0x484F_5354_4D41_4445;
+
+/// What handles on a host's memory are judged by.
+pub(crate) const KIND: Kind = Kind {
+    room: ROOM,
+    made: MADE,
+    size: SIZE,
+    align: ALIGN,
+};
