@@ -8,6 +8,8 @@ pub mod Sums
 pub mod Begun
 pub mod Held
 pub mod Turns
+pub mod Aims
+pub mod Passable
 pub mod Nexts
 pub mod Least
 pub mod Aborts

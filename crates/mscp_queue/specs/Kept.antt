@@ -6,7 +6,9 @@ use Rattle.mscp_packet.specs.declared.command.Order.{Order}
 use Rattle.mscp_packet.specs.declared.command.Order.TheVariants as orders
 use Rattle.mscp_drive.specs.Shape.{Shape}
 use Rattle.mscp_drive.specs.UnitList.{IsUnitList, unit_found}
+use Rattle.mscp_queue.specs.declared.aim.Aim.{Aim}
 use Rattle.mscp_queue.specs.declared.drive.Drive.{Drive}
+use Rattle.mscp_queue.specs.Aims.{aims_of}
 use Rattle.mscp_queue.specs.Names.{Name, name_of}
 use Rattle.mscp_queue.specs.Orders.{first_block, is_move, is_sequential, order_weight}
 use Rattle.mscp_queue.specs.Drives.{IsOnUnit, one_block}
@@ -84,3 +86,8 @@ pub record IsHeld (room passing longest : ℕ) (rs : List Record) (ds : List Dri
   pub heads : All IsOnUnit ds
   -- what was begun waits and may be served
   pub still : (name : Name) → begun ≡ Some name → IsStillServable passing rs name
+
+-- the same, and beside each waiting command where it aims
+pub record IsReady (room passing longest : ℕ) (rs : List Record) (aims : List Aim) (ds : List Drive) (begun : Option Name) (serving : Bool) : Type 0 where
+  pub held : IsHeld room passing longest rs ds begun serving
+  pub aimed : aims ≡ aims_of (units_of ds) rs

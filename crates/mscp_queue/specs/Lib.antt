@@ -10,3 +10,4 @@ pub mod Figures
 pub mod Lines
 pub mod Kept
 pub mod Fronts
+pub mod Aims

@@ -1,9 +1,9 @@
 -- What may start, and what a picker sees of it.
-use Rattle.std.specs.Prelude.{◌≡◌, ℕ, ◌+◌, ◌<◌, Bool, not, ◌&&◌, ◌||◌, nat_eq, nat_le, List, length, map, take, filter, slice_index_or}
+use Rattle.std.specs.Prelude.{◌≡◌, ℕ, ◌+◌, ◌<◌, Bool, not, ◌&&◌, ◌||◌, nat_eq, nat_le, nat_lt, List, length, map, take, filter, slice_index_or}
 use Rattle.std.specs.List.{list_all, range_with_len}
 use Rattle.mscp_queue.specs.declared.drive.Drive.{Drive}
 use Rattle.mscp_queue.specs.declared.view.Choice.{Choice}
-use Rattle.mscp_queue.specs.Orders.{is_sequential, order_class, order_cost}
+use Rattle.mscp_queue.specs.Orders.{is_move, is_sequential, order_class, order_cost}
 use Rattle.mscp_queue.specs.Records.{Record, drive_at, record_at, toll}
 
 -- r has to stay behind z: both are of one unit, and one of them is sequential (manual, "Command Categories and
@@ -23,6 +23,10 @@ is_affordable passing r front = list_all (λ z. nat_le (z.passes + toll r) passi
 -- profile's)
 abbrev pub is_open : ℕ → Record → List Record → Bool
 is_open passing r front = is_free r front && is_affordable passing r front
+
+-- a transfer that may be passed once more: where all are such, each may start
+abbrev pub is_passable : ℕ → Record → Bool
+is_passable passing r = is_move r.command.order && nat_lt r.passes passing
 
 -- the record at a place may start, where nothing is in service
 abbrev pub is_open_at : ℕ → List Record → ℕ → Bool

@@ -1,6 +1,7 @@
 //! The waiting commands of a disk controller: who may be served next, and what each may still have to wait.
 #![tactic(auto)]
 
+mod aim;
 mod block;
 mod drive;
 mod figure;

@@ -10,6 +10,7 @@ ghost use Rattle.mscp_queue.specs.Orders.{order_weight};
 ghost use Rattle.mscp_queue.specs.Records.{aborted_record, has_reference, is_in_service};
 ghost use Rattle.mscp_queue.specs.Serving.{IsNext, is_begun};
 
+use crate::aim::Aim;
 use crate::block::Block;
 use crate::drive::{Drive, drive_of, drives_of, renew_drives, replace_drive};
 use crate::figure::{figure_of_reference, figures, place_of};
@@ -47,6 +48,8 @@ pub struct Queue<K> {
     passing: u32,
     longest: u32,
     waiting: ArrayVec<Record, 64>,
+    // Of each waiting command, in the same order.
+    aims: ArrayVec<Aim, 64>,
     drives: ArrayVec<Drive, 16>,
     begun: Option<u32>,
     // Whether one may be in service: where none is, nobody looks for it.
@@ -60,7 +63,7 @@ pub struct Queue<K> {
 // begun, and the picker.
 impl<K> Model for Queue<K> {
     ghost use Rattle.mscp_queue.specs.Lines.{Line};
-    ghost use Rattle.mscp_queue.specs.Kept.{IsHeld};
+    ghost use Rattle.mscp_queue.specs.Kept.{IsReady};
 
     ghost Value = { Line K };
 
@@ -75,7 +78,7 @@ impl<K> Model for Queue<K> {
           picker = q.picker;
         } };
 
-    ghost invariant = { λ q. IsHeld q.room q.passing q.longest q.waiting.items q.drives.items q.begun q.serving };
+    ghost invariant = { λ q. IsReady q.room q.passing q.longest q.waiting.items q.aims.items q.drives.items q.begun q.serving };
 }
 
 impl<K: Picker> Queue<K> {
@@ -95,6 +98,7 @@ impl<K: Picker> Queue<K> {
             passing,
             longest,
             waiting: ArrayVec::new(),
+            aims: ArrayVec::new(),
             drives,
             begun: None,
             serving: false,
@@ -109,6 +113,7 @@ impl<K: Picker> Queue<K> {
             ≡ fresh (units_of self.old.drives) self.old.room self.old.passing self.old.longest self.old.picker }
     {
         self.waiting.clear();
+        self.aims.clear();
         renew_drives(self.drives.as_mut_slice());
         self.begun = None;
         self.serving = false;
@@ -153,6 +158,7 @@ impl<K: Picker> Queue<K> {
             unit: new.unit,
             order: new.order,
         };
+        self.aims.push(Aim::of(&command, self.drives.as_slice()));
         self.waiting.push(Record::new(command, new.weight));
     }
 
@@ -185,7 +191,7 @@ impl<K: Picker> Queue<K> {
         ensures count { IfSome result (λ end. length self.new.waiting + 1 ≡ length self.old.waiting) }
     {
         let was_begun = self.is_begun(reference);
-        let aborted = take_out(&mut self.waiting, reference)?;
+        let aborted = take_out(&mut self.waiting, &mut self.aims, reference)?;
         if was_begun {
             self.begun = None;
         }
@@ -224,6 +230,7 @@ impl<K: Picker> Queue<K> {
             Some(place) => place,
             None => picked_place(
                 self.waiting.as_slice(),
+                self.aims.as_slice(),
                 self.drives.as_slice(),
                 self.passing,
                 &self.picker,
@@ -279,7 +286,13 @@ impl<K: Picker> Queue<K> {
         let drive = drive_of(self.drives.as_slice(), command.unit);
         let service = serve(&drive, &record, block);
         let ends = service.ended.is_some();
-        leave(&mut self.waiting, place, record.step_toll(), ends);
+        leave(
+            &mut self.waiting,
+            &mut self.aims,
+            place,
+            record.step_toll(),
+            ends,
+        );
         replace_drive(self.drives.as_mut_slice(), command.unit, &service.drive);
         self.begun = None;
         self.serving = !ends;

@@ -1,10 +1,13 @@
 // What a step or an abort leaves of the waiting commands.
 
-ghost use Rattle.std.specs.Prelude.{◌≡◌, ◌+◌, ◌<◌, ◌≤◌, ◌^◌, [], ◌∷◌, ◌++◌, cond, length, map, take, drop, find, All, IfNone, IfSome, nat_lt};
+ghost use Rattle.std.specs.Prelude.{◌≡◌, ◌+◌, ◌<◌, ◌≤◌, ◌^◌, List, [], ◌∷◌, ◌++◌, cond, length, map, take, drop, find, All, IfNone, IfSome, nat_lt};
 ghost use Rattle.std.specs.List.{position};
+ghost use Rattle.mscp_drive.specs.Shape.{Shape};
+ghost use Rattle.mscp_queue.specs.Aims.{aims_of};
 ghost use Rattle.mscp_queue.specs.Kept.{AreApart, names};
 ghost use Rattle.mscp_queue.specs.Records.{advanced, has_reference, is_in_service, passed_by, record_at, without};
 
+use crate::aim::Aim;
 use crate::figure::place_of;
 use crate::record::Record;
 use arrayvec::ArrayVec;
@@ -42,29 +45,47 @@ fn serve_front(records: &mut [Record], place: usize, toll: u32)
 }
 
 /// What a step of the record at the place leaves: it is taken out where its command ends, and each in front of it was
-/// passed at this toll.
-pub(crate) fn leave(waiting: &mut ArrayVec<Record, 64>, place: usize, toll: u32, ends: bool)
+/// passed at this toll. The aims stay those of the records.
+pub(crate) fn leave(
+    waiting: &mut ArrayVec<Record, 64>,
+    aims: &mut ArrayVec<Aim, 64>,
+    place: usize,
+    toll: u32,
+    ends: bool,
+)
     requires place { place < length waiting.old.items }
+    requires aimed { length aims.old.items ≡ length waiting.old.items }
     requires small { All (λ r. r.passes + toll < 2 ^ 32) (take place waiting.old.items) }
     requires unfinished { (record_at waiting.old.items place).done + 1 < 2 ^ 32 }
-    ensures { waiting.new.items
+    ensures left { waiting.new.items
         ≡ map (passed_by toll) (take place waiting.old.items)
         ++ (cond ends [] (advanced (record_at waiting.old.items place) ∷ []) ++ drop (place + 1) waiting.old.items) }
+    ensures aims { (units : List Shape) → aims.old.items ≡ aims_of units waiting.old.items
+        → aims.new.items ≡ aims_of units waiting.new.items }
 {
     serve_front(waiting.as_mut_slice(), place, toll);
     if ends {
         waiting.remove(place);
+        aims.remove(place);
     }
 }
 
-/// Takes the record of the command with the reference number out, if there is one.
-pub(crate) fn take_out(waiting: &mut ArrayVec<Record, 64>, reference: u32) -> Option<Record>
-    requires { AreApart (names waiting.old.items) }
+/// Takes the record of the command with the reference number out, if there is one. The aims stay those of the records.
+pub(crate) fn take_out(
+    waiting: &mut ArrayVec<Record, 64>,
+    aims: &mut ArrayVec<Aim, 64>,
+    reference: u32,
+) -> Option<Record>
+    requires apart { AreApart (names waiting.old.items) }
+    requires aimed { length aims.old.items ≡ length waiting.old.items }
     ensures found { result ≡ find (has_reference reference) waiting.old.items }
     ensures left { waiting.new.items ≡ without reference waiting.old.items }
     ensures unchanged { IfNone result (waiting.new.items ≡ waiting.old.items) }
     ensures count { IfSome result (λ r. length waiting.new.items + 1 ≡ length waiting.old.items) }
+    ensures aims { (units : List Shape) → aims.old.items ≡ aims_of units waiting.old.items
+        → aims.new.items ≡ aims_of units waiting.new.items }
 {
     let place = place_of(waiting.as_slice(), reference)?;
+    aims.remove(place);
     Some(waiting.remove(place))
 }

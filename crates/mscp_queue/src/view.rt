@@ -2,8 +2,9 @@
 
 ghost use Rattle.std.specs.Prelude.{◌≡◌, ◌↔◌, ◌<◌, ◌≤◌, [], ◌∷◌, ◌++◌, length, IsSome, IfSome};
 
-use arrayvec::ArrayVec;
 use mscp_packet::Class;
+use std::fmt;
+use std::fmt::{Debug, Formatter, Write};
 use std::marker::Model;
 
 /// A command that may start, as a picker sees it.
@@ -37,23 +38,23 @@ impl Default for Choice {
 }
 
 /// The commands that may start, at most 64 of them. A queue shows them in order of arrival.
-#[derive(Debug, PartialEq, Drop)]
+#[derive(Drop)]
 pub struct View {
-    choices: ArrayVec<Choice, 64>,
+    // From the count on stand choices of earlier views, which nobody sees: so it costs nothing to forget them.
+    choices: [Choice; 64],
+    count: usize,
 }
 
 // A clause sees the list of the choices.
 impl Model for View {
-    ghost use Rattle.std.specs.Prelude.{◌≤◌, List, length};
+    ghost use Rattle.std.specs.Prelude.{◌≤◌, List, take};
     ghost use Rattle.mscp_queue.specs.declared.view.Choice.{Choice as Shown};
 
     ghost Value = { List Shown };
 
-    ghost view = { λ v. v.choices.items };
+    ghost view = { λ v. take v.count v.choices };
 
-    ghost invariant = { λ v. length v.choices.items ≤ 64 };
-
-    ghost inverse = { λ choices. record { choices = record { items = choices } } };
+    ghost invariant = { λ v. v.count ≤ 64 };
 }
 
 impl View {
@@ -62,9 +63,14 @@ impl View {
         ensures some { IsSome result ↔ (length choices.now ≤ 64) }
         ensures value { IfSome result (λ view. view ≡ choices.now) }
     {
-        let mut list = ArrayVec::new();
-        list.try_extend_from_slice(choices).ok()?;
-        Some(View { choices: list })
+        if choices.len() > 64 {
+            return None;
+        }
+        let mut view = View::empty();
+        for choice in choices {
+            view.push(*choice);
+        }
+        Some(view)
     }
 
     /// The view of no choice.
@@ -72,7 +78,8 @@ impl View {
         ensures { result ≡ [] }
     {
         View {
-            choices: ArrayVec::new(),
+            choices: [Choice::default(); 64],
+            count: 0,
         }
     }
 
@@ -80,7 +87,7 @@ impl View {
     pub(crate) fn clear(&mut self)
         ensures { self.new ≡ [] }
     {
-        self.choices.clear();
+        self.count = 0;
     }
 
     /// Appends a choice.
@@ -88,7 +95,18 @@ impl View {
         requires { length self.old < 64 }
         ensures { self.new ≡ self.old ++ choice ∷ [] }
     {
-        self.choices.push(choice);
+        self.choices[self.count] = choice;
+        self.count += 1;
+    }
+
+    /// Appends a choice, where the caller knows how many there are: so a loop that counts doesn't read it each time.
+    pub(crate) fn put(&mut self, place: usize, choice: Choice)
+        requires next { place ≡ length self.old }
+        requires room { place < 64 }
+        ensures { self.new ≡ self.old ++ choice ∷ [] }
+    {
+        self.choices[place] = choice;
+        self.count = place + 1;
     }
 
     /// The choices, in their order.
@@ -96,6 +114,28 @@ impl View {
         ensures value { result.now ≡ self.now }
         ensures few { length result.now ≤ 64 }
     {
-        self.choices.as_slice()
+        &self.choices[..self.count]
+    }
+}
+
+impl PartialEq for View {
+    ghost use Rattle.std.specs.Cmp.Lexicographic.{pointwise, lists_per};
+    ghost use Rattle.mscp_queue.specs.contracts.view.ChoicePartialEq.TheImpl.{ghosts};
+    ghost use Rattle.mscp_queue.specs.contracts.view.ChoicePartialEq.TheImpl.Laws.{laws-law};
+
+    ghost eq = { pointwise ghosts.eq };
+
+    ghost laws = { lists_per laws-law };
+
+    fn eq(&self, other: &View) -> bool {
+        self.choices() == other.choices()
+    }
+}
+
+impl Debug for View {
+    fn fmt<W: Write>(&self, f: &mut Formatter<W>) -> fmt::Result {
+        f.debug_struct("View")
+            .field("choices", &self.choices())
+            .finish()
     }
 }

@@ -1,4 +1,5 @@
 use Rattle.std.proofs.Common.{ap, sym, ◌∙◌}
+use Rattle.mscp_queue.specs.Kept.{units_of}
 use Rattle.mscp_queue.specs.Lines.{Line, aborting}
 use Rattle.mscp_queue.specs.Serving.{is_begun}
 use Rattle.mscp_queue.proofs.Aborts.{held_aborted, none_aborted}
@@ -8,7 +9,7 @@ pub returns-in_err-aborted-clause-after : goal.returns-in_err-aborted-clause-aft
 returns-in_err-aborted-clause-after g c =
     let K = g.row.K.Denot in
     let q = c.self.inside in
-    let stays = none_aborted q.passing c.args.reference q.waiting.items q.begun c.self.invariant.still (sym c.take_out.ensures.found ∙ c.in_err-aborted.was) in
+    let stays = none_aborted q.passing c.args.reference q.waiting.items q.begun c.self.invariant.held.still (sym c.take_out.ensures.found ∙ c.in_err-aborted.was) in
     (λ i. record { room = q.room; passing = q.passing; longest = q.longest; waiting = c.take_out.ensures.left i; drives = q.drives.items; begun = stays i; picker = q.picker })
     ∙ ap (λ (l : Line K). aborting c.args.reference l) c.self.view_is
 
@@ -16,10 +17,20 @@ pub invariant_of-self-then-was_begun : goal.invariant_of-self-then-was_begun
 invariant_of-self-then-was_begun g c =
     let K = g.row.K.Denot in
     let q = c.self.inside in
-    held_aborted q.room q.passing q.longest c.args.reference q.waiting.items c.take_out.new.waiting.items q.drives.items q.begun q.serving _ (ap (λ (l : Line K). is_begun c.args.reference l.begun) c.self.view_is ∙ sym c.if-was_begun.ensures) c.self.invariant c.take_out.ensures.left
+    record {
+      held =
+          held_aborted q.room q.passing q.longest c.args.reference q.waiting.items c.take_out.new.waiting.items q.drives.items q.begun q.serving _
+          (ap (λ (l : Line K). is_begun c.args.reference l.begun) c.self.view_is ∙ sym c.if-was_begun.ensures) c.self.invariant.held c.take_out.ensures.left;
+      aimed = c.take_out.ensures.aims (units_of q.drives.items) c.self.invariant.aimed;
+    }
 
 pub invariant_of-self-else-was_begun : goal.invariant_of-self-else-was_begun
 invariant_of-self-else-was_begun g c =
     let K = g.row.K.Denot in
     let q = c.self.inside in
-    held_aborted q.room q.passing q.longest c.args.reference q.waiting.items c.take_out.new.waiting.items q.drives.items q.begun q.serving _ (ap (λ (l : Line K). is_begun c.args.reference l.begun) c.self.view_is ∙ sym c.if-was_begun.ensures) c.self.invariant c.take_out.ensures.left
+    record {
+      held =
+          held_aborted q.room q.passing q.longest c.args.reference q.waiting.items c.take_out.new.waiting.items q.drives.items q.begun q.serving _
+          (ap (λ (l : Line K). is_begun c.args.reference l.begun) c.self.view_is ∙ sym c.if-was_begun.ensures) c.self.invariant.held c.take_out.ensures.left;
+      aimed = c.take_out.ensures.aims (units_of q.drives.items) c.self.invariant.aimed;
+    }

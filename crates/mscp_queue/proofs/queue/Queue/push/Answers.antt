@@ -1,9 +1,11 @@
 use Rattle.std.proofs.Common.{◌≡◌, ◌<◌, ◌++◌, ◌∷◌, [], false, length, ap, subst, sym, ◌∙◌}
 use Rattle.std.specs.List.{list_any}
 use Rattle.mscp_packet.specs.declared.command.Command.{Command}
+use Rattle.mscp_queue.specs.Aims.{aim_of}
 use Rattle.mscp_queue.specs.Kept.{IsWaitable, units_of}
 use Rattle.mscp_queue.specs.Lines.{Line}
 use Rattle.mscp_queue.specs.Records.{has_reference}
+use Rattle.mscp_queue.proofs.Aims.{aims_pushed}
 use Rattle.mscp_queue.proofs.Held.{held_pushed}
 use Rattle.mscp_queue.proofs.queue.Queue.push.Goals as goal
 
@@ -12,8 +14,15 @@ invariant_of-self g c =
     let seen = sym c.self.view_is in
     let K = g.row.K.Denot in
     let command : Command = record { reference = c.args.new.reference; unit = c.args.new.unit; order = c.args.new.order } in
-    held_pushed c.self.inside.room c.self.inside.passing c.self.inside.longest c.self.inside.waiting.items _ c.self.inside.drives.items c.self.inside.begun c.self.inside.serving command c.self.invariant
-    (subst (λ (l : Line K). length l.waiting < l.room) seen c.requires.room)
-    (subst (λ (l : Line K). IsWaitable l.longest (units_of l.drives) command) seen c.requires.waitable)
-    (subst (λ (l : Line K). list_any (has_reference command.reference) l.waiting ≡ false) seen c.requires.apart)
-    (c.push.ensures.items ∙ ap (λ r. c.self.inside.waiting.items ++ r ∷ []) c.new.ensures)
+    let q = c.self.inside in
+    let waits = c.push-2.ensures.items ∙ ap (λ r. q.waiting.items ++ r ∷ []) c.new.ensures in
+    record {
+      held =
+          held_pushed q.room q.passing q.longest q.waiting.items c.push-2.new.self.items q.drives.items q.begun q.serving command c.self.invariant.held
+          (subst (λ (l : Line K). length l.waiting < l.room) seen c.requires.room)
+          (subst (λ (l : Line K). IsWaitable l.longest (units_of l.drives) command) seen c.requires.waitable)
+          (subst (λ (l : Line K). list_any (has_reference command.reference) l.waiting ≡ false) seen c.requires.apart) waits;
+      aimed =
+          aims_pushed (units_of q.drives.items) q.waiting.items c.push-2.new.self.items q.aims.items c.push.new.self.items command c.of.result c.self.invariant.aimed
+          (c.of.ensures ∙ ap (λ ds. aim_of (units_of ds) command) c.as_slice.ensures.value) c.push.ensures.items waits;
+    }

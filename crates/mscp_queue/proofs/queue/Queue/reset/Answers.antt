@@ -1,6 +1,7 @@
-use Rattle.std.proofs.Common.{ap, ◌∙◌}
+use Rattle.std.proofs.Common.{ap, sym, ◌∙◌}
 use Rattle.std.specs.Prelude.{map, None}
 use Rattle.mscp_queue.specs.declared.drive.Drive.{Drive}
+use Rattle.mscp_queue.specs.Aims.{aims_of}
 use Rattle.mscp_queue.specs.Drives.{fresh_drive}
 use Rattle.mscp_queue.specs.Kept.{units_of}
 use Rattle.mscp_queue.specs.Lines.{Line, fresh}
@@ -10,8 +11,12 @@ use Rattle.mscp_queue.proofs.queue.Queue.reset.Goals as goal
 pub invariant_of-self : goal.invariant_of-self
 invariant_of-self g c =
     let q = c.self.inside in
-    held_renewed q.room q.passing q.longest q.waiting.items c.clear.new.self.items q.drives.items _ q.begun q.serving c.self.invariant c.clear.ensures
-    (renewed q.drives.items c.renew_drives.new.drives (c.renew_drives.ensures ∙ ap (map (λ (d : Drive). fresh_drive d.unit)) c.as_mut_slice.ensures.value))
+    record {
+      held =
+          held_renewed q.room q.passing q.longest q.waiting.items c.clear.new.self.items q.drives.items _ q.begun q.serving c.self.invariant.held c.clear.ensures
+          (renewed q.drives.items c.renew_drives.new.drives (c.renew_drives.ensures ∙ ap (map (λ (d : Drive). fresh_drive d.unit)) c.as_mut_slice.ensures.value));
+      aimed = c.clear-2.ensures ∙ ap (aims_of _) (sym c.clear.ensures);
+    }
 
 pub returns : goal.returns
 returns g c =

@@ -3,6 +3,7 @@ use Rattle.std.specs.Prelude.{if◌then◌else◌}
 use Rattle.std.specs.List.{refill}
 use Rattle.std.proofs.lemmas.List.{get_or_default, length-map}
 use Rattle.mscp_queue.specs.declared.drive.Drive.{Drive}
+use Rattle.mscp_queue.specs.Aims.{aims_of}
 use Rattle.mscp_queue.specs.Drives.{drive_of, has_number, replaced}
 use Rattle.mscp_queue.specs.Kept.{units_of}
 use Rattle.mscp_queue.specs.Lines.{Line}
@@ -27,11 +28,20 @@ invariant_of-self g c =
     let new : c.replace_drive.new.drives ≡ replaced c.command-command.result.unit c.serve-service.result.drive ds =
     c.replace_drive.ensures ∙ ap (replaced c.command-command.result.unit c.serve-service.result.drive) slice in
     let long : length c.replace_drive.new.drives ≡ length ds = ap length new ∙ length-map ds (λ (d : Drive). if has_number c.command-command.result.unit d then c.serve-service.result.drive else d) in
-    held_step c.self.inside.room c.self.inside.passing c.self.inside.longest place rs c.leave.new.waiting.items ds (refill (length ds) ds c.replace_drive.new.drives) c.self.inside.begun c.self.inside.serving _ c.args.block.now item
-    c.command-command.result c.drive_of-drive.result c.serve-service.result.drive c.serve-service.result.ended c.is_some-ends.result c.step_toll.result
-    c.self.invariant next.servable read c.command-command.ensures (c.drive_of-drive.ensures ∙ ap (λ l. drive_of l c.command-command.result.unit) c.as_slice.ensures.value)
-    c.serve-service.ensures.ended c.is_some-ends.ensures c.serve-service.ensures.drive c.step_toll.ensures.value c.serve-service.ensures.on_unit
-    c.leave.ensures refl (refilled ds c.replace_drive.new.drives long ∙ new)
+    let q = c.self.inside in
+    let ds' = refill (length ds) ds c.replace_drive.new.drives in
+    let now = refilled ds c.replace_drive.new.drives long ∙ new in
+    let drive = c.drive_of-drive.ensures ∙ ap (λ l. drive_of l c.command-command.result.unit) c.as_slice.ensures.value in
+    let units : units_of ds' ≡ units_of ds = units_step c.command-command.result.unit c.drive_of-drive.result c.serve-service.result.drive ds ds' c.args.block.now item c.self.invariant.held.units drive c.serve-service.ensures.drive now in
+    record {
+      held =
+          held_step q.room q.passing q.longest place rs c.leave.new.waiting.items ds ds' q.begun q.serving _ c.args.block.now item
+          c.command-command.result c.drive_of-drive.result c.serve-service.result.drive c.serve-service.result.ended c.is_some-ends.result c.step_toll.result
+          c.self.invariant.held next.servable read c.command-command.ensures drive
+          c.serve-service.ensures.ended c.is_some-ends.ensures c.serve-service.ensures.drive c.step_toll.ensures.value c.serve-service.ensures.on_unit
+          c.leave.ensures.left refl now;
+      aimed = c.leave.ensures.aims (units_of ds) c.self.invariant.aimed ∙ ap (λ us. aims_of us c.leave.new.waiting.items) (sym units);
+    }
 
 pub returns-clause-units : goal.returns-clause-units
 returns-clause-units g c =
@@ -41,6 +51,6 @@ returns-clause-units g c =
     let service = c.serve-service in
     let new : c.replace_drive.new.drives ≡ replaced number service.result.drive ds = c.replace_drive.ensures ∙ ap (replaced number service.result.drive) c.as_mut_slice.ensures.value in
     let long : length c.replace_drive.new.drives ≡ length ds = ap length new ∙ length-map ds (λ (d : Drive). if has_number number d then service.result.drive else d) in
-    units_step number c.drive_of-drive.result service.result.drive ds (refill (length ds) ds c.replace_drive.new.drives) c.args.block.now c.index-deref-place.result c.self.invariant.units
+    units_step number c.drive_of-drive.result service.result.drive ds (refill (length ds) ds c.replace_drive.new.drives) c.args.block.now c.index-deref-place.result c.self.invariant.held.units
     (c.drive_of-drive.ensures ∙ ap (λ l. drive_of l number) c.as_slice.ensures.value) service.ensures.drive (refilled ds c.replace_drive.new.drives long ∙ new)
     ∙ ap (λ (l : Line K). units_of l.drives) c.self.view_is

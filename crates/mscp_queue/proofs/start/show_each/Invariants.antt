@@ -4,10 +4,10 @@ use Rattle.std.specs.List.{range_with_len}
 use Rattle.mscp_queue.specs.Fronts.{is_closed}
 use Rattle.mscp_queue.specs.Views.{is_open_at}
 use Rattle.mscp_queue.proofs.Starting.{Looks}
-use Rattle.mscp_queue.proofs.start.show.Given as goal
+use Rattle.mscp_queue.proofs.start.show_each.Given as goal
 
-abbrev pub invariant-loop-record : goal.invariant-loop-record
-invariant-loop-record l = record {
-  looks : Looks l.passing l.drives l.records l.record-index l.front (filter (is_open_at l.passing l.records) (range_with_len 0 l.record-index)) l.view;
+abbrev pub invariant-loop-place : goal.invariant-loop-place
+invariant-loop-place l = record {
+  looks : Looks l.passing l.drives l.records l.place l.front (filter (is_open_at l.passing l.records) (range_with_len 0 l.place)) l.view;
   opens : is_closed l.front (length l.drives) ≡ false;
 }

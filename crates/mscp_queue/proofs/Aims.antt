@@ -1,0 +1,144 @@
+-- Where a command aims is where its drive and its first block are found.
+use Rattle.std.proofs.Common.{◌≡◌, ℕ, zero, suc, ◌+◌, ◌/◌, ◌<◌, ◌≤◌, true, cond, not, List, [], ◌∷◌, ◌++◌, map, take, drop, get_or, length, refl, ap, sym, ◌∙◌, subst, arith}
+use Rattle.std.specs.Prelude.{nat_eq, remove, unwrap_or}
+use Rattle.std.specs.List.{position}
+use Rattle.std.proofs.Math.Nat.{div-mul-le_self}
+use Rattle.std.proofs.lemmas.Nat.{le-div}
+use Rattle.std.proofs.lemmas.List.{drop-map, get_or-map, map-append, take-map}
+use Rattle.mscp_packet.specs.declared.command.Command.{Command}
+use Rattle.mscp_drive.specs.Shape.{Shape, cylinder_blocks, cylinder_of, last_cylinder}
+use Rattle.mscp_drive.specs.UnitList.{unit_found}
+use Rattle.mscp_queue.specs.declared.aim.Aim.{Aim}
+use Rattle.mscp_queue.specs.declared.drive.Drive.{Drive}
+use Rattle.mscp_queue.specs.Aims.{aim_of, aims_of, unit_place}
+use Rattle.mscp_queue.specs.Drives.{drive_of, has_number, one_block}
+use Rattle.mscp_queue.specs.Fronts.{drive_place}
+use Rattle.mscp_queue.specs.Kept.{HasBlocks, is_known, units_of}
+use Rattle.mscp_queue.specs.Orders.{first_block, is_move}
+use Rattle.mscp_queue.specs.Records.{Record, advanced, fresh_record, no_record, passed_by, record_at}
+use Rattle.mscp_queue.proofs.Fronts.{known_at, known_inside}
+use Rattle.mscp_queue.proofs.Placed.{cut_at, map_map}
+use Rattle.mscp_queue.proofs.Starting.{AllInside, first_inside}
+use Rattle.mscp_queue.proofs.Turns.{found_unit}
+
+-- ---- the place of a drive is that of its unit
+
+pub place_same : (ds : List Drive) (n : ℕ) → drive_place ds n ≡ unit_place (units_of ds) n
+place_same [] n = refl
+place_same (d ∷ ds) n = ap (λ k. cond (not (nat_eq d.unit.number n)) (1 + k) 0) (place_same ds n)
+
+pub place_found : (ds : List Drive) (n other : ℕ) → is_known (units_of ds) n ≡ true → unwrap_or (position (has_number n) ds) other ≡ unit_place (units_of ds) n
+place_found ds n other h = Rattle.mscp_queue.proofs.Fronts.place_found ds n other h ∙ place_same ds n
+
+pub place_inside : (ds : List Drive) (n : ℕ) → is_known (units_of ds) n ≡ true → unit_place (units_of ds) n < length ds
+place_inside ds n h = subst (λ k. k < length ds) (place_same ds n) (known_inside ds n h)
+
+-- ---- the cylinder of a block
+
+less_div : (a b k : ℕ) → a ≤ b → a / k ≤ b / k
+less_div a b zero h = omega arith
+less_div a b (suc k) h = le-div (a / suc k) b (suc k) (omega arith) (omega (arith, div-mul-le_self a (suc k)))
+
+-- no block of a unit lies past its last cylinder
+pub cylinder_within : (u : Shape) (block : ℕ) → block < u.size → cylinder_of u block ≤ last_cylinder u
+cylinder_within u block h = less_div _ _ (cylinder_blocks u) (omega arith)
+
+-- ---- an aim
+
+-- an aim as it is found
+pub aim_made : (ds : List Drive) (command : Command) (place block cylinder : ℕ) (d : Drive) → is_known (units_of ds) command.unit ≡ true → place ≡ unit_place (units_of ds) command.unit
+    → block ≡ first_block command.order → cylinder ≡ cylinder_of (get_or ds place d).unit block → record { drive = place; cylinder = cylinder } ≡ aim_of (units_of ds) command
+aim_made ds command place block cylinder d known at first is =
+    let drive : get_or ds place d ≡ drive_of ds command.unit = ap (λ i. get_or ds i d) (at ∙ sym (place_same ds command.unit)) ∙ (known_at ds command.unit d known).drive in
+    let unit : (get_or ds place d).unit ≡ unwrap_or (unit_found (units_of ds) command.unit) one_block = ap (λ (q : Drive). q.unit) drive ∙ sym (found_unit command.unit ds) in
+    let whole : cylinder ≡ cylinder_of (unwrap_or (unit_found (units_of ds) command.unit) one_block) (first_block command.order) =
+    is ∙ (λ i. cylinder_of (unit i) (first i)) in
+    λ i. record { drive = at i; cylinder = whole i }
+
+-- what stands past the end of a list of aims
+abbrev pub no_aim : Aim
+no_aim = record { drive = 0; cylinder = 0 }
+
+-- what is read of an aim leads to the drive of a record's unit, and to the cylinder of its first block
+pub record IsAimed (ds : List Drive) (r : Record) (at cylinder : ℕ) (d : Drive) : Type 0 where
+  pub place : at ≡ drive_place ds r.command.unit
+  pub drive : d ≡ drive_of ds r.command.unit
+  pub block : is_move r.command.order ≡ true → first_block r.command.order < d.unit.size
+  pub on : cylinder ≡ cylinder_of d.unit (first_block r.command.order)
+
+-- what is read of the aim at a place
+pub record Reads (ds : List Drive) (rs : List Record) (aims : List Aim) (place : ℕ) (r : Record) (at : ℕ) (other : Aim) : Type 0 where
+  pub below : place < length rs
+  pub aimed : aims ≡ aims_of (units_of ds) rs
+  pub inside : AllInside ds rs
+  pub record_is : r ≡ get_or rs place r
+  pub drive : at ≡ (get_or aims place other).drive
+
+own_blocks : (ds : List Drive) (rs : List Record) (aims : List Aim) (place : ℕ) (r : Record) (at : ℕ) (other : Aim) → Reads ds rs aims place r at other → HasBlocks (units_of ds) r.command
+own_blocks ds rs aims place r at other h = subst (λ (q : Record). HasBlocks (units_of ds) q.command) (sym h.record_is) (h.inside place r h.below)
+
+-- it is that of the record there
+own_aim : (ds : List Drive) (rs : List Record) (aims : List Aim) (place : ℕ) (r : Record) (at : ℕ) (other : Aim) → Reads ds rs aims place r at other → get_or aims place other ≡ aim_of (units_of ds) r.command
+own_aim ds rs aims place r at other h =
+    let of : Record → Aim = λ q. aim_of (units_of ds) q.command in
+    ap (λ zs. get_or zs place other) h.aimed ∙ (get_or-map of rs place r other h.below ∙ ap of (sym h.record_is))
+
+own_place : (ds : List Drive) (rs : List Record) (aims : List Aim) (place : ℕ) (r : Record) (at : ℕ) (other : Aim) → Reads ds rs aims place r at other → at ≡ drive_place ds r.command.unit
+own_place ds rs aims place r at other h = h.drive ∙ (ap (λ (a : Aim). a.drive) (own_aim ds rs aims place r at other h) ∙ sym (place_same ds r.command.unit))
+
+pub aim_below : (ds : List Drive) (rs : List Record) (aims : List Aim) (place : ℕ) (r : Record) (at : ℕ) (other : Aim) → Reads ds rs aims place r at other → at < length ds
+aim_below ds rs aims place r at other h =
+    subst (λ k. k < length ds) (sym (own_place ds rs aims place r at other h)) (known_inside ds r.command.unit (own_blocks ds rs aims place r at other h).0)
+
+pub aimed : (ds : List Drive) (rs : List Record) (aims : List Aim) (place : ℕ) (r : Record) (at : ℕ) (other : Aim) (d : Drive) → Reads ds rs aims place r at other → d ≡ get_or ds at d
+    → IsAimed ds r at (get_or aims place other).cylinder d
+aimed ds rs aims place r at other d h found =
+    let own = own_blocks ds rs aims place r at other h in
+    let there = own_place ds rs aims place r at other h in
+    let drive : d ≡ drive_of ds r.command.unit = found ∙ (ap (λ i. get_or ds i d) there ∙ (known_at ds r.command.unit d own.0).drive) in
+    record {
+      place = there;
+      drive = drive;
+      block = first_inside ds r at d there found own;
+      on =
+          ap (λ (a : Aim). a.cylinder) (own_aim ds rs aims place r at other h)
+          ∙ ap (λ (u : Shape). cylinder_of u (first_block r.command.order)) (found_unit r.command.unit ds ∙ ap (λ (q : Drive). q.unit) (sym drive));
+    }
+
+-- ---- the aims stay those of the records
+
+-- what is done with a record among others, it is done with its aim
+pub aim_removed : (us : List Shape) (rs : List Record) (place : ℕ) → remove (aims_of us rs) place ≡ aims_of us (remove rs place)
+aim_removed us rs place =
+    let of : Record → Aim = λ q. aim_of us q.command in
+    ap (λ zs. zs ++ drop (suc place) (map of rs)) (take-map of place rs)
+    ∙ (ap (λ zs. map of (take place rs) ++ zs) (drop-map of (suc place) rs) ∙ sym (map-append of (take place rs) (drop (suc place) rs)))
+
+-- a step that ends the command of a record takes its aim out
+pub aims_ended : (us : List Shape) (rs new : List Record) (place toll : ℕ) → new ≡ map (passed_by toll) (take place rs) ++ drop (place + 1) rs → remove (aims_of us rs) place ≡ aims_of us new
+aims_ended us rs new place toll e =
+    let of : Record → Aim = λ q. aim_of us q.command in
+    let A = take place rs in
+    let next : suc place ≡ place + 1 = omega arith in
+    aim_removed us rs place
+    ∙ (map-append of A (drop (suc place) rs)
+    ∙ (ap (λ zs. zs ++ map of (drop (suc place) rs)) (sym (map_map (passed_by toll) of A))
+    ∙ (ap (λ k. map of (map (passed_by toll) A) ++ map of (drop k rs)) next ∙ (sym (map-append of (map (passed_by toll) A) (drop (place + 1) rs)) ∙ ap (aims_of us) (sym e)))))
+
+-- and another leaves each aim as it is
+pub aims_kept : (us : List Shape) (rs new : List Record) (place toll : ℕ) → place < length rs → new ≡ map (passed_by toll) (take place rs) ++ (advanced (record_at rs place) ∷ drop (place + 1) rs)
+    → aims_of us rs ≡ aims_of us new
+aims_kept us rs new place toll l e =
+    let of : Record → Aim = λ q. aim_of us q.command in
+    let A = take place rs in
+    let r = record_at rs place in
+    let B = drop (place + 1) rs in
+    ap (aims_of us) (cut_at no_record rs place l)
+    ∙ (map-append of A (r ∷ B) ∙ (ap (λ zs. zs ++ map of (r ∷ B)) (sym (map_map (passed_by toll) of A)) ∙ (sym (map-append of (map (passed_by toll) A) (advanced r ∷ B)) ∙ ap (aims_of us) (sym e))))
+
+-- a command comes
+pub aims_pushed : (us : List Shape) (rs new : List Record) (aims aims' : List Aim) (command : Command) (aim : Aim) → aims ≡ aims_of us rs → aim ≡ aim_of us command → aims' ≡ aims ++ aim ∷ [] → new ≡ rs ++ fresh_record command ∷ []
+    → aims' ≡ aims_of us new
+aims_pushed us rs new aims aims' command aim old own more e =
+    let of : Record → Aim = λ q. aim_of us q.command in
+    more ∙ ((λ i. old i ++ own i ∷ []) ∙ (sym (map-append of rs (fresh_record command ∷ [])) ∙ ap (aims_of us) (sym e)))

@@ -1,0 +1,25 @@
+-- What of a command that waits is the same at each start, so that it is found once.
+use Rattle.std.specs.Prelude.{ℕ, nat_eq, List, map, unwrap_or}
+use Rattle.std.specs.List.{position_or_len}
+use Rattle.mscp_packet.specs.declared.command.Command.{Command}
+use Rattle.mscp_drive.specs.Shape.{Shape, cylinder_of}
+use Rattle.mscp_drive.specs.UnitList.{unit_found}
+use Rattle.mscp_queue.specs.declared.aim.Aim.{Aim}
+use Rattle.mscp_queue.specs.Drives.{one_block}
+use Rattle.mscp_queue.specs.Orders.{first_block}
+use Rattle.mscp_queue.specs.Records.{Record}
+
+-- the place of the unit of this number
+abbrev pub unit_place : List Shape → ℕ → ℕ
+unit_place units number = position_or_len (λ u. nat_eq u.number number) units
+
+-- the place of a command's unit, and the cylinder of its first block there
+abbrev pub aim_of : List Shape → Command → Aim
+aim_of units command = record {
+  drive = unit_place units command.unit;
+  cylinder = cylinder_of (unwrap_or (unit_found units command.unit) one_block) (first_block command.order);
+}
+
+-- the same of each record
+abbrev pub aims_of : List Shape → List Record → List Aim
+aims_of units rs = map (λ r. aim_of units r.command) rs
