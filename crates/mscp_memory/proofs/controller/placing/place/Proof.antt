@@ -1,29 +1,28 @@
 -- `place` moves a controller into the room that a handle has. Assumes `Logic`.
-use Rattle.std.proofs.Common.{◌≡◌, ℕ, List, [], ◌∷◌, ◌++◌, refl, sym, ap, ◌∙◌, lit<}
+use Rattle.std.proofs.Common.{◌≡◌, List, [], ◌∷◌, ◌++◌, refl, sym, ap, ◌∙◌, lit<}
 use Rattle.std.proofs.raw_atomic.Walks.{proved_at}
 use Rattle.std.proofs.VecSteps.Shapes.{after}
 use mathlib.Core.Bool.{Bool, true, false}
 use base.Fraction.{full_share}
-use base.Logic.{id⊢, ent, emp, via, guard_i}
+use base.Logic.{id⊢, ent, emp}
 use base.Fml.{Fml, ftrue, flft}
 use contract.Monad.{fact}
-use mir.Syntax.{named, Ty, Width, w64, int_big}
-use mir.Val.{Val, vunit, vint, has_ty, WT, Fits}
-use prog.Wp.{Env, WpFn}
+use mir.Syntax.{named, w64}
+use mir.Val.{Val, vunit, vint}
+use prog.Wp.{WpFn}
 use contract.Running.{tables}
-use types.Kit.{Item, ‵, raw, ◌⊛◌, prop, at_ret, ◌$◌, ◌∵◌, !, qed, done, move, keep, use0, use2, split, join, fsplit, fsplit3, fjoin, feq_i, rewrite, regoal, suffices, frame, group}
-use types.Run.{Opd, enter, of_opd, load, unit_lit, init, stop, fld, assigns, assigns_last, first, blocks, exec, returns}
+use types.Kit.{‵, raw, ◌⊛◌, prop, at_ret, ◌$◌, ◌∵◌, !, qed, done, move, keep, use0, use2, split, join, fsplit, fsplit3, fjoin, feq_i, rewrite, regoal, suffices, frame, group}
+use types.Run.{enter, of_opd, load, unit_lit, init, stop, fld, assigns, assigns_last, first, blocks, exec, returns}
 use types.ByLocal.{alloc_all, pass_all, free_all, look_at, get, through, sets, env}
 use seplogic.Ra.Ura.{Ura}
 use types.Logic.{Logic, sem}
 use types.Part.{whole, sub, look_in, store_in}
 use denote.Exit.{yes}
 use denote.RattleType.{RattleType}
-use denote.Laws.{Typed, shows}
+use denote.Laws.{shows}
 use denote.Shadow.{makes_shadow}
 use denote.Struct.Owning.{shape, to}
 use denote.Struct.Struct.{Struct}
-use lib.Dec.{T}
 use borrow.Table.OneValue.{part_in}
 use denote.Memory.{cell_at, lone}
 use denote.RawPtr.{Ptr, block_ptr, ptr_val, lies_at, room_at, in_a_block}
@@ -32,13 +31,13 @@ use denote.Signature.{plain}
 use denote.Steps.{nothing, heard, opens, closes, peeks, facts}
 use denote.Triple.Walked.{Stays, walk_of, says, stay_dropped, stay_ref, Goes-ref, Goes-dropped, ends_at}
 use Rattle.mscp_memory.specs.ControllerHandles.{is_room, placed}
-use Rattle.mscp_memory.specs.Rooms.{one_of, fault_unless, place_fault}
+use Rattle.mscp_memory.proofs.Placing.{one, big_lit, unmade}
+use Rattle.mscp_memory.specs.Rooms.{one_of, place_fault}
 use Rattle.mscp_memory.specs.ControllerRoom.{is_made_of, row as T'}
-use Rattle.mscp_memory.specs.declared.fault.RoomFault.{RoomFault}
 use Rattle.mscp_memory.specs.declared.controller.marks.TheConstants.{ROOM, SIZE, ALIGN}
 use Rattle.mscp_memory.specs.declared.controller.handle.Handle.{Handle}
 use Rattle.mscp_memory.specs.contracts.controller.handle.Handle.{the_type, the_row as R}
-use Rattle.std.specs.Prelude.{◌^◌, ◌<◌, nat_eq, Option, is_none}
+use Rattle.std.specs.Prelude.{◌^◌, ◌<◌, nat_eq}
 use Rattle.mscp_memory.proofs.controller.handle.Handle.TheLaws.{lowers}
 use Rattle.mscp_control.proofs.controller.Controller.TheLaws as controllers
 use Rattle.mscp_memory.specs.contracts.policy.Policy as policy
@@ -47,21 +46,7 @@ use Rattle.mscp_memory.specs.contracts.controller.placing.place as f
 use Rattle.mscp_memory.proofs.controller.placing.place.Statement.{statement}
 use Rattle.mscp_memory.proofs.controller.placing.place.Code as code
 
-one : (τ : Ty) (vs : List Val) → Typed (τ ∷ []) vs → (v : Val) × (vs ≡ v ∷ []) × (T (has_ty τ v) × WT v)
-one τ [] t = absurd t
-one τ (v ∷ []) t = (v, refl, t.0)
-one τ (v ∷ w ∷ vs) t = absurd t.1
-
--- a constant of many digits
-module _ {M : Type 1} {𝓤 : Ura M} {𝓛 : Logic 𝓤} {K : Type 0} {Γ : List (Item 𝓤)} {E : Env 𝓤 𝓛.H} where
-  big_lit : K → {w : Width} {n : ℕ} → Fits w n → Opd K 𝓛 Γ E (int_big w n) (vint w n)
-  big_lit t {w} {n} z = record { go = λ Kt h. via 𝓤 (Kt (vint w n)) h (guard_i 𝓤 (Fits w n) (Kt (vint w n)) z) }
-
 -- what is room isn't made
-unmade : (y z : Bool) (fault : Option RoomFault) → is_none (fault_unless y z fault) ≡ true → y ≡ false
-unmade true z fault e = absurd (mathlib.Core.Path.subst T (sym e) tt)
-unmade false z fault e = refl
-
 not_made : (h : Handle) → is_room h ≡ true → is_made_of h.mark ≡ false
 not_made h e = unmade (is_made_of h.mark) (nat_eq h.mark ROOM) (place_fault h.address h.length SIZE ALIGN) e
 

@@ -1,0 +1,32 @@
+-- What it takes to put a value of either type into a handle's room.
+--     one          a value of one type is one machine value
+--     big_lit      a constant of many digits
+--     unmade       what is room isn't made
+use Rattle.std.proofs.Common.{◌≡◌, ℕ, List, [], ◌∷◌, refl, sym}
+use mathlib.Core.Bool.{Bool, true, false}
+use base.Logic.{via, guard_i}
+use mir.Syntax.{Ty, Width, int_big}
+use mir.Val.{Val, vint, has_ty, WT, Fits}
+use prog.Wp.{Env}
+use types.Kit.{Item}
+use types.Run.{Opd}
+use seplogic.Ra.Ura.{Ura}
+use types.Logic.{Logic}
+use denote.Laws.{Typed}
+use lib.Dec.{T}
+use Rattle.std.specs.Prelude.{Option, is_none}
+use Rattle.mscp_memory.specs.Rooms.{fault_unless}
+use Rattle.mscp_memory.specs.declared.fault.RoomFault.{RoomFault}
+
+pub one : (τ : Ty) (vs : List Val) → Typed (τ ∷ []) vs → (v : Val) × (vs ≡ v ∷ []) × (T (has_ty τ v) × WT v)
+one τ [] t = absurd t
+one τ (v ∷ []) t = (v, refl, t.0)
+one τ (v ∷ w ∷ vs) t = absurd t.1
+
+module _ {M : Type 1} {𝓤 : Ura M} {𝓛 : Logic 𝓤} {K : Type 0} {Γ : List (Item 𝓤)} {E : Env 𝓤 𝓛.H} where
+  pub big_lit : K → {w : Width} {n : ℕ} → Fits w n → Opd K 𝓛 Γ E (int_big w n) (vint w n)
+  big_lit t {w} {n} z = record { go = λ Kt h. via 𝓤 (Kt (vint w n)) h (guard_i 𝓤 (Fits w n) (Kt (vint w n)) z) }
+
+pub unmade : (y z : Bool) (fault : Option RoomFault) → is_none (fault_unless y z fault) ≡ true → y ≡ false
+unmade true z fault e = absurd (mathlib.Core.Path.subst T (sym e) tt)
+unmade false z fault e = refl
