@@ -12,11 +12,10 @@ use Rattle.mscp_queue.specs.declared.aim.Aim.{Aim}
 use Rattle.mscp_queue.specs.declared.drive.Drive.{Drive}
 use Rattle.mscp_queue.specs.Aims.{aim_of, aims_of, unit_place}
 use Rattle.mscp_queue.specs.Drives.{drive_of, has_number, one_block}
-use Rattle.mscp_queue.specs.Fronts.{drive_place}
 use Rattle.mscp_queue.specs.Kept.{HasBlocks, is_known, units_of}
 use Rattle.mscp_queue.specs.Orders.{first_block, is_move}
 use Rattle.mscp_queue.specs.Records.{Record, advanced, fresh_record, no_record, passed_by, record_at}
-use Rattle.mscp_queue.proofs.Fronts.{known_at, known_inside}
+use Rattle.mscp_queue.proofs.Fronts.{drive_place, known_at, known_inside}
 use Rattle.mscp_queue.proofs.Placed.{cut_at, map_map}
 use Rattle.mscp_queue.proofs.Starting.{AllInside, first_inside}
 use Rattle.mscp_queue.proofs.Turns.{found_unit}

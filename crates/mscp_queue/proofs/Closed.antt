@@ -9,13 +9,13 @@ use Rattle.mscp_queue.specs.declared.drive.Drive.{Drive}
 use Rattle.mscp_queue.specs.declared.view.Choice.{Choice}
 use Rattle.mscp_queue.specs.declared.front.Front.{Front}
 use Rattle.mscp_queue.specs.Drives.{fresh_drive, one_block}
-use Rattle.mscp_queue.specs.Fronts.{drive_place, is_closed, nobody}
+use Rattle.mscp_queue.specs.Fronts.{is_closed, nobody}
 use Rattle.mscp_queue.specs.Kept.{is_known, units_of}
 use Rattle.mscp_queue.specs.Orders.{is_sequential}
 use Rattle.mscp_queue.specs.Records.{Record, no_record, record_at}
 use Rattle.mscp_queue.specs.Views.{is_affordable, is_free, is_open, is_open_at, open_places}
 use Rattle.mscp_queue.proofs.Lists.{range_more}
-use Rattle.mscp_queue.proofs.Fronts.{IsFront, is_of, known_inside, let_is}
+use Rattle.mscp_queue.proofs.Fronts.{IsFront, drive_place, is_of, known_inside, let_is}
 use Rattle.mscp_queue.proofs.Starting.{AllInside, Looks}
 
 -- ---- those in front let nobody start

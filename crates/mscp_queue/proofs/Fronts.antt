@@ -1,7 +1,7 @@
 -- What is kept of the records in front says what may start.
 use Rattle.std.proofs.Common.{◌≡◌, ℕ, suc, ◌+◌, ◌<◌, Bool, true, false, cond, not, ◌&&◌, ◌||◌, List, [], ◌∷◌, ◌++◌, set, get_or, length, refl, ap, sym, ◌∙◌, ⊎_elim, subst, arith}
 use Rattle.std.specs.Prelude.{find, nat_eq, nat_le, nat_lt, if◌then◌else◌, is_some, replicate, unwrap_or, Some, None}
-use Rattle.std.specs.List.{AllByRecursion, list_all, list_any, position}
+use Rattle.std.specs.List.{AllByRecursion, list_all, list_any, position, position_or_len}
 use Rattle.std.proofs.lemmas.Grind.{get_or-set_at}
 use Rattle.std.proofs.lemmas.List.{get_or-replicate, get_or-set_other, length-set, length-replicate}
 use Rattle.std.proofs.lemmas.List.Folds.{list_any-append, list_all-append}
@@ -10,13 +10,17 @@ use Rattle.mscp_queue.proofs.Lists.{every_weaker}
 use Rattle.mscp_queue.specs.declared.drive.Drive.{Drive}
 use Rattle.mscp_queue.specs.declared.front.Front.{Front}
 use Rattle.mscp_queue.specs.Drives.{drive_of, fresh_drive, has_number, one_block}
-use Rattle.mscp_queue.specs.Fronts.{drive_place, is_let, nobody, with_record}
+use Rattle.mscp_queue.specs.Fronts.{is_let, nobody, with_record}
 use Rattle.mscp_queue.specs.Kept.{is_known, units_of}
 use Rattle.mscp_queue.specs.Orders.{is_sequential}
 use Rattle.mscp_queue.specs.Records.{Record}
 use Rattle.mscp_queue.specs.Views.{fences, is_free, is_open}
 
 -- ---- the place of a drive
+
+-- the place of the drive of the unit of this number
+abbrev pub drive_place : List Drive → ℕ → ℕ
+drive_place ds number = position_or_len (has_number number) ds
 
 -- the drive of a known unit stands at its place
 pub record IsPlaced (ds : List Drive) (n place : ℕ) (other : Drive) : Type 0 where

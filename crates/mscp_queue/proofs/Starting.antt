@@ -10,13 +10,13 @@ use Rattle.mscp_drive.specs.UnitList.{unit_found}
 use Rattle.mscp_queue.specs.declared.drive.Drive.{Drive}
 use Rattle.mscp_queue.specs.declared.view.Choice.{Choice}
 use Rattle.mscp_queue.specs.declared.front.Front.{Front}
-use Rattle.mscp_queue.specs.Fronts.{drive_place, is_let, nobody, with_record}
+use Rattle.mscp_queue.specs.Fronts.{is_let, nobody, with_record}
 use Rattle.mscp_queue.specs.Kept.{HasBlocks, is_known, units_of}
 use Rattle.mscp_queue.specs.Orders.{first_block, is_move}
 use Rattle.mscp_queue.specs.Records.{Record, drive_at, no_record, record_at}
 use Rattle.mscp_queue.specs.Views.{choice_of, choices_at, is_open, is_open_at, open_places}
 use Rattle.mscp_queue.proofs.Lists.{every_kept, every_weaker, range_below, range_more}
-use Rattle.mscp_queue.proofs.Fronts.{IsFront, front_more, front_none, known_at, let_is}
+use Rattle.mscp_queue.proofs.Fronts.{IsFront, drive_place, front_more, front_none, known_at, let_is}
 use Rattle.mscp_queue.proofs.Held.{some_steps}
 use Rattle.mscp_queue.proofs.Turns.{found_unit, inside_of}
 

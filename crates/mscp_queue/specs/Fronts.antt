@@ -1,15 +1,9 @@
 -- What is kept of the records in front of a place while a view is made.
-use Rattle.std.specs.Prelude.{ℕ, Bool, true, false, not, ◌&&◌, ◌||◌, if◌then◌else◌, nat_lt, List, take, replicate, slice_index_or, slice_set}
-use Rattle.std.specs.List.{list_all, position_or_len}
-use Rattle.mscp_queue.specs.declared.drive.Drive.{Drive}
+use Rattle.std.specs.Prelude.{ℕ, Bool, true, false, not, ◌&&◌, ◌||◌, if◌then◌else◌, nat_lt, take, replicate, slice_index_or, slice_set}
+use Rattle.std.specs.List.{list_all}
 use Rattle.mscp_queue.specs.declared.front.Front.{Front}
-use Rattle.mscp_queue.specs.Drives.{has_number}
 use Rattle.mscp_queue.specs.Orders.{is_sequential}
 use Rattle.mscp_queue.specs.Records.{Record}
-
--- the place of the drive of the unit of this number
-abbrev pub drive_place : List Drive → ℕ → ℕ
-drive_place ds number = position_or_len (has_number number) ds
 
 -- nobody is in front
 abbrev pub nobody : Front
