@@ -1,7 +1,7 @@
 // Figures: how many steps a waiting command may still wait, at most.
 
 ghost use Rattle.std.specs.Prelude.{◌≡◌, ◌≤◌, ◌<◌, ◌+◌, ◌*◌, ◌^◌, length, filter, sum_by, take, drop, All};
-ghost use Rattle.std.specs.List.{position};
+ghost use Rattle.std.specs.List.{list_any, position};
 ghost use Rattle.mscp_queue.specs.Figures.{figure_at, figure_of_reference, figures};
 ghost use Rattle.mscp_queue.specs.Records.{has_reference, is_in_service, left_if_serving, left_of};
 
@@ -87,6 +87,17 @@ pub(crate) fn place_of(records: &[Record], reference: u32) -> Option<usize>
     records
         .iter()
         .position(|record| record.command().reference == reference)
+}
+
+/// Whether a record has the reference number. Nearly always none has, so each is looked at without a branch.
+pub(crate) fn has_any(records: &[Record], reference: u32) -> bool
+    ensures { result ≡ list_any (has_reference reference) records.now }
+{
+    let mut found = false;
+    for record in records {
+        found |= record.command().reference == reference;
+    }
+    found
 }
 
 /// The figure of the waiting command with the reference number, 0 if there is none.

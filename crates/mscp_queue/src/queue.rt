@@ -13,7 +13,7 @@ ghost use Rattle.mscp_queue.specs.Serving.{IsNext, is_begun};
 use crate::aim::Aim;
 use crate::block::Block;
 use crate::drive::{Drive, drive_of, drives_of, renew_drives, replace_drive};
-use crate::figure::{figure_of_reference, figures, place_of};
+use crate::figure::{figure_of_reference, figures, has_any, place_of};
 use crate::outcome::aborted_end;
 use crate::picker::Picker;
 use crate::record::Record;
@@ -130,10 +130,7 @@ impl<K: Picker> Queue<K> {
     pub fn contains(&self, reference: u32) -> bool
         ensures { result ≡ list_any (has_reference reference) self.now.waiting }
     {
-        self.waiting
-            .as_slice()
-            .iter()
-            .any(|record| record.command().reference == reference)
+        has_any(self.waiting.as_slice(), reference)
     }
 
     /// Whether the unit of this number is online: false where it isn't configured.

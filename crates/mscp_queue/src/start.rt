@@ -125,7 +125,6 @@ fn show_all(
     drives: &[Drive],
     passing: u32,
 ) -> bool
-    requires view { view.old ≡ [] }
     requires few { length records.now ≤ 64 }
     requires drives { length drives.now ≤ 16 }
     requires heads { All IsOnUnit drives.now }
@@ -134,6 +133,7 @@ fn show_all(
     requires aimed { aims.now ≡ aims_of (units_of drives.now) records.now }
     ensures { result ≡ true → view.new ≡ view_of passing drives.now records.now }
 {
+    view.make_room(records.len());
     for place in 0..records.len() {
         let record = &records[place];
         if !is_passable(record, passing) {
@@ -141,7 +141,7 @@ fn show_all(
         }
         let aim = aims[place];
         let at = usize::from(aim.drive);
-        view.put(place, choice_of(record, &drives[at], aim.cylinder));
+        view.set(place, choice_of(record, &drives[at], aim.cylinder));
     }
     true
 }
@@ -157,15 +157,15 @@ fn show(view: &mut View, records: &[Record], aims: &[Aim], drives: &[Drive], pas
     requires aimed { aims.now ≡ aims_of (units_of drives.now) records.now }
     ensures { view.new ≡ view_of passing drives.now records.now }
 {
-    view.clear();
     if !show_all(view, records, aims, drives, passing) {
         view.clear();
         show_each(view, records, aims, drives, passing);
     }
 }
 
-/// The place of the record that the picker picks, of those that may start: the view is made anew, and shows these. The
-/// record is found by the reference number that the picker saw, since only one has it.
+/// The place of the record that the picker picks, of those that may start: the view is made anew, and shows these. Where
+/// all may, a record has its place in the view. Else it is found by the reference number that the picker saw, since only
+/// one has it.
 pub(crate) fn picked_place<K: Picker>(
     records: &[Record],
     aims: &[Aim],
@@ -187,6 +187,9 @@ pub(crate) fn picked_place<K: Picker>(
     ensures picked { IsPick (K.picks picker.now) passing drives.now records.now result }
 {
     show(view, records, aims, drives, passing);
-    let picked = view.choices()[picker.pick(view)];
-    place_of(records, picked.reference).unwrap()
+    let picked = picker.pick(view);
+    if view.choices().len() == records.len() {
+        return picked;
+    }
+    place_of(records, view.choices()[picked].reference).unwrap()
 }

@@ -1,6 +1,6 @@
 // What a picker sees.
 
-ghost use Rattle.std.specs.Prelude.{◌≡◌, ◌↔◌, ◌<◌, ◌≤◌, [], ◌∷◌, ◌++◌, length, IsSome, IfSome};
+ghost use Rattle.std.specs.Prelude.{◌≡◌, ◌↔◌, ◌<◌, ◌≤◌, [], ◌∷◌, ◌++◌, length, slice_set, IsSome, IfSome};
 
 use mscp_packet::Class;
 use std::fmt;
@@ -99,14 +99,23 @@ impl View {
         self.count += 1;
     }
 
-    /// Appends a choice, where the caller knows how many there are: so a loop that counts doesn't read it each time.
-    pub(crate) fn put(&mut self, place: usize, choice: Choice)
-        requires next { place ≡ length self.old }
-        requires room { place < 64 }
-        ensures { self.new ≡ self.old ++ choice ∷ [] }
+    /// Makes room for so many choices, which the caller sets one by one: as yet they are those of earlier views. So a loop
+    /// that counts needn't count here too.
+    pub(crate) fn make_room(&mut self, count: usize)
+        requires { count ≤ 64 }
+        ensures { length self.new ≡ count }
+    {
+        self.count = count;
+    }
+
+    /// Sets the choice at a place.
+    #[tactic(auto, using(crate::proofs::Lists::set_within))]
+    pub(crate) fn set(&mut self, place: usize, choice: Choice)
+        requires inside { place < length self.old }
+        requires few { place < 64 }
+        ensures { self.new ≡ slice_set self.old place choice }
     {
         self.choices[place] = choice;
-        self.count = place + 1;
     }
 
     /// The choices, in their order.
