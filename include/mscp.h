@@ -256,7 +256,7 @@ static inline struct mscp_host *mscp_host_in_memory(void *memory, size_t length)
 /* Makes a controller in the handle's memory: of these limits, of so many units in rising order of their numbers, served
  * by a picker of enum mscp_picker. MSCP_DONE, or the first fault in this order: those of the memory (-11 to -15),
  * MSCP_BAD_PICKER, MSCP_MANY_UNITS, those of the first unit that has one (-21 to -24), MSCP_UNITS_FALL, MSCP_NO_UNITS,
- * those of the limits (-28 to -31). The controller is made on the stack, of which this takes some 22 KiB (no other call
+ * those of the limits (-28 to -31). The controller is made on the stack, of which this takes some 23 KiB (no other call
  * takes over 2), and is moved into the memory. That may go at any time, without a call. */
 int32_t mscp_init(struct mscp *mscp, const struct mscp_limits *limits, const struct mscp_unit *units, size_t count,
                   uint32_t picker);
