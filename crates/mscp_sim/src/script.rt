@@ -13,6 +13,7 @@ mod law;
 mod lines;
 mod numbers;
 mod pieces;
+mod plain;
 mod reported;
 #[cfg(test)]
 mod tests;
