@@ -8,12 +8,13 @@ use Rattle.std.proofs.lemmas.Bool.Decides.{nat_tests}
 use Rattle.std.proofs.lemmas.List.{append_assoc, append-nil, length-append, length-drop, length-take-le, take-append-drop, take_all}
 use Rattle.std.proofs.Math.Seq.{take-append_seam}
 use Rattle.std.specs.Str.Parse.{digits_value}
+use Rattle.mscp_packet.specs.declared.command.Order.{Order}
 use Rattle.mscp_packet.specs.declared.command.Order.TheVariants as orders
 use Rattle.mscp_packet.specs.declared.command.MoveKind.{MoveKind}
 use Rattle.mscp_sim.specs.Lexical.{is_comment, is_digit, is_numeral, is_printed, is_some_word, lines, narrow, number, said, steps_in, wide, without_empty_last, words}
-use Rattle.mscp_sim.specs.Plain.{Asks, Cuts, CutsWord, Ends, IsApart, IsNumeral, IsPlain, is_letter}
-use Rattle.mscp_sim.specs.Requests.{asked, form_of, request, sent}
-use Rattle.mscp_sim.specs.Grammar.{Place, said_at}
+use Rattle.mscp_sim.specs.Plain.{plain_request, Asks, Cuts, CutsWord, Ends, IsApart, IsNumeral, IsPlain, is_letter}
+use Rattle.mscp_sim.specs.Requests.{asked, events_of, form_of, request, sent}
+use Rattle.mscp_sim.specs.Grammar.{HasGone, Place, next, said_at}
 use Rattle.mscp_sim.specs.Outcome.{in_line, onward, outcome, rest_outcome}
 use Rattle.mscp_sim.specs.declared.script.events.Form.{Form}
 use Rattle.mscp_sim.specs.declared.script.events.Form.TheVariants as forms
@@ -21,6 +22,9 @@ use Rattle.mscp_sim.specs.declared.script.events.Request.{Request}
 use Rattle.mscp_sim.specs.declared.script.events.Request.TheVariants as requests
 use Rattle.mscp_sim.specs.declared.script.fault.Cause.{Cause}
 use Rattle.mscp_sim.specs.declared.script.fault.Cause.TheVariants as causes
+use Rattle.mscp_sim.specs.declared.script.plain.Plain.{Plain}
+use Rattle.mscp_control.specs.Settings.{Settings}
+use Rattle.mscp_control.specs.declared.event.Event.{Event}
 use Rattle.mscp_sim.proofs.Outcomes.{speaks}
 use Rattle.mscp_sim.proofs.Pieces.{front_len, front_len_is, parts_after, split_parts, words_none}
 
@@ -174,6 +178,14 @@ transfer_asks kind xs ys zs us vs r u c b p q s t = (
   λ more behind e. p.2 _ behind (q.2 _ behind (s.2 _ behind (t.2 more behind e))),
 )
 
+pub other_asks : (order : Order) (xs ys zs : List ℕ) (r u : ℕ) → CutsWord wide r xs ys → CutsWord narrow u ys zs → Asks (forms.Plain order) (sent r u order) xs zs
+unfolding asked
+other_asks order xs ys zs r u p q = (p.0 ∷ q.0 ∷ [], rw (p.1, q.1) refl, λ more behind e. p.2 _ behind (q.2 more behind e))
+
+pub poll_asks : (xs ys zs : List ℕ) (r o : ℕ) → CutsWord wide r xs ys → CutsWord wide o ys zs → Asks forms.Status (sent r 0 (orders.Status o)) xs zs
+unfolding asked
+poll_asks xs ys zs r o p q = (p.0 ∷ q.0 ∷ [], rw (p.1, q.1) refl, λ more behind e. p.2 _ behind (q.2 more behind e))
+
 pub steps_asks : (xs ys : List ℕ) (n : ℕ) → CutsWord wide n xs ys → 1 ≤ n → n ≤ 1000 → Asks forms.Step (requests.Steps n) xs ys
 unfolding asked
 steps_asks xs ys n p low high =
@@ -254,3 +266,12 @@ line_length bytes behind what r = omega (arith, ap length r.whole, length-append
 
 pub line_of : (bytes behind : List ℕ) (what : Request) (r : IsPlain bytes what behind) → take (length bytes - length behind - 1) bytes ≡ r.line
 line_of bytes behind what r = rw (line_length bytes behind what r) (ap (take (length r.line)) r.whole ∙ take-append_seam r.line (10 ∷ behind))
+
+-- what a plain line leads to, where its events aren't too many
+pub plain_next : (s : Settings) (es : List Event) (said : List (List ℕ)) (plain : Plain) (n : ℕ) → request said ≡ Ok (plain_request plain)
+    → length es + length (events_of (plain_request plain)) ≤ 1000000
+    → in_line n (next (HasGone s es) said) ≡ Ok (HasGone s (es ++ events_of (plain_request plain)))
+unfolding next
+plain_next s es said plain n asks few =
+    let fits : nat_le (length es + length (events_of (plain_request plain))) 1000000 ≡ true = grind (arith, nat_tests) in
+    rw (asks, fits) refl

@@ -19,7 +19,7 @@ use mscp_packet::{Command, MoveKind, Order, write_command};
 use std::alloc::Global;
 
 /// The most events of a script.
-const MOST_EVENTS: usize = 1_000_000;
+pub const MOST_EVENTS: usize = 1_000_000;
 
 /// The most steps of one line.
 pub const MOST_STEPS: u32 = 1000;
@@ -142,6 +142,7 @@ fn read_request(mut words: Words<'_>) -> Result<Request, Cause>
 }
 
 /// The form of the line of this first word.
+#[inline]
 #[tactic(auto, unfolding(crate::specs::Requests::form_of))]
 pub fn form_of(word: &[u8]) -> Option<Form>
     ensures { result ≡ requests.form_of word.now }

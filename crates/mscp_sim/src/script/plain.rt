@@ -4,6 +4,7 @@
 ghost use Rattle.std.specs.Prelude.{◌≡◌, ◌≤◌, [], true, not, position, take, length, IfSome};
 ghost use Rattle.std.specs.List.{list_all};
 ghost use Rattle.mscp_sim.specs.Lexical as lexical;
+ghost use Rattle.mscp_sim.specs.Requests as requests;
 ghost use Rattle.mscp_sim.specs.Plain.{Asks, CutsWord, Ends, IsNumeral, IsPlain, is_letter, plain_request};
 
 use crate::script::events::{Form, MOST_STEPS, Request, form_of};
@@ -33,6 +34,16 @@ impl Plain {
             Plain::Take => Request::Take,
             Plain::Look => Request::Look,
             Plain::Steps(count) => Request::Steps(count),
+        }
+    }
+
+    /// How many events it is.
+    pub fn event_count(self) -> usize
+        ensures { result ≡ length (requests.events_of (plain_request self)) }
+    {
+        match self {
+            Plain::Send(_) | Plain::Take | Plain::Look => 1,
+            Plain::Steps(count) => count as usize,
         }
     }
 }
@@ -100,6 +111,8 @@ impl<'a> Fields<'a> {
     {
         match form {
             Form::Transfer(kind) => Some(Plain::Send(self.transfer(kind)?)),
+            Form::Plain(order) => Some(Plain::Send(self.other(order)?)),
+            Form::Status => Some(Plain::Send(self.poll()?)),
             Form::Step => Some(Plain::Steps(self.steps()?)),
             Form::Take => Some(Plain::Take),
             Form::Look => Some(Plain::Look),
@@ -120,6 +133,34 @@ impl<'a> Fields<'a> {
             reference,
             unit,
             order: Order::Move(kind, count, block),
+        })
+    }
+
+    /// Cuts off the fields of another command to a unit.
+    fn other(&mut self, order: Order) -> Option<Command>
+        ensures { IfSome result (λ command. Asks (Form.Plain order) (Request.Send command) self.old.rest.now
+            self.new.rest.now) }
+    {
+        let reference = self.wide()?;
+        let unit = self.narrow()?;
+        Some(Command {
+            reference,
+            unit,
+            order,
+        })
+    }
+
+    /// Cuts off the fields of a poll.
+    fn poll(&mut self) -> Option<Command>
+        ensures { IfSome result (λ command. Asks Form.Status (Request.Send command) self.old.rest.now
+            self.new.rest.now) }
+    {
+        let reference = self.wide()?;
+        let other = self.wide()?;
+        Some(Command {
+            reference,
+            unit: 0,
+            order: Order::Status(other),
         })
     }
 

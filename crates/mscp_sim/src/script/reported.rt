@@ -11,7 +11,7 @@ ghost use Rattle.mscp_sim.specs.Simulated.{IsReport};
 ghost use Rattle.mscp_sim.specs.declared.script.events.TheConstants.{MOST_EVENTS};
 
 use crate::running::Run;
-use crate::script::events::request_after;
+use crate::script::events::{MOST_EVENTS, request_after};
 use crate::script::fault::{ReadFault, ScriptFault};
 use crate::script::header::read_header;
 use crate::script::lines::{Asked, Lines};
@@ -58,7 +58,14 @@ fn run_line(run: &mut Run, asked: Asked<'_>) -> Result<(), ReadFault>
     ensures next { (c : Settings) (es : List Event) → Runs c es run.old → RunsTo (HasGone c) c result run.new
         (in_line asked.entry.line.number (next (HasGone c es) (lexical.words asked.entry.line.words.rest.now))) }
 {
-    let request = request_after(asked, run.count() as usize)?;
+    let count = run.count() as usize;
+    if let Some(plain) = asked.plain {
+        if plain.event_count() <= MOST_EVENTS - count {
+            run.meet_plain(plain)?;
+            return Ok(());
+        }
+    }
+    let request = request_after(asked, count)?;
     run.meet(&request)?;
     Ok(())
 }
