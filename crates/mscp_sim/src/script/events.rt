@@ -141,8 +141,8 @@ fn read_request(mut words: Words<'_>) -> Result<Request, Cause>
     read_fields(form, words)
 }
 
-/// The form of the line of this first word.
-#[inline]
+/// The form of the line of this first word. It is made part of its callers, which look at the form next.
+#[inline(always)]
 #[tactic(auto, unfolding(crate::specs::Requests::form_of))]
 pub fn form_of(word: &[u8]) -> Option<Form>
     ensures { result ≡ requests.form_of word.now }
