@@ -1,6 +1,7 @@
 pub mod Fronts
 pub mod Growing
 pub mod Pieces
+pub mod PlainLines
 pub mod Digits
 pub mod Outcomes
 pub mod Rising

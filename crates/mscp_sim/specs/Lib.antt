@@ -5,6 +5,7 @@ pub mod Steps
 pub mod Lexical
 pub mod Requests
 pub mod Grammar
+pub mod Plain
 pub mod Outcome
 pub mod Simulated
 pub mod Running

@@ -5,12 +5,13 @@ ghost use Rattle.mscp_control.specs.Holdings.{fresh};
 ghost use Rattle.mscp_control.specs.Settings.{IsValid};
 ghost use Rattle.mscp_control.specs.declared.event.Event.TheVariants as events;
 ghost use Rattle.mscp_queue.specs.declared.block.Block.TheVariants.{Good};
+ghost use Rattle.mscp_sim.specs.Plain.{plain_request};
 ghost use Rattle.mscp_sim.specs.Requests.{events_of};
 ghost use Rattle.mscp_sim.specs.Running.{Meets, Ran};
 ghost use Rattle.mscp_sim.specs.Text.{finished, reported};
 
 use crate::reporting::Reporter;
-use crate::script::Request;
+use crate::script::{Plain, Request};
 use mscp_control::{Block, Config, Controller, OutOfMemory, Sweep};
 use mscp_packet::write_command;
 use std::alloc::Global;
@@ -104,6 +105,21 @@ impl Run {
             Request::Look => self.look(),
             Request::Steps(count) => self.steps(*count),
             Request::Bad(code) => self.step(Block::Bad(*code)),
+        }
+    }
+
+    /// The events of a plain line come.
+    pub fn meet_plain(&mut self, plain: Plain) -> Result<(), OutOfMemory>
+        requires { self.old.reporter.count + length (events_of (plain_request plain)) < 2 ^ 64 }
+        ensures met { OnOk result (Meets self.old self.new (events_of (plain_request plain))) }
+        ensures count { OnOk result (self.new.reporter.count
+            ≡ self.old.reporter.count + length (events_of (plain_request plain))) }
+    {
+        match plain {
+            Plain::Send(command) => self.send(write_command(&command).as_slice()),
+            Plain::Take => self.take(),
+            Plain::Look => self.look(),
+            Plain::Steps(count) => self.steps(count),
         }
     }
 

@@ -13,6 +13,7 @@ mod law;
 mod lines;
 mod numbers;
 mod pieces;
+mod plain;
 mod reported;
 #[cfg(test)]
 mod tests;
@@ -24,6 +25,7 @@ pub use crate::script::fault::{Cause, ReadFault, ScriptFault};
 use crate::script::header::read_header;
 pub use crate::script::law::scripts_have_one_meaning;
 use crate::script::lines::Lines;
+pub use crate::script::plain::Plain;
 pub use crate::script::reported::report_script;
 use mscp_control::{Config, Event};
 use std::alloc::Global;

@@ -11,10 +11,10 @@ ghost use Rattle.mscp_sim.specs.Simulated.{IsReport};
 ghost use Rattle.mscp_sim.specs.declared.script.events.TheConstants.{MOST_EVENTS};
 
 use crate::running::Run;
-use crate::script::events::request_after;
+use crate::script::events::{MOST_EVENTS, request_after};
 use crate::script::fault::{ReadFault, ScriptFault};
 use crate::script::header::read_header;
-use crate::script::lines::{Line, Lines};
+use crate::script::lines::{Asked, Lines};
 use crate::script::lines_of;
 use mscp_control::runs_keep_the_promise;
 use mscp_queue::Sweep;
@@ -45,20 +45,27 @@ fn run_events(lines: &mut Lines<'_>, run: &mut Run) -> Result<(), ReadFault>
     ensures { (c : Settings) → Runs c [] run.old → RunsTo (λ events. (c, events)) c result run.new
         (rest_outcome lines.old.number (HasGone c []) lines.old.rest.now) }
 {
-    while let Some(line) = lines.next_line()? {
-        run_line(run, line)?;
+    while let Some(asked) = lines.next_asked()? {
+        run_line(run, asked)?;
     }
     Ok(())
 }
 
 /// Has a run meet the events of a line.
-fn run_line(run: &mut Run, line: Line<'_>) -> Result<(), ReadFault>
+fn run_line(run: &mut Run, asked: Asked<'_>) -> Result<(), ReadFault>
     requires { run.old.reporter.count ≤ MOST_EVENTS }
     ensures few { OnOk result (run.new.reporter.count ≤ MOST_EVENTS) }
     ensures next { (c : Settings) (es : List Event) → Runs c es run.old → RunsTo (HasGone c) c result run.new
-        (in_line line.entry.number (next (HasGone c es) (lexical.words line.entry.words.rest.now))) }
+        (in_line asked.entry.line.number (next (HasGone c es) (lexical.words asked.entry.line.words.rest.now))) }
 {
-    let request = request_after(line, run.count() as usize)?;
+    let count = run.count() as usize;
+    if let Some(plain) = asked.plain {
+        if plain.event_count() <= MOST_EVENTS - count {
+            run.meet_plain(plain)?;
+            return Ok(());
+        }
+    }
+    let request = request_after(asked, count)?;
     run.meet(&request)?;
     Ok(())
 }
