@@ -1,7 +1,6 @@
 -- A plain line: printed, ended by a line feed, and read from its first byte to its last.
-use Rattle.std.specs.Prelude.{◌≡◌, ℕ, ◌≤◌, ◌&&◌, nat_le, Bool, true, false, List, [], ◌∷◌, ◌++◌, length, take, Option, Result, Ok}
+use Rattle.std.specs.Prelude.{◌≡◌, ℕ, ◌≤◌, ◌&&◌, nat_le, Bool, true, false, List, [], ◌∷◌, ◌++◌, length, take, Result, Ok}
 use Rattle.std.specs.List.{list_all}
-use Rattle.std.specs.Option.{ForSome}
 use Rattle.std.specs.Str.Parse.{digits_value}
 use Rattle.mscp_sim.specs.Lexical.{is_comment, is_digit, is_printed, words}
 use Rattle.mscp_sim.specs.Requests.{asked, request}
@@ -61,7 +60,3 @@ pub record IsPlain (bytes : List ℕ) (what : Request) (behind : List ℕ) : Typ
   pub printed : list_all is_printed line ≡ true
   pub said : is_comment line ≡ false
   pub asks : request (words line) ≡ Ok what
-
--- what was read with a line, if it was, is what its words ask for
-abbrev pub Agrees : Option Plain → List (List ℕ) → Type 0
-Agrees plain said = ForSome plain (λ p. request said ≡ Ok (plain_request p))

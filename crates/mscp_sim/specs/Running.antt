@@ -7,7 +7,8 @@ use Rattle.mscp_control.specs.Settings.{Settings}
 use Rattle.mscp_control.specs.Holdings.{Answered, Answers, fresh}
 use Rattle.mscp_sim.specs.declared.running.Run.{Run}
 use Rattle.mscp_sim.specs.Text.{reported, with_entry}
-use Rattle.mscp_sim.specs.Outcome.{Fails}
+use Rattle.mscp_sim.specs.Grammar.{HasGone}
+use Rattle.mscp_sim.specs.Outcome.{Fails, rest_outcome}
 use Rattle.mscp_sim.specs.Simulated.{IsReportOf}
 use Rattle.mscp_sim.specs.declared.script.fault.ScriptFault.{ScriptFault}
 use Rattle.mscp_sim.specs.declared.script.fault.ReadFault.{ReadFault}
@@ -36,6 +37,14 @@ abbrev pub RunsTo : {Y : Type 0}
     → (List Event → Y) → Settings → Result (Unit {0}) ReadFault → Run → Result Y ScriptFault → Type 0
 RunsTo made c (Ok done) run told = (events : List Event) × Runs c events run × (told ≡ Ok (made events))
 RunsTo made c (Err fault) run told = Fails fault told
+
+-- the events that came so far are of lines of which this was to become, and of what is left of them is to become the same;
+-- or the lines have this fault, unless memory ran out
+abbrev pub GoesOn : Settings → Result (Unit {0}) ReadFault → Run → ℕ → List ℕ
+    → Result (Settings × List Event) ScriptFault → Type 0
+GoesOn c (Ok done) run number rest told =
+    (events : List Event) × Runs c events run × (told ≡ rest_outcome number (HasGone c events) rest)
+GoesOn c (Err fault) run number rest told = Fails fault told
 
 -- what was returned, seen by view, is the report of what the definition says, or this fault, unless memory ran out
 abbrev pub TellsReport : {X : Type 0}

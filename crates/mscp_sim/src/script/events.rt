@@ -10,7 +10,7 @@ ghost use Rattle.mscp_sim.specs.Grammar.{HasGone, next};
 ghost use Rattle.mscp_sim.specs.Outcome.{Tells, in_line, rest_outcome};
 
 use crate::script::fault::{Cause, ReadFault, ScriptFault};
-use crate::script::lines::{Asked, Lines};
+use crate::script::lines::{Line, Lines};
 use crate::script::numbers::{message, narrow, status, wide};
 use crate::script::words::Words;
 use arrayvec::ArrayVec;
@@ -74,40 +74,40 @@ pub fn read_events(alloc: Global, lines: &mut Lines<'_>) -> Result<Vec<Event>, R
         (HasGone s []) lines.old.rest.now) }
 {
     let mut events = Vec::new(alloc);
-    while let Some(asked) = lines.next_asked()? {
-        read_line(&mut events, asked)?;
+    while let Some(line) = lines.next_line()? {
+        read_line(&mut events, line)?;
     }
     Ok(events)
 }
 
 /// Reads a line, and appends its events.
 #[tactic(auto, unfolding(crate::specs::Grammar::next))]
-fn read_line(events: &mut Vec<Event>, asked: Asked<'_>) -> Result<(), ReadFault>
+fn read_line(events: &mut Vec<Event>, line: Line<'_>) -> Result<(), ReadFault>
     requires { vec_len events.old ≤ MOST_EVENTS }
     ensures few { OnOk result (vec_len events.new ≤ MOST_EVENTS) }
     ensures fault { (fault : ScriptFault) → result ≡ Err (ReadFault.Script fault) → 1 ≤ fault.line }
     ensures next { (s : Settings) → Tells (λ done. HasGone s events.new.items) result
-        (in_line asked.entry.line.number (next (HasGone s events.old.items) (lexical.words asked.entry.line.words.rest.now))) }
+        (in_line line.entry.number (next (HasGone s events.old.items) (lexical.words line.entry.words.rest.now))) }
 {
-    let request = request_after(asked, events.len())?;
+    let request = request_after(line, events.len())?;
     add_events(events, request)?;
     Ok(())
 }
 
 /// What a line asks for, after so many events.
 #[tactic(auto, unfolding(crate::specs::Grammar::next))]
-pub fn request_after(asked: Asked<'_>, count: usize) -> Result<Request, ScriptFault>
+pub fn request_after(line: Line<'_>, count: usize) -> Result<Request, ScriptFault>
     requires { count ≤ MOST_EVENTS }
     ensures line { IfErr result (λ fault. 1 ≤ fault.line) }
     ensures few { IfOk result (λ request. count + length (requests.events_of request) ≤ MOST_EVENTS) }
     ensures next { (s : Settings) (es : List Event) → length es ≡ count
         → Gives (λ request. HasGone s (es ++ requests.events_of request)) result
-        (in_line asked.entry.line.number (next (HasGone s es) (lexical.words asked.entry.line.words.rest.now))) }
+        (in_line line.entry.number (next (HasGone s es) (lexical.words line.entry.words.rest.now))) }
 {
-    let request = request_of(asked)?;
+    let request = request_of(line)?;
     if event_count(&request) > MOST_EVENTS - count {
         return Err(ScriptFault {
-            line: asked.line.number,
+            line: line.number,
             cause: Cause::Events,
         });
     }
@@ -115,14 +115,11 @@ pub fn request_after(asked: Asked<'_>, count: usize) -> Result<Request, ScriptFa
 }
 
 /// What a line asks for, with its number in its fault.
-fn request_of(asked: Asked<'_>) -> Result<Request, ScriptFault>
+fn request_of(line: Line<'_>) -> Result<Request, ScriptFault>
     ensures line { IfErr result (λ fault. 1 ≤ fault.line) }
-    ensures request { result ≡ in_line asked.entry.line.number (requests.request (lexical.words asked.entry.line.words.rest.now)) }
+    ensures request { result ≡ in_line line.entry.number (requests.request (lexical.words line.entry.words.rest.now)) }
 {
-    match asked.plain {
-        Some(plain) => Ok(plain.request()),
-        None => ScriptFault::at(asked.line.number, read_request(asked.line.words)),
-    }
+    ScriptFault::at(line.number, read_request(line.words))
 }
 
 /// What the line of these words asks for. It isn't made part of its caller, where a request would be moved piece by piece

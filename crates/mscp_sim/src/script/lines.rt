@@ -5,7 +5,8 @@ ghost use Rattle.std.specs.List.{list_all};
 ghost use Rattle.std.specs.Str.Lines.{strip_carriage_return};
 ghost use Rattle.mscp_sim.specs.Steps.{Gives};
 ghost use Rattle.mscp_sim.specs.Lexical as lexical;
-ghost use Rattle.mscp_sim.specs.Plain.{Agrees};
+ghost use Rattle.mscp_sim.specs.Plain.{plain_request};
+ghost use Rattle.mscp_sim.specs.Requests.{request};
 ghost use Rattle.mscp_sim.specs.Grammar.{Place, IsInHeader};
 ghost use Rattle.mscp_sim.specs.Grammar.{said_at};
 ghost use Rattle.mscp_sim.specs.Outcome.{in_line, outcome, rest_outcome, onward, ended};
@@ -31,12 +32,12 @@ pub struct Line<'a> {
     pub ghost counted: { 1 ≤ number },
 }
 
-/// A line that has a word, and what it asks for where that was read with it.
+/// A plain line, and what it asks for.
 #[derive(Clone, Copy, Debug)]
-pub struct Asked<'a> {
+pub struct PlainLine<'a> {
     pub line: Line<'a>,
-    pub plain: Option<Plain>,
-    pub ghost agrees: { Agrees plain (lexical.words line.words.rest.now) },
+    pub plain: Plain,
+    pub ghost agrees: { request (lexical.words line.words.rest.now) ≡ Ok (plain_request plain) },
 }
 
 /// The lines of a script that are left, and how many were cut off.
@@ -103,36 +104,13 @@ impl<'a> Lines<'a> {
         }
     }
 
-    /// The next line that has a word, if one is left, and what it asks for where it is plain.
-    pub fn next_asked(&mut self) -> Result<Option<Asked<'a>>, ScriptFault>
-        ensures shorter { IfOk result (λ found. IfSome found (λ _. length self.new.rest.now < length
-            self.old.rest.now)) }
-        ensures fault { IfErr result (λ fault. 1 ≤ fault.line) }
-        ensures number { IfOk result (λ found. IfSome found (λ asked. asked.line.number ≡ self.new.number)) }
-        ensures none { IfOk result (λ found. IfNone found ((p : Place) → rest_outcome self.old.number p
-            self.old.rest.now ≡ ended self.new.number p)) }
-        ensures some { IfOk result (λ found. IfSome found (λ asked. (p : Place) → rest_outcome self.old.number p
-            self.old.rest.now
-            ≡ onward self.new.number p (lexical.words asked.line.words.rest.now) (lexical.lines self.new.rest.now))) }
-        ensures wrong { IfErr result (λ fault. (p : Place) → rest_outcome self.old.number p self.old.rest.now ≡ Err
-            fault) }
-    {
-        if let Some(asked) = self.plain_line() {
-            return Ok(Some(asked));
-        }
-        match self.next_line()? {
-            Some(line) => Ok(Some(Asked { line, plain: None })),
-            None => Ok(None),
-        }
-    }
-
     /// The next line, if it is plain. Any other line stays.
-    fn plain_line(&mut self) -> Option<Asked<'a>>
+    pub fn plain_line(&mut self) -> Option<PlainLine<'a>>
         ensures shorter { IfSome result (λ _. length self.new.rest.now < length self.old.rest.now) }
-        ensures number { IfSome result (λ asked. asked.line.number ≡ self.new.number) }
+        ensures number { IfSome result (λ found. found.line.number ≡ self.new.number) }
         ensures none { IfNone result ((self.new.number ≡ self.old.number) × (self.new.rest.now ≡ self.old.rest.now)) }
-        ensures some { IfSome result (λ asked. (p : Place) → rest_outcome self.old.number p self.old.rest.now
-            ≡ onward self.new.number p (lexical.words asked.line.words.rest.now) (lexical.lines self.new.rest.now)) }
+        ensures some { IfSome result (λ found. (p : Place) → rest_outcome self.old.number p self.old.rest.now
+            ≡ onward self.new.number p (lexical.words found.line.words.rest.now) (lexical.lines self.new.rest.now)) }
     {
         let (plain, behind) = read_plain(self.rest)?;
         let length = self.rest.len() - behind.len() - 1;
@@ -145,10 +123,7 @@ impl<'a> Lines<'a> {
         };
         self.number += 1;
         self.rest = behind;
-        Some(Asked {
-            line,
-            plain: Some(plain),
-        })
+        Some(PlainLine { line, plain })
     }
 
     /// Cuts off the next line: up to a line feed or the end, without a carriage return there.

@@ -25,18 +25,6 @@ pub enum Plain {
 }
 
 impl Plain {
-    /// The same as a request of any line.
-    pub fn request(self) -> Request
-        ensures { result ≡ plain_request self }
-    {
-        match self {
-            Plain::Send(command) => Request::Send(command),
-            Plain::Take => Request::Take,
-            Plain::Look => Request::Look,
-            Plain::Steps(count) => Request::Steps(count),
-        }
-    }
-
     /// How many events it is.
     pub fn event_count(self) -> usize
         ensures { result ≡ length (requests.events_of (plain_request self)) }

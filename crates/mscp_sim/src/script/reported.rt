@@ -6,7 +6,7 @@ ghost use Rattle.mscp_control.specs.declared.event.Event.{Event};
 ghost use Rattle.mscp_sim.specs.Lexical as lexical;
 ghost use Rattle.mscp_sim.specs.Grammar.{Begins, HasGone, IsFault, next};
 ghost use Rattle.mscp_sim.specs.Outcome.{in_line, rest_outcome};
-ghost use Rattle.mscp_sim.specs.Running.{Runs, RunsTo, TellsReport};
+ghost use Rattle.mscp_sim.specs.Running.{GoesOn, Runs, RunsTo, TellsReport};
 ghost use Rattle.mscp_sim.specs.Simulated.{IsReport};
 ghost use Rattle.mscp_sim.specs.declared.script.events.TheConstants.{MOST_EVENTS};
 
@@ -14,7 +14,7 @@ use crate::running::Run;
 use crate::script::events::{MOST_EVENTS, request_after};
 use crate::script::fault::{ReadFault, ScriptFault};
 use crate::script::header::read_header;
-use crate::script::lines::{Asked, Lines};
+use crate::script::lines::{Line, Lines, PlainLine};
 use crate::script::lines_of;
 use mscp_control::runs_keep_the_promise;
 use mscp_queue::Sweep;
@@ -45,27 +45,50 @@ fn run_events(lines: &mut Lines<'_>, run: &mut Run) -> Result<(), ReadFault>
     ensures { (c : Settings) → Runs c [] run.old → RunsTo (λ events. (c, events)) c result run.new
         (rest_outcome lines.old.number (HasGone c []) lines.old.rest.now) }
 {
-    while let Some(asked) = lines.next_asked()? {
-        run_line(run, asked)?;
+    run_plain_lines(lines, run)?;
+    while let Some(line) = lines.next_line()? {
+        run_line(run, line)?;
+        run_plain_lines(lines, run)?;
     }
     Ok(())
 }
 
-/// Has a run meet the events of a line.
-fn run_line(run: &mut Run, asked: Asked<'_>) -> Result<(), ReadFault>
+/// Has a run meet the events of the next lines, as far as they are plain.
+fn run_plain_lines(lines: &mut Lines<'_>, run: &mut Run) -> Result<(), ReadFault>
+    requires { run.old.reporter.count ≤ MOST_EVENTS }
+    ensures few { OnOk result (run.new.reporter.count ≤ MOST_EVENTS) }
+    ensures left { OnOk result (length lines.new.rest.now ≤ length lines.old.rest.now) }
+    ensures going { (c : Settings) (es : List Event) → Runs c es run.old → GoesOn c result run.new lines.new.number
+        lines.new.rest.now (rest_outcome lines.old.number (HasGone c es) lines.old.rest.now) }
+{
+    while let Some(found) = lines.plain_line() {
+        run_plain(run, found)?;
+    }
+    Ok(())
+}
+
+/// Has a run meet the events of a plain line. Where they are too many, the reader of all lines tells the fault.
+fn run_plain(run: &mut Run, found: PlainLine<'_>) -> Result<(), ReadFault>
     requires { run.old.reporter.count ≤ MOST_EVENTS }
     ensures few { OnOk result (run.new.reporter.count ≤ MOST_EVENTS) }
     ensures next { (c : Settings) (es : List Event) → Runs c es run.old → RunsTo (HasGone c) c result run.new
-        (in_line asked.entry.line.number (next (HasGone c es) (lexical.words asked.entry.line.words.rest.now))) }
+        (in_line found.entry.line.number (next (HasGone c es) (lexical.words found.entry.line.words.rest.now))) }
 {
-    let count = run.count() as usize;
-    if let Some(plain) = asked.plain {
-        if plain.event_count() <= MOST_EVENTS - count {
-            run.meet_plain(plain)?;
-            return Ok(());
-        }
+    if found.plain.event_count() > MOST_EVENTS - run.count() as usize {
+        return run_line(run, found.line);
     }
-    let request = request_after(asked, count)?;
+    run.meet_plain(found.plain)?;
+    Ok(())
+}
+
+/// Has a run meet the events of a line.
+fn run_line(run: &mut Run, line: Line<'_>) -> Result<(), ReadFault>
+    requires { run.old.reporter.count ≤ MOST_EVENTS }
+    ensures few { OnOk result (run.new.reporter.count ≤ MOST_EVENTS) }
+    ensures next { (c : Settings) (es : List Event) → Runs c es run.old → RunsTo (HasGone c) c result run.new
+        (in_line line.entry.number (next (HasGone c es) (lexical.words line.entry.words.rest.now))) }
+{
+    let request = request_after(line, run.count() as usize)?;
     run.meet(&request)?;
     Ok(())
 }

@@ -6,11 +6,11 @@ use Rattle.mscp_sim.specs.Running.{Runs}
 use Rattle.mscp_sim.proofs.Growing.{Going}
 use Rattle.mscp_sim.proofs.script.reported.run_events.Given as goal
 
-abbrev pub invariant-loop-asked : goal.invariant-loop-asked
-invariant-loop-asked l = record {
-  going : (c : Settings) → Runs c [] l.initial.run → Going c (rest_outcome l.initial.lines.number (HasGone c []) l.initial.lines.rest.now) l.run l.lines.number l.lines.rest.now;
+abbrev pub invariant-loop-line : goal.invariant-loop-line
+invariant-loop-line l = record {
+  going : (c : Settings) → Runs c [] l.fn.run → Going c (rest_outcome l.fn.lines.number (HasGone c []) l.fn.lines.rest.now) l.run l.lines.number l.lines.rest.now;
   few : l.run.reporter.count ≤ 1000000;
 }
 
-abbrev pub decreases-loop-asked : goal.decreases-loop-asked
-decreases-loop-asked l = length l.lines.rest.now
+abbrev pub decreases-loop-line : goal.decreases-loop-line
+decreases-loop-line l = length l.lines.rest.now
