@@ -104,7 +104,7 @@ impl<'a> Lines<'a> {
         }
     }
 
-    /// The next line, if it is plain. Any other line stays.
+    /// The next line, if it is found to be plain. Any other line stays, and nothing is said of it.
     pub fn plain_line(&mut self) -> Option<PlainLine<'a>>
         ensures shorter { IfSome result (λ _. length self.new.rest.now < length self.old.rest.now) }
         ensures number { IfSome result (λ found. found.line.number ≡ self.new.number) }

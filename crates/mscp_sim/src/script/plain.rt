@@ -36,7 +36,8 @@ impl Plain {
     }
 }
 
-/// What the first line of these bytes asks for, and what stands behind it, if that line is plain.
+/// What the first line of these bytes asks for, and what stands behind it, if that line is found to be plain. Nothing is
+/// said of any other: the reader of all lines reads those.
 pub fn read_plain(bytes: &[u8]) -> Option<(Plain, &[u8])>
     ensures { IfSome result (λ read. IsPlain bytes.now (plain_request read.0) read.1.now) }
 {
