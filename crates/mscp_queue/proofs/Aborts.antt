@@ -6,13 +6,15 @@ use Rattle.std.proofs.lemmas.Bool.{eqb-true, false≢true, ne_eqb, true≢false}
 use Rattle.std.proofs.lemmas.List.{get_or_at, length-append, map-append}
 use Rattle.std.proofs.lemmas.List.Elements.{All-from_recursion, filter-append, recursion_from_All}
 use Rattle.mscp_queue.specs.declared.drive.Drive.{Drive}
-use Rattle.mscp_queue.specs.Kept.{AreApart, IsHeld, IsKept, IsStillServable, names, units_of}
+use Rattle.mscp_queue.specs.Kept.{AreApart, IsHeld, IsKept, IsStillServable, names, sequential_of, units_of}
 use Rattle.mscp_queue.specs.Names.{Name}
+use Rattle.mscp_queue.specs.Orders.{is_sequential}
 use Rattle.mscp_queue.specs.Serving.{begun_without, is_begun}
 use Rattle.mscp_queue.proofs.Begun.{still_aborted, still_begun}
 use Rattle.mscp_queue.specs.Records.{Record, has_reference, is_in_service, no_record, record_at, without}
 use Rattle.mscp_queue.proofs.Lists.{every_kept, every_weaker, fewer, filter_all, filter_none, filter_one}
 use Rattle.mscp_queue.proofs.Mapped.{removed_at}
+use Rattle.mscp_queue.proofs.Ordered.{IsCountedOut, count_out}
 use Rattle.mscp_queue.proofs.Placed.{Found, find_cases, find_first, find_none, position_first, position_none}
 
 -- ---- names that stand once
@@ -107,6 +109,25 @@ found_once reference rs apart =
     let B = some.2 in
     let k = cut_by reference rs A r B apart some.3 in
     ap (filter p) k.is ∙ (filter_one p A r B k.before k.own k.behind ∙ ap option_to_list (sym (ap (find p) k.is ∙ find_first p A r B k.before k.own))))
+    (find_cases p rs)
+
+-- and it is counted out
+pub counted_without : (reference : ℕ) (rs new : List Record) (r : Record) (n k : ℕ) → AreApart (names rs) → Some r ≡ find (has_reference reference) rs → new ≡ without reference rs
+    → n ≡ length (sequential_of rs) → k ≡ cond (is_sequential r.command.order) 1 0 → IsCountedOut n k new
+counted_without reference rs new r n k apart h is counted e =
+    let p = has_reference reference in
+    ⊎_elim
+    (λ none. absurd (true≢false (ap is_some (h ∙ find_none p rs none))))
+    (λ some.
+    let A = some.0 in
+    let B = some.2 in
+    let f = some.3 in
+    let own : some.1 ≡ r = ap (λ o. unwrap_or o r) (sym (find_first p A some.1 B f.before f.passes) ∙ (ap (find p) (sym f.is) ∙ sym h)) in
+    let out = count_out A some.1 B in
+    let all = ap (λ zs. length (sequential_of zs)) f.is in
+    let left = ap (λ zs. length (sequential_of zs)) (is ∙ without_cut reference rs A some.1 B (cut_by reference rs A some.1 B apart f)) in
+    let one = ap {B = ℕ} (λ (q : Record). cond (is_sequential q.command.order) 1 0) own in
+    record { below = omega (arith, out, all, one, counted, e); counted = omega (arith, out, all, left, one, counted, e) })
     (find_cases p rs)
 
 -- none passes a test where none is found

@@ -12,7 +12,7 @@ use Rattle.mscp_queue.specs.declared.aim.Aim.{Aim}
 use Rattle.mscp_queue.specs.declared.drive.Drive.{Drive}
 use Rattle.mscp_queue.specs.Aims.{aim_of, aims_of, unit_place}
 use Rattle.mscp_queue.specs.Drives.{drive_of, has_number, one_block}
-use Rattle.mscp_queue.specs.Kept.{HasBlocks, is_known, units_of}
+use Rattle.mscp_queue.specs.Kept.{CanBeShown, HasBlocks, is_known, units_of}
 use Rattle.mscp_queue.specs.Orders.{first_block, is_move}
 use Rattle.mscp_queue.specs.Records.{Record, advanced, fresh_record, no_record, passed_by, record_at}
 use Rattle.mscp_queue.proofs.Fronts.{drive_place, known_at, known_inside}
@@ -82,18 +82,18 @@ own_aim ds rs aims place r at other h =
     let of : Record → Aim = λ q. aim_of (units_of ds) q.command in
     ap (λ zs. get_or zs place other) h.aimed ∙ (get_or-map of rs place r other h.below ∙ ap of (sym h.record_is))
 
-own_place : (ds : List Drive) (rs : List Record) (aims : List Aim) (place : ℕ) (r : Record) (at : ℕ) (other : Aim) → Reads ds rs aims place r at other → at ≡ drive_place ds r.command.unit
-own_place ds rs aims place r at other h = h.drive ∙ (ap (λ (a : Aim). a.drive) (own_aim ds rs aims place r at other h) ∙ sym (place_same ds r.command.unit))
+aim_place : (ds : List Drive) (rs : List Record) (aims : List Aim) (place : ℕ) (r : Record) (at : ℕ) (other : Aim) → Reads ds rs aims place r at other → at ≡ drive_place ds r.command.unit
+aim_place ds rs aims place r at other h = h.drive ∙ (ap (λ (a : Aim). a.drive) (own_aim ds rs aims place r at other h) ∙ sym (place_same ds r.command.unit))
 
 pub aim_below : (ds : List Drive) (rs : List Record) (aims : List Aim) (place : ℕ) (r : Record) (at : ℕ) (other : Aim) → Reads ds rs aims place r at other → at < length ds
 aim_below ds rs aims place r at other h =
-    subst (λ k. k < length ds) (sym (own_place ds rs aims place r at other h)) (known_inside ds r.command.unit (own_blocks ds rs aims place r at other h).0)
+    subst (λ k. k < length ds) (sym (aim_place ds rs aims place r at other h)) (known_inside ds r.command.unit (own_blocks ds rs aims place r at other h).0)
 
 pub aimed : (ds : List Drive) (rs : List Record) (aims : List Aim) (place : ℕ) (r : Record) (at : ℕ) (other : Aim) (d : Drive) → Reads ds rs aims place r at other → d ≡ get_or ds at d
     → IsAimed ds r at (get_or aims place other).cylinder d
 aimed ds rs aims place r at other d h found =
     let own = own_blocks ds rs aims place r at other h in
-    let there = own_place ds rs aims place r at other h in
+    let there = aim_place ds rs aims place r at other h in
     let drive : d ≡ drive_of ds r.command.unit = found ∙ (ap (λ i. get_or ds i d) there ∙ (known_at ds r.command.unit d own.0).drive) in
     record {
       place = there;
@@ -103,6 +103,17 @@ aimed ds rs aims place r at other d h found =
           ap (λ (a : Aim). a.cylinder) (own_aim ds rs aims place r at other h)
           ∙ ap (λ (u : Shape). cylinder_of u (first_block r.command.order)) (found_unit r.command.unit ds ∙ ap (λ (q : Drive). q.unit) (sym drive));
     }
+
+-- the drive of a waiting command that can be shown
+pub record HasDrive (ds : List Drive) (r : Record) (at : ℕ) : Type 0 where
+  pub few : at < 16
+  pub place : at ≡ drive_place ds r.command.unit
+
+pub has_drive : (ds : List Drive) (rs : List Record) (aims : List Aim) (place : ℕ) (r : Record) (at : ℕ) (other : Aim) → CanBeShown ds rs aims → place < length rs → r ≡ get_or rs place r → at ≡ (get_or aims place other).drive
+    → HasDrive ds r at
+has_drive ds rs aims place r at other h l own is =
+    let reads : Reads ds rs aims place r at other = record { below = l; aimed = h.aimed; inside = h.inside; record_is = own; drive = is } in
+    record { few = omega (arith, aim_below ds rs aims place r at other reads, h.drives); place = aim_place ds rs aims place r at other reads }
 
 -- ---- the aims stay those of the records
 

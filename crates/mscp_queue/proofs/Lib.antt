@@ -10,6 +10,7 @@ pub mod Held
 pub mod Turns
 pub mod Aims
 pub mod Passable
+pub mod Ordered
 pub mod Nexts
 pub mod Least
 pub mod Aborts

@@ -1,20 +1,19 @@
 -- Where all are transfers that may be passed once more, each may start.
-use Rattle.std.proofs.Common.{append-nil, ◌≡◌, ℕ, ◌+◌, ◌<◌, ◌≤◌, Bool, true, false, not, ◌&&◌, ◌||◌, List, [], ◌∷◌, ◌++◌, take, get_or, length, refl, ap, sym, ◌∙◌, arith}
-use Rattle.std.specs.Prelude.{nat_eq, nat_lt}
+use Rattle.std.proofs.Common.{◌≡◌, ℕ, ◌+◌, ◌<◌, ◌≤◌, Bool, true, false, cond, not, ◌&&◌, ◌||◌, List, [], ◌∷◌, ◌++◌, take, get_or, length, refl, ap, sym, ◌∙◌, arith}
+use Rattle.std.specs.Prelude.{All, nat_eq, nat_lt}
 use Rattle.std.specs.List.{AllByRecursion, list_all, range_with_len}
-use Rattle.std.proofs.lemmas.Bool.{and_parts, false≢true, le-leb, ltb-true}
-use Rattle.std.proofs.lemmas.List.{get_or_default, map-append, take_at, take_more}
-use Rattle.std.proofs.lemmas.List.Folds.{list_all-append}
+use Rattle.std.proofs.lemmas.Bool.{and_parts, false≢true, le-leb, lt-ltb, ltb-true}
+use Rattle.std.proofs.lemmas.List.{map-append}
 use Rattle.std.proofs.lemmas.List.FromFn.{length-range_with_len}
 use Rattle.std.proofs.lemmas.List.Elements.{All-from_recursion, All-take, recursion_from_All}
 use Rattle.mscp_packet.specs.declared.command.Order.{Order}
 use Rattle.mscp_packet.specs.declared.command.Order.TheVariants as orders
 use Rattle.mscp_queue.specs.declared.drive.Drive.{Drive}
 use Rattle.mscp_queue.specs.declared.view.Choice.{Choice}
-use Rattle.mscp_queue.specs.Drives.{drive_of}
+use Rattle.mscp_queue.specs.Kept.{ArePassedInOrder, sequential_of}
 use Rattle.mscp_queue.specs.Orders.{is_move, is_sequential}
 use Rattle.mscp_queue.specs.Records.{Record, drive_at, no_record, record_at}
-use Rattle.mscp_queue.specs.Views.{choice_of, choices_at, is_affordable, is_free, is_open_at, is_passable, open_places, view_of}
+use Rattle.mscp_queue.specs.Views.{choice_of, choices_at, is_affordable, is_free, is_open_at, is_passable, open_places}
 use Rattle.mscp_queue.proofs.Lists.{every_of, every_weaker, filter_all, filter_full, range_below, range_more}
 
 -- ---- all may start
@@ -70,29 +69,59 @@ all_open passing rs h =
 pub all_places : (passing : ℕ) (rs : List Record) → length (open_places passing rs) ≡ length rs → open_places passing rs ≡ range_with_len 0 (length rs)
 all_places passing rs many = filter_full (is_open_at passing rs) (range_with_len 0 (length rs)) (many ∙ sym (length-range_with_len 0 (length rs)))
 
--- one more is such
-pub passable_next : (passing : ℕ) (rs : List Record) (place : ℕ) (r : Record) → place < length rs → r ≡ get_or rs place r → is_passable passing r ≡ true → list_all (is_passable passing) (take place rs) ≡ true
-    → list_all (is_passable passing) (take (place + 1) rs) ≡ true
-passable_next passing rs place r l same own h =
-    let p = is_passable passing in
-    ap (list_all p) (take_more rs place r l ∙ ap (λ (q : Record). take place rs ++ q ∷ []) (sym same))
-    ∙ (list_all-append p (take place rs) (r ∷ []) ∙ (ap (λ b. b && (p r && true)) h ∙ ap (λ b. b && true) own))
+-- ---- the oldest tells it for all
+
+-- of a sequential command one is no transfer
+sequential_not_passable : (passing : ℕ) (r : Record) → is_sequential r.command.order ≡ true → is_passable passing r ≡ false
+sequential_not_passable passing r s =
+    let both : (b : Bool) → is_move r.command.order ≡ b → (b && nat_lt r.passes passing) ≡ false =
+    λ b. elim b as (λ b. is_move r.command.order ≡ b → (b && nat_lt r.passes passing) ≡ false) [ true ↦ λ m. absurd (false≢true (sym (not_sequential r.command.order m) ∙ s)) | false ↦ λ m. refl ] in
+    both (is_move r.command.order) refl
+
+pub some_sequential : (passing : ℕ) (rs : List Record) → 0 < length (sequential_of rs) → list_all (is_passable passing) rs ≡ false
+some_sequential passing [] h = absurd (omega (arith, h))
+some_sequential passing (r ∷ rs) h =
+    let Goal : Bool → Type 0 = λ b. is_sequential r.command.order ≡ b → 0 < length (cond b (r ∷ sequential_of rs) (sequential_of rs)) → (is_passable passing r && list_all (is_passable passing) rs) ≡ false in
+    let both : (b : Bool) → Goal b =
+    λ b. elim b as Goal [
+      | true ↦ λ e l. ap (λ b. b && list_all (is_passable passing) rs) (sequential_not_passable passing r e)
+      | false ↦ λ e l. ap (λ b. is_passable passing r && b) (some_sequential passing rs l) ∙ unfenced (is_passable passing r)
+    ] in
+    both (is_sequential r.command.order) refl h
+
+no_sequential : (passing top : ℕ) (rs : List Record) → length (sequential_of rs) ≡ 0 → AllByRecursion (λ z. (is_sequential z.command.order || is_move z.command.order) ≡ true) rs → AllByRecursion (λ z. z.passes ≤ top) rs → top < passing
+    → list_all (is_passable passing) rs ≡ true
+no_sequential passing top [] h w l m = refl
+no_sequential passing top (r ∷ rs) h w l m =
+    let Goal : Bool → Type 0 =
+    λ b. (b || is_move r.command.order) ≡ true → length (cond b (r ∷ sequential_of rs) (sequential_of rs)) ≡ 0 → (is_passable passing r && list_all (is_passable passing) rs) ≡ true in
+    let both : (b : Bool) → Goal b =
+    λ b. elim b as Goal [
+      | true ↦ λ e k. absurd (omega (arith, k))
+      | false ↦ λ e k.
+          ap (λ b. (b && nat_lt r.passes passing) && list_all (is_passable passing) rs) e
+          ∙ (ap (λ b. b && list_all (is_passable passing) rs) (lt-ltb r.passes passing (omega (arith, l.0, m))) ∙ no_sequential passing top rs k w.1 l.1 m)
+    ] in
+    both (is_sequential r.command.order) w.0 h
+
+-- where none is sequential
+pub oldest_tells : (passing : ℕ) (rs : List Record) (r : Record) → 0 < length rs → r ≡ get_or rs 0 r → length (sequential_of rs) ≡ 0 → ArePassedInOrder rs
+    → All (λ z. (is_sequential z.command.order || is_move z.command.order) ≡ true) rs → nat_lt r.passes passing ≡ list_all (is_passable passing) rs
+oldest_tells passing [] r l e k o w = absurd (omega (arith, l))
+oldest_tells passing (q ∷ qs) r l e k o w =
+    let W : Record → Type 0 = λ z. (is_sequential z.command.order || is_move z.command.order) ≡ true in
+    let Goal : Bool → Type 0 = λ b. nat_lt q.passes passing ≡ b → b ≡ list_all (is_passable passing) (q ∷ qs) in
+    let both : (b : Bool) → Goal b =
+    λ b. elim b as Goal [
+      | true ↦ λ m. sym (no_sequential passing q.passes (q ∷ qs) k (recursion_from_All W (q ∷ qs) w) (omega arith, o.0) (ltb-true q.passes passing m))
+      | false ↦ λ m. sym (ap (λ b. (is_move q.command.order && b) && list_all (is_passable passing) qs) m ∙ ap (λ b. b && list_all (is_passable passing) qs) (unfenced (is_move q.command.order)))
+    ] in
+    ap (λ (z : Record). nat_lt z.passes passing) e ∙ both (nat_lt q.passes passing) refl
 
 -- ---- all are shown
 
-pub shown_next : (ds : List Drive) (rs : List Record) (place : ℕ) (choices choices' : List Choice) (r : Record) (d : Drive) (choice : Choice) → place < length rs → r ≡ get_or rs place r → d ≡ drive_of ds r.command.unit
-    → choice ≡ choice_of d r → choices ≡ choices_at ds rs (range_with_len 0 place) → choices' ≡ choices ++ choice ∷ [] → choices' ≡ choices_at ds rs (range_with_len 0 (place + 1))
-shown_next ds rs place choices choices' r d choice l same found is shown more =
+pub shown_next : (ds : List Drive) (rs : List Record) (place : ℕ) (choices choices' : List Choice) (choice : Choice) → choice ≡ choice_of (drive_at ds rs place) (record_at rs place)
+    → choices ≡ choices_at ds rs (range_with_len 0 place) → choices' ≡ choices ++ choice ∷ [] → choices' ≡ choices_at ds rs (range_with_len 0 (place + 1))
+shown_next ds rs place choices choices' choice is shown more =
     let of : ℕ → Choice = λ i. choice_of (drive_at ds rs i) (record_at rs i) in
-    let own : r ≡ record_at rs place = same ∙ get_or_default rs place r no_record l in
-    let there : choice ≡ of place = is ∙ (ap (λ d. choice_of d r) found ∙ ap (λ (q : Record). choice_of (drive_of ds q.command.unit) q) own) in
-    more ∙ ((λ i. shown i ++ there i ∷ []) ∙ (sym (map-append of (range_with_len 0 place) (place ∷ [])) ∙ ap (choices_at ds rs) (sym (range_more place))))
-
-take-length : (n : ℕ) (rs : List Record) → length rs ≡ n → take n rs ≡ rs
-take-length n rs l = ap (take n) (sym (append-nil rs)) ∙ take_at rs [] n l
-
-pub all_shown : (passing : ℕ) (ds : List Drive) (rs : List Record) (place : ℕ) (choices : List Choice) → length rs ≡ place → choices ≡ choices_at ds rs (range_with_len 0 place)
-    → list_all (is_passable passing) (take place rs) ≡ true → choices ≡ view_of passing ds rs
-all_shown passing ds rs place choices l shown h =
-    let all : take place rs ≡ rs = take-length place rs l in
-    shown ∙ (ap (λ n. choices_at ds rs (range_with_len 0 n)) (sym l) ∙ ap (choices_at ds rs) (sym (all_open passing rs (ap (list_all (is_passable passing)) (sym all) ∙ h))))
+    more ∙ ((λ i. shown i ++ is i ∷ []) ∙ (sym (map-append of (range_with_len 0 place) (place ∷ [])) ∙ ap (choices_at ds rs) (sym (range_more place))))

@@ -41,15 +41,14 @@ shown_more : (ds : List Drive) (rs : List Record) (places : List ℕ) (place : �
 shown_more ds rs places place true = map-append (λ i. choice_of (drive_at ds rs i) (record_at rs i)) places (place ∷ [])
 shown_more ds rs places place false = ap (choices_at ds rs) (append-nil places) ∙ sym (append-nil (choices_at ds rs places))
 
-pub looks_more : (passing : ℕ) (ds : List Drive) (rs : List Record) (place : ℕ) (f f' : Front) (places places' : List ℕ) (choices choices' : List Choice) (r : Record) (d : Drive) (at : ℕ) → place < length rs → at < 16
-    → at ≡ drive_place ds r.command.unit → r ≡ get_or rs place r → d ≡ get_or ds at d → AllInside ds rs
-    → f' ≡ with_record passing f r at → places' ≡ places ++ cond (is_let f r at) (place ∷ []) [] → choices' ≡ choices ++ cond (is_let f r at) (choice_of d r ∷ []) []
+pub looks_more : (passing : ℕ) (ds : List Drive) (rs : List Record) (place : ℕ) (f f' : Front) (places places' : List ℕ) (choices choices' : List Choice) (r : Record) (at : ℕ) → place < length rs → at < 16
+    → at ≡ drive_place ds r.command.unit → r ≡ get_or rs place r → AllInside ds rs
+    → f' ≡ with_record passing f r at → places' ≡ places ++ cond (is_let f r at) (place ∷ []) [] → choices' ≡ choices ++ cond (is_let f r at) (choice_of (drive_at ds rs place) (record_at rs place) ∷ []) []
     → Looks passing ds rs place f places choices → Looks passing ds rs (place + 1) f' places' choices'
-looks_more passing ds rs place f f' places places' choices choices' r d at l few e same found inside added put shown h =
+looks_more passing ds rs place f f' places places' choices choices' r at l few e same inside added put shown h =
     let is : r ≡ record_at rs place = same ∙ get_or_default rs place r no_record l in
     let known : All (λ z. is_known (units_of ds) z.command.unit ≡ true) rs = λ i other k. (inside i other k).0 in
     let own : is_known (units_of ds) r.command.unit ≡ true = subst (λ (q : Record). is_known (units_of ds) q.command.unit ≡ true) (sym is) (known place no_record l) in
-    let drive : d ≡ drive_at ds rs place = found ∙ (ap (λ i. get_or ds i d) e ∙ ((known_at ds r.command.unit d own).drive ∙ ap (λ (q : Record). drive_of ds q.command.unit) is)) in
     let front = recursion_from_All (λ z. is_known (units_of ds) z.command.unit ≡ true) (take place rs) (All-take (λ z. is_known (units_of ds) z.command.unit ≡ true) place rs known) in
     let more : take (place + 1) rs ≡ take place rs ++ r ∷ [] = take_more rs place no_record l ∙ ap (λ q. take place rs ++ q ∷ []) (sym is) in
     let b = is_let f r at in
@@ -62,8 +61,8 @@ looks_more passing ds rs place f f' places places' choices choices' r d at l few
           ∙ (ap (λ b. filter (is_open_at passing rs) (range_with_len 0 place) ++ cond b (place ∷ []) []) opens
           ∙ (sym (filter-append (is_open_at passing rs) (range_with_len 0 place) (place ∷ [])) ∙ ap (filter (is_open_at passing rs)) (sym (range_more place)))));
       shown =
-          shown ∙ (ap (λ cs. cs ++ cond b (choice_of d r ∷ []) []) h.shown
-          ∙ (ap (λ q. choices_at ds rs places ++ cond b (q ∷ []) []) (ap (choice_of d) is ∙ ap (λ d. choice_of d (record_at rs place)) drive) ∙ (sym (shown_more ds rs places place b) ∙ ap (choices_at ds rs) (sym put))));
+          shown ∙ (ap (λ cs. cs ++ cond b (choice_of (drive_at ds rs place) (record_at rs place) ∷ []) []) h.shown
+          ∙ (sym (shown_more ds rs places place b) ∙ ap (choices_at ds rs) (sym put)));
       few = let k = h.few in omega (arith, ap length put, appended places place b);
     }
 

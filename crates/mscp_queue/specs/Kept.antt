@@ -87,7 +87,31 @@ pub record IsHeld (room passing longest : ℕ) (rs : List Record) (ds : List Dri
   -- what was begun waits and may be served
   pub still : (name : Name) → begun ≡ Some name → IsStillServable passing rs name
 
--- the same, and beside each waiting command where it aims
-pub record IsReady (room passing longest : ℕ) (rs : List Record) (aims : List Aim) (ds : List Drive) (begun : Option Name) (serving : Bool) : Type 0 where
+-- who came earlier was passed at least as often
+abbrev pub ArePassedInOrder : List Record → Type 0
+ArePassedInOrder [] = Unit {0}
+ArePassedInOrder (r ∷ rs) = AllByRecursion (λ z. z.passes ≤ r.passes) rs × ArePassedInOrder rs
+
+-- the records of sequential commands
+abbrev pub sequential_of : List Record → List Record
+sequential_of rs = filter (λ r. is_sequential r.command.order) rs
+
+-- the same, beside each waiting command where it aims, and how many are sequential
+pub record IsReady (room passing longest : ℕ) (rs : List Record) (aims : List Aim) (ds : List Drive) (begun : Option Name) (serving : Bool) (sequential : ℕ) : Type 0 where
   pub held : IsHeld room passing longest rs ds begun serving
+  pub aimed : aims ≡ aims_of (units_of ds) rs
+  pub counted : sequential ≡ length (sequential_of rs)
+  pub order : ArePassedInOrder rs
+
+-- ---- what a view is made of
+
+-- waiting commands, where each of them aims, and the drives
+pub record CanBeShown (ds : List Drive) (rs : List Record) (aims : List Aim) : Type 0 where
+  pub few : length rs ≤ 64
+  pub drives : length ds ≤ 16
+  pub some_drive : 0 < length ds
+  -- each head is on a cylinder of its unit
+  pub heads : All IsOnUnit ds
+  pub waitable : All (λ r. (is_sequential r.command.order || is_move r.command.order) ≡ true) rs
+  pub inside : All (λ r. HasBlocks (units_of ds) r.command) rs
   pub aimed : aims ≡ aims_of (units_of ds) rs

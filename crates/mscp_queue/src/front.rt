@@ -3,10 +3,8 @@
 ghost use Rattle.std.specs.Prelude.{◌≡◌, ◌<◌, ◌≤◌, true, false};
 ghost use Rattle.std.specs.List.{list_all};
 ghost use Rattle.mscp_queue.specs.Fronts.{is_closed, is_let, nobody, with_record};
-ghost use Rattle.mscp_queue.specs.Orders.{is_sequential};
 
 use crate::record::Record;
-use mscp_packet::Order;
 
 /// What is known of the records in front of a place: of each drive, by its place, whether one of them is of its unit,
 /// and whether a sequential one is; and whether each of them may be passed once more.
@@ -15,13 +13,6 @@ pub struct Front {
     pub seen: [bool; 16],
     pub fenced: [bool; 16],
     pub affordable: bool,
-}
-
-/// Whether the order is that of a sequential command.
-fn is_sequential(order: &Order) -> bool
-    ensures { result ≡ is_sequential order.now }
-{
-    matches!(order, Order::Available | Order::Online | Order::SetUnit)
 }
 
 /// Whether each of the flags is set.
@@ -49,7 +40,7 @@ impl Front {
         requires affordable { self.now.affordable ≡ true }
         ensures { result ≡ is_let self.now behind.now drive }
     {
-        if is_sequential(&behind.command().order) {
+        if behind.is_sequential() {
             !self.seen[drive]
         } else {
             !self.fenced[drive]
@@ -66,7 +57,7 @@ impl Front {
         ensures after { self.new ≡ with_record passing self.old behind.now drive }
         ensures closed { result ≡ is_closed self.new drives }
     {
-        let fences = is_sequential(&behind.command().order);
+        let fences = behind.is_sequential();
         self.seen[drive] = true;
         if fences {
             self.fenced[drive] = true;

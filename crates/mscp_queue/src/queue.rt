@@ -1,7 +1,7 @@
 // The queue of a disk controller: its waiting commands, its drives, and its picker.
 
 ghost use Rattle.std.specs.Prelude.{◌≡◌, ◌+◌, ◌*◌, ◌<◌, ◌≤◌, ◌^◌, [], length, find, option_map, true, false, IfNone, IfSome};
-ghost use Rattle.std.specs.List.{list_any, position};
+ghost use Rattle.std.specs.List.{list_all, list_any, position};
 ghost use Rattle.mscp_queue.specs.Drives.{is_online_in};
 ghost use Rattle.mscp_queue.specs.Figures.{figure_of_reference, figures};
 ghost use Rattle.mscp_queue.specs.Kept.{IsWaitable, units_of};
@@ -9,6 +9,7 @@ ghost use Rattle.mscp_queue.specs.Lines.{Begins, BeginsAt, Line, Serves, ServesA
 ghost use Rattle.mscp_queue.specs.Orders.{order_weight};
 ghost use Rattle.mscp_queue.specs.Records.{aborted_record, has_reference, is_in_service};
 ghost use Rattle.mscp_queue.specs.Serving.{IsNext, is_begun};
+ghost use Rattle.mscp_queue.specs.Views.{is_passable};
 
 use crate::aim::Aim;
 use crate::block::Block;
@@ -20,7 +21,7 @@ use crate::record::Record;
 use crate::report::Report;
 use crate::service::{serve, upcoming};
 use crate::start::picked_place;
-use crate::turn::{leave, place_in_service, take_out};
+use crate::turn::{leave, place_in_service, sequential_ended, take_out};
 use crate::upcoming::Upcoming;
 use crate::view::View;
 use arrayvec::ArrayVec;
@@ -54,6 +55,8 @@ pub struct Queue<K> {
     begun: Option<u32>,
     // Whether one may be in service: where none is, nobody looks for it.
     serving: bool,
+    // How many of the waiting commands are sequential.
+    sequential: u32,
     picker: K,
     // What the picker saw last. It is kept for its room alone, since a new one would have to be cleared at each start.
     view: View,
@@ -78,7 +81,7 @@ impl<K> Model for Queue<K> {
           picker = q.picker;
         } };
 
-    ghost invariant = { λ q. IsReady q.room q.passing q.longest q.waiting.items q.aims.items q.drives.items q.begun q.serving };
+    ghost invariant = { λ q. IsReady q.room q.passing q.longest q.waiting.items q.aims.items q.drives.items q.begun q.serving q.sequential };
 }
 
 impl<K: Picker> Queue<K> {
@@ -102,6 +105,7 @@ impl<K: Picker> Queue<K> {
             drives,
             begun: None,
             serving: false,
+            sequential: 0,
             picker,
             view: View::empty(),
         }
@@ -117,6 +121,7 @@ impl<K: Picker> Queue<K> {
         renew_drives(self.drives.as_mut_slice());
         self.begun = None;
         self.serving = false;
+        self.sequential = 0;
     }
 
     /// How many commands wait.
@@ -155,8 +160,10 @@ impl<K: Picker> Queue<K> {
             unit: new.unit,
             order: new.order,
         };
+        let record = Record::new(command, new.weight);
+        self.sequential += record.count_sequential();
         self.aims.push(Aim::of(&command, self.drives.as_slice()));
-        self.waiting.push(Record::new(command, new.weight));
+        self.waiting.push(record);
     }
 
     /// The figure of the waiting command with the reference number, 0 if there is none: how many steps it may still
@@ -189,6 +196,7 @@ impl<K: Picker> Queue<K> {
     {
         let was_begun = self.is_begun(reference);
         let aborted = take_out(&mut self.waiting, &mut self.aims, reference)?;
+        self.sequential -= aborted.count_sequential();
         if was_begun {
             self.begun = None;
         }
@@ -216,6 +224,15 @@ impl<K: Picker> Queue<K> {
         }
     }
 
+    /// Whether each that waits is a transfer that may be passed once more. Who came earlier was passed at least as often,
+    /// so that the oldest tells it for all.
+    fn may_all_start(&self) -> bool
+        requires { 0 < length self.now.waiting }
+        ensures { result ≡ list_all (is_passable self.now.passing) self.now.waiting }
+    {
+        self.sequential == 0 && self.waiting[0].passes() < self.passing
+    }
+
     /// The place of the command in service, or, where none is, of one that the picker picks.
     fn place_to_begin(&mut self) -> usize
         requires nothing { self.old.begun ≡ None }
@@ -226,6 +243,7 @@ impl<K: Picker> Queue<K> {
         match self.serving_place() {
             Some(place) => place,
             None => picked_place(
+                self.may_all_start(),
                 self.waiting.as_slice(),
                 self.aims.as_slice(),
                 self.drives.as_slice(),
@@ -293,6 +311,7 @@ impl<K: Picker> Queue<K> {
         replace_drive(self.drives.as_mut_slice(), command.unit, &service.drive);
         self.begun = None;
         self.serving = !ends;
+        self.sequential -= sequential_ended(&record, ends);
         Report::Served {
             reference: command.reference,
             unit: command.unit,

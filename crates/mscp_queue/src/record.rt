@@ -1,7 +1,7 @@
 // A waiting command.
 
-ghost use Rattle.std.specs.Prelude.{◌≡◌, ◌+◌, ◌-◌, ◌<◌, ◌≤◌, ◌^◌, nat_eq};
-ghost use Rattle.mscp_queue.specs.Orders.{order_weight};
+ghost use Rattle.std.specs.Prelude.{◌≡◌, ◌+◌, ◌-◌, ◌<◌, ◌≤◌, ◌^◌, cond, nat_eq};
+ghost use Rattle.mscp_queue.specs.Orders.{is_sequential, order_weight};
 ghost use Rattle.mscp_queue.specs.Records.{advanced, step_toll, fresh_record, left_of, no_record, passed_by};
 
 use mscp_packet::{Command, Order};
@@ -50,6 +50,23 @@ impl Record {
         ensures { result ≡ self.now.command }
     {
         self.command
+    }
+
+    /// Whether the command is sequential: it keeps its place among the commands of its unit.
+    pub fn is_sequential(&self) -> bool
+        ensures { result ≡ is_sequential self.now.command.order }
+    {
+        matches!(
+            self.command.order,
+            Order::Available | Order::Online | Order::SetUnit
+        )
+    }
+
+    /// How many sequential commands it is of: one, or none.
+    pub fn count_sequential(&self) -> u32
+        ensures { result ≡ cond (is_sequential self.now.command.order) 1 0 }
+    {
+        u32::from(self.is_sequential())
     }
 
     /// How many steps the command had.

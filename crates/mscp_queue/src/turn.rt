@@ -1,10 +1,11 @@
 // What a step or an abort leaves of the waiting commands.
 
-ghost use Rattle.std.specs.Prelude.{◌≡◌, ◌+◌, ◌<◌, ◌≤◌, ◌^◌, List, [], ◌∷◌, ◌++◌, cond, length, map, take, drop, find, All, IfNone, IfSome, nat_lt};
+ghost use Rattle.std.specs.Prelude.{◌≡◌, ◌+◌, ◌<◌, ◌≤◌, ◌^◌, ◌&&◌, List, [], ◌∷◌, ◌++◌, cond, length, map, take, drop, find, All, IfNone, IfSome, nat_lt};
 ghost use Rattle.std.specs.List.{position};
 ghost use Rattle.mscp_drive.specs.Shape.{Shape};
 ghost use Rattle.mscp_queue.specs.Aims.{aims_of};
 ghost use Rattle.mscp_queue.specs.Kept.{AreApart, names};
+ghost use Rattle.mscp_queue.specs.Orders.{is_sequential};
 ghost use Rattle.mscp_queue.specs.Records.{advanced, has_reference, is_in_service, passed_by, record_at, without};
 
 use crate::aim::Aim;
@@ -68,6 +69,13 @@ pub(crate) fn leave(
         waiting.remove(place);
         aims.remove(place);
     }
+}
+
+/// How many sequential commands end with that of the record, which ends or not: one, or none.
+pub(crate) fn sequential_ended(record: &Record, ends: bool) -> u32
+    ensures { result ≡ cond (ends && is_sequential «record».now.command.order) 1 0 }
+{
+    u32::from(ends && record.is_sequential())
 }
 
 /// Takes the record of the command with the reference number out, if there is one. The aims stay those of the records.

@@ -1,11 +1,10 @@
-use Rattle.std.proofs.Common.{◌≡◌, true, length, take}
-use Rattle.std.specs.List.{list_all, range_with_len}
-use Rattle.mscp_queue.specs.Views.{choices_at, is_passable}
+use Rattle.std.proofs.Common.{◌≡◌, length, take}
+use Rattle.std.specs.List.{range_with_len}
+use Rattle.mscp_queue.specs.Views.{choices_at}
 use Rattle.mscp_queue.proofs.start.show_all.Given as goal
 
 abbrev pub invariant-loop-place : goal.invariant-loop-place
 invariant-loop-place l = record {
   shown : take l.place l.view ≡ choices_at l.drives l.records (range_with_len 0 l.place);
   room : length l.view ≡ length l.records;
-  passable : list_all (is_passable l.passing) (take l.place l.records) ≡ true;
 }

@@ -1,8 +1,9 @@
-use Rattle.std.proofs.Common.{ap, sym, ◌∙◌}
-use Rattle.mscp_queue.specs.Kept.{units_of}
+use Rattle.std.proofs.Common.{ap, subst, sym, ◌∙◌}
+use Rattle.mscp_queue.specs.Kept.{ArePassedInOrder, units_of}
 use Rattle.mscp_queue.specs.Lines.{Line, aborting}
 use Rattle.mscp_queue.specs.Serving.{is_begun}
-use Rattle.mscp_queue.proofs.Aborts.{held_aborted, none_aborted}
+use Rattle.mscp_queue.proofs.Aborts.{counted_without, held_aborted, none_aborted}
+use Rattle.mscp_queue.proofs.Ordered.{IsCountedOut, order_kept}
 use Rattle.mscp_queue.proofs.queue.Queue.abort.Goals as goal
 
 pub returns-in_err-aborted-clause-after : goal.returns-in_err-aborted-clause-after
@@ -13,6 +14,16 @@ returns-in_err-aborted-clause-after g c =
     (λ i. record { room = q.room; passing = q.passing; longest = q.longest; waiting = c.take_out.ensures.left i; drives = q.drives.items; begun = stays i; picker = q.picker })
     ∙ ap (λ (l : Line K). aborting c.args.reference l) c.self.view_is
 
+-- what was aborted is counted out
+out : (g : Rattle.mscp_queue.proofs.queue.Queue.abort.Given.Over) (c : goal.After-count_sequential g) → IsCountedOut c.self.inside.sequential c.count_sequential.result c.take_out.new.waiting.items
+out g c =
+    let q = c.self.inside in
+    counted_without c.args.reference q.waiting.items c.take_out.new.waiting.items c.in_ok-aborted.aborted q.sequential c.count_sequential.result c.self.invariant.held.apart
+    (sym c.in_ok-aborted.was ∙ c.take_out.ensures.found) c.take_out.ensures.left c.self.invariant.counted c.count_sequential.ensures
+
+pub overflow_sub-self : goal.overflow_sub-self
+overflow_sub-self g c = (out g c).below
+
 pub invariant_of-self-then-was_begun : goal.invariant_of-self-then-was_begun
 invariant_of-self-then-was_begun g c =
     let K = g.row.K.Denot in
@@ -22,6 +33,8 @@ invariant_of-self-then-was_begun g c =
           held_aborted q.room q.passing q.longest c.args.reference q.waiting.items c.take_out.new.waiting.items q.drives.items q.begun q.serving _
           (ap (λ (l : Line K). is_begun c.args.reference l.begun) c.self.view_is ∙ sym c.if-was_begun.ensures) c.self.invariant.held c.take_out.ensures.left;
       aimed = c.take_out.ensures.aims (units_of q.drives.items) c.self.invariant.aimed;
+      counted = (out g c.before.before.before).counted;
+      order = subst ArePassedInOrder (sym c.take_out.ensures.left) (order_kept _ q.waiting.items c.self.invariant.order);
     }
 
 pub invariant_of-self-else-was_begun : goal.invariant_of-self-else-was_begun
@@ -33,4 +46,6 @@ invariant_of-self-else-was_begun g c =
           held_aborted q.room q.passing q.longest c.args.reference q.waiting.items c.take_out.new.waiting.items q.drives.items q.begun q.serving _
           (ap (λ (l : Line K). is_begun c.args.reference l.begun) c.self.view_is ∙ sym c.if-was_begun.ensures) c.self.invariant.held c.take_out.ensures.left;
       aimed = c.take_out.ensures.aims (units_of q.drives.items) c.self.invariant.aimed;
+      counted = (out g c.before.before).counted;
+      order = subst ArePassedInOrder (sym c.take_out.ensures.left) (order_kept _ q.waiting.items c.self.invariant.order);
     }

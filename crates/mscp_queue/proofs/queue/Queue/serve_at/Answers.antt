@@ -1,4 +1,4 @@
-use Rattle.std.proofs.Common.{◌≡◌, refl, get_or, length, ap, subst, sym, ◌∙◌}
+use Rattle.std.proofs.Common.{◌≡◌, ℕ, ◌&&◌, List, cond, refl, get_or, length, ap, subst, sym, ◌∙◌}
 use Rattle.std.specs.Prelude.{if◌then◌else◌}
 use Rattle.std.specs.List.{refill}
 use Rattle.std.proofs.lemmas.List.{get_or_default, length-map}
@@ -7,23 +7,50 @@ use Rattle.mscp_queue.specs.Aims.{aims_of}
 use Rattle.mscp_queue.specs.Drives.{drive_of, has_number, replaced}
 use Rattle.mscp_queue.specs.Kept.{units_of}
 use Rattle.mscp_queue.specs.Lines.{Line}
-use Rattle.mscp_queue.specs.Records.{no_record, record_at}
-use Rattle.mscp_queue.specs.Serving.{IsNext}
+use Rattle.mscp_queue.specs.Records.{Record, no_record, record_at}
+use Rattle.mscp_queue.specs.Serving.{IsNext, IsServable}
+use Rattle.mscp_queue.specs.Orders.{is_sequential}
 use Rattle.mscp_queue.proofs.Mapped.{refilled}
+use Rattle.mscp_queue.proofs.Ordered.{IsCountedOut, counted_left, passes_left}
 use Rattle.mscp_queue.proofs.Turns.{held_step, units_step}
 use Rattle.mscp_queue.proofs.queue.Queue.serve_at.Goals as goal
 
+-- the record that is served
+record IsServed (passing place : ℕ) (rs : List Record) (r : Record) : Type 0 where
+  pub servable : IsServable passing rs place
+  pub own : r ≡ record_at rs place
+
+served : (g : Rattle.mscp_queue.proofs.queue.Queue.serve_at.Given.Over) (c : goal.After-sequential_ended g) → IsServed c.self.inside.passing c.args.place c.self.inside.waiting.items c.index-deref-place.result
+served g c =
+    let q = c.self.inside in
+    let rs = q.waiting.items in
+    let place = c.args.place in
+    let K = g.row.K.Denot in
+    let next : IsNext (g.K.Picker.picks q.picker) q.passing q.drives.items rs q.begun place =
+    subst (λ (l : Line K). IsNext (g.K.Picker.picks l.picker) l.passing l.drives l.waiting l.begun place) (sym c.self.view_is) c.requires in
+    let item = c.index-deref-place.result in
+    record {
+      servable = next.servable;
+      own = c.index-deref-place.is ∙ (ap (λ l. get_or l place item) c.deref.ensures.0 ∙ get_or_default rs place item no_record next.servable.inside);
+    }
+
+-- what ends is counted out
+out : (g : Rattle.mscp_queue.proofs.queue.Queue.serve_at.Given.Over) (c : goal.After-sequential_ended g) → IsCountedOut c.self.inside.sequential c.sequential_ended.result c.leave.new.waiting.items
+out g c =
+    let s = served g c in
+    counted_left c.self.inside.waiting.items c.leave.new.waiting.items c.args.place c.step_toll.result c.self.inside.sequential c.sequential_ended.result c.is_some-ends.result s.servable.inside c.leave.ensures.left
+    c.self.invariant.counted (c.sequential_ended.ensures ∙ ap {B = ℕ} (λ (r : Record). cond (c.is_some-ends.result && is_sequential r.command.order) 1 0) s.own)
+
+pub overflow_sub-self : goal.overflow_sub-self
+overflow_sub-self g c = (out g c).below
+
 pub invariant_of-self : goal.invariant_of-self
 invariant_of-self g c =
-    let picks = g.K.Picker.picks c.self.inside.picker in
     let rs = c.self.inside.waiting.items in
     let ds = c.self.inside.drives.items in
     let place = c.args.place in
-    let K = g.row.K.Denot in
-    let next : IsNext picks c.self.inside.passing ds rs c.self.inside.begun place =
-    subst (λ (l : Line K). IsNext (g.K.Picker.picks l.picker) l.passing l.drives l.waiting l.begun place) (sym c.self.view_is) c.requires in
+    let s = served g c.before.before.before in
     let item = c.index-deref-place.result in
-    let read : item ≡ record_at rs place = c.index-deref-place.is ∙ (ap (λ l. get_or l place item) c.deref.ensures.0 ∙ get_or_default rs place item no_record next.servable.inside) in
     let slice = c.as_mut_slice.ensures.value in
     let new : c.replace_drive.new.drives ≡ replaced c.command-command.result.unit c.serve-service.result.drive ds =
     c.replace_drive.ensures ∙ ap (replaced c.command-command.result.unit c.serve-service.result.drive) slice in
@@ -37,10 +64,12 @@ invariant_of-self g c =
       held =
           held_step q.room q.passing q.longest place rs c.leave.new.waiting.items ds ds' q.begun q.serving _ c.args.block.now item
           c.command-command.result c.drive_of-drive.result c.serve-service.result.drive c.serve-service.result.ended c.is_some-ends.result c.step_toll.result
-          c.self.invariant.held next.servable read c.command-command.ensures drive
+          c.self.invariant.held s.servable s.own c.command-command.ensures drive
           c.serve-service.ensures.ended c.is_some-ends.ensures c.serve-service.ensures.drive c.step_toll.ensures.value c.serve-service.ensures.on_unit
           c.leave.ensures.left refl now;
       aimed = c.leave.ensures.aims (units_of ds) c.self.invariant.aimed ∙ ap (λ us. aims_of us c.leave.new.waiting.items) (sym units);
+      counted = (out g c.before.before.before).counted;
+      order = passes_left rs c.leave.new.waiting.items place c.step_toll.result c.is_some-ends.result s.servable.inside c.leave.ensures.left c.self.invariant.order;
     }
 
 pub returns-clause-units : goal.returns-clause-units
