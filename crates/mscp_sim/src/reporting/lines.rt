@@ -1,15 +1,14 @@
-// The lines of a report.
+// The lines of a report. Each but the last is written from its end to its start, and appended in one piece.
 
-ghost use Rattle.std.specs.Prelude.{◌≡◌, ◌++◌, codes, OnOk};
-ghost use Rattle.std.specs.Fmt.{decimal};
+ghost use Rattle.std.specs.Prelude.{◌≡◌, ◌+◌, ◌≤◌, ◌++◌, length, codes, OnOk};
 ghost use Rattle.std.specs.List.{flat_map};
 ghost use Rattle.mscp_control.specs.declared.event.Entry.TheVariants as entries;
 ghost use Rattle.mscp_sim.specs.Text.{aborted_part, block_word, ended_part, entry_lines, figure_line, last_line, refusal_word, sent_line, step_line};
 
-use crate::text::{put, put_field, put_hex, put_number};
+use crate::reporting::tail::Tail;
+use crate::text::{put, put_field};
 use crate::totals::Totals;
 use arrayvec::ArrayVec;
-use itoa::write_digits;
 use mscp_control::{Report, SendFault, Sent};
 use mscp_packet::End;
 use std::alloc::AllocError;
@@ -27,78 +26,82 @@ fn refused(fault: SendFault) -> &'static str
     }
 }
 
-/// Appends that an ABORT ended a command, if it did.
-fn put_aborted(out: &mut Vec<u8>, aborted: Option<u32>) -> Result<(), AllocError>
-    ensures { OnOk result (out.new.items ≡ out.old.items ++ aborted_part aborted) }
+/// Puts in front that an ABORT ended a command, if it did.
+fn put_aborted(line: &mut Tail, aborted: Option<u32>)
+    requires { 19 + length line.old ≤ 101 }
+    ensures value { line.new ≡ aborted_part aborted ++ line.old }
+    ensures short { length line.new ≤ 19 + length line.old }
 {
-    match aborted {
-        Some(other) => put_field(out, " aborted ", other),
-        None => Ok(()),
+    if let Some(other) = aborted {
+        line.field(" aborted ", other);
     }
 }
 
-/// Appends the line of a message that was taken in.
-fn put_taken_in(out: &mut Vec<u8>, sent: Sent) -> Result<(), AllocError>
-    ensures { OnOk result (out.new.items ≡ out.old.items ++ sent_line sent) }
+/// Puts the line of a message that was taken in before its line feed.
+fn put_taken_in(line: &mut Tail, sent: Sent)
+    requires { line.old ≡ codes "\n" }
+    ensures { line.new ≡ sent_line sent }
 {
     match sent {
-        Sent::Queued(reference) => put_field(out, "queued ", reference)?,
+        Sent::Queued(reference) => line.field("queued ", reference),
         Sent::Answered { reference, aborted } => {
-            put_field(out, "answered ", reference)?;
-            put_aborted(out, aborted)?;
+            put_aborted(line, aborted);
+            line.field("answered ", reference);
         }
     }
-    put(out, "\n")
 }
 
 /// Appends the line of a message: what became of it, or why it is refused.
 pub fn put_sent(out: &mut Vec<u8>, sent: &Result<Sent, SendFault>) -> Result<(), AllocError>
     ensures { OnOk result (out.new.items ≡ out.old.items ++ entry_lines (entries.Sent sent.now)) }
 {
+    let mut line = Tail::new();
     match sent {
-        Ok(sent) => put_taken_in(out, *sent),
+        Ok(sent) => put_taken_in(&mut line, *sent),
         Err(fault) => {
-            put(out, "refused ")?;
-            put(out, refused(*fault))?;
-            put(out, "\n")
+            line.words(refused(*fault));
+            line.words("refused ");
         }
     }
+    out.extend_from_slice(line.bytes())
 }
 
 /// Appends the line of an end that was taken, or of none.
 pub fn put_taken(out: &mut Vec<u8>, end: &Option<ArrayVec<u8, 48>>) -> Result<(), AllocError>
     ensures { OnOk result (out.new.items ≡ out.old.items ++ entry_lines (entries.Taken end.now)) }
 {
+    let mut line = Tail::new();
     match end {
         Some(bytes) => {
-            put(out, "end ")?;
-            put_hex(out, bytes.as_slice())?;
-            put(out, "\n")
+            line.hex(bytes.as_slice());
+            line.words("end ");
         }
-        None => put(out, "none\n"),
+        None => line.words("none"),
     }
+    out.extend_from_slice(line.bytes())
 }
 
-/// Appends what a step did with a block.
-fn put_block(out: &mut Vec<u8>, lbn: Option<u32>) -> Result<(), AllocError>
-    ensures { OnOk result (out.new.items ≡ out.old.items ++ block_word lbn) }
+/// Puts in front what a step did with a block.
+fn put_block(line: &mut Tail, lbn: Option<u32>)
+    requires { 10 + length line.old ≤ 101 }
+    ensures value { line.new ≡ block_word lbn ++ line.old }
+    ensures short { length line.new ≤ 10 + length line.old }
 {
     match lbn {
-        Some(block) => put_number(out, block),
-        None => put(out, "none"),
+        Some(block) => line.number(block),
+        None => line.words("none"),
     }
 }
 
-/// Appends the status of the end that a step brought.
-fn put_ended(out: &mut Vec<u8>, ended: &Option<End>) -> Result<(), AllocError>
-    ensures { OnOk result (out.new.items ≡ out.old.items ++ ended_part ended.now) }
+/// Puts in front the status of the end that a step brought.
+fn put_ended(line: &mut Tail, ended: &Option<End>)
+    requires { 11 + length line.old ≤ 101 }
+    ensures value { line.new ≡ ended_part ended.now ++ line.old }
+    ensures short { length line.new ≤ 11 + length line.old }
 {
-    match ended {
-        Some(end) => {
-            put(out, " ended ")?;
-            put_hex(out, &end.status.to_be_bytes())
-        }
-        None => Ok(()),
+    if let Some(end) = ended {
+        line.hex(&end.status.to_be_bytes());
+        line.words(" ended ");
     }
 }
 
@@ -106,8 +109,9 @@ fn put_ended(out: &mut Vec<u8>, ended: &Option<End>) -> Result<(), AllocError>
 pub fn put_step(out: &mut Vec<u8>, report: &Report) -> Result<(), AllocError>
     ensures { OnOk result (out.new.items ≡ out.old.items ++ step_line report.now) }
 {
+    let mut line = Tail::new();
     match report {
-        Report::Idle => put(out, "idle\n"),
+        Report::Idle => line.words("idle"),
         Report::Served {
             reference,
             unit,
@@ -116,28 +120,25 @@ pub fn put_step(out: &mut Vec<u8>, report: &Report) -> Result<(), AllocError>
             seek,
             ended,
         } => {
-            put_field(out, "serve ", *reference)?;
-            put_field(out, " unit ", *unit)?;
-            put(out, " block ")?;
-            put_block(out, *lbn)?;
-            put_field(out, " seek ", *seek)?;
-            put_ended(out, ended)?;
-            put(out, "\n")
+            put_ended(&mut line, ended);
+            line.field(" seek ", *seek);
+            put_block(&mut line, *lbn);
+            line.words(" block ");
+            line.field(" unit ", u32::from(*unit));
+            line.field("serve ", *reference);
         }
     }
+    out.extend_from_slice(line.bytes())
 }
 
-/// Appends two numbers with a space between them and a line feed behind them. They are written from the last digit to the
-/// first, and appended in one piece, since a look has such a line for each waiting command.
-fn put_two_numbers(out: &mut Vec<u8>, first: u32, second: u32) -> Result<(), AllocError>
-    ensures { OnOk result (out.new.items
-        ≡ out.old.items ++ (decimal first ++ (codes " " ++ (decimal second ++ codes "\n")))) }
+/// Appends the line of a waiting command.
+fn put_figure(out: &mut Vec<u8>, reference: u32, figure: u32) -> Result<(), AllocError>
+    ensures { OnOk result (out.new.items ≡ out.old.items ++ figure_line (reference, figure)) }
 {
-    let mut room = [b'\n'; 22];
-    let at = write_digits(u64::from(second), &mut room, 21) - 1;
-    room[at] = b' ';
-    let start = write_digits(u64::from(first), &mut room, at);
-    out.extend_from_slice(&room[start..])
+    let mut line = Tail::new();
+    line.field(" ", figure);
+    line.field("figure ", reference);
+    out.extend_from_slice(line.bytes())
 }
 
 /// Appends the line of each waiting command.
@@ -145,8 +146,7 @@ pub fn put_figures(out: &mut Vec<u8>, shown: &[(u32, u32)]) -> Result<(), AllocE
     ensures { OnOk result (out.new.items ≡ out.old.items ++ flat_map figure_line shown.now) }
 {
     for (reference, figure) in shown {
-        put(out, "figure ")?;
-        put_two_numbers(out, *reference, *figure)?;
+        put_figure(out, *reference, *figure)?;
     }
     Ok(())
 }
