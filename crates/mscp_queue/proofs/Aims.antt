@@ -4,20 +4,20 @@ use Rattle.std.specs.Prelude.{nat_eq, remove, unwrap_or}
 use Rattle.std.specs.List.{position}
 use Rattle.std.proofs.Math.Nat.{div-mul-le_self}
 use Rattle.std.proofs.lemmas.Nat.{le-div}
-use Rattle.std.proofs.lemmas.List.{drop-map, get_or-map, map-append, take-map}
+use Rattle.std.proofs.lemmas.List.{drop-map, get_or-map, get_or_default, map-append, take-map}
 use Rattle.mscp_packet.specs.declared.command.Command.{Command}
 use Rattle.mscp_drive.specs.Shape.{Shape, cylinder_blocks, cylinder_of, last_cylinder}
 use Rattle.mscp_drive.specs.UnitList.{unit_found}
 use Rattle.mscp_queue.specs.declared.aim.Aim.{Aim}
 use Rattle.mscp_queue.specs.declared.drive.Drive.{Drive}
-use Rattle.mscp_queue.specs.Aims.{aim_of, aims_of, unit_place}
-use Rattle.mscp_queue.specs.Drives.{drive_of, has_number, one_block}
+use Rattle.mscp_queue.specs.Aims.{IsAimed, aim_of, aims_of, unit_place}
+use Rattle.mscp_queue.specs.Drives.{IsOnUnit, drive_of, has_number, one_block}
 use Rattle.mscp_queue.specs.Kept.{CanBeShown, HasBlocks, is_known, units_of}
-use Rattle.mscp_queue.specs.Orders.{first_block, is_move}
-use Rattle.mscp_queue.specs.Records.{Record, advanced, fresh_record, no_record, passed_by, record_at}
+use Rattle.mscp_queue.specs.Orders.{first_block}
+use Rattle.mscp_queue.specs.Records.{Record, advanced, drive_at, fresh_record, no_record, passed_by, record_at}
 use Rattle.mscp_queue.proofs.Fronts.{drive_place, known_at, known_inside}
 use Rattle.mscp_queue.proofs.Placed.{cut_at, map_map}
-use Rattle.mscp_queue.proofs.Starting.{AllInside, first_inside}
+use Rattle.mscp_queue.proofs.Starting.{first_inside}
 use Rattle.mscp_queue.proofs.Turns.{found_unit}
 
 -- ---- the place of a drive is that of its unit
@@ -58,62 +58,50 @@ aim_made ds command place block cylinder d known at first is =
 abbrev pub no_aim : Aim
 no_aim = record { drive = 0; cylinder = 0 }
 
--- what is read of an aim leads to the drive of a record's unit, and to the cylinder of its first block
-pub record IsAimed (ds : List Drive) (r : Record) (at cylinder : ℕ) (d : Drive) : Type 0 where
-  pub place : at ≡ drive_place ds r.command.unit
-  pub drive : d ≡ drive_of ds r.command.unit
-  pub block : is_move r.command.order ≡ true → first_block r.command.order < d.unit.size
-  pub on : cylinder ≡ cylinder_of d.unit (first_block r.command.order)
+-- ---- where a waiting command aims, that can be shown
 
--- what is read of the aim at a place
-pub record Reads (ds : List Drive) (rs : List Record) (aims : List Aim) (place : ℕ) (r : Record) (at : ℕ) (other : Aim) : Type 0 where
-  pub below : place < length rs
-  pub aimed : aims ≡ aims_of (units_of ds) rs
-  pub inside : AllInside ds rs
-  pub record_is : r ≡ get_or rs place r
-  pub drive : at ≡ (get_or aims place other).drive
+own_blocks : (ds : List Drive) (rs : List Record) (aims : List Aim) (place : ℕ) (r : Record) → CanBeShown ds rs aims → place < length rs → r ≡ get_or rs place r → HasBlocks (units_of ds) r.command
+own_blocks ds rs aims place r h l own = subst (λ (q : Record). HasBlocks (units_of ds) q.command) (sym own) (h.inside place r l)
 
-own_blocks : (ds : List Drive) (rs : List Record) (aims : List Aim) (place : ℕ) (r : Record) (at : ℕ) (other : Aim) → Reads ds rs aims place r at other → HasBlocks (units_of ds) r.command
-own_blocks ds rs aims place r at other h = subst (λ (q : Record). HasBlocks (units_of ds) q.command) (sym h.record_is) (h.inside place r h.below)
-
--- it is that of the record there
-own_aim : (ds : List Drive) (rs : List Record) (aims : List Aim) (place : ℕ) (r : Record) (at : ℕ) (other : Aim) → Reads ds rs aims place r at other → get_or aims place other ≡ aim_of (units_of ds) r.command
-own_aim ds rs aims place r at other h =
+own_aim : (ds : List Drive) (rs : List Record) (aims : List Aim) (place : ℕ) (r : Record) (other : Aim) → CanBeShown ds rs aims → place < length rs → r ≡ get_or rs place r → get_or aims place other ≡ aim_of (units_of ds) r.command
+own_aim ds rs aims place r other h l own =
     let of : Record → Aim = λ q. aim_of (units_of ds) q.command in
-    ap (λ zs. get_or zs place other) h.aimed ∙ (get_or-map of rs place r other h.below ∙ ap of (sym h.record_is))
+    ap (λ zs. get_or zs place other) h.aimed ∙ (get_or-map of rs place r other l ∙ ap of (sym own))
 
-aim_place : (ds : List Drive) (rs : List Record) (aims : List Aim) (place : ℕ) (r : Record) (at : ℕ) (other : Aim) → Reads ds rs aims place r at other → at ≡ drive_place ds r.command.unit
-aim_place ds rs aims place r at other h = h.drive ∙ (ap (λ (a : Aim). a.drive) (own_aim ds rs aims place r at other h) ∙ sym (place_same ds r.command.unit))
-
-pub aim_below : (ds : List Drive) (rs : List Record) (aims : List Aim) (place : ℕ) (r : Record) (at : ℕ) (other : Aim) → Reads ds rs aims place r at other → at < length ds
-aim_below ds rs aims place r at other h =
-    subst (λ k. k < length ds) (sym (aim_place ds rs aims place r at other h)) (known_inside ds r.command.unit (own_blocks ds rs aims place r at other h).0)
-
-pub aimed : (ds : List Drive) (rs : List Record) (aims : List Aim) (place : ℕ) (r : Record) (at : ℕ) (other : Aim) (d : Drive) → Reads ds rs aims place r at other → d ≡ get_or ds at d
-    → IsAimed ds r at (get_or aims place other).cylinder d
-aimed ds rs aims place r at other d h found =
-    let own = own_blocks ds rs aims place r at other h in
-    let there = aim_place ds rs aims place r at other h in
-    let drive : d ≡ drive_of ds r.command.unit = found ∙ (ap (λ i. get_or ds i d) there ∙ (known_at ds r.command.unit d own.0).drive) in
-    record {
-      place = there;
-      drive = drive;
-      block = first_inside ds r at d there found own;
-      on =
-          ap (λ (a : Aim). a.cylinder) (own_aim ds rs aims place r at other h)
-          ∙ ap (λ (u : Shape). cylinder_of u (first_block r.command.order)) (found_unit r.command.unit ds ∙ ap (λ (q : Drive). q.unit) (sym drive));
-    }
-
--- the drive of a waiting command that can be shown
+-- the place of its drive
 pub record HasDrive (ds : List Drive) (r : Record) (at : ℕ) : Type 0 where
+  pub below : at < length ds
   pub few : at < 16
   pub place : at ≡ drive_place ds r.command.unit
 
 pub has_drive : (ds : List Drive) (rs : List Record) (aims : List Aim) (place : ℕ) (r : Record) (at : ℕ) (other : Aim) → CanBeShown ds rs aims → place < length rs → r ≡ get_or rs place r → at ≡ (get_or aims place other).drive
     → HasDrive ds r at
 has_drive ds rs aims place r at other h l own is =
-    let reads : Reads ds rs aims place r at other = record { below = l; aimed = h.aimed; inside = h.inside; record_is = own; drive = is } in
-    record { few = omega (arith, aim_below ds rs aims place r at other reads, h.drives); place = aim_place ds rs aims place r at other reads }
+    let there = is ∙ (ap (λ (a : Aim). a.drive) (own_aim ds rs aims place r other h l own) ∙ sym (place_same ds r.command.unit)) in
+    let below = subst (λ k. k < length ds) (sym there) (known_inside ds r.command.unit (own_blocks ds rs aims place r h l own).0) in
+    record { below = below; few = omega (arith, below, h.drives); place = there }
+
+-- its drive, and the cylinder of its first block there
+pub record LeadsTo (ds : List Drive) (rs : List Record) (place : ℕ) (r : Record) (d : Drive) (cylinder : ℕ) : Type 0 where
+  pub drive : d ≡ drive_at ds rs place
+  pub aimed : IsAimed d cylinder r
+
+pub leads_to : (ds : List Drive) (rs : List Record) (aims : List Aim) (place : ℕ) (r : Record) (at : ℕ) (other : Aim) (d : Drive) → CanBeShown ds rs aims → place < length rs → r ≡ get_or rs place r → at ≡ (get_or aims place other).drive
+    → d ≡ get_or ds at d → LeadsTo ds rs place r d (get_or aims place other).cylinder
+leads_to ds rs aims place r at other d h l own is found =
+    let blocks = own_blocks ds rs aims place r h l own in
+    let has = has_drive ds rs aims place r at other h l own is in
+    let drive : d ≡ drive_of ds r.command.unit = found ∙ (ap (λ i. get_or ds i d) has.place ∙ (known_at ds r.command.unit d blocks.0).drive) in
+    record {
+      drive = drive ∙ ap (λ (q : Record). drive_of ds q.command.unit) (own ∙ get_or_default rs place r no_record l);
+      aimed = record {
+        head = subst IsOnUnit (sym found) (h.heads at d has.below);
+        block = first_inside ds r at d has.place found blocks;
+        cylinder_is =
+            ap (λ (a : Aim). a.cylinder) (own_aim ds rs aims place r other h l own)
+            ∙ ap (λ (u : Shape). cylinder_of u (first_block r.command.order)) (found_unit r.command.unit ds ∙ ap (λ (q : Drive). q.unit) (sym drive));
+      };
+    }
 
 -- ---- the aims stay those of the records
 

@@ -1,12 +1,13 @@
 -- What of a command that waits is the same at each start, so that it is found once.
-use Rattle.std.specs.Prelude.{ℕ, nat_eq, List, map, unwrap_or}
+use Rattle.std.specs.Prelude.{◌≡◌, ℕ, ◌<◌, true, nat_eq, List, map, unwrap_or}
 use Rattle.std.specs.List.{position_or_len}
 use Rattle.mscp_packet.specs.declared.command.Command.{Command}
 use Rattle.mscp_drive.specs.Shape.{Shape, cylinder_of}
 use Rattle.mscp_drive.specs.UnitList.{unit_found}
 use Rattle.mscp_queue.specs.declared.aim.Aim.{Aim}
-use Rattle.mscp_queue.specs.Drives.{one_block}
-use Rattle.mscp_queue.specs.Orders.{first_block}
+use Rattle.mscp_queue.specs.declared.drive.Drive.{Drive}
+use Rattle.mscp_queue.specs.Drives.{IsOnUnit, one_block}
+use Rattle.mscp_queue.specs.Orders.{first_block, is_move}
 use Rattle.mscp_queue.specs.Records.{Record}
 
 -- the place of the unit of this number
@@ -23,3 +24,10 @@ aim_of units command = record {
 -- the same of each record
 abbrev pub aims_of : List Shape → List Record → List Aim
 aims_of units rs = map (λ r. aim_of units r.command) rs
+
+-- the drive is one where a command may wait: its head is on a cylinder, the first block of a transfer is one of the
+-- unit's, and stands on this cylinder
+pub record IsAimed (d : Drive) (cylinder : ℕ) (r : Record) : Type 0 where
+  pub head : IsOnUnit d
+  pub block : is_move r.command.order ≡ true → first_block r.command.order < d.unit.size
+  pub cylinder_is : cylinder ≡ cylinder_of d.unit (first_block r.command.order)

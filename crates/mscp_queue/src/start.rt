@@ -1,11 +1,10 @@
 // Which command starts, where nothing is in service.
 
-ghost use Rattle.std.specs.Prelude.{◌≡◌, ◌++◌, ◌||◌, [], ◌∷◌, ◌<◌, true, cond, length};
+ghost use Rattle.std.specs.Prelude.{◌≡◌, ◌++◌, ◌||◌, [], ◌∷◌, ◌<◌, true, cond, length, All};
 ghost use Rattle.std.specs.List.{list_all, range_with_len};
-ghost use Rattle.mscp_drive.specs.Shape.{cylinder_of};
-ghost use Rattle.mscp_queue.specs.Drives.{IsOnUnit};
+ghost use Rattle.mscp_queue.specs.Aims.{IsAimed};
 ghost use Rattle.mscp_queue.specs.Kept.{AreApart, CanBeShown, names};
-ghost use Rattle.mscp_queue.specs.Orders.{first_block, is_move, is_sequential, order_class, order_cost};
+ghost use Rattle.mscp_queue.specs.Orders.{is_move, is_sequential};
 ghost use Rattle.mscp_queue.specs.Records.{drive_at, record_at};
 ghost use Rattle.mscp_queue.specs.Views.{IsPick, choice_of, choices_at, is_passable, view_of};
 
@@ -18,73 +17,80 @@ use crate::record::Record;
 use crate::view::{Choice, View};
 use mscp_packet::{Class, Order};
 
-/// What the start of an order costs the head of this drive: the way to the cylinder of its first block, and nothing where
-/// it is sequential.
+/// Whether the order is that of a transfer.
+fn is_transfer(order: &Order) -> bool
+    ensures { result ≡ is_move order.now }
+{
+    matches!(order, Order::Move(..))
+}
+
+/// What a picker sees of a record of a transfer, whose unit's drive is this, and whose first block is on this cylinder.
 #[tactic(auto, using(crate::proofs::Aims::cylinder_within))]
-fn cost_of(order: &Order, drive: &Drive, cylinder: u32) -> u64
-    requires head { IsOnUnit drive.now }
-    requires block { is_move order.now ≡ true → first_block order.now < drive.now.unit.size }
-    requires cylinder { cylinder ≡ cylinder_of drive.now.unit (first_block order.now) }
-    ensures { result ≡ order_cost drive.now.unit drive.now.head order.now }
-{
-    match order {
-        Order::Move(..) => drive.head.cost(&drive.unit, cylinder),
-        _ => 0,
-    }
-}
-
-/// The class of a command that may wait: a transfer is free, and all else sequential.
-fn class_of_waiting(order: &Order) -> Class
-    requires { (is_sequential order.now || is_move order.now) ≡ true }
-    ensures { result ≡ order_class order.now }
-{
-    match order {
-        Order::Move(..) => Class::Free,
-        _ => Class::Sequential,
-    }
-}
-
-/// What a picker sees of a record whose unit's drive is this, and whose first block is on this cylinder.
-fn choice_of(record: &Record, drive: &Drive, cylinder: u32) -> Choice
-    requires order { (is_sequential «record».now.command.order || is_move «record».now.command.order) ≡ true }
-    requires head { IsOnUnit drive.now }
-    requires block { is_move «record».now.command.order ≡ true
-        → first_block «record».now.command.order < drive.now.unit.size }
-    requires cylinder { cylinder ≡ cylinder_of drive.now.unit (first_block «record».now.command.order) }
+fn transfer_choice(record: &Record, drive: &Drive, cylinder: u32) -> Choice
+    requires transfer { is_move «record».now.command.order ≡ true }
+    requires aimed { IsAimed drive.now cylinder «record».now }
     ensures { result ≡ choice_of drive.now «record».now }
 {
     let command = record.command();
     Choice {
         reference: command.reference,
         unit: command.unit,
-        class: class_of_waiting(&command.order),
-        cost: cost_of(&command.order, drive, cylinder),
+        class: Class::Free,
+        cost: drive.head.cost(&drive.unit, cylinder),
     }
 }
 
-/// What a picker sees of the record at a place.
-fn choice_at(records: &[Record], aims: &[Aim], drives: &[Drive], place: usize) -> Choice
+/// What a picker sees of a record, whose unit's drive is this, and whose first block is on this cylinder. A start that is
+/// no transfer's costs nothing.
+fn choice_of(record: &Record, drive: &Drive, cylinder: u32) -> Choice
+    requires waitable { (is_sequential «record».now.command.order || is_move «record».now.command.order) ≡ true }
+    requires aimed { IsAimed drive.now cylinder «record».now }
+    ensures { result ≡ choice_of drive.now «record».now }
+{
+    let command = record.command();
+    if is_transfer(&command.order) {
+        return transfer_choice(record, drive, cylinder);
+    }
+    Choice {
+        reference: command.reference,
+        unit: command.unit,
+        class: Class::Sequential,
+        cost: 0,
+    }
+}
+
+/// The record at a place, the drive of its unit, and the cylinder of its first block.
+fn aimed_at<'a>(
+    records: &'a [Record],
+    aims: &[Aim],
+    drives: &'a [Drive],
+    place: usize,
+) -> (&'a Record, &'a Drive, u32)
     requires waiting { CanBeShown drives.now records.now aims.now }
     requires place { place < length records.now }
-    ensures { result ≡ choice_of (drive_at drives.now records.now place) (record_at records.now place) }
+    ensures record { result.0.now ≡ record_at records.now place }
+    ensures drive { result.1.now ≡ drive_at drives.now records.now place }
+    ensures aimed { IsAimed result.1.now result.2 result.0.now }
 {
     let aim = &aims[place];
-    choice_of(
+    (
         &records[place],
         &drives[usize::from(aim.drive)],
         aim.cylinder,
     )
 }
 
-/// Shows all records. This isn't made part of its caller, so that the loop has all registers.
+/// Shows all records, each of a transfer. This isn't made part of its caller, so that the loop has all registers.
 #[inline(never)]
 fn show_all(view: &mut View, records: &[Record], aims: &[Aim], drives: &[Drive])
-    requires { CanBeShown drives.now records.now aims.now }
+    requires waiting { CanBeShown drives.now records.now aims.now }
+    requires transfers { All (λ r. is_move r.command.order ≡ true) records.now }
     ensures { view.new ≡ choices_at drives.now records.now (range_with_len 0 (length records.now)) }
 {
     view.make_room(records.len());
     for place in 0..records.len() {
-        view.set(place, choice_at(records, aims, drives, place));
+        let (record, drive, cylinder) = aimed_at(records, aims, drives, place);
+        view.set(place, transfer_choice(record, drive, cylinder));
     }
 }
 
@@ -104,7 +110,8 @@ fn show_if(
         ++ cond may_start (choice_of (drive_at drives.now records.now place) (record_at records.now place) ∷ []) [] }
 {
     if may_start {
-        view.push(choice_at(records, aims, drives, place));
+        let (record, drive, cylinder) = aimed_at(records, aims, drives, place);
+        view.push(choice_of(record, drive, cylinder));
     }
 }
 

@@ -1,7 +1,7 @@
 use Rattle.std.proofs.Common.{◌≡◌, ◌+◌, length, take, ap, sym, ◌∙◌, arith}
 use Rattle.std.specs.List.{range_with_len}
 use Rattle.std.proofs.lemmas.List.{length-set, take_all, take_more_set}
-use Rattle.mscp_queue.specs.Views.{choices_at}
+use Rattle.mscp_queue.specs.Views.{choice_of, choices_at}
 use Rattle.mscp_queue.proofs.Passable.{shown_next}
 use Rattle.mscp_queue.proofs.start.show_all.Goals as goal
 
@@ -16,7 +16,7 @@ loop-place-preserved c =
     let below = c.loop-place-test.true in
     record {
       shown =
-          shown_next c.args.drives.now c.args.records.now place (take place view) (take (place + 1) c.set.new.self) _ c.choice_at.ensures c.loop-place.invariant.shown
+          shown_next c.args.drives.now c.args.records.now place (take place view) (take (place + 1) c.set.new.self) _ (c.transfer_choice.ensures ∙ (λ i. choice_of (c.aimed_at-cylinder.ensures.drive i) (c.aimed_at-cylinder.ensures.record i))) c.loop-place.invariant.shown
           (ap (take (place + 1)) c.set.ensures ∙ take_more_set view place _ (omega (arith, room, below)));
       room = ap length c.set.ensures ∙ (length-set view place _ ∙ room);
     }
