@@ -3,7 +3,7 @@
 ghost use Rattle.std.specs.Prelude.{◌≡◌, ◌+◌, ◌≤◌, ◌++◌, length, codes, OnOk};
 ghost use Rattle.std.specs.List.{flat_map};
 ghost use Rattle.mscp_control.specs.declared.event.Entry.TheVariants as entries;
-ghost use Rattle.mscp_sim.specs.Text.{aborted_part, block_word, ended_part, entry_lines, figure_line, last_line, refusal_word, sent_line, step_line};
+ghost use Rattle.mscp_sim.specs.Text.{aborted_part, block_word, end_line, ended_part, entry_lines, figure_line, last_line, refusal_word, sent_line, step_line};
 
 use crate::reporting::tail::Tail;
 use crate::text::{put, put_field};
@@ -52,12 +52,16 @@ fn put_taken_in(line: &mut Tail, sent: Sent)
 }
 
 /// Appends the line of a message: what became of it, or why it is refused.
-pub fn put_sent(out: &mut Vec<u8>, sent: &Result<Sent, SendFault>) -> Result<(), AllocError>
+pub fn put_sent(
+    out: &mut Vec<u8>,
+    line: &mut Tail,
+    sent: &Result<Sent, SendFault>,
+) -> Result<(), AllocError>
     ensures { OnOk result (out.new.items ≡ out.old.items ++ entry_lines (entries.Sent sent.now)) }
 {
-    let mut line = Tail::new();
+    line.begin();
     match sent {
-        Ok(sent) => put_taken_in(&mut line, *sent),
+        Ok(sent) => put_taken_in(line, *sent),
         Err(fault) => {
             line.words(refused(*fault));
             line.words("refused ");
@@ -66,19 +70,29 @@ pub fn put_sent(out: &mut Vec<u8>, sent: &Result<Sent, SendFault>) -> Result<(),
     out.extend_from_slice(line.bytes())
 }
 
+/// Appends the line of an end that was taken.
+fn put_end(out: &mut Vec<u8>, line: &mut Tail, bytes: &[u8]) -> Result<(), AllocError>
+    requires { length bytes.now ≤ 48 }
+    ensures { OnOk result (out.new.items ≡ out.old.items ++ end_line bytes.now) }
+{
+    line.begin();
+    line.hex(bytes);
+    line.words("end ");
+    out.extend_from_slice(line.bytes())
+}
+
 /// Appends the line of an end that was taken, or of none.
-pub fn put_taken(out: &mut Vec<u8>, end: &Option<ArrayVec<u8, 48>>) -> Result<(), AllocError>
+pub fn put_taken(
+    out: &mut Vec<u8>,
+    line: &mut Tail,
+    end: &Option<ArrayVec<u8, 48>>,
+) -> Result<(), AllocError>
     ensures { OnOk result (out.new.items ≡ out.old.items ++ entry_lines (entries.Taken end.now)) }
 {
-    let mut line = Tail::new();
     match end {
-        Some(bytes) => {
-            line.hex(bytes.as_slice());
-            line.words("end ");
-        }
-        None => line.words("none"),
+        Some(bytes) => put_end(out, line, bytes.as_slice()),
+        None => put(out, "none\n"),
     }
-    out.extend_from_slice(line.bytes())
 }
 
 /// Puts in front what a step did with a block.
@@ -106,12 +120,11 @@ fn put_ended(line: &mut Tail, ended: &Option<End>)
 }
 
 /// Appends the line of a step.
-pub fn put_step(out: &mut Vec<u8>, report: &Report) -> Result<(), AllocError>
+pub fn put_step(out: &mut Vec<u8>, line: &mut Tail, report: &Report) -> Result<(), AllocError>
     ensures { OnOk result (out.new.items ≡ out.old.items ++ step_line report.now) }
 {
-    let mut line = Tail::new();
     match report {
-        Report::Idle => line.words("idle"),
+        Report::Idle => put(out, "idle\n"),
         Report::Served {
             reference,
             unit,
@@ -120,33 +133,43 @@ pub fn put_step(out: &mut Vec<u8>, report: &Report) -> Result<(), AllocError>
             seek,
             ended,
         } => {
-            put_ended(&mut line, ended);
+            line.begin();
+            put_ended(line, ended);
             line.field(" seek ", *seek);
-            put_block(&mut line, *lbn);
+            put_block(line, *lbn);
             line.words(" block ");
             line.field(" unit ", u32::from(*unit));
             line.field("serve ", *reference);
+            out.extend_from_slice(line.bytes())
         }
     }
-    out.extend_from_slice(line.bytes())
 }
 
 /// Appends the line of a waiting command.
-fn put_figure(out: &mut Vec<u8>, reference: u32, figure: u32) -> Result<(), AllocError>
+fn put_figure(
+    out: &mut Vec<u8>,
+    line: &mut Tail,
+    reference: u32,
+    figure: u32,
+) -> Result<(), AllocError>
     ensures { OnOk result (out.new.items ≡ out.old.items ++ figure_line (reference, figure)) }
 {
-    let mut line = Tail::new();
+    line.begin();
     line.field(" ", figure);
     line.field("figure ", reference);
     out.extend_from_slice(line.bytes())
 }
 
 /// Appends the line of each waiting command.
-pub fn put_figures(out: &mut Vec<u8>, shown: &[(u32, u32)]) -> Result<(), AllocError>
+pub fn put_figures(
+    out: &mut Vec<u8>,
+    line: &mut Tail,
+    shown: &[(u32, u32)],
+) -> Result<(), AllocError>
     ensures { OnOk result (out.new.items ≡ out.old.items ++ flat_map figure_line shown.now) }
 {
     for (reference, figure) in shown {
-        put_figure(out, *reference, *figure)?;
+        put_figure(out, line, *reference, *figure)?;
     }
     Ok(())
 }

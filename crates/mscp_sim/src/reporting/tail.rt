@@ -12,7 +12,7 @@ use std::marker::Model;
 const ROOM: usize = 101;
 
 /// The end of a line, which grows to the front, since the digits of a number are found from the last on. So a line is
-/// appended to a report in one piece.
+/// appended to a report in one piece. It is kept from line to line, since a new room would have to be cleared for each.
 #[derive(Drop)]
 pub struct Tail {
     room: [u8; ROOM],
@@ -40,6 +40,15 @@ impl Tail {
             room: [b'\n'; ROOM],
             start: ROOM - 1,
         }
+    }
+
+    /// Begins a line.
+    #[inline]
+    pub fn begin(&mut self)
+        ensures { self.new ≡ codes "\n" }
+    {
+        self.start = ROOM - 1;
+        self.room[self.start] = b'\n';
     }
 
     /// Puts words in front.

@@ -1,4 +1,4 @@
-use Rattle.std.proofs.Common.{◌+◌, ◌≤◌, ◌++◌, drop, length, ap, ◌∙◌, arith}
+use Rattle.std.proofs.Common.{drop, length, ap, arith}
 use Rattle.std.specs.Fmt.{decimal}
 use Rattle.std.proofs.lemmas.List.{length-append, length-drop}
 use Rattle.mscp_sim.proofs.Digits.{few_digits}
