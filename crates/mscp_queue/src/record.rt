@@ -56,10 +56,8 @@ impl Record {
     pub fn is_sequential(&self) -> bool
         ensures { result ≡ is_sequential self.now.command.order }
     {
-        matches!(
-            self.command.order,
-            Order::Available | Order::Online | Order::SetUnit
-        )
+        let order = &self.command.order;
+        matches!(order, Order::Available | Order::Online | Order::SetUnit)
     }
 
     /// How many sequential commands it is of: one, or none.
