@@ -5,7 +5,7 @@ use Rattle.std.specs.List.{AllByRecursion, list_all, range_with_len}
 use Rattle.std.proofs.lemmas.Bool.{and_parts}
 use Rattle.std.proofs.lemmas.List.{length-take-le, map-id}
 use Rattle.std.proofs.lemmas.List.Elements.{filter-append}
-use Rattle.std.proofs.lemmas.List.Sums.{count_by-le-length, length-filter, sum_by-cons}
+use Rattle.std.proofs.lemmas.List.Sums.{sum_by-cons}
 use Rattle.std.proofs.lemmas.List.FromFn.{map-range_with_len_more}
 use Rattle.std.proofs.Math.Seq.{take-set-lt}
 
@@ -78,16 +78,6 @@ filter_all p (x ∷ xs) h = ap (λ b. cond b (x ∷ filter p xs) (filter p xs)) 
 -- what is set among the first stays among them
 pub set_within : {X : Type 0} (xs : List X) (n i : ℕ) (x : X) → n ≤ length xs → i < length (take n xs) → take n (set xs i x) ≡ set (take n xs) i x
 set_within xs n i x m l = let few = length-take-le n xs m in take-set-lt n xs i x (omega (arith, l, few))
-
--- so many pass that all do
-pub filter_full : {X : Type 0} (p : X → Bool) (xs : List X) → length (filter p xs) ≡ length xs → filter p xs ≡ xs
-filter_full p [] e = refl
-filter_full {X} p (x ∷ xs) e =
-    let few : length (filter p xs) ≤ length xs = let same = length-filter p xs in let few = count_by-le-length p xs in omega (arith, same, few) in
-    elim (p x) as (λ b. length (cond b (x ∷ filter p xs) (filter p xs)) ≡ suc (length xs) → cond b (x ∷ filter p xs) (filter p xs) ≡ x ∷ xs) [
-      | true ↦ λ h. ap (λ ys. x ∷ ys) (filter_full p xs (omega (arith, h)))
-      | false ↦ λ h. absurd (omega (arith, h, few))
-    ] e
 
 pub filter_none : {X : Type 0} (p : X → Bool) (xs : List X) → AllByRecursion (λ x. p x ≡ false) xs → filter p xs ≡ []
 filter_none p [] h = refl

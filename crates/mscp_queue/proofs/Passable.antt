@@ -4,7 +4,6 @@ use Rattle.std.specs.Prelude.{All, nat_eq, nat_lt}
 use Rattle.std.specs.List.{AllByRecursion, list_all, range_with_len}
 use Rattle.std.proofs.lemmas.Bool.{and_parts, false≢true, le-leb, lt-ltb, ltb-true}
 use Rattle.std.proofs.lemmas.List.{map-append}
-use Rattle.std.proofs.lemmas.List.FromFn.{length-range_with_len}
 use Rattle.std.proofs.lemmas.List.Elements.{All-from_recursion, All-take, recursion_from_All}
 use Rattle.mscp_packet.specs.declared.command.Order.{Order}
 use Rattle.mscp_packet.specs.declared.command.Order.TheVariants as orders
@@ -14,7 +13,7 @@ use Rattle.mscp_queue.specs.Kept.{ArePassedInOrder, sequential_of}
 use Rattle.mscp_queue.specs.Orders.{is_move, is_sequential}
 use Rattle.mscp_queue.specs.Records.{Record, drive_at, no_record, record_at}
 use Rattle.mscp_queue.specs.Views.{choice_of, choices_at, is_affordable, is_free, is_open_at, is_passable, open_places}
-use Rattle.mscp_queue.proofs.Lists.{every_of, every_weaker, filter_all, filter_full, range_below, range_more}
+use Rattle.mscp_queue.proofs.Lists.{every_of, every_weaker, filter_all, range_below, range_more}
 
 -- ---- all may start
 
@@ -64,10 +63,6 @@ all_open passing rs h =
     filter_all (is_open_at passing rs) (range_with_len 0 (length rs))
     (every_weaker (λ k. (0 ≤ k) × (k < 0 + length rs)) (λ k. is_open_at passing rs k ≡ true) (λ k b. opens_at passing rs k (every_of (is_passable passing) rs h) (omega arith))
     (range_with_len 0 (length rs)) (range_below 0 (length rs)))
-
--- as many may start as there are: these are all
-pub all_places : (passing : ℕ) (rs : List Record) → length (open_places passing rs) ≡ length rs → open_places passing rs ≡ range_with_len 0 (length rs)
-all_places passing rs many = filter_full (is_open_at passing rs) (range_with_len 0 (length rs)) (many ∙ sym (length-range_with_len 0 (length rs)))
 
 -- ---- the oldest tells it for all
 
