@@ -21,7 +21,7 @@ drawn=''                  # the line on the terminal
 
 # What is built: for people, by which words of rt in which crate, to which file, and the name under which it is kept.
 the_program() {
-    what='the program' minutes='9 minutes on four processors, up to 15'
+    what='the program' minutes='5 minutes on four processors, up to 15'
     words=run crate=$top/crates/mscpq built=$top/crates/mscpq/out/mscpq kept=$top/out/mscpq
 }
 the_library() {
