@@ -6,15 +6,14 @@ use Rattle.std.proofs.lemmas.Bool.{eqb-true, false≢true, ne_eqb, true≢false}
 use Rattle.std.proofs.lemmas.List.{get_or_at, length-append, map-append}
 use Rattle.std.proofs.lemmas.List.Elements.{All-from_recursion, filter-append, recursion_from_All}
 use Rattle.mscp_queue.specs.declared.drive.Drive.{Drive}
-use Rattle.mscp_queue.specs.Kept.{AreApart, IsHeld, IsKept, IsStillServable, names, sequential_of, units_of}
+use Rattle.mscp_queue.specs.Kept.{AreApart, IsHeld, IsKept, IsStillServable, names, sequential_count, units_of}
 use Rattle.mscp_queue.specs.Names.{Name}
-use Rattle.mscp_queue.specs.Orders.{is_sequential}
 use Rattle.mscp_queue.specs.Serving.{begun_without, is_begun}
 use Rattle.mscp_queue.proofs.Begun.{still_aborted, still_begun}
 use Rattle.mscp_queue.specs.Records.{Record, has_reference, is_in_service, no_record, record_at, without}
 use Rattle.mscp_queue.proofs.Lists.{every_kept, every_weaker, fewer, filter_all, filter_none, filter_one}
 use Rattle.mscp_queue.proofs.Mapped.{removed_at}
-use Rattle.mscp_queue.proofs.Ordered.{IsCountedOut, count_out}
+use Rattle.mscp_queue.proofs.Ordered.{IsCountedOut, count_out, one_if}
 use Rattle.mscp_queue.proofs.Placed.{Found, find_cases, find_first, find_none, position_first, position_none}
 
 -- ---- names that stand once
@@ -113,7 +112,7 @@ found_once reference rs apart =
 
 -- and it is counted out
 pub counted_without : (reference : ℕ) (rs new : List Record) (r : Record) (n k : ℕ) → AreApart (names rs) → Some r ≡ find (has_reference reference) rs → new ≡ without reference rs
-    → n ≡ length (sequential_of rs) → k ≡ cond (is_sequential r.command.order) 1 0 → IsCountedOut n k new
+    → n ≡ sequential_count rs → k ≡ one_if r → IsCountedOut n k new
 counted_without reference rs new r n k apart h is counted e =
     let p = has_reference reference in
     ⊎_elim
@@ -124,9 +123,9 @@ counted_without reference rs new r n k apart h is counted e =
     let f = some.3 in
     let own : some.1 ≡ r = ap (λ o. unwrap_or o r) (sym (find_first p A some.1 B f.before f.passes) ∙ (ap (find p) (sym f.is) ∙ sym h)) in
     let out = count_out A some.1 B in
-    let all = ap (λ zs. length (sequential_of zs)) f.is in
-    let left = ap (λ zs. length (sequential_of zs)) (is ∙ without_cut reference rs A some.1 B (cut_by reference rs A some.1 B apart f)) in
-    let one = ap {B = ℕ} (λ (q : Record). cond (is_sequential q.command.order) 1 0) own in
+    let all = ap sequential_count f.is in
+    let left = ap sequential_count (is ∙ without_cut reference rs A some.1 B (cut_by reference rs A some.1 B apart f)) in
+    let one = ap one_if own in
     record { below = omega (arith, out, all, one, counted, e); counted = omega (arith, out, all, left, one, counted, e) })
     (find_cases p rs)
 

@@ -8,6 +8,7 @@ use Rattle.std.proofs.lemmas.List.Elements.{filter-append}
 use Rattle.std.proofs.lemmas.List.Sums.{sum_by-cons}
 use Rattle.std.proofs.lemmas.List.FromFn.{map-range_with_len_more}
 use Rattle.std.proofs.Math.Seq.{take-set-lt}
+use Rattle.mscp_queue.specs.Pairs.{Pairs}
 
 pub every_weaker : {X : Type 0} (P Q : X → Type 0) → ((x : X) → P x → Q x) → (xs : List X) → AllByRecursion P xs → AllByRecursion Q xs
 every_weaker P Q f [] h = tt
@@ -96,11 +97,6 @@ range_more n = sym (map-id _) ∙ (map-range_with_len_more (λ (x : ℕ). x) 0 n
 pub range_below : (a n : ℕ) → AllByRecursion (λ x. (a ≤ x) × (x < a + n)) (range_with_len a n)
 range_below a zero = tt
 range_below a (suc n) = ((omega arith, omega arith), every_weaker (λ x. (a + 1 ≤ x) × (x < a + 1 + n)) (λ x. (a ≤ x) × (x < a + suc n)) (λ x h. (omega arith, omega arith)) (range_with_len (a + 1) n) (range_below (a + 1) n))
-
--- each element has R to each after it
-abbrev pub Pairs : {X : Type 0} → (X → X → Type 0) → List X → Type 0
-Pairs R [] = Unit {0}
-Pairs R (x ∷ xs) = AllByRecursion (R x) xs × Pairs R xs
 
 pub pairs_range : (a n : ℕ) → Pairs ◌<◌ (range_with_len a n)
 pairs_range a zero = tt

@@ -4,15 +4,17 @@ use Rattle.std.specs.Prelude.{All, nat_eq, nat_lt}
 use Rattle.std.specs.List.{AllByRecursion, list_all, range_with_len}
 use Rattle.std.proofs.lemmas.Bool.{and_parts, false≢true, le-leb, lt-ltb, ltb-true}
 use Rattle.std.proofs.lemmas.List.{map-append}
+use Rattle.std.proofs.lemmas.List.Sums.{sum_by-cons}
 use Rattle.std.proofs.lemmas.List.Elements.{All-from_recursion, All-take, recursion_from_All}
 use Rattle.mscp_packet.specs.declared.command.Order.{Order}
 use Rattle.mscp_packet.specs.declared.command.Order.TheVariants as orders
 use Rattle.mscp_queue.specs.declared.drive.Drive.{Drive}
 use Rattle.mscp_queue.specs.declared.view.Choice.{Choice}
-use Rattle.mscp_queue.specs.Kept.{ArePassedInOrder, sequential_of}
+use Rattle.mscp_queue.specs.Kept.{ArePassedInOrder, sequential_count}
 use Rattle.mscp_queue.specs.Orders.{is_move, is_sequential}
 use Rattle.mscp_queue.specs.Records.{Record, drive_at, no_record, record_at}
 use Rattle.mscp_queue.specs.Views.{choice_of, choices_at, is_affordable, is_free, is_open_at, is_passable, open_places}
+use Rattle.mscp_queue.proofs.Ordered.{one_if}
 use Rattle.mscp_queue.proofs.Lists.{every_of, every_weaker, filter_all, range_below, range_more}
 
 -- ---- all may start
@@ -73,34 +75,34 @@ sequential_not_passable passing r s =
     λ b. elim b as (λ b. is_move r.command.order ≡ b → (b && nat_lt r.passes passing) ≡ false) [ true ↦ λ m. absurd (false≢true (sym (not_sequential r.command.order m) ∙ s)) | false ↦ λ m. refl ] in
     both (is_move r.command.order) refl
 
-pub some_sequential : (passing : ℕ) (rs : List Record) → 0 < length (sequential_of rs) → list_all (is_passable passing) rs ≡ false
+pub some_sequential : (passing : ℕ) (rs : List Record) → 0 < sequential_count rs → list_all (is_passable passing) rs ≡ false
 some_sequential passing [] h = absurd (omega (arith, h))
 some_sequential passing (r ∷ rs) h =
-    let Goal : Bool → Type 0 = λ b. is_sequential r.command.order ≡ b → 0 < length (cond b (r ∷ sequential_of rs) (sequential_of rs)) → (is_passable passing r && list_all (is_passable passing) rs) ≡ false in
+    let Goal : Bool → Type 0 = λ b. is_sequential r.command.order ≡ b → (is_passable passing r && list_all (is_passable passing) rs) ≡ false in
     let both : (b : Bool) → Goal b =
     λ b. elim b as Goal [
-      | true ↦ λ e l. ap (λ b. b && list_all (is_passable passing) rs) (sequential_not_passable passing r e)
-      | false ↦ λ e l. ap (λ b. is_passable passing r && b) (some_sequential passing rs l) ∙ unfenced (is_passable passing r)
+      | true ↦ λ e. ap (λ b. b && list_all (is_passable passing) rs) (sequential_not_passable passing r e)
+      | false ↦ λ e. ap (λ b. is_passable passing r && b) (some_sequential passing rs (omega (arith, h, sum_by-cons one_if r rs, ap {B = ℕ} (λ b. cond b 1 0) e))) ∙ unfenced (is_passable passing r)
     ] in
-    both (is_sequential r.command.order) refl h
+    both (is_sequential r.command.order) refl
 
-no_sequential : (passing top : ℕ) (rs : List Record) → length (sequential_of rs) ≡ 0 → AllByRecursion (λ z. (is_sequential z.command.order || is_move z.command.order) ≡ true) rs → AllByRecursion (λ z. z.passes ≤ top) rs → top < passing
+no_sequential : (passing top : ℕ) (rs : List Record) → sequential_count rs ≡ 0 → AllByRecursion (λ z. (is_sequential z.command.order || is_move z.command.order) ≡ true) rs → AllByRecursion (λ z. z.passes ≤ top) rs → top < passing
     → list_all (is_passable passing) rs ≡ true
 no_sequential passing top [] h w l m = refl
 no_sequential passing top (r ∷ rs) h w l m =
-    let Goal : Bool → Type 0 =
-    λ b. (b || is_move r.command.order) ≡ true → length (cond b (r ∷ sequential_of rs) (sequential_of rs)) ≡ 0 → (is_passable passing r && list_all (is_passable passing) rs) ≡ true in
+    let Goal : Bool → Type 0 = λ b. is_sequential r.command.order ≡ b → (is_passable passing r && list_all (is_passable passing) rs) ≡ true in
+    let count = sum_by-cons one_if r rs in
     let both : (b : Bool) → Goal b =
     λ b. elim b as Goal [
-      | true ↦ λ e k. absurd (omega (arith, k))
-      | false ↦ λ e k.
-          ap (λ b. (b && nat_lt r.passes passing) && list_all (is_passable passing) rs) e
-          ∙ (ap (λ b. b && list_all (is_passable passing) rs) (lt-ltb r.passes passing (omega (arith, l.0, m))) ∙ no_sequential passing top rs k w.1 l.1 m)
+      | true ↦ λ e. absurd (omega (arith, h, count, ap {B = ℕ} (λ b. cond b 1 0) e))
+      | false ↦ λ e.
+          ap (λ b. (b && nat_lt r.passes passing) && list_all (is_passable passing) rs) (ap (λ b. b || is_move r.command.order) (sym e) ∙ w.0)
+          ∙ (ap (λ b. b && list_all (is_passable passing) rs) (lt-ltb r.passes passing (omega (arith, l.0, m))) ∙ no_sequential passing top rs (omega (arith, h, count, ap {B = ℕ} (λ b. cond b 1 0) e)) w.1 l.1 m)
     ] in
-    both (is_sequential r.command.order) w.0 h
+    both (is_sequential r.command.order) refl
 
 -- where none is sequential
-pub oldest_tells : (passing : ℕ) (rs : List Record) (r : Record) → 0 < length rs → r ≡ get_or rs 0 r → length (sequential_of rs) ≡ 0 → ArePassedInOrder rs
+pub oldest_tells : (passing : ℕ) (rs : List Record) (r : Record) → 0 < length rs → r ≡ get_or rs 0 r → sequential_count rs ≡ 0 → ArePassedInOrder rs
     → All (λ z. (is_sequential z.command.order || is_move z.command.order) ≡ true) rs → nat_lt r.passes passing ≡ list_all (is_passable passing) rs
 oldest_tells passing [] r l e k o w = absurd (omega (arith, l))
 oldest_tells passing (q ∷ qs) r l e k o w =

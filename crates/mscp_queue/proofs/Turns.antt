@@ -20,7 +20,8 @@ use Rattle.mscp_queue.specs.Kept.{IsHeld, IsInside, IsKept, units_of}
 use Rattle.mscp_queue.specs.Records.{Record, advanced, step_toll, is_in_service, is_unstarted, left_of, no_record, passed_by, record_at}
 use Rattle.mscp_queue.specs.Serving.{IsServable, drive_after, end_given, touched}
 use Rattle.mscp_queue.specs.Views.{is_affordable, is_free, is_open_at}
-use Rattle.mscp_queue.proofs.Lists.{Pairs, every_mapped, every_of, every_parts, every_weaker, pairs_middle}
+use Rattle.mscp_queue.specs.Pairs.{Pairs}
+use Rattle.mscp_queue.proofs.Lists.{every_mapped, every_of, every_parts, every_weaker, pairs_middle}
 use Rattle.mscp_queue.proofs.Placed.{cut_at, find_first}
 use Rattle.mscp_queue.proofs.Held.{AreIdle, IsLeft, IsTurn, held_turn, heads_replaced, others_idle, units_replaced}
 

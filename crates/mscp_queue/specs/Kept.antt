@@ -1,5 +1,5 @@
 -- What is true of each queue, whatever came to it.
-use Rattle.std.specs.Prelude.{◌≡◌, ◌≢◌, ℕ, ◌+◌, ◌*◌, ◌^◌, ◌<◌, ◌≤◌, Bool, true, false, ◌||◌, is_some, unwrap_or, List, [], ◌∷◌, length, map, filter, All, Option, Some}
+use Rattle.std.specs.Prelude.{◌≡◌, ◌≢◌, ℕ, ◌+◌, ◌*◌, ◌^◌, ◌<◌, ◌≤◌, Bool, true, false, ◌||◌, is_some, unwrap_or, List, [], ◌∷◌, length, map, filter, count_by, All, Option, Some}
 use Rattle.std.specs.List.{AllByRecursion}
 use Rattle.mscp_packet.specs.declared.command.Command.{Command}
 use Rattle.mscp_packet.specs.declared.command.Order.{Order}
@@ -12,6 +12,7 @@ use Rattle.mscp_queue.specs.Aims.{aims_of}
 use Rattle.mscp_queue.specs.Names.{Name, name_of}
 use Rattle.mscp_queue.specs.Orders.{first_block, is_move, is_sequential, order_weight}
 use Rattle.mscp_queue.specs.Drives.{IsOnUnit, one_block}
+use Rattle.mscp_queue.specs.Pairs.{Pairs}
 use Rattle.mscp_queue.specs.Records.{Record, has_reference, is_in_service, record_at}
 use Rattle.mscp_queue.specs.Serving.{IsServable}
 
@@ -89,18 +90,18 @@ pub record IsHeld (room passing longest : ℕ) (rs : List Record) (ds : List Dri
 
 -- who came earlier was passed at least as often
 abbrev pub ArePassedInOrder : List Record → Type 0
-ArePassedInOrder [] = Unit {0}
-ArePassedInOrder (r ∷ rs) = AllByRecursion (λ z. z.passes ≤ r.passes) rs × ArePassedInOrder rs
+ArePassedInOrder rs = Pairs (λ r z. z.passes ≤ r.passes) rs
 
--- the records of sequential commands
-abbrev pub sequential_of : List Record → List Record
-sequential_of rs = filter (λ r. is_sequential r.command.order) rs
+-- how many are records of sequential commands
+abbrev pub sequential_count : List Record → ℕ
+sequential_count rs = count_by (λ r. is_sequential r.command.order) rs
 
--- the same, beside each waiting command where it aims, and how many are sequential
+-- the same, and what a queue knows so that a start costs less: where each waiting command aims, how many are sequential,
+-- and in which order they were passed
 pub record IsReady (room passing longest : ℕ) (rs : List Record) (aims : List Aim) (ds : List Drive) (begun : Option Name) (serving : Bool) (sequential : ℕ) : Type 0 where
   pub held : IsHeld room passing longest rs ds begun serving
   pub aimed : aims ≡ aims_of (units_of ds) rs
-  pub counted : sequential ≡ length (sequential_of rs)
+  pub counted : sequential ≡ sequential_count rs
   pub order : ArePassedInOrder rs
 
 -- ---- what a view is made of

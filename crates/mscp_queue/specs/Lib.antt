@@ -1,4 +1,5 @@
 pub mod Names
+pub mod Pairs
 pub mod Orders
 pub mod Outcomes
 pub mod Drives

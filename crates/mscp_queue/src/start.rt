@@ -134,9 +134,9 @@ fn show_each(view: &mut View, records: &[Record], aims: &[Aim], drives: &[Drive]
     }
 }
 
-/// The place of the record that the picker picks, of those that may start: the view is made anew, and shows these. Where
-/// each is of a transfer that may be passed once more all may start, and a record has its place in the view. Else it is
-/// found by the reference number that the picker saw, since only one has it.
+/// The place of the record that the picker picks, of those that may start: the view is made anew, and shows these. `all`
+/// tells whether each is of a transfer that may be passed once more. Then all may start, and a record has its place in the
+/// view. Else it is found by the reference number that the picker saw, since only one has it.
 pub(crate) fn picked_place<K: Picker>(
     all: bool,
     records: &[Record],

@@ -10,7 +10,8 @@ use Rattle.std.proofs.lemmas.List.Folds.{list_all-append}
 use Rattle.mscp_queue.specs.declared.view.Choice.{Choice}
 use Rattle.mscp_queue.specs.Names.{Name}
 use Rattle.mscp_queue.specs.Pickers.{IsFirstLeast}
-use Rattle.mscp_queue.proofs.Lists.{Pairs, every_append, every_both, every_mapped, every_parts, every_weaker, pairs_filter, pairs_middle}
+use Rattle.mscp_queue.specs.Pairs.{Pairs}
+use Rattle.mscp_queue.proofs.Lists.{every_append, every_both, every_mapped, every_parts, every_weaker, pairs_filter, pairs_middle}
 use Rattle.mscp_queue.proofs.Placed.{find_first, map_map}
 use Rattle.mscp_control.specs.Settings.{Settings}
 use Rattle.mscp_control.specs.History.{Trace, moment, Service, service_in, WhenStarted}

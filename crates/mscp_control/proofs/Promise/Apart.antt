@@ -13,7 +13,8 @@ use Rattle.mscp_control.specs.Commands.{reference, waiting, ends_in}
 use Rattle.mscp_control.specs.Ends.{untaken}
 use Rattle.mscp_control.specs.Credits.{outstanding}
 use Rattle.mscp_control.specs.Legal.{IsRight}
-use Rattle.mscp_queue.proofs.Lists.{every_kept, Pairs, pairs_filter, pairs_append}
+use Rattle.mscp_queue.specs.Pairs.{Pairs}
+use Rattle.mscp_queue.proofs.Lists.{every_kept, pairs_filter, pairs_append}
 use Rattle.mscp_control.proofs.Promise.Grows.{command_before, command_last, waiting_more}
 use Rattle.mscp_control.proofs.Promise.Waits.{waiting_below}
 use Rattle.mscp_control.proofs.Promise.Arrivals.{queued_right}

@@ -15,7 +15,8 @@ use Rattle.mscp_queue.specs.Outcomes.{goes_on, touches, is_good_block}
 use Rattle.mscp_control.specs.Units.{is_online}
 use Rattle.mscp_control.specs.Ends.{outcome}
 use Rattle.mscp_control.specs.Legal.{IsRight, end_of}
-use Rattle.mscp_queue.proofs.Lists.{every_weaker, every_kept, every_append, every_parts, every_both, Pairs, pairs_filter, pairs_append, pairs_middle}
+use Rattle.mscp_queue.specs.Pairs.{Pairs}
+use Rattle.mscp_queue.proofs.Lists.{every_weaker, every_kept, every_append, every_parts, every_both, pairs_filter, pairs_append, pairs_middle}
 use Rattle.mscp_control.proofs.Promise.Grows.{command_before, done_before, done_last, waiting_more}
 use Rattle.mscp_control.proofs.Promise.Waits.{waiting_below}
 use Rattle.mscp_control.proofs.Promise.Apart.{Apart, apart_more}

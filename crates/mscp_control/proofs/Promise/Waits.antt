@@ -10,7 +10,8 @@ use Rattle.mscp_control.specs.declared.event.Entry.TheVariants as entries
 use Rattle.mscp_control.specs.History.{Trace, Moment, moment, positions, queues}
 use Rattle.mscp_control.specs.Commands.{reference, is_waiting, waiting, done, starts_in, ends_in, earlier, later}
 use Rattle.mscp_control.specs.Passing.{toll, passes_at, passes}
-use Rattle.mscp_queue.proofs.Lists.{filter_all, filter_none, pairs_middle, sum_none, every_weaker, every_kept, every_filter, range_below, Pairs, pairs_range, pairs_filter}
+use Rattle.mscp_queue.specs.Pairs.{Pairs}
+use Rattle.mscp_queue.proofs.Lists.{filter_all, filter_none, pairs_middle, sum_none, every_weaker, every_kept, every_filter, range_below, pairs_range, pairs_filter}
 use Rattle.mscp_control.proofs.Promise.Grows.{passes_more}
 
 pub waiting_below : (t : Trace) → AllByRecursion (λ x. x < length t) (waiting t)

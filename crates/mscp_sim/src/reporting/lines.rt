@@ -1,4 +1,5 @@
-// The lines of a report. Each but the last is written from its end to its start, and appended in one piece.
+// The lines of a report. But for the last, and for those that are always the same, each is written from its end to its
+// start, and appended in one piece.
 
 ghost use Rattle.std.specs.Prelude.{◌≡◌, ◌+◌, ◌≤◌, ◌++◌, length, codes, OnOk};
 ghost use Rattle.std.specs.List.{flat_map};

@@ -3,7 +3,8 @@ use Rattle.mscp_queue.specs.Kept.{ArePassedInOrder, units_of}
 use Rattle.mscp_queue.specs.Lines.{Line, aborting}
 use Rattle.mscp_queue.specs.Serving.{is_begun}
 use Rattle.mscp_queue.proofs.Aborts.{counted_without, held_aborted, none_aborted}
-use Rattle.mscp_queue.proofs.Ordered.{IsCountedOut, order_kept}
+use Rattle.mscp_queue.proofs.Lists.{pairs_filter}
+use Rattle.mscp_queue.proofs.Ordered.{IsCountedOut}
 use Rattle.mscp_queue.proofs.queue.Queue.abort.Goals as goal
 
 pub returns-in_err-aborted-clause-after : goal.returns-in_err-aborted-clause-after
@@ -34,7 +35,7 @@ invariant_of-self-then-was_begun g c =
           (ap (λ (l : Line K). is_begun c.args.reference l.begun) c.self.view_is ∙ sym c.if-was_begun.ensures) c.self.invariant.held c.take_out.ensures.left;
       aimed = c.take_out.ensures.aims (units_of q.drives.items) c.self.invariant.aimed;
       counted = (out g c.before.before.before).counted;
-      order = subst ArePassedInOrder (sym c.take_out.ensures.left) (order_kept _ q.waiting.items c.self.invariant.order);
+      order = subst ArePassedInOrder (sym c.take_out.ensures.left) (pairs_filter _ _ q.waiting.items c.self.invariant.order);
     }
 
 pub invariant_of-self-else-was_begun : goal.invariant_of-self-else-was_begun
@@ -47,5 +48,5 @@ invariant_of-self-else-was_begun g c =
           (ap (λ (l : Line K). is_begun c.args.reference l.begun) c.self.view_is ∙ sym c.if-was_begun.ensures) c.self.invariant.held c.take_out.ensures.left;
       aimed = c.take_out.ensures.aims (units_of q.drives.items) c.self.invariant.aimed;
       counted = (out g c.before.before).counted;
-      order = subst ArePassedInOrder (sym c.take_out.ensures.left) (order_kept _ q.waiting.items c.self.invariant.order);
+      order = subst ArePassedInOrder (sym c.take_out.ensures.left) (pairs_filter _ _ q.waiting.items c.self.invariant.order);
     }

@@ -1,4 +1,4 @@
-use Rattle.std.proofs.Common.{◌≡◌, ◌<◌, ◌++◌, ◌∷◌, [], false, length, ap, subst, sym, ◌∙◌, arith}
+use Rattle.std.proofs.Common.{◌≡◌, ◌<◌, ◌≤◌, ◌++◌, ◌∷◌, [], false, length, ap, subst, sym, ◌∙◌, arith}
 use Rattle.std.specs.List.{list_any}
 use Rattle.mscp_packet.specs.declared.command.Command.{Command}
 use Rattle.mscp_queue.specs.Aims.{aim_of}
@@ -7,7 +7,8 @@ use Rattle.mscp_queue.specs.Lines.{Line}
 use Rattle.mscp_queue.specs.Records.{Record, has_reference}
 use Rattle.mscp_queue.proofs.Aims.{aims_pushed}
 use Rattle.mscp_queue.proofs.Held.{held_pushed}
-use Rattle.mscp_queue.proofs.Ordered.{count_fits, counted_pushed, order_pushed}
+use Rattle.mscp_queue.proofs.Lists.{every_from, pairs_append}
+use Rattle.mscp_queue.proofs.Ordered.{count_fits, counted_pushed}
 use Rattle.mscp_queue.proofs.queue.Queue.push.Goals as goal
 
 pub overflow_add-self : goal.overflow_add-self
@@ -35,5 +36,6 @@ invariant_of-self g c =
       counted = counted_pushed q.waiting.items c.push-2.new.self.items c.new-record.result q.sequential c.count_sequential.result c.self.invariant.counted c.count_sequential.ensures c.push-2.ensures.items;
       order =
           subst ArePassedInOrder (sym c.push-2.ensures.items)
-          (order_pushed q.waiting.items c.new-record.result (ap (λ (r : Record). r.passes) c.new-record.ensures) c.self.invariant.order);
+          (pairs_append _ q.waiting.items c.new-record.result c.self.invariant.order
+          (every_from (λ r. c.new-record.result.passes ≤ r.passes) (λ r. omega (arith, ap (λ (r : Record). r.passes) c.new-record.ensures)) q.waiting.items));
     }

@@ -1,9 +1,9 @@
-use Rattle.std.proofs.Common.{length, ap, subst, sym, ◌∙◌}
+use Rattle.std.proofs.Common.{ap, subst, sym, ◌∙◌}
 use Rattle.std.specs.Prelude.{map, None}
 use Rattle.mscp_queue.specs.declared.drive.Drive.{Drive}
 use Rattle.mscp_queue.specs.Aims.{aims_of}
 use Rattle.mscp_queue.specs.Drives.{fresh_drive}
-use Rattle.mscp_queue.specs.Kept.{ArePassedInOrder, sequential_of, units_of}
+use Rattle.mscp_queue.specs.Kept.{ArePassedInOrder, sequential_count, units_of}
 use Rattle.mscp_queue.specs.Lines.{Line, fresh}
 use Rattle.mscp_queue.proofs.Held.{held_renewed, renewed}
 use Rattle.mscp_queue.proofs.queue.Queue.reset.Goals as goal
@@ -16,7 +16,7 @@ invariant_of-self g c =
           held_renewed q.room q.passing q.longest q.waiting.items c.clear.new.self.items q.drives.items _ q.begun q.serving c.self.invariant.held c.clear.ensures
           (renewed q.drives.items c.renew_drives.new.drives (c.renew_drives.ensures ∙ ap (map (λ (d : Drive). fresh_drive d.unit)) c.as_mut_slice.ensures.value));
       aimed = c.clear-2.ensures ∙ ap (aims_of _) (sym c.clear.ensures);
-      counted = ap (λ rs. length (sequential_of rs)) (sym c.clear.ensures);
+      counted = ap sequential_count (sym c.clear.ensures);
       order = subst ArePassedInOrder (sym c.clear.ensures) tt;
     }
 
