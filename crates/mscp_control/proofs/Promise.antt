@@ -18,5 +18,6 @@ pub mod Fitted
 pub mod Limited
 pub mod Falling
 pub mod Within
+pub mod Shaped
 pub mod Known
 pub mod Progress

@@ -3,11 +3,12 @@
 -- times; every waiting command's status figure falls at each step, never rises between steps, and each queued command
 -- ends within (C - 1 + P) * L steps. C is the number of credits, P the passing limit and L the longest transfer.
 -- Nothing here names a picker: whatever it picks of what may start, the promise holds.
-use Rattle.std.specs.Prelude.{◌≡◌, ◌↔◌, ℕ, ◌+◌, ◌<◌, ◌≤◌, true, List, [], ◌∷◌, ◌++◌, length, take, zip, Contains}
+use Rattle.std.specs.Prelude.{◌≡◌, ◌↔◌, ℕ, ◌+◌, ◌<◌, ◌≤◌, true, List, [], ◌∷◌, ◌++◌, length, take, zip, All, Contains}
 use Rattle.mscp_packet.specs.declared.command.Command.{Command}
 use Rattle.mscp_packet.specs.declared.command.Order.TheVariants as orders
 use Rattle.mscp_packet.specs.declared.end.End.{End}
 use Rattle.mscp_packet.specs.declared.end.EndBody.TheVariants as bodies
+use Rattle.mscp_packet.specs.Ends.{IsOfKind}
 use Rattle.mscp_packet.specs.Statuses.{success}
 use Rattle.mscp_control.specs.declared.event.Event.{Event}
 use Rattle.mscp_control.specs.declared.event.Entry.{Entry}
@@ -78,6 +79,8 @@ pub record Promise (c : Settings) (t : Trace) : Type 0 where
   pub own : Always t (λ p. EachWaiting p (λ x. figure_of c p (name p x) ≡ figure c p x))
   -- each poll that is answered is told the figure of the command that it names (manual, "Host Command Timeouts")
   pub polled : AtEach t (TellsFigure c)
+  -- each end has the body of its endcode (manual, "End Messages")
+  pub shaped : All IsOfKind (ends c t)
 
 -- what is promised of these events and the entries that a run answers to them (profile)
 pub record Headline (c : Settings) (events : List Event) (entries : List Entry) : Type 0 where

@@ -27,6 +27,6 @@ abbrev pub IsSweeping : Settings → Trace → Type 0
 IsSweeping c t =
     (i : ℕ) → i < length t → WhenStarted (λ s. IsSwept c (take i t) (service_name s)) (service_in (moment t i).1)
 
--- what these may pick, the sweep may pick too (profile)
+-- each place of a view that these may pick, the sweep may pick too (profile)
 abbrev pub Sweeps : (List Choice → ℕ → Type 0) → Type 0
-Sweeps picks = (view : List Choice) (place : ℕ) → picks view place → IsSweep view place
+Sweeps picks = (view : List Choice) (place : ℕ) → place < length view → picks view place → IsSweep view place

@@ -5,6 +5,7 @@ ghost use Rattle.std.specs.List.{list_any};
 ghost use Rattle.mscp_packet.specs.Ends.{IsEnd, IsOfKind};
 ghost use Rattle.mscp_queue.specs.Orders.{first_block, order_weight};
 ghost use Rattle.mscp_queue.specs.Figures.{figure_of_reference, figures};
+ghost use Rattle.mscp_queue.specs.Outcomes.{IsCoded};
 ghost use Rattle.mscp_control.specs.Arrival.{credit_fault, fault_of, holds, is_queued};
 ghost use Rattle.mscp_control.specs.Settings.{IsValid};
 ghost use Rattle.mscp_control.specs.Holdings.{Answers, Finishes, Foretells, IsBalanced, Steps, aborted, aborting, after_message, after_take, answer_to_message, answered_end, arrives, balance_of, end_taken, ended, ends_reported, fresh, outstanding_of, queued, taken_as};
@@ -186,7 +187,8 @@ impl<K: Picker> Controller<K> {
 
     /// Makes an end.
     fn end(&mut self, end: End)
-        requires { 1 ≤ balance_of self.old }
+        requires free { 1 ≤ balance_of self.old }
+        requires shaped { IsOfKind end }
         ensures after { self.new ≡ ended self.old end }
         ensures account { IsBalanced self.new }
     {
@@ -241,6 +243,7 @@ impl<K: Picker> Controller<K> {
     fn answer_now(&mut self, command: &Command) -> Option<u32>
         requires sound { fault_of self.old.settings command.now ≡ None }
         requires free { 1 ≤ balance_of self.old }
+        requires coded { IsCoded command.now.order }
         ensures aborted { result
             ≡ option_map (λ r. r.command.reference) (aborted self.old.waiting command.now.order) }
         ensures after { self.new
@@ -258,6 +261,7 @@ impl<K: Picker> Controller<K> {
         requires free { 1 ≤ balance_of self.old }
         requires spare { is_queued self.old.settings command ≡ true → 2 ≤ balance_of self.old }
         requires new { holds (outstanding_of self.old) command.reference ≡ false }
+        requires coded { IsCoded command.order }
         ensures sent { result ≡ taken_as self.old command }
         ensures after { self.new ≡ arrives self.old command }
         ensures account { IsBalanced self.new }
@@ -298,7 +302,7 @@ impl<K: Picker> Controller<K> {
     /// Takes the oldest end that wasn't taken, as bytes, if there is one. They are a message of that end.
     pub fn take(&mut self) -> Option<ArrayVec<u8, 48>>
         ensures answer { result ≡ end_taken self.old }
-        ensures reads_back { (end : End) → slice_get self.old.untaken 0 ≡ Some end → IsOfKind end
+        ensures reads_back { (end : End) → slice_get self.old.untaken 0 ≡ Some end
             → IfSome result (λ b. IsEnd b.items end) }
         ensures after { self.new ≡ after_take self.old }
         ensures account { IsBalanced self.new }

@@ -14,3 +14,5 @@ pub mod Ordered
 pub mod Nexts
 pub mod Least
 pub mod Aborts
+pub mod Untolled
+pub mod Shaped

@@ -1,8 +1,8 @@
 -- Lists cut at a place, and lists that a function makes of others.
 use Rattle.std.proofs.Common.{◌≡◌, ◌⊎◌, ⊎_elim, inl, inr, ℕ, ◌+◌, ◌<◌, Bool, true, false, cond, not, List, [], ◌∷◌, ◌++◌, map, take, drop, get_or, length, refl, ap, sym, ◌∙◌, subst, append_assoc, arith}
-use Rattle.std.specs.Prelude.{filter, find, nat_lt, sum_by, Some, None}
+use Rattle.std.specs.Prelude.{filter, find, nat_lt, sum_by, Option, Some, None, is_some}
 use Rattle.std.specs.List.{AllByRecursion, position, position_or_len}
-use Rattle.std.proofs.lemmas.Bool.{cases_lt, lt-ltb, le-ltb}
+use Rattle.std.proofs.lemmas.Bool.{cases_lt, false≢true, lt-ltb, le-ltb}
 use Rattle.std.proofs.lemmas.List.{drop_at, drop_more, get_or_append_left, get_or_at, length-append, take-append-drop, take-append-le, take_at}
 use Rattle.std.proofs.lemmas.List.Sums.{sum_by-cons}
 
@@ -86,6 +86,17 @@ find_none p (y ∷ ys) h = ap (λ b. cond b (Some y) (find p ys)) h.0 ∙ find_n
 pub find_first : {X : Type 0} (p : X → Bool) (front : List X) (x : X) (back : List X) → AllByRecursion (λ y. p y ≡ false) front → p x ≡ true → find p (front ++ x ∷ back) ≡ Some x
 find_first p [] x back h e = ap (λ b. cond b (Some x) (find p back)) e
 find_first p (y ∷ ys) x back h e = ap (λ b. cond b (Some y) (find p (ys ++ x ∷ back))) h.0 ∙ find_first p ys x back h.1 e
+
+-- what is found passes the test
+pub found_is : {X : Type 0} (p : X → Bool) (xs : List X) (x : X) → find p xs ≡ Some x → p x ≡ true
+found_is p [] x e = absurd (false≢true (ap is_some e))
+found_is {X} p (y ∷ xs) x e =
+    let out : (b : Bool) → p y ≡ b → cond b (Some y) (find p xs) ≡ Some x → p x ≡ true =
+    λ b. elim b as (λ b. p y ≡ b → cond b (Some y) (find p xs) ≡ Some x → p x ≡ true) [
+      | true ↦ λ q f. subst (λ (o : Option X). elim o as (λ o. Type 0) [ Some z ↦ p z ≡ true | None ↦ Unit {0} ]) f q
+      | false ↦ λ q f. found_is p xs x f
+    ] in
+    out (p y) refl e
 
 len_none : {X : Type 0} (p : X → Bool) (xs : List X) → AllByRecursion (λ y. p y ≡ false) xs → position_or_len p xs ≡ length xs
 len_none p [] h = refl

@@ -1,13 +1,13 @@
 -- The ends of commands as formulas of the command, its unit's state, and numbers. Nothing here asks what
 -- came before.
-use Rattle.std.specs.Prelude.{ℕ, ◌+◌, ◌*◌, ◌%◌, min, cond, Bool, true, false, ◌&&◌, nat_eq, nat_lt, if◌then◌else◌, Option, Some, None}
+use Rattle.std.specs.Prelude.{◌≡◌, ℕ, ◌+◌, ◌*◌, ◌%◌, min, cond, Bool, true, false, ◌&&◌, nat_eq, nat_lt, if◌then◌else◌, Option, Some, None, is_some}
 use Rattle.mscp_packet.specs.declared.command.Order.{Order}
 use Rattle.mscp_packet.specs.declared.command.Order.TheVariants as orders
 use Rattle.mscp_packet.specs.declared.command.Command.{Command}
 use Rattle.mscp_packet.specs.declared.end.EndBody.{EndBody}
 use Rattle.mscp_packet.specs.declared.end.EndBody.TheVariants as bodies
 use Rattle.mscp_packet.specs.declared.end.End.{End}
-use Rattle.mscp_packet.specs.Ends.{refused_body}
+use Rattle.mscp_packet.specs.Ends.{kind_of_code, refused_body}
 use Rattle.mscp_packet.specs.Statuses.{success, already_online, aborted, unit_available}
 use Rattle.mscp_drive.specs.Shape.{Shape}
 use Rattle.mscp_drive.specs.Heads.{carried, moved}
@@ -26,6 +26,10 @@ end_with command status body =
       status = status;
       body = body;
     }
+
+-- the endcode of the order is one of those that ends have (manual, "End Messages")
+abbrev pub IsCoded : Order → Type 0
+IsCoded order = is_some (kind_of_code (endcode order)) ≡ true
 
 -- a status whose code is Success (manual)
 abbrev pub is_success : ℕ → Bool

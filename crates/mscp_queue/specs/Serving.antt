@@ -6,7 +6,7 @@ use Rattle.mscp_drive.specs.Shape.{cylinder_of}
 use Rattle.mscp_drive.specs.Heads.{distance}
 use Rattle.mscp_queue.specs.declared.block.Block.{Block}
 use Rattle.mscp_queue.specs.declared.report.Report.{Report}
-use Rattle.mscp_queue.specs.declared.report.Report.TheVariants.{Served}
+use Rattle.mscp_queue.specs.declared.report.Report.TheVariants.{Idle, Served}
 use Rattle.mscp_queue.specs.declared.drive.Drive.{Drive}
 use Rattle.mscp_queue.specs.declared.upcoming.Upcoming.{Upcoming}
 use Rattle.mscp_queue.specs.declared.view.Choice.{Choice}
@@ -51,6 +51,11 @@ abbrev pub report_of : Block → Drive → Record → Report
 report_of k d r =
     Served r.command.reference r.command.unit (touched d r) (is_unstarted r) (seek_from d (touched d r))
     (end_given k d r)
+
+-- the end that a report brings, if it brings one
+abbrev pub end_in : Report → Option End
+end_in Idle = None
+end_in (Served reference unit lbn started seek ended) = ended
 
 -- what is told of a record before its step: its command, the block that the step touches, and how many steps the command
 -- had and takes (profile)

@@ -83,17 +83,15 @@ pub(crate) fn replace_drive(drives: &mut [Drive], number: u16, new: &Drive)
     ensures { drives.new ≡ replaced number new.now drives.old }
 {
     for drive in drives.iter_mut() {
-        *drive = replaced(drive, number, new);
+        replace(drive, number, new);
     }
 }
 
-/// The new drive in the place of one whose unit has this number, and else the drive itself.
-fn replaced(drive: &Drive, number: u16, new: &Drive) -> Drive
-    ensures { result ≡ (if has_number number drive.now then new.now else drive.now) }
+/// Puts the new drive in the place of one whose unit has this number. Any other isn't written, since a step comes by here.
+fn replace(drive: &mut Drive, number: u16, new: &Drive)
+    ensures { drive.new ≡ (if has_number number drive.old then new.now else drive.old) }
 {
     if drive.unit.number() == number {
-        *new
-    } else {
-        *drive
+        *drive = *new;
     }
 }

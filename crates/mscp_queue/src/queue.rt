@@ -2,13 +2,14 @@
 
 ghost use Rattle.std.specs.Prelude.{◌≡◌, ◌+◌, ◌*◌, ◌<◌, ◌≤◌, ◌^◌, [], length, find, option_map, true, false, IfNone, IfSome};
 ghost use Rattle.std.specs.List.{list_all, list_any, position};
+ghost use Rattle.mscp_packet.specs.Ends.{IsOfKind};
 ghost use Rattle.mscp_queue.specs.Drives.{is_online_in};
 ghost use Rattle.mscp_queue.specs.Figures.{figure_of_reference, figures};
 ghost use Rattle.mscp_queue.specs.Kept.{IsWaitable, units_of};
 ghost use Rattle.mscp_queue.specs.Lines.{Begins, BeginsAt, Line, Serves, ServesAt, aborting, fresh, pushed};
 ghost use Rattle.mscp_queue.specs.Orders.{order_weight};
 ghost use Rattle.mscp_queue.specs.Records.{aborted_record, has_reference, is_in_service};
-ghost use Rattle.mscp_queue.specs.Serving.{IsNext, is_begun};
+ghost use Rattle.mscp_queue.specs.Serving.{IsNext, end_in, is_begun};
 ghost use Rattle.mscp_queue.specs.Views.{is_passable};
 
 use crate::aim::Aim;
@@ -186,10 +187,11 @@ impl<K: Picker> Queue<K> {
         figures(self.passing, self.longest, self.waiting.as_slice())
     }
 
-    /// Ends the waiting command with the reference number, in service or not, and gives its end. A pass that its start
-    /// made isn't given back to the commands that it passed.
+    /// Ends the waiting command with the reference number, in service or not, and gives its end, whose body is that of its
+    /// endcode. A pass that its start made isn't given back to the commands that it passed.
     pub fn abort(&mut self, reference: u32) -> Option<End>
         ensures end { result ≡ option_map aborted_record (find (has_reference reference) self.old.waiting) }
+        ensures shaped { IfSome result IsOfKind }
         ensures after { self.new ≡ aborting reference self.old }
         ensures unchanged { IfNone result (self.new ≡ self.old) }
         ensures count { IfSome result (λ end. length self.new.waiting + 1 ≡ length self.old.waiting) }
@@ -294,6 +296,7 @@ impl<K: Picker> Queue<K> {
     fn serve_at(&mut self, place: usize, block: &Block) -> Report
         requires { IsNext (K.picks self.old.picker) self.old.passing self.old.drives self.old.waiting self.old.begun place }
         ensures served { ServesAt (K.picks self.old.picker) block.now self.old result self.new place }
+        ensures shaped { IfSome (end_in result) IsOfKind }
         ensures units { units_of self.new.drives ≡ units_of self.old.drives }
     {
         let record = self.waiting[place];
@@ -323,9 +326,10 @@ impl<K: Picker> Queue<K> {
     }
 
     /// Serves one block, with this outcome, if a command waits: to what was begun, or else to the command in service, or
-    /// to one that the picker picks of those that may start.
+    /// to one that the picker picks of those that may start. The end that it brings has the body of its endcode.
     pub fn serve(&mut self, block: Block) -> Report
         ensures served { Serves (K.picks self.old.picker) block self.old result self.new }
+        ensures shaped { IfSome (end_in result) IsOfKind }
         ensures units { units_of self.new.drives ≡ units_of self.old.drives }
     {
         match self.next_place() {

@@ -21,7 +21,7 @@ pub(crate) fn place_in_service(records: &[Record]) -> Option<usize>
 }
 
 /// Each record in front of the place was passed at this toll.
-fn pass_front(records: &mut [Record], place: usize, toll: u32)
+fn pass_each(records: &mut [Record], place: usize, toll: u32)
     requires place { place ≤ length records.old }
     requires small { All (λ r. r.passes + toll < 2 ^ 32) (take place records.old) }
     ensures passed { records.new ≡ map (passed_by toll) (take place records.old) ++ drop place records.old }
@@ -29,6 +29,18 @@ fn pass_front(records: &mut [Record], place: usize, toll: u32)
 {
     for i in 0..place {
         records[i] = records[i].passed_by(toll);
+    }
+}
+
+/// The same, and nobody is looked at where the toll is 0, as in all steps of a command but its first.
+fn pass_front(records: &mut [Record], place: usize, toll: u32)
+    requires place { place ≤ length records.old }
+    requires small { All (λ r. r.passes + toll < 2 ^ 32) (take place records.old) }
+    ensures passed { records.new ≡ map (passed_by toll) (take place records.old) ++ drop place records.old }
+    ensures long { length records.new ≡ length records.old }
+{
+    if toll > 0 {
+        pass_each(records, place, toll);
     }
 }
 

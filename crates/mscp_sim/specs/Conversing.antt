@@ -3,7 +3,7 @@
 use Rattle.std.specs.Prelude.{◌≡◌, ℕ, ◌<◌, ◌^◌, List, [], ◌∷◌, ◌++◌, map, slice_get, Option, Some, None}
 use Rattle.arrayvec.specs.ArrayVec.{ArrayVec}
 use Rattle.mscp_packet.specs.declared.end.End.{End}
-use Rattle.mscp_packet.specs.Ends.{IsEnd, IsOfKind}
+use Rattle.mscp_packet.specs.Ends.{IsEnd}
 use Rattle.mscp_queue.specs.declared.view.Choice.{Choice}
 use Rattle.mscp_control.specs.declared.event.Event.TheVariants as events
 use Rattle.mscp_control.specs.declared.event.Entry.TheVariants as entries
@@ -29,7 +29,7 @@ IsSound h (turns.Poll reference) moment = reference < 2 ^ 32
 IsSound h (turns.Step k) moment = Unit {0}
 IsSound h turns.Take moment =
     (b : ArrayVec ℕ) (end : End) → moment ≡ Some (events.Take, entries.Taken (Some b))
-    → slice_get h.untaken 0 ≡ Some end → IsOfKind end → IsEnd b.items end
+    → slice_get h.untaken 0 ≡ Some end → IsEnd b.items end
 
 -- what is said in this turn, and what host and controller keep and hold then
 abbrev pub Says : {K : Type 0}

@@ -1,10 +1,9 @@
 -- What a host and a controller keep of each other, as long as each message and each end comes through.
-use Rattle.std.specs.Prelude.{◌≡◌, ℕ, ◌+◌, ◌<◌, ◌≤◌, ◌^◌, Bool, true, false, nat_eq, if◌then◌else◌, List, [], ◌∷◌, ◌++◌, length, map, find, Option, Some, None, is_some, option_map}
+use Rattle.std.specs.Prelude.{◌≡◌, ℕ, ◌+◌, ◌<◌, ◌≤◌, ◌^◌, Bool, true, false, nat_eq, if◌then◌else◌, List, [], ◌∷◌, ◌++◌, length, map, find, Option, Some, None, option_map}
 use Rattle.std.specs.List.{AllByRecursion, list_any}
 use Rattle.mscp_packet.specs.declared.end.End.{End}
 use Rattle.mscp_packet.specs.declared.end.EndBody.TheVariants as bodies
 use Rattle.mscp_packet.specs.Commands.{opcode_byte}
-use Rattle.mscp_packet.specs.Ends.{IsOfKind, kind_of_code}
 use Rattle.mscp_packet.specs.declared.command.Command.{Command}
 use Rattle.mscp_packet.specs.declared.command.Order.{Order}
 use Rattle.mscp_queue.specs.Orders.{endcode}
@@ -31,14 +30,13 @@ opcode_found submissions reference = option_map (λ s. s.opcode) (find (has_refe
 abbrev pub IsSmall : Submission → Type 0
 IsSmall s = (s.reference < 2 ^ 32) × (s.unit < 2 ^ 16)
 
--- the endcode of an order is that of its opcode byte, or that of an unknown opcode, and ends have a shape for it
-abbrev pub IsCoded : Order → Type 0
-IsCoded order =
-    (is_code_of (endcode order) (opcode_byte order) ≡ true) × (is_some (kind_of_code (endcode order)) ≡ true)
+-- the endcode of an order is that of its opcode byte, or that of an unknown opcode
+abbrev pub HasOwnEndcode : Order → Type 0
+HasOwnEndcode order = is_code_of (endcode order) (opcode_byte order) ≡ true
 
 -- a waiting command is a submission
 abbrev pub IsKnown : List Submission → Command → Type 0
-IsKnown submissions c = (opcode_found submissions c.reference ≡ Some (opcode_byte c.order)) × IsCoded c.order
+IsKnown submissions c = (opcode_found submissions c.reference ≡ Some (opcode_byte c.order)) × HasOwnEndcode c.order
 
 -- the commands of records
 abbrev pub commands : List Record → List Command
@@ -49,7 +47,6 @@ pub record IsAwaited (submissions : List Submission) (e : End) : Type 0 where
   pub opcode : ℕ
   pub found : opcode_found submissions e.reference ≡ Some opcode
   pub code : is_code_of e.code opcode ≡ true
-  pub kind : IsOfKind e
 
 -- what the poll in flight is told: a figure, and whether its command waited when the poll came
 pub record Flight : Type 0 where

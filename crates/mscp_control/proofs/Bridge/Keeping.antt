@@ -1,8 +1,10 @@
 -- What each event keeps of what a controller holds.
 use Rattle.std.proofs.Common.{◌≡◌, ℕ, ◌+◌, ◌<◌, ◌≤◌, true, false, List, [], ◌∷◌, ◌++◌, map, length, take, drop, ap, refl, sym, subst, ◌∙◌, arith}
-use Rattle.std.specs.Prelude.{if◌then◌else◌, option_to_list, Option, Some, None}
+use Rattle.std.specs.Prelude.{if◌then◌else◌, option_to_list, Option, Some, None, IfSome}
+use Rattle.std.specs.List.{AllByRecursion}
 use Rattle.std.proofs.lemmas.List.{length-append, length-drop, length-map, length-take-le}
 use Rattle.mscp_packet.specs.declared.end.End.{End}
+use Rattle.mscp_packet.specs.Ends.{IsOfKind}
 use Rattle.mscp_drive.specs.Shape.{Shape}
 use Rattle.mscp_queue.specs.declared.block.Block.{Block}
 use Rattle.mscp_queue.specs.declared.report.Report.{Report}
@@ -13,7 +15,8 @@ use Rattle.mscp_queue.specs.Kept.{units_of}
 use Rattle.mscp_queue.specs.Lines as lines
 use Rattle.mscp_queue.specs.Lines.{Line, Serves, ServesAt}
 use Rattle.mscp_queue.specs.Records.{Record, drive_at, step_toll, passed_by, record_at, remains}
-use Rattle.mscp_queue.specs.Serving.{end_given}
+use Rattle.mscp_queue.specs.Serving.{end_given, end_in}
+use Rattle.mscp_queue.proofs.Lists.{every_append}
 use Rattle.mscp_control.specs.Settings.{Settings, IsValid, room}
 use Rattle.mscp_packet.specs.declared.command.Command.{Command}
 use Rattle.mscp_packet.specs.declared.command.Order.{Order}
@@ -41,6 +44,7 @@ held_fresh {K} c units room' passing longest picker line us v u r p l e n =
     let all : IsHeld c (lines.fresh units room' passing longest picker) us = record {
       valid = v;
       covered = omega (arith, ap length n);
+      shaped = subst (AllByRecursion IsOfKind) (sym n) tt;
       fits = omega arith;
       same_room = r;
       same_passing = p;
@@ -84,9 +88,15 @@ stays {K} picks k old (reports.Served reference unit lbn started seek ended) new
     let e = h.1.left in
     (ap (λ (l : Line K). l.room) e, ap (λ (l : Line K). l.passing) e, ap (λ (l : Line K). l.longest) e, ap (λ (l : Line K). l.picker) e)
 
+-- the ends that a step brings are of their kind
+reported_kinds : (report : Report) → IfSome (end_in report) IsOfKind → AllByRecursion IsOfKind (ends_reported report)
+reported_kinds reports.Idle h = tt
+reported_kinds (reports.Served reference unit lbn started seek None) h = tt
+reported_kinds (reports.Served reference unit lbn started seek (Some end)) h = (h, tt)
+
 pub held_stepped : {K : Type 0} (c : Settings) (picks : List Choice → ℕ → Type 0) (k : Block) (old : Line K) (report : Report) (new : Line K) (us us' : List End) → IsHeld c old us → Serves picks k old report new
-    → units_of new.drives ≡ units_of old.drives → us' ≡ us ++ ends_reported report → IsHeld c new us'
-held_stepped {K} c picks k old report new us us' h s u e =
+    → units_of new.drives ≡ units_of old.drives → IfSome (end_in report) IsOfKind → us' ≡ us ++ ends_reported report → IsHeld c new us'
+held_stepped {K} c picks k old report new us us' h s u kind e =
     let count = count_stepped picks k old report new s in
     let same = stays picks k old report new s in
     let covered = h.covered in
@@ -94,6 +104,7 @@ held_stepped {K} c picks k old report new us us' h s u e =
     record {
       valid = h.valid;
       covered = omega (arith, count, ap length e, length-append us (ends_reported report));
+      shaped = subst (AllByRecursion IsOfKind) (sym e) (every_append IsOfKind us (ends_reported report) h.shaped (reported_kinds report kind));
       fits = omega (arith, count);
       same_room = same.0 ∙ h.same_room;
       same_passing = same.1 ∙ h.same_passing;

@@ -4,7 +4,7 @@ use Rattle.std.specs.Prelude.{find, nat_eq, nat_lt, Option, Some, None, option_m
 use Rattle.std.specs.List.{AllByRecursion, list_all}
 use Rattle.std.proofs.Math.Bool.{and-false}
 use Rattle.std.proofs.lemmas.Bool.{le-ltb, lt-ltb, ne_eqb}
-use Rattle.std.proofs.lemmas.List.{drop_more, get_or-map, take-append-drop, take-map}
+use Rattle.std.proofs.lemmas.List.{drop_more, get_or-map, length-map, take-append-drop, take-map}
 use Rattle.std.proofs.lemmas.List.Elements.{recursion_from_All}
 use Rattle.std.proofs.lemmas.List.Folds.{list_all-append}
 use Rattle.mscp_queue.specs.declared.view.Choice.{Choice}
@@ -76,7 +76,7 @@ pub swept_pick : (c : Settings) (picks : List Choice → ℕ → Type 0) (t : Tr
 swept_pick c picks t n w p =
     let S = startable c t in
     let place = p.0 in
-    let least = w (map (choice c t) S) place p.3 in
+    let least = w (map (choice c t) S) place (subst (λ n. place < n) (sym (length-map S (choice c t))) p.1) p.3 in
     ap (option_map (name t)) (swept_at c t place (subst (λ ns. IsFirstLeast ns place) (map_map (choice c t) (λ (q : Choice). q.cost) S) least) p.1) ∙ ap Some p.2
 
 when_swept : (c : Settings) (picks : List Choice → ℕ → Type 0) (t : Trace) (o : Option Service) → Sweeps picks → WhenStarted (λ s. IsPick c picks t (service_name s)) o → WhenStarted (λ s. IsSwept c t (service_name s)) o

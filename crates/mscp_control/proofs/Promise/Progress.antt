@@ -2,6 +2,7 @@
 use Rattle.std.proofs.Common.{◌≡◌, ◌≢◌, ℕ, zero, suc, ◌+◌, ◌<◌, ◌≤◌, Bool, true, false, cond, List, [], ◌∷◌, ◌++◌, take, get_or, length, refl, ap, sym, ◌∙◌, subst, append-nil, arith}
 use Rattle.std.specs.Prelude.{filter, Option, Some, None, Contains, Ok, Err}
 use Rattle.std.proofs.lemmas.Bool.{false≢true}
+use Rattle.mscp_control.proofs.Promise.Shaped.{shaped}
 use Rattle.mscp_control.proofs.Promise.Grows.{ends_more}
 use Rattle.std.specs.List.{AllByRecursion, range_with_len}
 use Rattle.std.proofs.lemmas.List.Elements.{All-contains, All-from_recursion}
@@ -149,4 +150,5 @@ progress c t valid legal =
       small = λ i h x. small c (take i t) (at i h) x;
       own = λ i h x w. figure_told c (take i t) (at i h).steady x w;
       polled = λ i h. subst (TellsFigure c (take i t) (moment t i)) (sym (more_at t i h)) (told c (take i t) (moment t i));
+      shaped = shaped c t legal;
     }

@@ -8,7 +8,7 @@ use Rattle.std.proofs.lemmas.List.{map-append}
 use Rattle.std.proofs.lemmas.List.Folds.{find-append}
 use Rattle.mscp_packet.specs.declared.command.Command.{Command}
 use Rattle.mscp_queue.proofs.Lists.{every_from, filter_all}
-use Rattle.mscp_queue.proofs.Placed.{map_on}
+use Rattle.mscp_queue.proofs.Placed.{found_is, map_on}
 use Rattle.mscp_control.specs.Settings.{Settings}
 use Rattle.mscp_control.specs.declared.event.Sent.{Sent}
 use Rattle.mscp_host.specs.declared.submission.Submission.{Submission}
@@ -17,7 +17,6 @@ use Rattle.mscp_sim.specs.declared.conversing.Turn.{Turn}
 use Rattle.mscp_sim.specs.declared.conversing.Turn.TheVariants as turns
 use Rattle.mscp_sim.specs.declared.conversing.Heard.TheVariants as hears
 use Rattle.mscp_sim.specs.Talks.{Talk, account_at, answers_of, is_asked, before, ended, hands_over, in_flight, is_ended, is_outstanding, last_answer, opcode, opcode_in, outstanding, polled, reference, reference_found, reference_in, said, sends, polled_is_outstanding, submission_at, unit_found, unit_in, unit_of_turn, watch_at}
-use Rattle.mscp_sim.proofs.TwoEnds.Counting.{found_is}
 use Rattle.mscp_sim.proofs.TwoEnds.Outstanding.{any_more, ends_now, found_stands, last_same, outstanding_more, untold}
 
 -- ---- nothing is handed over

@@ -113,15 +113,3 @@ opcode_told r n f (x ∷ xs) =
       | true ↦ elim (nat_eq x.reference r) as (λ b. option_map (λ (q : Submission). q.opcode) (cond b (Some (record x { told = Some f })) (find (has_reference r) xs)) ≡ option_map (λ (q : Submission). q.opcode) (cond b (Some x) (find (has_reference r) xs))) [ true ↦ refl | false ↦ refl ]
       | false ↦ elim (nat_eq x.reference r) as (λ b. option_map (λ (q : Submission). q.opcode) (cond b (Some x) (find (has_reference r) (with_told n f xs))) ≡ option_map (λ (q : Submission). q.opcode) (cond b (Some x) (find (has_reference r) xs))) [ true ↦ refl | false ↦ opcode_told r n f xs ]
     ]
-
--- ---- what is found
-
-pub found_is : {X : Type 0} (p : X → Bool) (xs : List X) (x : X) → find p xs ≡ Some x → p x ≡ true
-found_is p [] x e = absurd (false≢true (ap is_some e))
-found_is {X} p (y ∷ xs) x e =
-    let out : (b : Bool) → p y ≡ b → cond b (Some y) (find p xs) ≡ Some x → p x ≡ true =
-    λ b. elim b as (λ b. p y ≡ b → cond b (Some y) (find p xs) ≡ Some x → p x ≡ true) [
-      | true ↦ λ q f. subst (λ (o : Option X). elim o as (λ o. Type 0) [ Some z ↦ p z ≡ true | None ↦ Unit {0} ]) f q
-      | false ↦ λ q f. found_is p xs x f
-    ] in
-    out (p y) refl e

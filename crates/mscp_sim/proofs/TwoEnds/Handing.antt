@@ -130,7 +130,7 @@ told_match a h told n f m =
       once = m.once;
       small = small_told n f a.outstanding m.small;
       waits = every_weaker (IsKnown a.outstanding) (IsKnown xs) (λ c k. (opcode_told c.reference n f a.outstanding ∙ k.0, k.1)) (commands h.waiting) m.waits;
-      ends = every_weaker (IsAwaited a.outstanding) (IsAwaited xs) (λ e k. record { opcode = k.opcode; found = opcode_told e.reference n f a.outstanding ∙ k.found; code = k.code; kind = k.kind }) h.untaken m.ends;
+      ends = every_weaker (IsAwaited a.outstanding) (IsAwaited xs) (λ e k. record { opcode = k.opcode; found = opcode_told e.reference n f a.outstanding ∙ k.found; code = k.code }) h.untaken m.ends;
       flight = m.flight;
     }
 
@@ -214,7 +214,7 @@ taken_out {K} a h told e us m u =
       small = small_without n a.outstanding m.small;
       waits = every_weaker (λ c. IsKnown a.outstanding c × (nat_eq n c.reference ≡ false)) (IsKnown (without n a.outstanding)) (λ c k. (opcode_without c.reference n (opcode_byte c.order) a.outstanding k.1 k.0.0, k.0.1)) (commands h.waiting)
           (every_both (IsKnown a.outstanding) (λ c. nat_eq n c.reference ≡ false) (commands h.waiting) m.waits (other_commands n (commands h.waiting) apart.0));
-      ends = every_weaker (λ x. IsAwaited a.outstanding x × (nat_eq n x.reference ≡ false)) (IsAwaited (without n a.outstanding)) (λ x k. record { opcode = k.0.opcode; found = opcode_without x.reference n k.0.opcode a.outstanding k.1 k.0.found; code = k.0.code; kind = k.0.kind }) us
+      ends = every_weaker (λ x. IsAwaited a.outstanding x × (nat_eq n x.reference ≡ false)) (IsAwaited (without n a.outstanding)) (λ x k. record { opcode = k.0.opcode; found = opcode_without x.reference n k.0.opcode a.outstanding k.1 k.0.found; code = k.0.code }) us
           (every_both (IsAwaited a.outstanding) (λ x. nat_eq n x.reference ≡ false) us ends.1 (other_ends n us apart.1));
       flight = flight_after e us a.watch told (subst (λ xs. HasFlight xs a.watch told) u m.flight);
     }

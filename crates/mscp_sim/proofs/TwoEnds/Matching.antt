@@ -7,7 +7,6 @@ use Rattle.std.proofs.lemmas.List.{length-append, map-append}
 use Rattle.mscp_packet.specs.declared.command.Command.{Command}
 use Rattle.mscp_packet.specs.declared.end.End.{End}
 use Rattle.mscp_packet.specs.Commands.{opcode_byte}
-use Rattle.mscp_packet.specs.Ends.{IsOfKind}
 use Rattle.mscp_queue.specs.Names.{end_name}
 use Rattle.mscp_queue.specs.Kept.{names}
 use Rattle.mscp_queue.specs.Orders.{endcode}
@@ -93,7 +92,6 @@ pub record Ends {K : Type 0} (h h' : Holdings K) : Type 0 where
   pub ends : h'.untaken ≡ h.untaken ++ end ∷ []
   pub reference : end.reference ≡ own.reference
   pub code : end.code ≡ endcode own.order
-  pub kind : IsOfKind end
   pub settings : h'.settings ≡ h.settings
 
 ends_counted : {K : Type 0} (r : ℕ) (h h' : Holdings K) → (x : Ends h h') → times r (outstanding_of h') ≡ times r (outstanding_of h)
@@ -120,8 +118,7 @@ ends_match {K} a h h' told x m =
     let awaited : IsAwaited a.outstanding x.end = record {
       opcode = opcode_byte x.own.order;
       found = ap (opcode_found a.outstanding) x.reference ∙ known.0;
-      code = ap (λ k. is_code_of k (opcode_byte x.own.order)) x.code ∙ known.1.0;
-      kind = x.kind;
+      code = ap (λ k. is_code_of k (opcode_byte x.own.order)) x.code ∙ known.1;
     } in
     record {
       credits = m.credits ∙ ap (λ c. c.credits) (sym x.settings);
@@ -143,7 +140,7 @@ known_more xs s cs h =
 
 pub awaited_more : (xs : List Submission) (s : Submission) (us : List End) → AllByRecursion (IsAwaited xs) us → AllByRecursion (IsAwaited (xs ++ s ∷ [])) us
 awaited_more xs s us h =
-    every_weaker (IsAwaited xs) (IsAwaited (xs ++ s ∷ [])) (λ e k. record { opcode = k.opcode; found = opcode_pushed e.reference k.opcode xs s k.found; code = k.code; kind = k.kind }) us h
+    every_weaker (IsAwaited xs) (IsAwaited (xs ++ s ∷ [])) (λ e k. record { opcode = k.opcode; found = opcode_pushed e.reference k.opcode xs s k.found; code = k.code }) us h
 
 -- what is known where a submission is pushed: its number is new, and the controller has it once more
 pub record Pushes {K : Type 0} (a a' : Account) (h h' : Holdings K) (s : Submission) : Type 0 where

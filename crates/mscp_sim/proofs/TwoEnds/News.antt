@@ -19,6 +19,7 @@ use Rattle.mscp_host.specs.declared.news.News.TheVariants as news
 use Rattle.mscp_host.specs.declared.submission.Submission.{Submission}
 use Rattle.mscp_host.specs.Accounts as host
 use Rattle.mscp_host.specs.Accounts.{Account, answered, has_reference, heard, last_told, news_of_figure, news_with, received, told_of}
+use Rattle.mscp_queue.proofs.Placed.{found_is}
 use Rattle.mscp_sim.specs.declared.conversing.Turn.TheVariants as turns
 use Rattle.mscp_sim.specs.declared.conversing.Heard.{Heard}
 use Rattle.mscp_sim.specs.declared.conversing.Heard.TheVariants as hears
@@ -27,7 +28,6 @@ use Rattle.mscp_sim.specs.Talks.{Talk, account_at, is_asked, ended, hands_over, 
 use Rattle.mscp_sim.specs.Conversing.{IsSound, AnswersTurn, Says}
 use Rattle.mscp_sim.specs.TwoEnds.{IsHanded, Stands}
 use Rattle.mscp_sim.proofs.TwoEnds.Accounting.{find_map}
-use Rattle.mscp_sim.proofs.TwoEnds.Counting.{found_is}
 use Rattle.mscp_sim.proofs.TwoEnds.Handing.{alone, first_is}
 use Rattle.mscp_sim.proofs.TwoEnds.Outstanding.{found_below}
 use Rattle.mscp_sim.proofs.TwoEnds.Received.{account_received, flight_back, one_received}
@@ -233,10 +233,9 @@ take_some {K} c picks picker talk j a a' h h' told b l s r t m k =
     let n = k.0 in
     let sound = subst (λ u. IsSound h u (said talk j).moment) t r.2 in
     let answers = subst (λ o. AnswersTurn picks h o h') m r.1 in
-    let x = taken_some a h told b (sym answers.0) (λ e f i. sound b e m f i) s.match in
+    let x = taken_some a h told b (sym answers.0) (λ e f. sound b e m f) s.match in
     let e = x.end in
-    let own = (subst (AllByRecursion (IsAwaited a.outstanding)) x.untaken s.match.ends).0 in
-    let message : IsEnd b.items e = sound b e m (ap (λ xs. slice_get xs 0) x.untaken) own.kind in
+    let message : IsEnd b.items e = sound b e m (ap (λ xs. slice_get xs 0) x.untaken) in
     let hands : (r : ℕ) → hands_over r (said talk j).moment ≡ nat_eq e.reference r = λ r. ap (hands_over r) m ∙ ap (λ q. nat_eq q r) (sym message.reference) in
     let g = gives c picks picker talk j a h told e x.rest s x.untaken hands (ap sends k.1) in
     let both = sym k.2 ∙ x.heard in

@@ -6,13 +6,12 @@ use Rattle.std.proofs.lemmas.Bool.{eqb-true, eq-eqb, false≢true, true≢false}
 use Rattle.mscp_packet.specs.declared.end.End.{End}
 use Rattle.mscp_packet.specs.declared.end.EndBody.TheVariants as bodies
 use Rattle.mscp_queue.proofs.Lists.{every_weaker, filter_on, every_from}
-use Rattle.mscp_queue.proofs.Placed.{map_map, map_on}
+use Rattle.mscp_queue.proofs.Placed.{found_is, map_map, map_on}
 use Rattle.mscp_control.specs.Settings.{Settings}
 use Rattle.mscp_host.specs.declared.submission.Submission.{Submission}
 use Rattle.mscp_host.specs.Accounts.{answered, outstanding_with, told_in, with_told}
 use Rattle.mscp_sim.specs.Matches.{references, times}
 use Rattle.mscp_sim.specs.Talks.{Talk, account_at, answers_of, is_asked, before, ended, figure_told, hands_over, in_flight, is_it, is_outstanding, opcode, outstanding, polled, reference, reference_found, said, sends, polled_is_outstanding, submission_at, unit_of_turn, watch_at}
-use Rattle.mscp_sim.proofs.TwoEnds.Counting.{found_is}
 use Rattle.mscp_sim.proofs.TwoEnds.Outstanding.{ends_now, found_below, last_new, last_same, outstanding_are, outstanding_more}
 use Rattle.mscp_sim.proofs.TwoEnds.Singled.{any_before, found_in, only_one}
 

@@ -26,8 +26,8 @@ use Rattle.mscp_control.specs.Settings.{Settings}
 use Rattle.mscp_queue.specs.Orders.{endcode}
 use Rattle.mscp_host.specs.Accounts as host
 use Rattle.mscp_host.specs.Accounts.{Account, balance, has_reference, is_code_of, is_immediate, poll_of, submission_of, submitted, watching}
-use Rattle.mscp_sim.specs.Matches.{Flight, HasFlight, IsCoded, IsSmall, Matches, references, times}
-use Rattle.mscp_sim.proofs.TwoEnds.Codes.{coded, own_kind}
+use Rattle.mscp_sim.specs.Matches.{Flight, HasFlight, HasOwnEndcode, IsSmall, Matches, references, times}
+use Rattle.mscp_sim.proofs.TwoEnds.Codes.{coded}
 use Rattle.mscp_sim.proofs.TwoEnds.Counting.{any_alike, has_any}
 use Rattle.mscp_sim.proofs.TwoEnds.Matching.{flight_on, pushes_match}
 use Rattle.mscp_sim.proofs.TwoEnds.Serving.{aborting_matches, ended_pushes, queued_pushes}
@@ -116,7 +116,7 @@ pub record Arrives {K : Type 0} (a a' : Account) (h : Holdings K) (s : Submissio
   pub outstanding : a'.outstanding ≡ a.outstanding ++ s ∷ []
   pub reference : s.reference ≡ c.reference
   pub opcode : s.opcode ≡ opcode_byte c.order
-  pub coded : IsCoded c.order
+  pub coded : HasOwnEndcode c.order
   pub small : IsSmall s
   pub new : times s.reference (outstanding_of h) ≡ 0
 
@@ -134,9 +134,9 @@ arrives_ended {K} a a' h told told' s c x m f =
     let h1 : Holdings K = aborting h c.order in
     let e = answered_end h c in
     let m1 = aborting_matches a h told c.order m in
-    let code : is_code_of e.code s.opcode ≡ true = ap (is_code_of e.code) x.opcode ∙ (ap (λ q. is_code_of q (opcode_byte c.order)) (own_code_of h.settings _ _ c (fault_of h.settings c)) ∙ x.coded.0) in
+    let code : is_code_of e.code s.opcode ≡ true = ap (is_code_of e.code) x.opcode ∙ (ap (λ q. is_code_of q (opcode_byte c.order)) (own_code_of h.settings _ _ c (fault_of h.settings c)) ∙ x.coded) in
     let own : e.reference ≡ s.reference = own_reference_of h.settings _ _ c (fault_of h.settings c) ∙ sym x.reference in
-    pushes_match a a' h1 (ended h1 e) s told told' (ended_pushes a a' h1 told s e m1 x.credits x.outstanding own code (own_kind h.settings _ _ c x.coded) x.small (new_still a h h1 told s.reference m m1 x.new)) m1 f
+    pushes_match a a' h1 (ended h1 e) s told told' (ended_pushes a a' h1 told s e m1 x.credits x.outstanding own code x.small (new_still a h h1 told s.reference m m1 x.new)) m1 f
 
 -- ---- a command that is submitted
 
@@ -251,7 +251,7 @@ polled_match {K} a h told r s small m found e =
       outstanding = refl;
       reference = refl;
       opcode = refl;
-      coded = subst (λ (q : Command). IsCoded q.order) same (coded b);
+      coded = subst (λ (q : Command). HasOwnEndcode q.order) same (coded b);
       small = (small, fits.1);
       new = nobody_named a h told r m f.new;
     } in

@@ -9,7 +9,6 @@ use Rattle.mscp_packet.specs.declared.command.Order.{Order}
 use Rattle.mscp_packet.specs.declared.command.Order.TheVariants as orders
 use Rattle.mscp_packet.specs.declared.end.End.{End}
 use Rattle.mscp_packet.specs.Commands.{opcode_byte}
-use Rattle.mscp_packet.specs.Ends.{IsOfKind}
 use Rattle.mscp_queue.specs.declared.block.Block.{Block}
 use Rattle.mscp_queue.specs.declared.report.Report.{Report}
 use Rattle.mscp_queue.specs.declared.report.Report.TheVariants as reports
@@ -24,8 +23,7 @@ use Rattle.mscp_queue.proofs.Placed.{Found, cut_at, find_cases, find_none, find_
 use Rattle.mscp_control.specs.Holdings.{Holdings, Steps, aborting, ended, ends_reported, outstanding_of, queued}
 use Rattle.mscp_host.specs.declared.submission.Submission.{Submission}
 use Rattle.mscp_host.specs.Accounts.{Account, is_code_of}
-use Rattle.mscp_sim.specs.Matches.{Flight, IsAwaited, IsCoded, IsKnown, IsSmall, Matches, commands, opcode_found, references, times}
-use Rattle.mscp_sim.proofs.TwoEnds.Codes.{aborted_kind, ended_kind}
+use Rattle.mscp_sim.specs.Matches.{Flight, HasOwnEndcode, IsAwaited, IsKnown, IsSmall, Matches, commands, opcode_found, references, times}
 use Rattle.mscp_sim.proofs.TwoEnds.Counting.{opcode_new}
 use Rattle.mscp_sim.proofs.TwoEnds.Matching.{Ends, Pushes, awaited_more, counted_names, ends_match, known_more, stays, times_called, times_ends}
 
@@ -57,9 +55,6 @@ served_with a h h' told k d place None l w u s g m =
 served_with {K} a h h' told k d place (Some e) l w u s g m =
     let r = record_at h.waiting place in
     let is = g e refl in
-    let known = subst (AllByRecursion (IsKnown a.outstanding)) (commands_cut h.waiting place l) m.waits in
-    let parts = every_parts (IsKnown a.outstanding) (commands (take place h.waiting)) (r.command ∷ commands (drop (place + 1) h.waiting)) known in
-    let coded : IsCoded r.command.order = parts.1.0.1 in
     let ends : Ends h h' = record {
       front = commands (take place h.waiting);
       own = r.command;
@@ -70,7 +65,6 @@ served_with {K} a h h' told k d place (Some e) l w u s g m =
       ends = u;
       reference = ap (λ (x : End). x.reference) is;
       code = ap (λ (x : End). x.code) is;
-      kind = subst IsOfKind (sym is) (ended_kind d.unit d.online r.command r.good k coded);
       settings = s;
     } in
     ends_match a h h' told ends m
@@ -131,7 +125,6 @@ aborts_found {K} a h told n front x back f m =
     let none : times n (map (λ (c : Command). c.reference) (commands back)) ≡ 0 = omega (arith, one, counts, parts) in
     let out : without n h.waiting ≡ front ++ back = ap (without n) f.is ∙ front_kept n front x back f.before f.passes (none_out n back none) in
     let found : find (has_reference n) h.waiting ≡ Some x = ap (find (has_reference n)) f.is ∙ find_first (has_reference n) front x back f.before f.passes in
-    let known = every_parts (IsKnown a.outstanding) (commands front) (command ∷ commands back) (subst (AllByRecursion (IsKnown a.outstanding)) cut m.waits) in
     let ends : Ends h (aborting h (orders.Abort n)) = record {
       front = commands front;
       own = command;
@@ -142,7 +135,6 @@ aborts_found {K} a h told n front x back f m =
       ends = ap (λ o. h.untaken ++ option_to_list (option_map aborted_record o)) found;
       reference = refl;
       code = refl;
-      kind = aborted_kind command x.good known.1.0.1;
       settings = refl;
     } in
     ends_match a h (aborting h (orders.Abort n)) told ends m
@@ -167,7 +159,7 @@ new_to_host a h told n m z = m.same n ∙ z
 
 -- it waits
 pub queued_pushes : {K : Type 0} (a a' : Account) (h : Holdings K) (told : Flight) (s : Submission) (c : Command) → Matches a h told → a'.credits ≡ a.credits → a'.outstanding ≡ a.outstanding ++ s ∷ []
-    → s.reference ≡ c.reference → s.opcode ≡ opcode_byte c.order → IsCoded c.order → IsSmall s → times s.reference (outstanding_of h) ≡ 0 → Pushes a a' h (queued h c) s
+    → s.reference ≡ c.reference → s.opcode ≡ opcode_byte c.order → HasOwnEndcode c.order → IsSmall s → times s.reference (outstanding_of h) ≡ 0 → Pushes a a' h (queued h c) s
 queued_pushes {K} a a' h told s c m credits more reference opcode coded small new =
     let cs : commands (queued h c).waiting ≡ commands h.waiting ++ c ∷ [] = more_called 0 h.waiting c in
     let own : IsKnown (a.outstanding ++ s ∷ []) c = (subst (λ n. opcode_found (a.outstanding ++ s ∷ []) n ≡ Some (opcode_byte c.order)) reference (opcode_new a.outstanding s (new_to_host a h told s.reference m new) ∙ ap Some opcode), coded) in
@@ -190,13 +182,12 @@ queued_pushes {K} a a' h told s c m credits more reference opcode coded small ne
 
 -- it has its end at once
 pub ended_pushes : {K : Type 0} (a a' : Account) (h : Holdings K) (told : Flight) (s : Submission) (e : End) → Matches a h told → a'.credits ≡ a.credits → a'.outstanding ≡ a.outstanding ++ s ∷ []
-    → e.reference ≡ s.reference → is_code_of e.code s.opcode ≡ true → IsOfKind e → IsSmall s → times s.reference (outstanding_of h) ≡ 0 → Pushes a a' h (ended h e) s
-ended_pushes {K} a a' h told s e m credits more reference code kind small new =
+    → e.reference ≡ s.reference → is_code_of e.code s.opcode ≡ true → IsSmall s → times s.reference (outstanding_of h) ≡ 0 → Pushes a a' h (ended h e) s
+ended_pushes {K} a a' h told s e m credits more reference code small new =
     let own : IsAwaited (a.outstanding ++ s ∷ []) e = record {
       opcode = s.opcode;
       found = subst (λ n. opcode_found (a.outstanding ++ s ∷ []) n ≡ Some s.opcode) (sym reference) (opcode_new a.outstanding s (new_to_host a h told s.reference m new));
       code = code;
-      kind = kind;
     } in
     record {
       credits = credits;

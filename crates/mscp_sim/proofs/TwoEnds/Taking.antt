@@ -2,10 +2,9 @@
 use Rattle.std.proofs.Common.{◌≡◌, ℕ, List, [], ◌∷◌, drop, refl, ap, sym, ◌∙◌, subst}
 use Rattle.std.specs.Prelude.{option_map, Option, Some, None, is_some, slice_get, unwrap_or, Result, Ok}
 use Rattle.std.proofs.lemmas.Bool.{false≢true, true≢false}
-use Rattle.std.specs.List.{AllByRecursion}
 use Rattle.arrayvec.specs.ArrayVec.{ArrayVec}
 use Rattle.mscp_packet.specs.declared.end.End.{End}
-use Rattle.mscp_packet.specs.Ends.{end_bytes, IsEnd, IsOfKind}
+use Rattle.mscp_packet.specs.Ends.{end_bytes, IsEnd}
 use Rattle.mscp_control.specs.declared.event.Event.TheVariants as events
 use Rattle.mscp_control.specs.declared.event.Entry.TheVariants as entries
 use Rattle.mscp_control.specs.History.{Moment}
@@ -13,7 +12,7 @@ use Rattle.mscp_control.specs.Holdings.{Holdings, after_take, end_taken}
 use Rattle.mscp_host.specs.declared.news.News.{News}
 use Rattle.mscp_host.specs.declared.news.HostFault.{HostFault}
 use Rattle.mscp_host.specs.Accounts.{Account, answered, heard, news_with, received}
-use Rattle.mscp_sim.specs.Matches.{Flight, IsAwaited, Matches}
+use Rattle.mscp_sim.specs.Matches.{Flight, Matches}
 use Rattle.mscp_sim.proofs.TwoEnds.Handing.{first_heard, received_match}
 
 -- an end as bytes
@@ -39,19 +38,18 @@ pub record Handed {K : Type 0} (a : Account) (h : Holdings K) (told : Flight) (b
   pub heard : heard a b ≡ (Ok (news_with a end (answered a.watch end)), received a end)
   pub match : Matches (received a end) (after_take h) told
 
-some_when : {K : Type 0} (a : Account) (h : Holdings K) (told : Flight) (us : List End) (b : ArrayVec ℕ) → h.untaken ≡ us → end_taken h ≡ Some b → ((e : End) → slice_get h.untaken 0 ≡ Some e → IsOfKind e → IsEnd b.items e) → Matches a h told → Handed a h told b.items
+some_when : {K : Type 0} (a : Account) (h : Holdings K) (told : Flight) (us : List End) (b : ArrayVec ℕ) → h.untaken ≡ us → end_taken h ≡ Some b → ((e : End) → slice_get h.untaken 0 ≡ Some e → IsEnd b.items e) → Matches a h told → Handed a h told b.items
 some_when a h told [] b u e r m = absurd (false≢true (ap is_some (ap (λ xs. end_of (slice_get xs 0)) (sym u) ∙ e)))
 some_when {K} a h told (x ∷ us) b u e r m =
-    let own = (subst (AllByRecursion (IsAwaited a.outstanding)) u m.ends).0 in
     record {
       end = x;
       rest = us;
       untaken = u;
-      heard = first_heard a h told x us b.items m u (r x (ap (λ xs. slice_get xs 0) u) own.kind);
+      heard = first_heard a h told x us b.items m u (r x (ap (λ xs. slice_get xs 0) u));
       match = subst (λ xs. Matches (received a x) (record h { untaken = xs }) told) (ap (drop 1) (sym u)) (received_match a h told x us m u);
     }
 
-pub taken_some : {K : Type 0} (a : Account) (h : Holdings K) (told : Flight) (b : ArrayVec ℕ) → end_taken h ≡ Some b → ((e : End) → slice_get h.untaken 0 ≡ Some e → IsOfKind e → IsEnd b.items e) → Matches a h told → Handed a h told b.items
+pub taken_some : {K : Type 0} (a : Account) (h : Holdings K) (told : Flight) (b : ArrayVec ℕ) → end_taken h ≡ Some b → ((e : End) → slice_get h.untaken 0 ≡ Some e → IsEnd b.items e) → Matches a h told → Handed a h told b.items
 taken_some a h told b e r m = some_when a h told h.untaken b refl e r m
 
 -- what is left where that was returned

@@ -1,9 +1,12 @@
-use Rattle.std.proofs.Common.{◌≡◌, ◌∙◌, ap, sym, Ok}
+use Rattle.std.proofs.Common.{◌≡◌, ◌∙◌, ap, subst, sym, Ok}
 use Rattle.std.specs.Prelude.{None}
 use Rattle.mscp_packet.specs.Commands.{command_of}
 use Rattle.mscp_control.specs.Arrival.{credit_fault, refusal}
 use Rattle.mscp_control.specs.Holdings.{arrives, balance_of, held_unless, outstanding_of, sent_unless, taken_as}
+use Rattle.mscp_packet.specs.declared.command.Command.{Command}
+use Rattle.mscp_queue.specs.Outcomes.{IsCoded}
 use Rattle.mscp_control.proofs.Bridge.Judging.{command_is, taken}
+use Rattle.mscp_control.proofs.Promise.Shaped.{coded}
 use Rattle.mscp_control.proofs.controller.Controller.send.Goals as goal
 
 pub returns-in-None-clause-answer : goal.returns-in-None-clause-answer
@@ -25,3 +28,8 @@ returns-in-None-clause-after g c =
     (ap (λ n. credit_fault (balance_of h) (outstanding_of h) n command.reference) (sym (c.opcode.ensures ∙ c.in_ok-command.ensures.opcode)) ∙ (sym c.credit_fault.ensures.fault ∙ c.in-None.is)) in
     c.arrive.ensures.after ∙ ap (arrives h) (command_is b command c.in_ok-command.ensures.command)
     ∙ sym (ap (held_unless h (command_of b)) free)
+
+pub arrive-requires-clause-coded : goal.arrive-requires-clause-coded
+arrive-requires-clause-coded g c =
+    let b = c.args.b.now in
+    subst (λ (q : Command). IsCoded q.order) (sym (command_is b c.in_ok-command.command c.in_ok-command.ensures.command)) (coded b)

@@ -1,10 +1,15 @@
-use Rattle.std.proofs.Common.{ap, subst, sym, ◌∙◌}
+use Rattle.std.proofs.Common.{◌≡◌, ap, subst, sym, ◌∙◌}
+use Rattle.std.specs.Prelude.{IfSome, option_map}
+use Rattle.mscp_packet.specs.Ends.{IsOfKind}
 use Rattle.mscp_queue.specs.Kept.{ArePassedInOrder, units_of}
 use Rattle.mscp_queue.specs.Lines.{Line, aborting}
+use Rattle.mscp_queue.specs.Outcomes.{aborted_end}
+use Rattle.mscp_queue.specs.Records.{aborted_record}
 use Rattle.mscp_queue.specs.Serving.{is_begun}
 use Rattle.mscp_queue.proofs.Aborts.{counted_without, held_aborted, none_aborted}
 use Rattle.mscp_queue.proofs.Lists.{pairs_filter}
 use Rattle.mscp_queue.proofs.Ordered.{IsCountedOut}
+use Rattle.mscp_queue.proofs.Shaped.{aborts_kind}
 use Rattle.mscp_queue.proofs.queue.Queue.abort.Goals as goal
 
 pub returns-in_err-aborted-clause-after : goal.returns-in_err-aborted-clause-after
@@ -50,3 +55,13 @@ invariant_of-self-else-was_begun g c =
       counted = (out g c.before.before).counted;
       order = subst ArePassedInOrder (sym c.take_out.ensures.left) (pairs_filter _ _ q.waiting.items c.self.invariant.order);
     }
+
+pub returns-clause-shaped : goal.returns-clause-shaped
+returns-clause-shaped g c =
+    let q = c.self.inside in
+    let r = c.in_ok-aborted.aborted in
+    let end : c.aborted_end.result ≡ aborted_end r.command r.good =
+    c.aborted_end.ensures ∙ (λ i. aborted_end (c.command.ensures i) (c.done.ensures.good i)) in
+    subst IsOfKind (sym end)
+    (subst (λ o. IfSome (option_map aborted_record o) IsOfKind) (sym c.take_out.ensures.found ∙ c.in_ok-aborted.was)
+    (aborts_kind q.passing q.longest c.args.reference (units_of q.drives.items) q.waiting.items c.self.invariant.held.each))

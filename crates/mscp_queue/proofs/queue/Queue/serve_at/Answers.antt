@@ -1,7 +1,8 @@
-use Rattle.std.proofs.Common.{◌≡◌, ℕ, ◌&&◌, List, cond, refl, get_or, length, ap, subst, sym, ◌∙◌}
-use Rattle.std.specs.Prelude.{if◌then◌else◌}
+use Rattle.std.proofs.Common.{◌≡◌, ℕ, ◌<◌, ◌&&◌, true, List, cond, refl, get_or, length, ap, subst, sym, ◌∙◌}
+use Rattle.std.specs.Prelude.{◌||◌, if◌then◌else◌, IfSome}
 use Rattle.std.specs.List.{refill}
 use Rattle.std.proofs.lemmas.List.{get_or_default, length-map}
+use Rattle.mscp_packet.specs.Ends.{IsOfKind}
 use Rattle.mscp_queue.specs.declared.drive.Drive.{Drive}
 use Rattle.mscp_queue.specs.Aims.{aims_of}
 use Rattle.mscp_queue.specs.Drives.{drive_of, has_number, replaced}
@@ -9,9 +10,10 @@ use Rattle.mscp_queue.specs.Kept.{units_of}
 use Rattle.mscp_queue.specs.Lines.{Line}
 use Rattle.mscp_queue.specs.Records.{Record, no_record, record_at}
 use Rattle.mscp_queue.specs.Serving.{IsNext, IsServable}
-use Rattle.mscp_queue.specs.Orders.{is_sequential}
+use Rattle.mscp_queue.specs.Orders.{is_move, is_sequential}
 use Rattle.mscp_queue.proofs.Mapped.{refilled}
 use Rattle.mscp_queue.proofs.Ordered.{IsCountedOut, counted_left, passes_left}
+use Rattle.mscp_queue.proofs.Shaped.{given_kind}
 use Rattle.mscp_queue.proofs.Turns.{held_step, units_step}
 use Rattle.mscp_queue.proofs.queue.Queue.serve_at.Goals as goal
 
@@ -83,3 +85,16 @@ returns-clause-units g c =
     units_step number c.drive_of-drive.result service.result.drive ds (refill (length ds) ds c.replace_drive.new.drives) c.args.block.now c.index-deref-place.result c.self.invariant.held.units
     (c.drive_of-drive.ensures ∙ ap (λ l. drive_of l number) c.as_slice.ensures.value) service.ensures.drive (refilled ds c.replace_drive.new.drives long ∙ new)
     ∙ ap (λ (l : Line K). units_of l.drives) c.self.view_is
+
+pub returns-clause-shaped : goal.returns-clause-shaped
+returns-clause-shaped g c =
+    let K = g.row.K.Denot in
+    let rs = c.self.inside.waiting.items in
+    let place = c.args.place in
+    let item = c.index-deref-place.result in
+    let inside : place < length rs = subst (λ (l : Line K). place < length l.waiting) (sym c.self.view_is) c.requires.servable.inside in
+    let own : item ≡ record_at rs place = c.index-deref-place.is ∙ (ap (λ l. get_or l place item) c.deref.ensures.0 ∙ get_or_default rs place item no_record inside) in
+    let CanWait : Record → Type 0 = λ r. (is_sequential r.command.order || is_move r.command.order) ≡ true in
+    let kept = c.self.invariant.held.each place no_record inside in
+    subst (λ e. IfSome e IsOfKind) (sym c.serve-service.ensures.ended)
+    (given_kind c.args.block.now c.drive_of-drive.result item (subst CanWait (sym own) kept.waitable.order))

@@ -1,6 +1,6 @@
 use Rattle.std.proofs.Common.{◌≡◌, ◌++◌, map, take, drop, length}
 use Rattle.mscp_queue.specs.Records.{passed_by}
-use Rattle.mscp_queue.proofs.turn.pass_front.Given as goal
+use Rattle.mscp_queue.proofs.turn.pass_each.Given as goal
 
 abbrev pub invariant-loop-i : goal.invariant-loop-i
 invariant-loop-i l =
