@@ -18,6 +18,6 @@ pub use crate::event::{Entry, Event, SendFault, Sent, Stale};
 pub use crate::law::{
     controllers_keep_the_promise, legal_traces_make_progress, runs_keep_the_promise,
 };
-pub use crate::memory::{OutOfMemory, put};
-pub use crate::running::run;
+pub use crate::memory::OutOfMemory;
+pub use crate::running::{run, run_into};
 pub use mscp_queue::{Block, Choice, FaultStatus, Oldest, Picker, Report, Sweep, Upcoming, View};

@@ -14,7 +14,7 @@ mod tests;
 use arrayvec::ArrayVec;
 use mscp_control::{
     Block, Config, Controller, Entry, Event, OutOfMemory, Picker, Report, Sent,
-    controllers_keep_the_promise, put, runs_keep_the_promise,
+    controllers_keep_the_promise, runs_keep_the_promise,
 };
 use mscp_host::{Host, HostFault, News, Poll};
 use mscp_packet::Command;
@@ -189,9 +189,9 @@ impl Talk {
         ensures trace { self.new.trace.items ≡ self.old.trace.items ++ option_to_list moment }
         ensures room { (turns : ℕ) → HasRoom self.old (turns + 1) → HasRoom self.new turns }
     {
-        put(&mut self.heard, heard);
+        self.heard.push_reserved(heard);
         if let Some(moment) = moment {
-            put(&mut self.trace, moment);
+            self.trace.push_reserved(moment);
         }
     }
 }

@@ -2,8 +2,10 @@ use super::*;
 use crate::config::tests::config;
 use crate::event::{SendFault, Sent};
 use arrayvec::ArrayVec;
+use linked_list_allocator::LocalHeap;
 use mscp_packet::{End, EndBody};
 use mscp_queue::{Block, FaultStatus, Oldest, Report};
+use std::mem::size_of;
 use std::process::Abort;
 
 #[test]
@@ -244,4 +246,35 @@ fn a_long_run_finds_memory_at_balance_0(rt: HostRuntime) {
         assert_eq!(rt; entries[3 * poll + 2], wanted[2]);
         assert_eq!(rt; entries[3 * poll + 3], wanted[3]);
     }
+}
+
+/// So many messages of 64 bytes 0xFF: no opcode is 0xFF.
+fn unknown_opcodes(rt: &(impl Abort + AllocGlobal), count: usize) -> Vec<Event> {
+    let mut events = Vec::with_capacity(rt.alloc(), count)
+        .ok()
+        .expect(rt, "memory");
+    for _ in 0..count {
+        events.push(sent(rt, &[0xFF; 64])).ok().expect(rt, "memory");
+    }
+    events
+}
+
+/// A heap that has just the entries' bytes is enough, also for many entries, and all of it is used. With an entry's bytes
+/// less there is no answer.
+#[test]
+fn run_asks_for_the_entries_alone(rt: HostRuntime) {
+    let events = unknown_opcodes(&rt, 1000);
+    let bytes = 1000 * size_of::<Entry>();
+    let heap = LocalHeap::new(rt.alloc(), bytes).ok().expect(&rt, "memory");
+    let entries = run_over(&heap, config(&rt, 4, 2), Oldest, &events)
+        .ok()
+        .expect(&rt, "room for the entries");
+    assert_eq!(rt; entries.len(), 1000);
+    assert_eq!(rt; entries[0], answered(0xFFFF_FFFF));
+    assert_eq!(rt; heap.used(), heap.size());
+    let small = LocalHeap::new(rt.alloc(), bytes - size_of::<Entry>())
+        .ok()
+        .expect(&rt, "memory");
+    assert_eq!(rt; run_over(&small, config(&rt, 4, 2), Oldest, &events).err(), Some(OutOfMemory));
+    assert_eq!(rt; small.used(), 0);
 }

@@ -8,5 +8,5 @@ invariant-loop-event g l =
     record {
       goes : Goes (g.K.Picker.picks l.fn.controller.picker) l.fn.controller l.controller l.events l.event-index l.entries.items;
       len : vec_len l.entries ≡ l.event-index;
-      room : length l.events ≤ vec_capacity l.entries;
+      room : vec_capacity l.entries ≡ vec_capacity l.fn.entries;
     }
