@@ -197,3 +197,19 @@ fn refuses_ends_that_are_none_of_its_commands(rt: HostRuntime) {
     assert_eq!(rt; host.balance(), 8);
     assert!(rt; host.poll(10) == Ok(Poll::Nothing));
 }
+
+#[test]
+fn each_fault_has_its_text(rt: HostRuntime) -> Result<(), Fail> {
+    let cases = [
+        (HostFault::Credits, "credits"),
+        (HostFault::NoCredit, "no-credit"),
+        (HostFault::LastCredit, "last-credit"),
+        (HostFault::Doubled, "doubled"),
+        (HostFault::Unreadable, "unreadable"),
+        (HostFault::Unknown, "unknown"),
+    ];
+    for (fault, text) in cases {
+        assert_eq!(rt; fault.to_string(rt.alloc())?.as_str(), text);
+    }
+    Ok(())
+}

@@ -1,5 +1,5 @@
 -- What the printing of a packet leaves in the writer.
-use Rattle.std.specs.Prelude.{◌≡◌, ℕ, List, Option, Result, Ok, Err, IsOk}
+use Rattle.std.specs.Prelude.{◌≡◌, ℕ, ◌+◌, List, Option, option_map, Result, Ok, Err, IsOk}
 use Rattle.std.specs.Io.KnownBytes.{Appends}
 use Rattle.mscp_sim.specs.Shown.{Shows}
 use Rattle.mscp_sim.specs.declared.packet.ShowFault.{ShowFault}
@@ -14,3 +14,10 @@ Prints (Ok done) wanted old new = (line : List ℕ) × (wanted ≡ Ok line) × A
 Prints (Err (faults.Packet fault)) wanted old new = Shows (λ (line : List ℕ). line) (Err fault) wanted × (new ≡ old)
 Prints (Err faults.Write) wanted old new = IsOk wanted
 Prints (Err fault) wanted old new = ⊥
+
+-- where there is no fault it was written to once, and where there is no line never. Nothing is said where the write failed
+-- (profile)
+abbrev pub PrintsOnce : Result (Unit {0}) Fault → Option ℕ → Option ℕ → Type 0
+PrintsOnce (Ok done) old new = new ≡ option_map (λ n. n + 1) old
+PrintsOnce (Err faults.Write) old new = Unit {0}
+PrintsOnce (Err fault) old new = new ≡ old

@@ -2,7 +2,7 @@
 
 ghost use Rattle.std.specs.Prelude.{◌≡◌, ◌↔◌, true, false};
 ghost use Rattle.mscp_sim.specs.Shown.{shown};
-ghost use Rattle.mscpq.specs.Printed.{Prints};
+ghost use Rattle.mscpq.specs.Printed.{Prints, PrintsOnce};
 
 use crate::fault::Fault;
 use mscp_sim::{Sink, show_packet};
@@ -14,6 +14,7 @@ pub fn print_packet<W: Sink>(alloc: Global, word: &str, writer: &mut W) -> Resul
     requires { W.has_failed writer.old ≡ false }
     ensures write { (result ≡ Err Fault.Write) ↔ (W.has_failed writer.new ≡ true) }
     ensures printed { Prints result (shown word.now) (W.contents writer.old) (W.contents writer.new) }
+    ensures once { PrintsOnce result (W.writes writer.old) (W.writes writer.new) }
 {
     let line = show_packet(alloc, word)?;
     Ok(writer.write_all(&line)?)

@@ -33,3 +33,10 @@ fn chooses_what_is_asked_for(rt: HostRuntime) -> Result<(), Fail> {
     }
     Ok(())
 }
+
+#[test]
+fn the_fault_has_its_text(rt: HostRuntime) -> Result<(), Fail> {
+    let text = LineFault::Usage.to_string(rt.alloc())?;
+    assert_eq!(rt; text.as_str(), "usage: mscpq [run FILE | packet HEX]");
+    Ok(())
+}

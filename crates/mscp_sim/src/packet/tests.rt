@@ -209,3 +209,19 @@ fn tells_a_long_message(rt: HostRuntime) -> Result<(), Fail> {
     }
     Ok(())
 }
+
+#[test]
+fn each_fault_has_its_text(rt: HostRuntime) -> Result<(), Fail> {
+    let cases = [
+        (ShowFault::Hex, "packet: hex"),
+        (ShowFault::Short, "packet: short"),
+        (ShowFault::Long, "packet: long"),
+        (ShowFault::Code, "packet: code"),
+        (ShowFault::Length, "packet: length"),
+        (ShowFault::OutOfMemory, "out of memory"),
+    ];
+    for (fault, text) in cases {
+        assert_eq!(rt; fault.to_string(rt.alloc())?.as_str(), text);
+    }
+    Ok(())
+}
