@@ -19,5 +19,6 @@ pub mod Limited
 pub mod Falling
 pub mod Within
 pub mod Shaped
+pub mod Alone
 pub mod Known
 pub mod Progress

@@ -3,7 +3,7 @@
 -- times; every waiting command's status figure falls at each step, never rises between steps, and each queued command
 -- ends within (C - 1 + P) * L steps. C is the number of credits, P the passing limit and L the longest transfer.
 -- Nothing here names a picker: whatever it picks of what may start, the promise holds.
-use Rattle.std.specs.Prelude.{◌≡◌, ◌↔◌, ℕ, ◌+◌, ◌<◌, ◌≤◌, true, List, [], ◌∷◌, ◌++◌, length, take, zip, All, Contains}
+use Rattle.std.specs.Prelude.{◌≡◌, ◌↔◌, ℕ, ◌+◌, ◌<◌, ◌≤◌, true, List, [], ◌∷◌, ◌++◌, length, filter, take, zip, All, Contains, slice_get, Some}
 use Rattle.mscp_packet.specs.declared.command.Command.{Command}
 use Rattle.mscp_packet.specs.declared.command.Order.TheVariants as orders
 use Rattle.mscp_packet.specs.declared.end.End.{End}
@@ -15,8 +15,8 @@ use Rattle.mscp_control.specs.declared.event.Entry.{Entry}
 use Rattle.mscp_control.specs.Settings.{Settings, IsValid, bound}
 use Rattle.mscp_queue.specs.Outcomes.{end_with}
 use Rattle.mscp_control.specs.History.{Moment, Trace, moment, answers, is_step, Service, service_in, WhenStarted}
-use Rattle.mscp_control.specs.Commands.{name, service_name, sent_command, waiting, steps_after}
-use Rattle.mscp_control.specs.Passing.{is_free, passes}
+use Rattle.mscp_control.specs.Commands.{in_service, is_idle, name, service_name, sent_command, waiting, steps_after}
+use Rattle.mscp_control.specs.Passing.{is_free, is_startable, passes}
 use Rattle.mscp_control.specs.Figures.{figure, figure_of}
 use Rattle.mscp_control.specs.Ends.{ends, untaken}
 use Rattle.mscp_control.specs.Legal.{IsLegal}
@@ -62,6 +62,10 @@ pub record Promise (c : Settings) (t : Trace) : Type 0 where
   -- none passes a sequential command of its unit, and a sequential command passes none of its unit (manual, "Command
   -- Categories and Execution Order")
   pub fences : AtEach t (λ before m after. WhenStarted (IsFreeStart before) (service_in m.1))
+  -- at most one command is in service at a time (profile)
+  pub one_served : Always t (λ p. length (filter (in_service p) (waiting p)) ≤ 1)
+  -- if something waits and nothing is in service, the oldest that waits may start: so something always may (profile)
+  pub oldest_starts : Always t (λ p. (x : ℕ) → slice_get (waiting p) 0 ≡ Some x → is_idle p ≡ true → is_startable c p x ≡ true)
   -- none is passed more often than the passing limit (profile)
   pub passing : Always t (λ p. EachWaiting p (λ x. passes p x ≤ c.passing))
   -- every waiting command's status figure falls at each step (profile)

@@ -11,7 +11,8 @@ use mscp_queue::Picker;
 /// passes none of its unit, and no command is passed more often than the passing limit. Every waiting
 /// command's figure falls at each step and never rises between steps, is at least 1 exactly while the command
 /// waits, at most the bound, and what the end of a poll of the command tells; and each command ends within so many
-/// steps.
+/// steps. At most one command is in service, and if none is, the oldest that waits may start. Each end has the body of its
+/// endcode.
 pub fn legal_traces_make_progress()
     ensures { LegalTracesMakeProgress }
 {}
@@ -31,8 +32,8 @@ pub fn runs_keep_the_promise<K: Picker>(picker: &K)
 /// may pick in the view at its begin, or at the step where nothing was begun: where it picks as `Sweep` does, the one of
 /// least cost in that view, and of those the oldest. The figures and the balance that it tells are always those of that
 /// trace, and so are the states and the heads of its units. After a reset it is as new, and what follows is a trace of
-/// its own. (An `Event` has room for 64 bytes: a longer message is in no list of calls. It is refused, and changes
-/// nothing.)
+/// its own. The messages of the law may have any length: one of over 64 bytes, for which an `Event` has no room, is refused
+/// and changes nothing.
 pub fn controllers_keep_the_promise<K: Picker>(picker: &K)
     ensures { ControllersKeepThePromise (K.picks picker.now) picker.now }
 {

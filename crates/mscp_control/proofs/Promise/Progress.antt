@@ -2,6 +2,7 @@
 use Rattle.std.proofs.Common.{◌≡◌, ◌≢◌, ℕ, zero, suc, ◌+◌, ◌<◌, ◌≤◌, Bool, true, false, cond, List, [], ◌∷◌, ◌++◌, take, get_or, length, refl, ap, sym, ◌∙◌, subst, append-nil, arith}
 use Rattle.std.specs.Prelude.{filter, Option, Some, None, Contains, Ok, Err}
 use Rattle.std.proofs.lemmas.Bool.{false≢true}
+use Rattle.mscp_control.proofs.Promise.Alone.{oldest_starts, one_served}
 use Rattle.mscp_control.proofs.Promise.Shaped.{shaped}
 use Rattle.mscp_control.proofs.Promise.Grows.{ends_more}
 use Rattle.std.specs.List.{AllByRecursion, range_with_len}
@@ -142,6 +143,8 @@ progress c t valid legal =
     record {
       credits = λ i h. (at i h).room.room;
       fences = λ i h. free_starts c (take i t) (moment t i) (legal i h) (before i h).steady;
+      one_served = λ i h. one_served (take i t) (waiting (take i t)) (at i h).steady.single;
+      oldest_starts = λ i h x. oldest_starts c (take i t) x;
       passing = λ i h x w. one_of (λ x. passes (take i t) x ≤ c.passing) (waiting (take i t)) (at i h).limited x w;
       falls = λ i h s x w. subst (λ u. figure c u x < figure c (take i t) x) (sym (more_at t i h)) ((fall i h).step s x w);
       never_rises = λ i h x w. subst (λ u. figure c u x ≤ figure c (take i t) x) (sym (more_at t i h)) ((fall i h).other x w);

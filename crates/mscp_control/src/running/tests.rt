@@ -275,6 +275,9 @@ fn run_asks_for_the_entries_alone(rt: HostRuntime) {
     let small = LocalHeap::new(rt.alloc(), bytes - size_of::<Entry>())
         .ok()
         .expect(&rt, "memory");
-    assert_eq!(rt; run_over(&small, config(&rt, 4, 2), Oldest, &events).err(), Some(OutOfMemory));
+    assert_eq!(rt;
+        run_over(&small, config(&rt, 4, 2), Oldest, &events).err(),
+        Some(OutOfMemory)
+    );
     assert_eq!(rt; small.used(), 0);
 }
