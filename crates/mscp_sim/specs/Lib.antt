@@ -1,17 +1,3 @@
-pub mod Whole
-pub mod Text
-pub mod Counted
-pub mod Steps
-pub mod Lexical
-pub mod Requests
-pub mod Grammar
-pub mod Plain
-pub mod Outcome
-pub mod Simulated
-pub mod Running
-pub mod Causes
-pub mod Shown
-pub mod Chosen
 pub mod Talks
 pub mod Matches
 pub mod TwoEnds

@@ -8,7 +8,7 @@ ghost use Rattle.mscpq.specs.Endings.{error_line, exit_status, fault_status, fau
 use crate::fault::Fault;
 use arrayvec::ArrayString;
 use itoa::Buffer;
-use mscp_sim::{ShowFault, SimFault};
+use mscp_script::{ShowFault, SimFault};
 
 /// How the program ends.
 #[derive(Clone, Copy)]

@@ -3,7 +3,7 @@
 ghost use Rattle.std.specs.Prelude.{◌≡◌};
 ghost use Rattle.mscpq.specs.declared.fault.Fault.TheVariants as faults;
 
-use mscp_sim::{Failed, LineFault, ShowFault, SimFault};
+use mscp_script::{Failed, LineFault, ShowFault, SimFault};
 use std::alloc::AllocError;
 
 /// Why the program ends with another status than 0.

@@ -10,7 +10,7 @@ use crate::ending::Ending;
 use crate::fault::Fault;
 use crate::printing::print_packet;
 use crate::words::words_fault;
-use mscp_sim::{Deed, Stream, choose, simulate};
+use mscp_script::{Deed, Stream, choose, simulate};
 use std::fs::File;
 use std::io;
 use std::io::Read;

@@ -1,11 +1,11 @@
 // The line of a packet, written.
 
 ghost use Rattle.std.specs.Prelude.{◌≡◌, ◌↔◌, true, false};
-ghost use Rattle.mscp_sim.specs.Shown.{shown};
+ghost use Rattle.mscp_script.specs.Shown.{shown};
 ghost use Rattle.mscpq.specs.Printed.{Prints, PrintsOnce};
 
 use crate::fault::Fault;
-use mscp_sim::{Sink, show_packet};
+use mscp_script::{Sink, show_packet};
 use std::alloc::Global;
 
 /// Writes the line of the packet that a word is the hexadecimal digits of, in one write. Except where it says `Write`,

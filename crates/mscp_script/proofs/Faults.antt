@@ -1,0 +1,48 @@
+-- What a script's fault comes from, where a simulation ends with one.
+use Rattle.std.proofs.Common.{◌≡◌, Bool, true, false, refl, ap, sym, ◌∙◌, subst}
+use Rattle.std.specs.Prelude.{IsErrAnd, Result, Ok, Err}
+use Rattle.std.proofs.lemmas.Bool.{true≢false}
+use Rattle.mscp_script.specs.declared.reading.ReadAllFault.{ReadAllFault}
+use Rattle.mscp_script.specs.declared.reading.ReadAllFault.TheVariants as readings
+use Rattle.mscp_script.specs.declared.script.fault.ReadFault.{ReadFault}
+use Rattle.mscp_script.specs.declared.script.fault.ReadFault.TheVariants as scripts
+use Rattle.mscp_script.specs.declared.script.fault.ScriptFault.{ScriptFault}
+use Rattle.mscp_script.specs.declared.simulation.SimFault.{SimFault}
+use Rattle.mscp_script.specs.declared.simulation.SimFault.TheVariants as faults
+use Rattle.mscp_script.specs.Simulated.{sim_of_reading, sim_of_script}
+
+abbrev is_script : SimFault → Bool
+is_script (faults.Script fault) = true
+is_script fault = false
+
+abbrev fault_in : ScriptFault → SimFault → ScriptFault
+fault_in other (faults.Script fault) = fault
+fault_in other fault = other
+
+abbrev error_in : SimFault → Result (Unit {0}) SimFault → SimFault
+error_in other (Ok done) = other
+error_in other (Err fault) = fault
+
+-- what is known of an error is known of this one
+error_is : (P : SimFault → Type 0) (result : Result (Unit {0}) SimFault) (fault : SimFault) → IsErrAnd result P → result ≡ Err fault → P fault
+error_is P (Ok done) fault h e = absurd h
+error_is P (Err other) fault h e = subst P (ap (error_in fault) e) h
+
+no_reading : (x : ReadAllFault) → is_script (sim_of_reading x) ≡ false
+no_reading readings.Read = refl
+no_reading readings.OutOfMemory = refl
+
+script_in : (x : ReadFault) (fault : ScriptFault) → faults.Script fault ≡ sim_of_script x → x ≡ scripts.Script fault
+script_in (scripts.Script other) fault e = ap (λ q. scripts.Script (fault_in fault q)) (sym e)
+script_in scripts.OutOfMemory fault e = absurd (true≢false (ap is_script e))
+
+-- the reading of all bytes brings no fault of a script, nor does a write
+pub never_read : (result : Result (Unit {0}) SimFault) (x : ReadAllFault) (fault : ScriptFault) → IsErrAnd result (λ e. e ≡ sim_of_reading x) → result ≡ Err (faults.Script fault) → ⊥
+never_read result x fault h e = true≢false (ap is_script (error_is (λ q. q ≡ sim_of_reading x) result (faults.Script fault) h e) ∙ no_reading x)
+
+pub never_written : (result : Result (Unit {0}) SimFault) (fault : ScriptFault) → IsErrAnd result (λ e. e ≡ faults.Write) → result ≡ Err (faults.Script fault) → ⊥
+never_written result fault h e = true≢false (ap is_script (error_is (λ q. q ≡ faults.Write) result (faults.Script fault) h e))
+
+-- it is that of the script
+pub of_script : (result : Result (Unit {0}) SimFault) (x : ReadFault) (fault : ScriptFault) → IsErrAnd result (λ e. e ≡ sim_of_script x) → result ≡ Err (faults.Script fault) → x ≡ scripts.Script fault
+of_script result x fault h e = script_in x fault (error_is (λ q. q ≡ sim_of_script x) result (faults.Script fault) h e)

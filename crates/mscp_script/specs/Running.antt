@@ -1,0 +1,54 @@
+-- What comes to a controller, event by event, and the report of what it answers.
+use Rattle.std.specs.Prelude.{◌≡◌, ℕ, List, ◌++◌, length, Result, Ok, Err}
+use Rattle.mscp_queue.specs.Pickers.{IsSweep}
+use Rattle.mscp_control.specs.declared.event.Event.{Event}
+use Rattle.mscp_control.specs.declared.event.Entry.{Entry}
+use Rattle.mscp_control.specs.Settings.{Settings}
+use Rattle.mscp_control.specs.Holdings.{Answered, Answers, fresh}
+use Rattle.mscp_script.specs.declared.running.Run.{Run}
+use Rattle.mscp_script.specs.Text.{reported, with_entry}
+use Rattle.mscp_script.specs.Grammar.{HasGone}
+use Rattle.mscp_script.specs.Outcome.{Fails, rest_outcome}
+use Rattle.mscp_script.specs.Simulated.{IsReportOf}
+use Rattle.mscp_script.specs.declared.script.fault.ScriptFault.{ScriptFault}
+use Rattle.mscp_script.specs.declared.script.fault.ReadFault.{ReadFault}
+
+-- an event came: the controller answered an entry, which is reported
+pub record Ran (old new : Run) (event : Event) : Type 0 where
+  pub entry : Entry
+  pub answers : Answers IsSweep old.controller event entry new.controller
+  pub report_is : new.reporter ≡ with_entry old.reporter entry
+
+-- so far these events came to a new controller, one after the other, and what it answered is reported
+pub record Runs (c : Settings) (events : List Event) (run : Run) : Type 0 where
+  pub begun : Run
+  pub new : begun.controller ≡ fresh c begun.controller.picker
+  pub entries : List Entry
+  pub answered : Answered IsSweep begun.controller events entries run.controller
+  pub report_is : run.reporter ≡ reported entries
+  pub count : run.reporter.count ≡ length events
+
+-- these events came between them, whatever came before
+abbrev pub Meets : Run → Run → List Event → Type 0
+Meets old new events = (c : Settings) (es : List Event) → Runs c es old → Runs c (es ++ events) new
+
+-- what the definition says is made of the events that came, or is this fault, unless memory ran out
+abbrev pub RunsTo : {Y : Type 0}
+    → (List Event → Y) → Settings → Result (Unit {0}) ReadFault → Run → Result Y ScriptFault → Type 0
+RunsTo made c (Ok done) run told = (events : List Event) × Runs c events run × (told ≡ Ok (made events))
+RunsTo made c (Err fault) run told = Fails fault told
+
+-- the events that came so far are of lines of which this was to become, and of what is left of them is to become the same;
+-- or the lines have this fault, unless memory ran out
+abbrev pub GoesOn : Settings → Result (Unit {0}) ReadFault → Run → ℕ → List ℕ
+    → Result (Settings × List Event) ScriptFault → Type 0
+GoesOn c (Ok done) run number rest told =
+    (events : List Event) × Runs c events run × (told ≡ rest_outcome number (HasGone c events) rest)
+GoesOn c (Err fault) run number rest told = Fails fault told
+
+-- what was returned, seen by view, is the report of what the definition says, or this fault, unless memory ran out
+abbrev pub TellsReport : {X : Type 0}
+    → (X → List ℕ) → Result X ReadFault → Result (Settings × List Event) ScriptFault → Type 0
+TellsReport view (Ok report) told =
+    (c : Settings) × (events : List Event) × (told ≡ Ok (c, events)) × IsReportOf c events (view report)
+TellsReport view (Err fault) told = Fails fault told

@@ -1,0 +1,137 @@
+// A report, which grows by the lines of each entry, and ends with the totals.
+
+ghost use Rattle.std.specs.Prelude.{◌≡◌, ◌+◌, ◌<◌, ◌^◌, [], IfOk, OnOk};
+ghost use Rattle.mscp_control.specs.declared.event.Entry.TheVariants as entries;
+ghost use Rattle.mscp_script.specs.Text.{finished, reported, text, with_entry};
+
+mod lines;
+mod tail;
+#[cfg(test)]
+mod tests;
+
+use crate::reporting::lines::{put_figures, put_sent, put_step, put_taken, put_totals};
+use crate::reporting::tail::Tail;
+use crate::totals::Totals;
+use arrayvec::ArrayVec;
+use mscp_control::{Entry, OutOfMemory, Report, SendFault, Sent};
+use std::alloc::Global;
+use std::marker::Model;
+
+/// The lines of the entries so far, and their totals.
+#[derive(Drop)]
+pub struct Reporter {
+    out: Vec<u8>,
+    // Where each line is written, before it is appended.
+    line: Tail,
+    totals: Totals,
+}
+
+// A clause sees the lines, how many entries they are of, and the totals.
+impl Model for Reporter {
+    ghost use Rattle.mscp_script.specs.Text.{Reported};
+
+    ghost Value = { Reported };
+
+    ghost view = { λ r.
+        record {
+          lines = r.out.items;
+          count = r.totals.count;
+          steps = r.totals.steps;
+          seeks = r.totals.seeks;
+          queued = r.totals.queued;
+          ended = r.totals.ended;
+        } };
+}
+
+impl Reporter {
+    /// A report of no entry.
+    pub fn new(alloc: Global) -> Reporter
+        ensures { result ≡ reported [] }
+    {
+        Reporter {
+            out: Vec::new(alloc),
+            line: Tail::new(),
+            totals: Totals::new(),
+        }
+    }
+
+    /// How many entries were reported.
+    pub fn count(&self) -> u64
+        ensures { result ≡ self.now.count }
+    {
+        self.totals.count
+    }
+
+    /// Reports what became of a message.
+    pub fn sent(&mut self, sent: &Result<Sent, SendFault>) -> Result<(), OutOfMemory>
+        requires { self.old.count + 1 < 2 ^ 64 }
+        ensures { OnOk result (self.new ≡ with_entry self.old (entries.Sent sent.now)) }
+    {
+        put_sent(&mut self.out, &mut self.line, sent)?;
+        self.totals.add_sent(sent);
+        Ok(())
+    }
+
+    /// Reports an end that was taken, or that there was none.
+    pub fn taken(&mut self, end: &Option<ArrayVec<u8, 48>>) -> Result<(), OutOfMemory>
+        requires { self.old.count + 1 < 2 ^ 64 }
+        ensures { OnOk result (self.new ≡ with_entry self.old (entries.Taken end.now)) }
+    {
+        put_taken(&mut self.out, &mut self.line, end)?;
+        self.totals.add_other();
+        Ok(())
+    }
+
+    /// Reports what a step did.
+    pub fn stepped(&mut self, report: &Report) -> Result<(), OutOfMemory>
+        requires { self.old.count + 1 < 2 ^ 64 }
+        ensures { OnOk result (self.new ≡ with_entry self.old (entries.Stepped report.now)) }
+    {
+        put_step(&mut self.out, &mut self.line, report)?;
+        self.totals.add_step(report);
+        Ok(())
+    }
+
+    /// Reports the figures of a look.
+    pub fn looked(&mut self, shown: &ArrayVec<(u32, u32), 64>) -> Result<(), OutOfMemory>
+        requires { self.old.count + 1 < 2 ^ 64 }
+        ensures { OnOk result (self.new ≡ with_entry self.old (entries.Looked shown.now)) }
+    {
+        put_figures(&mut self.out, &mut self.line, shown.as_slice())?;
+        self.totals.add_other();
+        Ok(())
+    }
+
+    /// Reports an entry.
+    fn put(&mut self, entry: &Entry) -> Result<(), OutOfMemory>
+        requires { self.old.count + 1 < 2 ^ 64 }
+        ensures { OnOk result (self.new ≡ with_entry self.old entry.now) }
+    {
+        match entry {
+            Entry::Sent(sent) => self.sent(sent),
+            Entry::Taken(end) => self.taken(end),
+            Entry::Stepped(report) => self.stepped(report),
+            Entry::Looked(shown) => self.looked(shown),
+        }
+    }
+
+    /// The text, with the line of the totals.
+    pub fn finish(mut self) -> Result<Vec<u8>, OutOfMemory>
+        ensures { IfOk result (λ bytes. bytes.items ≡ finished self) }
+    {
+        put_totals(&mut self.out, &self.totals)?;
+        Ok(self.out)
+    }
+}
+
+/// The text of a list of entries: the lines of each entry in order, then the line of the totals. It takes memory for
+/// the text alone.
+pub fn report(alloc: Global, entries: &[Entry]) -> Result<Vec<u8>, OutOfMemory>
+    ensures { IfOk result (λ bytes. bytes.items ≡ text entries.now) }
+{
+    let mut reporter = Reporter::new(alloc);
+    for entry in entries {
+        reporter.put(entry)?;
+    }
+    reporter.finish()
+}

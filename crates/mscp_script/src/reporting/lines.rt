@@ -1,0 +1,187 @@
+// The lines of a report. But for the last, and for those that are always the same, each is written from its end to its
+// start, and appended in one piece.
+
+ghost use Rattle.std.specs.Prelude.{◌≡◌, ◌+◌, ◌≤◌, ◌++◌, length, codes, OnOk};
+ghost use Rattle.std.specs.List.{flat_map};
+ghost use Rattle.mscp_control.specs.declared.event.Entry.TheVariants as entries;
+ghost use Rattle.mscp_script.specs.Text.{aborted_part, block_word, end_line, ended_part, entry_lines, figure_line, last_line, refusal_word, sent_line, step_line};
+
+use crate::reporting::tail::Tail;
+use crate::text::{put, put_field};
+use crate::totals::Totals;
+use arrayvec::ArrayVec;
+use mscp_control::{Report, SendFault, Sent};
+use mscp_packet::End;
+use std::alloc::AllocError;
+
+/// The word of a refusal.
+fn refused(fault: SendFault) -> &'static str
+    ensures { result.now ≡ refusal_word fault }
+{
+    match fault {
+        SendFault::Short => "short",
+        SendFault::Long => "long",
+        SendFault::NoCredit => "no-credit",
+        SendFault::LastCredit => "last-credit",
+        SendFault::Doubled => "doubled",
+    }
+}
+
+/// Puts in front that an ABORT ended a command, if it did.
+fn put_aborted(line: &mut Tail, aborted: Option<u32>)
+    requires { 19 + length line.old ≤ 101 }
+    ensures value { line.new ≡ aborted_part aborted ++ line.old }
+    ensures short { length line.new ≤ 19 + length line.old }
+{
+    if let Some(other) = aborted {
+        line.field(" aborted ", other);
+    }
+}
+
+/// Puts the line of a message that was taken in before its line feed.
+fn put_taken_in(line: &mut Tail, sent: Sent)
+    requires { line.old ≡ codes "\n" }
+    ensures { line.new ≡ sent_line sent }
+{
+    match sent {
+        Sent::Queued(reference) => line.field("queued ", reference),
+        Sent::Answered { reference, aborted } => {
+            put_aborted(line, aborted);
+            line.field("answered ", reference);
+        }
+    }
+}
+
+/// Appends the line of a message: what became of it, or why it is refused.
+pub fn put_sent(
+    out: &mut Vec<u8>,
+    line: &mut Tail,
+    sent: &Result<Sent, SendFault>,
+) -> Result<(), AllocError>
+    ensures { OnOk result (out.new.items ≡ out.old.items ++ entry_lines (entries.Sent sent.now)) }
+{
+    line.begin();
+    match sent {
+        Ok(sent) => put_taken_in(line, *sent),
+        Err(fault) => {
+            line.words(refused(*fault));
+            line.words("refused ");
+        }
+    }
+    out.extend_from_slice(line.bytes())
+}
+
+/// Appends the line of an end that was taken.
+fn put_end(out: &mut Vec<u8>, line: &mut Tail, bytes: &[u8]) -> Result<(), AllocError>
+    requires { length bytes.now ≤ 48 }
+    ensures { OnOk result (out.new.items ≡ out.old.items ++ end_line bytes.now) }
+{
+    line.begin();
+    line.hex(bytes);
+    line.words("end ");
+    out.extend_from_slice(line.bytes())
+}
+
+/// Appends the line of an end that was taken, or of none.
+pub fn put_taken(
+    out: &mut Vec<u8>,
+    line: &mut Tail,
+    end: &Option<ArrayVec<u8, 48>>,
+) -> Result<(), AllocError>
+    ensures { OnOk result (out.new.items ≡ out.old.items ++ entry_lines (entries.Taken end.now)) }
+{
+    match end {
+        Some(bytes) => put_end(out, line, bytes.as_slice()),
+        None => put(out, "none\n"),
+    }
+}
+
+/// Puts in front what a step did with a block.
+fn put_block(line: &mut Tail, lbn: Option<u32>)
+    requires { 10 + length line.old ≤ 101 }
+    ensures value { line.new ≡ block_word lbn ++ line.old }
+    ensures short { length line.new ≤ 10 + length line.old }
+{
+    match lbn {
+        Some(block) => line.number(block),
+        None => line.words("none"),
+    }
+}
+
+/// Puts in front the status of the end that a step brought.
+fn put_ended(line: &mut Tail, ended: &Option<End>)
+    requires { 11 + length line.old ≤ 101 }
+    ensures value { line.new ≡ ended_part ended.now ++ line.old }
+    ensures short { length line.new ≤ 11 + length line.old }
+{
+    if let Some(end) = ended {
+        line.hex(&end.status.to_be_bytes());
+        line.words(" ended ");
+    }
+}
+
+/// Appends the line of a step.
+pub fn put_step(out: &mut Vec<u8>, line: &mut Tail, report: &Report) -> Result<(), AllocError>
+    ensures { OnOk result (out.new.items ≡ out.old.items ++ step_line report.now) }
+{
+    match report {
+        Report::Idle => put(out, "idle\n"),
+        Report::Served {
+            reference,
+            unit,
+            lbn,
+            started: _,
+            seek,
+            ended,
+        } => {
+            line.begin();
+            put_ended(line, ended);
+            line.field(" seek ", *seek);
+            put_block(line, *lbn);
+            line.words(" block ");
+            line.field(" unit ", u32::from(*unit));
+            line.field("serve ", *reference);
+            out.extend_from_slice(line.bytes())
+        }
+    }
+}
+
+/// Appends the line of a waiting command.
+fn put_figure(
+    out: &mut Vec<u8>,
+    line: &mut Tail,
+    reference: u32,
+    figure: u32,
+) -> Result<(), AllocError>
+    ensures { OnOk result (out.new.items ≡ out.old.items ++ figure_line (reference, figure)) }
+{
+    line.begin();
+    line.field(" ", figure);
+    line.field("figure ", reference);
+    out.extend_from_slice(line.bytes())
+}
+
+/// Appends the line of each waiting command.
+pub fn put_figures(
+    out: &mut Vec<u8>,
+    line: &mut Tail,
+    shown: &[(u32, u32)],
+) -> Result<(), AllocError>
+    ensures { OnOk result (out.new.items ≡ out.old.items ++ flat_map figure_line shown.now) }
+{
+    for (reference, figure) in shown {
+        put_figure(out, line, *reference, *figure)?;
+    }
+    Ok(())
+}
+
+/// Appends the last line.
+pub fn put_totals(out: &mut Vec<u8>, totals: &Totals) -> Result<(), AllocError>
+    ensures { OnOk result (out.new.items ≡ out.old.items
+        ++ last_line totals.now.steps totals.now.seeks totals.now.queued totals.now.ended) }
+{
+    put_field(out, "steps ", totals.steps)?;
+    put_field(out, " seeks ", totals.seeks)?;
+    put_field(out, " pending ", totals.pending())?;
+    put(out, "\n")
+}

@@ -1,0 +1,132 @@
+// A controller that is driven event by event, and the report of what it answers.
+
+ghost use Rattle.std.specs.Prelude.{◌≡◌, ◌+◌, ◌<◌, ◌^◌, [], length, replicate, OnOk, IfOk};
+ghost use Rattle.mscp_control.specs.Holdings.{fresh};
+ghost use Rattle.mscp_control.specs.Settings.{IsValid};
+ghost use Rattle.mscp_control.specs.declared.event.Event.TheVariants as events;
+ghost use Rattle.mscp_queue.specs.declared.block.Block.TheVariants.{Good};
+ghost use Rattle.mscp_script.specs.Plain.{plain_request};
+ghost use Rattle.mscp_script.specs.Requests.{events_of};
+ghost use Rattle.mscp_script.specs.Running.{Meets, Ran};
+ghost use Rattle.mscp_script.specs.Text.{finished, reported};
+
+use crate::reporting::Reporter;
+use crate::script::{Plain, Request};
+use mscp_control::{Block, Config, Controller, OutOfMemory, Sweep};
+use mscp_packet::write_command;
+use std::alloc::Global;
+
+/// A controller whose picker sweeps, and the report of what it answered so far. No entry is kept.
+#[derive(Drop)]
+pub struct Run {
+    controller: Controller<Sweep>,
+    reporter: Reporter,
+}
+
+impl Run {
+    /// A new controller, to which nothing came.
+    pub fn new(alloc: Global, config: Config) -> Run
+        ensures controller { result.controller ≡ fresh config result.controller.picker }
+        ensures report { result.reporter ≡ reported [] }
+        ensures valid { IsValid config }
+    {
+        Run {
+            controller: Controller::new(config, Sweep),
+            reporter: Reporter::new(alloc),
+        }
+    }
+
+    /// How many events came.
+    pub fn count(&self) -> u64
+        ensures { result ≡ self.now.reporter.count }
+    {
+        self.reporter.count()
+    }
+
+    /// The host sends this message.
+    fn send(&mut self, message: &[u8]) -> Result<(), OutOfMemory>
+        requires { self.old.reporter.count + 1 < 2 ^ 64 }
+        ensures { OnOk result (Ran self.old self.new (events.Send (record { items = message.now }))) }
+    {
+        let sent = self.controller.send(message);
+        self.reporter.sent(&sent)
+    }
+
+    /// The host takes an end.
+    fn take(&mut self) -> Result<(), OutOfMemory>
+        requires { self.old.reporter.count + 1 < 2 ^ 64 }
+        ensures { OnOk result (Ran self.old self.new events.Take) }
+    {
+        let end = self.controller.take();
+        self.reporter.taken(&end)
+    }
+
+    /// The drive serves one block, with this outcome.
+    fn step(&mut self, block: Block) -> Result<(), OutOfMemory>
+        requires { self.old.reporter.count + 1 < 2 ^ 64 }
+        ensures { OnOk result (Ran self.old self.new (events.Step block)) }
+    {
+        let report = self.controller.step(block);
+        self.reporter.stepped(&report)
+    }
+
+    /// The figures of all waiting commands are asked for.
+    fn look(&mut self) -> Result<(), OutOfMemory>
+        requires { self.old.reporter.count + 1 < 2 ^ 64 }
+        ensures { OnOk result (Ran self.old self.new events.Look) }
+    {
+        let shown = self.controller.look();
+        self.reporter.looked(&shown)
+    }
+
+    /// So many good blocks are served.
+    fn steps(&mut self, count: u32) -> Result<(), OutOfMemory>
+        requires { self.old.reporter.count + count < 2 ^ 64 }
+        ensures met { OnOk result (Meets self.old self.new (replicate count (events.Step Good))) }
+        ensures count { OnOk result (self.new.reporter.count ≡ self.old.reporter.count + count) }
+    {
+        for _step in 0..count {
+            self.step(Block::Good)?;
+        }
+        Ok(())
+    }
+
+    /// The events of a request come.
+    pub fn meet(&mut self, request: &Request) -> Result<(), OutOfMemory>
+        requires { self.old.reporter.count + length (events_of request.now) < 2 ^ 64 }
+        ensures met { OnOk result (Meets self.old self.new (events_of request.now)) }
+        ensures count { OnOk result (self.new.reporter.count
+            ≡ self.old.reporter.count + length (events_of request.now)) }
+    {
+        match request {
+            Request::Send(command) => self.send(write_command(command).as_slice()),
+            Request::Packet(bytes) => self.send(bytes.as_slice()),
+            Request::Take => self.take(),
+            Request::Look => self.look(),
+            Request::Steps(count) => self.steps(*count),
+            Request::Bad(code) => self.step(Block::Bad(*code)),
+        }
+    }
+
+    /// The events of a plain line come.
+    pub fn meet_plain(&mut self, plain: Plain) -> Result<(), OutOfMemory>
+        requires { self.old.reporter.count + length (events_of (plain_request plain)) < 2 ^ 64 }
+        ensures met { OnOk result (Meets self.old self.new (events_of (plain_request plain))) }
+        ensures count { OnOk result (self.new.reporter.count
+            ≡ self.old.reporter.count + length (events_of (plain_request plain))) }
+    {
+        match plain {
+            Plain::Send(command) => self.send(write_command(&command).as_slice()),
+            Plain::Take => self.take(),
+            Plain::Look => self.look(),
+            Plain::Steps(count) => self.steps(count),
+        }
+    }
+
+    /// The text of the report.
+    pub fn finish(self) -> Result<Vec<u8>, OutOfMemory>
+        ensures { IfOk result (λ bytes. bytes.items ≡ finished self.reporter) }
+    {
+        self.reporter.finish()
+    }
+}

@@ -1,7 +1,0 @@
-use Rattle.std.proofs.Common.{◌≡◌, ◌++◌, take}
-use Rattle.std.specs.List.{flat_map}
-use Rattle.mscp_sim.specs.Text.{figure_line}
-use Rattle.mscp_sim.proofs.reporting.lines.put_figures.Given as goal
-
-abbrev pub invariant-loop-reference : goal.invariant-loop-reference
-invariant-loop-reference l = l.out.items ≡ l.initial.out.items ++ flat_map figure_line (take l.reference-index l.shown)

@@ -1,7 +1,0 @@
-use Rattle.std.proofs.Common.{refl}
-use Rattle.mscp_control.specs.declared.event.Entry.TheVariants as entries
-use Rattle.mscp_sim.proofs.Growing.{ran_on}
-use Rattle.mscp_sim.proofs.running.Run.look.Goals as goal
-
-pub returns : goal.returns
-returns c = ran_on c.looked.result _ _ _ (entries.Looked c.look-shown.result) (c.look-shown.ensures.value, refl) c.looked.ensures

@@ -1,6 +1,0 @@
-use Rattle.mscp_control.specs.declared.event.Entry.TheVariants as entries
-use Rattle.mscp_sim.proofs.Growing.{ran_on}
-use Rattle.mscp_sim.proofs.running.Run.step.Goals as goal
-
-pub returns : goal.returns
-returns c = ran_on c.stepped.result _ _ _ (entries.Stepped c.step-report.result) c.step-report.ensures.step c.stepped.ensures
