@@ -3,17 +3,17 @@
 #
 # What is kept is out/NAME-STAMP, a copy that is made only where rt has proved and built the sources of that stamp. A
 # stamp is a sum over the names and contents of all files below crates/ save those of the crates' own out/, of
-# crates.txt and HANDLES, and over the line of rt version. So nothing that anything else left is ever used, a change of a
-# source leads to a build, and a build that failed is tried again at the next call.
+# crates.txt and HANDLES, and over the line of rt version. So nothing that anything else left is ever used, a change
+# of a source leads to a build, and a build that failed is tried again at the next call.
 #
-# A build is a process of its own: this file, run by `provide`. It sets no trap, so it may be killed at any moment, and one
-# builds at a time. The script that asked for it does nothing but wait, so no signal to that script is lost.
+# A build is a process of its own: this file, run by `provide`. It sets no trap, so it may be killed at any moment,
+# and one builds at a time. The script that asked for it does nothing but wait, so no signal to that script is lost.
 #
 # Trusted are rt with the work that it keeps in crates/NAME/out, the tools of the system, and that nobody but these
 # scripts writes below out/.
 #
-# Who reads this file sets `top`, the folder of the project, `name`, that of the script, and `nothing`, what it says that it
-# doesn't do where a build failed. Its exit status is 3 then, and 128 and the signal's number where a signal ended a build.
+# Who reads this file sets `top`, the folder of the project, `name`, that of the script, and `nothing`, what it doesn't
+# do where a build failed. It ends with 3 then, and with 128 and the signal's number where a signal ended a build.
 
 say() { printf '%s: %s\n' "$name" "$*" >&2; }
 
@@ -53,32 +53,32 @@ interrupted() {
     exit 131
 }
 
-# Waits for what was started last, which is tied and a session of its own, and sets `status` to how it ended. Its `room` is
-# gone then. As the signals are caught only here, no command is expanded while they are: bash 5.2 can lose one there.
+# Waits for what was started last, which is tied and a session of its own, and sets `status` to how it ended. Its room
+# is gone then. Signals are caught only here, where no $( ) is expanded: bash 5.2 can lose one there.
 attend() {
     local signal
-    for signal in HUP INT PIPE QUIT TERM; do
-        trap "interrupted $signal" "$signal"
-    done
+    for signal in HUP INT PIPE QUIT TERM; do trap "interrupted $signal" "$signal"; done
     wait "$!"
     status=$?
     trap - HUP INT PIPE QUIT TERM
     [ ! -e "$room" ] || remove "$room"
 }
 
-# What is built: for people, by which words of rt in which crate, to which file, and the name under which it is kept. What
-# the program prints isn't rt's, and rt lib speaks on standard output.
+# What is built: for people, by which words of rt in which crate, to which file, and its name where it is kept. What
+# rt run prints, and its status, may be the program's, so that gets an input on which it ends with 0.
 the_program() {
-    what='the program' minutes='5 minutes on four processors, up to 15' printed=/dev/null
-    words=run crate=$top/crates/mscpq built=$top/crates/mscpq/out/mscpq kept=$top/out/mscpq
+    what='the program' minutes='5 minutes on four processors, up to 15'
+    words=run crate=$top/crates/mscpq built=$crate/out/mscpq kept=$top/out/mscpq
+    input=$crate/stdin printed=/dev/null
 }
 the_library() {
-    what='the library' minutes='5 minutes on four processors, up to 10' printed=/dev/stderr
-    words=lib crate=$top/crates/mscp_c built=$top/crates/mscp_c/out/libmscp_c.a kept=$top/out/libmscp
+    what='the library' minutes='5 minutes on four processors, up to 10'
+    words=lib crate=$top/crates/mscp_c built=$crate/out/libmscp_c.a kept=$top/out/libmscp
+    input=/dev/null printed=/dev/stderr
 }
 
-# Proves and builds the program or the library, where that isn't done yet from the sources that stand here now. It is then
-# the file $kept-$wanted.
+# Proves and builds the program or the library, where that isn't done yet from the sources that stand here now. It is
+# then the file $kept-$wanted.
 provide() {
     local told status
     "$1"
@@ -104,8 +104,8 @@ stamp() (
     } | sha256sum | cut -d ' ' -f 1
 )
 
-# Prints what tells what rt built from the next one. A program stays as it was where rt has nothing to do, also as a file;
-# a library is written anew, of the same bytes.
+# Prints what tells what rt built from the next one. A program stays as it was where rt has nothing to do, also as a
+# file; a library is written anew, of the same bytes.
 identity() {
     case $built in
         *.a) sha256sum -- "$built" ;;
@@ -133,12 +133,9 @@ hear() {
     case $1 in
         'rt: chose --jobs '*' for '*) begin "proving ${1##* }$(place "${1##* }")" ;;
         'rt: waiting for another rt '*) begin 'waiting for another rt' ;;
-        'so far: '*' functions checked'*)
-            checked=${1#so far: }
-            checked=", ${checked%% functions checked*} functions"
-            ;;
+        'so far: '*' functions checked'*) checked=${1#so far: } checked=", ${checked%% functions checked*} functions" ;;
         *': proved' | *': modules loaded='*) ;;
-        *) said+=("$1") ;;
+        *) said+=$1$'\n' ;;
     esac
 }
 
@@ -156,19 +153,16 @@ follow() {
     draw ''
 }
 
-# Proves and builds by rt, or says what rt said and ends. Which status of rt run is rt's own can't be told from the
-# program's, so the program gets an input on which it ends with 0: then any other status means that something wasn't
-# proved or built.
+# Proves and builds by rt, or says what rt said and ends.
 prove() {
-    local input=/dev/null status
-    [ "$words" != run ] || input=$crate/stdin
-    said=() doing='reading the sources' checked=''
+    local status
+    said='' doing='reading the sources' checked=''
     follow < <(cd -- "$crate" && tied env -u RT_ALLOW_C -u RT_BACKEND -u RT_SECONDS PYTHONUNBUFFERED=1 TMPDIR="$room" \
         rt "$words" <"$input" 2>&1 >"$printed" {lock}>&-)
     wait "$!"
     status=$?
     [ "$status" -ne 0 ] || return 0
-    [ ${#said[@]} -eq 0 ] || printf '%s\n' "${said[@]}" >&2
+    printf %s "$said" >&2
     refuse "what stands here isn't proved and built, as rt ended with status $status"
 }
 
@@ -192,9 +186,9 @@ enter() {
     remove "$top"/out/building.* && mkdir -- "$room" || refuse "$top/out can't be written"
 }
 
-# Runs rt until it leaves what it built as it was. That last run, of a few seconds, proved nothing, so it was built of what
-# stands here: also where a source was changed in the meantime, or changed and changed back. What was kept of other sources
-# goes then.
+# Runs rt until it leaves what it built as it was. That last run, of a few seconds, proved nothing, so it was built of
+# what stands here: also where a source was changed in the meantime, or changed and changed back. What was kept of
+# other sources goes then.
 build() {
     local before='' now round=0
     SECONDS=0

@@ -39,20 +39,3 @@ is_gone() {
     done
     return 1
 }
-
-# Waits until the stand-in for rt tells its processes, or its caller of this number has ended.
-wait_for_stand_in() {
-    until [ -s "$STAND_IN/started" ] || [ ! -e "/proc/$1" ]; do
-        sleep 0.02
-    done
-    read -r stand_in child <"$STAND_IN/started"
-}
-
-# Makes a folder with a setpriv of which the call of this number waits until its caller has ended, as `started` tells.
-make_late_setpriv() {
-    mkdir -p "$room/late"
-    printf '%s\n' '#!/bin/sh' 'echo >>"$STAND_IN/tied"' "if [ \$(wc -l <\"\$STAND_IN/tied\") -eq $1 ]; then" \
-        'echo $$ $$ >"$STAND_IN/started"' 'while [ "$(cut -d " " -f 4 "/proc/$$/stat")" -eq "$PPID" ]; do sleep 0.02; done' \
-        fi "exec $(command -v setpriv) \"\$@\"" >"$room/late/setpriv"
-    chmod +x "$room/late/setpriv"
-}
