@@ -56,6 +56,7 @@ wait_for_stand_in() {
     until [ -s "$STAND_IN/started" ] || [ ! -e "/proc/$1" ]; do
         sleep 0.02
     done
+    stand_in='' child=''
     read -r stand_in child <"$STAND_IN/started"
 }
 
