@@ -179,13 +179,6 @@ is_kept() {
     [ -e "$kept-$wanted" ]
 }
 
-# Waits until nobody builds here, and makes the room. Then a room that is there was left by a build that was killed.
-enter() {
-    mkdir -p -- "$top/out" && exec {lock}>>"$top/out/lock" || refuse "$top/out can't be written"
-    flock -n "$lock" || { say 'waiting for another build' && flock "$lock"; } || refuse "$top/out/lock can't be locked"
-    remove "$top"/out/building.* && mkdir -- "$room" || refuse "$top/out can't be written"
-}
-
 # Runs rt until it leaves what it built as it was. That last run, of a few seconds, proved nothing, so it was built of
 # what stands here: also where a source was changed in the meantime, or changed and changed back. What was kept of
 # other sources goes then.
@@ -193,6 +186,10 @@ build() {
     local before='' now round=0
     SECONDS=0
     say "proving and building $what: from nothing about $minutes on busy ones"
+    mkdir -p -- "$top/out" && exec {lock}>>"$top/out/lock" || refuse "$top/out can't be written"
+    flock -n "$lock" || { say 'waiting for another build' && flock "$lock"; } || refuse "$top/out/lock can't be locked"
+    # Nobody else builds now, so a room that is there was left by a build that was killed.
+    remove "$top"/out/building.* && mkdir -- "$room" || refuse "$top/out can't be written"
     until is_kept; do
         round=$((round + 1))
         [ "$round" -le 9 ] || refuse 'something changed during each of 9 builds'
@@ -211,6 +208,6 @@ if [ "$0" = "${BASH_SOURCE[0]}" ]; then
     top=$2 name=$3 nothing=$4 room=$5
     "$1"
     command -v rt >/dev/null || refuse "the Rattle kit's command rt is wanted on the path"
-    is_kept || { enter && is_kept; } || build
+    is_kept || build
     echo "$wanted"
 fi
