@@ -64,17 +64,17 @@ attend() {
     [ ! -e "$room" ] || remove "$room"
 }
 
-# What is built: for people, by which words of rt in which crate, to which file, and its name where it is kept. What
-# rt run prints, and its status, may be the program's, so that gets an input on which it ends with 0.
+# What is built: for people, by which words of rt in which crate, to which file, and its name where it is kept. The
+# status of rt run may be the program's, so that gets an input on which it ends with 0.
 the_program() {
     what='the program' minutes='5 minutes on four processors, up to 15'
     words=run crate=$top/crates/mscpq built=$crate/out/mscpq kept=$top/out/mscpq
-    input=$crate/stdin printed=/dev/null
+    input=$crate/stdin
 }
 the_library() {
     what='the library' minutes='5 minutes on four processors, up to 10'
     words=lib crate=$top/crates/mscp_c built=$crate/out/libmscp_c.a kept=$top/out/libmscp
-    input=/dev/null printed=/dev/stderr
+    input=/dev/null
 }
 
 # Proves and builds the program or the library, where that isn't done yet from the sources that stand here now. It is
@@ -158,7 +158,7 @@ prove() {
     local status
     said='' doing='reading the sources' checked=''
     follow < <(cd -- "$crate" && tied env -u RT_ALLOW_C -u RT_BACKEND -u RT_SECONDS PYTHONUNBUFFERED=1 TMPDIR="$room" \
-        rt "$words" <"$input" 2>&1 >"$printed" {lock}>&-)
+        rt "$words" <"$input" 2>&1 {lock}>&-)
     wait "$!"
     status=$?
     [ "$status" -ne 0 ] || return 0
