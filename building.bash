@@ -1,33 +1,19 @@
-# What ./mscpq and ./install share: to prove and build by rt, and to keep what was built of just these sources.
+# What ./mscpq and ./install share: to prove and build by rt, and to keep what was built of just these sources. ./check
+# takes from here how it is stopped.
 #
 # What is kept is out/NAME-STAMP, a copy that is made only where rt has proved and built the sources of that stamp. A
 # stamp is a sum over the names and contents of all files below crates/ save those of the crates' own out/, of
-# crates.txt and HANDLES, and over the line of rt version. So nothing that anything else left is ever used, a change of a
-# source leads to a build, and a build that failed is tried again at the next call.
+# crates.txt and HANDLES, and over the line of rt version. So nothing that anything else left is ever used, a change
+# of a source leads to a build, and a build that failed is tried again at the next call.
+#
+# A build is a process of its own: this file, run by `provide`. It sets no trap, so it may be killed at any moment,
+# and one builds at a time. The script that asked for it does nothing but wait, so no signal to that script is lost.
 #
 # Trusted are rt with the work that it keeps in crates/NAME/out, the tools of the system, and that nobody but these
-# scripts writes out/NAME-STAMP.
+# scripts writes below out/.
 #
-# Who reads this file sets `top`, the folder of the project, `name`, that of the script, and `nothing`, what it says that it
-# doesn't do where a build failed. Its exit status is 3 then, and 128 and the signal's number where a signal ended a build.
-
-room=$top/out/building.$$ # what is written before it can be trusted, also by rt: removed at every end
-wanted=''                 # the stamp of what is to be used
-unfinished=''             # a file beside the one that it is to become, while it is written: removed at every end, too
-rt=''                     # the process of rt, while it runs
-said=()                   # what rt said that a failure shows
-doing='' checked=''       # what rt is at, and how many functions of that crate are checked
-drawn=''                  # the line on the terminal
-
-# What is built: for people, by which words of rt in which crate, to which file, and the name under which it is kept.
-the_program() {
-    what='the program' minutes='5 minutes on four processors, up to 15'
-    words=run crate=$top/crates/mscpq built=$top/crates/mscpq/out/mscpq kept=$top/out/mscpq
-}
-the_library() {
-    what='the library' minutes='5 minutes on four processors, up to 10'
-    words=lib crate=$top/crates/mscp_c built=$top/crates/mscp_c/out/libmscp_c.a kept=$top/out/libmscp
-}
+# Who reads this file sets `top`, the folder of the project, `name`, that of the script, and `nothing`, what it doesn't
+# do where a build failed. It ends with 3 then, and with 128 and the signal's number where a signal ended a build.
 
 say() { printf '%s: %s\n' "$name" "$*" >&2; }
 
@@ -37,20 +23,89 @@ refuse() {
     exit 3
 }
 
-# Prints the stamp of what stands here now.
+# The line that moves on a terminal.
+draw() { [ ! -t 2 ] || printf '\r\033[K%s' "$1" >&2; }
+
+# An older one can't wait for a process whose output it reads.
+((BASH_VERSINFO[0] * 100 + BASH_VERSINFO[1] >= 404)) || refuse 'bash 4.4 or a later one is wanted'
+
+# Becomes these words, and ends where this shell ends, however it does: the kernel sees to that. Where this shell has
+# ended before the kernel knew of it, the words aren't run.
+tied() { exec setpriv --pdeathsig KILL sh -c '[ "$PPID" -eq "$0" ] && exec "$@"' "$$" "$@"; }
+
+# Removes these folders. What rt started may still write there for a moment after rt has ended.
+remove() {
+    for _ in {1..9}; do
+        ! rm -rf -- "$@" 2>/dev/null || break
+        sleep 0.2
+    done
+}
+
+# Ends by this signal, as if it had not been caught, with all that was started. Bash itself never ends by QUIT.
+interrupted() {
+    trap '' HUP INT PIPE QUIT TERM
+    kill -KILL -- "$!" "-$!" 2>/dev/null
+    wait "$!" 2>/dev/null
+    draw ''
+    remove "$room"
+    trap - "$1"
+    kill -s "$1" "$$"
+    exit 131
+}
+
+# Waits for what was started last, which is tied and a session of its own, and sets `status` to how it ended. Its room
+# is gone then. Signals are caught only here, where no $( ) is expanded: bash 5.2 can lose one there.
+attend() {
+    local signal
+    for signal in HUP INT PIPE QUIT TERM; do trap "interrupted $signal" "$signal"; done
+    wait "$!"
+    status=$?
+    trap - HUP INT PIPE QUIT TERM
+    [ ! -e "$room" ] || remove "$room"
+}
+
+# What is built: for people, by which words of rt in which crate, to which file, and its name where it is kept. The
+# status of rt run may be the program's, so that gets an input on which it ends with 0.
+the_program() {
+    what='the program' minutes='5 minutes on four processors, up to 15'
+    words=run crate=$top/crates/mscpq built=$crate/out/mscpq kept=$top/out/mscpq
+    input=$crate/stdin
+}
+the_library() {
+    what='the library' minutes='5 minutes on four processors, up to 10'
+    words=lib crate=$top/crates/mscp_c built=$crate/out/libmscp_c.a kept=$top/out/libmscp
+    input=/dev/null
+}
+
+# Proves and builds the program or the library, where that isn't done yet from the sources that stand here now. It is
+# then the file $kept-$wanted.
+provide() {
+    local told status
+    "$1"
+    room=$top/out/building.$$.$RANDOM # what is written before it can be trusted, also by rt
+    exec {told}< <(tied setsid "$BASH" "$top/building.bash" "$1" "$top" "$name" "$nothing" "$room" </dev/null)
+    attend
+    [ "$status" -eq 0 ] || exit $((status > 128 ? status : 3))
+    read -r wanted <&"$told"
+    exec {told}<&-
+}
+
+# All that follows is the build's.
+
+# Prints the stamp of what stands here now. A link that leads nowhere, as some editors leave one, is no source.
 stamp() (
     set -o pipefail
     export LC_ALL=C
     cd -- "$top" || exit
     {
         rt version &&
-            find crates.txt HANDLES crates -regex 'crates/[^/]*/out' -prune -o '(' -type f -o -type l ')' -print0 |
-            sort -z | xargs -0 sha256sum --
+            find crates.txt HANDLES crates -regex 'crates/[^/]*/out' -prune -o \
+                '(' -type f -o -type l ! -xtype l ')' -print0 | sort -z | xargs -0 sha256sum --
     } | sha256sum | cut -d ' ' -f 1
 )
 
-# Prints what tells what rt built from the next one. A program stays as it was where rt has nothing to do, also as a file;
-# a library is written anew, of the same bytes.
+# Prints what tells what rt built from the next one. A program stays as it was where rt has nothing to do, also as a
+# file; a library is written anew, of the same bytes.
 identity() {
     case $built in
         *.a) sha256sum -- "$built" ;;
@@ -63,17 +118,14 @@ elapsed() { printf '%d:%02d' $((SECONDS / 60)) $((SECONDS % 60)); }
 
 # Says what rt is at, where no line on a terminal does.
 begin() {
-    doing=$1 checked=''
+    doing=$1 checked='' # and how many functions of that crate are checked
     [ -t 2 ] || say "$doing, after $(elapsed)"
 }
 
 # Prints which of the crates of crates.txt this is, if it is one of them.
 place() {
-    local names number
-    mapfile -t names < <(sed -nE 's/^([[:alnum:]_]+).*:.*/\1/p' "$top/crates.txt")
-    for number in "${!names[@]}"; do
-        [ "${names[number]}" != "$1" ] || printf ', crate %d of %d' $((number + 1)) ${#names[@]}
-    done
+    awk -F '[^A-Za-z0-9_]' -v name="$1" '/^[A-Za-z0-9_]+.*:/ { n++; if ($1 == name) place = n }
+        END { if (place) printf ", crate %d of %d", place, n }' "$top/crates.txt"
 }
 
 # Takes a line of rt's: where rt is, from the words that it has for that, and else what a failure is to show.
@@ -81,137 +133,81 @@ hear() {
     case $1 in
         'rt: chose --jobs '*' for '*) begin "proving ${1##* }$(place "${1##* }")" ;;
         'rt: waiting for another rt '*) begin 'waiting for another rt' ;;
-        'so far: '*' functions checked'*)
-            checked=${1#so far: }
-            checked=", ${checked%% functions checked*} functions"
-            ;;
+        'so far: '*' functions checked'*) checked=${1#so far: } checked=", ${checked%% functions checked*} functions" ;;
         *': proved' | *': modules loaded='*) ;;
-        *) said+=("$1") ;;
+        *) said+=$1$'\n' ;;
     esac
-}
-
-# The line that moves on a terminal, drawn anew where it says something else.
-draw() {
-    [ -t 2 ] && [ "$1" != "$drawn" ] || return 0
-    printf '\r\033[K%s' "$1" >&2
-    drawn=$1
 }
 
 # Hears rt to its end. It wakes each second, so that the time moves.
 follow() {
     local piece line='' status=0
     while [ "$status" -eq 0 ] || [ "$status" -gt 128 ]; do
-        IFS= read -r -t 1 -u "$said_by_rt" piece
+        IFS= read -r -t 1 piece
         status=$?
         line+=$piece
-        if [ "$status" -eq 0 ]; then
-            hear "$line"
-            line=''
-        fi
-        draw "mscpq: $doing$checked, after $(elapsed)"
+        [ "$status" -ne 0 ] || { hear "$line" && line=''; }
+        draw "$name: $doing$checked, after $(elapsed)"
     done
     [ -z "$line" ] || hear "$line"
     draw ''
 }
 
-# Proves and builds by rt, or says what rt said and ends. Which status of rt run is rt's own can't be told from the
-# program's, so the program gets an input on which it ends with 0: then any other status means that something wasn't
-# proved or built. rt is a session of its own, so that all of it can be stopped, and it ends if its caller is killed.
+# Proves and builds by rt, or says what rt said and ends.
 prove() {
-    local input=/dev/null
-    [ "$words" != run ] || input=$crate/stdin
     local status
-    said=() doing='reading the sources' checked=''
-    exec {said_by_rt}< <(
-        cd -- "$crate" && exec setsid setpriv --pdeathsig KILL env -u RT_ALLOW_C -u RT_BACKEND -u RT_SECONDS \
-            PYTHONUNBUFFERED=1 TMPDIR="$room" rt "$words" <"$input" 2>&1 >/dev/null
-    )
-    rt=$!
-    follow
-    exec {said_by_rt}<&-
-    wait "$rt"
+    said='' doing='reading the sources' checked=''
+    follow < <(cd -- "$crate" && tied env -u RT_ALLOW_C -u RT_BACKEND -u RT_SECONDS PYTHONUNBUFFERED=1 TMPDIR="$room" \
+        rt "$words" <"$input" 2>&1 {lock}>&-)
+    wait "$!"
     status=$?
-    rt=''
     [ "$status" -ne 0 ] || return 0
-    [ ${#said[@]} -eq 0 ] || printf '%s\n' "${said[@]}" >&2
+    printf %s "$said" >&2
     refuse "what stands here isn't proved and built, as rt ended with status $status"
 }
 
 # Keeps what rt built, if that and the sources are still the same after it was copied.
 keep() {
-    if ! cp -- "$built" "$room/copy" || ! sync -- "$room/copy"; then
-        refuse "what was built can't be copied"
-    fi
-    [ "$(stamp)" = "$wanted" ] && [ "$(identity)" = "$1" ] && mv -T -- "$room/copy" "$kept-$wanted"
+    cp -- "$built" "$room/copy" && sync -- "$room/copy" || refuse "what was built can't be copied"
+    [ "$(stamp)" = "$wanted" ] && [ "$(identity)" = "$1" ] || return 0
+    mv -T -- "$room/copy" "$kept-$wanted" || refuse "$kept-$wanted can't be written"
 }
 
-# Removes what builds that were killed left, and what was kept of other sources.
-tidy() {
-    local old
-    for old in "$top"/out/building.*; do
-        [ -e "/proc/${old##*.}" ] || rm -rf -- "$old"
-    done
-    find "$top/out" -maxdepth 1 -name "${kept##*/}-*" ! -name "${kept##*/}-$wanted" -delete
+# Tells whether it is kept what rt would build of what stands here.
+is_kept() {
+    wanted=$(stamp) || refuse "what stands here can't be read"
+    [ -e "$kept-$wanted" ]
 }
 
-# Runs rt until it leaves what it built as it was. That last run, of a few seconds, proved nothing, so it was built of what
-# stands here: also where a source was changed in the meantime, or changed and changed back.
+# Runs rt until it leaves what it built as it was. That last run, of a few seconds, proved nothing, so it was built of
+# what stands here: also where a source was changed in the meantime, or changed and changed back. What was kept of
+# other sources goes then.
 build() {
-    local before='' now round
-    say "proving and building $what: from nothing about $minutes on busy ones"
-    mkdir -p -- "$room" || refuse "$top/out can't be written"
+    local before='' now round=0
     SECONDS=0
-    for round in {1..9}; do
+    say "proving and building $what: from nothing about $minutes on busy ones"
+    mkdir -p -- "$top/out" && exec {lock}>>"$top/out/lock" || refuse "$top/out can't be written"
+    flock -n "$lock" || { say 'waiting for another build' && flock "$lock"; } || refuse "$top/out/lock can't be locked"
+    # Nobody else builds now, so a room that is there was left by a build that was killed.
+    remove "$top"/out/building.* && mkdir -- "$room" || refuse "$top/out can't be written"
+    until is_kept; do
+        round=$((round + 1))
+        [ "$round" -le 9 ] || refuse 'something changed during each of 9 builds'
         [ "$round" -le 2 ] || say "something changed in the meantime: once more, after $(elapsed)"
-        wanted=$(stamp) || refuse "what stands here can't be read"
         prove
-        now=$(identity) || refuse "rt built nothing"
-        if [ "$now" = "$before" ] && keep "$now"; then
-            say "proved and built, after $(elapsed)"
-            stop
-            tidy
-            return
-        fi
+        now=$(identity) || refuse 'rt built nothing'
+        [ "$now" != "$before" ] || keep "$now"
         before=$now
     done
-    refuse "something changed during each of $round builds"
+    find "$top/out" -maxdepth 1 -name "${kept##*/}-*" ! -name "${kept##*/}-$wanted" -delete
+    say "proved and built, after $(elapsed)"
 }
 
-# Stops rt, if it runs, and removes what was written for a while. Where rt ends, however it does, it ends what it
-# started, which may still write for a moment.
-stop() {
-    if [ -n "$rt" ]; then
-        kill -KILL -- "-$rt" "$rt" 2>/dev/null
-        wait "$rt" 2>/dev/null
-        rt=''
-    fi
-    [ -z "$unfinished" ] || rm -f -- "$unfinished"
-    for _ in {1..9}; do
-        ! rm -rf -- "$room" 2>/dev/null || break
-        sleep 0.2
-    done
-}
-
-# Ends by the signal that came, as if it had not been caught.
-interrupted() {
-    trap '' HUP INT PIPE QUIT TERM
-    draw ''
-    stop
-    trap - EXIT "$1"
-    kill -s "$1" "$$"
-}
-
-trap stop EXIT
-trap 'interrupted HUP' HUP
-trap 'interrupted INT' INT
-trap 'interrupted PIPE' PIPE
-trap 'interrupted QUIT' QUIT
-trap 'interrupted TERM' TERM
-
-# Proves and builds the program or the library, where that isn't done yet from the sources that stand here now.
-provide() {
+if [ "$0" = "${BASH_SOURCE[0]}" ]; then
+    set -u
+    top=$2 name=$3 nothing=$4 room=$5
     "$1"
     command -v rt >/dev/null || refuse "the Rattle kit's command rt is wanted on the path"
-    wanted=$(stamp) || refuse "what stands here can't be read"
-    [ -e "$kept-$wanted" ] || build
-}
+    is_kept || build
+    echo "$wanted"
+fi

@@ -33,7 +33,7 @@ make_room() {
 
 # A process has ended, whether or not its parent has asked for its status.
 is_gone() {
-    for _ in {1..40}; do
+    for _ in {1..200}; do
         grep -q '^State:[[:space:]]*[^ZX[:space:]]' "/proc/$1/status" 2>/dev/null || return 0
         sleep 0.05
     done
