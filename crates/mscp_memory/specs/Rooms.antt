@@ -1,10 +1,20 @@
 -- What is room, and what memory is.
 use base.Fml.{Fml}
+use denote.Param.{layout}
+use prog.Memory as machine
 use Rattle.std.specs.Prelude.{ℕ, ◌%◌, Bool, true, false, nat_eq, nat_lt, not, if◌then◌else◌, Option, Some, None}
+use Rattle.std.specs.Borrow.{RattleType}
 use Rattle.mscp_memory.specs.declared.fault.RoomFault.{RoomFault}
 use Rattle.mscp_memory.specs.declared.head.Head.{Head}
 use Rattle.mscp_memory.specs.declared.head.Kind.{Kind}
 use Rattle.mscp_memory.specs.declared.fault.RoomFault.TheVariants.{Made, NoHandle, Null, Misaligned, Small}
+
+-- how many bytes a value of a type takes, and what its address is a multiple of
+abbrev pub size_of : RattleType → ℕ
+size_of T = machine.size (layout T)
+
+abbrev pub align_of : RattleType → ℕ
+align_of T = machine.align (layout T)
 
 -- the first where the test is true, and otherwise the second
 abbrev pub one_of : Bool → Fml → Fml → Fml
