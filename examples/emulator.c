@@ -251,7 +251,8 @@ bool emulator_turn(struct emulator *emulator)
 
 void emulator_reset(struct emulator *emulator)
 {
-    mscp_reset(emulator->mscp);
+    if (mscp_reset(emulator->mscp) != MSCP_DONE)
+        abort(); /* there is a controller, so this doesn't come */
     emulator->buffers_count = 0;
     emulator->commands_count = 0;
     emulator->ends_count = 0;
