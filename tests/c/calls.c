@@ -1,5 +1,5 @@
-/* Each call of mscp.h, with good input and with bad; tests/c/memory.c has those about memory. Prints what is wrong, and ends
- * with 1 where something is. */
+/* Each call of mscp.h, with good input and with bad; tests/c/memory.c has those about memory. Prints what is wrong, and
+ * ends with 1 where something is. */
 #include "trying.h"
 
 static const struct mscp_unit UNIT = {1, 1000, 0, 1, 0, 10, 2, 1};

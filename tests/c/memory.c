@@ -1,5 +1,5 @@
-/* Memory and handles of mscp.h: what is room, who is in it, and where it goes. Prints what is wrong, and ends with 1 where
- * something is. */
+/* Memory and handles of mscp.h: what is room, who is in it, and where it goes. Prints what is wrong, and ends with 1
+ * where something is. */
 #include "trying.h"
 #include <stdbool.h>
 

@@ -1,10 +1,9 @@
-# Prints a C file that compiles only where mscp.h says what the sources say: each struct with its fields, their places and
-# types; each call with its parameters; and the numbers of statuses, pickers, opcodes, marks and of the version.
+# Prints a C file that compiles only where mscp.h says what the sources say: each struct with its fields, their places
+# and types; each call with its parameters; and the numbers of statuses, pickers, opcodes, marks and of the version.
+# tests/library names the sources.
 #
-#     awk -f tests/c/mirror.awk VERSION crates/mscp_c/src/*.rt CLASS CONTROLLER_HANDLE CONTROLLER_MARKS HOST_HANDLE HOST_MARKS
-#
-# A call's handle is const where the contract has the clause `same`. Types are compared by _Generic, and a field more in the
-# header is one without an initializer, of which the compiler warns; so is an enumerator more in a switch without it.
+# A call's handle is const where the contract has the clause `same`. Types are compared by _Generic. A field that only
+# the header has is one without an initializer, of which the compiler warns, as of an enumerator that a switch lacks.
 
 BEGIN {
     split("SentOut sent PacketOut packet UpcomingOut upcoming ReportOut report FigureOut waiting NewsOut news " \
@@ -15,8 +14,8 @@ BEGIN {
     for (i = 1; i in words; i += 2)
         type_of[words[i]] = words[i + 1]
     split("Abort ABORT Status GET_COMMAND_STATUS UnitStatus GET_UNIT_STATUS SetController " \
-        "SET_CONTROLLER_CHARACTERISTICS Available AVAILABLE Online ONLINE SetUnit SET_UNIT_CHARACTERISTICS Access ACCESS " \
-        "Erase ERASE Compare COMPARE_HOST_DATA Read READ Write WRITE", words, " ")
+        "SET_CONTROLLER_CHARACTERISTICS Available AVAILABLE Online ONLINE SetUnit SET_UNIT_CHARACTERISTICS " \
+        "Access ACCESS Erase ERASE Compare COMPARE_HOST_DATA Read READ Write WRITE", words, " ")
     for (i = 1; i in words; i += 2)
         opcode_of[words[i]] = words[i + 1]
     print "#include \"mscp.h\""
@@ -95,7 +94,8 @@ in_struct != "" && /^    pub(\(crate\))? [a-z_]+: / {
         zeros = zeros "0, "
     }
     checks = checks "\nIS(&((" in_struct " *)0)->" field ", " pointer ");" \
-        "\n_Static_assert(offsetof(" in_struct ", " field ") == offsetof(" mirror ", " field "), \"" in_struct "." field "\");"
+        "\n_Static_assert(offsetof(" in_struct ", " field ") == offsetof(" mirror ", " field "), " \
+        "\"" in_struct "." field "\");"
 }
 
 # ---- calls
@@ -153,7 +153,8 @@ in_call { call = call $0 " " }
 
 END {
     for (enum in cases)
-        print "int is_" enum "(enum mscp_" enum " it)\n{\n    switch (it) {\n   " cases[enum] "\n        return 1;\n    }\n    return 0;\n}"
+        print "int is_" enum "(enum mscp_" enum " it)\n{\n    switch (it) {\n   " cases[enum] \
+            "\n        return 1;\n    }\n    return 0;\n}"
     if (structs != 10 || calls < 23 || marks != 2 || length(cases["picker"]) == 0 || length(cases["opcode"]) == 0) {
         print "mirror.awk: " structs " structs, " calls " calls, " marks " marks" >"/dev/stderr"
         exit 1

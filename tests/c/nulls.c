@@ -1,6 +1,6 @@
-/* The inline calls of mscp.h against stand-ins for the library's own, which want a pointer that isn't NULL. With a length of
- * 0 they get one, also where the caller has none, and else just the caller's. Prints what is wrong, and ends with 1 where
- * something is. */
+/* The inline calls of mscp.h against stand-ins for the library's own, which want a pointer that isn't NULL. With a
+ * length of 0 they get one, also where the caller has none, and else just the caller's. Prints what is wrong, and ends
+ * with 1 where something is. */
 #define mscp_init_at init_seen
 #define mscp_send_at send_seen
 #define mscp_look_at look_seen

@@ -11,8 +11,8 @@ enum {
     RECEIVE, HOST_BALANCE, INIT, HOST_INIT, CALLS
 };
 static const char *const NAMES[CALLS] = {
-    "nothing", "send", "begin", "finish", "step", "take", "look", "figure", "balance", "waiting", "untaken", "is_online",
-    "reset", "host_submit", "host_poll", "host_receive", "host_balance", "init", "host_init",
+    "nothing", "send", "begin", "finish", "step", "take", "look", "figure", "balance", "waiting", "untaken",
+    "is_online", "reset", "host_submit", "host_poll", "host_receive", "host_balance", "init", "host_init",
 };
 
 /* Aligned for anything. */

@@ -1,5 +1,5 @@
-/* The texts of statuses: each status has one of its own, and another number has the text for unknown ones. With the file that
- * mirror.awk prints. Prints what is wrong, and ends with 1 where something is. */
+/* The texts of statuses: each status has one of its own, and another number has the text for unknown ones. With the file
+ * that mirror.awk prints. Prints what is wrong, and ends with 1 where something is. */
 #include "trying.h"
 
 int is_status(enum mscp_status);

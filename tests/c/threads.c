@@ -1,5 +1,5 @@
-/* One controller in the hands of several threads, which take turns under a lock. Each sends READs, serves whatever comes next,
- * and takes ends, whosesoever they are. Prints what is wrong, and ends with 1 where something is. */
+/* One controller in the hands of several threads, which take turns under a lock. Each sends READs, serves whatever comes
+ * next, and takes ends, whosesoever they are. Prints what is wrong, and ends with 1 where something is. */
 #include "trying.h"
 #include <pthread.h>
 

@@ -61,13 +61,14 @@ none : (us : List UnitIn) → map unit_given us ≡ [] → Err (faults.Units Emp
 none [] e = refl
 none (u ∷ us) e = cc
 
-pub refused : (us : List UnitIn) (xs : List Shape) (r : Result (List Shape) UnitsFault) (fault : UnitsFault) → r ≡ Err fault
-    → xs ≡ map unit_given us → length us ≤ 16 → first_fault us ≡ None
+pub refused : (us : List UnitIn) (xs : List Shape) (r : Result (List Shape) UnitsFault) (fault : UnitsFault)
+    → r ≡ Err fault → xs ≡ map unit_given us → length us ≤ 16 → first_fault us ≡ None
     → ((r ≡ Err TooMany) ↔ (16 < length xs))
     → ((r ≡ Err NotAscending) ↔ ((length xs ≤ 16) × ¬ NumbersRise xs))
     → ((r ≡ Err Empty) ↔ (xs ≡ []))
     → Err (faults.Units fault) ≡ units_answer us
 refused us xs r TooMany e x l n many falls empty =
-    let m : 16 < length (map unit_given us) = subst (λ ys. 16 < length ys) x (many.0 e) in absurd (omega (arith, length-map us unit_given))
+    let m : 16 < length (map unit_given us) = subst (λ ys. 16 < length ys) x (many.0 e) in
+    absurd (omega (arith, length-map us unit_given))
 refused us xs r NotAscending e x l n many falls empty = fall us l n (subst (λ ys. ¬ NumbersRise ys) x (falls.0 e).1)
 refused us xs r Empty e x l n many falls empty = none us (sym x ∙ empty.0 e)

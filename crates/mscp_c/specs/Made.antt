@@ -26,8 +26,8 @@ abbrev pub init_answer : Option InitFault → Result (Unit {0}) InitFault
 init_answer (Some fault) = Err fault
 init_answer None = Ok tt
 
--- the handle then: a controller of these limits, units and policy is in the room, to which nothing came so far. Where the
--- picker's number is none there is a fault
+-- the handle then: a controller of these limits, units and policy is in the room, to which nothing came so far. Where
+-- the picker's number is none there is a fault
 abbrev pub made_unless : Option InitFault → Handle → Limits → List UnitIn → ℕ → Handle
 made_unless (Some fault) h l us picker = h
 made_unless None h l us picker = placed h (fresh (settings_given l us) (unwrap_or (policy_given picker) Oldest))

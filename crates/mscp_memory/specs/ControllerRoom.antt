@@ -30,4 +30,5 @@ is_made_of mark = nat_eq mark MADE
 
 -- why an address, a length in bytes and a mark say that there is no room for one, if they do
 abbrev pub fault_of : ℕ → ℕ → ℕ → Option RoomFault
-fault_of address length mark = fault_unless (is_made_of mark) (nat_eq mark ROOM) (place_fault address length row_size row_alignment)
+fault_of address length mark =
+    fault_unless (is_made_of mark) (nat_eq mark ROOM) (place_fault address length row_size row_alignment)

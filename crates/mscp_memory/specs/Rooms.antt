@@ -16,7 +16,7 @@ size_of T = machine.size (layout T)
 abbrev pub align_of : RattleType → ℕ
 align_of T = machine.align (layout T)
 
--- the first where the test is true, and otherwise the second
+-- what is owned: by the first formula where the test is true, and otherwise by the second
 abbrev pub one_of : Bool → Fml → Fml → Fml
 one_of true F G = F
 one_of false F G = G
@@ -34,4 +34,6 @@ fault_unless made room fault = if made then Some Made else (if room then fault e
 
 -- why memory of which this was said is no room for a value of this kind, if it isn't
 abbrev pub kind_fault : Head → Kind → Option RoomFault
-kind_fault head kind = fault_unless (nat_eq head.mark kind.made) (nat_eq head.mark kind.room) (place_fault head.address head.length kind.size kind.align)
+kind_fault head kind =
+    fault_unless (nat_eq head.mark kind.made) (nat_eq head.mark kind.room)
+    (place_fault head.address head.length kind.size kind.align)
