@@ -9,6 +9,7 @@
  *   that is really there and really yours. After that only the calls write the handle and its memory. Two handles are
  *   never over one memory, and no copy of a handle is used beside it.
  * - Memory that moves, as by realloc or to a file and back, moves whole, and mscp_moved says so before the next call.
+ *   Only a library of the same version knows what lies in it.
  * - One call at a time on a handle.
  *
  * Not proved, but tested: a handle may go from one thread to another, if a lock lets one call at a time through.

@@ -131,6 +131,8 @@ static void messages_that_are_refused(void)
     is("a second", mscp_send(mscp, command(1, MSCP_READ, 512, 0), 32, &sent), MSCP_QUEUED);
     is("a third", mscp_send(mscp, command(2, MSCP_READ, 512, 0), 32, &sent), MSCP_QUEUED);
     is("balance", mscp_balance(mscp), 1);
+    is("waiting", mscp_waiting(mscp), 2);
+    is("untaken", mscp_untaken(mscp), 1);
     is("look with less room", mscp_look(mscp, waiting, 1), 2);
     is("looked", waiting[0].reference == 1 && waiting[0].figure == 17 && waiting[1].reference == 7, 1);
     sent.reference = 7;
@@ -139,8 +141,6 @@ static void messages_that_are_refused(void)
     is("a poll", mscp_send(mscp, command(3, MSCP_GET_COMMAND_STATUS, 2, 0), 16, &sent), MSCP_ANSWERED);
     is("none is left", mscp_send(mscp, command(4, MSCP_GET_COMMAND_STATUS, 2, 0), 16, &sent), MSCP_NO_CREDIT);
     is("balance", mscp_balance(mscp), 0);
-    is("waiting", mscp_waiting(mscp), 2);
-    is("untaken", mscp_untaken(mscp), 2);
     is("reset", mscp_reset(mscp), MSCP_DONE);
     is("balance after it", mscp_balance(mscp), 4);
     is("waiting after it", mscp_waiting(mscp) + mscp_untaken(mscp), 0);
