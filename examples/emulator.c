@@ -1,7 +1,7 @@
 /* emulator.c: a disk controller over a disk image, a file of blocks of 512 bytes.
  *
- *     cc emulator.c $(pkg-config --cflags --libs mscp) -o emulator
- *     ./emulator IMAGE      (this writes blocks of the image)
+ *     cc emulator.c $(pkg-config --cflags --libs mscp) -o emulator      (with emulator.h beside it)
+ *     ./emulator IMAGE                                                  (this writes blocks of the image)
  *
  * The first part is the emulator, which examples/driver.c uses too. The second, main and what it calls, is a host that
  * tries it: it writes blocks in an order that the sweep chooses, reads them back, polls after each step, and aborts a
@@ -237,21 +237,28 @@ bool emulator_finish(struct emulator *emulator, struct job *job)
     return true;
 }
 
-bool emulator_turn(struct emulator *emulator)
+unsigned emulator_serve(struct emulator *emulator, unsigned most)
 {
     struct job job;
-    bool begun;
+    unsigned blocks = 0;
     emulator_receive(emulator);
-    begun = emulator_begin(emulator, &job);
-    if (begun)
+    while (blocks < most && emulator_begin(emulator, &job)) {
         emulator_finish(emulator, &job);
+        blocks++;
+    }
     emulator_deliver(emulator);
-    return begun;
+    return blocks;
+}
+
+bool emulator_turn(struct emulator *emulator)
+{
+    return emulator_serve(emulator, 1) > 0;
 }
 
 void emulator_reset(struct emulator *emulator)
 {
-    mscp_reset(emulator->mscp);
+    if (mscp_reset(emulator->mscp) != MSCP_DONE)
+        abort(); /* there is a controller, so this doesn't come */
     emulator->buffers_count = 0;
     emulator->commands_count = 0;
     emulator->ends_count = 0;

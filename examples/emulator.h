@@ -62,7 +62,10 @@ void emulator_deliver(struct emulator *emulator);
 bool emulator_begin(struct emulator *emulator, struct job *job);
 bool emulator_finish(struct emulator *emulator, struct job *job);
 
-/* All of it once: commands in, a block, ends out. Whether there was a block. */
+/* All of it: commands in, so many blocks at most, ends out. How many blocks there were. */
+unsigned emulator_serve(struct emulator *emulator, unsigned most);
+
+/* The same with one block. Whether there was one. */
 bool emulator_turn(struct emulator *emulator);
 
 /* The host resets the port. */

@@ -3,25 +3,42 @@
  * A controller lies in memory of yours. No call takes memory, waits, or keeps a pointer. What each answers is proved:
  * docs/PROVED.md, in the sources of the library, says how, and what the proof asks of you:
  *
- * - No pointer that you pass is NULL, not even with a length of 0, and each points to as much as its type or the length
- *   beside it says. Those of one call don't overlap.
- * - A handle is made by mscp_in_memory or mscp_over (of a host by mscp_host_in_memory or mscp_host_over), over memory that
- *   is really there and really yours. After that only the calls write the handle and its memory. Two handles are never
- *   over one memory, and no copy of a handle is used beside it.
- * - One call at a time on a handle, and a handle stays on its thread.
+ * - No pointer that you pass is NULL, save that of a list or of bytes with a length of 0. Each points to as much as its
+ *   type or the length beside it says. Those of one call don't overlap.
+ * - A handle is made by mscp_in_memory or mscp_over (of a host by mscp_host_in_memory or mscp_host_over), over memory
+ *   that is really there and really yours. After that only the calls write the handle and its memory. Two handles are
+ *   never over one memory, and no copy of a handle is used beside it.
+ * - Memory that moves, as by realloc or to a file and back, moves whole, and mscp_moved says so before the next call.
+ *   Only a library of the same version knows what lies in it.
+ * - One call at a time on a handle.
+ *
+ * Not proved, but tested: a handle may go from one thread to another, if a lock lets one call at a time through.
  *
  * A fault changes nothing: not the handle, not its memory, nor what an out-pointer points to. Nor do MSCP_NOTHING and
  * MSCP_BUSY write what an out-pointer points to.
  *
- * Numbers are the machine's own. Messages and ends are bytes, as the manual (DEC AA-L619A-TK) has them, and docs/FORMATS.md
- * in the sources. */
+ * Numbers are the machine's own. Messages and ends are bytes, as the manual (DEC AA-L619A-TK) has them, and
+ * docs/FORMATS.md in the sources. */
 #ifndef MSCP_H
 #define MSCP_H
+#if !defined(__x86_64__) || !defined(__LP64__) || !defined(__ELF__)
+#error "mscp.h: the library is for x86-64 with numbers and calls as on Linux, and for no other machine"
+#endif
 #include <stddef.h>
 #include <stdint.h>
 #ifdef __cplusplus
 extern "C" {
 #endif
+#ifdef __GNUC__
+#define MSCP_MUST_USE __attribute__((warn_unused_result)) /* a status that is passed over may be a fault */
+#else
+#define MSCP_MUST_USE
+#endif
+
+/* The version of this header, 0.5.0: a byte for each of the three numbers. Where mscp_version answers another number
+ * the library is another one's. */
+#define MSCP_VERSION UINT32_C(0x000500)
+uint32_t mscp_version(void);
 
 #define MSCP_CREDITS_MAX 64u  /* commands that wait and ends that weren't taken, together */
 #define MSCP_UNITS_MAX 16u    /* units of a controller */
@@ -50,12 +67,12 @@ enum mscp_status {
     MSCP_LAST_CREDIT = -4,  /* one is free, which is kept for commands that are answered at once, as a poll */
     MSCP_DOUBLED = -5,      /* the reference number is outstanding */
     MSCP_STALE = -6,        /* mscp_finish: the command of that number isn't begun, or not any more */
-    MSCP_BAD_STATUS = -7,   /* mscp_finish, mscp_step: the block's is neither 0 nor one whose low five bits are 5 to 31 */
+    MSCP_BAD_STATUS = -7,   /* mscp_finish, mscp_step: the block's is neither 0 nor one of low five bits 5 to 31 */
     MSCP_UNREADABLE = -8,   /* mscp_host_receive: the bytes are no end */
     MSCP_UNKNOWN = -9,      /* mscp_host_receive: the end of no outstanding command */
 
     MSCP_NOT_MADE = -10,    /* nothing was made in the handle's memory: init it first */
-    MSCP_MADE = -11,        /* an init, where something was made already: reset it instead */
+    MSCP_MADE = -11,        /* an init, where something is made: reset a controller, give a host a new handle */
     MSCP_NO_HANDLE = -12,   /* an init of what is no handle */
     MSCP_NO_MEMORY = -13,   /* an init: the memory is NULL */
     MSCP_MISALIGNED = -14,  /* an init: its address isn't a multiple of the alignment */
@@ -118,7 +135,8 @@ struct mscp_limits {
     uint16_t timeout; /* in seconds, which the host is told: 1 to 255 */
 };
 
-/* A handle on memory of yours: where it is, and what is in it. Nothing in it is for you. */
+/* A handle on memory of yours: where it is, and what is in it. Nothing in it is for you, save where the memory moves:
+ * see mscp_moved. */
 struct mscp {
     void *at;
     uintptr_t address;
@@ -156,7 +174,7 @@ struct mscp_upcoming {
     uint32_t weight;    /* the steps that it takes in all */
     uint16_t unit;
     uint8_t opcode;
-    uint8_t touches;    /* whether the step touches a block: a transfer of 0 bytes touches its first, but moves nothing */
+    uint8_t touches;    /* whether the step touches a block: with 0 bytes it touches the first, but moves nothing */
 };
 
 /* What a step did. */
@@ -177,7 +195,8 @@ struct mscp_waiting {
     uint32_t figure; /* how many steps it may still wait, at most */
 };
 
-/* What a received end says: of MSCP_ENDED all but the figure, of MSCP_FIRST and MSCP_PROGRESS the figure. The rest is 0. */
+/* What a received end says: of MSCP_ENDED all but the figure, of MSCP_FIRST and MSCP_PROGRESS the figure. The rest is
+ * 0. */
 struct mscp_news {
     uint32_t figure;    /* of the polled command, in steps */
     uint32_t reference; /* of the command that ended */
@@ -189,7 +208,7 @@ struct mscp_news {
 
 /* ---- memory */
 
-/* How many bytes a controller takes, and what its address is a multiple of. malloc aligns so. */
+/* How many bytes a controller or a host takes, and what its address is a multiple of. malloc aligns so. */
 size_t mscp_size(void);
 size_t mscp_align(void);
 size_t mscp_host_size(void);
@@ -221,7 +240,8 @@ static inline struct mscp_host mscp_host_over(void *memory, size_t length)
 
 /* The same with the handle at the head of the memory, whose own pointer then serves each call. A controller takes
  * MSCP_HEAD + mscp_size() bytes so. Where there isn't even room for a handle this answers one on no memory, for which
- * mscp_init says why: that one isn't in your memory, so free the memory and never what this answers. */
+ * mscp_init says why: that one isn't in your memory, so free the memory and never what this answers. A controller that
+ * is in the memory already is forgotten: of what lies there nothing is known but that it is room. */
 static inline struct mscp *mscp_in_memory(void *memory, size_t length)
 {
     static struct mscp null = {NULL, 0, 0, MSCP_ROOM};
@@ -251,6 +271,34 @@ static inline struct mscp_host *mscp_host_in_memory(void *memory, size_t length)
     return (struct mscp_host *)memory;
 }
 
+/* The memory with the handle at its head lies here now: whoever moved it calls this before any other call. Its
+ * alignment is the same. A controller and a host have no pointer into themselves, and the drive's work goes on:
+ * mscp_begin tells it again. Of a handle of mscp_over the first two fields say where its memory is: set them, and no
+ * other. */
+static inline struct mscp *mscp_moved(void *memory)
+{
+    struct mscp *handle = (struct mscp *)memory;
+    handle->at = (char *)memory + MSCP_HEAD;
+    handle->address = (uintptr_t)handle->at;
+    return handle;
+}
+static inline struct mscp_host *mscp_host_moved(void *memory)
+{
+    struct mscp_host *handle = (struct mscp_host *)memory;
+    handle->at = (char *)memory + MSCP_HEAD;
+    handle->address = (uintptr_t)handle->at;
+    return handle;
+}
+
+/* The library's own form of five calls: their pointer to a list or to bytes is never NULL. In C call those without
+ * _at. */
+int32_t mscp_init_at(struct mscp *mscp, const struct mscp_limits *limits, const struct mscp_unit *units, size_t count,
+                     uint32_t picker);
+int32_t mscp_send_at(struct mscp *mscp, const uint8_t *message, size_t length, struct mscp_sent *sent);
+int32_t mscp_look_at(const struct mscp *mscp, struct mscp_waiting *list, size_t room);
+int32_t mscp_host_submit_at(struct mscp_host *host, const uint8_t *message, size_t length);
+int32_t mscp_host_receive_at(struct mscp_host *host, const uint8_t *bytes, size_t length, struct mscp_news *news);
+
 /* ---- the controller. Each call but mscp_init answers MSCP_NOT_MADE where there is none. */
 
 /* Makes a controller in the handle's memory: of these limits, of so many units in rising order of their numbers, served
@@ -258,64 +306,143 @@ static inline struct mscp_host *mscp_host_in_memory(void *memory, size_t length)
  * MSCP_BAD_PICKER, MSCP_MANY_UNITS, those of the first unit that has one (-21 to -24), MSCP_UNITS_FALL, MSCP_NO_UNITS,
  * those of the limits (-28 to -31). The controller is made on the stack, of which this takes some 23 KiB (no other call
  * takes over 2), and is moved into the memory. That may go at any time, without a call. */
-int32_t mscp_init(struct mscp *mscp, const struct mscp_limits *limits, const struct mscp_unit *units, size_t count,
-                  uint32_t picker);
+MSCP_MUST_USE
+static inline int32_t mscp_init(struct mscp *mscp, const struct mscp_limits *limits, const struct mscp_unit *units,
+                                size_t count, uint32_t picker)
+{
+    const struct mscp_unit none = {0, 0, 0, 0, 0, 0, 0, 0};
+    return mscp_init_at(mscp, limits, count == 0 ? &none : units, count, picker);
+}
 
 /* Forgets all that came, as a reset of the port does: the controller is as new, with its limits, units and picker. Ends
  * that weren't taken are gone. MSCP_DONE. */
-int32_t mscp_reset(struct mscp *mscp);
+MSCP_MUST_USE int32_t mscp_reset(struct mscp *mscp);
 
 /* Takes a message of the host in. MSCP_QUEUED or MSCP_ANSWERED, and then `sent` is filled; or the first that holds of
  * MSCP_SHORT, MSCP_LONG, MSCP_NO_CREDIT, MSCP_LAST_CREDIT and MSCP_DOUBLED. A message that names no valid command is no
  * fault: it gets an end that says why. */
-int32_t mscp_send(struct mscp *mscp, const uint8_t *message, size_t length, struct mscp_sent *sent);
+MSCP_MUST_USE
+static inline int32_t mscp_send(struct mscp *mscp, const uint8_t *message, size_t length, struct mscp_sent *sent)
+{
+    const uint8_t none = 0;
+    return mscp_send_at(mscp, length == 0 ? &none : message, length, sent);
+}
 
 /* Takes the oldest end that wasn't taken, which frees its credit. MSCP_DONE, or MSCP_NOTHING where there is none. */
-int32_t mscp_take(struct mscp *mscp, struct mscp_packet *end);
+MSCP_MUST_USE int32_t mscp_take(struct mscp *mscp, struct mscp_packet *end);
 
-/* What the next step serves. MSCP_DONE, or MSCP_NOTHING where no command waits. The choice is kept: until a step, an ABORT
- * of that command or a reset this answers the same. It changes nothing that any other call tells. */
-int32_t mscp_begin(struct mscp *mscp, struct mscp_upcoming *upcoming);
+/* What the next step serves. MSCP_DONE, or MSCP_NOTHING where no command waits. The choice is kept: until a step, an
+ * ABORT of that command or a reset this answers the same. It changes nothing that any other call tells. */
+MSCP_MUST_USE int32_t mscp_begin(struct mscp *mscp, struct mscp_upcoming *upcoming);
 
-/* The step of the command that is begun, if that has this reference number. Its block had this status: 0 for a good one, and
- * with another the command ends. MSCP_DONE, or the first that holds of MSCP_BAD_STATUS and MSCP_STALE (the command isn't
- * begun, or not any more). Have one block at a time in work: a command is known by its number alone. */
-int32_t mscp_finish(struct mscp *mscp, uint32_t reference, uint16_t status, struct mscp_report *report);
+/* The step of the command that is begun, if that has this reference number. Its block had this status: 0 for a good
+ * one, and with another the command ends. MSCP_DONE, or the first that holds of MSCP_BAD_STATUS and MSCP_STALE (the
+ * command isn't begun, or not any more). Have one block at a time in work: a command is known by its number alone. */
+MSCP_MUST_USE int32_t mscp_finish(struct mscp *mscp, uint32_t reference, uint16_t status, struct mscp_report *report);
 
-/* mscp_begin and mscp_finish in one: serves what was begun, or what the picker picks. MSCP_DONE, or the first that holds of
- * MSCP_BAD_STATUS and MSCP_NOTHING (no command waits). */
-int32_t mscp_step(struct mscp *mscp, uint16_t status, struct mscp_report *report);
+/* mscp_begin and mscp_finish in one: serves what was begun, or what the picker picks. MSCP_DONE, or the first that
+ * holds of MSCP_BAD_STATUS and MSCP_NOTHING (no command waits). */
+MSCP_MUST_USE int32_t mscp_step(struct mscp *mscp, uint16_t status, struct mscp_report *report);
 
 /* The figures of the waiting commands, oldest first, as many as there is room for. How many wait: 0 to 63. */
-int32_t mscp_look(struct mscp *mscp, struct mscp_waiting *list, size_t room);
+static inline int32_t mscp_look(const struct mscp *mscp, struct mscp_waiting *list, size_t room)
+{
+    struct mscp_waiting none = {0, 0};
+    return mscp_look_at(mscp, room == 0 ? &none : list, room);
+}
 
 /* How many steps the waiting command of this reference number may still wait, at most; 0 where none waits of it. */
-int64_t mscp_figure(struct mscp *mscp, uint32_t reference);
+int64_t mscp_figure(const struct mscp *mscp, uint32_t reference);
 
-/* How many credits are free: 0 to 64. */
-int64_t mscp_balance(struct mscp *mscp);
+/* How many commands wait: 0 to 63. How many ends weren't taken, and how many credits are free: 0 to 64. */
+int64_t mscp_waiting(const struct mscp *mscp);
+int64_t mscp_untaken(const struct mscp *mscp);
+int64_t mscp_balance(const struct mscp *mscp);
+
+/* Whether the unit of this number is online: 1, or 0 where it isn't, or isn't configured. */
+int32_t mscp_is_online(const struct mscp *mscp, uint16_t unit);
 
 /* ---- the host's end. Each call but mscp_host_init answers MSCP_NOT_MADE where there is none. */
 
-/* Makes a host in the handle's memory, with as many credits as its controller gives: 2 to 64. MSCP_DONE, or a fault of the
- * memory (-11 to -15), or MSCP_BAD_CREDITS. Do it anew (in fresh memory, or over a new handle) when the port is reset. */
-int32_t mscp_host_init(struct mscp_host *host, uint32_t credits);
+/* Makes a host in the handle's memory, with as many credits as its controller gives: 2 to 64. MSCP_DONE, or a fault of
+ * the memory (-11 to -15), or MSCP_BAD_CREDITS. Do it anew (in fresh memory, or over a new handle) when the port is
+ * reset. */
+MSCP_MUST_USE int32_t mscp_host_init(struct mscp_host *host, uint32_t credits);
 
 /* How many credits are free: 0 to 64. */
-int64_t mscp_host_balance(struct mscp_host *host);
+int64_t mscp_host_balance(const struct mscp_host *host);
 
 /* This message is to be sent. MSCP_DONE: send it; its command is outstanding from now on. Or the first that holds of
  * MSCP_SHORT, MSCP_LONG, MSCP_NO_CREDIT, MSCP_LAST_CREDIT and MSCP_DOUBLED: don't. */
-int32_t mscp_host_submit(struct mscp_host *host, const uint8_t *message, size_t length);
+MSCP_MUST_USE
+static inline int32_t mscp_host_submit(struct mscp_host *host, const uint8_t *message, size_t length)
+{
+    const uint8_t none = 0;
+    return mscp_host_submit_at(host, length == 0 ? &none : message, length);
+}
 
 /* The oldest command that isn't answered when it arrives is to be polled, by a GET COMMAND STATUS of this reference
  * number. MSCP_DONE: send `message`, which is outstanding from now on. MSCP_BUSY and MSCP_NOTHING: there is nothing to
  * send. Or MSCP_NO_CREDIT or MSCP_DOUBLED. */
-int32_t mscp_host_poll(struct mscp_host *host, uint32_t reference, struct mscp_packet *message);
+MSCP_MUST_USE int32_t mscp_host_poll(struct mscp_host *host, uint32_t reference, struct mscp_packet *message);
 
-/* An end was received. What it says is MSCP_ENDED to MSCP_LOST, and then `news` is filled and its command's credit is free
- * again; or MSCP_UNREADABLE or MSCP_UNKNOWN. */
-int32_t mscp_host_receive(struct mscp_host *host, const uint8_t *bytes, size_t length, struct mscp_news *news);
+/* An end was received. What it says is MSCP_ENDED to MSCP_LOST, and then `news` is filled and its command's credit is
+ * free again; or MSCP_UNREADABLE or MSCP_UNKNOWN. */
+MSCP_MUST_USE
+static inline int32_t mscp_host_receive(struct mscp_host *host, const uint8_t *bytes, size_t length,
+                                        struct mscp_news *news)
+{
+    const uint8_t none = 0;
+    return mscp_host_receive_at(host, length == 0 ? &none : bytes, length, news);
+}
+
+/* ---- statuses as texts */
+
+/* What a status says, for people. */
+static inline const char *mscp_status_text(int64_t status)
+{
+    switch (status) {
+    case MSCP_NOTHING: return "there is nothing";
+    case MSCP_DONE: return "done";
+    case MSCP_QUEUED: return "the command waits for steps";
+    case MSCP_ANSWERED: return "the command's end is there";
+    case MSCP_BUSY: return "the end of the last poll is still to come";
+    case MSCP_ENDED: return "a command ended";
+    case MSCP_FIRST: return "the first figure of the polled command";
+    case MSCP_PROGRESS: return "the figure has fallen";
+    case MSCP_LATE: return "the polled command has ended in the meantime";
+    case MSCP_RESET: return "the figure hasn't fallen";
+    case MSCP_LOST: return "the controller doesn't know the polled command";
+    case MSCP_SHORT: return "a message of under 12 bytes";
+    case MSCP_LONG: return "a message of over 64 bytes";
+    case MSCP_NO_CREDIT: return "no credit is free";
+    case MSCP_LAST_CREDIT: return "the last credit is kept for commands that are answered at once";
+    case MSCP_DOUBLED: return "the reference number is outstanding";
+    case MSCP_STALE: return "the command isn't begun";
+    case MSCP_BAD_STATUS: return "no status of a block";
+    case MSCP_UNREADABLE: return "the bytes are no end";
+    case MSCP_UNKNOWN: return "the end of no outstanding command";
+    case MSCP_NOT_MADE: return "nothing was made in the memory";
+    case MSCP_MADE: return "something was made in the memory already";
+    case MSCP_NO_HANDLE: return "no handle";
+    case MSCP_NO_MEMORY: return "the memory is NULL";
+    case MSCP_MISALIGNED: return "the memory is misaligned";
+    case MSCP_SMALL: return "the memory is too small";
+    case MSCP_BAD_PICKER: return "no picker of this number";
+    case MSCP_ZERO_TRACK: return "a track of no blocks";
+    case MSCP_ZERO_GROUP: return "a group of no tracks";
+    case MSCP_ZERO_CYLINDER: return "a cylinder of no groups";
+    case MSCP_ZERO_SIZE: return "a unit of no blocks";
+    case MSCP_MANY_UNITS: return "more than 16 units";
+    case MSCP_UNITS_FALL: return "units whose numbers don't rise";
+    case MSCP_NO_UNITS: return "no unit";
+    case MSCP_BAD_CREDITS: return "credits that aren't 2 to 64";
+    case MSCP_BAD_LONGEST: return "a longest transfer that isn't 1 to 8388608 blocks";
+    case MSCP_BAD_TIMEOUT: return "a timeout that isn't 1 to 255 seconds";
+    case MSCP_BAD_BOUND: return "(credits - 1 + passing) * longest doesn't fit 32 bits";
+    default: return "unknown status";
+    }
+}
 
 #ifdef __cplusplus
 }

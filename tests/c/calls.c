@@ -1,53 +1,11 @@
-/* Each call of mscp.h, with good input and with bad. Prints what is wrong, and ends with 1 where something is. */
+/* Each call of mscp.h, with good input and with bad; tests/c/memory.c has those about memory. Prints what is wrong, and
+ * ends with 1 where something is. */
 #include "trying.h"
 
 static const struct mscp_unit UNIT = {1, 1000, 0, 1, 0, 10, 2, 1};
 static const struct mscp_limits LIMITS = {1, 4, 2, 8, 60};
 
 /* ---- inits */
-
-static void inits_of_no_memory(void)
-{
-    size_t size = MSCP_HEAD + mscp_size();
-    char *memory = (char *)memory_of(size + 8);
-    struct mscp garbage;
-    memset(&garbage, 0xA5, sizeof garbage);
-    struct mscp_host no_host;
-    memset(&no_host, 0, sizeof no_host);
-    is("a handle of garbage", mscp_init(&garbage, &LIMITS, &UNIT, 1, MSCP_OLDEST), MSCP_NO_HANDLE);
-    is("a host's of zeros", mscp_host_init(&no_host, 4), MSCP_NO_HANDLE);
-    const struct {
-        const char *what;
-        void *memory;
-        size_t length;
-        int32_t status;
-    } cases[] = {
-        {"no memory", NULL, size, MSCP_NO_MEMORY},
-        {"odd memory", memory + 1, size, MSCP_MISALIGNED},
-        {"memory at 4", memory + 4, size, MSCP_MISALIGNED},
-        {"a byte too few", memory, size - 1, MSCP_SMALL},
-        {"a handle alone", memory, MSCP_HEAD, MSCP_SMALL},
-        {"no room for a handle", memory, MSCP_HEAD - 1, MSCP_SMALL},
-    };
-    for (size_t i = 0; i < COUNT(cases); i++) {
-        struct mscp *mscp = mscp_in_memory(cases[i].memory, cases[i].length);
-        is(cases[i].what, mscp_init(mscp, &LIMITS, &UNIT, 1, MSCP_OLDEST), cases[i].status);
-        is(cases[i].what, mscp_balance(mscp), MSCP_NOT_MADE);
-        size_t less = mscp_size() - mscp_host_size();
-        size_t length = cases[i].length > size - 8 ? cases[i].length - less : cases[i].length;
-        struct mscp_host *host = mscp_host_in_memory(cases[i].memory, length);
-        is(cases[i].what, mscp_host_init(host, 4), cases[i].status);
-        is(cases[i].what, mscp_host_balance(host), MSCP_NOT_MADE);
-    }
-    free(memory);
-}
-
-/* malloc aligns well enough. */
-static void alignments(void)
-{
-    is("a controller's", sizeof(uint64_t) % mscp_align(), 0);
-    is("a host's", sizeof(uint64_t) % mscp_host_align(), 0);
-}
 
 static void inits_of_wrong_numbers(void)
 {
@@ -112,6 +70,9 @@ static void calls_before_init(void)
     is("look", mscp_look(mscp, &out.figure, 1), MSCP_NOT_MADE);
     is("figure", mscp_figure(mscp, 1), MSCP_NOT_MADE);
     is("balance", mscp_balance(mscp), MSCP_NOT_MADE);
+    is("waiting", mscp_waiting(mscp), MSCP_NOT_MADE);
+    is("untaken", mscp_untaken(mscp), MSCP_NOT_MADE);
+    is("is_online", mscp_is_online(mscp, 0), MSCP_NOT_MADE);
     is("reset", mscp_reset(mscp), MSCP_NOT_MADE);
     struct mscp_host host = mscp_host_over(memory, size);
     is("submit", mscp_host_submit(&host, command(1, MSCP_READ, 512, 0), 32), MSCP_NOT_MADE);
@@ -144,9 +105,12 @@ static void bring_online(struct mscp *mscp)
     struct mscp_packet end;
     is("online", mscp_send(mscp, command(1, MSCP_ONLINE, 0, 0), 12, &sent), MSCP_QUEUED);
     is("its number", sent.reference, 1);
+    is("it isn't yet", mscp_is_online(mscp, 0), 0);
     is("step", mscp_step(mscp, 0, &report), MSCP_DONE);
     is("it touched", report.touched, 0);
     is("it ended", report.ended, 1);
+    is("now it is", mscp_is_online(mscp, 0), 1);
+    is("another isn't", mscp_is_online(mscp, 1), 0);
     is("take", mscp_take(mscp, &end), MSCP_DONE);
     is("its length", end.length, 44);
     is("its endcode", end.bytes[8], 0x89);
@@ -167,6 +131,8 @@ static void messages_that_are_refused(void)
     is("a second", mscp_send(mscp, command(1, MSCP_READ, 512, 0), 32, &sent), MSCP_QUEUED);
     is("a third", mscp_send(mscp, command(2, MSCP_READ, 512, 0), 32, &sent), MSCP_QUEUED);
     is("balance", mscp_balance(mscp), 1);
+    is("waiting", mscp_waiting(mscp), 2);
+    is("untaken", mscp_untaken(mscp), 1);
     is("look with less room", mscp_look(mscp, waiting, 1), 2);
     is("looked", waiting[0].reference == 1 && waiting[0].figure == 17 && waiting[1].reference == 7, 1);
     sent.reference = 7;
@@ -177,6 +143,7 @@ static void messages_that_are_refused(void)
     is("balance", mscp_balance(mscp), 0);
     is("reset", mscp_reset(mscp), MSCP_DONE);
     is("balance after it", mscp_balance(mscp), 4);
+    is("waiting after it", mscp_waiting(mscp) + mscp_untaken(mscp), 0);
     free(mscp);
 }
 
@@ -231,7 +198,7 @@ static void an_abort_in_between(void)
     struct mscp_upcoming next;
     struct mscp_report report;
     bring_online(mscp);
-    mscp_send(mscp, command(2, MSCP_WRITE, 512, 40), 32, &sent);
+    is("write", mscp_send(mscp, command(2, MSCP_WRITE, 512, 40), 32, &sent), MSCP_QUEUED);
     is("begin", mscp_begin(mscp, &next), MSCP_DONE);
     is("abort", mscp_send(mscp, command(3, MSCP_ABORT, 2, 0), 16, &sent), MSCP_ANSWERED);
     is("of it", sent.has_aborted && sent.aborted == 2 && sent.reference == 3, 1);
@@ -253,8 +220,8 @@ static void pickers(void)
         struct mscp_upcoming next;
         is("init", mscp_init(&handle, &LIMITS, &UNIT, 1, picker), MSCP_DONE);
         bring_online(&handle);
-        mscp_send(&handle, command(2, MSCP_READ, 512, 900), 32, &sent);
-        mscp_send(&handle, command(3, MSCP_READ, 512, 0), 32, &sent);
+        is("far", mscp_send(&handle, command(2, MSCP_READ, 512, 900), 32, &sent), MSCP_QUEUED);
+        is("near", mscp_send(&handle, command(3, MSCP_READ, 512, 0), 32, &sent), MSCP_QUEUED);
         is("begin", mscp_begin(&handle, &next), MSCP_DONE);
         is("who starts", next.reference, picker == MSCP_SWEEP ? 3 : 2);
         free(memory);
@@ -327,8 +294,7 @@ static void host_without_a_credit(void)
 
 int main(void)
 {
-    alignments();
-    inits_of_no_memory();
+    is("version", mscp_version(), MSCP_VERSION);
     inits_of_wrong_numbers();
     calls_before_init();
     messages_that_are_refused();

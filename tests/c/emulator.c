@@ -91,6 +91,23 @@ static void what_is_not_there(void)
     is("it left the ring", disk.commands_count, 0);
 }
 
+/* A turn serves so many blocks at most, of one transfer after the other, and its ends are in the ring then. */
+static void several_blocks_a_turn(void)
+{
+    is("five blocks", post(20, MSCP_READ, 5 * MSCP_BLOCK, 0, 0), true);
+    is("two blocks", post(21, MSCP_READ, 2 * MSCP_BLOCK, 40, 0), true);
+    is("no more than asked", emulator_serve(&disk, 3), 3);
+    is("no end yet", disk.ends_count, 0);
+    is("its figure", mscp_figure(disk.mscp, 20), 2);
+    is("all that is left", emulator_serve(&disk, 128), 4);
+    expect("five blocks", 20, 0, 5 * MSCP_BLOCK);
+    expect("two blocks", 21, 0, 2 * MSCP_BLOCK);
+    is("nothing to do", emulator_serve(&disk, 128), 0);
+    is("commands come in without a block", post(22, MSCP_GET_UNIT_STATUS, 0, 0, 0), true);
+    is("no block", emulator_serve(&disk, 0), 0);
+    expect("but an end", 22, 0, 0);
+}
+
 /* Posts polls until neither ring has a slot and no credit is free. How many. */
 static uint32_t fill(void)
 {
@@ -146,6 +163,7 @@ int main(int words, char **word)
     parts_of_blocks();
     no_bytes();
     what_is_not_there();
+    several_blocks_a_turn();
     full_rings();
     reset_of_full_rings();
     emulator_close(&disk);

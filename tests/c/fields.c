@@ -5,10 +5,13 @@
 /* A cylinder has 53 * 7 * 3 = 1113 blocks. The unit before it is there to have another number. */
 static const struct mscp_unit UNITS[2] = {
     {.size = 1, .number = 0x0102, .track = 1, .group = 1, .cylinder = 1},
-    {UINT64_C(0x1112131415161718), 90000, 0x21222324, 0x31323334, 0x4142, 53, 7, 3},
+    {.id = UINT64_C(0x1112131415161718), .size = 90000, .media = 0x21222324, .serial = 0x31323334, .number = 0x4142,
+     .track = 53, .group = 7, .cylinder = 3},
 };
 /* What waits may be passed by 400 transfers of 8388608 blocks each. */
-static const struct mscp_limits LIMITS = {UINT64_C(0x8182838485868788), 64, 400, 8388608, 161};
+static const struct mscp_limits LIMITS = {
+    .id = UINT64_C(0x8182838485868788), .credits = 64, .passing = 400, .longest = 8388608, .timeout = 161,
+};
 static const uint32_t FIGURE = 3355443202u; /* 400 * 8388608, and the two blocks of the command's own */
 
 static uint64_t memory[(MSCP_HEAD + MSCP_SIZE) / sizeof(uint64_t)];
@@ -54,7 +57,7 @@ static void unit_status(void)
 {
     struct mscp_packet end;
     struct mscp_sent sent;
-    mscp_send(mscp, to_unit(0x01020304, MSCP_GET_UNIT_STATUS, 0, 0), 12, &sent);
+    is("send", mscp_send(mscp, to_unit(0x01020304, MSCP_GET_UNIT_STATUS, 0, 0), 12, &sent), MSCP_ANSWERED);
     end = end_of(0x01020304, MSCP_GET_UNIT_STATUS, 0x0004, MSCP_PACKET_MAX);
     is("unit identifier", number(end.bytes + 20, 4), 0x15161718);
     is("its high half", number(end.bytes + 24, 4), 0x11121314);
@@ -68,7 +71,7 @@ static void controller_characteristics(void)
 {
     struct mscp_packet end;
     struct mscp_sent sent;
-    mscp_send(mscp, to_unit(5, MSCP_SET_CONTROLLER_CHARACTERISTICS, 0, 0), 18, &sent);
+    is("send", mscp_send(mscp, to_unit(5, MSCP_SET_CONTROLLER_CHARACTERISTICS, 0, 0), 18, &sent), MSCP_ANSWERED);
     end = end_of(5, MSCP_SET_CONTROLLER_CHARACTERISTICS, 0, 28);
     is("timeout", number(end.bytes + 16, 2), 161);
     is("controller identifier", number(end.bytes + 20, 4), 0x85868788);
@@ -80,7 +83,7 @@ static void online(void)
     struct mscp_packet end;
     struct mscp_sent sent;
     struct mscp_upcoming next;
-    mscp_send(mscp, to_unit(6, MSCP_ONLINE, 0, 0), 12, &sent);
+    is("send", mscp_send(mscp, to_unit(6, MSCP_ONLINE, 0, 0), 12, &sent), MSCP_QUEUED);
     is("begin", mscp_begin(mscp, &next), MSCP_DONE);
     is("no bytes", next.bytes, 0);
     is("no block", next.touches == 0 && next.lbn == 0, 1);
@@ -197,10 +200,10 @@ static void limits(void)
     message[0] = 1;
     is("long", mscp_send(mscp, message, MSCP_MESSAGE_MAX + 1, &sent), MSCP_LONG);
     is("not long", mscp_send(mscp, message, MSCP_MESSAGE_MAX, &sent), MSCP_ANSWERED);
-    mscp_send(mscp, command(2, MSCP_READ, MSCP_BLOCK, 0), 32, &sent);
+    is("send", mscp_send(mscp, command(2, MSCP_READ, MSCP_BLOCK, 0), 32, &sent), MSCP_QUEUED);
     is("a block", mscp_begin(mscp, &next) == MSCP_DONE && next.weight == 1, 1);
-    mscp_reset(mscp);
-    mscp_send(mscp, command(2, MSCP_READ, MSCP_BLOCK + 1, 0), 32, &sent);
+    is("reset", mscp_reset(mscp), MSCP_DONE);
+    is("send", mscp_send(mscp, command(2, MSCP_READ, MSCP_BLOCK + 1, 0), 32, &sent), MSCP_QUEUED);
     is("over a block", mscp_begin(mscp, &next) == MSCP_DONE && next.weight == 2, 1);
 }
 

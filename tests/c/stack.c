@@ -2,16 +2,17 @@
  * where one that isn't an init takes more than 2 KiB. */
 #include "mscp.h"
 #include <stdio.h>
+#include <stdlib.h>
 #include <string.h>
 #include <ucontext.h>
 
 enum {
-    NOTHING, SEND, BEGIN, FINISH, STEP, TAKE, LOOK, FIGURE, BALANCE, RESET, SUBMIT, POLL, RECEIVE, HOST_BALANCE, INIT,
-    HOST_INIT, CALLS
+    NOTHING, SEND, BEGIN, FINISH, STEP, TAKE, LOOK, FIGURE, BALANCE, WAITING, UNTAKEN, IS_ONLINE, RESET, SUBMIT, POLL,
+    RECEIVE, HOST_BALANCE, INIT, HOST_INIT, CALLS
 };
 static const char *const NAMES[CALLS] = {
-    "nothing", "send", "begin", "finish", "step", "take", "look", "figure", "balance", "reset",
-    "host_submit", "host_poll", "host_receive", "host_balance", "init", "host_init",
+    "nothing", "send", "begin", "finish", "step", "take", "look", "figure", "balance", "waiting", "untaken",
+    "is_online", "reset", "host_submit", "host_poll", "host_receive", "host_balance", "init", "host_init",
 };
 
 /* Aligned for anything. */
@@ -22,6 +23,7 @@ static struct mscp *mscp;
 static struct mscp_host *host;
 static const struct mscp_limits LIMITS = {1, 64, 2, 8, 60};
 static struct mscp_unit units[16];
+static volatile int64_t answered; /* by the last call */
 
 static void run(int call)
 {
@@ -34,21 +36,24 @@ static void run(int call)
     static struct mscp_waiting figures[64];
     static struct mscp_news news;
     switch (call) {
-    case SEND: mscp_send(mscp, read, 32, &sent); break;
-    case BEGIN: mscp_begin(mscp, &upcoming); break;
-    case FINISH: mscp_finish(mscp, upcoming.reference, 0, &report); break;
-    case STEP: mscp_step(mscp, 0, &report); break;
-    case TAKE: mscp_take(mscp, &packet); break;
-    case LOOK: mscp_look(mscp, figures, 64); break;
-    case FIGURE: mscp_figure(mscp, 63); break;
-    case BALANCE: mscp_balance(mscp); break;
-    case RESET: mscp_reset(mscp); break;
-    case SUBMIT: mscp_host_submit(host, read, 32); break;
-    case POLL: mscp_host_poll(host, 99, &packet); break;
-    case RECEIVE: mscp_host_receive(host, end, 20, &news); break;
-    case HOST_BALANCE: mscp_host_balance(host); break;
-    case INIT: mscp_init(mscp_in_memory(&fresh, sizeof fresh), &LIMITS, units, 16, MSCP_SWEEP); break;
-    case HOST_INIT: mscp_host_init(mscp_host_in_memory(&fresh_host, sizeof fresh_host), 64); break;
+    case SEND: answered = mscp_send(mscp, read, 32, &sent); break;
+    case BEGIN: answered = mscp_begin(mscp, &upcoming); break;
+    case FINISH: answered = mscp_finish(mscp, upcoming.reference, 0, &report); break;
+    case STEP: answered = mscp_step(mscp, 0, &report); break;
+    case TAKE: answered = mscp_take(mscp, &packet); break;
+    case LOOK: answered = mscp_look(mscp, figures, 64); break;
+    case FIGURE: answered = mscp_figure(mscp, 63); break;
+    case WAITING: answered = mscp_waiting(mscp); break;
+    case UNTAKEN: answered = mscp_untaken(mscp); break;
+    case IS_ONLINE: answered = mscp_is_online(mscp, 0); break;
+    case BALANCE: answered = mscp_balance(mscp); break;
+    case RESET: answered = mscp_reset(mscp); break;
+    case SUBMIT: answered = mscp_host_submit(host, read, 32); break;
+    case POLL: answered = mscp_host_poll(host, 99, &packet); break;
+    case RECEIVE: answered = mscp_host_receive(host, end, 20, &news); break;
+    case HOST_BALANCE: answered = mscp_host_balance(host); break;
+    case INIT: answered = mscp_init(mscp_in_memory(&fresh, sizeof fresh), &LIMITS, units, 16, MSCP_SWEEP); break;
+    case HOST_INIT: answered = mscp_host_init(mscp_host_in_memory(&fresh_host, sizeof fresh_host), 64); break;
     }
 }
 
@@ -68,6 +73,12 @@ static size_t depth(int call)
     return sizeof stack - untouched;
 }
 
+static void must(int32_t status, int32_t wanted)
+{
+    if (status != wanted)
+        exit(2);
+}
+
 /* 16 units, the first online, and 62 READs that wait on all of them. */
 static void prepare(void)
 {
@@ -82,18 +93,18 @@ static void prepare(void)
     }
     mscp = mscp_in_memory(&room, sizeof room);
     host = mscp_host_in_memory(&host_room, sizeof host_room);
-    mscp_init(mscp, &LIMITS, units, 16, MSCP_SWEEP);
-    mscp_host_init(host, 64);
-    mscp_send(mscp, message, 32, &sent);
-    mscp_step(mscp, 0, &report);
-    mscp_take(mscp, &end);
+    must(mscp_init(mscp, &LIMITS, units, 16, MSCP_SWEEP), MSCP_DONE);
+    must(mscp_host_init(host, 64), MSCP_DONE);
+    must(mscp_send(mscp, message, 32, &sent), MSCP_QUEUED);
+    must(mscp_step(mscp, 0, &report), MSCP_DONE);
+    must(mscp_take(mscp, &end), MSCP_DONE);
     message[8] = MSCP_READ;
     message[13] = 16;
     for (uint8_t i = 1; i <= 62; i++) {
         message[0] = i;
         message[4] = i % 16;
-        mscp_send(mscp, message, 32, &sent);
-        mscp_host_submit(host, message, 32);
+        must(mscp_send(mscp, message, 32, &sent), MSCP_QUEUED);
+        must(mscp_host_submit(host, message, 32), MSCP_DONE);
     }
 }
 

@@ -1,7 +1,6 @@
 -- What a program in C gives for a controller, and what is made of it.
-use Rattle.std.specs.Prelude.{◌≡◌, ℕ, ◌<◌, ◌≤◌, nat_eq, if◌then◌else◌, List, [], ◌∷◌, length, map, Option, Some, None, Result, Ok, Err}
+use Rattle.std.specs.Prelude.{◌≡◌, ℕ, ◌&&◌, Bool, true, false, not, nat_eq, nat_lt, if◌then◌else◌, List, [], ◌∷◌, length, map, Option, Some, None, option_map, Result, Ok, Err}
 use Rattle.mscp_drive.specs.Shape.{Shape}
-use Rattle.mscp_drive.specs.UnitList.{IsUnitList, NumbersRise}
 use Rattle.mscp_drive.specs.declared.unit.UnitFault.{UnitFault}
 use Rattle.mscp_drive.specs.declared.unit.UnitFault.TheVariants.{ZeroTrack, ZeroGroup, ZeroCylinder, ZeroSize}
 use Rattle.mscp_drive.specs.declared.units.UnitsFault.TheVariants.{TooMany, NotAscending, Empty}
@@ -11,7 +10,7 @@ use Rattle.mscp_memory.specs.declared.policy.Policy.TheVariants as policies
 use Rattle.mscp_c.specs.declared.units.Limits.{Limits}
 use Rattle.mscp_c.specs.declared.units.UnitIn.{UnitIn}
 use Rattle.mscp_c.specs.declared.units.InitFault.{InitFault}
-use Rattle.mscp_c.specs.declared.units.InitFault.TheVariants as inits
+use Rattle.mscp_c.specs.declared.units.InitFault.TheVariants as faults
 
 -- the policy of this number, if it is one
 abbrev pub policy_given : ℕ → Option Policy
@@ -55,22 +54,43 @@ abbrev pub UnitAnswers : UnitIn → Result Shape UnitFault → Type 0
 UnitAnswers u (Ok unit) = (unit_fault u ≡ None) × (unit ≡ unit_given u)
 UnitAnswers u (Err fault) = unit_fault u ≡ Some fault
 
--- a fault, or else that of the rest
-abbrev pub or_else : Option UnitFault → Option UnitFault → Option UnitFault
-or_else (Some fault) rest = Some fault
-or_else None rest = rest
+-- the first fault, if there is one
+abbrev pub first_of : {X : Type 0} → Option X → Option X → Option X
+first_of (Some fault) rest = Some fault
+first_of None rest = rest
 
 -- the fault of the first unit that has one
 abbrev pub first_fault : List UnitIn → Option UnitFault
 first_fault [] = None
-first_fault (u ∷ us) = or_else (unit_fault u) (first_fault us)
+first_fault (u ∷ us) = first_of (unit_fault u) (first_fault us)
+
+-- whether each number is above the one before it, and the first one above this
+abbrev pub rises_above : ℕ → List UnitIn → Bool
+rises_above number [] = true
+rises_above number (u ∷ us) = nat_lt number u.number && rises_above u.number us
+
+-- whether each number is above the one before it
+abbrev pub numbers_rise : List UnitIn → Bool
+numbers_rise [] = true
+numbers_rise (u ∷ us) = rises_above u.number us
+
+-- the fault, where this holds
+abbrev pub fault_if : Bool → InitFault → Option InitFault
+fault_if true fault = Some fault
+fault_if false fault = None
+
+-- why units are refused, if they are: the first that holds, in this order
+abbrev pub units_fault : List UnitIn → Option InitFault
+units_fault us =
+    first_of (fault_if (nat_lt 16 (length us)) (faults.Units TooMany)) (
+    first_of (option_map faults.Unit (first_fault us)) (
+    first_of (fault_if (not (numbers_rise us)) (faults.Units NotAscending))
+    (fault_if (nat_eq (length us) 0) (faults.Units Empty))))
 
 -- what becomes of all
-abbrev pub UnitsAnswer : List UnitIn → Result (List Shape) InitFault → Type 0
-UnitsAnswer us (Ok units) = (first_fault us ≡ None) × (units ≡ map unit_given us) × IsUnitList units
-UnitsAnswer us (Err (inits.Units TooMany)) = 16 < length us
-UnitsAnswer us (Err (inits.Unit fault)) = (length us ≤ 16) × (first_fault us ≡ Some fault)
-UnitsAnswer us (Err (inits.Units NotAscending)) =
-    (length us ≤ 16) × (first_fault us ≡ None) × ¬ NumbersRise (map unit_given us)
-UnitsAnswer us (Err (inits.Units Empty)) = us ≡ []
-UnitsAnswer us (Err fault) = ⊥
+abbrev pub units_unless : Option InitFault → List UnitIn → Result (List Shape) InitFault
+units_unless (Some fault) us = Err fault
+units_unless None us = Ok (map unit_given us)
+
+abbrev pub units_answer : List UnitIn → Result (List Shape) InitFault
+units_answer us = units_unless (units_fault us) us

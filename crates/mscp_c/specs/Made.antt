@@ -1,58 +1,53 @@
 -- What comes of an init.
-use Rattle.std.specs.Prelude.{◌≡◌, ℕ, ℤ, List, Some, None, Result, Ok, Err}
+use Rattle.std.specs.Prelude.{ℕ, ℤ, List, Option, Some, None, is_none, option_map, unwrap_or, Result, Ok, Err}
 use Rattle.mscp_control.specs.Holdings.{fresh}
-use Rattle.mscp_control.specs.Settings.{configured}
+use Rattle.mscp_control.specs.Settings.{limit_fault}
 use Rattle.mscp_memory.specs.declared.controller.handle.Handle.{Handle}
-use Rattle.mscp_memory.specs.declared.policy.Policy.{Policy}
+use Rattle.mscp_memory.specs.declared.policy.Policy.TheVariants.{Oldest}
 use Rattle.mscp_memory.specs.ControllerHandles.{placed, room_fault}
 use Rattle.mscp_c.specs.declared.status.TheConstants.{DONE, BAD_PICKER}
 use Rattle.mscp_c.specs.declared.units.Limits.{Limits}
 use Rattle.mscp_c.specs.declared.units.UnitIn.{UnitIn}
 use Rattle.mscp_c.specs.declared.units.InitFault.{InitFault}
-use Rattle.mscp_c.specs.declared.units.InitFault.TheVariants as inits
-use Rattle.mscp_c.specs.Given.{UnitsAnswer, policy_given, settings_given}
+use Rattle.mscp_c.specs.declared.units.InitFault.TheVariants as faults
+use Rattle.mscp_c.specs.Given.{fault_if, first_of, policy_given, settings_given, units_fault}
 use Rattle.mscp_c.specs.Statuses.{room_code, unit_code, units_code, limits_code}
 
--- the controller of these limits, units and policy is in the room
-pub record Makes (old : Handle) (l : Limits) (us : List UnitIn) (picker : ℕ) (policy : Policy) (new : Handle) : Type 0 where
-  pub room : room_fault old ≡ None
-  pub chosen : policy_given picker ≡ Some policy
-  pub units : UnitsAnswer us (Ok (settings_given l us).units)
-  pub limits : configured (settings_given l us) ≡ Ok (settings_given l us)
-  pub after : new ≡ placed old (fresh (settings_given l us) policy)
+-- why no controller is made, if none is: the first that holds, in this order
+abbrev pub init_fault : Handle → Limits → List UnitIn → ℕ → Option InitFault
+init_fault h l us picker =
+    first_of (option_map faults.Room (room_fault h)) (
+    first_of (fault_if (is_none (policy_given picker)) faults.Picker) (
+    first_of (units_fault us)
+    (option_map faults.Limits (limit_fault (settings_given l us)))))
 
--- why nothing is made: the first fault, in the order of the faults
-abbrev pub Refuses : Handle → Limits → List UnitIn → ℕ → InitFault → Type 0
-Refuses old l us picker (inits.Room fault) = room_fault old ≡ Some fault
-Refuses old l us picker inits.Picker = (room_fault old ≡ None) × (policy_given picker ≡ None)
-Refuses old l us picker (inits.Limits fault) =
-    (room_fault old ≡ None)
-    × ((policy : Policy) × (policy_given picker ≡ Some policy))
-    × UnitsAnswer us (Ok (settings_given l us).units)
-    × (configured (settings_given l us) ≡ Err fault)
-Refuses old l us picker fault =
-    (room_fault old ≡ None) × ((policy : Policy) × (policy_given picker ≡ Some policy)) × UnitsAnswer us (Err fault)
+-- what is answered
+abbrev pub init_answer : Option InitFault → Result (Unit {0}) InitFault
+init_answer (Some fault) = Err fault
+init_answer None = Ok tt
 
--- what may be answered, and what is there then
-abbrev pub InitAnswers : Handle → Limits → List UnitIn → ℕ → Result (Unit {0}) InitFault → Handle → Type 0
-InitAnswers old l us picker (Ok done) new = (policy : Policy) × Makes old l us picker policy new
-InitAnswers old l us picker (Err fault) new = Refuses old l us picker fault × (new ≡ old)
+-- the handle then: a controller of these limits, units and policy is in the room, to which nothing came so far. Where
+-- the picker's number is none there is a fault
+abbrev pub made_unless : Option InitFault → Handle → Limits → List UnitIn → ℕ → Handle
+made_unless (Some fault) h l us picker = h
+made_unless None h l us picker = placed h (fresh (settings_given l us) (unwrap_or (policy_given picker) Oldest))
 
 -- the status of a fault
 abbrev pub init_fault_code : InitFault → ℤ
-init_fault_code (inits.Room fault) = room_code fault
-init_fault_code inits.Picker = BAD_PICKER
-init_fault_code (inits.Units fault) = units_code fault
-init_fault_code (inits.Unit fault) = unit_code fault
-init_fault_code (inits.Limits fault) = limits_code fault
+init_fault_code (faults.Room fault) = room_code fault
+init_fault_code faults.Picker = BAD_PICKER
+init_fault_code (faults.Units fault) = units_code fault
+init_fault_code (faults.Unit fault) = unit_code fault
+init_fault_code (faults.Limits fault) = limits_code fault
 
 -- the status of an answer
 abbrev pub init_code : Result (Unit {0}) InitFault → ℤ
 init_code (Ok done) = DONE
 init_code (Err fault) = init_fault_code fault
 
--- the status tells what was answered
-pub record Initializes (old : Handle) (l : Limits) (us : List UnitIn) (picker : ℕ) (status : ℤ) (new : Handle) : Type 0 where
-  pub answer : Result (Unit {0}) InitFault
-  pub answers : InitAnswers old l us picker answer new
-  pub told : status ≡ init_code answer
+-- the status of an init, and the handle after it
+abbrev pub inits_unless : Option InitFault → Handle → Limits → List UnitIn → ℕ → ℤ × Handle
+inits_unless fault h l us picker = (init_code (init_answer fault), made_unless fault h l us picker)
+
+abbrev pub inits : Handle → Limits → List UnitIn → ℕ → ℤ × Handle
+inits h l us picker = inits_unless (init_fault h l us picker) h l us picker

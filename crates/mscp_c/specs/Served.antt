@@ -6,25 +6,27 @@ use Rattle.mscp_queue.specs.declared.upcoming.Upcoming.{Upcoming}
 use Rattle.mscp_control.specs.declared.event.Stale.{Stale}
 use Rattle.mscp_control.specs.Holdings as controllers
 use Rattle.mscp_memory.specs.declared.controller.handle.Handle.{Handle}
-use Rattle.mscp_memory.specs.Policies.{IsPicked}
+use Rattle.mscp_memory.specs.Policies.{PolicyPicks}
 use Rattle.mscp_memory.specs.ControllerHandles.{with_held}
 use Rattle.mscp_c.specs.declared.status.TheConstants.{STALE}
 use Rattle.mscp_c.specs.declared.outs.UpcomingOut.{UpcomingOut}
 use Rattle.mscp_c.specs.declared.outs.ReportOut.{ReportOut}
 use Rattle.mscp_c.specs.Told.{begin_code, report_code, report_told, upcoming_told}
 
--- what a begin answers, and what is there then: the controller's begin, told in plain numbers
-pub record Begins (old : Handle) (before : UpcomingOut) (status : ℤ) (new : Handle) (after : UpcomingOut) : Type 0 where
+-- status and out-struct tell a begin that the controller may make, and that is what is there then
+pub record TellsBegin (old : Handle) (before : UpcomingOut)
+    (status : ℤ) (new : Handle) (after : UpcomingOut) : Type 0 where
   pub upcoming : Option Upcoming
-  pub begin : controllers.Foretells (IsPicked old.held.picker) old.held upcoming new.held
+  pub begin : controllers.Foretells (PolicyPicks old.held.picker) old.held upcoming new.held
   pub rest : new ≡ with_held old new.held
   pub code : status ≡ begin_code upcoming
   pub told : after ≡ upcoming_told upcoming before
 
--- what a step answers, and what is there then
-pub record Steps (k : Block) (old : Handle) (before : ReportOut) (status : ℤ) (new : Handle) (after : ReportOut) : Type 0 where
+-- they tell a step that the controller may make
+pub record TellsStep (k : Block)
+    (old : Handle) (before : ReportOut) (status : ℤ) (new : Handle) (after : ReportOut) : Type 0 where
   pub report : Report
-  pub step : controllers.Steps (IsPicked old.held.picker) k old.held report new.held
+  pub step : controllers.Steps (PolicyPicks old.held.picker) k old.held report new.held
   pub rest : new ≡ with_held old new.held
   pub code : status ≡ report_code report
   pub told : after ≡ report_told report before
@@ -38,11 +40,11 @@ abbrev pub finish_told : Result Report Stale → ReportOut → ReportOut
 finish_told (Ok report) out = report_told report out
 finish_told (Err stale) out = out
 
--- what a finish answers, and what is there then
-pub record Finishes (reference : ℕ) (k : Block)
+-- they tell a finish that the controller may make
+pub record TellsFinish (reference : ℕ) (k : Block)
     (old : Handle) (before : ReportOut) (status : ℤ) (new : Handle) (after : ReportOut) : Type 0 where
   pub answer : Result Report Stale
-  pub finish : controllers.Finishes (IsPicked old.held.picker) reference k old.held answer new.held
+  pub finish : controllers.Finishes (PolicyPicks old.held.picker) reference k old.held answer new.held
   pub rest : new ≡ with_held old new.held
   pub code : status ≡ finish_code answer
   pub told : after ≡ finish_told answer before

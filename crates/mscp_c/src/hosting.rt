@@ -2,6 +2,7 @@
 
 ghost use Rattle.std.specs.Prelude.{◌≡◌, true, false, pos};
 ghost use Rattle.mscp_host.specs.Accounts.{balance, heard, polls_oldest};
+ghost use Rattle.mscp_memory.specs.HostRoom.{row_alignment, row_size};
 ghost use Rattle.mscp_memory.specs.HostHandles.{is_made, with_held};
 ghost use Rattle.mscp_c.specs.Hosted.{PollTold, inits, message_read, news_code, news_told, poll_code, submits_message};
 
@@ -15,7 +16,7 @@ use mscp_packet::{Command, PacketFault, read_command};
 /// How many bytes a host takes.
 #[unsafe(no_mangle)]
 pub extern "C" fn mscp_host_size() -> usize
-    ensures { result ≡ SIZE }
+    ensures { result ≡ row_size }
 {
     SIZE
 }
@@ -23,7 +24,7 @@ pub extern "C" fn mscp_host_size() -> usize
 /// What the address of a host is a multiple of.
 #[unsafe(no_mangle)]
 pub extern "C" fn mscp_host_align() -> usize
-    ensures { result ≡ ALIGN }
+    ensures { result ≡ row_alignment }
 {
     ALIGN
 }
@@ -67,7 +68,7 @@ fn message_in(message: &[u8]) -> Result<Command, PacketFault>
 
 /// A message is to be sent: from now on its command is outstanding, or it may not be sent.
 #[unsafe(no_mangle)]
-pub extern "C" fn mscp_host_submit(handle: &mut Handle, message: &[u8]) -> i32
+pub extern "C" fn mscp_host_submit_at(handle: &mut Handle, message: &[u8]) -> i32
     ensures code { is_made handle.old ≡ true → result ≡ (submits_message handle.old.held message.now).0 }
     ensures after { is_made handle.old ≡ true
         → handle.new ≡ with_held handle.old (submits_message handle.old.held message.now).1 }
@@ -106,7 +107,7 @@ pub extern "C" fn mscp_host_poll(handle: &mut Handle, reference: u32, out: &mut 
 
 /// What an end says that was received.
 #[unsafe(no_mangle)]
-pub extern "C" fn mscp_host_receive(handle: &mut Handle, bytes: &[u8], out: &mut NewsOut) -> i32
+pub extern "C" fn mscp_host_receive_at(handle: &mut Handle, bytes: &[u8], out: &mut NewsOut) -> i32
     ensures code { is_made handle.old ≡ true → result ≡ news_code (heard handle.old.held bytes.now).0 }
     ensures told { is_made handle.old ≡ true → out.new ≡ news_told (heard handle.old.held bytes.now).0 out.old }
     ensures after { is_made handle.old ≡ true

@@ -2,18 +2,27 @@
 
 ghost use Rattle.std.specs.Prelude.{◌≡◌, true, false};
 ghost use Rattle.mscp_control.specs.Holdings.{fresh};
+ghost use Rattle.mscp_memory.specs.ControllerRoom.{row_alignment, row_size};
 ghost use Rattle.mscp_memory.specs.ControllerHandles.{is_made, with_held};
-ghost use Rattle.mscp_c.specs.Made.{InitAnswers, Initializes};
+ghost use Rattle.mscp_c.specs.Made.{init_answer, init_fault, inits, made_unless};
 
 use crate::status::{DONE, NOT_MADE, init_code};
 use crate::units::{InitFault, Limits, UnitIn, policy_of, units_of};
 use mscp_control::{Config, Controller};
 use mscp_memory::controller::{ALIGN, Handle, SIZE, is_made, lend, place, room_fault};
 
+/// The version of the library, 0.5.0: a byte for each of the three numbers.
+#[unsafe(no_mangle)]
+pub extern "C" fn mscp_version() -> u32
+    ensures { result ≡ 0x0000_0500 }
+{
+    0x0000_0500
+}
+
 /// How many bytes a controller takes.
 #[unsafe(no_mangle)]
 pub extern "C" fn mscp_size() -> usize
-    ensures { result ≡ SIZE }
+    ensures { result ≡ row_size }
 {
     SIZE
 }
@@ -21,7 +30,7 @@ pub extern "C" fn mscp_size() -> usize
 /// What the address of a controller is a multiple of.
 #[unsafe(no_mangle)]
 pub extern "C" fn mscp_align() -> usize
-    ensures { result ≡ ALIGN }
+    ensures { result ≡ row_alignment }
 {
     ALIGN
 }
@@ -33,7 +42,9 @@ fn init(
     units: &[UnitIn],
     picker: u32,
 ) -> Result<(), InitFault>
-    ensures { InitAnswers handle.old limits.now units.now picker result handle.new }
+    ensures answer { result ≡ init_answer (init_fault handle.old limits.now units.now picker) }
+    ensures after { handle.new ≡ made_unless (init_fault handle.old limits.now units.now picker)
+        handle.old limits.now units.now picker }
 {
     if let Some(fault) = room_fault(handle) {
         return Err(InitFault::Room(fault));
@@ -60,13 +71,13 @@ fn init(
 
 /// Makes a controller of these limits and units in the room that the handle has.
 #[unsafe(no_mangle)]
-pub extern "C" fn mscp_init(
+pub extern "C" fn mscp_init_at(
     handle: &mut Handle,
     limits: &Limits,
     units: &[UnitIn],
     picker: u32,
 ) -> i32
-    ensures { Initializes handle.old limits.now units.now picker result handle.new }
+    ensures { (result, handle.new) ≡ inits handle.old limits.now units.now picker }
 {
     init_code(&init(handle, limits, units, picker))
 }

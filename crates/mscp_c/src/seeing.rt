@@ -1,18 +1,19 @@
 // The calls that change nothing.
 
 ghost use Rattle.std.specs.Prelude.{◌≡◌, true, false, pos, length};
+ghost use Rattle.mscp_queue.specs.Drives.{is_online_in};
 ghost use Rattle.mscp_control.specs.Holdings.{balance_of};
 ghost use Rattle.mscp_memory.specs.ControllerHandles.{is_made};
-ghost use Rattle.mscp_c.specs.Told.{figure_in, figures_in, figures_told};
+ghost use Rattle.mscp_c.specs.Told.{figure_in, figures_in, figures_told, flag};
 
 use crate::outs::FigureOut;
 use crate::status::NOT_MADE;
-use crate::telling::tell_figures;
+use crate::telling::{flag, tell_figures};
 use mscp_memory::controller::{Handle, is_made, lend};
 
 /// The figures of the waiting commands, oldest first, as many as there is room for: how many wait.
 #[unsafe(no_mangle)]
-pub extern "C" fn mscp_look(handle: &mut Handle, out: &mut [FigureOut]) -> i32
+pub extern "C" fn mscp_look_at(handle: &mut Handle, out: &mut [FigureOut]) -> i32
     ensures count { is_made handle.old ≡ true → result ≡ pos (length (figures_in handle.old.held)) }
     ensures told { is_made handle.old ≡ true → out.new ≡ figures_told (figures_in handle.old.held) out.old }
     ensures same { handle.new ≡ handle.old }
@@ -37,6 +38,45 @@ pub extern "C" fn mscp_figure(handle: &mut Handle, reference: u32) -> i64
         return i64::from(NOT_MADE);
     }
     i64::from(lend(handle).figure(reference))
+}
+
+/// How many commands wait.
+#[unsafe(no_mangle)]
+pub extern "C" fn mscp_waiting(handle: &mut Handle) -> i64
+    ensures value { is_made handle.old ≡ true → result ≡ pos (length handle.old.held.waiting) }
+    ensures same { handle.new ≡ handle.old }
+    ensures unmade { is_made handle.old ≡ false → result ≡ NOT_MADE }
+{
+    if !is_made(handle) {
+        return i64::from(NOT_MADE);
+    }
+    i64::from(lend(handle).waiting())
+}
+
+/// How many ends weren't taken.
+#[unsafe(no_mangle)]
+pub extern "C" fn mscp_untaken(handle: &mut Handle) -> i64
+    ensures value { is_made handle.old ≡ true → result ≡ pos (length handle.old.held.untaken) }
+    ensures same { handle.new ≡ handle.old }
+    ensures unmade { is_made handle.old ≡ false → result ≡ NOT_MADE }
+{
+    if !is_made(handle) {
+        return i64::from(NOT_MADE);
+    }
+    i64::from(lend(handle).untaken())
+}
+
+/// Whether the unit of this number is online: not where it isn't configured.
+#[unsafe(no_mangle)]
+pub extern "C" fn mscp_is_online(handle: &mut Handle, unit: u16) -> i32
+    ensures value { is_made handle.old ≡ true → result ≡ pos (flag (is_online_in handle.old.held.drives unit)) }
+    ensures same { handle.new ≡ handle.old }
+    ensures unmade { is_made handle.old ≡ false → result ≡ NOT_MADE }
+{
+    if !is_made(handle) {
+        return NOT_MADE;
+    }
+    i32::from(flag(lend(handle).is_online(unit)))
 }
 
 /// How many credits are free.

@@ -12,7 +12,7 @@ use mscp_memory::controller::{Handle, is_made, lend};
 
 /// Takes a message in.
 #[unsafe(no_mangle)]
-pub extern "C" fn mscp_send(handle: &mut Handle, message: &[u8], out: &mut SentOut) -> i32
+pub extern "C" fn mscp_send_at(handle: &mut Handle, message: &[u8], out: &mut SentOut) -> i32
     ensures after { is_made handle.old ≡ true
         → handle.new ≡ with_held handle.old (after_message handle.old.held message.now) }
     ensures code { is_made handle.old ≡ true → result ≡ send_code (answer_to_message handle.old.held message.now) }

@@ -3,7 +3,7 @@
 ghost use Rattle.std.specs.Prelude.{◌≡◌, true, false, IfSome, None};
 ghost use Rattle.mscp_memory.specs.ControllerHandles.{is_made};
 ghost use Rattle.mscp_c.specs.Told.{block_told};
-ghost use Rattle.mscp_c.specs.Served.{Begins, Finishes, Steps};
+ghost use Rattle.mscp_c.specs.Served.{TellsBegin, TellsFinish, TellsStep};
 
 use crate::outs::{ReportOut, UpcomingOut};
 use crate::status::{BAD_STATUS, NOT_MADE, STALE};
@@ -13,7 +13,7 @@ use mscp_memory::controller::{Handle, is_made, lend};
 /// What the next step serves.
 #[unsafe(no_mangle)]
 pub extern "C" fn mscp_begin(handle: &mut Handle, out: &mut UpcomingOut) -> i32
-    ensures begin { is_made handle.old ≡ true → Begins handle.old out.old result handle.new out.new }
+    ensures begin { is_made handle.old ≡ true → TellsBegin handle.old out.old result handle.new out.new }
     ensures unmade { is_made handle.old ≡ false
         → (result ≡ NOT_MADE) × (handle.new ≡ handle.old) × (out.new ≡ out.old) }
 {
@@ -33,7 +33,7 @@ pub extern "C" fn mscp_finish(
     out: &mut ReportOut,
 ) -> i32
     ensures finish { is_made handle.old ≡ true → IfSome (block_told status) (λ k.
-        Finishes reference k handle.old out.old result handle.new out.new) }
+        TellsFinish reference k handle.old out.old result handle.new out.new) }
     ensures refused { is_made handle.old ≡ true → block_told status ≡ None
         → (result ≡ BAD_STATUS) × (handle.new ≡ handle.old) × (out.new ≡ out.old) }
     ensures unmade { is_made handle.old ≡ false
@@ -55,7 +55,7 @@ pub extern "C" fn mscp_finish(
 #[unsafe(no_mangle)]
 pub extern "C" fn mscp_step(handle: &mut Handle, status: u16, out: &mut ReportOut) -> i32
     ensures step { is_made handle.old ≡ true → IfSome (block_told status) (λ k.
-        Steps k handle.old out.old result handle.new out.new) }
+        TellsStep k handle.old out.old result handle.new out.new) }
     ensures refused { is_made handle.old ≡ true → block_told status ≡ None
         → (result ≡ BAD_STATUS) × (handle.new ≡ handle.old) × (out.new ≡ out.old) }
     ensures unmade { is_made handle.old ≡ false

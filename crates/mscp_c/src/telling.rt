@@ -10,7 +10,7 @@ use mscp_control::{Block, FaultStatus, Report, SendFault, Sent, Upcoming};
 use mscp_packet::Order;
 
 /// A flag as a number.
-fn flag(holds: bool) -> u8
+pub(crate) fn flag(holds: bool) -> u8
     ensures { result ≡ flag holds }
 {
     if holds { 1 } else { 0 }

@@ -1,7 +1,7 @@
 // What a program in C gives for a controller.
 
 ghost use Rattle.std.specs.Prelude.{◌≡◌};
-ghost use Rattle.mscp_c.specs.Given.{UnitAnswers, UnitsAnswer, policy_given};
+ghost use Rattle.mscp_c.specs.Given.{UnitAnswers, policy_given, units_answer};
 
 use arrayvec::ArrayVec;
 use mscp_control::ConfigFault;
@@ -77,7 +77,7 @@ fn unit_of(given: &UnitIn) -> Result<Unit, UnitFault>
 
 /// The units of these numbers, or why there are none: too many, one of them is refused, or all together.
 pub(crate) fn units_of(given: &[UnitIn]) -> Result<Units, InitFault>
-    ensures { UnitsAnswer given.now result }
+    ensures { result ≡ units_answer given.now }
 {
     if given.len() > 16 {
         return Err(InitFault::Units(UnitsFault::TooMany));

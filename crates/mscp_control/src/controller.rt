@@ -3,6 +3,7 @@
 ghost use Rattle.std.specs.Prelude.{◌≡◌, ◌+◌, ◌<◌, ◌≤◌, ◌^◌, true, false, [], ◌∷◌, ◌++◌, length, slice_get, IfErr, IfOk, IfSome, None, Some, nat_eq, option_map};
 ghost use Rattle.std.specs.List.{list_any};
 ghost use Rattle.mscp_packet.specs.Ends.{IsEnd, IsOfKind};
+ghost use Rattle.mscp_queue.specs.Drives.{is_online_in};
 ghost use Rattle.mscp_queue.specs.Orders.{first_block, order_weight};
 ghost use Rattle.mscp_queue.specs.Figures.{figure_of_reference, figures};
 ghost use Rattle.mscp_queue.specs.Outcomes.{IsCoded};
@@ -124,6 +125,30 @@ impl<K: Picker> Controller<K> {
     {
         let held = self.queue.len() + self.untaken.len() as u32;
         self.config.credits().saturating_sub(held)
+    }
+
+    /// How many commands wait.
+    pub fn waiting(&self) -> u32
+        ensures value { result ≡ length self.now.waiting }
+        ensures account { IsBalanced self.now }
+    {
+        self.queue.len()
+    }
+
+    /// How many ends weren't taken.
+    pub fn untaken(&self) -> u32
+        ensures value { result ≡ length self.now.untaken }
+        ensures account { IsBalanced self.now }
+    {
+        self.untaken.len() as u32
+    }
+
+    /// Whether the unit of this number is online: false where it isn't configured.
+    pub fn is_online(&self, unit: u16) -> bool
+        ensures value { result ≡ is_online_in self.now.drives unit }
+        ensures account { IsBalanced self.now }
+    {
+        self.queue.is_online(unit)
     }
 
     /// The figure of the waiting command with the reference number, 0 if there is none: how many steps it

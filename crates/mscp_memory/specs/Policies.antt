@@ -6,6 +6,6 @@ use Rattle.mscp_memory.specs.declared.policy.Policy.{Policy}
 use Rattle.mscp_memory.specs.declared.policy.Policy.TheVariants.{Oldest, Sweep}
 
 -- the place of a view is one that the picker of this policy may pick (profile)
-abbrev pub IsPicked : Policy → List Choice → ℕ → Type 0
-IsPicked Oldest view place = IsOldest view place
-IsPicked Sweep view place = IsSweep view place
+abbrev pub PolicyPicks : Policy → List Choice → ℕ → Type 0
+PolicyPicks Oldest view place = IsOldest view place
+PolicyPicks Sweep view place = IsSweep view place

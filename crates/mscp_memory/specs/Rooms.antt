@@ -1,12 +1,22 @@
 -- What is room, and what memory is.
 use base.Fml.{Fml}
+use denote.Param.{layout}
+use prog.Memory as machine
 use Rattle.std.specs.Prelude.{ℕ, ◌%◌, Bool, true, false, nat_eq, nat_lt, not, if◌then◌else◌, Option, Some, None}
+use Rattle.std.specs.Borrow.{RattleType}
 use Rattle.mscp_memory.specs.declared.fault.RoomFault.{RoomFault}
 use Rattle.mscp_memory.specs.declared.head.Head.{Head}
 use Rattle.mscp_memory.specs.declared.head.Kind.{Kind}
 use Rattle.mscp_memory.specs.declared.fault.RoomFault.TheVariants.{Made, NoHandle, Null, Misaligned, Small}
 
--- the first where the test is true, and otherwise the second
+-- how many bytes a value of a type takes, and what its address is a multiple of
+abbrev pub size_of : RattleType → ℕ
+size_of T = machine.size (layout T)
+
+abbrev pub align_of : RattleType → ℕ
+align_of T = machine.align (layout T)
+
+-- what is owned: by the first formula where the test is true, and otherwise by the second
 abbrev pub one_of : Bool → Fml → Fml → Fml
 one_of true F G = F
 one_of false F G = G
@@ -24,4 +34,6 @@ fault_unless made room fault = if made then Some Made else (if room then fault e
 
 -- why memory of which this was said is no room for a value of this kind, if it isn't
 abbrev pub kind_fault : Head → Kind → Option RoomFault
-kind_fault head kind = fault_unless (nat_eq head.mark kind.made) (nat_eq head.mark kind.room) (place_fault head.address head.length kind.size kind.align)
+kind_fault head kind =
+    fault_unless (nat_eq head.mark kind.made) (nat_eq head.mark kind.room)
+    (place_fault head.address head.length kind.size kind.align)

@@ -5,7 +5,9 @@ pub mod controller;
 mod fault;
 mod head;
 pub mod host;
+mod law;
 mod policy;
 
 pub use crate::fault::RoomFault;
+pub use crate::law::marks_differ;
 pub use crate::policy::Policy;

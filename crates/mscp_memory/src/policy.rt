@@ -14,9 +14,9 @@ pub enum Policy {
 }
 
 impl Picker for Policy {
-    ghost use Rattle.mscp_memory.specs.Policies.{IsPicked};
+    ghost use Rattle.mscp_memory.specs.Policies.{PolicyPicks};
 
-    ghost picks = { λ policy view place. IsPicked policy view place };
+    ghost picks = { λ policy view place. PolicyPicks policy view place };
 
     fn pick(&self, view: &View) -> usize {
         match self {

@@ -33,8 +33,8 @@ use denote.Triple.Walked.{Stays, walk_of, says, stay_dropped, stay_ref, Goes-ref
 use Rattle.mscp_memory.specs.HostHandles.{is_room, placed}
 use Rattle.mscp_memory.proofs.Placing.{one, big_lit, unmade}
 use Rattle.mscp_memory.specs.Rooms.{one_of, place_fault}
-use Rattle.mscp_memory.specs.HostRoom.{is_made_of, row as T'}
-use Rattle.mscp_memory.specs.declared.host.marks.TheConstants.{ROOM, SIZE, ALIGN}
+use Rattle.mscp_memory.specs.HostRoom.{is_made_of, row as T', row_alignment, row_size}
+use Rattle.mscp_memory.specs.declared.host.marks.TheConstants.{ROOM}
 use Rattle.mscp_memory.specs.declared.host.handle.Handle.{Handle}
 use Rattle.mscp_memory.specs.contracts.host.handle.Handle.{the_type, the_row as R}
 use Rattle.std.specs.Prelude.{◌^◌, ◌<◌, nat_eq}
@@ -46,7 +46,7 @@ use Rattle.mscp_memory.proofs.host.placing.place.Code as code
 
 -- what is room isn't made
 not_made : (h : Handle) → is_room h ≡ true → is_made_of h.mark ≡ false
-not_made h e = unmade (is_made_of h.mark) (nat_eq h.mark ROOM) (place_fault h.address h.length SIZE ALIGN) e
+not_made h e = unmade (is_made_of h.mark) (nat_eq h.mark ROOM) (place_fault h.address h.length row_size row_alignment) e
 
 -- what the memory is, by what its mark says
 abbrev memory : Handle → Bool → Bool → Fml

@@ -1,0 +1,162 @@
+# Prints a C file that compiles only where mscp.h says what the sources say: each struct with its fields, their places
+# and types; each call with its parameters; and the numbers of statuses, pickers, opcodes, marks and of the version.
+# tests/library names the sources.
+#
+# A call's handle is const where the contract has the clause `same`. Types are compared by _Generic. A field that only
+# the header has is one without an initializer, of which the compiler warns, as of an enumerator that a switch lacks.
+
+BEGIN {
+    split("SentOut sent PacketOut packet UpcomingOut upcoming ReportOut report FigureOut waiting NewsOut news " \
+        "Limits limits UnitIn unit", words, " ")
+    for (i = 1; i in words; i += 2)
+        name_of[words[i]] = "mscp_" words[i + 1]
+    split("u8 uint8_t u16 uint16_t u32 uint32_t u64 uint64_t usize size_t i32 int32_t i64 int64_t", words, " ")
+    for (i = 1; i in words; i += 2)
+        type_of[words[i]] = words[i + 1]
+    split("Abort ABORT Status GET_COMMAND_STATUS UnitStatus GET_UNIT_STATUS SetController " \
+        "SET_CONTROLLER_CHARACTERISTICS Available AVAILABLE Online ONLINE SetUnit SET_UNIT_CHARACTERISTICS " \
+        "Access ACCESS Erase ERASE Compare COMPARE_HOST_DATA Read READ Write WRITE", words, " ")
+    for (i = 1; i in words; i += 2)
+        opcode_of[words[i]] = words[i + 1]
+    print "#include \"mscp.h\""
+    print "#define IS(what, type) _Static_assert(_Generic(what, type: 1, default: 0), #what)"
+}
+
+# The struct of C for one of the sources, by the file for a handle.
+function struct_of(name) {
+    if (name == "Handle")
+        return FILENAME ~ /host/ ? "struct mscp_host" : "struct mscp"
+    return "struct " name_of[name]
+}
+
+# The type of C for one of the sources.
+function in_c(type) {
+    return type in type_of ? type_of[type] : type == "*mut u8" ? "void *" : struct_of(type)
+}
+
+# The parameters of C for one of the sources, of a call that changes its handle or leaves it the same.
+function parameters_of(type, same,   fixed) {
+    fixed = type !~ /^&mut/ || (type == "&mut Handle" && same) ? "const " : ""
+    if (type !~ /^&/)
+        return in_c(type)
+    if (sub(/^&(mut )?\[/, "", type) && sub(/\]$/, "", type))
+        return fixed in_c(type) " *, size_t"
+    sub(/^&(mut )?/, "", type)
+    return fixed in_c(type) " *"
+}
+
+function number_is(name, number) {
+    print "_Static_assert(MSCP_" name " == " number ", \"MSCP_" name "\");"
+}
+
+# A name of an enum, which a switch over that enum then has.
+function enumerator_is(enum, name, number) {
+    number_is(name, number)
+    cases[enum] = cases[enum] " case MSCP_" name ":"
+}
+
+FILENAME ~ /VERSION$/ { split($0, words, "."); number_is("VERSION", words[1] * 65536 + words[2] * 256 + words[3]) }
+
+# ---- structs
+
+/^pub struct [A-Za-z]+ \{$/ && (($3 in name_of) || $3 == "Handle") {
+    in_struct = struct_of($3)
+    mirror = in_struct
+    sub(/struct mscp/, "struct source_mscp", mirror)
+    fields = checks = zeros = ""
+    next
+}
+in_struct != "" && /^\}$/ {
+    print mirror " {" fields " };" checks
+    print "_Static_assert(sizeof(" in_struct ") == sizeof(" mirror "), \"" in_struct "\");"
+    all = mirror
+    sub(/struct source/, "all_of", all)
+    print "const " in_struct " " all " = {" zeros "};"
+    in_struct = ""
+    structs++
+}
+in_struct != "" && /^    pub(\(crate\))? [a-z_]+: / {
+    sub(/^    pub(\(crate\))? /, "")
+    sub(/,$/, "")
+    field = type = $0
+    sub(/: .*/, "", field)
+    sub(/[^:]*: /, "", type)
+    if (type ~ /^\[/) {
+        count = type
+        gsub(/.*; |\]/, "", count)
+        gsub(/\[|;.*/, "", type)
+        fields = fields " " in_c(type) " " field "[" count "];"
+        pointer = in_c(type) " (*)[" count "]"
+        zeros = zeros "{0}, "
+    } else {
+        fields = fields " " in_c(type) " " field ";"
+        pointer = in_c(type) " *"
+        zeros = zeros "0, "
+    }
+    checks = checks "\nIS(&((" in_struct " *)0)->" field ", " pointer ");" \
+        "\n_Static_assert(offsetof(" in_struct ", " field ") == offsetof(" mirror ", " field "), " \
+        "\"" in_struct "." field "\");"
+}
+
+# ---- calls
+
+/^pub extern "C" fn / { call = ""; in_call = 1 }
+in_call && /^\{$/ {
+    same = call ~ /ensures same \{ handle\.new/
+    result = name = call
+    sub(/^pub extern "C" fn /, "", name)
+    sub(/\(.*/, "", name)
+    sub(/^[^)]*\) -> /, "", result)
+    sub(/ .*/, "", result)
+    sub(/^[^(]*\( */, "", call)
+    sub(/\).*/, "", call)
+    gsub(/  +/, " ", call)
+    sub(/, *$/, "", call)
+    list = ""
+    for (i = split(call, words, ", "); i > 0; i--) {
+        sub(/.*: /, "", words[i])
+        list = parameters_of(words[i], same) (list == "" ? "" : ", " list)
+    }
+    type = in_c(result) " (*)(" (list == "" ? "void" : list) ")"
+    print "IS(&" name ", " type ");"
+    if (sub(/_at$/, "", name)) # the inline one has the same parameters
+        print "IS(&" name ", " type ");"
+    in_call = 0
+    calls++
+}
+in_call { call = call $0 " " }
+
+# ---- numbers
+
+/^pub\(crate\) const [A-Z_]+: i32 = -?[0-9]+;$/ {
+    sub(/:/, "", $3)
+    sub(/;/, "", $6)
+    enumerator_is("status", $3, $6)
+}
+/^ +[0-9]+ => Some\(Policy::[A-Za-z]+\),$/ {
+    picker = $3
+    gsub(/Some\(Policy::|\),/, "", picker)
+    enumerator_is("picker", toupper(picker), $1)
+}
+/^ +Opcode::.* => Line::new\([0-9]+,/ {
+    byte = $3
+    gsub(/[^0-9]/, "", byte)
+    sub(/MoveKind::/, "", $1)
+    gsub(/Opcode::|Move\(|\)/, "", $1)
+    enumerator_is("opcode", opcode_of[$1], byte)
+}
+/^pub const ROOM: u64 = 0x[0-9A-F_]+;$/ {
+    gsub(/[_;]/, "", $6)
+    number_is(FILENAME ~ /host/ ? "HOST_ROOM" : "ROOM", "UINT64_C(" $6 ")")
+    marks++
+}
+
+END {
+    for (enum in cases)
+        print "int is_" enum "(enum mscp_" enum " it)\n{\n    switch (it) {\n   " cases[enum] \
+            "\n        return 1;\n    }\n    return 0;\n}"
+    if (structs != 10 || calls < 23 || marks != 2 || length(cases["picker"]) == 0 || length(cases["opcode"]) == 0) {
+        print "mirror.awk: " structs " structs, " calls " calls, " marks " marks" >"/dev/stderr"
+        exit 1
+    }
+}

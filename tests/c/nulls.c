@@ -1,0 +1,75 @@
+/* The inline calls of mscp.h against stand-ins for the library's own, which want a pointer that isn't NULL. With a
+ * length of 0 they get one, also where the caller has none, and else just the caller's. Prints what is wrong, and ends
+ * with 1 where something is. */
+#define mscp_init_at init_seen
+#define mscp_send_at send_seen
+#define mscp_look_at look_seen
+#define mscp_host_submit_at submit_seen
+#define mscp_host_receive_at receive_seen
+#include "trying.h"
+
+static const void *seen;
+static size_t length_seen;
+
+static int32_t see(const void *pointer, size_t length)
+{
+    seen = pointer;
+    length_seen = length;
+    return 77;
+}
+
+int32_t init_seen(struct mscp *mscp, const struct mscp_limits *limits, const struct mscp_unit *units, size_t count,
+                  uint32_t picker)
+{
+    return mscp != NULL && limits != NULL && picker == 3 ? see(units, count) : 0;
+}
+
+int32_t send_seen(struct mscp *mscp, const uint8_t *message, size_t length, struct mscp_sent *sent)
+{
+    return mscp != NULL && sent != NULL ? see(message, length) : 0;
+}
+
+int32_t look_seen(const struct mscp *mscp, struct mscp_waiting *list, size_t room)
+{
+    return mscp != NULL ? see(list, room) : 0;
+}
+
+int32_t submit_seen(struct mscp_host *host, const uint8_t *message, size_t length)
+{
+    return host != NULL ? see(message, length) : 0;
+}
+
+int32_t receive_seen(struct mscp_host *host, const uint8_t *bytes, size_t length, struct mscp_news *news)
+{
+    return host != NULL && news != NULL ? see(bytes, length) : 0;
+}
+
+static void passes(const char *what, int32_t answer, const void *pointer, size_t length)
+{
+    is(what, answer, 77);
+    is(what, length > 0 ? seen == pointer : seen != NULL, 1);
+    is(what, length_seen == length, 1);
+}
+
+int main(void)
+{
+    static struct mscp mscp;
+    static struct mscp_host host;
+    static struct mscp_limits limits;
+    static struct mscp_unit units[2];
+    static struct mscp_waiting list[2];
+    struct mscp_sent sent;
+    struct mscp_news news;
+    uint8_t bytes[2] = {0, 0};
+    passes("init", mscp_init(&mscp, &limits, units, 2, 3), units, 2);
+    passes("send", mscp_send(&mscp, bytes, 2, &sent), bytes, 2);
+    passes("look", mscp_look(&mscp, list, 2), list, 2);
+    passes("submit", mscp_host_submit(&host, bytes, 2), bytes, 2);
+    passes("receive", mscp_host_receive(&host, bytes, 2, &news), bytes, 2);
+    passes("init of none", mscp_init(&mscp, &limits, NULL, 0, 3), NULL, 0);
+    passes("send of none", mscp_send(&mscp, NULL, 0, &sent), NULL, 0);
+    passes("look at none", mscp_look(&mscp, NULL, 0), NULL, 0);
+    passes("submit of none", mscp_host_submit(&host, NULL, 0), NULL, 0);
+    passes("receive of none", mscp_host_receive(&host, NULL, 0, &news), NULL, 0);
+    return wrong;
+}

@@ -1,0 +1,23 @@
+/* Each call of mscp.h that answers a status, of which nobody reads it: the compiler warns of each. */
+#include "mscp.h"
+
+void calls(struct mscp *mscp, struct mscp_host *host, const struct mscp_limits *limits, const struct mscp_unit *units,
+           const uint8_t *bytes, struct mscp_sent *sent, struct mscp_packet *packet, struct mscp_upcoming *upcoming,
+           struct mscp_report *report, struct mscp_news *news);
+
+void calls(struct mscp *mscp, struct mscp_host *host, const struct mscp_limits *limits, const struct mscp_unit *units,
+           const uint8_t *bytes, struct mscp_sent *sent, struct mscp_packet *packet, struct mscp_upcoming *upcoming,
+           struct mscp_report *report, struct mscp_news *news)
+{
+    mscp_init(mscp, limits, units, 1, MSCP_SWEEP);
+    mscp_reset(mscp);
+    mscp_send(mscp, bytes, 12, sent);
+    mscp_take(mscp, packet);
+    mscp_begin(mscp, upcoming);
+    mscp_finish(mscp, 1, 0, report);
+    mscp_step(mscp, 0, report);
+    mscp_host_init(host, 2);
+    mscp_host_submit(host, bytes, 12);
+    mscp_host_poll(host, 1, packet);
+    mscp_host_receive(host, bytes, 12, news);
+}
