@@ -1,6 +1,6 @@
 -- At most one command is in service, and if none is, the oldest that waits may start.
 use Rattle.std.proofs.Common.{◌≡◌, ◌⊎◌, ⊎_elim, ℕ, ◌+◌, ◌<◌, ◌≤◌, Bool, true, false, cond, not, ◌&&◌, List, [], ◌∷◌, length, refl, ap, sym, subst, arith}
-use Rattle.std.specs.Prelude.{filter, nat_le, nat_lt, slice_get, Option, Some, None, is_some}
+use Rattle.std.specs.Prelude.{filter, nat_le, nat_lt, slice_get, Some, is_some}
 use Rattle.std.specs.List.{AllByRecursion, list_all}
 use Rattle.std.proofs.lemmas.Bool.{false≢true, ltb-true}
 use Rattle.mscp_queue.proofs.Lists.{every_weaker, filter_none}

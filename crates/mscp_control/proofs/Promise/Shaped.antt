@@ -11,7 +11,6 @@ use Rattle.mscp_packet.specs.declared.command.Command.{Command}
 use Rattle.mscp_packet.specs.declared.command.MoveKind.TheVariants as moves
 use Rattle.mscp_packet.specs.declared.command.Order.{Order}
 use Rattle.mscp_packet.specs.declared.command.Order.TheVariants as orders
-use Rattle.mscp_packet.specs.declared.end.End.{End}
 use Rattle.mscp_packet.specs.Opcodes.{least, line_of, opcode_of, opcodes}
 use Rattle.mscp_packet.specs.Commands.{command_of, order_with, parameters}
 use Rattle.mscp_packet.specs.Ends.{IsOfKind, kind_of_body, kind_of_code}

@@ -21,7 +21,7 @@ use Rattle.mscp_queue.proofs.Placed.{found_is}
 use Rattle.mscp_sim.specs.declared.conversing.Turn.{Turn}
 use Rattle.mscp_sim.specs.declared.conversing.Turn.TheVariants as turns
 use Rattle.mscp_sim.specs.Talks as talks
-use Rattle.mscp_sim.specs.Talks.{Talk, account_at, answers_of, is_asked, asks_about, before, ended, hands_over, is_ended, is_it, is_outstanding, last_answer, last_of, outstanding, polled, reference_found, said, sends, figure_told, trace_of}
+use Rattle.mscp_sim.specs.Talks.{Talk, account_at, answers_of, is_asked, asks_about, before, ended, hands_over, is_ended, is_it, is_outstanding, last_of, outstanding, polled, reference_found, said, sends, figure_told, trace_of}
 use Rattle.mscp_sim.specs.TwoEnds.{IsHeard, IsStepTurn, Stands, StepsSincePolls}
 use Rattle.mscp_sim.proofs.TwoEnds.Outstanding.{any_more, before_below, found_below, found_stands}
 use Rattle.mscp_sim.proofs.TwoEnds.Receiving.{found_all, outstanding_found}

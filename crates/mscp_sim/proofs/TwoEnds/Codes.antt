@@ -1,26 +1,15 @@
 -- The endcodes of commands are those of their opcode bytes.
-use Rattle.std.proofs.Common.{◌≡◌, ℕ, Bool, true, false, List, refl, length, subst}
-use Rattle.std.specs.Prelude.{find, nat_eq, nat_lt, if◌then◌else◌, slice_index, Option, Some, None, is_some}
-use Rattle.std.proofs.lemmas.Bool.{eqb-true, false≢true}
+use Rattle.std.proofs.Common.{◌≡◌, ℕ, true, false, List, refl, length, subst}
+use Rattle.std.specs.Prelude.{find, nat_eq, nat_lt, if◌then◌else◌, slice_index, Option, Some, None}
+use Rattle.std.proofs.lemmas.Bool.{eqb-true}
 use Rattle.mscp_packet.specs.declared.class.Opcode.{Opcode}
 use Rattle.mscp_packet.specs.declared.class.Opcode.TheVariants as codes
-use Rattle.mscp_packet.specs.declared.command.Command.{Command}
 use Rattle.mscp_packet.specs.declared.command.MoveKind.TheVariants as moves
-use Rattle.mscp_packet.specs.declared.command.Order.{Order}
 use Rattle.mscp_packet.specs.declared.command.Order.TheVariants as orders
-use Rattle.mscp_packet.specs.declared.end.BodyKind.{BodyKind}
-use Rattle.mscp_packet.specs.declared.end.BodyKind.TheVariants as kinds
-use Rattle.mscp_packet.specs.declared.end.EndBody.TheVariants as bodies
 use Rattle.mscp_packet.specs.Opcodes.{least, line_of, opcode_of, opcodes}
 use Rattle.mscp_packet.specs.Commands.{command_of, order_with, parameters}
-use Rattle.mscp_packet.specs.Ends.{IsOfKind, kind_of_body, kind_of_code, refused_body, zero_body}
 use Rattle.mscp_packet.specs.Statuses.{invalid_length}
-use Rattle.mscp_drive.specs.Shape.{Shape}
-use Rattle.mscp_queue.specs.declared.block.Block.{Block}
 use Rattle.mscp_queue.specs.Orders.{endcode}
-use Rattle.mscp_queue.specs.Outcomes.{aborted_end, is_success, moved_body, online_body, outcome_at, outcome_body}
-use Rattle.mscp_control.specs.Settings.{Settings}
-use Rattle.mscp_control.specs.Outcomes.{answer_body, own_end, own_end_with}
 use Rattle.mscp_queue.proofs.Placed.{found_is}
 use Rattle.mscp_sim.specs.Matches.{HasOwnEndcode}
 

@@ -18,7 +18,7 @@ use Rattle.mscp_queue.specs.Lines.{Line}
 use Rattle.mscp_queue.specs.Outcomes.{goes_on, outcome_at}
 use Rattle.mscp_queue.specs.Records.{Record, aborted_record, drive_at, fresh_record, has_reference, left_of, no_record, passed_by, record_at, remains, step_toll, without}
 use Rattle.mscp_queue.specs.Serving.{end_given, waiting_after}
-use Rattle.mscp_queue.proofs.Lists.{every_append, every_parts}
+use Rattle.mscp_queue.proofs.Lists.{every_append}
 use Rattle.mscp_queue.proofs.Placed.{Found, cut_at, find_cases, find_none, find_first}
 use Rattle.mscp_control.specs.Holdings.{Holdings, Steps, aborting, ended, ends_reported, outstanding_of, queued}
 use Rattle.mscp_host.specs.declared.submission.Submission.{Submission}

@@ -1,4 +1,4 @@
-use Rattle.std.proofs.Common.{◌≡◌, ◌≤◌, length}
+use Rattle.std.proofs.Common.{◌≡◌}
 use Rattle.std.specs.Prelude.{vec_capacity, vec_len}
 use Rattle.mscp_control.proofs.Bridge.Answering.{Goes}
 use Rattle.mscp_control.proofs.running.answer_each.Given as goal

@@ -1,4 +1,4 @@
-use Rattle.std.proofs.Common.{◌≡◌, arith}
+use Rattle.std.proofs.Common.{arith}
 use Rattle.mscp_queue.proofs.Untolled.{none_passed}
 use Rattle.mscp_queue.proofs.turn.pass_front.Goals as goal
 
