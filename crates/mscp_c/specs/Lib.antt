@@ -4,3 +4,4 @@ pub mod Made
 pub mod Served
 pub mod Statuses
 pub mod Told
+pub mod HandleCalls

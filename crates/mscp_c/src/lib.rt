@@ -3,6 +3,7 @@
 
 mod hearing;
 mod hosting;
+mod law;
 mod making;
 mod outs;
 mod seeing;
@@ -11,3 +12,5 @@ mod serving;
 mod status;
 mod telling;
 mod units;
+
+pub use crate::law::{handles_keep_the_promise, made_handles_are_valid};

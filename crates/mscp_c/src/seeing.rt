@@ -4,6 +4,8 @@ ghost use Rattle.std.specs.Prelude.{◌≡◌, true, false, pos, length};
 ghost use Rattle.mscp_queue.specs.Drives.{is_online_in};
 ghost use Rattle.mscp_control.specs.Holdings.{balance_of};
 ghost use Rattle.mscp_memory.specs.ControllerHandles.{is_made};
+ghost use Rattle.mscp_c.specs.HandleCalls as calls;
+ghost use Rattle.mscp_c.specs.HandleCalls.{AnswersHandle};
 ghost use Rattle.mscp_c.specs.Told.{figure_in, figures_in, figures_told, flag};
 
 use crate::outs::FigureOut;
@@ -17,6 +19,7 @@ pub extern "C" fn mscp_look_at(handle: &mut Handle, out: &mut [FigureOut]) -> i3
     ensures count { is_made handle.old ≡ true → result ≡ pos (length (figures_in handle.old.held)) }
     ensures told { is_made handle.old ≡ true → out.new ≡ figures_told (figures_in handle.old.held) out.old }
     ensures same { handle.new ≡ handle.old }
+    ensures call { is_made handle.old ≡ true → AnswersHandle handle.old (calls.Look out.old result out.new) handle.new }
     ensures unmade { is_made handle.old ≡ false → (result ≡ NOT_MADE) × (out.new ≡ out.old) }
 {
     if !is_made(handle) {
@@ -32,6 +35,7 @@ pub extern "C" fn mscp_look_at(handle: &mut Handle, out: &mut [FigureOut]) -> i3
 pub extern "C" fn mscp_figure(handle: &mut Handle, reference: u32) -> i64
     ensures value { is_made handle.old ≡ true → result ≡ pos (figure_in handle.old.held reference) }
     ensures same { handle.new ≡ handle.old }
+    ensures call { is_made handle.old ≡ true → AnswersHandle handle.old (calls.Figure reference result) handle.new }
     ensures unmade { is_made handle.old ≡ false → result ≡ NOT_MADE }
 {
     if !is_made(handle) {
@@ -45,6 +49,7 @@ pub extern "C" fn mscp_figure(handle: &mut Handle, reference: u32) -> i64
 pub extern "C" fn mscp_waiting(handle: &mut Handle) -> i64
     ensures value { is_made handle.old ≡ true → result ≡ pos (length handle.old.held.waiting) }
     ensures same { handle.new ≡ handle.old }
+    ensures call { is_made handle.old ≡ true → AnswersHandle handle.old (calls.Waiting result) handle.new }
     ensures unmade { is_made handle.old ≡ false → result ≡ NOT_MADE }
 {
     if !is_made(handle) {
@@ -58,6 +63,7 @@ pub extern "C" fn mscp_waiting(handle: &mut Handle) -> i64
 pub extern "C" fn mscp_untaken(handle: &mut Handle) -> i64
     ensures value { is_made handle.old ≡ true → result ≡ pos (length handle.old.held.untaken) }
     ensures same { handle.new ≡ handle.old }
+    ensures call { is_made handle.old ≡ true → AnswersHandle handle.old (calls.Untaken result) handle.new }
     ensures unmade { is_made handle.old ≡ false → result ≡ NOT_MADE }
 {
     if !is_made(handle) {
@@ -71,6 +77,7 @@ pub extern "C" fn mscp_untaken(handle: &mut Handle) -> i64
 pub extern "C" fn mscp_is_online(handle: &mut Handle, unit: u16) -> i32
     ensures value { is_made handle.old ≡ true → result ≡ pos (flag (is_online_in handle.old.held.drives unit)) }
     ensures same { handle.new ≡ handle.old }
+    ensures call { is_made handle.old ≡ true → AnswersHandle handle.old (calls.Online unit result) handle.new }
     ensures unmade { is_made handle.old ≡ false → result ≡ NOT_MADE }
 {
     if !is_made(handle) {
@@ -84,6 +91,7 @@ pub extern "C" fn mscp_is_online(handle: &mut Handle, unit: u16) -> i32
 pub extern "C" fn mscp_balance(handle: &mut Handle) -> i64
     ensures value { is_made handle.old ≡ true → result ≡ pos (balance_of handle.old.held) }
     ensures same { handle.new ≡ handle.old }
+    ensures call { is_made handle.old ≡ true → AnswersHandle handle.old (calls.Balance result) handle.new }
     ensures unmade { is_made handle.old ≡ false → result ≡ NOT_MADE }
 {
     if !is_made(handle) {

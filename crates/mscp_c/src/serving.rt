@@ -2,6 +2,8 @@
 
 ghost use Rattle.std.specs.Prelude.{◌≡◌, true, false, IfSome, None};
 ghost use Rattle.mscp_memory.specs.ControllerHandles.{is_made};
+ghost use Rattle.mscp_c.specs.HandleCalls as calls;
+ghost use Rattle.mscp_c.specs.HandleCalls.{AnswersHandle};
 ghost use Rattle.mscp_c.specs.Told.{block_told};
 ghost use Rattle.mscp_c.specs.Served.{TellsBegin, TellsFinish, TellsStep};
 
@@ -14,6 +16,7 @@ use mscp_memory::controller::{Handle, is_made, lend};
 #[unsafe(no_mangle)]
 pub extern "C" fn mscp_begin(handle: &mut Handle, out: &mut UpcomingOut) -> i32
     ensures begin { is_made handle.old ≡ true → TellsBegin handle.old out.old result handle.new out.new }
+    ensures call { is_made handle.old ≡ true → AnswersHandle handle.old (calls.Begin out.old result out.new) handle.new }
     ensures unmade { is_made handle.old ≡ false
         → (result ≡ NOT_MADE) × (handle.new ≡ handle.old) × (out.new ≡ out.old) }
 {
@@ -36,6 +39,8 @@ pub extern "C" fn mscp_finish(
         TellsFinish reference k handle.old out.old result handle.new out.new) }
     ensures refused { is_made handle.old ≡ true → block_told status ≡ None
         → (result ≡ BAD_STATUS) × (handle.new ≡ handle.old) × (out.new ≡ out.old) }
+    ensures call { is_made handle.old ≡ true
+        → AnswersHandle handle.old (calls.Finish reference status out.old result out.new) handle.new }
     ensures unmade { is_made handle.old ≡ false
         → (result ≡ NOT_MADE) × (handle.new ≡ handle.old) × (out.new ≡ out.old) }
 {
@@ -58,6 +63,8 @@ pub extern "C" fn mscp_step(handle: &mut Handle, status: u16, out: &mut ReportOu
         TellsStep k handle.old out.old result handle.new out.new) }
     ensures refused { is_made handle.old ≡ true → block_told status ≡ None
         → (result ≡ BAD_STATUS) × (handle.new ≡ handle.old) × (out.new ≡ out.old) }
+    ensures call { is_made handle.old ≡ true
+        → AnswersHandle handle.old (calls.Step status out.old result out.new) handle.new }
     ensures unmade { is_made handle.old ≡ false
         → (result ≡ NOT_MADE) × (handle.new ≡ handle.old) × (out.new ≡ out.old) }
 {

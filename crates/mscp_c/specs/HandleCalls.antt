@@ -1,0 +1,158 @@
+-- What somebody calls from C who holds a handle on a controller, what is told, and what is promised of it.
+use Rattle.std.specs.Prelude.{◌≡◌, ℕ, ℤ, pos, List, [], ◌∷◌, ◌++◌, length, map, Option, MatchOption, Result}
+use Rattle.arrayvec.specs.ArrayVec.{ArrayVec}
+use Rattle.mscp_queue.specs.declared.block.Block.{Block}
+use Rattle.mscp_queue.specs.declared.report.Report.{Report}
+use Rattle.mscp_queue.specs.declared.upcoming.Upcoming.{Upcoming}
+use Rattle.mscp_queue.specs.Drives.{is_online_in}
+use Rattle.mscp_control.specs.declared.event.Event.TheVariants as events
+use Rattle.mscp_control.specs.declared.event.Entry.TheVariants as entries
+use Rattle.mscp_control.specs.declared.event.SendFault.{SendFault}
+use Rattle.mscp_control.specs.declared.event.Sent.{Sent}
+use Rattle.mscp_control.specs.declared.event.Stale.{Stale}
+use Rattle.mscp_control.specs.Settings.{Settings, IsValid}
+use Rattle.mscp_control.specs.Holdings.{after_message, after_take, answer_to_message, balance_of, end_taken, fresh}
+use Rattle.mscp_control.specs.Commands.{waiting}
+use Rattle.mscp_control.specs.Ends.{untaken}
+use Rattle.mscp_control.specs.Figures.{figure_of}
+use Rattle.mscp_control.specs.Credits.{balance}
+use Rattle.mscp_control.specs.Calls as calls
+use Rattle.mscp_control.specs.Calls.{Call, history}
+use Rattle.mscp_control.specs.Controllers.{KeepsPromise, drive_at}
+use Rattle.mscp_memory.specs.declared.controller.handle.Handle.{Handle}
+use Rattle.mscp_memory.specs.declared.policy.Policy.{Policy}
+use Rattle.mscp_memory.specs.ControllerHandles.{with_held}
+use Rattle.mscp_memory.specs.ControllerRoom.{Held}
+use Rattle.mscp_memory.specs.Policies.{PolicyPicks}
+use Rattle.mscp_c.specs.declared.status.TheConstants.{BAD_STATUS}
+use Rattle.mscp_c.specs.declared.outs.SentOut.{SentOut}
+use Rattle.mscp_c.specs.declared.outs.PacketOut.{PacketOut}
+use Rattle.mscp_c.specs.declared.outs.UpcomingOut.{UpcomingOut}
+use Rattle.mscp_c.specs.declared.outs.ReportOut.{ReportOut}
+use Rattle.mscp_c.specs.declared.outs.FigureOut.{FigureOut}
+use Rattle.mscp_c.specs.Told.{TakeTold, begin_code, block_told, figure_in, figures_in, figures_told, flag, report_code, report_told, send_code, sent_told, take_code, upcoming_told}
+use Rattle.mscp_c.specs.Served.{TellsBegin, TellsFinish, TellsStep, finish_code, finish_told}
+
+-- ---- calls
+
+-- a call on a handle: what was passed; what the out-pointer pointed to, if there is one; the status or number that was
+-- answered; and what the out-pointer points to then (profile)
+pub data HandleCall : Type 0 where
+  -- the bytes of a message
+  Send : List ℕ → SentOut → ℤ → SentOut → HandleCall
+  Take : PacketOut → ℤ → PacketOut → HandleCall
+  Begin : UpcomingOut → ℤ → UpcomingOut → HandleCall
+  -- a reference number, and the status of its block
+  Finish : ℕ → ℕ → ReportOut → ℤ → ReportOut → HandleCall
+  -- the status of a block
+  Step : ℕ → ReportOut → ℤ → ReportOut → HandleCall
+  Look : List FigureOut → ℤ → List FigureOut → HandleCall
+  -- a reference number
+  Figure : ℕ → ℤ → HandleCall
+  Balance : ℤ → HandleCall
+  Waiting : ℤ → HandleCall
+  Untaken : ℤ → HandleCall
+  -- the number of a unit
+  Online : ℕ → ℤ → HandleCall
+
+-- a block's status that is none is refused, and nothing changes
+abbrev pub RefusesStatus : Handle → ReportOut → ℤ → Handle → ReportOut → Type 0
+RefusesStatus old before status new after = (status ≡ BAD_STATUS) × (new ≡ old) × (after ≡ before)
+
+-- what a call on a handle that was made answers, and what is there then
+abbrev pub AnswersHandle : Handle → HandleCall → Handle → Type 0
+AnswersHandle old (Send message before status after) new =
+    (new ≡ with_held old (after_message old.held message))
+    × (status ≡ send_code (answer_to_message old.held message))
+    × (after ≡ sent_told (answer_to_message old.held message) before)
+AnswersHandle old (Take before status after) new =
+    (new ≡ with_held old (after_take old.held))
+    × (status ≡ take_code (end_taken old.held)) × TakeTold (end_taken old.held) before after
+AnswersHandle old (Begin before status after) new = TellsBegin old before status new after
+AnswersHandle old (Finish reference block before status after) new =
+    MatchOption (block_told block) (RefusesStatus old before status new after)
+    (λ k. TellsFinish reference k old before status new after)
+AnswersHandle old (Step block before status after) new =
+    MatchOption (block_told block) (RefusesStatus old before status new after)
+    (λ k. TellsStep k old before status new after)
+AnswersHandle old (Look before status after) new =
+    (status ≡ pos (length (figures_in old.held))) × (after ≡ figures_told (figures_in old.held) before) × (new ≡ old)
+AnswersHandle old (Figure reference answer) new = (answer ≡ pos (figure_in old.held reference)) × (new ≡ old)
+AnswersHandle old (Balance answer) new = (answer ≡ pos (balance_of old.held)) × (new ≡ old)
+AnswersHandle old (Waiting answer) new = (answer ≡ pos (length old.held.waiting)) × (new ≡ old)
+AnswersHandle old (Untaken answer) new = (answer ≡ pos (length old.held.untaken)) × (new ≡ old)
+AnswersHandle old (Online unit answer) new = (answer ≡ pos (flag (is_online_in old.held.drives unit))) × (new ≡ old)
+
+-- the same of calls, one after the other
+abbrev pub AnsweredByHandle : Handle → List HandleCall → Handle → Type 0
+AnsweredByHandle old [] new = new ≡ old
+AnsweredByHandle old (call ∷ more) new = (next : Handle) × AnswersHandle old call next × AnsweredByHandle next more new
+
+-- ---- what they tell
+
+-- the status of the block was refused, and nothing was told
+abbrev pub TellsRefused : ReportOut → ℤ → ReportOut → List Call → Type 0
+TellsRefused before status after next = (next ≡ []) × (status ≡ BAD_STATUS) × (after ≡ before)
+
+-- it was that of this block, and a finish or a step is told
+abbrev pub TellsFinished : ℕ → Block → ReportOut → ℤ → ReportOut → List Call → Type 0
+TellsFinished reference k before status after next =
+    (answer : Result Report Stale) × (next ≡ calls.Finish reference k answer ∷ [])
+    × (status ≡ finish_code answer) × (after ≡ finish_told answer before)
+
+abbrev pub TellsStepped : Block → ReportOut → ℤ → ReportOut → List Call → Type 0
+TellsStepped k before status after next =
+    (report : Report) × (next ≡ calls.Plain (events.Step k) (entries.Stepped report) ∷ [])
+    × (status ≡ report_code report) × (after ≡ report_told report before)
+
+-- after these calls of a controller the call on its handle is the next of them, or is none and tells what is so after their
+-- history: status, numbers and out-struct tell what the controller answers (profile)
+abbrev pub Tells : Settings → List Call → HandleCall → List Call → Type 0
+Tells c so_far (Send message before status after) next =
+    (sent : Result Sent SendFault)
+    × (next ≡ calls.Plain (events.Send (record { items = message })) (entries.Sent sent) ∷ [])
+    × (status ≡ send_code sent) × (after ≡ sent_told sent before)
+Tells c so_far (Take before status after) next =
+    (end : Option (ArrayVec ℕ)) × (next ≡ calls.Plain events.Take (entries.Taken end) ∷ [])
+    × (status ≡ take_code end) × TakeTold end before after
+Tells c so_far (Begin before status after) next =
+    (upcoming : Option Upcoming) × (next ≡ calls.Begin upcoming ∷ [])
+    × (status ≡ begin_code upcoming) × (after ≡ upcoming_told upcoming before)
+Tells c so_far (Finish reference block before status after) next =
+    MatchOption (block_told block) (TellsRefused before status after next)
+    (λ k. TellsFinished reference k before status after next)
+Tells c so_far (Step block before status after) next =
+    MatchOption (block_told block) (TellsRefused before status after next)
+    (λ k. TellsStepped k before status after next)
+Tells c so_far (Look before status after) next =
+    (list : ArrayVec (ℕ × ℕ)) × (next ≡ calls.Plain events.Look (entries.Looked list) ∷ [])
+    × (status ≡ pos (length list.items)) × (after ≡ figures_told list.items before)
+Tells c so_far (Figure reference answer) next = (next ≡ []) × (answer ≡ pos (figure_of c (history so_far) reference))
+Tells c so_far (Balance answer) next = (next ≡ []) × (answer ≡ pos (balance c (history so_far)))
+Tells c so_far (Waiting answer) next = (next ≡ []) × (answer ≡ pos (length (waiting (history so_far))))
+Tells c so_far (Untaken answer) next = (next ≡ []) × (answer ≡ pos (length (untaken c (history so_far))))
+Tells c so_far (Online unit answer) next =
+    (next ≡ []) × (answer ≡ pos (flag (is_online_in (map (drive_at c (history so_far)) c.units) unit)))
+
+-- the same of calls, one after the other
+abbrev pub TellsAll : Settings → List Call → List HandleCall → List Call → Type 0
+TellsAll c so_far [] told = told ≡ []
+TellsAll c so_far (call ∷ more) told =
+    (next : List Call) × (rest : List Call) × (told ≡ next ++ rest)
+    × Tells c so_far call next × TellsAll c (so_far ++ next) more rest
+
+-- ---- the promise
+
+-- what is promised of a handle whose controller answered so to these calls, and now holds this
+pub record KeepsHandlePromise (c : Settings) (policy : Policy) (made : List HandleCall) (held : Held) : Type 0 where
+  -- the calls on the handle are these of a controller
+  pub told : List Call
+  pub tells : TellsAll c [] made told
+  -- of which all is promised that is promised of a controller that somebody holds
+  pub keeps : KeepsPromise (PolicyPicks policy) c told held
+
+-- the law: every handle keeps the promise, whoever calls it, from an init or a reset on (profile)
+abbrev pub HandlesKeepThePromise : Policy → Type 0
+HandlesKeepThePromise policy =
+    (c : Settings) (made : List HandleCall) (old new : Handle) → IsValid c → old.held ≡ fresh c policy
+    → AnsweredByHandle old made new → KeepsHandlePromise c policy made new.held
