@@ -33,16 +33,20 @@ use Rattle.mscp_c.specs.HandleCalls.{AnsweredByHandle, AnswersHandle, HandleCall
 
 -- ---- one more call of a controller
 
-calls_more : {K : Type 0} (picks : List Choice → ℕ → Type 0) (old : Holdings K) (xs : List Call) (h : Holdings K) (call : Call) (new : Holdings K) → AnsweredCalls picks old xs h → AnswersCall picks h call new → AnsweredCalls picks old (xs ++ call ∷ []) new
+calls_more : {K : Type 0} (picks : List Choice → ℕ → Type 0) (old : Holdings K) (xs : List Call) (h : Holdings K)
+    (call : Call) (new : Holdings K) → AnsweredCalls picks old xs h → AnswersCall picks h call new
+    → AnsweredCalls picks old (xs ++ call ∷ []) new
 calls_more {K} picks old [] h call new a r = (new, subst (λ (x : Holdings K). AnswersCall picks x call new) a r, refl)
 calls_more picks old (x ∷ xs) h call new a r = (a.0, a.1, calls_more picks a.0 xs h call new a.2 r)
 
 -- no call changes the picker
-picker_kept : {K : Type 0} (picks : List Choice → ℕ → Type 0) (old : Holdings K) (call : Call) (new : Holdings K) → AnswersCall picks old call new → new.picker ≡ old.picker
+picker_kept : {K : Type 0} (picks : List Choice → ℕ → Type 0) (old : Holdings K) (call : Call) (new : Holdings K)
+    → AnswersCall picks old call new → new.picker ≡ old.picker
 picker_kept picks old (calls.Plain event entry) new r = (owner_kept picks old new event entry r).1
 picker_kept {K} picks old (calls.Begin None) new r = ap (λ (l : Line K). l.picker) r.begins.2
 picker_kept {K} picks old (calls.Begin (Some upcoming)) new r = ap (λ (l : Line K). l.picker) r.begins.1.left
-picker_kept picks old (calls.Finish reference k (Ok report)) new r = (owner_kept picks old new (events.Step k) (entries.Stepped report) r.1).1
+picker_kept picks old (calls.Finish reference k (Ok report)) new r =
+    (owner_kept picks old new (events.Step k) (entries.Stepped report) r.1).1
 picker_kept {K} picks old (calls.Finish reference k (Err stale)) new r = ap (λ (h : Holdings K). h.picker) r.1
 
 -- ---- what is known of a handle after calls of its controller
@@ -57,62 +61,80 @@ record Goes (c : Settings) (policy : Policy) (so_far : List Call) (call : Handle
   pub tells : Tells c so_far call next
   pub follows : Follows c policy (so_far ++ next) new
 
-follows_more : (c : Settings) (policy : Policy) (so_far : List Call) (h h' : Handle) (call : Call) → Follows c policy so_far h → AnswersCall (PolicyPicks h.held.picker) h.held call h'.held → Follows c policy (so_far ++ call ∷ []) h'
+follows_more : (c : Settings) (policy : Policy) (so_far : List Call) (h h' : Handle) (call : Call)
+    → Follows c policy so_far h → AnswersCall (PolicyPicks h.held.picker) h.held call h'.held
+    → Follows c policy (so_far ++ call ∷ []) h'
 follows_more c policy so_far h h' call f r =
-    let own : AnswersCall (PolicyPicks policy) h.held call h'.held = subst (λ (p : Policy). AnswersCall (PolicyPicks p) h.held call h'.held) f.picker r in
+    let own : AnswersCall (PolicyPicks policy) h.held call h'.held =
+        subst (λ (p : Policy). AnswersCall (PolicyPicks p) h.held call h'.held) f.picker r in
     record {
       picker = picker_kept (PolicyPicks policy) h.held call h'.held own ∙ f.picker;
       called = calls_more (PolicyPicks policy) (fresh c policy) so_far h.held call h'.held f.called own;
     }
 
-follows_same : (c : Settings) (policy : Policy) (so_far : List Call) (h h' : Handle) → Follows c policy so_far h → h' ≡ h → Follows c policy (so_far ++ []) h'
-follows_same c policy so_far h h' f e = subst (Follows c policy (so_far ++ [])) (sym e) (subst (λ xs. Follows c policy xs h) (sym (append-nil so_far)) f)
+follows_same : (c : Settings) (policy : Policy) (so_far : List Call) (h h' : Handle) → Follows c policy so_far h
+    → h' ≡ h → Follows c policy (so_far ++ []) h'
+follows_same c policy so_far h h' f e = subst (Follows c policy (so_far ++ [])) (sym e)
+    (subst (λ xs. Follows c policy xs h) (sym (append-nil so_far)) f)
 
 -- ---- a call on a handle
 
-finished : (c : Settings) (policy : Policy) (so_far : List Call) (h h' : Handle) (reference block : ℕ) (before : ReportOut) (status : ℤ) (after : ReportOut) (o : Option Block) → block_told block ≡ o
-    → MatchOption o (RefusesStatus h before status h' after) (λ k. TellsFinish reference k h before status h' after) → Follows c policy so_far h → Goes c policy so_far (made.Finish reference block before status after) h'
+finished : (c : Settings) (policy : Policy) (so_far : List Call) (h h' : Handle) (reference block : ℕ)
+    (before : ReportOut) (status : ℤ) (after : ReportOut) (o : Option Block) → block_told block ≡ o
+    → MatchOption o (RefusesStatus h before status h' after) (λ k. TellsFinish reference k h before status h' after)
+        → Follows c policy so_far h → Goes c policy so_far (made.Finish reference block before status after) h'
 finished c policy so_far h h' reference block before status after None e r f = record {
   next = [];
-  tells = subst (λ o. MatchOption o (TellsRefused before status after []) (λ k. TellsFinished reference k before status after [])) (sym e) (refl, r.0, r.2);
+  tells = subst (λ o. MatchOption o (TellsRefused before status after [])
+      (λ k. TellsFinished reference k before status after [])) (sym e) (refl, r.0, r.2);
   follows = follows_same c policy so_far h h' f r.1;
 }
 finished c policy so_far h h' reference block before status after (Some k) e r f =
     let call : Call = calls.Finish reference k r.answer in
     record {
       next = call ∷ [];
-      tells = subst (λ o. MatchOption o (TellsRefused before status after (call ∷ [])) (λ k. TellsFinished reference k before status after (call ∷ []))) (sym e) (r.answer, refl, r.code, r.told);
+      tells = subst (λ o. MatchOption o (TellsRefused before status after (call ∷ []))
+          (λ k. TellsFinished reference k before status after (call ∷ []))) (sym e) (r.answer, refl, r.code, r.told);
       follows = follows_more c policy so_far h h' call f r.finish;
     }
 
-stepped : (c : Settings) (policy : Policy) (so_far : List Call) (h h' : Handle) (block : ℕ) (before : ReportOut) (status : ℤ) (after : ReportOut) (o : Option Block) → block_told block ≡ o
-    → MatchOption o (RefusesStatus h before status h' after) (λ k. TellsStep k h before status h' after) → Follows c policy so_far h → Goes c policy so_far (made.Step block before status after) h'
+stepped : (c : Settings) (policy : Policy) (so_far : List Call) (h h' : Handle) (block : ℕ) (before : ReportOut)
+    (status : ℤ) (after : ReportOut) (o : Option Block) → block_told block ≡ o
+    → MatchOption o (RefusesStatus h before status h' after) (λ k. TellsStep k h before status h' after)
+        → Follows c policy so_far h → Goes c policy so_far (made.Step block before status after) h'
 stepped c policy so_far h h' block before status after None e r f = record {
   next = [];
-  tells = subst (λ o. MatchOption o (TellsRefused before status after []) (λ k. TellsStepped k before status after [])) (sym e) (refl, r.0, r.2);
+  tells = subst (λ o. MatchOption o (TellsRefused before status after []) (λ k. TellsStepped k before status after []))
+      (sym e) (refl, r.0, r.2);
   follows = follows_same c policy so_far h h' f r.1;
 }
 stepped c policy so_far h h' block before status after (Some k) e r f =
     let call : Call = calls.Plain (events.Step k) (entries.Stepped r.report) in
     record {
       next = call ∷ [];
-      tells = subst (λ o. MatchOption o (TellsRefused before status after (call ∷ [])) (λ k. TellsStepped k before status after (call ∷ []))) (sym e) (r.report, refl, r.code, r.told);
+      tells = subst (λ o. MatchOption o (TellsRefused before status after (call ∷ []))
+          (λ k. TellsStepped k before status after (call ∷ []))) (sym e) (r.report, refl, r.code, r.told);
       follows = follows_more c policy so_far h h' call f r.step;
     }
 
 -- what is told of the controller as it is: the calls on it so far tell that too
-goes : (c : Settings) (policy : Policy) → ControllersKeepThePromise (PolicyPicks policy) policy → IsValid c → (so_far : List Call) (h h' : Handle) (call : HandleCall) → Follows c policy so_far h → AnswersHandle h call h' → Goes c policy so_far call h'
+goes : (c : Settings) (policy : Policy) → ControllersKeepThePromise (PolicyPicks policy) policy → IsValid c
+    → (so_far : List Call) (h h' : Handle) (call : HandleCall) → Follows c policy so_far h → AnswersHandle h call h'
+    → Goes c policy so_far call h'
 goes c policy law valid so_far h h' (made.Send message before status after) f r =
     let sent = answer_to_message h.held message in
     let call : Call = calls.Plain (events.Send (record { items = message })) (entries.Sent sent) in
-    record { next = call ∷ []; tells = (sent, refl, r.1, r.2); follows = follows_more c policy so_far h h' call f (refl, ap (λ (x : Handle). x.held) r.0) }
+    record { next = call ∷ []; tells = (sent, refl, r.1, r.2); follows =
+        follows_more c policy so_far h h' call f (refl, ap (λ (x : Handle). x.held) r.0) }
 goes c policy law valid so_far h h' (made.Take before status after) f r =
     let end = end_taken h.held in
     let call : Call = calls.Plain events.Take (entries.Taken end) in
-    record { next = call ∷ []; tells = (end, refl, r.1, r.2); follows = follows_more c policy so_far h h' call f (refl, ap (λ (x : Handle). x.held) r.0) }
+    record { next = call ∷ []; tells = (end, refl, r.1, r.2); follows =
+        follows_more c policy so_far h h' call f (refl, ap (λ (x : Handle). x.held) r.0) }
 goes c policy law valid so_far h h' (made.Begin before status after) f r =
     let call : Call = calls.Begin r.upcoming in
-    record { next = call ∷ []; tells = (r.upcoming, refl, r.code, r.told); follows = follows_more c policy so_far h h' call f r.begin }
+    record { next = call ∷ []; tells = (r.upcoming, refl, r.code, r.told); follows =
+        follows_more c policy so_far h h' call f r.begin }
 goes c policy law valid so_far h h' (made.Finish reference block before status after) f r =
     finished c policy so_far h h' reference block before status after (block_told block) refl r f
 goes c policy law valid so_far h h' (made.Step block before status after) f r =
@@ -120,10 +142,12 @@ goes c policy law valid so_far h h' (made.Step block before status after) f r =
 goes c policy law valid so_far h h' (made.Look before status after) f r =
     let list : ArrayVec (ℕ × ℕ) = record { items = figures_in h.held } in
     let call : Call = calls.Plain events.Look (entries.Looked list) in
-    record { next = call ∷ []; tells = (list, refl, r.0, r.1); follows = follows_more c policy so_far h h' call f (refl, ap (λ (x : Handle). x.held) r.2) }
+    record { next = call ∷ []; tells = (list, refl, r.0, r.1); follows =
+        follows_more c policy so_far h h' call f (refl, ap (λ (x : Handle). x.held) r.2) }
 goes c policy law valid so_far h h' (made.Figure reference answer) f r =
     let k = law c so_far h.held valid f.called in
-    let figure = (λ i. figure_of_reference (k.settings i).passing (k.settings i).longest h.held.waiting reference) ∙ k.figure reference in
+    let figure = (λ i. figure_of_reference (k.settings i).passing (k.settings i).longest h.held.waiting reference)
+        ∙ k.figure reference in
     record { next = []; tells = (refl, r.0 ∙ ap pos figure); follows = follows_same c policy so_far h h' f r.1 }
 goes c policy law valid so_far h h' (made.Balance answer) f r =
     let k = law c so_far h.held valid f.called in
@@ -131,25 +155,32 @@ goes c policy law valid so_far h h' (made.Balance answer) f r =
 goes c policy law valid so_far h h' (made.Waiting answer) f r =
     let k = law c so_far h.held valid f.called in
     let many : length h.held.waiting ≡ length (waiting (history so_far)) =
-    sym (length-map h.held.waiting (λ (q : Record). name_of q.command)) ∙ (ap length k.waiting ∙ length-map (waiting (history so_far)) (name (history so_far))) in
+    sym (length-map h.held.waiting (λ (q : Record). name_of q.command))
+        ∙ (ap length k.waiting ∙ length-map (waiting (history so_far)) (name (history so_far))) in
     record { next = []; tells = (refl, r.0 ∙ ap pos many); follows = follows_same c policy so_far h h' f r.1 }
 goes c policy law valid so_far h h' (made.Untaken answer) f r =
     let k = law c so_far h.held valid f.called in
-    record { next = []; tells = (refl, r.0 ∙ ap (λ us. pos (length us)) k.untaken); follows = follows_same c policy so_far h h' f r.1 }
+    record { next = []; tells = (refl, r.0 ∙ ap (λ us. pos (length us)) k.untaken); follows =
+        follows_same c policy so_far h h' f r.1 }
 goes c policy law valid so_far h h' (made.Online unit answer) f r =
     let k = law c so_far h.held valid f.called in
-    record { next = []; tells = (refl, r.0 ∙ ap (λ (ds : List Drive). pos (flag (is_online_in ds unit))) k.drives); follows = follows_same c policy so_far h h' f r.1 }
+    record { next = []; tells = (refl, r.0 ∙ ap (λ (ds : List Drive). pos (flag (is_online_in ds unit))) k.drives);
+        follows = follows_same c policy so_far h h' f r.1 }
 
 -- ---- all calls
 
 -- what is told of calls, and what is known after them
-record GoesOn (c : Settings) (policy : Policy) (so_far : List Call) (more : List HandleCall) (new : Handle) : Type 0 where
+record GoesOn (c : Settings) (policy : Policy) (so_far : List Call) (more : List HandleCall) (new : Handle) :
+    Type 0 where
   pub told : List Call
   pub tells : TellsAll c so_far more told
   pub follows : Follows c policy (so_far ++ told) new
 
-goes_on : (c : Settings) (policy : Policy) → ControllersKeepThePromise (PolicyPicks policy) policy → IsValid c → (so_far : List Call) (h h' : Handle) (more : List HandleCall) → Follows c policy so_far h → AnsweredByHandle h more h' → GoesOn c policy so_far more h'
-goes_on c policy law valid so_far h h' [] f r = record { told = []; tells = refl; follows = follows_same c policy so_far h h' f r }
+goes_on : (c : Settings) (policy : Policy) → ControllersKeepThePromise (PolicyPicks policy) policy → IsValid c
+    → (so_far : List Call) (h h' : Handle) (more : List HandleCall) → Follows c policy so_far h
+    → AnsweredByHandle h more h' → GoesOn c policy so_far more h'
+goes_on c policy law valid so_far h h' [] f r = record { told = []; tells = refl; follows =
+    follows_same c policy so_far h h' f r }
 goes_on c policy law valid so_far h h' (call ∷ more) f r =
     let one = goes c policy law valid so_far h r.0 call f r.1 in
     let rest = goes_on c policy law valid (so_far ++ one.next) r.0 h' more one.follows r.2 in
@@ -159,7 +190,8 @@ goes_on c policy law valid so_far h h' (call ∷ more) f r =
       follows = subst (λ xs. Follows c policy xs h') (append_assoc so_far one.next rest.told) rest.follows;
     }
 
-pub keeps_promise : (policy : Policy) → ControllersKeepThePromise (PolicyPicks policy) policy → HandlesKeepThePromise policy
+pub keeps_promise : (policy : Policy) → ControllersKeepThePromise (PolicyPicks policy) policy
+    → HandlesKeepThePromise policy
 keeps_promise policy law c more old new valid e r =
     let start : Follows c policy [] old = record { picker = ap (λ (h : Held). h.picker) e; called = e } in
     let g = goes_on c policy law valid [] old new more start r in

@@ -105,8 +105,8 @@ TellsStepped k before status after next =
     (report : Report) × (next ≡ calls.Plain (events.Step k) (entries.Stepped report) ∷ [])
     × (status ≡ report_code report) × (after ≡ report_told report before)
 
--- after these calls of a controller the call on its handle is the next of them, or is none and tells what is so after their
--- history: status, numbers and out-struct tell what the controller answers (profile)
+-- after these calls of a controller the call on its handle is the next of them, or is none and tells what is so after
+-- their history: status, numbers and out-struct tell what the controller answers (profile)
 abbrev pub Tells : Settings → List Call → HandleCall → List Call → Type 0
 Tells c so_far (Send message before status after) next =
     (sent : Result Sent SendFault)

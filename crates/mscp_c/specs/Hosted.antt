@@ -43,7 +43,8 @@ submit_code (Err fault) = host_code fault
 
 -- what a message is read as, if its size is right
 abbrev pub message_read : List ℕ → Result Command PacketFault
-message_read b = if nat_lt (length b) 12 then Err sizes.Short else (if nat_lt 64 (length b) then Err sizes.Long else Ok (command_of b))
+message_read b = if nat_lt (length b) 12 then Err sizes.Short
+    else (if nat_lt 64 (length b) then Err sizes.Long else Ok (command_of b))
 
 -- the status of a submission of what was read, and what is kept after it
 abbrev pub submits_read : Account → Result Command PacketFault → ℤ × Account

@@ -1,5 +1,5 @@
 -- The statuses of faults.
-use Rattle.std.specs.Prelude.{ℤ}
+use Rattle.std.specs.Prelude.{ℕ, ℤ, pos, negsuc}
 use Rattle.mscp_drive.specs.declared.unit.UnitFault.{UnitFault}
 use Rattle.mscp_drive.specs.declared.unit.UnitFault.TheVariants as unit
 use Rattle.mscp_drive.specs.declared.units.UnitsFault.{UnitsFault}
@@ -13,6 +13,11 @@ use Rattle.mscp_host.specs.declared.news.HostFault.TheVariants as hosts
 use Rattle.mscp_memory.specs.declared.fault.RoomFault.{RoomFault}
 use Rattle.mscp_memory.specs.declared.fault.RoomFault.TheVariants as rooms
 use Rattle.mscp_c.specs.declared.status.TheConstants as status
+
+-- the number -n
+abbrev pub minus : ℕ → ℤ
+minus 0 = pos 0
+minus (suc n) = negsuc n
 
 -- of memory that is no room
 abbrev pub room_code : RoomFault → ℤ

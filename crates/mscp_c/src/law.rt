@@ -1,10 +1,14 @@
 // What is promised of who calls from C.
 
-ghost use Rattle.std.specs.Prelude.{◌≡◌, true};
+ghost use Rattle.std.specs.Prelude.{◌≡◌, pos, true};
 ghost use Rattle.mscp_control.specs.Settings.{IsValid};
 ghost use Rattle.mscp_memory.specs.ControllerHandles.{is_made};
 ghost use Rattle.mscp_c.specs.HandleCalls.{HandlesKeepThePromise};
+ghost use Rattle.mscp_c.specs.Statuses.{minus};
 
+use crate::status::{
+    NOTHING, DONE, QUEUED, ANSWERED, BUSY, ENDED, FIRST, PROGRESS, LATE, RESET, LOST, SHORT, LONG, NO_CREDIT, LAST_CREDIT, DOUBLED, STALE, BAD_STATUS, UNREADABLE, UNKNOWN, NOT_MADE, MADE, NO_HANDLE, NO_MEMORY, MISALIGNED, SMALL, BAD_PICKER, ZERO_TRACK, ZERO_GROUP, ZERO_CYLINDER, ZERO_SIZE, MANY_UNITS, UNITS_FALL, NO_UNITS, BAD_CREDITS, BAD_LONGEST, BAD_TIMEOUT, BAD_BOUND
+};
 use mscp_control::controllers_keep_the_promise;
 use mscp_memory::Policy;
 use mscp_memory::controller::{Handle, lend};
@@ -27,3 +31,45 @@ pub fn handles_keep_the_promise(policy: Policy)
 {
     controllers_keep_the_promise(&policy);
 }
+
+/// Each status is the number that the header has under its name.
+pub fn statuses_are_these()
+    ensures nothing { NOTHING ≡ pos 0 }
+    ensures done { DONE ≡ pos 1 }
+    ensures queued { QUEUED ≡ pos 2 }
+    ensures answered { ANSWERED ≡ pos 3 }
+    ensures busy { BUSY ≡ pos 4 }
+    ensures ended { ENDED ≡ pos 5 }
+    ensures first { FIRST ≡ pos 6 }
+    ensures progress { PROGRESS ≡ pos 7 }
+    ensures late { LATE ≡ pos 8 }
+    ensures reset { RESET ≡ pos 9 }
+    ensures lost { LOST ≡ pos 10 }
+    ensures short { SHORT ≡ minus 1 }
+    ensures long { LONG ≡ minus 2 }
+    ensures no_credit { NO_CREDIT ≡ minus 3 }
+    ensures last_credit { LAST_CREDIT ≡ minus 4 }
+    ensures doubled { DOUBLED ≡ minus 5 }
+    ensures stale { STALE ≡ minus 6 }
+    ensures bad_status { BAD_STATUS ≡ minus 7 }
+    ensures unreadable { UNREADABLE ≡ minus 8 }
+    ensures unknown { UNKNOWN ≡ minus 9 }
+    ensures not_made { NOT_MADE ≡ minus 10 }
+    ensures made { MADE ≡ minus 11 }
+    ensures no_handle { NO_HANDLE ≡ minus 12 }
+    ensures no_memory { NO_MEMORY ≡ minus 13 }
+    ensures misaligned { MISALIGNED ≡ minus 14 }
+    ensures small { SMALL ≡ minus 15 }
+    ensures bad_picker { BAD_PICKER ≡ minus 20 }
+    ensures zero_track { ZERO_TRACK ≡ minus 21 }
+    ensures zero_group { ZERO_GROUP ≡ minus 22 }
+    ensures zero_cylinder { ZERO_CYLINDER ≡ minus 23 }
+    ensures zero_size { ZERO_SIZE ≡ minus 24 }
+    ensures many_units { MANY_UNITS ≡ minus 25 }
+    ensures units_fall { UNITS_FALL ≡ minus 26 }
+    ensures no_units { NO_UNITS ≡ minus 27 }
+    ensures bad_credits { BAD_CREDITS ≡ minus 28 }
+    ensures bad_longest { BAD_LONGEST ≡ minus 29 }
+    ensures bad_timeout { BAD_TIMEOUT ≡ minus 30 }
+    ensures bad_bound { BAD_BOUND ≡ minus 31 }
+{}

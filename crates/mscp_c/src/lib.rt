@@ -13,4 +13,4 @@ mod status;
 mod telling;
 mod units;
 
-pub use crate::law::{handles_keep_the_promise, made_handles_are_valid};
+pub use crate::law::{handles_keep_the_promise, made_handles_are_valid, statuses_are_these};

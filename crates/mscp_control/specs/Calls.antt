@@ -1,5 +1,5 @@
--- What somebody calls who holds a controller, and what it answers: events, begins and finishes. A reset is none of them:
--- it begins a new list.
+-- What somebody calls who holds a controller, and what it answers: events, begins and finishes. A reset is none of
+-- them: it begins a new list.
 use Rattle.std.specs.Prelude.{◌≡◌, ◌≢◌, ◌⊎◌, ℕ, ◌+◌, ◌<◌, Bool, true, false, ◌||◌, nat_eq, if◌then◌else◌, List, [], ◌∷◌, length, take, drop, flat_map, slice_index_or, Option, Some, None, IfSome, Result, Ok, Err}
 use Rattle.std.specs.List.{list_any}
 use Rattle.mscp_queue.specs.declared.block.Block.{Block}
@@ -78,8 +78,8 @@ starts call = start_of (service_of call)
 abbrev pub foretold : Trace → ℕ → Upcoming
 foretold t y = record { command = command t y; lbn = block_of t y; done = done t y; weight = weight t y }
 
--- after the calls y is begun, since the call at j: that was a begin which told this of y, no step came since, and y still
--- waits (profile)
+-- after the calls y is begun, since the call at j: that was a begin which told this of y, no step came since, and y
+-- still waits (profile)
 pub record IsBegunSince (calls : List Call) (upcoming : Upcoming) (y j : ℕ) : Type 0 where
   pub inside : j < length calls
   pub told : upcoming_in (call_at calls j) ≡ Some upcoming

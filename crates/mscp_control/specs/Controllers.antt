@@ -33,8 +33,8 @@ pub record KeepsPromise {K : Type 0} (picks : List Choice → ℕ → Type 0) (c
   pub right : AtEachCall calls (IsRightCall c)
   -- what was begun stays so: it is what each begin tells and each step serves until it is served or aborted (profile)
   pub begun : AtEachCall calls HoldsToBegun
-  -- each start, and each that a begin tells, is one that its picker may pick in the view at its begin, or at the step where
-  -- nothing was begun (profile)
+  -- each start, and each that a begin tells, is one that its picker may pick in the view at its begin, or at the step
+  -- where nothing was begun (profile)
   pub picked : AtEachCall calls (StartsChosen (IsPick c picks))
   -- where the picker sweeps, each is the one of least cost in that view, and of those the oldest (profile)
   pub swept : Sweeps picks → AtEachCall calls (StartsChosen (IsSwept c))

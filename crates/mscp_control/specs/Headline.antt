@@ -65,7 +65,8 @@ pub record Promise (c : Settings) (t : Trace) : Type 0 where
   -- at most one command is in service at a time (profile)
   pub one_served : Always t (λ p. length (filter (in_service p) (waiting p)) ≤ 1)
   -- if something waits and nothing is in service, the oldest that waits may start: so something always may (profile)
-  pub oldest_starts : Always t (λ p. (x : ℕ) → slice_get (waiting p) 0 ≡ Some x → is_idle p ≡ true → is_startable c p x ≡ true)
+  pub oldest_starts : Always t (λ p. (x : ℕ) → slice_get (waiting p) 0 ≡ Some x → is_idle p ≡ true
+      → is_startable c p x ≡ true)
   -- none is passed more often than the passing limit (profile)
   pub passing : Always t (λ p. EachWaiting p (λ x. passes p x ≤ c.passing))
   -- every waiting command's status figure falls at each step (profile)

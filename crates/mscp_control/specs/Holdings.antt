@@ -122,7 +122,8 @@ aborting h order = record h {
 -- the end of an answered command, with the figure that it asks for (manual)
 abbrev pub answered_end : {K : Type 0} → Holdings K → Command → End
 answered_end h command =
-    own_end h.settings (drive_of h.drives command.unit).online (figure_polled h.settings h.waiting command.order) command
+    own_end h.settings (drive_of h.drives command.unit).online (figure_polled h.settings h.waiting command.order)
+        command
 
 -- what is held after the command: the end of one that it aborts stands before its own (manual)
 abbrev pub arrives : {K : Type 0} → Holdings K → Command → Holdings K
@@ -166,16 +167,16 @@ pub record Steps {K : Type 0} (picks : List Choice → ℕ → Type 0) (k : Bloc
 
 -- ---- a begin
 
--- what a begin may tell of the next step, and what is held after it: it is kept what was begun, and nothing else changes
--- (profile)
+-- what a begin may tell of the next step, and what is held after it: it is kept what was begun, and nothing else
+-- changes (profile)
 pub record Foretells {K : Type 0} (picks : List Choice → ℕ → Type 0)
     (old : Holdings K) (upcoming : Option Upcoming) (new : Holdings K) : Type 0 where
   pub begins : Begins picks (line_of old) upcoming (line_of new)
   pub untaken : new.untaken ≡ old.untaken
   pub settings : new.settings ≡ old.settings
 
--- what a finish may answer, whose block had this outcome, and what is held after it: where the command of this reference
--- number is begun it is a step, and else it is stale and changes nothing (profile)
+-- what a finish may answer, whose block had this outcome, and what is held after it: where the command of this
+-- reference number is begun it is a step, and else it is stale and changes nothing (profile)
 abbrev pub Finishes : {K : Type 0}
     → (List Choice → ℕ → Type 0) → ℕ → Block → Holdings K → Result Report Stale → Holdings K → Type 0
 Finishes picks reference k old (Ok report) new = (is_begun reference old.begun ≡ true) × Steps picks k old report new

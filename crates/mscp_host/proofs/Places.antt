@@ -15,18 +15,24 @@ abbrev told_now : ℕ → Submission → Submission
 told_now figure s = record s { told = Some figure }
 
 told_cons : (r f : ℕ) (s : Submission) (rest : List Submission) (b : Bool) → has_reference r s ≡ b
-    → (position_or_len (has_reference r) rest < length rest → slice_set rest (position_or_len (has_reference r) rest) (told_now f (slice_index_or rest (position_or_len (has_reference r) rest) no_submission)) ≡ with_told r f rest)
+    → (position_or_len (has_reference r) rest < length rest
+        → slice_set rest (position_or_len (has_reference r) rest)
+        (told_now f (slice_index_or rest (position_or_len (has_reference r) rest) no_submission)) ≡ with_told r f rest)
     → position_or_len (has_reference r) (s ∷ rest) < length (s ∷ rest)
-    → slice_set (s ∷ rest) (position_or_len (has_reference r) (s ∷ rest)) (told_now f (slice_index_or (s ∷ rest) (position_or_len (has_reference r) (s ∷ rest)) no_submission)) ≡ with_told r f (s ∷ rest)
+    → slice_set (s ∷ rest) (position_or_len (has_reference r) (s ∷ rest))
+        (told_now f (slice_index_or (s ∷ rest) (position_or_len (has_reference r) (s ∷ rest)) no_submission))
+        ≡ with_told r f (s ∷ rest)
 told_cons r f s rest true e h l = rw e refl
 told_cons r f s rest false e h l =
     let n = position_or_len (has_reference r) rest in
     let one : suc n ≡ 1 + n = omega arith in
     let less : n < length rest = let k = rw e at l in omega (arith, k) in
-    rw e (subst (λ i. slice_set (s ∷ rest) i (told_now f (slice_index_or (s ∷ rest) i no_submission)) ≡ s ∷ with_told r f rest) one (ap (λ xs. s ∷ xs) (h less)))
+    rw e (subst (λ i. slice_set (s ∷ rest) i (told_now f (slice_index_or (s ∷ rest) i no_submission)) ≡ s
+        ∷ with_told r f rest) one (ap (λ xs. s ∷ xs) (h less)))
 
 removed_cons : (r : ℕ) (s : Submission) (rest : List Submission) (b : Bool) → has_reference r s ≡ b
-    → (position_or_len (has_reference r) rest < length rest → remove rest (position_or_len (has_reference r) rest) ≡ without r rest)
+    → (position_or_len (has_reference r) rest < length rest
+        → remove rest (position_or_len (has_reference r) rest) ≡ without r rest)
     → position_or_len (has_reference r) (s ∷ rest) < length (s ∷ rest)
     → remove (s ∷ rest) (position_or_len (has_reference r) (s ∷ rest)) ≡ without r (s ∷ rest)
 removed_cons r s rest true e h l = rw e refl
@@ -37,25 +43,30 @@ removed_cons r s rest false e h l =
     rw e (subst (λ i. remove (s ∷ rest) i ≡ s ∷ without r rest) one (ap (λ xs. s ∷ xs) (h less)))
 
 told_len : (r f : ℕ) (xs : List Submission) → position_or_len (has_reference r) xs < length xs
-    → slice_set xs (position_or_len (has_reference r) xs) (told_now f (slice_index_or xs (position_or_len (has_reference r) xs) no_submission)) ≡ with_told r f xs
+    → slice_set xs (position_or_len (has_reference r) xs)
+        (told_now f (slice_index_or xs (position_or_len (has_reference r) xs) no_submission)) ≡ with_told r f xs
 told_len r f [] l = absurd (omega (arith, l))
 told_len r f (s ∷ rest) l = told_cons r f s rest (has_reference r s) refl (told_len r f rest) l
 
-removed_len : (r : ℕ) (xs : List Submission) → position_or_len (has_reference r) xs < length xs → remove xs (position_or_len (has_reference r) xs) ≡ without r xs
+removed_len : (r : ℕ) (xs : List Submission) → position_or_len (has_reference r) xs < length xs
+    → remove xs (position_or_len (has_reference r) xs) ≡ without r xs
 removed_len r [] l = absurd (omega (arith, l))
 removed_len r (s ∷ rest) l = removed_cons r s rest (has_reference r s) refl (removed_len r rest) l
 
 -- ---- where none is found
 
-nowhere_cons : (r f : ℕ) (s : Submission) (rest : List Submission) (b : Bool) → has_reference r s ≡ b → (length rest ≤ position_or_len (has_reference r) rest → (with_told r f rest ≡ rest) × (without r rest ≡ rest))
-    → length (s ∷ rest) ≤ position_or_len (has_reference r) (s ∷ rest) → (with_told r f (s ∷ rest) ≡ s ∷ rest) × (without r (s ∷ rest) ≡ s ∷ rest)
+nowhere_cons : (r f : ℕ) (s : Submission) (rest : List Submission) (b : Bool) → has_reference r s ≡ b
+    → (length rest ≤ position_or_len (has_reference r) rest → (with_told r f rest ≡ rest) × (without r rest ≡ rest))
+    → length (s ∷ rest) ≤ position_or_len (has_reference r) (s ∷ rest)
+        → (with_told r f (s ∷ rest) ≡ s ∷ rest) × (without r (s ∷ rest) ≡ s ∷ rest)
 nowhere_cons r f s rest true e h l = let k = rw e at l in absurd (omega (arith, k))
 nowhere_cons r f s rest false e h l =
     let k = rw e at l in
     let both = h (omega (arith, k)) in
     (rw e (ap (λ xs. s ∷ xs) both.0), rw e (ap (λ xs. s ∷ xs) both.1))
 
-nowhere_len : (r f : ℕ) (xs : List Submission) → length xs ≤ position_or_len (has_reference r) xs → (with_told r f xs ≡ xs) × (without r xs ≡ xs)
+nowhere_len : (r f : ℕ) (xs : List Submission) → length xs ≤ position_or_len (has_reference r) xs
+    → (with_told r f xs ≡ xs) × (without r xs ≡ xs)
 nowhere_len r f [] l = (refl, refl)
 nowhere_len r f (s ∷ rest) l = nowhere_cons r f s rest (has_reference r s) refl (nowhere_len r f rest) l
 
@@ -69,14 +80,20 @@ place_out : (n k : ℕ) (b : Bool) → nat_lt n k ≡ b → cond b (Some n) None
 place_out n k true e h = absurd (true≢false (ap is_some h))
 place_out n k false e h = grind (arith, nat_tests)
 
-found : (r : ℕ) (xs : List Submission) (place : ℕ) → position (has_reference r) xs ≡ Some place → (place ≡ position_or_len (has_reference r) xs) × (position_or_len (has_reference r) xs < length xs)
-found r xs place h = place_in (position_or_len (has_reference r) xs) (length xs) place (nat_lt (position_or_len (has_reference r) xs) (length xs)) refl h
+found : (r : ℕ) (xs : List Submission) (place : ℕ) → position (has_reference r) xs ≡ Some place
+    → (place ≡ position_or_len (has_reference r) xs) × (position_or_len (has_reference r) xs < length xs)
+found r xs place h = place_in (position_or_len (has_reference r) xs) (length xs) place
+    (nat_lt (position_or_len (has_reference r) xs) (length xs)) refl h
 
-pub told_at : (r f : ℕ) (xs : List Submission) (place : ℕ) → position (has_reference r) xs ≡ Some place → slice_set xs place (told_now f (slice_index_or xs place no_submission)) ≡ with_told r f xs
+pub told_at : (r f : ℕ) (xs : List Submission) (place : ℕ) → position (has_reference r) xs ≡ Some place
+    → slice_set xs place (told_now f (slice_index_or xs place no_submission)) ≡ with_told r f xs
 told_at r f xs place h = let k = found r xs place h in rw k.0 (told_len r f xs k.1)
 
-pub removed_at : (r : ℕ) (xs : List Submission) (place : ℕ) → position (has_reference r) xs ≡ Some place → remove xs place ≡ without r xs
+pub removed_at : (r : ℕ) (xs : List Submission) (place : ℕ) → position (has_reference r) xs ≡ Some place
+    → remove xs place ≡ without r xs
 removed_at r xs place h = let k = found r xs place h in rw k.0 (removed_len r xs k.1)
 
-pub nowhere : (r f : ℕ) (xs : List Submission) → position (has_reference r) xs ≡ None → (with_told r f xs ≡ xs) × (without r xs ≡ xs)
-nowhere r f xs h = nowhere_len r f xs (place_out (position_or_len (has_reference r) xs) (length xs) (nat_lt (position_or_len (has_reference r) xs) (length xs)) refl h)
+pub nowhere : (r f : ℕ) (xs : List Submission) → position (has_reference r) xs ≡ None
+    → (with_told r f xs ≡ xs) × (without r xs ≡ xs)
+nowhere r f xs h = nowhere_len r f xs (place_out (position_or_len (has_reference r) xs) (length xs)
+    (nat_lt (position_or_len (has_reference r) xs) (length xs)) refl h)

@@ -49,8 +49,8 @@ submission_of c = record { reference = c.reference; unit = c.unit; opcode = opco
 abbrev pub balance : Account → ℕ
 balance a = a.credits - length a.outstanding
 
--- why a command of this opcode byte and reference number may not be sent, if it may not: the first that holds (manual; the
--- order, and that the last credit isn't for an unknown opcode, are the profile's)
+-- why a command of this opcode byte and reference number may not be sent, if it may not: the first that holds (manual;
+-- the order, and that the last credit isn't for an unknown opcode, are the profile's)
 abbrev pub refusal : Account → ℕ → ℕ → Option HostFault
 refusal a opcode reference =
     if nat_eq (balance a) 0 then Some faults.NoCredit else (
@@ -83,7 +83,8 @@ poll_of reference s = record { reference = reference; unit = s.unit; order = ord
 -- what is kept once the poll of a submission was sent: it is outstanding too, and in flight
 abbrev pub watching : Account → ℕ → Submission → Account
 watching a reference s =
-    record (submitted a (poll_of reference s)) { watch = Some (record { reference = reference; polled = s.reference; is_outstanding = true }) }
+    record (submitted a (poll_of reference s)) { watch =
+        Some (record { reference = reference; polled = s.reference; is_outstanding = true }) }
 
 -- what is answered to a poll of a submission, and what is kept then: its message, or why it may not be sent, and then
 -- nothing changes
@@ -97,8 +98,8 @@ abbrev pub asks : Account → ℕ → Option Submission → Result Poll HostFaul
 asks a reference None = (Ok polls.Nothing, a)
 asks a reference (Some s) = asks_unless a reference s (refusal a (opcode_byte (poll_of reference s).order) reference)
 
--- what is answered where the oldest command is to be polled under this reference number, and what is kept then: one poll
--- at a time (profile)
+-- what is answered where the oldest command is to be polled under this reference number, and what is kept then: one
+-- poll at a time (profile)
 abbrev pub polls_oldest : Account → ℕ → Result Poll HostFault × Account
 polls_oldest a reference = if is_some a.watch then (Ok polls.Busy, a) else asks a reference (oldest a)
 
@@ -157,8 +158,8 @@ told_of (Some s) = s.told
 abbrev pub last_told : List Submission → ℕ → Option ℕ
 last_told submissions number = told_of (find (has_reference number) submissions)
 
--- what a figure says of a command of which this was told before: that it doesn't fall, that the command is lost, or how far
--- it is. The first that holds (profile)
+-- what a figure says of a command of which this was told before: that it doesn't fall, that the command is lost, or how
+-- far it is. The first that holds (profile)
 abbrev pub news_of_figure : Option ℕ → ℕ → News
 news_of_figure (Some last) figure =
     if nat_lt figure last then (if nat_eq figure 0 then news.Lost else news.Progress figure) else news.Reset

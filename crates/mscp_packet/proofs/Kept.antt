@@ -11,7 +11,8 @@ use Rattle.mscp_packet.specs.Commands.{opcode_byte, order_with, parameters}
 use Rattle.mscp_packet.specs.Statuses.{invalid_length}
 
 -- what is found of a byte has that byte
-found_byte : (os : List Opcode) (byte : ℕ) (o : Opcode) → find (λ x. nat_eq (line_of x).byte byte) os ≡ Some o → (line_of o).byte ≡ byte
+found_byte : (os : List Opcode) (byte : ℕ) (o : Opcode) → find (λ x. nat_eq (line_of x).byte byte) os ≡ Some o
+    → (line_of o).byte ≡ byte
 found_byte [] byte o h = absurd (false≢true (ap is_some h))
 found_byte (x ∷ xs) byte o h =
     let rest = find (λ (y : Opcode). nat_eq (line_of y).byte byte) xs in
@@ -26,11 +27,16 @@ parameter_byte : (o : Opcode) (b : List ℕ) → opcode_byte (parameters o b) �
 parameter_byte (codes.Move kind) b = refl
 parameter_byte o b = refl
 
-order_byte : (found : Option Opcode) (b : List ℕ) → ((o : Opcode) → found ≡ Some o → (line_of o).byte ≡ slice_index b 8) → opcode_byte (order_with found b) ≡ slice_index b 8
+order_byte : (found : Option Opcode) (b : List ℕ) → ((o : Opcode) → found ≡ Some o → (line_of o).byte ≡ slice_index b 8)
+    → opcode_byte (order_with found b) ≡ slice_index b 8
 order_byte None b h = refl
 order_byte (Some o) b h =
     let long = parameter_byte o b ∙ h o refl in
-    elim (nat_lt (length b) (least o)) as (λ s. opcode_byte (if s then orders.Invalid (slice_index b 8) invalid_length else parameters o b) ≡ slice_index b 8) [ true ↦ refl | false ↦ long ]
+    elim (nat_lt (length b) (least o)) as (λ s. opcode_byte
+        (if s then orders.Invalid (slice_index b 8) invalid_length else parameters o b) ≡ slice_index b 8)
+        [ true ↦ refl | false ↦ long ]
 
-pub opcode_kept : (b : List ℕ) (o : Order) → o ≡ order_with (opcode_of (slice_index b 8)) b → opcode_byte o ≡ slice_index b 8
-opcode_kept b o e = ap opcode_byte e ∙ order_byte (opcode_of (slice_index b 8)) b (λ o e. found_byte opcodes (slice_index b 8) o e)
+pub opcode_kept : (b : List ℕ) (o : Order) → o ≡ order_with (opcode_of (slice_index b 8)) b
+    → opcode_byte o ≡ slice_index b 8
+opcode_kept b o e = ap opcode_byte e ∙ order_byte (opcode_of (slice_index b 8)) b
+    (λ o e. found_byte opcodes (slice_index b 8) o e)

@@ -22,7 +22,8 @@ apart_behind : (A : List ℕ) (x : ℕ) (B : List ℕ) → AreApart (A ++ x ∷ 
 apart_behind [] x B h = h.0
 apart_behind (y ∷ ys) x B h = apart_behind ys x B h.1
 
-others : (reference : ℕ) (rs : List Record) → AllByRecursion (λ y. y ≢ reference) (names rs) → AllByRecursion (λ r. has_reference reference r ≡ false) rs
+others : (reference : ℕ) (rs : List Record) → AllByRecursion (λ y. y ≢ reference) (names rs)
+    → AllByRecursion (λ r. has_reference reference r ≡ false) rs
 others reference [] h = tt
 others reference (r ∷ rs) h = (ne_eqb r.command.reference reference h.0, others reference rs h.1)
 
@@ -33,24 +34,31 @@ pub record Cut (reference : ℕ) (rs A : List Record) (r : Record) (B : List Rec
   pub before : AllByRecursion (λ z. has_reference reference z ≡ false) A
   pub behind : AllByRecursion (λ z. has_reference reference z ≡ false) B
 
-cut_by : (reference : ℕ) (rs A : List Record) (r : Record) (B : List Record) → AreApart (names rs) → Found (has_reference reference) rs A r B → Cut reference rs A r B
+cut_by : (reference : ℕ) (rs A : List Record) (r : Record) (B : List Record) → AreApart (names rs)
+    → Found (has_reference reference) rs A r B → Cut reference rs A r B
 cut_by reference rs A r B apart f =
-    let same : names rs ≡ names A ++ r.command.reference ∷ names B = ap names f.is ∙ map-append (λ (q : Record). q.command.reference) A (r ∷ B) in
+    let same : names rs ≡ names A ++ r.command.reference ∷ names B =
+        ap names f.is ∙ map-append (λ (q : Record). q.command.reference) A (r ∷ B) in
     let number : r.command.reference ≡ reference = eqb-true r.command.reference reference f.passes in
     record {
       is = f.is;
       own = f.passes;
       before = f.before;
-      behind = others reference B (subst (λ n. AllByRecursion (λ y. y ≢ n) (names B)) number (apart_behind (names A) r.command.reference (names B) (subst AreApart same apart)));
+      behind = others reference B (subst (λ n. AllByRecursion (λ y. y ≢ n) (names B)) number
+          (apart_behind (names A) r.command.reference (names B) (subst AreApart same apart)));
     }
 
-without_cut : (reference : ℕ) (rs A : List Record) (r : Record) (B : List Record) → Cut reference rs A r B → without reference rs ≡ A ++ B
+without_cut : (reference : ℕ) (rs A : List Record) (r : Record) (B : List Record) → Cut reference rs A r B
+    → without reference rs ≡ A ++ B
 without_cut reference rs A r B k =
     let keep : Record → Bool = λ z. not (has_reference reference z) in
     let stays : (zs : List Record) → AllByRecursion (λ z. has_reference reference z ≡ false) zs → filter keep zs ≡ zs =
-    λ zs h. filter_all keep zs (every_weaker (λ z. has_reference reference z ≡ false) (λ z. keep z ≡ true) (λ z e. ap not e) zs h) in
+    λ zs h. filter_all keep zs (every_weaker (λ z. has_reference reference z ≡ false) (λ z. keep z ≡ true)
+        (λ z e. ap not e) zs h) in
     ap (filter keep) k.is
-    ∙ (filter-append keep A (r ∷ B) ∙ (ap (λ zs. zs ++ filter keep (r ∷ B)) (stays A k.before) ∙ (ap (λ b. A ++ cond (not b) (r ∷ filter keep B) (filter keep B)) k.own ∙ ap (λ zs. A ++ zs) (stays B k.behind))))
+    ∙ (filter-append keep A (r ∷ B) ∙ (ap (λ zs. zs ++ filter keep (r ∷ B)) (stays A k.before)
+        ∙ (ap (λ b. A ++ cond (not b) (r ∷ filter keep B) (filter keep B)) k.own
+        ∙ ap (λ zs. A ++ zs) (stays B k.behind))))
 
 -- ---- the one that is found
 
@@ -61,7 +69,8 @@ pub record Aborts (reference : ℕ) (rs : List Record) (place : ℕ) : Type 0 wh
   pub left : remove rs place ≡ without reference rs
   pub count : length (without reference rs) + 1 ≡ length rs
 
-pub aborts_at : (reference : ℕ) (rs : List Record) (place : ℕ) → AreApart (names rs) → position (has_reference reference) rs ≡ Some place → Aborts reference rs place
+pub aborts_at : (reference : ℕ) (rs : List Record) (place : ℕ) → AreApart (names rs)
+    → position (has_reference reference) rs ≡ Some place → Aborts reference rs place
 aborts_at reference rs place apart h =
     ⊎_elim
     (λ none. absurd (false≢true (ap is_some (sym (position_none (has_reference reference) rs none) ∙ h))))
@@ -71,13 +80,17 @@ aborts_at reference rs place apart h =
     let B = some.2 in
     let f = some.3 in
     let k = cut_by reference rs A r B apart f in
-    let first : length A ≡ place = ap (λ o. unwrap_or o place) (sym (position_first (has_reference reference) A r B f.before f.passes) ∙ (ap (position (has_reference reference)) (sym f.is) ∙ h)) in
+    let first : length A ≡ place = ap (λ o. unwrap_or o place)
+        (sym (position_first (has_reference reference) A r B f.before f.passes)
+        ∙ (ap (position (has_reference reference)) (sym f.is) ∙ h)) in
     let at : record_at rs place ≡ r = ap (λ zs. record_at zs place) f.is ∙ get_or_at A r B no_record place first in
     record {
       inside = omega (arith, first, ap length f.is, length-append A (r ∷ B));
-      found = ap (find (has_reference reference)) f.is ∙ (find_first (has_reference reference) A r B f.before f.passes ∙ ap Some (sym at));
+      found = ap (find (has_reference reference)) f.is
+          ∙ (find_first (has_reference reference) A r B f.before f.passes ∙ ap Some (sym at));
       left = ap (λ zs. remove zs place) f.is ∙ (removed_at A r B place first ∙ sym (without_cut reference rs A r B k));
-      count = omega (arith, ap length f.is, length-append A (r ∷ B), ap length (without_cut reference rs A r B k), length-append A B);
+      count = omega (arith, ap length f.is, length-append A (r ∷ B), ap length (without_cut reference rs A r B k),
+          length-append A B);
     })
     (find_cases (has_reference reference) rs)
 
@@ -86,18 +99,24 @@ pub record AbortsNone (reference : ℕ) (rs : List Record) : Type 0 where
   pub found : find (has_reference reference) rs ≡ None
   pub left : without reference rs ≡ rs
 
-pub aborts_none : (reference : ℕ) (rs : List Record) → position (has_reference reference) rs ≡ None → AbortsNone reference rs
+pub aborts_none : (reference : ℕ) (rs : List Record) → position (has_reference reference) rs ≡ None
+    → AbortsNone reference rs
 aborts_none reference rs h =
     ⊎_elim
     (λ none. record {
       found = find_none (has_reference reference) rs none;
-      left = filter_all (λ z. not (has_reference reference z)) rs (every_weaker (λ z. has_reference reference z ≡ false) (λ z. not (has_reference reference z) ≡ true) (λ z e. ap not e) rs none);
+      left = filter_all (λ z. not (has_reference reference z)) rs
+          (every_weaker (λ z. has_reference reference z ≡ false) (λ z. not (has_reference reference z) ≡ true)
+          (λ z e. ap not e) rs none);
     })
-    (λ some. let f = some.3 in absurd (true≢false (ap is_some (sym (position_first (has_reference reference) some.0 some.1 some.2 f.before f.passes) ∙ (ap (position (has_reference reference)) (sym f.is) ∙ h)))))
+    (λ some. let f = some.3 in absurd (true≢false (ap is_some
+        (sym (position_first (has_reference reference) some.0 some.1 some.2 f.before f.passes)
+        ∙ (ap (position (has_reference reference)) (sym f.is) ∙ h)))))
     (find_cases (has_reference reference) rs)
 
 -- the records that have the reference number are the one that is found
-pub found_once : (reference : ℕ) (rs : List Record) → AreApart (names rs) → filter (has_reference reference) rs ≡ option_to_list (find (has_reference reference) rs)
+pub found_once : (reference : ℕ) (rs : List Record) → AreApart (names rs)
+    → filter (has_reference reference) rs ≡ option_to_list (find (has_reference reference) rs)
 found_once reference rs apart =
     let p = has_reference reference in
     ⊎_elim
@@ -107,11 +126,13 @@ found_once reference rs apart =
     let r = some.1 in
     let B = some.2 in
     let k = cut_by reference rs A r B apart some.3 in
-    ap (filter p) k.is ∙ (filter_one p A r B k.before k.own k.behind ∙ ap option_to_list (sym (ap (find p) k.is ∙ find_first p A r B k.before k.own))))
+    ap (filter p) k.is ∙ (filter_one p A r B k.before k.own k.behind
+        ∙ ap option_to_list (sym (ap (find p) k.is ∙ find_first p A r B k.before k.own))))
     (find_cases p rs)
 
 -- and it is counted out
-pub counted_without : (reference : ℕ) (rs new : List Record) (r : Record) (n k : ℕ) → AreApart (names rs) → Some r ≡ find (has_reference reference) rs → new ≡ without reference rs
+pub counted_without : (reference : ℕ) (rs new : List Record) (r : Record) (n k : ℕ) → AreApart (names rs)
+    → Some r ≡ find (has_reference reference) rs → new ≡ without reference rs
     → n ≡ sequential_count rs → k ≡ one_if r → IsCountedOut n k new
 counted_without reference rs new r n k apart h is counted e =
     let p = has_reference reference in
@@ -121,48 +142,63 @@ counted_without reference rs new r n k apart h is counted e =
     let A = some.0 in
     let B = some.2 in
     let f = some.3 in
-    let own : some.1 ≡ r = ap (λ o. unwrap_or o r) (sym (find_first p A some.1 B f.before f.passes) ∙ (ap (find p) (sym f.is) ∙ sym h)) in
+    let own : some.1 ≡ r = ap (λ o. unwrap_or o r)
+        (sym (find_first p A some.1 B f.before f.passes) ∙ (ap (find p) (sym f.is) ∙ sym h)) in
     let out = count_out A some.1 B in
     let all = ap sequential_count f.is in
-    let left = ap sequential_count (is ∙ without_cut reference rs A some.1 B (cut_by reference rs A some.1 B apart f)) in
+    let left = ap sequential_count (is ∙ without_cut reference rs A some.1 B
+        (cut_by reference rs A some.1 B apart f)) in
     let one = ap one_if own in
-    record { below = omega (arith, out, all, one, counted, e); counted = omega (arith, out, all, left, one, counted, e) })
+    record { below = omega (arith, out, all, one, counted, e); counted =
+        omega (arith, out, all, left, one, counted, e) })
     (find_cases p rs)
 
 -- none passes a test where none is found
-missing : (p : Record → Bool) (rs : List Record) (place : ℕ) (d : Record) → find p rs ≡ None → place < length rs → p (slice_index_or rs place d) ≡ false
+missing : (p : Record → Bool) (rs : List Record) (place : ℕ) (d : Record) → find p rs ≡ None → place < length rs
+    → p (slice_index_or rs place d) ≡ false
 missing p rs place d h l =
     ⊎_elim (λ none. All-from_recursion (λ r. p r ≡ false) rs none place d l)
-    (λ some. let f = some.3 in absurd (true≢false (ap is_some (sym (find_first p some.0 some.1 some.2 f.before f.passes) ∙ (ap (find p) (sym f.is) ∙ h))))) (find_cases p rs)
+    (λ some. let f = some.3 in absurd (true≢false (ap is_some
+        (sym (find_first p some.0 some.1 some.2 f.before f.passes) ∙ (ap (find p) (sym f.is) ∙ h))))) (find_cases p rs)
 
 -- ---- what is true of each queue stays true
 
-names_kept : (p : Record → Bool) (P : ℕ → Type 0) (rs : List Record) → AllByRecursion P (names rs) → AllByRecursion P (names (filter p rs))
+names_kept : (p : Record → Bool) (P : ℕ → Type 0) (rs : List Record) → AllByRecursion P (names rs)
+    → AllByRecursion P (names (filter p rs))
 names_kept p P [] h = tt
 names_kept p P (r ∷ rs) h =
     let rest = names_kept p P rs h.1 in
-    elim (p r) as (λ b. AllByRecursion P (names (cond b (r ∷ filter p rs) (filter p rs)))) [ true ↦ (h.0, rest) | false ↦ rest ]
+    elim (p r) as (λ b. AllByRecursion P (names (cond b (r ∷ filter p rs) (filter p rs))))
+        [ true ↦ (h.0, rest) | false ↦ rest ]
 
 apart_kept : (p : Record → Bool) (rs : List Record) → AreApart (names rs) → AreApart (names (filter p rs))
 apart_kept p [] h = tt
 apart_kept p (r ∷ rs) h =
     let rest = apart_kept p rs h.1 in
-    elim (p r) as (λ b. AreApart (names (cond b (r ∷ filter p rs) (filter p rs)))) [ true ↦ (names_kept p (λ y. y ≢ r.command.reference) rs h.0, rest) | false ↦ rest ]
+    elim (p r) as (λ b. AreApart (names (cond b (r ∷ filter p rs) (filter p rs))))
+        [ true ↦ (names_kept p (λ y. y ≢ r.command.reference) rs h.0, rest) | false ↦ rest ]
 
 fewer_of : {X : Type 0} (p q : X → Bool) (xs : List X) → length (filter p (filter q xs)) ≤ length (filter p xs)
 fewer_of p q [] = omega arith
 fewer_of {X} p q (x ∷ xs) =
     let rest = fewer_of p q xs in
-    let both : (b d : Bool) → length (cond b (cond d (x ∷ filter p (filter q xs)) (filter p (filter q xs))) (filter p (filter q xs))) ≤ length (cond d (x ∷ filter p xs) (filter p xs)) =
-    λ b d. elim d as (λ d. length (cond b (cond d (x ∷ filter p (filter q xs)) (filter p (filter q xs))) (filter p (filter q xs))) ≤ length (cond d (x ∷ filter p xs) (filter p xs))) [
-      | true ↦ elim b as (λ b. length (cond b (x ∷ filter p (filter q xs)) (filter p (filter q xs))) ≤ length (x ∷ filter p xs)) [ true ↦ omega arith | false ↦ omega arith ]
-      | false ↦ elim b as (λ b. length (cond b (filter p (filter q xs)) (filter p (filter q xs))) ≤ length (filter p xs)) [ true ↦ rest | false ↦ rest ]
+    let both : (b d : Bool) → length (cond b (cond d (x ∷ filter p (filter q xs)) (filter p (filter q xs)))
+        (filter p (filter q xs))) ≤ length (cond d (x ∷ filter p xs) (filter p xs)) =
+    λ b d. elim d as (λ d. length (cond b (cond d (x ∷ filter p (filter q xs)) (filter p (filter q xs)))
+        (filter p (filter q xs))) ≤ length (cond d (x ∷ filter p xs) (filter p xs))) [
+      | true ↦ elim b as (λ b. length (cond b (x ∷ filter p (filter q xs)) (filter p (filter q xs)))
+          ≤ length (x ∷ filter p xs)) [ true ↦ omega arith | false ↦ omega arith ]
+      | false ↦ elim b as (λ b. length (cond b (filter p (filter q xs)) (filter p (filter q xs)))
+          ≤ length (filter p xs)) [ true ↦ rest | false ↦ rest ]
     ] in
     let split : (b : Bool) → length (filter p (cond b (x ∷ filter q xs) (filter q xs))) ≤ length (filter p (x ∷ xs)) =
-    λ b. elim b as (λ b. length (filter p (cond b (x ∷ filter q xs) (filter q xs))) ≤ length (filter p (x ∷ xs))) [ true ↦ both true (p x) | false ↦ both false (p x) ] in
+    λ b. elim b as (λ b. length (filter p (cond b (x ∷ filter q xs) (filter q xs))) ≤ length (filter p (x ∷ xs)))
+        [ true ↦ both true (p x) | false ↦ both false (p x) ] in
     split (q x)
 
-pub held_aborted : (room passing longest reference : ℕ) (rs new : List Record) (ds : List Drive) (begun : Option Name) (serving b : Bool) → is_begun reference begun ≡ b → IsHeld room passing longest rs ds begun serving → new ≡ without reference rs
+pub held_aborted : (room passing longest reference : ℕ) (rs new : List Record) (ds : List Drive) (begun : Option Name)
+    (serving b : Bool) → is_begun reference begun ≡ b → IsHeld room passing longest rs ds begun serving
+    → new ≡ without reference rs
     → IsHeld room passing longest new ds (if b then None else begun) serving
 held_aborted room passing longest reference rs new ds begun serving b was h e =
     let keep : Record → Bool = λ z. not (has_reference reference z) in
@@ -178,15 +214,19 @@ held_aborted room passing longest reference rs new ds begun serving b was h e =
       each = All-from_recursion K (without reference rs) (every_kept K keep rs (recursion_from_All K rs h.each));
       apart = apart_kept keep rs h.apart;
       one = let o = h.one in omega (arith, fewer_of is_in_service keep rs);
-      idle = λ e. All-from_recursion (λ z. z.done ≡ 0) (without reference rs) (every_kept (λ z. z.done ≡ 0) keep rs (recursion_from_All (λ z. z.done ≡ 0) rs (h.idle e)));
+      idle = λ e. All-from_recursion (λ z. z.done ≡ 0) (without reference rs)
+          (every_kept (λ z. z.done ≡ 0) keep rs (recursion_from_All (λ z. z.done ≡ 0) rs (h.idle e)));
       units = h.units;
       heads = h.heads;
-      still = λ name k. let s = still_begun reference begun name k in still_aborted passing reference rs name s.1 (h.still name s.0);
+      still = λ name k. let s = still_begun reference begun name k in
+          still_aborted passing reference rs name s.1 (h.still name s.0);
     } in
-    subst (λ q. IsHeld room passing longest new ds (if q then None else begun) serving) was (subst (λ zs. IsHeld room passing longest zs ds left serving) (sym e) all)
+    subst (λ q. IsHeld room passing longest new ds (if q then None else begun) serving) was
+        (subst (λ zs. IsHeld room passing longest zs ds left serving) (sym e) all)
 
 -- where nothing is aborted, what was begun stays
-pub none_aborted : (passing reference : ℕ) (rs : List Record) (begun : Option Name) → ((name : Name) → begun ≡ Some name → IsStillServable passing rs name) → find (has_reference reference) rs ≡ None
+pub none_aborted : (passing reference : ℕ) (rs : List Record) (begun : Option Name)
+    → ((name : Name) → begun ≡ Some name → IsStillServable passing rs name) → find (has_reference reference) rs ≡ None
     → begun ≡ begun_without reference begun
 none_aborted passing reference rs None s h = refl
 none_aborted passing reference rs (Some name) s h =
@@ -194,7 +234,8 @@ none_aborted passing reference rs (Some name) s h =
     let both : (b : Bool) → nat_eq name reference ≡ b → Some name ≡ (if b then None else Some name) =
     λ b. elim b as (λ b. nat_eq name reference ≡ b → Some name ≡ (if b then None else Some name)) [
       | true ↦ λ e.
-          let own : has_reference reference (record_at rs w.0) ≡ true = subst (λ n. has_reference n (record_at rs w.0) ≡ true) (eqb-true name reference e) w.2 in
+          let own : has_reference reference (record_at rs w.0) ≡ true =
+              subst (λ n. has_reference n (record_at rs w.0) ≡ true) (eqb-true name reference e) w.2 in
           absurd (true≢false (sym own ∙ missing (has_reference reference) rs w.0 no_record h w.1.inside))
       | false ↦ λ e. refl
     ] in

@@ -26,7 +26,8 @@ pub place_same : (ds : List Drive) (n : ℕ) → drive_place ds n ≡ unit_place
 place_same [] n = refl
 place_same (d ∷ ds) n = ap (λ k. cond (not (nat_eq d.unit.number n)) (1 + k) 0) (place_same ds n)
 
-pub place_found : (ds : List Drive) (n other : ℕ) → is_known (units_of ds) n ≡ true → unwrap_or (position (has_number n) ds) other ≡ unit_place (units_of ds) n
+pub place_found : (ds : List Drive) (n other : ℕ) → is_known (units_of ds) n ≡ true
+    → unwrap_or (position (has_number n) ds) other ≡ unit_place (units_of ds) n
 place_found ds n other h = Rattle.mscp_queue.proofs.Fronts.place_found ds n other h ∙ place_same ds n
 
 pub place_inside : (ds : List Drive) (n : ℕ) → is_known (units_of ds) n ≡ true → unit_place (units_of ds) n < length ds
@@ -45,12 +46,17 @@ cylinder_within u block h = less_div _ _ (cylinder_blocks u) (omega arith)
 -- ---- an aim
 
 -- an aim as it is found
-pub aim_made : (ds : List Drive) (command : Command) (place block cylinder : ℕ) (d : Drive) → is_known (units_of ds) command.unit ≡ true → place ≡ unit_place (units_of ds) command.unit
-    → block ≡ first_block command.order → cylinder ≡ cylinder_of (get_or ds place d).unit block → record { drive = place; cylinder = cylinder } ≡ aim_of (units_of ds) command
+pub aim_made : (ds : List Drive) (command : Command) (place block cylinder : ℕ) (d : Drive)
+    → is_known (units_of ds) command.unit ≡ true → place ≡ unit_place (units_of ds) command.unit
+    → block ≡ first_block command.order → cylinder ≡ cylinder_of (get_or ds place d).unit block
+        → record { drive = place; cylinder = cylinder } ≡ aim_of (units_of ds) command
 aim_made ds command place block cylinder d known at first is =
-    let drive : get_or ds place d ≡ drive_of ds command.unit = ap (λ i. get_or ds i d) (at ∙ sym (place_same ds command.unit)) ∙ (known_at ds command.unit d known).drive in
-    let unit : (get_or ds place d).unit ≡ unwrap_or (unit_found (units_of ds) command.unit) one_block = ap (λ (q : Drive). q.unit) drive ∙ sym (found_unit command.unit ds) in
-    let whole : cylinder ≡ cylinder_of (unwrap_or (unit_found (units_of ds) command.unit) one_block) (first_block command.order) =
+    let drive : get_or ds place d ≡ drive_of ds command.unit =
+        ap (λ i. get_or ds i d) (at ∙ sym (place_same ds command.unit)) ∙ (known_at ds command.unit d known).drive in
+    let unit : (get_or ds place d).unit ≡ unwrap_or (unit_found (units_of ds) command.unit) one_block =
+        ap (λ (q : Drive). q.unit) drive ∙ sym (found_unit command.unit ds) in
+    let whole : cylinder ≡ cylinder_of (unwrap_or (unit_found (units_of ds) command.unit) one_block)
+        (first_block command.order) =
     is ∙ (λ i. cylinder_of (unit i) (first i)) in
     λ i. record { drive = at i; cylinder = whole i }
 
@@ -60,10 +66,14 @@ no_aim = record { drive = 0; cylinder = 0 }
 
 -- ---- where a waiting command aims, that can be shown
 
-own_blocks : (ds : List Drive) (rs : List Record) (aims : List Aim) (place : ℕ) (r : Record) → CanBeShown ds rs aims → place < length rs → r ≡ get_or rs place r → HasBlocks (units_of ds) r.command
-own_blocks ds rs aims place r h l own = subst (λ (q : Record). HasBlocks (units_of ds) q.command) (sym own) (h.inside place r l)
+own_blocks : (ds : List Drive) (rs : List Record) (aims : List Aim) (place : ℕ) (r : Record) → CanBeShown ds rs aims
+    → place < length rs → r ≡ get_or rs place r → HasBlocks (units_of ds) r.command
+own_blocks ds rs aims place r h l own = subst (λ (q : Record). HasBlocks (units_of ds) q.command) (sym own)
+    (h.inside place r l)
 
-own_aim : (ds : List Drive) (rs : List Record) (aims : List Aim) (place : ℕ) (r : Record) (other : Aim) → CanBeShown ds rs aims → place < length rs → r ≡ get_or rs place r → get_or aims place other ≡ aim_of (units_of ds) r.command
+own_aim : (ds : List Drive) (rs : List Record) (aims : List Aim) (place : ℕ) (r : Record) (other : Aim)
+    → CanBeShown ds rs aims → place < length rs → r ≡ get_or rs place r
+    → get_or aims place other ≡ aim_of (units_of ds) r.command
 own_aim ds rs aims place r other h l own =
     let of : Record → Aim = λ q. aim_of (units_of ds) q.command in
     ap (λ zs. get_or zs place other) h.aimed ∙ (get_or-map of rs place r other l ∙ ap of (sym own))
@@ -74,24 +84,31 @@ pub record HasDrive (ds : List Drive) (r : Record) (at : ℕ) : Type 0 where
   pub few : at < 16
   pub place : at ≡ drive_place ds r.command.unit
 
-pub has_drive : (ds : List Drive) (rs : List Record) (aims : List Aim) (place : ℕ) (r : Record) (at : ℕ) (other : Aim) → CanBeShown ds rs aims → place < length rs → r ≡ get_or rs place r → at ≡ (get_or aims place other).drive
+pub has_drive : (ds : List Drive) (rs : List Record) (aims : List Aim) (place : ℕ) (r : Record) (at : ℕ) (other : Aim)
+    → CanBeShown ds rs aims → place < length rs → r ≡ get_or rs place r → at ≡ (get_or aims place other).drive
     → HasDrive ds r at
 has_drive ds rs aims place r at other h l own is =
-    let there = is ∙ (ap (λ (a : Aim). a.drive) (own_aim ds rs aims place r other h l own) ∙ sym (place_same ds r.command.unit)) in
-    let below = subst (λ k. k < length ds) (sym there) (known_inside ds r.command.unit (own_blocks ds rs aims place r h l own).0) in
+    let there = is ∙ (ap (λ (a : Aim). a.drive) (own_aim ds rs aims place r other h l own)
+        ∙ sym (place_same ds r.command.unit)) in
+    let below = subst (λ k. k < length ds) (sym there)
+        (known_inside ds r.command.unit (own_blocks ds rs aims place r h l own).0) in
     record { below = below; few = omega (arith, below, h.drives); place = there }
 
 -- its drive, and the cylinder of its first block there
-pub record LeadsTo (ds : List Drive) (rs : List Record) (place : ℕ) (r : Record) (d : Drive) (cylinder : ℕ) : Type 0 where
+pub record LeadsTo (ds : List Drive) (rs : List Record) (place : ℕ) (r : Record) (d : Drive) (cylinder : ℕ) :
+    Type 0 where
   pub drive : d ≡ drive_at ds rs place
   pub aimed : IsAimed d cylinder r
 
-pub leads_to : (ds : List Drive) (rs : List Record) (aims : List Aim) (place : ℕ) (r : Record) (at : ℕ) (other : Aim) (d : Drive) → CanBeShown ds rs aims → place < length rs → r ≡ get_or rs place r → at ≡ (get_or aims place other).drive
+pub leads_to : (ds : List Drive) (rs : List Record) (aims : List Aim) (place : ℕ) (r : Record) (at : ℕ) (other : Aim)
+    (d : Drive) → CanBeShown ds rs aims → place < length rs → r ≡ get_or rs place r
+    → at ≡ (get_or aims place other).drive
     → d ≡ get_or ds at d → LeadsTo ds rs place r d (get_or aims place other).cylinder
 leads_to ds rs aims place r at other d h l own is found =
     let blocks = own_blocks ds rs aims place r h l own in
     let has = has_drive ds rs aims place r at other h l own is in
-    let drive : d ≡ drive_of ds r.command.unit = found ∙ (ap (λ i. get_or ds i d) has.place ∙ (known_at ds r.command.unit d blocks.0).drive) in
+    let drive : d ≡ drive_of ds r.command.unit = found
+        ∙ (ap (λ i. get_or ds i d) has.place ∙ (known_at ds r.command.unit d blocks.0).drive) in
     record {
       drive = drive ∙ ap (λ (q : Record). drive_of ds q.command.unit) (own ∙ get_or_default rs place r no_record l);
       aimed = record {
@@ -99,21 +116,25 @@ leads_to ds rs aims place r at other d h l own is found =
         block = first_inside ds r at d has.place found blocks;
         cylinder_is =
             ap (λ (a : Aim). a.cylinder) (own_aim ds rs aims place r other h l own)
-            ∙ ap (λ (u : Shape). cylinder_of u (first_block r.command.order)) (found_unit r.command.unit ds ∙ ap (λ (q : Drive). q.unit) (sym drive));
+            ∙ ap (λ (u : Shape). cylinder_of u (first_block r.command.order))
+                (found_unit r.command.unit ds ∙ ap (λ (q : Drive). q.unit) (sym drive));
       };
     }
 
 -- ---- the aims stay those of the records
 
 -- what is done with a record among others, it is done with its aim
-pub aim_removed : (us : List Shape) (rs : List Record) (place : ℕ) → remove (aims_of us rs) place ≡ aims_of us (remove rs place)
+pub aim_removed : (us : List Shape) (rs : List Record) (place : ℕ)
+    → remove (aims_of us rs) place ≡ aims_of us (remove rs place)
 aim_removed us rs place =
     let of : Record → Aim = λ q. aim_of us q.command in
     ap (λ zs. zs ++ drop (suc place) (map of rs)) (take-map of place rs)
-    ∙ (ap (λ zs. map of (take place rs) ++ zs) (drop-map of (suc place) rs) ∙ sym (map-append of (take place rs) (drop (suc place) rs)))
+    ∙ (ap (λ zs. map of (take place rs) ++ zs) (drop-map of (suc place) rs)
+        ∙ sym (map-append of (take place rs) (drop (suc place) rs)))
 
 -- a step that ends the command of a record takes its aim out
-pub aims_ended : (us : List Shape) (rs new : List Record) (place toll : ℕ) → new ≡ map (passed_by toll) (take place rs) ++ drop (place + 1) rs → remove (aims_of us rs) place ≡ aims_of us new
+pub aims_ended : (us : List Shape) (rs new : List Record) (place toll : ℕ)
+    → new ≡ map (passed_by toll) (take place rs) ++ drop (place + 1) rs → remove (aims_of us rs) place ≡ aims_of us new
 aims_ended us rs new place toll e =
     let of : Record → Aim = λ q. aim_of us q.command in
     let A = take place rs in
@@ -121,10 +142,12 @@ aims_ended us rs new place toll e =
     aim_removed us rs place
     ∙ (map-append of A (drop (suc place) rs)
     ∙ (ap (λ zs. zs ++ map of (drop (suc place) rs)) (sym (map_map (passed_by toll) of A))
-    ∙ (ap (λ k. map of (map (passed_by toll) A) ++ map of (drop k rs)) next ∙ (sym (map-append of (map (passed_by toll) A) (drop (place + 1) rs)) ∙ ap (aims_of us) (sym e)))))
+    ∙ (ap (λ k. map of (map (passed_by toll) A) ++ map of (drop k rs)) next
+        ∙ (sym (map-append of (map (passed_by toll) A) (drop (place + 1) rs)) ∙ ap (aims_of us) (sym e)))))
 
 -- and another leaves each aim as it is
-pub aims_kept : (us : List Shape) (rs new : List Record) (place toll : ℕ) → place < length rs → new ≡ map (passed_by toll) (take place rs) ++ (advanced (record_at rs place) ∷ drop (place + 1) rs)
+pub aims_kept : (us : List Shape) (rs new : List Record) (place toll : ℕ) → place < length rs
+    → new ≡ map (passed_by toll) (take place rs) ++ (advanced (record_at rs place) ∷ drop (place + 1) rs)
     → aims_of us rs ≡ aims_of us new
 aims_kept us rs new place toll l e =
     let of : Record → Aim = λ q. aim_of us q.command in
@@ -132,10 +155,12 @@ aims_kept us rs new place toll l e =
     let r = record_at rs place in
     let B = drop (place + 1) rs in
     ap (aims_of us) (cut_at no_record rs place l)
-    ∙ (map-append of A (r ∷ B) ∙ (ap (λ zs. zs ++ map of (r ∷ B)) (sym (map_map (passed_by toll) of A)) ∙ (sym (map-append of (map (passed_by toll) A) (advanced r ∷ B)) ∙ ap (aims_of us) (sym e))))
+    ∙ (map-append of A (r ∷ B) ∙ (ap (λ zs. zs ++ map of (r ∷ B)) (sym (map_map (passed_by toll) of A))
+        ∙ (sym (map-append of (map (passed_by toll) A) (advanced r ∷ B)) ∙ ap (aims_of us) (sym e))))
 
 -- a command comes
-pub aims_pushed : (us : List Shape) (rs new : List Record) (aims aims' : List Aim) (command : Command) (aim : Aim) → aims ≡ aims_of us rs → aim ≡ aim_of us command → aims' ≡ aims ++ aim ∷ [] → new ≡ rs ++ fresh_record command ∷ []
+pub aims_pushed : (us : List Shape) (rs new : List Record) (aims aims' : List Aim) (command : Command) (aim : Aim)
+    → aims ≡ aims_of us rs → aim ≡ aim_of us command → aims' ≡ aims ++ aim ∷ [] → new ≡ rs ++ fresh_record command ∷ []
     → aims' ≡ aims_of us new
 aims_pushed us rs new aims aims' command aim old own more e =
     let of : Record → Aim = λ q. aim_of us q.command in

@@ -1,5 +1,5 @@
--- Why what was begun stays lawful: what comes later and what is aborted takes nothing from an earlier command's freedom,
--- and passes rise at starts alone.
+-- Why what was begun stays lawful: what comes later and what is aborted takes nothing from an earlier command's
+-- freedom, and passes rise at starts alone.
 use Rattle.std.proofs.Common.{◌≡◌, ℕ, ◌+◌, Bool, true, false, cond, not, ◌&&◌, List, [], ◌∷◌, ◌++◌, take, drop, length, refl, ap, sym, ◌∙◌, subst, append_assoc, arith}
 use Rattle.std.specs.Prelude.{All, filter, if◌then◌else◌, is_some, nat_eq, nat_le, unwrap_or, Option, Some, None}
 use Rattle.std.specs.List.{AllByRecursion, list_all, range_with_len}
@@ -21,10 +21,13 @@ use Rattle.mscp_queue.proofs.Placed.{at_place, cut_at}
 opened : (passing : ℕ) (rs : List Record) → All (λ place. is_open_at passing rs place ≡ true) (open_places passing rs)
 opened passing rs =
     All-from_recursion (λ place. is_open_at passing rs place ≡ true) (open_places passing rs)
-    (every_weaker (λ place. Unit {0} × (is_open_at passing rs place ≡ true)) (λ place. is_open_at passing rs place ≡ true) (λ place h. h.1) (open_places passing rs)
-    (every_filter (λ place. Unit {0}) (is_open_at passing rs) (range_with_len 0 (length rs)) (every_from (λ place. Unit {0}) (λ place. tt) (range_with_len 0 (length rs)))))
+    (every_weaker (λ place. Unit {0} × (is_open_at passing rs place ≡ true))
+        (λ place. is_open_at passing rs place ≡ true) (λ place h. h.1) (open_places passing rs)
+    (every_filter (λ place. Unit {0}) (is_open_at passing rs) (range_with_len 0 (length rs))
+        (every_from (λ place. Unit {0}) (λ place. tt) (range_with_len 0 (length rs)))))
 
-pub picked_opens : (picks : List Choice → ℕ → Type 0) (passing : ℕ) (ds : List Drive) (rs : List Record) (place : ℕ) → IsPick picks passing ds rs place → is_open_at passing rs place ≡ true
+pub picked_opens : (picks : List Choice → ℕ → Type 0) (passing : ℕ) (ds : List Drive) (rs : List Record) (place : ℕ)
+    → IsPick picks passing ds rs place → is_open_at passing rs place ≡ true
 picked_opens picks passing ds rs place h = subst (λ p. is_open_at passing rs p ≡ true) h.2 (opened passing rs h.0 0 h.1)
 
 -- ---- among others
@@ -36,10 +39,12 @@ pub record Among (passing : ℕ) (rs front : List Record) (r : Record) (back : L
   pub opens : is_unstarted r ≡ true → is_open passing r front ≡ true
 
 -- a record that may be served, wherever it stands
-servable : (passing : ℕ) (rs front : List Record) (r : Record) (back : List Record) (name : Name) → has_reference name r ≡ true → Among passing rs front r back → IsStillServable passing rs name
+servable : (passing : ℕ) (rs front : List Record) (r : Record) (back : List Record) (name : Name)
+    → has_reference name r ≡ true → Among passing rs front r back → IsStillServable passing rs name
 servable passing rs front r back name own m =
     let at = at_place rs front r back (length front) no_record m.is refl in
-    let fresh : is_unstarted (record_at rs (length front)) ≡ true → is_unstarted r ≡ true = λ e. ap is_unstarted (sym at.item) ∙ e in
+    let fresh : is_unstarted (record_at rs (length front)) ≡ true → is_unstarted r ≡ true =
+        λ e. ap is_unstarted (sym at.item) ∙ e in
     let all : IsServable passing rs (length front) = record {
       inside = omega (arith, ap length m.is, length-append front (r ∷ back));
       idle = λ e. All-from_recursion (λ z. z.done ≡ 0) rs (m.idle (fresh e));
@@ -48,12 +53,15 @@ servable passing rs front r back name own m =
     (length front, all, ap (has_reference name) at.item ∙ own)
 
 -- and one that stands at a place
-among : (passing : ℕ) (rs : List Record) (place : ℕ) → IsServable passing rs place → Among passing rs (take place rs) (record_at rs place) (drop (place + 1) rs)
-among passing rs place s = record { is = cut_at no_record rs place s.inside; idle = λ e. recursion_from_All (λ z. z.done ≡ 0) rs (s.idle e); opens = s.opens }
+among : (passing : ℕ) (rs : List Record) (place : ℕ) → IsServable passing rs place
+    → Among passing rs (take place rs) (record_at rs place) (drop (place + 1) rs)
+among passing rs place s = record { is = cut_at no_record rs place s.inside; idle =
+    λ e. recursion_from_All (λ z. z.done ≡ 0) rs (s.idle e); opens = s.opens }
 
 -- ---- a command comes
 
-pub still_pushed : (passing : ℕ) (rs : List Record) (name : Name) (new : Record) → new.done ≡ 0 → IsStillServable passing rs name → IsStillServable passing (rs ++ new ∷ []) name
+pub still_pushed : (passing : ℕ) (rs : List Record) (name : Name) (new : Record) → new.done ≡ 0
+    → IsStillServable passing rs name → IsStillServable passing (rs ++ new ∷ []) name
 still_pushed passing rs name new n s =
     let place = s.0 in
     let m = among passing rs place s.1 in
@@ -75,15 +83,19 @@ all_left p keep [] h = refl
 all_left p keep (r ∷ rs) h =
     let b = and_parts (p r) (list_all p rs) h in
     let rest = all_left p keep rs b.1 in
-    elim (keep r) as (λ k. list_all p (cond k (r ∷ filter keep rs) (filter keep rs)) ≡ true) [ true ↦ ap (λ q. q && list_all p (filter keep rs)) b.0 ∙ rest | false ↦ rest ]
+    elim (keep r) as (λ k. list_all p (cond k (r ∷ filter keep rs) (filter keep rs)) ≡ true)
+        [ true ↦ ap (λ q. q && list_all p (filter keep rs)) b.0 ∙ rest | false ↦ rest ]
 
 -- a record that may start may start where fewer are in front of it
-open_left : (passing : ℕ) (r : Record) (keep : Record → Bool) (front : List Record) → is_open passing r front ≡ true → is_open passing r (filter keep front) ≡ true
+open_left : (passing : ℕ) (r : Record) (keep : Record → Bool) (front : List Record) → is_open passing r front ≡ true
+    → is_open passing r (filter keep front) ≡ true
 open_left passing r keep front h =
     let b = and_parts (is_free r front) (is_affordable passing r front) h in
-    ap (λ q. q && is_affordable passing r (filter keep front)) (all_left (λ z. not (fences r z)) keep front b.0) ∙ all_left (λ z. nat_le (z.passes + toll r) passing) keep front b.1
+    ap (λ q. q && is_affordable passing r (filter keep front)) (all_left (λ z. not (fences r z)) keep front b.0)
+        ∙ all_left (λ z. nat_le (z.passes + toll r) passing) keep front b.1
 
-pub still_aborted : (passing reference : ℕ) (rs : List Record) (name : Name) → nat_eq name reference ≡ false → IsStillServable passing rs name → IsStillServable passing (without reference rs) name
+pub still_aborted : (passing reference : ℕ) (rs : List Record) (name : Name) → nat_eq name reference ≡ false
+    → IsStillServable passing rs name → IsStillServable passing (without reference rs) name
 still_aborted passing reference rs name other s =
     let place = s.0 in
     let m = among passing rs place s.1 in
@@ -95,17 +107,21 @@ still_aborted passing reference rs name other s =
     let stays : keep r ≡ true = ap (λ n. not (nat_eq n reference)) number ∙ ap not other in
     servable passing (without reference rs) (filter keep front) r (filter keep back) name s.2
     (record {
-      is = ap (filter keep) m.is ∙ (filter-append keep front (r ∷ back) ∙ ap (λ b. filter keep front ++ cond b (r ∷ filter keep back) (filter keep back)) stays);
+      is = ap (filter keep) m.is ∙ (filter-append keep front (r ∷ back)
+          ∙ ap (λ b. filter keep front ++ cond b (r ∷ filter keep back) (filter keep back)) stays);
       idle = λ e. every_kept (λ z. z.done ≡ 0) keep rs (m.idle e);
       opens = λ e. open_left passing r keep front (m.opens e);
     })
 
 -- what is begun after an abort was begun before, and isn't what was aborted
-pub still_begun : (reference : ℕ) (begun : Option Name) (name : Name) → begun_without reference begun ≡ Some name → (begun ≡ Some name) × (nat_eq name reference ≡ false)
+pub still_begun : (reference : ℕ) (begun : Option Name) (name : Name) → begun_without reference begun ≡ Some name
+    → (begun ≡ Some name) × (nat_eq name reference ≡ false)
 still_begun reference None name e = absurd (false≢true (ap is_some e))
 still_begun reference (Some x) name e =
-    let both : (b : Bool) → nat_eq x reference ≡ b → (if b then None else Some x) ≡ Some name → (Some x ≡ Some name) × (nat_eq name reference ≡ false) =
-    λ b. elim b as (λ b. nat_eq x reference ≡ b → (if b then None else Some x) ≡ Some name → (Some x ≡ Some name) × (nat_eq name reference ≡ false)) [
+    let both : (b : Bool) → nat_eq x reference ≡ b → (if b then None else Some x) ≡ Some name
+        → (Some x ≡ Some name) × (nat_eq name reference ≡ false) =
+    λ b. elim b as (λ b. nat_eq x reference ≡ b → (if b then None else Some x) ≡ Some name
+        → (Some x ≡ Some name) × (nat_eq name reference ≡ false)) [
       | true ↦ λ q e. absurd (false≢true (ap is_some e))
       | false ↦ λ q e. (e, ap (λ n. nat_eq n reference) (ap (λ o. unwrap_or o x) (sym e)) ∙ q)
     ] in

@@ -31,44 +31,55 @@ any_weaker {X} p q (x ∷ xs) h =
     both (p x) (q x) h
 
 -- each of the first flags is set
-set_at : (flags : List Bool) (n at : ℕ) → at < n → at < length flags → list_all (λ b. b) (take n flags) ≡ true → get_or flags at false ≡ true
+set_at : (flags : List Bool) (n at : ℕ) → at < n → at < length flags → list_all (λ b. b) (take n flags) ≡ true
+    → get_or flags at false ≡ true
 set_at [] n at l k h = absurd (omega arith)
 set_at (b ∷ flags) zero at l k h = absurd (omega arith)
 set_at (true ∷ flags) (suc n) zero l k h = refl
 set_at (false ∷ flags) (suc n) at l k h = absurd (false≢true h)
 set_at (true ∷ flags) (suc n) (suc at) l k h = set_at flags n at (omega arith) (omega arith) h
 
-closed_lets : (affordable seen fenced sequential : Bool) → (affordable ≡ true → fenced ≡ true) → (fenced ≡ true → seen ≡ true) → ((if sequential then not seen else not fenced) && affordable) ≡ false
+closed_lets : (affordable seen fenced sequential : Bool) → (affordable ≡ true → fenced ≡ true)
+    → (fenced ≡ true → seen ≡ true) → ((if sequential then not seen else not fenced) && affordable) ≡ false
 closed_lets false seen fenced true f s = elim seen as (λ b. (not b && false) ≡ false) [ true ↦ refl | false ↦ refl ]
 closed_lets false seen fenced false f s = elim fenced as (λ b. (not b && false) ≡ false) [ true ↦ refl | false ↦ refl ]
 closed_lets true seen fenced true f s = rw (s (f refl)) refl
 closed_lets true seen fenced false f s = rw (f refl) refl
 
 -- so no record that they may let start
-closed_open : (passing : ℕ) (ds : List Drive) (front : List Record) (f : Front) (r : Record) → length ds ≤ 16 → IsFront passing ds front f → is_closed f (length ds) ≡ true
-    → is_known (units_of ds) r.command.unit ≡ true → AllByRecursion (λ z. is_known (units_of ds) z.command.unit ≡ true) front → is_open passing r front ≡ false
+closed_open : (passing : ℕ) (ds : List Drive) (front : List Record) (f : Front) (r : Record) → length ds ≤ 16
+    → IsFront passing ds front f → is_closed f (length ds) ≡ true
+    → is_known (units_of ds) r.command.unit ≡ true
+        → AllByRecursion (λ z. is_known (units_of ds) z.command.unit ≡ true) front → is_open passing r front ≡ false
 closed_open passing ds front f r few h closed known each =
     let at = drive_place ds r.command.unit in
     let inside : at < length ds = known_inside ds r.command.unit known in
-    let all : (b : Bool) → f.affordable ≡ b → (not b || list_all (λ x. x) (take (length ds) f.fenced)) ≡ true → b ≡ true → get_or f.fenced at false ≡ true =
-    λ b. elim b as (λ b. f.affordable ≡ b → (not b || list_all (λ x. x) (take (length ds) f.fenced)) ≡ true → b ≡ true → get_or f.fenced at false ≡ true) [
+    let all : (b : Bool) → f.affordable ≡ b → (not b || list_all (λ x. x) (take (length ds) f.fenced)) ≡ true → b ≡ true
+        → get_or f.fenced at false ≡ true =
+    λ b. elim b as (λ b. f.affordable ≡ b → (not b || list_all (λ x. x) (take (length ds) f.fenced)) ≡ true → b ≡ true
+        → get_or f.fenced at false ≡ true) [
       | true ↦ λ e k t. set_at f.fenced (length ds) at inside (omega (arith, h.many_fenced)) k
       | false ↦ λ e k t. absurd (false≢true t)
     ] in
     let seen : get_or f.fenced at false ≡ true → get_or f.seen at false ≡ true =
-    λ e. h.seen at (omega arith) ∙ any_weaker (is_of ds at) (λ z. is_sequential z.command.order) front (sym (h.fenced at (omega arith)) ∙ e) in
+    λ e. h.seen at (omega arith) ∙ any_weaker (is_of ds at) (λ z. is_sequential z.command.order) front
+        (sym (h.fenced at (omega arith)) ∙ e) in
     sym (let_is passing ds front f r (fresh_drive one_block) h (omega arith) known each)
-    ∙ closed_lets f.affordable (get_or f.seen at false) (get_or f.fenced at false) (is_sequential r.command.order) (all f.affordable refl closed) seen
+    ∙ closed_lets f.affordable (get_or f.seen at false) (get_or f.fenced at false) (is_sequential r.command.order)
+        (all f.affordable refl closed) seen
 
 -- ---- nor do more of them
 
-both_kept : (a b a' b' : Bool) → (a ≡ false → a' ≡ false) → (b ≡ false → b' ≡ false) → (a && b) ≡ false → (a' && b') ≡ false
+both_kept : (a b a' b' : Bool) → (a ≡ false → a' ≡ false) → (b ≡ false → b' ≡ false) → (a && b) ≡ false
+    → (a' && b') ≡ false
 both_kept true b a' b' f g h = rw (g h) (elim a' as (λ c. (c && false) ≡ false) [ true ↦ refl | false ↦ refl ])
 both_kept false b a' b' f g h = rw (f refl) refl
 
-open_kept : (passing : ℕ) (r : Record) (rs : List Record) (place : ℕ) → is_open passing r (take place rs) ≡ false → is_open passing r (take (place + 1) rs) ≡ false
+open_kept : (passing : ℕ) (r : Record) (rs : List Record) (place : ℕ) → is_open passing r (take place rs) ≡ false
+    → is_open passing r (take (place + 1) rs) ≡ false
 open_kept passing r rs place h =
-    both_kept (is_free r (take place rs)) (is_affordable passing r (take place rs)) (is_free r (take (place + 1) rs)) (is_affordable passing r (take (place + 1) rs))
+    both_kept (is_free r (take place rs)) (is_affordable passing r (take place rs)) (is_free r (take (place + 1) rs))
+        (is_affordable passing r (take (place + 1) rs))
     (list_all_kept _ rs place) (list_all_kept _ rs place) h
 
 -- the places found are all that there are up to a place, and nobody from there on may start
@@ -76,28 +87,36 @@ record Shut (passing : ℕ) (ds : List Drive) (rs : List Record) (place : ℕ) (
   opens : places ≡ filter (is_open_at passing rs) (range_with_len 0 place)
   shut : (r : Record) → is_known (units_of ds) r.command.unit ≡ true → is_open passing r (take place rs) ≡ false
 
-shut_more : (passing : ℕ) (ds : List Drive) (rs : List Record) (place : ℕ) (places : List ℕ) → place < length rs → AllInside ds rs → Shut passing ds rs place places → Shut passing ds rs (place + 1) places
+shut_more : (passing : ℕ) (ds : List Drive) (rs : List Record) (place : ℕ) (places : List ℕ) → place < length rs
+    → AllInside ds rs → Shut passing ds rs place places → Shut passing ds rs (place + 1) places
 shut_more passing ds rs place places l inside h =
-    let one : filter (is_open_at passing rs) (place ∷ []) ≡ [] = rw (h.shut (record_at rs place) (inside place no_record l).0) refl in
+    let one : filter (is_open_at passing rs) (place ∷ []) ≡ [] =
+        rw (h.shut (record_at rs place) (inside place no_record l).0) refl in
     record {
       opens =
           h.opens ∙ (sym (append-nil (filter (is_open_at passing rs) (range_with_len 0 place)))
           ∙ (ap (λ ps. filter (is_open_at passing rs) (range_with_len 0 place) ++ ps) (sym one)
-          ∙ (sym (filter-append (is_open_at passing rs) (range_with_len 0 place) (place ∷ [])) ∙ ap (filter (is_open_at passing rs)) (sym (range_more place)))));
+          ∙ (sym (filter-append (is_open_at passing rs) (range_with_len 0 place) (place ∷ []))
+              ∙ ap (filter (is_open_at passing rs)) (sym (range_more place)))));
       shut = λ r k. open_kept passing r rs place (h.shut r k);
     }
 
-shut_on : (passing : ℕ) (ds : List Drive) (rs : List Record) (place k : ℕ) (places : List ℕ) → place + k ≡ length rs → AllInside ds rs → Shut passing ds rs place places → places ≡ open_places passing rs
-shut_on passing ds rs place zero places e inside h = h.opens ∙ ap (λ n. filter (is_open_at passing rs) (range_with_len 0 n)) (omega (arith, e))
+shut_on : (passing : ℕ) (ds : List Drive) (rs : List Record) (place k : ℕ) (places : List ℕ) → place + k ≡ length rs
+    → AllInside ds rs → Shut passing ds rs place places → places ≡ open_places passing rs
+shut_on passing ds rs place zero places e inside h =
+    h.opens ∙ ap (λ n. filter (is_open_at passing rs) (range_with_len 0 n)) (omega (arith, e))
 shut_on passing ds rs place (suc k) places e inside h =
-    shut_on passing ds rs (place + 1) k places (omega (arith, e)) inside (shut_more passing ds rs place places (omega (arith, e)) inside h)
+    shut_on passing ds rs (place + 1) k places (omega (arith, e)) inside
+        (shut_more passing ds rs place places (omega (arith, e)) inside h)
 
 -- so where they let nobody start, all that may start were found
-pub found_closed : (passing : ℕ) (ds : List Drive) (rs : List Record) (place : ℕ) (f : Front) (places : List ℕ) (choices : List Choice) → length ds ≤ 16 → place ≤ length rs → AllInside ds rs
+pub found_closed : (passing : ℕ) (ds : List Drive) (rs : List Record) (place : ℕ) (f : Front) (places : List ℕ)
+    (choices : List Choice) → length ds ≤ 16 → place ≤ length rs → AllInside ds rs
     → is_closed f (length ds) ≡ true → Looks passing ds rs place f places choices → places ≡ open_places passing rs
 found_closed passing ds rs place f places choices few l inside closed h =
     let known : All (λ z. is_known (units_of ds) z.command.unit ≡ true) rs = λ i other k. (inside i other k).0 in
-    let each = recursion_from_All (λ z. is_known (units_of ds) z.command.unit ≡ true) (take place rs) (All-take (λ z. is_known (units_of ds) z.command.unit ≡ true) place rs known) in
+    let each = recursion_from_All (λ z. is_known (units_of ds) z.command.unit ≡ true) (take place rs)
+        (All-take (λ z. is_known (units_of ds) z.command.unit ≡ true) place rs known) in
     shut_on passing ds rs place (length rs - place) places (omega arith) inside
     (record { opens = h.opens; shut = λ r k. closed_open passing ds (take place rs) f r few h.front closed k each })
 

@@ -28,13 +28,19 @@ pub record IsPlaced (ds : List Drive) (n place : ℕ) (other : Drive) : Type 0 w
   pub drive : get_or ds place other ≡ drive_of ds n
   pub number : (get_or ds place other).unit.number ≡ n
 
-pub known_at : (ds : List Drive) (n : ℕ) (other : Drive) → is_known (units_of ds) n ≡ true → IsPlaced ds n (drive_place ds n) other
+pub known_at : (ds : List Drive) (n : ℕ) (other : Drive) → is_known (units_of ds) n ≡ true
+    → IsPlaced ds n (drive_place ds n) other
 known_at [] n other h = absurd (false≢true h)
 known_at (d ∷ ds) n other h =
     let found : Bool → Drive = λ b. unwrap_or (cond b (Some d) (find (has_number n) ds)) (fresh_drive one_block) in
-    let P : Bool → ℕ → Type 0 = λ b i. (i < length (d ∷ ds)) × (get_or (d ∷ ds) i other ≡ found b) × ((get_or (d ∷ ds) i other).unit.number ≡ n) in
-    let both : (b : Bool) → nat_eq d.unit.number n ≡ b → is_some (cond b (Some d.unit) (find (λ s. nat_eq s.number n) (units_of ds))) ≡ true → P b (cond (not b) (1 + drive_place ds n) 0) =
-    λ b. elim b as (λ b. nat_eq d.unit.number n ≡ b → is_some (cond b (Some d.unit) (find (λ s. nat_eq s.number n) (units_of ds))) ≡ true → P b (cond (not b) (1 + drive_place ds n) 0)) [
+    let P : Bool → ℕ → Type 0 = λ b i. (i < length (d ∷ ds)) × (get_or (d ∷ ds) i other ≡ found b)
+        × ((get_or (d ∷ ds) i other).unit.number ≡ n) in
+    let both : (b : Bool) → nat_eq d.unit.number n ≡ b
+        → is_some (cond b (Some d.unit) (find (λ s. nat_eq s.number n) (units_of ds))) ≡ true
+        → P b (cond (not b) (1 + drive_place ds n) 0) =
+    λ b. elim b as (λ b. nat_eq d.unit.number n ≡ b
+        → is_some (cond b (Some d.unit) (find (λ s. nat_eq s.number n) (units_of ds))) ≡ true
+        → P b (cond (not b) (1 + drive_place ds n) 0)) [
       | true ↦ λ e k. (omega arith, refl, eqb-true d.unit.number n e)
       | false ↦ λ e k.
           let rest = known_at ds n other k in
@@ -49,12 +55,15 @@ pub known_inside : (ds : List Drive) (n : ℕ) → is_known (units_of ds) n ≡ 
 known_inside [] n h = absurd (false≢true h)
 known_inside (d ∷ ds) n h = (known_at (d ∷ ds) n d h).inside
 
-pub place_found : (ds : List Drive) (n other : ℕ) → is_known (units_of ds) n ≡ true → unwrap_or (position (has_number n) ds) other ≡ drive_place ds n
+pub place_found : (ds : List Drive) (n other : ℕ) → is_known (units_of ds) n ≡ true
+    → unwrap_or (position (has_number n) ds) other ≡ drive_place ds n
 place_found ds n other h =
-    ap (λ b. unwrap_or (cond b (Some (drive_place ds n)) None) other) (lt-ltb (drive_place ds n) (length ds) (known_inside ds n h))
+    ap (λ b. unwrap_or (cond b (Some (drive_place ds n)) None) other)
+        (lt-ltb (drive_place ds n) (length ds) (known_inside ds n h))
 
 -- units are told apart by the places of their drives
-apart_by_place : (ds : List Drive) (other : Drive) (a b : ℕ) → is_known (units_of ds) a ≡ true → is_known (units_of ds) b ≡ true → nat_eq (drive_place ds a) (drive_place ds b) ≡ nat_eq a b
+apart_by_place : (ds : List Drive) (other : Drive) (a b : ℕ) → is_known (units_of ds) a ≡ true
+    → is_known (units_of ds) b ≡ true → nat_eq (drive_place ds a) (drive_place ds b) ≡ nat_eq a b
 apart_by_place ds other a b h k =
     let both : (q : Bool) → nat_eq a b ≡ q → nat_eq (drive_place ds a) (drive_place ds b) ≡ q =
     λ q. elim q as (λ q. nat_eq a b ≡ q → nat_eq (drive_place ds a) (drive_place ds b) ≡ q) [
@@ -83,19 +92,22 @@ pub record IsFront (passing : ℕ) (ds : List Drive) (front : List Record) (f : 
       → get_or f.fenced place false ≡ list_any (λ z. is_of ds place z && is_sequential z.command.order) front
   pub affordable : f.affordable ≡ list_all (λ z. nat_le (z.passes + 1) passing) front
 
-any_of : {X : Type 0} (p q : X → Bool) (xs : List X) → AllByRecursion (λ x. p x ≡ q x) xs → list_any p xs ≡ list_any q xs
+any_of : {X : Type 0} (p q : X → Bool) (xs : List X) → AllByRecursion (λ x. p x ≡ q x) xs
+    → list_any p xs ≡ list_any q xs
 any_of p q [] h = refl
 any_of p q (x ∷ xs) h = ap (λ b. b || list_any p xs) h.0 ∙ ap (λ b. q x || b) (any_of p q xs h.1)
 
 none_any : {X : Type 0} (p : X → Bool) (xs : List X) → list_all (λ x. not (p x)) xs ≡ not (list_any p xs)
 none_any p [] = refl
-none_any p (x ∷ xs) = ap (λ b. not (p x) && b) (none_any p xs) ∙ elim (p x) as (λ b. (not b && not (list_any p xs)) ≡ not (b || list_any p xs)) [ true ↦ refl | false ↦ refl ]
+none_any p (x ∷ xs) = ap (λ b. not (p x) && b) (none_any p xs)
+    ∙ elim (p x) as (λ b. (not b && not (list_any p xs)) ≡ not (b || list_any p xs)) [ true ↦ refl | false ↦ refl ]
 
 no_one : (place : ℕ) → place < 16 → get_or (replicate 16 false) place false ≡ false
 no_one place h = get_or-replicate 16 place false false h
 
 pub front_none : (passing : ℕ) (ds : List Drive) → IsFront passing ds [] nobody
-front_none passing ds = record { many = length-replicate 16 false; many_fenced = length-replicate 16 false; seen = no_one; fenced = no_one; affordable = refl }
+front_none passing ds = record { many = length-replicate 16 false; many_fenced = length-replicate 16 false; seen =
+    no_one; fenced = no_one; affordable = refl }
 
 or_false : (b : Bool) → (b || false) ≡ b
 or_false true = refl
@@ -112,12 +124,14 @@ and_all false = refl
 -- one more flag is set at a place
 set_more : (flags : List Bool) (at place : ℕ) (mark old : Bool) → at < length flags → get_or flags place false ≡ old
     → get_or (if mark then set flags at true else flags) place false ≡ (old || (nat_eq at place && mark))
-set_more flags at place false old l e = e ∙ (sym (or_false old) ∙ ap (λ b. old || b) (elim (nat_eq at place) as (λ b. false ≡ (b && false)) [ true ↦ refl | false ↦ refl ]))
+set_more flags at place false old l e = e ∙ (sym (or_false old)
+    ∙ ap (λ b. old || b) (elim (nat_eq at place) as (λ b. false ≡ (b && false)) [ true ↦ refl | false ↦ refl ]))
 set_more flags at place true old l e =
     let both : (q : Bool) → nat_eq at place ≡ q → get_or (set flags at true) place false ≡ (old || (q && true)) =
     λ q. elim q as (λ q. nat_eq at place ≡ q → get_or (set flags at true) place false ≡ (old || (q && true))) [
       | true ↦ λ h. get_or-set_at flags at place true false (sym (eqb-true at place h)) l ∙ sym (or_true old)
-      | false ↦ λ h. get_or-set_other flags at place true false (λ same. false≢true (sym h ∙ eq-eqb at place (sym same))) ∙ (e ∙ sym (or_false old))
+      | false ↦ λ h. get_or-set_other flags at place true false
+          (λ same. false≢true (sym h ∙ eq-eqb at place (sym same))) ∙ (e ∙ sym (or_false old))
     ] in
     both (nat_eq at place) refl
 
@@ -126,7 +140,8 @@ and_true true = refl
 and_true false = refl
 
 lt_le : (p n : ℕ) → nat_lt p n ≡ nat_le (p + 1) n
-lt_le p n = ⊎_elim (λ h. lt-ltb p n h ∙ sym (le-leb (p + 1) n (omega (arith, h)))) (λ h. le-ltb p n h ∙ sym (lt-leb (p + 1) n (omega (arith, h)))) (cases_lt p n)
+lt_le p n = ⊎_elim (λ h. lt-ltb p n h ∙ sym (le-leb (p + 1) n (omega (arith, h))))
+    (λ h. le-ltb p n h ∙ sym (lt-leb (p + 1) n (omega (arith, h)))) (cases_lt p n)
 
 fewer : (b all : Bool) → (if b then all else false) ≡ (all && (b && true))
 fewer true true = refl
@@ -135,7 +150,8 @@ fewer false true = refl
 fewer false false = refl
 
 -- one more record is in front
-pub front_more : (passing : ℕ) (ds : List Drive) (front : List Record) (f : Front) (r : Record) (at : ℕ) → at < 16 → at ≡ drive_place ds r.command.unit → IsFront passing ds front f
+pub front_more : (passing : ℕ) (ds : List Drive) (front : List Record) (f : Front) (r : Record) (at : ℕ) → at < 16
+    → at ≡ drive_place ds r.command.unit → IsFront passing ds front f
     → IsFront passing ds (front ++ r ∷ []) (with_record passing f r at)
 front_more passing ds front f r at l e h =
     let of : (place : ℕ) → nat_eq at place ≡ is_of ds place r = λ place. ap (λ i. nat_eq i place) e in
@@ -143,41 +159,56 @@ front_more passing ds front f r at l e h =
     let may : Record → Bool = λ z. nat_le (z.passes + 1) passing in
     record {
       many = length-set f.seen at true ∙ h.many;
-      many_fenced = elim sequential as (λ b. length (if b then set f.fenced at true else f.fenced) ≡ 16) [ true ↦ length-set f.fenced at true ∙ h.many_fenced | false ↦ h.many_fenced ];
+      many_fenced = elim sequential as (λ b. length (if b then set f.fenced at true else f.fenced) ≡ 16)
+          [ true ↦ length-set f.fenced at true ∙ h.many_fenced | false ↦ h.many_fenced ];
       seen = λ place k.
           set_more f.seen at place true (list_any (is_of ds place) front) (omega (arith, h.many)) (h.seen place k)
-          ∙ (ap (λ b. list_any (is_of ds place) front || (b && true)) (of place) ∙ (ap (λ b. list_any (is_of ds place) front || b) (and_true (is_of ds place r)) ∙ sym (list_any-append (is_of ds place) front (r ∷ []))));
+          ∙ (ap (λ b. list_any (is_of ds place) front || (b && true)) (of place)
+              ∙ (ap (λ b. list_any (is_of ds place) front || b) (and_true (is_of ds place r))
+              ∙ sym (list_any-append (is_of ds place) front (r ∷ []))));
       fenced = λ place k.
           let p : Record → Bool = λ z. is_of ds place z && is_sequential z.command.order in
           set_more f.fenced at place sequential (list_any p front) (omega (arith, h.many_fenced)) (h.fenced place k)
-          ∙ (ap (λ b. list_any p front || (b && sequential)) (of place) ∙ (ap (λ b. list_any p front || b) (sym (or_false (p r))) ∙ sym (list_any-append p front (r ∷ []))));
+          ∙ (ap (λ b. list_any p front || (b && sequential)) (of place)
+              ∙ (ap (λ b. list_any p front || b) (sym (or_false (p r))) ∙ sym (list_any-append p front (r ∷ []))));
       affordable =
           ap (λ b. if b then f.affordable else false) (lt_le r.passes passing)
-          ∙ (ap (λ a. if may r then a else false) h.affordable ∙ (fewer (may r) (list_all may front) ∙ sym (list_all-append may front (r ∷ []))));
+          ∙ (ap (λ a. if may r then a else false) h.affordable
+              ∙ (fewer (may r) (list_all may front) ∙ sym (list_all-append may front (r ∷ []))));
     }
 
 -- z keeps back what is of this unit, and may be sequential
 abbrev pub fences_of : ℕ → Bool → Record → Bool
 fences_of unit sequential z = nat_eq z.command.unit unit && (is_sequential z.command.order || sequential)
 
-free_by : (ds : List Drive) (front : List Record) (f : Front) (passing unit : ℕ) (other : Drive) (sequential : Bool) → IsFront passing ds front f → drive_place ds unit < 16
+free_by : (ds : List Drive) (front : List Record) (f : Front) (passing unit : ℕ) (other : Drive) (sequential : Bool)
+    → IsFront passing ds front f → drive_place ds unit < 16
     → is_known (units_of ds) unit ≡ true → AllByRecursion (λ z. is_known (units_of ds) z.command.unit ≡ true) front
-    → (if sequential then not (get_or f.seen (drive_place ds unit) false) else not (get_or f.fenced (drive_place ds unit) false)) ≡ not (list_any (fences_of unit sequential) front)
+    → (if sequential then not (get_or f.seen (drive_place ds unit) false)
+        else not (get_or f.fenced (drive_place ds unit) false)) ≡ not (list_any (fences_of unit sequential) front)
 free_by ds front f passing unit other true h l k each =
     ap not (h.seen (drive_place ds unit) l
     ∙ any_of (is_of ds (drive_place ds unit)) (fences_of unit true) front
-    (every_weaker (λ z. is_known (units_of ds) z.command.unit ≡ true) (λ z. is_of ds (drive_place ds unit) z ≡ fences_of unit true z)
-    (λ z w. apart_by_place ds other z.command.unit unit w k ∙ (sym (and_all (nat_eq z.command.unit unit)) ∙ ap (λ b. nat_eq z.command.unit unit && b) (sym (or_true (is_sequential z.command.order))))) front each))
+    (every_weaker (λ z. is_known (units_of ds) z.command.unit ≡ true)
+        (λ z. is_of ds (drive_place ds unit) z ≡ fences_of unit true z)
+    (λ z w. apart_by_place ds other z.command.unit unit w k
+        ∙ (sym (and_all (nat_eq z.command.unit unit))
+        ∙ ap (λ b. nat_eq z.command.unit unit && b) (sym (or_true (is_sequential z.command.order))))) front each))
 free_by ds front f passing unit other false h l k each =
     ap not (h.fenced (drive_place ds unit) l
     ∙ any_of (λ z. is_of ds (drive_place ds unit) z && is_sequential z.command.order) (fences_of unit false) front
-    (every_weaker (λ z. is_known (units_of ds) z.command.unit ≡ true) (λ z. (is_of ds (drive_place ds unit) z && is_sequential z.command.order) ≡ fences_of unit false z)
-    (λ z w. ap (λ b. b && is_sequential z.command.order) (apart_by_place ds other z.command.unit unit w k) ∙ ap (λ b. nat_eq z.command.unit unit && b) (sym (or_false (is_sequential z.command.order)))) front each))
+    (every_weaker (λ z. is_known (units_of ds) z.command.unit ≡ true)
+        (λ z. (is_of ds (drive_place ds unit) z && is_sequential z.command.order) ≡ fences_of unit false z)
+    (λ z w. ap (λ b. b && is_sequential z.command.order) (apart_by_place ds other z.command.unit unit w k)
+        ∙ ap (λ b. nat_eq z.command.unit unit && b) (sym (or_false (is_sequential z.command.order)))) front each))
 
 -- What is kept of those in front lets a record start exactly where it may.
-pub let_is : (passing : ℕ) (ds : List Drive) (front : List Record) (f : Front) (r : Record) (other : Drive) → IsFront passing ds front f → drive_place ds r.command.unit < 16
-    → is_known (units_of ds) r.command.unit ≡ true → AllByRecursion (λ z. is_known (units_of ds) z.command.unit ≡ true) front
+pub let_is : (passing : ℕ) (ds : List Drive) (front : List Record) (f : Front) (r : Record) (other : Drive)
+    → IsFront passing ds front f → drive_place ds r.command.unit < 16
+    → is_known (units_of ds) r.command.unit ≡ true
+        → AllByRecursion (λ z. is_known (units_of ds) z.command.unit ≡ true) front
     → is_let f r (drive_place ds r.command.unit) ≡ is_open passing r front
 let_is passing ds front f r other h l k each =
-    ap (λ b. b && f.affordable) (free_by ds front f passing r.command.unit other (is_sequential r.command.order) h l k each ∙ sym (none_any (fences r) front))
+    ap (λ b. b && f.affordable) (free_by ds front f passing r.command.unit other (is_sequential r.command.order) h l k
+        each ∙ sym (none_any (fences r) front))
     ∙ ap (λ b. is_free r front && b) h.affordable

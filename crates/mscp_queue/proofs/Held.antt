@@ -31,8 +31,10 @@ heads_fresh : (us : List Shape) → AllByRecursion IsOnUnit (map fresh_drive us)
 heads_fresh [] = tt
 heads_fresh (u ∷ us) = (omega arith, heads_fresh us)
 
-pub held_fresh : (room passing longest : ℕ) (us : List Shape) (rs : List Record) (ds : List Drive) → 1 ≤ room → room ≤ 63 → 1 ≤ longest → longest ≤ 8388608
-    → (room + passing) * longest ≤ 4294967295 → IsUnitList us → rs ≡ [] → ds ≡ map fresh_drive us → IsHeld room passing longest rs ds None false
+pub held_fresh : (room passing longest : ℕ) (us : List Shape) (rs : List Record) (ds : List Drive) → 1 ≤ room
+    → room ≤ 63 → 1 ≤ longest → longest ≤ 8388608
+    → (room + passing) * longest ≤ 4294967295 → IsUnitList us → rs ≡ [] → ds ≡ map fresh_drive us
+        → IsHeld room passing longest rs ds None false
 held_fresh room passing longest us rs ds a b c d e u n f =
     record {
       some_room = a;
@@ -41,7 +43,8 @@ held_fresh room passing longest us rs ds a b c d e u n f =
       short = d;
       small = omega arith;
       fits = omega (arith, ap length n);
-      each = subst (All (IsKept passing longest (units_of ds))) (sym n) (All-nil (IsKept passing longest (units_of ds)));
+      each = subst (All (IsKept passing longest (units_of ds))) (sym n)
+          (All-nil (IsKept passing longest (units_of ds)));
       apart = subst (λ rs. AreApart (names rs)) (sym n) tt;
       one = subst (λ rs. length (filter is_in_service rs) ≤ 1) (sym n) (omega arith);
       idle = λ e. subst (All (λ r. r.done ≡ 0)) (sym n) (All-nil (λ (r : Record). r.done ≡ 0));
@@ -53,14 +56,18 @@ held_fresh room passing longest us rs ds a b c d e u n f =
 -- ---- a reset
 
 -- the drives are as new
-pub renewed : (ds ws : List Drive) → ws ≡ map (λ d. fresh_drive d.unit) ds → refill (length ds) ds ws ≡ map fresh_drive (units_of ds)
-renewed ds ws e = refilled ds ws (ap length e ∙ length-map ds (λ (d : Drive). fresh_drive d.unit)) ∙ (e ∙ sym (map_map (λ (d : Drive). d.unit) fresh_drive ds))
+pub renewed : (ds ws : List Drive) → ws ≡ map (λ d. fresh_drive d.unit) ds
+    → refill (length ds) ds ws ≡ map fresh_drive (units_of ds)
+renewed ds ws e = refilled ds ws (ap length e ∙ length-map ds (λ (d : Drive). fresh_drive d.unit))
+    ∙ (e ∙ sym (map_map (λ (d : Drive). d.unit) fresh_drive ds))
 
-pub held_renewed : (room passing longest : ℕ) (rs new : List Record) (ds ds' : List Drive) (begun : Option Name) (serving : Bool) → IsHeld room passing longest rs ds begun serving → new ≡ [] → ds' ≡ map fresh_drive (units_of ds)
+pub held_renewed : (room passing longest : ℕ) (rs new : List Record) (ds ds' : List Drive) (begun : Option Name)
+    (serving : Bool) → IsHeld room passing longest rs ds begun serving → new ≡ [] → ds' ≡ map fresh_drive (units_of ds)
     → IsHeld room passing longest new ds' None false
 held_renewed room passing longest rs new ds ds' begun serving h n e =
     let s = h.small in
-    held_fresh room passing longest (units_of ds) new ds' h.some_room h.few h.some_blocks h.short (omega arith) h.units n e
+    held_fresh room passing longest (units_of ds) new ds' h.some_room h.few h.some_blocks h.short (omega arith) h.units
+        n e
 
 -- ---- a command comes
 
@@ -76,8 +83,10 @@ some_steps orders.Online = omega arith
 some_steps orders.SetUnit = omega arith
 some_steps (orders.Invalid opcode status) = omega arith
 
-fresh_kept : (passing longest : ℕ) (us : List Shape) (c : Command) → IsWaitable longest us c → IsKept passing longest us (fresh_record c)
-fresh_kept passing longest us c w = record { waitable = w; weight = refl; unfinished = some_steps c.order; good = refl; passes = omega arith }
+fresh_kept : (passing longest : ℕ) (us : List Shape) (c : Command) → IsWaitable longest us c
+    → IsKept passing longest us (fresh_record c)
+fresh_kept passing longest us c w = record { waitable = w; weight = refl; unfinished = some_steps c.order; good =
+    refl; passes = omega arith }
 
 apart_more : (xs : List ℕ) (x : ℕ) → AreApart xs → AllByRecursion (λ y. x ≢ y) xs → AreApart (xs ++ x ∷ [])
 apart_more [] x a n = (tt, tt)
@@ -87,21 +96,28 @@ or_parts : (a b : Bool) → (a || b) ≡ false → (a ≡ false) × (b ≡ false
 or_parts true b h = absurd (true≢false h)
 or_parts false b h = (refl, h)
 
-none_has : (reference : ℕ) (rs : List Record) → list_any (has_reference reference) rs ≡ false → AllByRecursion (λ y. reference ≢ y) (names rs)
+none_has : (reference : ℕ) (rs : List Record) → list_any (has_reference reference) rs ≡ false
+    → AllByRecursion (λ y. reference ≢ y) (names rs)
 none_has reference [] h = tt
 none_has reference (r ∷ rs) h =
     let p = or_parts (has_reference reference r) (list_any (has_reference reference) rs) h in
     ((λ e. eqb-false r.command.reference reference p.0 (sym e)), none_has reference rs p.1)
 
-pub held_pushed : (room passing longest : ℕ) (rs new : List Record) (ds : List Drive) (begun : Option Name) (serving : Bool) (c : Command) → IsHeld room passing longest rs ds begun serving → length rs < room → IsWaitable longest (units_of ds) c
-    → list_any (has_reference c.reference) rs ≡ false → new ≡ rs ++ fresh_record c ∷ [] → IsHeld room passing longest new ds begun serving
+pub held_pushed : (room passing longest : ℕ) (rs new : List Record) (ds : List Drive) (begun : Option Name)
+    (serving : Bool) (c : Command) → IsHeld room passing longest rs ds begun serving → length rs < room
+    → IsWaitable longest (units_of ds) c
+    → list_any (has_reference c.reference) rs ≡ false → new ≡ rs ++ fresh_record c ∷ []
+        → IsHeld room passing longest new ds begun serving
 held_pushed room passing longest rs new ds begun serving c h l w n e =
     let K = IsKept passing longest (units_of ds) in
     let r = fresh_record c in
     let kept : All K (rs ++ r ∷ []) =
-    All-from_recursion K (rs ++ r ∷ []) (every_append K rs (r ∷ []) (recursion_from_All K rs h.each) (fresh_kept passing longest (units_of ds) c w, tt)) in
-    let numbers : names (rs ++ r ∷ []) ≡ names rs ++ c.reference ∷ [] = map-append (λ (q : Record). q.command.reference) rs (r ∷ []) in
-    let served : filter is_in_service (rs ++ r ∷ []) ≡ filter is_in_service rs ++ [] = filter-append is_in_service rs (r ∷ []) in
+    All-from_recursion K (rs ++ r ∷ []) (every_append K rs (r ∷ []) (recursion_from_All K rs h.each)
+        (fresh_kept passing longest (units_of ds) c w, tt)) in
+    let numbers : names (rs ++ r ∷ []) ≡ names rs ++ c.reference ∷ [] =
+        map-append (λ (q : Record). q.command.reference) rs (r ∷ []) in
+    let served : filter is_in_service (rs ++ r ∷ []) ≡ filter is_in_service rs ++ [] =
+        filter-append is_in_service rs (r ∷ []) in
     let all : IsHeld room passing longest (rs ++ r ∷ []) ds begun serving =
     record {
       some_room = h.some_room;
@@ -113,7 +129,8 @@ held_pushed room passing longest rs new ds begun serving c h l w n e =
       each = kept;
       apart = subst AreApart (sym numbers) (apart_more (names rs) c.reference h.apart (none_has c.reference rs n));
       one = let o = h.one in omega (arith, ap length served, length-append (filter is_in_service rs) []);
-      idle = λ e. All-from_recursion (λ z. z.done ≡ 0) (rs ++ r ∷ []) (every_append (λ z. z.done ≡ 0) rs (r ∷ []) (recursion_from_All (λ z. z.done ≡ 0) rs (h.idle e)) (refl, tt));
+      idle = λ e. All-from_recursion (λ z. z.done ≡ 0) (rs ++ r ∷ [])
+          (every_append (λ z. z.done ≡ 0) rs (r ∷ []) (recursion_from_All (λ z. z.done ≡ 0) rs (h.idle e)) (refl, tt));
       units = h.units;
       heads = h.heads;
       still = λ name k. still_pushed passing rs name r refl (h.still name k);
@@ -122,16 +139,22 @@ held_pushed room passing longest rs new ds begun serving c h l w n e =
 
 -- ---- a step
 
-kept_passed : (passing longest n : ℕ) (us : List Shape) (r : Record) → IsKept passing longest us r → r.passes + n ≤ passing → IsKept passing longest us (passed_by n r)
-kept_passed passing longest n us r h l = record { waitable = h.waitable; weight = h.weight; unfinished = h.unfinished; good = h.good; passes = l }
+kept_passed : (passing longest n : ℕ) (us : List Shape) (r : Record) → IsKept passing longest us r
+    → r.passes + n ≤ passing → IsKept passing longest us (passed_by n r)
+kept_passed passing longest n us r h l = record { waitable = h.waitable; weight = h.weight; unfinished =
+    h.unfinished; good = h.good; passes = l }
 
-front_kept : (passing longest n : ℕ) (us : List Shape) (A : List Record) → AllByRecursion (IsKept passing longest us) A → AllByRecursion (λ r. r.passes + n ≤ passing) A
+front_kept : (passing longest n : ℕ) (us : List Shape) (A : List Record) → AllByRecursion (IsKept passing longest us) A
+    → AllByRecursion (λ r. r.passes + n ≤ passing) A
     → AllByRecursion (IsKept passing longest us) (map (passed_by n) A)
 front_kept passing longest n us [] h l = tt
-front_kept passing longest n us (r ∷ rs) h l = (kept_passed passing longest n us r h.0 l.0, front_kept passing longest n us rs h.1 l.1)
+front_kept passing longest n us (r ∷ rs) h l = (kept_passed passing longest n us r h.0 l.0, front_kept passing longest n
+    us rs h.1 l.1)
 
-kept_advanced : (passing longest : ℕ) (us : List Shape) (r : Record) → IsKept passing longest us r → r.done + 1 < r.weight → IsKept passing longest us (advanced r)
-kept_advanced passing longest us r h l = record { waitable = h.waitable; weight = h.weight; unfinished = l; good = ap (λ n. n + 1) h.good; passes = h.passes }
+kept_advanced : (passing longest : ℕ) (us : List Shape) (r : Record) → IsKept passing longest us r
+    → r.done + 1 < r.weight → IsKept passing longest us (advanced r)
+kept_advanced passing longest us r h l = record { waitable = h.waitable; weight = h.weight; unfinished = l; good =
+    ap (λ n. n + 1) h.good; passes = h.passes }
 
 names_passed : (n : ℕ) (A : List Record) → names (map (passed_by n) A) ≡ names A
 names_passed n [] = refl
@@ -153,13 +176,16 @@ AreIdle rs = AllByRecursion (λ z. z.done ≡ 0) rs
 
 idle_none : (rs : List Record) → AreIdle rs → length (filter is_in_service rs) ≡ 0
 idle_none [] h = refl
-idle_none (r ∷ rs) h = ap (λ n. length (cond (nat_lt 0 n) (r ∷ filter is_in_service rs) (filter is_in_service rs))) h.0 ∙ idle_none rs h.1
+idle_none (r ∷ rs) h = ap (λ n. length (cond (nat_lt 0 n) (r ∷ filter is_in_service rs) (filter is_in_service rs))) h.0
+    ∙ idle_none rs h.1
 
 none_idle : (rs : List Record) → length (filter is_in_service rs) ≡ 0 → AreIdle rs
 none_idle [] h = tt
 none_idle (r ∷ rs) h =
-    let both : (b : Bool) → nat_lt 0 r.done ≡ b → length (cond b (r ∷ filter is_in_service rs) (filter is_in_service rs)) ≡ 0 → AreIdle (r ∷ rs) =
-    λ b. elim b as (λ b. nat_lt 0 r.done ≡ b → length (cond b (r ∷ filter is_in_service rs) (filter is_in_service rs)) ≡ 0 → AreIdle (r ∷ rs)) [
+    let both : (b : Bool) → nat_lt 0 r.done ≡ b → length
+        (cond b (r ∷ filter is_in_service rs) (filter is_in_service rs)) ≡ 0 → AreIdle (r ∷ rs) =
+    λ b. elim b as (λ b. nat_lt 0 r.done ≡ b → length (cond b (r ∷ filter is_in_service rs) (filter is_in_service rs))
+        ≡ 0 → AreIdle (r ∷ rs)) [
       | true ↦ λ e l. absurd (omega (arith, l))
       | false ↦ λ e l. let z = ltb-false 0 r.done e in (omega arith, none_idle rs l)
     ] in
@@ -170,10 +196,14 @@ passed_idle n [] h = tt
 passed_idle n (r ∷ rs) h = (h.0, passed_idle n rs h.1)
 
 -- the others are idle where one is in service
-pub others_idle : (A : List Record) (r : Record) (B : List Record) → length (filter is_in_service (A ++ r ∷ B)) ≤ 1 → 0 < r.done → AreIdle A × AreIdle B
+pub others_idle : (A : List Record) (r : Record) (B : List Record) → length (filter is_in_service (A ++ r ∷ B)) ≤ 1
+    → 0 < r.done → AreIdle A × AreIdle B
 others_idle A r B one l =
-    let own : filter is_in_service (r ∷ B) ≡ r ∷ filter is_in_service B = ap (λ b. cond b (r ∷ filter is_in_service B) (filter is_in_service B)) (lt-ltb 0 r.done l) in
-    let all = ap length (filter-append is_in_service A (r ∷ B)) ∙ (length-append (filter is_in_service A) (filter is_in_service (r ∷ B)) ∙ ap (λ xs. length (filter is_in_service A) + length xs) own) in
+    let own : filter is_in_service (r ∷ B) ≡ r ∷ filter is_in_service B =
+        ap (λ b. cond b (r ∷ filter is_in_service B) (filter is_in_service B)) (lt-ltb 0 r.done l) in
+    let all = ap length (filter-append is_in_service A (r ∷ B))
+        ∙ (length-append (filter is_in_service A) (filter is_in_service (r ∷ B))
+        ∙ ap (λ xs. length (filter is_in_service A) + length xs) own) in
     (none_idle A (omega (arith, all, one)), none_idle B (omega (arith, all, one)))
 
 own_one : (r : Record) (own : List Record) → IsLeft r own → length own ≤ 1
@@ -181,17 +211,21 @@ own_one r own h = ⊎_elim (λ e. omega (arith, ap length e)) (λ e. omega (arit
 
 own_serving : (own : List Record) → length own ≤ 1 → length (filter is_in_service own) ≤ 1
 own_serving [] h = omega arith
-own_serving (r ∷ []) h = elim (is_in_service r) as (λ b. length (cond b (r ∷ []) []) ≤ 1) [ true ↦ omega arith | false ↦ omega arith ]
+own_serving (r ∷ []) h = elim (is_in_service r) as (λ b. length (cond b (r ∷ []) []) ≤ 1)
+    [ true ↦ omega arith | false ↦ omega arith ]
 own_serving (r ∷ s ∷ rs) h = absurd (omega arith)
 
-apart_left : (r : Record) (own : List Record) (A B : List Record) → IsLeft r own → AreApart (names A ++ (r.command.reference ∷ names B)) → AreApart (names A ++ (names own ++ names B))
+apart_left : (r : Record) (own : List Record) (A B : List Record) → IsLeft r own
+    → AreApart (names A ++ (r.command.reference ∷ names B)) → AreApart (names A ++ (names own ++ names B))
 apart_left r own A B h a =
     ⊎_elim
-    (λ e. subst (λ xs. AreApart (names A ++ (names xs ++ names B))) (sym e) (apart_without (names A) r.command.reference (names B) a))
+    (λ e. subst (λ xs. AreApart (names A ++ (names xs ++ names B))) (sym e)
+        (apart_without (names A) r.command.reference (names B) a))
     (λ e. subst (λ xs. AreApart (names A ++ (names xs ++ names B))) (sym e.0) a)
     h.left
 
-kept_left : (passing longest : ℕ) (us : List Shape) (r : Record) (own : List Record) → IsLeft r own → IsKept passing longest us r → AllByRecursion (IsKept passing longest us) own
+kept_left : (passing longest : ℕ) (us : List Shape) (r : Record) (own : List Record) → IsLeft r own
+    → IsKept passing longest us r → AllByRecursion (IsKept passing longest us) own
 kept_left passing longest us r own h k =
     ⊎_elim
     (λ e. subst (AllByRecursion (IsKept passing longest us)) (sym e) tt)
@@ -205,8 +239,11 @@ pub record IsTurn (passing n : ℕ) (A : List Record) (r : Record) (B own : List
   pub affordable : AllByRecursion (λ z. z.passes + n ≤ passing) A
   pub left : IsLeft r own
 
-pub held_turn : (room passing longest n : ℕ) (A : List Record) (r : Record) (B own : List Record) (ds ds' : List Drive) (begun : Option Name) (serving serves : Bool) → IsHeld room passing longest (A ++ r ∷ B) ds begun serving → IsTurn passing n A r B own
-    → (serves ≡ false → own ≡ []) → units_of ds' ≡ units_of ds → All IsOnUnit ds' → IsHeld room passing longest (map (passed_by n) A ++ (own ++ B)) ds' None serves
+pub held_turn : (room passing longest n : ℕ) (A : List Record) (r : Record) (B own : List Record) (ds ds' : List Drive)
+    (begun : Option Name) (serving serves : Bool) → IsHeld room passing longest (A ++ r ∷ B) ds begun serving
+    → IsTurn passing n A r B own
+    → (serves ≡ false → own ≡ []) → units_of ds' ≡ units_of ds → All IsOnUnit ds'
+        → IsHeld room passing longest (map (passed_by n) A ++ (own ++ B)) ds' None serves
 held_turn room passing longest n A r B own ds ds' begun serving serves h t ended u heads =
     let K = IsKept passing longest (units_of ds) in
     let new = map (passed_by n) A ++ (own ++ B) in
@@ -217,7 +254,8 @@ held_turn room passing longest n A r B own ds ds' begun serving serves h t ended
     let ref : Record → ℕ = λ q. q.command.reference in
     let old_numbers : names (A ++ r ∷ B) ≡ names A ++ (r.command.reference ∷ names B) = map-append ref A (r ∷ B) in
     let numbers : names new ≡ names A ++ (names own ++ names B) =
-    map-append ref (map (passed_by n) A) (own ++ B) ∙ (ap (λ xs. xs ++ names (own ++ B)) (names_passed n A) ∙ ap (λ xs. names A ++ xs) (map-append ref own B)) in
+    map-append ref (map (passed_by n) A) (own ++ B)
+        ∙ (ap (λ xs. xs ++ names (own ++ B)) (names_passed n A) ∙ ap (λ xs. names A ++ xs) (map-append ref own B)) in
     let few = own_one r own t.left in
     let served = filter-append is_in_service (map (passed_by n) A) (own ++ B) in
     let served_own = filter-append is_in_service own B in
@@ -229,12 +267,16 @@ held_turn room passing longest n A r B own ds ds' begun serving serves h t ended
       some_blocks = h.some_blocks;
       short = h.short;
       small = h.small;
-      fits = let f = h.fits in omega (arith, length-append A (r ∷ B), length-append (map (passed_by n) A) (own ++ B), length-map A (passed_by n), length-append own B);
+      fits = let f = h.fits in omega (arith, length-append A (r ∷ B), length-append (map (passed_by n) A) (own ++ B),
+          length-map A (passed_by n), length-append own B);
       each = subst (λ us. All (IsKept passing longest us) new) (sym u) (All-from_recursion K new kept);
       apart = subst AreApart (sym numbers) (apart_left r own A B t.left (subst AreApart old_numbers h.apart));
-      one = omega (arith, ap length served, length-append (filter is_in_service (map (passed_by n) A)) (filter is_in_service (own ++ B)), ap length served_own, length-append (filter is_in_service own) (filter is_in_service B), none_front, none_back, own_serving own few);
+      one = omega (arith, ap length served, length-append (filter is_in_service (map (passed_by n) A))
+          (filter is_in_service (own ++ B)), ap length served_own, length-append (filter is_in_service own)
+          (filter is_in_service B), none_front, none_back, own_serving own few);
       idle = λ e. All-from_recursion (λ z. z.done ≡ 0) new
-          (every_append (λ z. z.done ≡ 0) (map (passed_by n) A) (own ++ B) (passed_idle n A t.before) (subst (λ zs. AreIdle (zs ++ B)) (sym (ended e)) t.behind));
+          (every_append (λ z. z.done ≡ 0) (map (passed_by n) A) (own ++ B) (passed_idle n A t.before)
+              (subst (λ zs. AreIdle (zs ++ B)) (sym (ended e)) t.behind));
       units = subst IsUnitList (sym u) h.units;
       heads = heads;
       still = λ name k. absurd (false≢true (ap is_some k));
@@ -242,13 +284,19 @@ held_turn room passing longest n A r B own ds ds' begun serving serves h t ended
 
 -- ---- the drives
 
-pub units_replaced : (number : ℕ) (new : Drive) (ds : List Drive) → AllByRecursion (λ d. has_number number d ≡ true → d.unit ≡ new.unit) ds → units_of (replaced number new ds) ≡ units_of ds
+pub units_replaced : (number : ℕ) (new : Drive) (ds : List Drive)
+    → AllByRecursion (λ d. has_number number d ≡ true → d.unit ≡ new.unit) ds
+    → units_of (replaced number new ds) ≡ units_of ds
 units_replaced number new [] h = refl
 units_replaced number new (d ∷ ds) h =
     let both : (b : Bool) → has_number number d ≡ b → (if b then new else d).unit ≡ d.unit =
-    λ b. elim b as (λ b. has_number number d ≡ b → (if b then new else d).unit ≡ d.unit) [ true ↦ λ e. sym (h.0 e) | false ↦ λ e. refl ] in
-    ap (λ u. u ∷ units_of (replaced number new ds)) (both (has_number number d) refl) ∙ ap (λ us. d.unit ∷ us) (units_replaced number new ds h.1)
+    λ b. elim b as (λ b. has_number number d ≡ b → (if b then new else d).unit ≡ d.unit)
+        [ true ↦ λ e. sym (h.0 e) | false ↦ λ e. refl ] in
+    ap (λ u. u ∷ units_of (replaced number new ds)) (both (has_number number d) refl)
+        ∙ ap (λ us. d.unit ∷ us) (units_replaced number new ds h.1)
 
-pub heads_replaced : (number : ℕ) (new : Drive) (ds : List Drive) → IsOnUnit new → AllByRecursion IsOnUnit ds → AllByRecursion IsOnUnit (replaced number new ds)
+pub heads_replaced : (number : ℕ) (new : Drive) (ds : List Drive) → IsOnUnit new → AllByRecursion IsOnUnit ds
+    → AllByRecursion IsOnUnit (replaced number new ds)
 heads_replaced number new [] o h = tt
-heads_replaced number new (d ∷ ds) o h = (elim (has_number number d) as (λ b. IsOnUnit (if b then new else d)) [ true ↦ o | false ↦ h.0 ], heads_replaced number new ds o h.1)
+heads_replaced number new (d ∷ ds) o h = (elim (has_number number d) as (λ b. IsOnUnit (if b then new else d))
+    [ true ↦ o | false ↦ h.0 ], heads_replaced number new ds o h.1)

@@ -18,7 +18,8 @@ use Rattle.mscp_queue.proofs.Placed.{find_cases, position_first, position_none}
 use Rattle.mscp_queue.proofs.Starting.{places_inside}
 
 -- the place of the first record that passes a test
-found_at : (p : Record → Bool) (rs : List Record) (place : ℕ) → position p rs ≡ Some place → (place < length rs) × (p (record_at rs place) ≡ true)
+found_at : (p : Record → Bool) (rs : List Record) (place : ℕ) → position p rs ≡ Some place
+    → (place < length rs) × (p (record_at rs place) ≡ true)
 found_at p rs place h =
     ⊎_elim
     (λ none. absurd (false≢true (ap is_some (sym (position_none p rs none) ∙ h))))
@@ -27,7 +28,8 @@ found_at p rs place h =
     let r = some.1 in
     let B = some.2 in
     let f = some.3 in
-    let first : length A ≡ place = ap (λ o. unwrap_or o place) (sym (position_first p A r B f.before f.passes) ∙ (ap (position p) (sym f.is) ∙ h)) in (
+    let first : length A ≡ place = ap (λ o. unwrap_or o place)
+        (sym (position_first p A r B f.before f.passes) ∙ (ap (position p) (sym f.is) ∙ h)) in (
       omega (arith, first, ap length f.is, length-append A (r ∷ B)),
       ap p (ap (λ l. record_at l place) f.is ∙ get_or_at A r B no_record place first) ∙ f.passes,
     ))
@@ -39,7 +41,8 @@ none_begun begun name n e = true≢false (ap is_some (sym e ∙ n))
 some_is : (x y : Name) → Some x ≡ Some y → x ≡ y
 some_is x y e = ap (λ o. unwrap_or o x) e
 
-others_differ : (name : Name) (rs : List Record) (i : ℕ) → AllByRecursion (λ y. y ≢ name) (names rs) → i < length rs → (record_at rs i).command.reference ≢ name
+others_differ : (name : Name) (rs : List Record) (i : ℕ) → AllByRecursion (λ y. y ≢ name) (names rs) → i < length rs
+    → (record_at rs i).command.reference ≢ name
 others_differ name [] i h l = λ e. absurd (omega (arith, l))
 others_differ name (r ∷ rs) zero h l = h.0
 others_differ name (r ∷ rs) (suc i) h l = others_differ name rs i h.1 (omega (arith, l))
@@ -48,7 +51,9 @@ not_unstarted : (r : Record) → is_in_service r ≡ true → is_unstarted r ≡
 not_unstarted r h e = let a = ltb-true 0 r.done h in let b = eqb-true r.done 0 e in omega arith
 
 -- the record in service is next
-pub serving_next : (picks : List Choice → ℕ → Type 0) (passing : ℕ) (ds : List Drive) (rs : List Record) (begun : Option Name) (place : ℕ) → begun ≡ None → position is_in_service rs ≡ Some place → IsNext picks passing ds rs begun place
+pub serving_next : (picks : List Choice → ℕ → Type 0) (passing : ℕ) (ds : List Drive) (rs : List Record)
+    (begun : Option Name) (place : ℕ) → begun ≡ None → position is_in_service rs ≡ Some place
+    → IsNext picks passing ds rs begun place
 serving_next picks passing ds rs begun place n h =
     let f = found_at is_in_service rs place h in
     record {
@@ -65,23 +70,29 @@ serving_next picks passing ds rs begun place n h =
 none_serving : (rs : List Record) → position is_in_service rs ≡ None → All (λ r. r.done ≡ 0) rs
 none_serving rs h =
     ⊎_elim
-    (λ none. All-from_recursion (λ r. r.done ≡ 0) rs (every_weaker (λ r. is_in_service r ≡ false) (λ r. r.done ≡ 0) (λ r e. let z = ltb-false 0 r.done e in omega arith) rs none))
+    (λ none. All-from_recursion (λ r. r.done ≡ 0) rs
+        (every_weaker (λ r. is_in_service r ≡ false) (λ r. r.done ≡ 0)
+        (λ r e. let z = ltb-false 0 r.done e in omega arith) rs none))
     (λ some.
     let f = some.3 in
-    absurd (true≢false (ap is_some (sym (position_first is_in_service some.0 some.1 some.2 f.before f.passes) ∙ (ap (position is_in_service) (sym f.is) ∙ h)))))
+    absurd (true≢false (ap is_some (sym (position_first is_in_service some.0 some.1 some.2 f.before f.passes)
+        ∙ (ap (position is_in_service) (sym f.is) ∙ h)))))
     (find_cases is_in_service rs)
 
 -- and where all are idle, none is
 pub idle_found : (rs : List Record) → All (λ r. r.done ≡ 0) rs → position is_in_service rs ≡ None
 idle_found rs h =
-    position_none is_in_service rs (every_weaker (λ r. r.done ≡ 0) (λ r. is_in_service r ≡ false) (λ r e. ap (nat_lt 0) e) rs (recursion_from_All (λ r. r.done ≡ 0) rs h))
+    position_none is_in_service rs (every_weaker (λ r. r.done ≡ 0) (λ r. is_in_service r ≡ false)
+        (λ r e. ap (nat_lt 0) e) rs (recursion_from_All (λ r. r.done ≡ 0) rs h))
 
 -- where none is, the record that is picked is
-pub picked_next : (picks : List Choice → ℕ → Type 0) (passing : ℕ) (ds : List Drive) (rs : List Record) (begun : Option Name) (place : ℕ) → begun ≡ None → position is_in_service rs ≡ None → place < length rs
+pub picked_next : (picks : List Choice → ℕ → Type 0) (passing : ℕ) (ds : List Drive) (rs : List Record)
+    (begun : Option Name) (place : ℕ) → begun ≡ None → position is_in_service rs ≡ None → place < length rs
     → IsPick picks passing ds rs place → IsNext picks passing ds rs begun place
 picked_next picks passing ds rs begun place n h l p =
     record {
-      servable = record { inside = l; idle = λ e. none_serving rs h; opens = λ e. picked_opens picks passing ds rs place p };
+      servable = record { inside = l; idle = λ e. none_serving rs h; opens =
+          λ e. picked_opens picks passing ds rs place p };
       same = λ name e. absurd (none_begun begun name n e);
       picked = λ b e. p;
     }
@@ -89,7 +100,8 @@ picked_next picks passing ds rs begun place n h l p =
 -- ---- what was begun
 
 -- a name stands at one place
-once : (rs : List Record) (i j : ℕ) → AreApart (names rs) → i < length rs → j < length rs → (record_at rs i).command.reference ≡ (record_at rs j).command.reference → i ≡ j
+once : (rs : List Record) (i j : ℕ) → AreApart (names rs) → i < length rs → j < length rs
+    → (record_at rs i).command.reference ≡ (record_at rs j).command.reference → i ≡ j
 once [] i j a k l e = absurd (omega (arith, k))
 once (r ∷ rs) zero zero a k l e = refl
 once (r ∷ rs) zero (suc j) a k l e = absurd (others_differ r.command.reference rs j a.0 (omega (arith, l)) (sym e))
@@ -97,31 +109,40 @@ once (r ∷ rs) (suc i) zero a k l e = absurd (others_differ r.command.reference
 once (r ∷ rs) (suc i) (suc j) a k l e = ap suc (once rs i j a.1 (omega (arith, k)) (omega (arith, l)) e)
 
 -- so it is found there
-pub name_found : (rs : List Record) (name : Name) (place : ℕ) (o : Option ℕ) → AreApart (names rs) → place < length rs → (record_at rs place).command.reference ≡ name → o ≡ position (has_reference name) rs → o ≡ Some place
+pub name_found : (rs : List Record) (name : Name) (place : ℕ) (o : Option ℕ) → AreApart (names rs) → place < length rs
+    → (record_at rs place).command.reference ≡ name → o ≡ position (has_reference name) rs → o ≡ Some place
 name_found rs name place None a l e h =
     ⊎_elim
-    (λ none. absurd (true≢false (sym (eq-eqb (record_at rs place).command.reference name e) ∙ All-from_recursion (λ r. has_reference name r ≡ false) rs none place no_record l)))
-    (λ some. let f = some.3 in absurd (true≢false (ap is_some (sym (position_first (has_reference name) some.0 some.1 some.2 f.before f.passes) ∙ (ap (position (has_reference name)) (sym f.is) ∙ sym h)))))
+    (λ none. absurd (true≢false (sym (eq-eqb (record_at rs place).command.reference name e)
+        ∙ All-from_recursion (λ r. has_reference name r ≡ false) rs none place no_record l)))
+    (λ some. let f = some.3 in absurd (true≢false (ap is_some
+        (sym (position_first (has_reference name) some.0 some.1 some.2 f.before f.passes)
+        ∙ (ap (position (has_reference name)) (sym f.is) ∙ sym h)))))
     (find_cases (has_reference name) rs)
 name_found rs name place (Some other) a l e h =
     let f = found_at (has_reference name) rs other (sym h) in
     ap Some (once rs other place a f.0 l (eqb-true (record_at rs other).command.reference name f.1 ∙ sym e))
 
 -- and so is the record that a choice of a view is of
-pub shown_found : (passing : ℕ) (ds : List Drive) (rs : List Record) (view : List Choice) (i : ℕ) (other : Choice) (o : Option ℕ) → AreApart (names rs) → view ≡ view_of passing ds rs → i < length view
+pub shown_found : (passing : ℕ) (ds : List Drive) (rs : List Record) (view : List Choice) (i : ℕ) (other : Choice)
+    (o : Option ℕ) → AreApart (names rs) → view ≡ view_of passing ds rs → i < length view
     → o ≡ position (has_reference (get_or view i other).reference) rs → o ≡ Some (get_or (open_places passing rs) i 0)
 shown_found passing ds rs view i other o a v l h =
     let choice : ℕ → Choice = λ place. choice_of (drive_at ds rs place) (record_at rs place) in
-    let k : i < length (open_places passing rs) = omega (arith, l, ap length v, length-map (open_places passing rs) choice) in
+    let k : i < length (open_places passing rs) = omega
+        (arith, l, ap length v, length-map (open_places passing rs) choice) in
     let is = ap (λ vs. get_or vs i other) v ∙ get_or-map choice (open_places passing rs) i 0 other k in
-    name_found rs (get_or view i other).reference (get_or (open_places passing rs) i 0) o a (places_inside passing rs i 0 k) (sym (ap (λ (q : Choice). q.reference) is)) h
+    name_found rs (get_or view i other).reference (get_or (open_places passing rs) i 0) o a
+        (places_inside passing rs i 0 k) (sym (ap (λ (q : Choice). q.reference) is)) h
 
 -- the record of what was begun is next
-begun_next : (picks : List Choice → ℕ → Type 0) (passing : ℕ) (ds : List Drive) (rs : List Record) (begun : Option Name) (name : Name) (place : ℕ) → AreApart (names rs) → begun ≡ Some name → IsStillServable passing rs name
+begun_next : (picks : List Choice → ℕ → Type 0) (passing : ℕ) (ds : List Drive) (rs : List Record) (begun : Option Name)
+    (name : Name) (place : ℕ) → AreApart (names rs) → begun ≡ Some name → IsStillServable passing rs name
     → position (has_reference name) rs ≡ Some place → IsNext picks passing ds rs begun place
 begun_next picks passing ds rs begun name place a b s h =
     let f = found_at (has_reference name) rs place h in
-    let number : (i : ℕ) → has_reference name (record_at rs i) ≡ true → (record_at rs i).command.reference ≡ name = λ i. eqb-true (record_at rs i).command.reference name in
+    let number : (i : ℕ) → has_reference name (record_at rs i) ≡ true → (record_at rs i).command.reference ≡ name =
+        λ i. eqb-true (record_at rs i).command.reference name in
     let here : s.0 ≡ place = once rs s.0 place a s.1.inside f.0 (number s.0 s.2 ∙ sym (number place f.1)) in
     record {
       servable = subst (IsServable passing rs) here s.1;
@@ -130,20 +151,28 @@ begun_next picks passing ds rs begun name place a b s h =
     }
 
 -- and it is found
-begun_found : (passing : ℕ) (rs : List Record) (name : Name) → IsStillServable passing rs name → position (has_reference name) rs ≡ None → ⊥
+begun_found : (passing : ℕ) (rs : List Record) (name : Name) → IsStillServable passing rs name
+    → position (has_reference name) rs ≡ None → ⊥
 begun_found passing rs name s h =
     ⊎_elim
-    (λ none. true≢false (sym s.2 ∙ All-from_recursion (λ r. has_reference name r ≡ false) rs none s.0 no_record s.1.inside))
-    (λ some. let f = some.3 in true≢false (ap is_some (sym (position_first (has_reference name) some.0 some.1 some.2 f.before f.passes) ∙ (ap (position (has_reference name)) (sym f.is) ∙ h))))
+    (λ none. true≢false (sym s.2 ∙ All-from_recursion (λ r. has_reference name r ≡ false) rs none s.0 no_record
+        s.1.inside))
+    (λ some. let f = some.3 in true≢false (ap is_some
+        (sym (position_first (has_reference name) some.0 some.1 some.2 f.before f.passes)
+        ∙ (ap (position (has_reference name)) (sym f.is) ∙ h))))
     (find_cases (has_reference name) rs)
 
 -- what is found of what was begun
-pub record Finds (picks : List Choice → ℕ → Type 0) (passing : ℕ) (ds : List Drive) (rs : List Record) (begun : Option Name) (o : Option ℕ) : Type 0 where
+pub record Finds (picks : List Choice → ℕ → Type 0) (passing : ℕ) (ds : List Drive) (rs : List Record)
+    (begun : Option Name) (o : Option ℕ) : Type 0 where
   pub none : IfNone o (rs ≡ [])
   pub unbegun : IfNone o (begun ≡ None)
   pub some : IfSome o (λ place. IsNext picks passing ds rs begun place)
 
-pub finds_begun : (picks : List Choice → ℕ → Type 0) (passing : ℕ) (ds : List Drive) (rs : List Record) (begun : Option Name) (name : Name) (o : Option ℕ) → AreApart (names rs) → begun ≡ Some name → IsStillServable passing rs name
+pub finds_begun : (picks : List Choice → ℕ → Type 0) (passing : ℕ) (ds : List Drive) (rs : List Record)
+    (begun : Option Name) (name : Name) (o : Option ℕ) → AreApart (names rs) → begun ≡ Some name
+    → IsStillServable passing rs name
     → o ≡ position (has_reference name) rs → Finds picks passing ds rs begun o
 finds_begun picks passing ds rs begun name None a b s h = absurd (begun_found passing rs name s (sym h))
-finds_begun picks passing ds rs begun name (Some place) a b s h = record { none = tt; unbegun = tt; some = begun_next picks passing ds rs begun name place a b s (sym h) }
+finds_begun picks passing ds rs begun name (Some place) a b s h =
+    record { none = tt; unbegun = tt; some = begun_next picks passing ds rs begun name place a b s (sym h) }

@@ -14,16 +14,20 @@ use Rattle.mscp_queue.proofs.Placed.{cut_at, sum_by_map}
 abbrev pub one_if : Record → ℕ
 one_if r = cond (is_sequential r.command.order) 1 0
 
-pub count_out : (A : List Record) (r : Record) (B : List Record) → sequential_count (A ++ B) + one_if r ≡ sequential_count (A ++ r ∷ B)
+pub count_out : (A : List Record) (r : Record) (B : List Record)
+    → sequential_count (A ++ B) + one_if r ≡ sequential_count (A ++ r ∷ B)
 count_out A r B = omega (arith, sum_by-append one_if A B, sum_by-append one_if A (r ∷ B), sum_by-cons one_if r B)
 
-pub count_fits : (rs : List Record) (room n k : ℕ) (b : Bool) → n ≡ sequential_count rs → k ≡ cond b 1 0 → length rs ≤ room → room ≤ 63 → n + k < 2 ^ 32
+pub count_fits : (rs : List Record) (room n k : ℕ) (b : Bool) → n ≡ sequential_count rs → k ≡ cond b 1 0
+    → length rs ≤ room → room ≤ 63 → n + k < 2 ^ 32
 count_fits rs room n k b counted e fits few =
     let one : cond b 1 0 ≤ 1 = elim b as (λ b. cond b 1 0 ≤ 1) [ true ↦ omega arith | false ↦ omega arith ] in
     omega (arith, counted, e, one, count_by-le-length (λ r. is_sequential r.command.order) rs, fits, few)
 
-pub counted_pushed : (rs new : List Record) (r : Record) (n k : ℕ) → n ≡ sequential_count rs → k ≡ one_if r → new ≡ rs ++ r ∷ [] → n + k ≡ sequential_count new
-counted_pushed rs new r n k counted e is = omega (arith, counted, e, sum_by-append one_if rs (r ∷ []), sum_by-cons one_if r [], ap sequential_count is)
+pub counted_pushed : (rs new : List Record) (r : Record) (n k : ℕ) → n ≡ sequential_count rs → k ≡ one_if r
+    → new ≡ rs ++ r ∷ [] → n + k ≡ sequential_count new
+counted_pushed rs new r n k counted e is = omega (arith, counted, e, sum_by-append one_if rs (r ∷ []), sum_by-cons
+    one_if r [], ap sequential_count is)
 
 -- so many are taken from the count
 pub record IsCountedOut (n k : ℕ) (new : List Record) : Type 0 where
@@ -38,14 +42,18 @@ own_left ends r = cond ends [] (advanced r ∷ [])
 
 -- and of all
 abbrev all_left : ℕ → Bool → ℕ → List Record → List Record
-all_left toll ends place rs = map (passed_by toll) (take place rs) ++ (own_left ends (record_at rs place) ++ drop (place + 1) rs)
+all_left toll ends place rs = map (passed_by toll) (take place rs)
+    ++ (own_left ends (record_at rs place) ++ drop (place + 1) rs)
 
-own_count : (ends : Bool) (r : Record) → sequential_count (own_left ends r) + cond (ends && is_sequential r.command.order) 1 0 ≡ one_if r
+own_count : (ends : Bool) (r : Record) → sequential_count (own_left ends r)
+    + cond (ends && is_sequential r.command.order) 1 0 ≡ one_if r
 own_count true r = omega arith
 own_count false r = omega (arith, sum_by-cons one_if (advanced r) [])
 
-pub counted_left : (rs new : List Record) (place toll n k : ℕ) (ends : Bool) → place < length rs → new ≡ all_left toll ends place rs
-    → n ≡ sequential_count rs → k ≡ cond (ends && is_sequential (record_at rs place).command.order) 1 0 → IsCountedOut n k new
+pub counted_left : (rs new : List Record) (place toll n k : ℕ) (ends : Bool) → place < length rs
+    → new ≡ all_left toll ends place rs
+    → n ≡ sequential_count rs → k ≡ cond (ends && is_sequential (record_at rs place).command.order) 1 0
+        → IsCountedOut n k new
 counted_left rs new place toll n k ends l is counted e =
     let A = take place rs in
     let r = record_at rs place in
@@ -57,27 +65,35 @@ counted_left rs new place toll n k ends l is counted e =
     let own = own_count ends r in
     record {
       below = omega (arith, old, sum_by-append one_if A (r ∷ B), sum_by-cons one_if r B, own, counted, e);
-      counted = omega (arith, old, sum_by-append one_if A (r ∷ B), sum_by-cons one_if r B, own, left, parts, front, sum_by-append one_if (own_left ends r) B, counted, e);
+      counted = omega (arith, old, sum_by-append one_if A (r ∷ B), sum_by-cons one_if r B, own, left, parts, front,
+          sum_by-append one_if (own_left ends r) B, counted, e);
     }
 
-passed_below : (n top : ℕ) (A : List Record) → AllByRecursion (λ z. z.passes ≤ top) A → AllByRecursion (λ z. z.passes ≤ top + n) (map (passed_by n) A)
+passed_below : (n top : ℕ) (A : List Record) → AllByRecursion (λ z. z.passes ≤ top) A
+    → AllByRecursion (λ z. z.passes ≤ top + n) (map (passed_by n) A)
 passed_below n top [] h = tt
 passed_below n top (r ∷ rs) h = (omega (arith, h.0), passed_below n top rs h.1)
 
-left_below : (ends : Bool) (top : ℕ) (r : Record) (B : List Record) → AllByRecursion (λ z. z.passes ≤ top) (r ∷ B) → AllByRecursion (λ z. z.passes ≤ top) (own_left ends r ++ B)
+left_below : (ends : Bool) (top : ℕ) (r : Record) (B : List Record) → AllByRecursion (λ z. z.passes ≤ top) (r ∷ B)
+    → AllByRecursion (λ z. z.passes ≤ top) (own_left ends r ++ B)
 left_below true top r B h = h.1
 left_below false top r B h = h
 
-order_left : (n : ℕ) (ends : Bool) (A : List Record) (r : Record) (B : List Record) → ArePassedInOrder (A ++ r ∷ B) → ArePassedInOrder (map (passed_by n) A ++ (own_left ends r ++ B))
+order_left : (n : ℕ) (ends : Bool) (A : List Record) (r : Record) (B : List Record) → ArePassedInOrder (A ++ r ∷ B)
+    → ArePassedInOrder (map (passed_by n) A ++ (own_left ends r ++ B))
 order_left n true [] r B h = h.1
 order_left n false [] r B h = h
 order_left n ends (q ∷ qs) r B h =
     let low : Record → Type 0 = λ z. z.passes ≤ q.passes in
     let high : Record → Type 0 = λ z. z.passes ≤ q.passes + n in
     let parts = every_parts low qs (r ∷ B) h.0 in
-    let behind = every_weaker low high (λ z l. omega (arith, l)) (own_left ends r ++ B) (left_below ends q.passes r B parts.1) in
-    (every_append high (map (passed_by n) qs) (own_left ends r ++ B) (passed_below n q.passes qs parts.0) behind, order_left n ends qs r B h.1)
+    let behind = every_weaker low high (λ z l. omega (arith, l)) (own_left ends r ++ B)
+        (left_below ends q.passes r B parts.1) in
+    (every_append high (map (passed_by n) qs) (own_left ends r ++ B) (passed_below n q.passes qs parts.0) behind,
+        order_left n ends qs r B h.1)
 
-pub passes_left : (rs new : List Record) (place toll : ℕ) (ends : Bool) → place < length rs → new ≡ all_left toll ends place rs → ArePassedInOrder rs → ArePassedInOrder new
+pub passes_left : (rs new : List Record) (place toll : ℕ) (ends : Bool) → place < length rs
+    → new ≡ all_left toll ends place rs → ArePassedInOrder rs → ArePassedInOrder new
 passes_left rs new place toll ends l is h =
-    subst ArePassedInOrder (sym is) (order_left toll ends (take place rs) (record_at rs place) (drop (place + 1) rs) (subst ArePassedInOrder (cut_at no_record rs place l) h))
+    subst ArePassedInOrder (sym is) (order_left toll ends (take place rs) (record_at rs place) (drop (place + 1) rs)
+        (subst ArePassedInOrder (cut_at no_record rs place l) h))

@@ -37,88 +37,115 @@ unfenced : (a : Bool) → (a && false) ≡ false
 unfenced true = refl
 unfenced false = refl
 
-all_free : (passing : ℕ) (r : Record) (front : List Record) → is_sequential r.command.order ≡ false → ArePassable passing front → is_free r front ≡ true
+all_free : (passing : ℕ) (r : Record) (front : List Record) → is_sequential r.command.order ≡ false
+    → ArePassable passing front → is_free r front ≡ true
 all_free passing r [] s h = refl
 all_free passing r (z ∷ zs) s h =
     let own = not_sequential z.command.order (and_parts (is_move z.command.order) (nat_lt z.passes passing) h.0).0 in
     let same = nat_eq z.command.unit r.command.unit in
     ap (λ b. not (same && (b || is_sequential r.command.order)) && is_free r zs) own
-    ∙ (ap (λ b. not (same && b) && is_free r zs) s ∙ (ap (λ b. not b && is_free r zs) (unfenced same) ∙ all_free passing r zs s h.1))
+    ∙ (ap (λ b. not (same && b) && is_free r zs) s
+        ∙ (ap (λ b. not b && is_free r zs) (unfenced same) ∙ all_free passing r zs s h.1))
 
-all_affordable : (passing : ℕ) (r : Record) (front : List Record) → ArePassable passing front → is_affordable passing r front ≡ true
+all_affordable : (passing : ℕ) (r : Record) (front : List Record) → ArePassable passing front
+    → is_affordable passing r front ≡ true
 all_affordable passing r [] h = refl
 all_affordable passing r (z ∷ zs) h =
     let own = ltb-true z.passes passing (and_parts (is_move z.command.order) (nat_lt z.passes passing) h.0).1 in
-    ap (λ b. b && is_affordable passing r zs) (le-leb (z.passes + 1) passing (omega (arith, own))) ∙ all_affordable passing r zs h.1
+    ap (λ b. b && is_affordable passing r zs) (le-leb (z.passes + 1) passing (omega (arith, own)))
+        ∙ all_affordable passing r zs h.1
 
-opens_at : (passing : ℕ) (rs : List Record) (place : ℕ) → ArePassable passing rs → place < length rs → is_open_at passing rs place ≡ true
+opens_at : (passing : ℕ) (rs : List Record) (place : ℕ) → ArePassable passing rs → place < length rs
+    → is_open_at passing rs place ≡ true
 opens_at passing rs place h l =
     let r = record_at rs place in
     let P : Record → Type 0 = λ z. is_passable passing z ≡ true in
     let all = All-from_recursion P rs h in
-    let own = not_sequential r.command.order (and_parts (is_move r.command.order) (nat_lt r.passes passing) (all place no_record l)).0 in
+    let own = not_sequential r.command.order (and_parts (is_move r.command.order) (nat_lt r.passes passing)
+        (all place no_record l)).0 in
     let front = recursion_from_All P (take place rs) (All-take P place rs all) in
-    ap (λ b. b && is_affordable passing r (take place rs)) (all_free passing r (take place rs) own front) ∙ all_affordable passing r (take place rs) front
+    ap (λ b. b && is_affordable passing r (take place rs)) (all_free passing r (take place rs) own front)
+        ∙ all_affordable passing r (take place rs) front
 
-pub all_open : (passing : ℕ) (rs : List Record) → list_all (is_passable passing) rs ≡ true → open_places passing rs ≡ range_with_len 0 (length rs)
+pub all_open : (passing : ℕ) (rs : List Record) → list_all (is_passable passing) rs ≡ true
+    → open_places passing rs ≡ range_with_len 0 (length rs)
 all_open passing rs h =
     filter_all (is_open_at passing rs) (range_with_len 0 (length rs))
-    (every_weaker (λ k. (0 ≤ k) × (k < 0 + length rs)) (λ k. is_open_at passing rs k ≡ true) (λ k b. opens_at passing rs k (every_of (is_passable passing) rs h) (omega arith))
+    (every_weaker (λ k. (0 ≤ k) × (k < 0 + length rs)) (λ k. is_open_at passing rs k ≡ true)
+        (λ k b. opens_at passing rs k (every_of (is_passable passing) rs h) (omega arith))
     (range_with_len 0 (length rs)) (range_below 0 (length rs)))
 
 -- ---- the oldest tells it for all
 
 -- of a sequential command one is no transfer
-sequential_not_passable : (passing : ℕ) (r : Record) → is_sequential r.command.order ≡ true → is_passable passing r ≡ false
+sequential_not_passable : (passing : ℕ) (r : Record) → is_sequential r.command.order ≡ true
+    → is_passable passing r ≡ false
 sequential_not_passable passing r s =
     let both : (b : Bool) → is_move r.command.order ≡ b → (b && nat_lt r.passes passing) ≡ false =
-    λ b. elim b as (λ b. is_move r.command.order ≡ b → (b && nat_lt r.passes passing) ≡ false) [ true ↦ λ m. absurd (false≢true (sym (not_sequential r.command.order m) ∙ s)) | false ↦ λ m. refl ] in
+    λ b. elim b as (λ b. is_move r.command.order ≡ b → (b && nat_lt r.passes passing) ≡ false)
+        [ true ↦ λ m. absurd (false≢true (sym (not_sequential r.command.order m) ∙ s)) | false ↦ λ m. refl ] in
     both (is_move r.command.order) refl
 
-pub some_sequential : (passing : ℕ) (rs : List Record) → 0 < sequential_count rs → list_all (is_passable passing) rs ≡ false
+pub some_sequential : (passing : ℕ) (rs : List Record) → 0 < sequential_count rs
+    → list_all (is_passable passing) rs ≡ false
 some_sequential passing [] h = absurd (omega (arith, h))
 some_sequential passing (r ∷ rs) h =
-    let Goal : Bool → Type 0 = λ b. is_sequential r.command.order ≡ b → (is_passable passing r && list_all (is_passable passing) rs) ≡ false in
+    let Goal : Bool → Type 0 = λ b. is_sequential r.command.order ≡ b
+        → (is_passable passing r && list_all (is_passable passing) rs) ≡ false in
     let both : (b : Bool) → Goal b =
     λ b. elim b as Goal [
       | true ↦ λ e. ap (λ b. b && list_all (is_passable passing) rs) (sequential_not_passable passing r e)
-      | false ↦ λ e. ap (λ b. is_passable passing r && b) (some_sequential passing rs (omega (arith, h, sum_by-cons one_if r rs, ap {B = ℕ} (λ b. cond b 1 0) e))) ∙ unfenced (is_passable passing r)
+      | false ↦ λ e. ap (λ b. is_passable passing r && b)
+          (some_sequential passing rs (omega (arith, h, sum_by-cons one_if r rs, ap {B = ℕ} (λ b. cond b 1 0) e)))
+          ∙ unfenced (is_passable passing r)
     ] in
     both (is_sequential r.command.order) refl
 
-no_sequential : (passing top : ℕ) (rs : List Record) → sequential_count rs ≡ 0 → AllByRecursion (λ z. (is_sequential z.command.order || is_move z.command.order) ≡ true) rs → AllByRecursion (λ z. z.passes ≤ top) rs → top < passing
+no_sequential : (passing top : ℕ) (rs : List Record) → sequential_count rs ≡ 0
+    → AllByRecursion (λ z. (is_sequential z.command.order || is_move z.command.order) ≡ true) rs
+    → AllByRecursion (λ z. z.passes ≤ top) rs → top < passing
     → list_all (is_passable passing) rs ≡ true
 no_sequential passing top [] h w l m = refl
 no_sequential passing top (r ∷ rs) h w l m =
-    let Goal : Bool → Type 0 = λ b. is_sequential r.command.order ≡ b → (is_passable passing r && list_all (is_passable passing) rs) ≡ true in
+    let Goal : Bool → Type 0 = λ b. is_sequential r.command.order ≡ b
+        → (is_passable passing r && list_all (is_passable passing) rs) ≡ true in
     let count = sum_by-cons one_if r rs in
     let both : (b : Bool) → Goal b =
     λ b. elim b as Goal [
       | true ↦ λ e. absurd (omega (arith, h, count, ap {B = ℕ} (λ b. cond b 1 0) e))
       | false ↦ λ e.
-          ap (λ b. (b && nat_lt r.passes passing) && list_all (is_passable passing) rs) (ap (λ b. b || is_move r.command.order) (sym e) ∙ w.0)
-          ∙ (ap (λ b. b && list_all (is_passable passing) rs) (lt-ltb r.passes passing (omega (arith, l.0, m))) ∙ no_sequential passing top rs (omega (arith, h, count, ap {B = ℕ} (λ b. cond b 1 0) e)) w.1 l.1 m)
+          ap (λ b. (b && nat_lt r.passes passing) && list_all (is_passable passing) rs)
+              (ap (λ b. b || is_move r.command.order) (sym e) ∙ w.0)
+          ∙ (ap (λ b. b && list_all (is_passable passing) rs) (lt-ltb r.passes passing (omega (arith, l.0, m)))
+              ∙ no_sequential passing top rs (omega (arith, h, count, ap {B = ℕ} (λ b. cond b 1 0) e)) w.1 l.1 m)
     ] in
     both (is_sequential r.command.order) refl
 
 -- where none is sequential
-pub oldest_tells : (passing : ℕ) (rs : List Record) (r : Record) → 0 < length rs → r ≡ get_or rs 0 r → sequential_count rs ≡ 0 → ArePassedInOrder rs
-    → All (λ z. (is_sequential z.command.order || is_move z.command.order) ≡ true) rs → nat_lt r.passes passing ≡ list_all (is_passable passing) rs
+pub oldest_tells : (passing : ℕ) (rs : List Record) (r : Record) → 0 < length rs → r ≡ get_or rs 0 r
+    → sequential_count rs ≡ 0 → ArePassedInOrder rs
+    → All (λ z. (is_sequential z.command.order || is_move z.command.order) ≡ true) rs
+        → nat_lt r.passes passing ≡ list_all (is_passable passing) rs
 oldest_tells passing [] r l e k o w = absurd (omega (arith, l))
 oldest_tells passing (q ∷ qs) r l e k o w =
     let W : Record → Type 0 = λ z. (is_sequential z.command.order || is_move z.command.order) ≡ true in
     let Goal : Bool → Type 0 = λ b. nat_lt q.passes passing ≡ b → b ≡ list_all (is_passable passing) (q ∷ qs) in
     let both : (b : Bool) → Goal b =
     λ b. elim b as Goal [
-      | true ↦ λ m. sym (no_sequential passing q.passes (q ∷ qs) k (recursion_from_All W (q ∷ qs) w) (omega arith, o.0) (ltb-true q.passes passing m))
-      | false ↦ λ m. sym (ap (λ b. (is_move q.command.order && b) && list_all (is_passable passing) qs) m ∙ ap (λ b. b && list_all (is_passable passing) qs) (unfenced (is_move q.command.order)))
+      | true ↦ λ m. sym (no_sequential passing q.passes (q ∷ qs) k (recursion_from_All W (q ∷ qs) w) (omega arith, o.0)
+          (ltb-true q.passes passing m))
+      | false ↦ λ m. sym (ap (λ b. (is_move q.command.order && b) && list_all (is_passable passing) qs) m
+          ∙ ap (λ b. b && list_all (is_passable passing) qs) (unfenced (is_move q.command.order)))
     ] in
     ap (λ (z : Record). nat_lt z.passes passing) e ∙ both (nat_lt q.passes passing) refl
 
 -- ---- all are shown
 
-pub shown_next : (ds : List Drive) (rs : List Record) (place : ℕ) (choices choices' : List Choice) (choice : Choice) → choice ≡ choice_of (drive_at ds rs place) (record_at rs place)
-    → choices ≡ choices_at ds rs (range_with_len 0 place) → choices' ≡ choices ++ choice ∷ [] → choices' ≡ choices_at ds rs (range_with_len 0 (place + 1))
+pub shown_next : (ds : List Drive) (rs : List Record) (place : ℕ) (choices choices' : List Choice) (choice : Choice)
+    → choice ≡ choice_of (drive_at ds rs place) (record_at rs place)
+    → choices ≡ choices_at ds rs (range_with_len 0 place) → choices' ≡ choices ++ choice ∷ []
+        → choices' ≡ choices_at ds rs (range_with_len 0 (place + 1))
 shown_next ds rs place choices choices' choice is shown more =
     let of : ℕ → Choice = λ i. choice_of (drive_at ds rs i) (record_at rs i) in
-    more ∙ ((λ i. shown i ++ is i ∷ []) ∙ (sym (map-append of (range_with_len 0 place) (place ∷ [])) ∙ ap (choices_at ds rs) (sym (range_more place))))
+    more ∙ ((λ i. shown i ++ is i ∷ []) ∙ (sym (map-append of (range_with_len 0 place) (place ∷ []))
+        ∙ ap (choices_at ds rs) (sym (range_more place))))

@@ -16,13 +16,16 @@ map_map f g (x ∷ xs) = ap (λ ys. g (f x) ∷ ys) (map_map f g xs)
 
 pub sum_by_map : {X Y : Type 0} (f : X → Y) (g : Y → ℕ) (xs : List X) → sum_by g (map f xs) ≡ sum_by (λ x. g (f x)) xs
 sum_by_map f g [] = refl
-sum_by_map f g (x ∷ xs) = sum_by-cons g (f x) (map f xs) ∙ (ap (λ n. g (f x) + n) (sum_by_map f g xs) ∙ sym (sum_by-cons (λ y. g (f y)) x xs))
+sum_by_map f g (x ∷ xs) = sum_by-cons g (f x) (map f xs)
+    ∙ (ap (λ n. g (f x) + n) (sum_by_map f g xs) ∙ sym (sum_by-cons (λ y. g (f y)) x xs))
 
-pub filter_map_of : {X Y : Type 0} (f : X → Y) (p : Y → Bool) (xs : List X) → filter p (map f xs) ≡ map f (filter (λ x. p (f x)) xs)
+pub filter_map_of : {X Y : Type 0} (f : X → Y) (p : Y → Bool) (xs : List X)
+    → filter p (map f xs) ≡ map f (filter (λ x. p (f x)) xs)
 filter_map_of f p [] = refl
 filter_map_of f p (x ∷ xs) =
     ap (λ ys. cond (p (f x)) (f x ∷ ys) ys) (filter_map_of f p xs)
-    ∙ elim (p (f x)) as (λ b. cond b (f x ∷ map f (filter (λ x. p (f x)) xs)) (map f (filter (λ x. p (f x)) xs)) ≡ map f (cond b (x ∷ filter (λ x. p (f x)) xs) (filter (λ x. p (f x)) xs))) [ true ↦ refl | false ↦ refl ]
+    ∙ elim (p (f x)) as (λ b. cond b (f x ∷ map f (filter (λ x. p (f x)) xs)) (map f (filter (λ x. p (f x)) xs))
+        ≡ map f (cond b (x ∷ filter (λ x. p (f x)) xs) (filter (λ x. p (f x)) xs))) [ true ↦ refl | false ↦ refl ]
 
 -- ---- a list at a place
 
@@ -31,7 +34,8 @@ pub record At {X : Type 0} (xs front : List X) (x : X) (back : List X) (k : ℕ)
   pub before : take k xs ≡ front
   pub behind : drop (k + 1) xs ≡ back
 
-pub at_place : {X : Type 0} (xs front : List X) (x : X) (back : List X) (k : ℕ) (d : X) → xs ≡ front ++ x ∷ back → length front ≡ k → At xs front x back k d
+pub at_place : {X : Type 0} (xs front : List X) (x : X) (back : List X) (k : ℕ) (d : X) → xs ≡ front ++ x ∷ back
+    → length front ≡ k → At xs front x back k d
 at_place {X} xs front x back k d e l =
     let one : xs ≡ (front ++ x ∷ []) ++ back = e ∙ sym (append_assoc front (x ∷ []) back) in
     let more : length (front ++ x ∷ []) ≡ k + 1 = omega (arith, length-append front (x ∷ [])) in
@@ -42,19 +46,23 @@ at_place {X} xs front x back k d e l =
     }
 
 -- a list is cut at each of its places
-pub cut_at : {X : Type 0} (d : X) (xs : List X) (place : ℕ) → place < length xs → xs ≡ take place xs ++ get_or xs place d ∷ drop (place + 1) xs
+pub cut_at : {X : Type 0} (d : X) (xs : List X) (place : ℕ) → place < length xs
+    → xs ≡ take place xs ++ get_or xs place d ∷ drop (place + 1) xs
 cut_at d xs place l = sym (take-append-drop place xs) ∙ ap (λ zs. take place xs ++ zs) (drop_more xs place d l)
 
 -- what holds of each element and of those in front of it, with one more
-pub each_push : {X : Type 0} (d : X) (R : List X → X → Type 0) (xs : List X) (x : X) → ((i : ℕ) → i < length xs → R (take i xs) (get_or xs i d)) → R xs x
+pub each_push : {X : Type 0} (d : X) (R : List X → X → Type 0) (xs : List X) (x : X)
+    → ((i : ℕ) → i < length xs → R (take i xs) (get_or xs i d)) → R xs x
     → (i : ℕ) → i < length (xs ++ x ∷ []) → R (take i (xs ++ x ∷ [])) (get_or (xs ++ x ∷ []) i d)
 each_push {X} d R xs x l r i h =
     let ys = xs ++ x ∷ [] in
     ⊎_elim
-    (λ b. subst (λ (y : X). R (take i ys) y) (sym (get_or_append_left xs (x ∷ []) d i b)) (subst (λ zs. R zs (get_or xs i d)) (sym (take-append-le i xs (x ∷ []) (omega (arith, b)))) (l i b)))
+    (λ b. subst (λ (y : X). R (take i ys) y) (sym (get_or_append_left xs (x ∷ []) d i b))
+        (subst (λ zs. R zs (get_or xs i d)) (sym (take-append-le i xs (x ∷ []) (omega (arith, b)))) (l i b)))
     (λ b. let e : length xs ≡ i = omega (arith, b, h, length-append xs (x ∷ [])) in
     subst (λ i. R (take i ys) (get_or ys i d)) e
-    (subst (λ (y : X). R (take (length xs) ys) y) (sym (get_or_at xs x [] d (length xs) refl)) (subst (λ zs. R zs x) (sym (take_at xs (x ∷ []) (length xs) refl)) r)))
+    (subst (λ (y : X). R (take (length xs) ys) y) (sym (get_or_at xs x [] d (length xs) refl))
+        (subst (λ zs. R zs x) (sym (take_at xs (x ∷ []) (length xs) refl)) r)))
     (cases_lt i (length xs))
 
 -- ---- the first element that passes a test
@@ -65,16 +73,21 @@ pub record Found {X : Type 0} (p : X → Bool) (xs front : List X) (x : X) (back
   pub before : AllByRecursion (λ y. p y ≡ false) front
   pub passes : p x ≡ true
 
-pub find_cases : {X : Type 0} (p : X → Bool) (xs : List X) → AllByRecursion (λ y. p y ≡ false) xs ⊎ ((front : List X) × (x : X) × (back : List X) × Found p xs front x back)
+pub find_cases : {X : Type 0} (p : X → Bool) (xs : List X)
+    → AllByRecursion (λ y. p y ≡ false) xs ⊎ ((front : List X) × (x : X) × (back : List X) × Found p xs front x back)
 find_cases p [] = inl tt
 find_cases {X} p (y ∷ ys) =
     let rest = find_cases p ys in
-    let both : (b : Bool) → p y ≡ b → AllByRecursion (λ z. p z ≡ false) (y ∷ ys) ⊎ ((front : List X) × (x : X) × (back : List X) × Found p (y ∷ ys) front x back) =
-    λ b. elim b as (λ b. p y ≡ b → AllByRecursion (λ z. p z ≡ false) (y ∷ ys) ⊎ ((front : List X) × (x : X) × (back : List X) × Found p (y ∷ ys) front x back)) [
+    let both : (b : Bool) → p y ≡ b → AllByRecursion (λ z. p z ≡ false) (y ∷ ys)
+        ⊎ ((front : List X) × (x : X) × (back : List X) × Found p (y ∷ ys) front x back) =
+    λ b. elim b as (λ b. p y ≡ b → AllByRecursion (λ z. p z ≡ false) (y ∷ ys)
+        ⊎ ((front : List X) × (x : X) × (back : List X) × Found p (y ∷ ys) front x back)) [
       | true ↦ λ e. inr ([], y, ys, record { is = refl; before = tt; passes = e })
-      | false ↦ λ e. elim rest as (λ r. AllByRecursion (λ z. p z ≡ false) (y ∷ ys) ⊎ ((front : List X) × (x : X) × (back : List X) × Found p (y ∷ ys) front x back)) [
+      | false ↦ λ e. elim rest as (λ r. AllByRecursion (λ z. p z ≡ false) (y ∷ ys)
+          ⊎ ((front : List X) × (x : X) × (back : List X) × Found p (y ∷ ys) front x back)) [
         | inl h ↦ inl (e, h)
-        | inr h ↦ inr (y ∷ h.0, h.1, h.2, record { is = ap (λ zs. y ∷ zs) h.3.is; before = (e, h.3.before); passes = h.3.passes })
+        | inr h ↦ inr (y ∷ h.0, h.1, h.2, record { is = ap (λ zs. y ∷ zs) h.3.is; before = (e, h.3.before); passes =
+            h.3.passes })
       ]
     ] in
     both (p y) refl
@@ -83,9 +96,11 @@ pub find_none : {X : Type 0} (p : X → Bool) (xs : List X) → AllByRecursion (
 find_none p [] h = refl
 find_none p (y ∷ ys) h = ap (λ b. cond b (Some y) (find p ys)) h.0 ∙ find_none p ys h.1
 
-pub find_first : {X : Type 0} (p : X → Bool) (front : List X) (x : X) (back : List X) → AllByRecursion (λ y. p y ≡ false) front → p x ≡ true → find p (front ++ x ∷ back) ≡ Some x
+pub find_first : {X : Type 0} (p : X → Bool) (front : List X) (x : X) (back : List X)
+    → AllByRecursion (λ y. p y ≡ false) front → p x ≡ true → find p (front ++ x ∷ back) ≡ Some x
 find_first p [] x back h e = ap (λ b. cond b (Some x) (find p back)) e
-find_first p (y ∷ ys) x back h e = ap (λ b. cond b (Some y) (find p (ys ++ x ∷ back))) h.0 ∙ find_first p ys x back h.1 e
+find_first p (y ∷ ys) x back h e = ap (λ b. cond b (Some y) (find p (ys ++ x ∷ back))) h.0
+    ∙ find_first p ys x back h.1 e
 
 -- what is found passes the test
 pub found_is : {X : Type 0} (p : X → Bool) (xs : List X) (x : X) → find p xs ≡ Some x → p x ≡ true
@@ -98,19 +113,26 @@ found_is {X} p (y ∷ xs) x e =
     ] in
     out (p y) refl e
 
-len_none : {X : Type 0} (p : X → Bool) (xs : List X) → AllByRecursion (λ y. p y ≡ false) xs → position_or_len p xs ≡ length xs
+len_none : {X : Type 0} (p : X → Bool) (xs : List X) → AllByRecursion (λ y. p y ≡ false) xs
+    → position_or_len p xs ≡ length xs
 len_none p [] h = refl
 len_none p (y ∷ ys) h = ap (λ b. cond (not b) (1 + position_or_len p ys) 0) h.0 ∙ omega (arith, len_none p ys h.1)
 
-len_first : {X : Type 0} (p : X → Bool) (front : List X) (x : X) (back : List X) → AllByRecursion (λ y. p y ≡ false) front → p x ≡ true → position_or_len p (front ++ x ∷ back) ≡ length front
+len_first : {X : Type 0} (p : X → Bool) (front : List X) (x : X) (back : List X)
+    → AllByRecursion (λ y. p y ≡ false) front → p x ≡ true → position_or_len p (front ++ x ∷ back) ≡ length front
 len_first p [] x back h e = ap (λ b. cond (not b) (1 + position_or_len p back) 0) e
-len_first p (y ∷ ys) x back h e = ap (λ b. cond (not b) (1 + position_or_len p (ys ++ x ∷ back)) 0) h.0 ∙ omega (arith, len_first p ys x back h.1 e)
+len_first p (y ∷ ys) x back h e = ap (λ b. cond (not b) (1 + position_or_len p (ys ++ x ∷ back)) 0) h.0
+    ∙ omega (arith, len_first p ys x back h.1 e)
 
-pub position_none : {X : Type 0} (p : X → Bool) (xs : List X) → AllByRecursion (λ y. p y ≡ false) xs → position p xs ≡ None
+pub position_none : {X : Type 0} (p : X → Bool) (xs : List X) → AllByRecursion (λ y. p y ≡ false) xs
+    → position p xs ≡ None
 position_none p xs h =
-    ap (λ n. cond (nat_lt n (length xs)) (Some n) None) (len_none p xs h) ∙ ap (λ b. cond b (Some (length xs)) None) (le-ltb (length xs) (length xs) (omega arith))
+    ap (λ n. cond (nat_lt n (length xs)) (Some n) None) (len_none p xs h)
+        ∙ ap (λ b. cond b (Some (length xs)) None) (le-ltb (length xs) (length xs) (omega arith))
 
-pub position_first : {X : Type 0} (p : X → Bool) (front : List X) (x : X) (back : List X) → AllByRecursion (λ y. p y ≡ false) front → p x ≡ true → position p (front ++ x ∷ back) ≡ Some (length front)
+pub position_first : {X : Type 0} (p : X → Bool) (front : List X) (x : X) (back : List X)
+    → AllByRecursion (λ y. p y ≡ false) front → p x ≡ true → position p (front ++ x ∷ back) ≡ Some (length front)
 position_first p front x back h e =
     ap (λ n. cond (nat_lt n (length (front ++ x ∷ back))) (Some n) None) (len_first p front x back h e)
-    ∙ ap (λ b. cond b (Some (length front)) None) (lt-ltb (length front) (length (front ++ x ∷ back)) (omega (arith, length-append front (x ∷ back))))
+    ∙ ap (λ b. cond b (Some (length front)) None) (lt-ltb (length front) (length (front ++ x ∷ back))
+        (omega (arith, length-append front (x ∷ back))))

@@ -43,7 +43,8 @@ of_kind (Some kinds.Online) h = refl
 of_kind (Some kinds.Moved) h = refl
 
 -- a refused command has the body of its endcode
-pub refused_kind : (code : ℕ) → is_some (kind_of_code code) ≡ true → kind_of_code code ≡ Some (kind_of_body (refused_body code))
+pub refused_kind : (code : ℕ) → is_some (kind_of_code code) ≡ true
+    → kind_of_code code ≡ Some (kind_of_body (refused_body code))
 refused_kind code h = of_kind (kind_of_code code) h
 
 moved_kind : (o : Order) (good : ℕ) → IsCoded o → kind_of_code (endcode o) ≡ Some (kind_of_body (moved_body o good))
@@ -61,9 +62,12 @@ aborted_kind c good h = moved_kind c.order good h
 
 online_kind : (s : Shape) (status : ℕ) → Some kinds.Online ≡ Some (kind_of_body (online_body s status))
 online_kind s status =
-    elim (is_success status) as (λ b. Some kinds.Online ≡ Some (kind_of_body (if b then bodies.Online s.id s.media s.size s.serial else bodies.Online 0 0 0 0))) [ true ↦ refl | false ↦ refl ]
+    elim (is_success status) as (λ b. Some kinds.Online
+        ≡ Some (kind_of_body (if b then bodies.Online s.id s.media s.size s.serial else bodies.Online 0 0 0 0)))
+        [ true ↦ refl | false ↦ refl ]
 
-outcome_kind : (s : Shape) (status good : ℕ) (o : Order) → IsCoded o → kind_of_code (endcode o) ≡ Some (kind_of_body (outcome_body s status o good))
+outcome_kind : (s : Shape) (status good : ℕ) (o : Order) → IsCoded o
+    → kind_of_code (endcode o) ≡ Some (kind_of_body (outcome_body s status o good))
 outcome_kind s status good orders.Online h = online_kind s status
 outcome_kind s status good orders.SetUnit h = online_kind s status
 outcome_kind s status good (orders.Move kind count block) h = moved_kind (orders.Move kind count block) good h
@@ -71,29 +75,38 @@ outcome_kind s status good (orders.Invalid byte t) h = moved_kind (orders.Invali
 outcome_kind s status good o h = moved_kind o good h
 
 -- and one that a step ends
-pub ended_kind : (s : Shape) (online : Bool) (c : Command) (good : ℕ) (k : Block) → IsCoded c.order → IsOfKind (outcome_at s online c good k)
+pub ended_kind : (s : Shape) (online : Bool) (c : Command) (good : ℕ) (k : Block) → IsCoded c.order
+    → IsOfKind (outcome_at s online c good k)
 ended_kind s online c good k h = outcome_kind s _ _ c.order h
 
 -- ---- in a queue
 
 -- a step that ends a command that may wait gives it an end of its kind
-pub given_kind : (k : Block) (d : Drive) (r : Record) → (is_sequential r.command.order || is_move r.command.order) ≡ true → IfSome (end_given k d r) IsOfKind
+pub given_kind : (k : Block) (d : Drive) (r : Record)
+    → (is_sequential r.command.order || is_move r.command.order) ≡ true → IfSome (end_given k d r) IsOfKind
 given_kind k d r h =
-    elim (goes_on d.online r.command.order k (left_of r)) as (λ b. IfSome (if b then None else Some (outcome_at d.unit d.online r.command r.good k)) IsOfKind) [
+    elim (goes_on d.online r.command.order k (left_of r)) as
+        (λ b. IfSome (if b then None else Some (outcome_at d.unit d.online r.command r.good k)) IsOfKind) [
       | true ↦ tt
       | false ↦ ended_kind d.unit d.online r.command r.good k (waitable_coded r.command.order h)
     ]
 
-found_kind : (reference : ℕ) (rs : List Record) → AllByRecursion (λ r. (is_sequential r.command.order || is_move r.command.order) ≡ true) rs → IfSome (option_map aborted_record (find (has_reference reference) rs)) IsOfKind
+found_kind : (reference : ℕ) (rs : List Record) → AllByRecursion
+    (λ r. (is_sequential r.command.order || is_move r.command.order) ≡ true) rs
+    → IfSome (option_map aborted_record (find (has_reference reference) rs)) IsOfKind
 found_kind reference [] h = tt
 found_kind reference (r ∷ rs) h =
-    elim (has_reference reference r) as (λ b. IfSome (option_map aborted_record (if b then Some r else find (has_reference reference) rs)) IsOfKind) [
+    elim (has_reference reference r) as (λ b. IfSome
+        (option_map aborted_record (if b then Some r else find (has_reference reference) rs)) IsOfKind) [
       | true ↦ aborted_kind r.command r.good (waitable_coded r.command.order h.0)
       | false ↦ found_kind reference rs h.1
     ]
 
 -- an abort of what waits gives it an end of its kind
-pub aborts_kind : (passing longest reference : ℕ) (units : List Shape) (rs : List Record) → All (IsKept passing longest units) rs → IfSome (option_map aborted_record (find (has_reference reference) rs)) IsOfKind
+pub aborts_kind : (passing longest reference : ℕ) (units : List Shape) (rs : List Record)
+    → All (IsKept passing longest units) rs → IfSome (option_map aborted_record (find (has_reference reference) rs))
+    IsOfKind
 aborts_kind passing longest reference units rs h =
     found_kind reference rs
-    (every_weaker (IsKept passing longest units) (λ r. (is_sequential r.command.order || is_move r.command.order) ≡ true) (λ r k. k.waitable.order) rs (recursion_from_All (IsKept passing longest units) rs h))
+    (every_weaker (IsKept passing longest units) (λ r. (is_sequential r.command.order || is_move r.command.order)
+        ≡ true) (λ r k. k.waitable.order) rs (recursion_from_All (IsKept passing longest units) rs h))

@@ -26,11 +26,13 @@ use Rattle.mscp_queue.proofs.Placed.{cut_at, find_first}
 use Rattle.mscp_queue.proofs.Held.{AreIdle, IsLeft, IsTurn, held_turn, heads_replaced, others_idle, units_replaced}
 
 -- none of those in front is passed too often by a start that may be picked
-front_affordable : (passing : ℕ) (rs : List Record) (place : ℕ) → is_open_at passing rs place ≡ true → AllByRecursion (λ z. z.passes + 1 ≤ passing) (take place rs)
+front_affordable : (passing : ℕ) (rs : List Record) (place : ℕ) → is_open_at passing rs place ≡ true
+    → AllByRecursion (λ z. z.passes + 1 ≤ passing) (take place rs)
 front_affordable passing rs place h =
     let r = record_at rs place in
     let p = and_parts (is_free r (take place rs)) (is_affordable passing r (take place rs)) h in
-    every_weaker (λ z. nat_le (z.passes + 1) passing ≡ true) (λ z. z.passes + 1 ≤ passing) (λ z e. leb-true (z.passes + 1) passing e) (take place rs)
+    every_weaker (λ z. nat_le (z.passes + 1) passing ≡ true) (λ z. z.passes + 1 ≤ passing)
+        (λ z e. leb-true (z.passes + 1) passing e) (take place rs)
     (every_of (λ z. nat_le (z.passes + 1) passing) (take place rs) p.1)
 
 -- ---- the turn
@@ -45,18 +47,24 @@ last_of true true false h = absurd (false≢true h)
 last_of true false c h = absurd (false≢true h)
 last_of false b c h = absurd (false≢true h)
 
-more_left : (k : Block) (d : Drive) (r : Record) (e : Option End) → end_given k d r ≡ e → IsLeft r (cond (is_some e) [] (advanced r ∷ []))
+more_left : (k : Block) (d : Drive) (r : Record) (e : Option End) → end_given k d r ≡ e
+    → IsLeft r (cond (is_some e) [] (advanced r ∷ []))
 more_left k d r (Some end) h = record { left = inl refl }
 more_left k d r None h =
     let goes = goes_on d.online r.command.order k (left_of r) in
-    let when : (b : Bool) → (if b then None else Some (outcome_at d.unit d.online r.command r.good k)) ≡ None → b ≡ true =
-    λ b. elim b as (λ b. (if b then None else Some (outcome_at d.unit d.online r.command r.good k)) ≡ None → b ≡ true) [ true ↦ λ e. refl | false ↦ λ e. absurd (true≢false (ap is_some e)) ] in
-    let more = ltb-true 1 (left_of r) (last_of (touches d.online r.command.order) (is_good_block k) (nat_lt 1 (left_of r)) (when goes h)) in
+    let when : (b : Bool) → (if b then None else Some (outcome_at d.unit d.online r.command r.good k)) ≡ None
+        → b ≡ true =
+    λ b. elim b as (λ b. (if b then None else Some (outcome_at d.unit d.online r.command r.good k)) ≡ None → b ≡ true)
+        [ true ↦ λ e. refl | false ↦ λ e. absurd (true≢false (ap is_some e)) ] in
+    let more = ltb-true 1 (left_of r) (last_of (touches d.online r.command.order) (is_good_block k)
+        (nat_lt 1 (left_of r)) (when goes h)) in
     record { left = inr (refl, omega arith) }
 
-pub next_turn : (room passing longest place : ℕ) (rs : List Record) (ds : List Drive) (begun : Option Name) (serving : Bool) (k : Block) (d : Drive) → IsHeld room passing longest rs ds begun serving
+pub next_turn : (room passing longest place : ℕ) (rs : List Record) (ds : List Drive) (begun : Option Name)
+    (serving : Bool) (k : Block) (d : Drive) → IsHeld room passing longest rs ds begun serving
     → IsServable passing rs place
-    → IsTurn passing (step_toll (record_at rs place)) (take place rs) (record_at rs place) (drop (place + 1) rs) (cond (is_some (end_given k d (record_at rs place))) [] (advanced (record_at rs place) ∷ []))
+    → IsTurn passing (step_toll (record_at rs place)) (take place rs) (record_at rs place) (drop (place + 1) rs)
+        (cond (is_some (end_given k d (record_at rs place))) [] (advanced (record_at rs place) ∷ []))
 next_turn room passing longest place rs ds begun serving k d h n =
     let r = record_at rs place in
     let A = take place rs in
@@ -64,12 +72,16 @@ next_turn room passing longest place rs ds begun serving k d h n =
     let cut = cut_at no_record rs place n.inside in
     let left = more_left k d r (end_given k d r) refl in
     let own = cond (is_some (end_given k d r)) [] (advanced r ∷ []) in
-    let kept = (every_parts (IsKept passing longest (units_of ds)) A (r ∷ B) (subst (AllByRecursion (IsKept passing longest (units_of ds))) cut (recursion_from_All (IsKept passing longest (units_of ds)) rs h.each))).0 in
+    let kept = (every_parts (IsKept passing longest (units_of ds)) A (r ∷ B)
+        (subst (AllByRecursion (IsKept passing longest (units_of ds))) cut
+        (recursion_from_All (IsKept passing longest (units_of ds)) rs h.each))).0 in
     let both : (b : Bool) → is_unstarted r ≡ b → IsTurn passing (cond b 1 0) A r B own =
     λ b. elim b as (λ b. is_unstarted r ≡ b → IsTurn passing (cond b 1 0) A r B own) [
       | true ↦ λ e.
-          let idle = every_parts (λ z. z.done ≡ 0) A (r ∷ B) (subst AreIdle cut (recursion_from_All (λ z. z.done ≡ 0) rs (n.idle e))) in
-          record { before = idle.0; behind = idle.1.1; affordable = front_affordable passing rs place (n.opens e); left = left }
+          let idle = every_parts (λ z. z.done ≡ 0) A (r ∷ B)
+              (subst AreIdle cut (recursion_from_All (λ z. z.done ≡ 0) rs (n.idle e))) in
+          record { before = idle.0; behind = idle.1.1; affordable =
+              front_affordable passing rs place (n.opens e); left = left }
       | false ↦ λ e.
           let some = eqb-false r.done 0 e in
           let one = h.one in
@@ -77,7 +89,8 @@ next_turn room passing longest place rs ds begun serving k d h n =
           record {
             before = idle.0;
             behind = idle.1;
-            affordable = every_weaker (IsKept passing longest (units_of ds)) (λ z. z.passes + 0 ≤ passing) (λ z q. let p = q.passes in omega arith) A kept;
+            affordable = every_weaker (IsKept passing longest (units_of ds)) (λ z. z.passes + 0 ≤ passing)
+                (λ z q. let p = q.passes in omega arith) A kept;
             left = left;
           }
     ] in
@@ -94,7 +107,9 @@ pairs_rise [] r = tt
 pairs_rise (s ∷ []) r = (tt, tt)
 pairs_rise (s ∷ x ∷ xs) r =
     let more : (i : ℕ) → suc i + 1 ≡ suc (i + 1) = λ i. omega arith in
-    let rest = pairs_rise (x ∷ xs) (λ i other h. subst (λ j. (slice_index_or (x ∷ xs) i other).number < (slice_index_or (s ∷ x ∷ xs) j other).number) (more i) (r (suc i) other (omega (arith, h)))) in
+    let rest = pairs_rise (x ∷ xs) (λ i other h. subst
+        (λ j. (slice_index_or (x ∷ xs) i other).number < (slice_index_or (s ∷ x ∷ xs) j other).number) (more i)
+        (r (suc i) other (omega (arith, h)))) in
     let first : s.number < x.number = r 0 s (omega arith) in
     ((first, every_weaker (Lower x) (Lower s) (λ y h. omega (arith, first, h)) xs rest.0), rest)
 
@@ -104,9 +119,11 @@ found_among A (s ∷ B) p =
     let low = pairs_middle Lower A s B p in
     let more = append_assoc A (s ∷ []) B in (
       find_first (λ (x : Shape). nat_eq x.number s.number) A s B
-          (every_weaker (λ x. Lower x s) (λ x. nat_eq x.number s.number ≡ false) (λ x h. ne_eqb x.number s.number (λ e. absurd (omega (arith, h, e)))) A low.0)
+          (every_weaker (λ x. Lower x s) (λ x. nat_eq x.number s.number ≡ false)
+              (λ x h. ne_eqb x.number s.number (λ e. absurd (omega (arith, h, e)))) A low.0)
           (eq-eqb s.number s.number refl),
-      subst (λ l. AllByRecursion (λ (x : Shape). unit_found l x.number ≡ Some x) B) more (found_among (A ++ s ∷ []) B (subst (Pairs Lower) (sym more) p)),
+      subst (λ l. AllByRecursion (λ (x : Shape). unit_found l x.number ≡ Some x) B) more
+          (found_among (A ++ s ∷ []) B (subst (Pairs Lower) (sym more) p)),
     )
 
 -- each unit of a list of units is found by its number
@@ -118,14 +135,19 @@ pub found_unit : (n : ℕ) (ds : List Drive) → unwrap_or (unit_found (units_of
 found_unit n [] = refl
 found_unit n (d ∷ ds) =
     let rest = found_unit n ds in
-    elim (nat_eq d.unit.number n) as (λ b. unwrap_or (cond b (Some d.unit) (unit_found (units_of ds) n)) one_block ≡ (unwrap_or (cond b (Some d) (find (has_number n) ds)) (fresh_drive one_block)).unit) [ true ↦ refl | false ↦ rest ]
+    elim (nat_eq d.unit.number n) as (λ b. unwrap_or (cond b (Some d.unit) (unit_found (units_of ds) n)) one_block
+        ≡ (unwrap_or (cond b (Some d) (find (has_number n) ds)) (fresh_drive one_block)).unit)
+        [ true ↦ refl | false ↦ rest ]
 
 -- a drive of the number has the unit of the drive that is found
-pub units_same : (n : ℕ) (ds : List Drive) → IsUnitList (units_of ds) → AllByRecursion (λ d. has_number n d ≡ true → d.unit ≡ (drive_of ds n).unit) ds
+pub units_same : (n : ℕ) (ds : List Drive) → IsUnitList (units_of ds)
+    → AllByRecursion (λ d. has_number n d ≡ true → d.unit ≡ (drive_of ds n).unit) ds
 units_same n ds l =
     let us = units_of ds in
-    every_weaker (λ d. unit_found us d.unit.number ≡ Some d.unit) (λ d. has_number n d ≡ true → d.unit ≡ (drive_of ds n).unit)
-    (λ d f e. ap (λ o. unwrap_or o one_block) (sym f ∙ ap (unit_found us) (eqb-true d.unit.number n e)) ∙ found_unit n ds) ds
+    every_weaker (λ d. unit_found us d.unit.number ≡ Some d.unit)
+        (λ d. has_number n d ≡ true → d.unit ≡ (drive_of ds n).unit)
+    (λ d f e. ap (λ o. unwrap_or o one_block) (sym f ∙ ap (unit_found us) (eqb-true d.unit.number n e))
+        ∙ found_unit n ds) ds
     (every_mapped (λ (d : Drive). d.unit) (λ s. unit_found us s.number ≡ Some s) ds (units_found us l))
 
 -- ---- its block
@@ -137,7 +159,8 @@ when_some : (b : Bool) (n lbn : ℕ) → (if b then Some n else None) ≡ Some l
 when_some true n lbn h = (refl, some_is n lbn h)
 when_some false n lbn h = absurd (false≢true (ap is_some h))
 
-pub inside_of : (us : List Shape) (n : ℕ) (o : Order) → is_move o ≡ true → IsInside us n o → first_block o + order_weight o ≤ (unwrap_or (unit_found us n) one_block).size
+pub inside_of : (us : List Shape) (n : ℕ) (o : Order) → is_move o ≡ true → IsInside us n o
+    → first_block o + order_weight o ≤ (unwrap_or (unit_found us n) one_block).size
 inside_of us n (orders.Move kind count block) m h = h
 inside_of us n (orders.Abort other) m h = absurd (false≢true m)
 inside_of us n (orders.Status other) m h = absurd (false≢true m)
@@ -149,13 +172,15 @@ inside_of us n orders.SetUnit m h = absurd (false≢true m)
 inside_of us n (orders.Invalid opcode status) m h = absurd (false≢true m)
 
 -- a block that is touched is one of the unit
-pub touched_inside : (passing longest : ℕ) (ds : List Drive) (r : Record) (d : Drive) → d ≡ drive_of ds r.command.unit → IsKept passing longest (units_of ds) r
+pub touched_inside : (passing longest : ℕ) (ds : List Drive) (r : Record) (d : Drive) → d ≡ drive_of ds r.command.unit
+    → IsKept passing longest (units_of ds) r
     → (lbn : ℕ) → touched d r ≡ Some lbn → lbn < d.unit.size
 touched_inside passing longest ds r d e k lbn h =
     let t = when_some (touches d.online r.command.order) (first_block r.command.order + r.done) lbn h in
     let move = (and_parts (is_move r.command.order) d.online t.0).0 in
     let inside = inside_of (units_of ds) r.command.unit r.command.order move k.waitable.inside in
-    let unit : (unwrap_or (unit_found (units_of ds) r.command.unit) one_block).size ≡ d.unit.size = ap (λ (s : Shape). s.size) (found_unit r.command.unit ds ∙ ap (λ (d : Drive). d.unit) (sym e)) in
+    let unit : (unwrap_or (unit_found (units_of ds) r.command.unit) one_block).size ≡ d.unit.size =
+        ap (λ (s : Shape). s.size) (found_unit r.command.unit ds ∙ ap (λ (d : Drive). d.unit) (sym e)) in
     let weight = k.weight in
     let unfinished = k.unfinished in
     omega (arith, t.1, inside, unit)
@@ -166,59 +191,84 @@ ended_if : (b : Bool) → not b ≡ false → b ≡ true
 ended_if true e = refl
 ended_if false e = absurd (true≢false e)
 
-pub held_served : (room passing longest place : ℕ) (rs new : List Record) (ds ds' : List Drive) (begun : Option Name) (serving serves : Bool) (k : Block) (d d' : Drive) → IsHeld room passing longest rs ds begun serving
-    → IsServable passing rs place → d ≡ drive_of ds (record_at rs place).command.unit → d' ≡ drive_after k d (record_at rs place) → IsOnUnit d'
-    → new ≡ map (passed_by (step_toll (record_at rs place))) (take place rs) ++ (cond (is_some (end_given k d (record_at rs place))) [] (advanced (record_at rs place) ∷ []) ++ drop (place + 1) rs)
-    → serves ≡ not (is_some (end_given k d (record_at rs place))) → ds' ≡ replaced (record_at rs place).command.unit d' ds → IsHeld room passing longest new ds' None serves
+pub held_served : (room passing longest place : ℕ) (rs new : List Record) (ds ds' : List Drive) (begun : Option Name)
+    (serving serves : Bool) (k : Block) (d d' : Drive) → IsHeld room passing longest rs ds begun serving
+    → IsServable passing rs place → d ≡ drive_of ds (record_at rs place).command.unit
+        → d' ≡ drive_after k d (record_at rs place) → IsOnUnit d'
+    → new ≡ map (passed_by (step_toll (record_at rs place))) (take place rs)
+        ++ (cond (is_some (end_given k d (record_at rs place))) [] (advanced (record_at rs place) ∷ [])
+        ++ drop (place + 1) rs)
+    → serves ≡ not (is_some (end_given k d (record_at rs place)))
+        → ds' ≡ replaced (record_at rs place).command.unit d' ds → IsHeld room passing longest new ds' None serves
 held_served room passing longest place rs new ds ds' begun serving serves k d d' h n e f on w more v =
     let r = record_at rs place in
     let number = r.command.unit in
     let cut = cut_at no_record rs place n.inside in
     let unit : d'.unit ≡ (drive_of ds number).unit = ap (λ (q : Drive). q.unit) f ∙ ap (λ (q : Drive). q.unit) e in
-    let same = every_weaker (λ q. has_number number q ≡ true → q.unit ≡ (drive_of ds number).unit) (λ q. has_number number q ≡ true → q.unit ≡ d'.unit) (λ q g b. g b ∙ sym unit) ds (units_same number ds h.units) in
-    let heads = All-from_recursion IsOnUnit (replaced number d' ds) (heads_replaced number d' ds on (recursion_from_All IsOnUnit ds h.heads)) in
+    let same = every_weaker (λ q. has_number number q ≡ true → q.unit ≡ (drive_of ds number).unit)
+        (λ q. has_number number q ≡ true → q.unit ≡ d'.unit) (λ q g b. g b ∙ sym unit) ds
+        (units_same number ds h.units) in
+    let heads = All-from_recursion IsOnUnit (replaced number d' ds)
+        (heads_replaced number d' ds on (recursion_from_All IsOnUnit ds h.heads)) in
     let turn = next_turn room passing longest place rs ds begun serving k d h n in
     let ended : serves ≡ false → cond (is_some (end_given k d r)) [] (advanced r ∷ []) ≡ [] =
     λ e. ap (λ b. cond b [] (advanced r ∷ [])) (ended_if (is_some (end_given k d r)) (sym more ∙ e)) in
     subst (λ zs. IsHeld room passing longest new zs None serves) (sym v)
     (subst (λ zs. IsHeld room passing longest zs (replaced number d' ds) None serves) (sym w)
-    (held_turn room passing longest (step_toll r) (take place rs) r (drop (place + 1) rs) (cond (is_some (end_given k d r)) [] (advanced r ∷ [])) ds (replaced number d' ds) begun serving serves
-    (subst (λ zs. IsHeld room passing longest zs ds begun serving) cut h) turn ended (units_replaced number d' ds same) heads))
+    (held_turn room passing longest (step_toll r) (take place rs) r (drop (place + 1) rs)
+        (cond (is_some (end_given k d r)) [] (advanced r ∷ [])) ds (replaced number d' ds) begun serving serves
+    (subst (λ zs. IsHeld room passing longest zs ds begun serving) cut h) turn ended (units_replaced number d' ds same)
+        heads))
 
 head_found : (n : ℕ) (ds : List Drive) → AllByRecursion IsOnUnit ds → IsOnUnit (drive_of ds n)
 head_found n [] h = omega arith
 head_found n (d ∷ ds) h =
     let rest = head_found n ds h.1 in
-    elim (has_number n d) as (λ b. IsOnUnit (unwrap_or (cond b (Some d) (find (has_number n) ds)) (fresh_drive one_block))) [ true ↦ h.0 | false ↦ rest ]
+    elim (has_number n d) as (λ b. IsOnUnit (unwrap_or (cond b (Some d) (find (has_number n) ds))
+        (fresh_drive one_block))) [ true ↦ h.0 | false ↦ rest ]
 
 -- the drive that is found has its head on its unit
-pub head_kept : (room passing longest n : ℕ) (rs : List Record) (ds : List Drive) (begun : Option Name) (serving : Bool) → IsHeld room passing longest rs ds begun serving → IsOnUnit (drive_of ds n)
+pub head_kept : (room passing longest n : ℕ) (rs : List Record) (ds : List Drive) (begun : Option Name) (serving : Bool)
+    → IsHeld room passing longest rs ds begun serving → IsOnUnit (drive_of ds n)
 head_kept room passing longest n rs ds begun serving h = head_found n ds (recursion_from_All IsOnUnit ds h.heads)
 
 -- the same as it is found out, step by step
-pub held_step : (room passing longest place : ℕ) (rs new : List Record) (ds ds' : List Drive) (begun : Option Name) (serving serves : Bool) (k : Block) (r : Record) (command : Command) (d d' : Drive)
-    (e : Option End) (ends : Bool) (toll : ℕ) → IsHeld room passing longest rs ds begun serving → IsServable passing rs place → r ≡ record_at rs place → command ≡ r.command → d ≡ drive_of ds command.unit
+pub held_step : (room passing longest place : ℕ) (rs new : List Record) (ds ds' : List Drive) (begun : Option Name)
+    (serving serves : Bool) (k : Block) (r : Record) (command : Command) (d d' : Drive)
+    (e : Option End) (ends : Bool) (toll : ℕ) → IsHeld room passing longest rs ds begun serving
+        → IsServable passing rs place → r ≡ record_at rs place → command ≡ r.command → d ≡ drive_of ds command.unit
     → e ≡ end_given k d r → ends ≡ is_some e → d' ≡ drive_after k d r → toll ≡ step_toll r
     → (((lbn : ℕ) → touched d r ≡ Some lbn → lbn < d.unit.size) → IsOnUnit d → IsOnUnit d')
-    → new ≡ map (passed_by toll) (take place rs) ++ (cond ends [] (advanced (record_at rs place) ∷ []) ++ drop (place + 1) rs)
+    → new ≡ map (passed_by toll) (take place rs) ++ (cond ends [] (advanced (record_at rs place) ∷ [])
+        ++ drop (place + 1) rs)
     → serves ≡ not ends → ds' ≡ replaced command.unit d' ds → IsHeld room passing longest new ds' None serves
-held_step room passing longest place rs new ds ds' begun serving serves k r command d d' e ends toll h n is of drive ended some after cost on w more v =
+held_step room passing longest place rs new ds ds' begun serving serves k r command d d' e ends toll h n is of drive
+    ended some after cost on w more v =
     let own = advanced (record_at rs place) ∷ [] in
-    let unit : command.unit ≡ (record_at rs place).command.unit = ap (λ (c : Command). c.unit) of ∙ ap (λ (r : Record). r.command.unit) is in
+    let unit : command.unit ≡ (record_at rs place).command.unit =
+        ap (λ (c : Command). c.unit) of ∙ ap (λ (r : Record). r.command.unit) is in
     let found = drive ∙ ap (drive_of ds) (ap (λ (c : Command). c.unit) of) in
-    let kept : IsKept passing longest (units_of ds) r = subst (IsKept passing longest (units_of ds)) (sym is) (h.each place no_record n.inside) in
-    let head : IsOnUnit d = subst IsOnUnit (sym drive) (head_kept room passing longest command.unit rs ds begun serving h) in
-    let same : ends ≡ is_some (end_given k d (record_at rs place)) = some ∙ (ap is_some ended ∙ ap (λ r. is_some (end_given k d r)) is) in
-    held_served room passing longest place rs new ds ds' begun serving serves k d d' h n (drive ∙ ap (drive_of ds) unit) (after ∙ ap (drive_after k d) is) (on (touched_inside passing longest ds r d found kept) head)
-    (w ∙ (ap (λ t. map (passed_by t) (take place rs) ++ (cond ends [] own ++ drop (place + 1) rs)) (cost ∙ ap step_toll is)
-    ∙ ap (λ b. map (passed_by (step_toll (record_at rs place))) (take place rs) ++ (cond b [] own ++ drop (place + 1) rs)) same))
+    let kept : IsKept passing longest (units_of ds) r =
+        subst (IsKept passing longest (units_of ds)) (sym is) (h.each place no_record n.inside) in
+    let head : IsOnUnit d = subst IsOnUnit (sym drive)
+        (head_kept room passing longest command.unit rs ds begun serving h) in
+    let same : ends ≡ is_some (end_given k d (record_at rs place)) =
+        some ∙ (ap is_some ended ∙ ap (λ r. is_some (end_given k d r)) is) in
+    held_served room passing longest place rs new ds ds' begun serving serves k d d' h n (drive ∙ ap (drive_of ds) unit)
+        (after ∙ ap (drive_after k d) is) (on (touched_inside passing longest ds r d found kept) head)
+    (w ∙ (ap (λ t. map (passed_by t) (take place rs) ++ (cond ends [] own ++ drop (place + 1) rs))
+        (cost ∙ ap step_toll is)
+    ∙ ap (λ b. map (passed_by (step_toll (record_at rs place))) (take place rs)
+        ++ (cond b [] own ++ drop (place + 1) rs)) same))
     (more ∙ ap not same)
     (v ∙ ap (λ u. replaced u d' ds) unit)
 
 -- a step changes no unit
-pub units_step : (number : ℕ) (d d' : Drive) (ds ds' : List Drive) (k : Block) (r : Record) → IsUnitList (units_of ds) → d ≡ drive_of ds number → d' ≡ drive_after k d r → ds' ≡ replaced number d' ds
+pub units_step : (number : ℕ) (d d' : Drive) (ds ds' : List Drive) (k : Block) (r : Record) → IsUnitList (units_of ds)
+    → d ≡ drive_of ds number → d' ≡ drive_after k d r → ds' ≡ replaced number d' ds
     → units_of ds' ≡ units_of ds
 units_step number d d' ds ds' k r l e f v =
     let unit : d'.unit ≡ (drive_of ds number).unit = ap (λ (q : Drive). q.unit) f ∙ ap (λ (q : Drive). q.unit) e in
     ap units_of v
-    ∙ units_replaced number d' ds (every_weaker (λ q. has_number number q ≡ true → q.unit ≡ (drive_of ds number).unit) (λ q. has_number number q ≡ true → q.unit ≡ d'.unit) (λ q g b. g b ∙ sym unit) ds (units_same number ds l))
+    ∙ units_replaced number d' ds (every_weaker (λ q. has_number number q ≡ true → q.unit ≡ (drive_of ds number).unit)
+        (λ q. has_number number q ≡ true → q.unit ≡ d'.unit) (λ q g b. g b ∙ sym unit) ds (units_same number ds l))

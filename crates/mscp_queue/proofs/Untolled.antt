@@ -7,11 +7,14 @@ same : (n : ℕ) → n + 0 ≡ n
 same n = omega arith
 
 unpassed : (r : Record) → passed_by 0 r ≡ r
-unpassed r = ap (λ n. record { command = r.command; weight = r.weight; done = r.done; good = r.good; passes = n }) (same r.passes)
+unpassed r = ap (λ n. record { command = r.command; weight = r.weight; done = r.done; good = r.good; passes = n })
+    (same r.passes)
 
 untolled : (xs : List Record) → map (passed_by 0) xs ≡ xs
 untolled [] = refl
 untolled (x ∷ xs) = ap (λ r. r ∷ map (passed_by 0) xs) (unpassed x) ∙ ap (λ ys. x ∷ ys) (untolled xs)
 
-pub none_passed : (toll place : ℕ) (xs : List Record) → toll ≡ 0 → xs ≡ map (passed_by toll) (take place xs) ++ drop place xs
-none_passed toll place xs e = sym (ap (λ t. map (passed_by t) (take place xs) ++ drop place xs) e ∙ ap (λ ys. ys ++ drop place xs) (untolled (take place xs)) ∙ take-append-drop place xs)
+pub none_passed : (toll place : ℕ) (xs : List Record) → toll ≡ 0
+    → xs ≡ map (passed_by toll) (take place xs) ++ drop place xs
+none_passed toll place xs e = sym (ap (λ t. map (passed_by t) (take place xs) ++ drop place xs) e
+    ∙ ap (λ ys. ys ++ drop place xs) (untolled (take place xs)) ∙ take-append-drop place xs)

@@ -25,8 +25,8 @@ aim_of units command = record {
 abbrev pub aims_of : List Shape → List Record → List Aim
 aims_of units rs = map (λ r. aim_of units r.command) rs
 
--- where a record's command aims on this drive: the head is on a cylinder of the unit, and the first block of a transfer is
--- one of the unit's, and on this cylinder
+-- where a record's command aims on this drive: the head is on a cylinder of the unit, and the first block of a transfer
+-- is one of the unit's, and on this cylinder
 pub record IsAimed (d : Drive) (cylinder : ℕ) (r : Record) : Type 0 where
   pub head : IsOnUnit d
   pub block : is_move r.command.order ≡ true → first_block r.command.order < d.unit.size

@@ -67,7 +67,8 @@ IsStillServable passing rs name =
     (place : ℕ) × IsServable passing rs place × (has_reference name (record_at rs place) ≡ true)
 
 -- the limits, the waiting commands and the drives of a queue, what was begun, and whether one may be in service
-pub record IsHeld (room passing longest : ℕ) (rs : List Record) (ds : List Drive) (begun : Option Name) (serving : Bool) : Type 0 where
+pub record IsHeld (room passing longest : ℕ) (rs : List Record) (ds : List Drive) (begun : Option Name)
+    (serving : Bool) : Type 0 where
   pub some_room : 1 ≤ room
   pub few : room ≤ 63
   pub some_blocks : 1 ≤ longest
@@ -96,9 +97,10 @@ ArePassedInOrder rs = Pairs (λ r z. z.passes ≤ r.passes) rs
 abbrev pub sequential_count : List Record → ℕ
 sequential_count rs = count_by (λ r. is_sequential r.command.order) rs
 
--- the same, and what a queue knows so that a start costs less: where each waiting command aims, how many are sequential,
--- and in which order they were passed
-pub record IsReady (room passing longest : ℕ) (rs : List Record) (aims : List Aim) (ds : List Drive) (begun : Option Name) (serving : Bool) (sequential : ℕ) : Type 0 where
+-- the same, and what a queue knows so that a start costs less: where each waiting command aims, how many are
+-- sequential, and in which order they were passed
+pub record IsReady (room passing longest : ℕ) (rs : List Record) (aims : List Aim) (ds : List Drive)
+    (begun : Option Name) (serving : Bool) (sequential : ℕ) : Type 0 where
   pub held : IsHeld room passing longest rs ds begun serving
   pub aimed : aims ≡ aims_of (units_of ds) rs
   pub counted : sequential ≡ sequential_count rs

@@ -57,8 +57,8 @@ abbrev pub end_in : Report → Option End
 end_in Idle = None
 end_in (Served reference unit lbn started seek ended) = ended
 
--- what is told of a record before its step: its command, the block that the step touches, and how many steps the command
--- had and takes (profile)
+-- what is told of a record before its step: its command, the block that the step touches, and how many steps the
+-- command had and takes (profile)
 abbrev pub upcoming_of : Drive → Record → Upcoming
 upcoming_of d r = record { command = r.command; lbn = touched d r; done = r.done; weight = r.weight }
 

@@ -24,7 +24,8 @@ error_in other (Ok done) = other
 error_in other (Err fault) = fault
 
 -- what is known of an error is known of this one
-error_is : (P : SimFault → Type 0) (result : Result (Unit {0}) SimFault) (fault : SimFault) → IsErrAnd result P → result ≡ Err fault → P fault
+error_is : (P : SimFault → Type 0) (result : Result (Unit {0}) SimFault) (fault : SimFault) → IsErrAnd result P
+    → result ≡ Err fault → P fault
 error_is P (Ok done) fault h e = absurd h
 error_is P (Err other) fault h e = subst P (ap (error_in fault) e) h
 
@@ -37,12 +38,17 @@ script_in (scripts.Script other) fault e = ap (λ q. scripts.Script (fault_in fa
 script_in scripts.OutOfMemory fault e = absurd (true≢false (ap is_script e))
 
 -- the reading of all bytes brings no fault of a script, nor does a write
-pub never_read : (result : Result (Unit {0}) SimFault) (x : ReadAllFault) (fault : ScriptFault) → IsErrAnd result (λ e. e ≡ sim_of_reading x) → result ≡ Err (faults.Script fault) → ⊥
-never_read result x fault h e = true≢false (ap is_script (error_is (λ q. q ≡ sim_of_reading x) result (faults.Script fault) h e) ∙ no_reading x)
+pub never_read : (result : Result (Unit {0}) SimFault) (x : ReadAllFault) (fault : ScriptFault)
+    → IsErrAnd result (λ e. e ≡ sim_of_reading x) → result ≡ Err (faults.Script fault) → ⊥
+never_read result x fault h e = true≢false (ap is_script
+    (error_is (λ q. q ≡ sim_of_reading x) result (faults.Script fault) h e) ∙ no_reading x)
 
-pub never_written : (result : Result (Unit {0}) SimFault) (fault : ScriptFault) → IsErrAnd result (λ e. e ≡ faults.Write) → result ≡ Err (faults.Script fault) → ⊥
-never_written result fault h e = true≢false (ap is_script (error_is (λ q. q ≡ faults.Write) result (faults.Script fault) h e))
+pub never_written : (result : Result (Unit {0}) SimFault) (fault : ScriptFault)
+    → IsErrAnd result (λ e. e ≡ faults.Write) → result ≡ Err (faults.Script fault) → ⊥
+never_written result fault h e = true≢false (ap is_script
+    (error_is (λ q. q ≡ faults.Write) result (faults.Script fault) h e))
 
 -- it is that of the script
-pub of_script : (result : Result (Unit {0}) SimFault) (x : ReadFault) (fault : ScriptFault) → IsErrAnd result (λ e. e ≡ sim_of_script x) → result ≡ Err (faults.Script fault) → x ≡ scripts.Script fault
+pub of_script : (result : Result (Unit {0}) SimFault) (x : ReadFault) (fault : ScriptFault)
+    → IsErrAnd result (λ e. e ≡ sim_of_script x) → result ≡ Err (faults.Script fault) → x ≡ scripts.Script fault
 of_script result x fault h e = script_in x fault (error_is (λ q. q ≡ sim_of_script x) result (faults.Script fault) h e)

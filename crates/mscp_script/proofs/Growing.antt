@@ -19,7 +19,8 @@ use Rattle.mscp_script.specs.Text.{Reported, ended_count, entry_lines, queued_co
 
 pub reported_more : (all : List Entry) (entry : Entry) → with_entry (reported all) entry ≡ reported (all ++ entry ∷ [])
 reported_more all entry =
-    let lines : flat_map entry_lines all ++ entry_lines entry ≡ flat_map entry_lines (all ++ entry ∷ []) = flat_map_more entry_lines [] all entry in
+    let lines : flat_map entry_lines all ++ entry_lines entry ≡ flat_map entry_lines (all ++ entry ∷ []) =
+        flat_map_more entry_lines [] all entry in
     let steps = sum_by_push step_count all entry in
     let seeks = sum_by_push seek_of all entry in
     let queued = sum_by_push queued_count all entry in
@@ -28,7 +29,8 @@ reported_more all entry =
     cc
 
 -- an answer more
-answered_more : {K : Type 0} (picks : List Choice → ℕ → Type 0) (old mid new : Holdings K) (es : List Event) (ns : List Entry) (e : Event) (n : Entry) → Answered picks old es ns mid → Answers picks mid e n new
+answered_more : {K : Type 0} (picks : List Choice → ℕ → Type 0) (old mid new : Holdings K) (es : List Event)
+    (ns : List Entry) (e : Event) (n : Entry) → Answered picks old es ns mid → Answers picks mid e n new
     → Answered picks old (es ++ e ∷ []) (ns ++ n ∷ []) new
 answered_more {K} picks old mid new [] [] e n r a = (new, subst (λ (h : Holdings K). Answers picks h e n new) r a, refl)
 answered_more picks old mid new (f ∷ es) (m ∷ ns) e n r a = (r.0, r.1, answered_more picks r.0 mid new es ns e n r.2 a)
@@ -36,7 +38,8 @@ answered_more picks old mid new [] (m ∷ ns) e n r a = absurd r
 answered_more picks old mid new (f ∷ es) [] e n r a = absurd r
 
 -- a new run
-pub runs_none : (c : Settings) (run : Run) → run.controller ≡ fresh c run.controller.picker → run.reporter ≡ reported [] → Runs c [] run
+pub runs_none : (c : Settings) (run : Run) → run.controller ≡ fresh c run.controller.picker → run.reporter ≡ reported []
+    → Runs c [] run
 runs_none c run e f = record {
   begun = run;
   new = e;
@@ -47,7 +50,8 @@ runs_none c run e f = record {
 }
 
 -- an event more
-pub runs_more : (c : Settings) (es : List Event) (old new : Run) (e : Event) → Runs c es old → Ran old new e → Runs c (es ++ e ∷ []) new
+pub runs_more : (c : Settings) (es : List Event) (old new : Run) (e : Event) → Runs c es old → Ran old new e
+    → Runs c (es ++ e ∷ []) new
 runs_more c es old new e runs ran = record {
   begun = runs.begun;
   new = runs.new;
@@ -58,7 +62,8 @@ runs_more c es old new e runs ran = record {
 }
 
 -- an answer that is reported, where memory may have been wanted
-pub ran_on : (r : Result (Unit {0}) OutOfMemory) (old new : Run) (event : Event) (entry : Entry) → Answers IsSweep old.controller event entry new.controller → OnOk r (new.reporter ≡ with_entry old.reporter entry)
+pub ran_on : (r : Result (Unit {0}) OutOfMemory) (old new : Run) (event : Event) (entry : Entry)
+    → Answers IsSweep old.controller event entry new.controller → OnOk r (new.reporter ≡ with_entry old.reporter entry)
     → OnOk r (Ran old new event)
 ran_on (Ok x) old new event entry a e = record { entry = entry; answers = a; report_is = e }
 ran_on (Err x) old new event entry a e = tt
@@ -72,16 +77,20 @@ pub ran_count : (old new : Run) (e : Event) → Ran old new e → new.reporter.c
 ran_count old new e ran = ap (λ (r : Reported). r.count) ran.report_is
 
 -- the same where memory may have been wanted
-pub meets_ok : (r : Result (Unit {0}) OutOfMemory) (old new : Run) (e : Event) → OnOk r (Ran old new e) → OnOk r (Meets old new (e ∷ []))
+pub meets_ok : (r : Result (Unit {0}) OutOfMemory) (old new : Run) (e : Event) → OnOk r (Ran old new e)
+    → OnOk r (Meets old new (e ∷ []))
 meets_ok (Ok x) old new e ran = meets_one old new e ran
 meets_ok (Err x) old new e ran = tt
 
 -- one more of the same event
-pub meets_more : (a b d : Run) (n : ℕ) (e : Event) → Meets a b (replicate n e) → Ran b d e → Meets a d (replicate (n + 1) e)
+pub meets_more : (a b d : Run) (n : ℕ) (e : Event) → Meets a b (replicate n e) → Ran b d e
+    → Meets a d (replicate (n + 1) e)
 meets_more a b d n e m ran = λ c es runs.
     let more : Runs c ((es ++ replicate n e) ++ e ∷ []) d = runs_more c (es ++ replicate n e) b d e (m c es runs) ran in
-    subst (λ all. Runs c all d) (append_assoc es (replicate n e) (e ∷ []) ∙ ap (λ all. es ++ all) (replicate_more n e)) more
+    subst (λ all. Runs c all d) (append_assoc es (replicate n e) (e ∷ []) ∙ ap (λ all. es ++ all) (replicate_more n e))
+        more
 
 -- so far these events came of lines of which this was to become, and so many bytes of them are left
 abbrev pub Going : Settings → Result (Settings × List Event) ScriptFault → Run → ℕ → List ℕ → Type 0
-Going c told run number rest = (events : List Event) × Runs c events run × (told ≡ rest_outcome number (HasGone c events) rest)
+Going c told run number rest = (events : List Event) × Runs c events run
+    × (told ≡ rest_outcome number (HasGone c events) rest)

@@ -18,23 +18,30 @@ from_ok n (Ok y) x e = cc
 from_ok n (Err cause) x e = cc
 
 -- a line that says nothing
-pub skips : (n : ℕ) (line : List ℕ) (rest : List (List ℕ)) (words : List (List ℕ)) → in_line (n + 1) (said_at (n + 1) line) ≡ Ok words → words ≡ [] → (p : Place) → outcome n p (line ∷ rest) ≡ outcome (n + 1) p rest
+pub skips : (n : ℕ) (line : List ℕ) (rest : List (List ℕ)) (words : List (List ℕ))
+    → in_line (n + 1) (said_at (n + 1) line) ≡ Ok words → words ≡ [] → (p : Place)
+    → outcome n p (line ∷ rest) ≡ outcome (n + 1) p rest
 unfolding outcome after_line
 skips n line rest words e none p = rw (from_ok (n + 1) (said_at (n + 1) line) words e, none) refl
 
 -- a line that says something
-pub speaks : (n : ℕ) (line : List ℕ) (rest : List (List ℕ)) (words : List (List ℕ)) → in_line (n + 1) (said_at (n + 1) line) ≡ Ok words → ¬ (words ≡ []) → (p : Place) → outcome n p (line ∷ rest) ≡ onward (n + 1) p words rest
+pub speaks : (n : ℕ) (line : List ℕ) (rest : List (List ℕ)) (words : List (List ℕ))
+    → in_line (n + 1) (said_at (n + 1) line) ≡ Ok words → ¬ (words ≡ []) → (p : Place)
+    → outcome n p (line ∷ rest) ≡ onward (n + 1) p words rest
 unfolding outcome after_line onward
 speaks n line rest [] e some p = absurd (some refl)
 speaks n line rest (w ∷ fields) e some p = rw (from_ok (n + 1) (said_at (n + 1) line) (w ∷ fields) e) refl
 
-wrong_step : (n : ℕ) (p : Place) (rest : List (List ℕ)) (r : Result (List (List ℕ)) Cause) (fault : ScriptFault) → in_line n r ≡ Err fault
+wrong_step : (n : ℕ) (p : Place) (rest : List (List ℕ)) (r : Result (List (List ℕ)) Cause) (fault : ScriptFault)
+    → in_line n r ≡ Err fault
     → (in_line n (r >>= next_unless_skipped p) >>= λ after. outcome n after rest) ≡ Err fault
 wrong_step n p rest (Ok words) fault e = cc
-wrong_step n p rest (Err cause) fault e = let made : ScriptFault = record { line = n; cause = cause } in let q : made ≡ fault = cc in ap Err q
+wrong_step n p rest (Err cause) fault e = let made : ScriptFault = record { line = n; cause = cause } in
+    let q : made ≡ fault = cc in ap Err q
 
 -- a line that is wrong by itself
-pub wrong : (n : ℕ) (line : List ℕ) (rest : List (List ℕ)) (fault : ScriptFault) → in_line (n + 1) (said_at (n + 1) line) ≡ Err fault → (p : Place) → outcome n p (line ∷ rest) ≡ Err fault
+pub wrong : (n : ℕ) (line : List ℕ) (rest : List (List ℕ)) (fault : ScriptFault)
+    → in_line (n + 1) (said_at (n + 1) line) ≡ Err fault → (p : Place) → outcome n p (line ∷ rest) ≡ Err fault
 unfolding outcome after_line
 wrong n line rest fault e p = wrong_step (n + 1) p rest (said_at (n + 1) line) fault e
 
@@ -53,16 +60,19 @@ ended_early n (HasGone settings events) h = absurd h
 
 -- ---- a line that says something
 
-pub onward_ok : (n : ℕ) (p q : Place) (words rest : List (List ℕ)) → in_line n (next p words) ≡ Ok q → onward n p words rest ≡ outcome n q rest
+pub onward_ok : (n : ℕ) (p q : Place) (words rest : List (List ℕ)) → in_line n (next p words) ≡ Ok q
+    → onward n p words rest ≡ outcome n q rest
 unfolding onward
 onward_ok n p q words rest e = rw e refl
 
-pub onward_err : (n : ℕ) (p : Place) (words rest : List (List ℕ)) (fault : ScriptFault) → in_line n (next p words) ≡ Err fault → onward n p words rest ≡ Err fault
+pub onward_err : (n : ℕ) (p : Place) (words rest : List (List ℕ)) (fault : ScriptFault)
+    → in_line n (next p words) ≡ Err fault → onward n p words rest ≡ Err fault
 unfolding onward
 onward_err n p words rest fault e = rw e refl
 
 -- the same, where memory may have run out
-pub onward_fails : (n : ℕ) (p : Place) (words rest : List (List ℕ)) (o : Result (Settings × List Event) ScriptFault) (fault : ReadFault)
+pub onward_fails : (n : ℕ) (p : Place) (words rest : List (List ℕ)) (o : Result (Settings × List Event) ScriptFault)
+    (fault : ReadFault)
     → Fails fault (in_line n (next p words)) → o ≡ onward n p words rest → Fails fault o
 onward_fails n p words rest o (faults.Script fault) e h = h ∙ onward_err n p words rest fault e
 onward_fails n p words rest o faults.OutOfMemory e h = tt
@@ -74,15 +84,19 @@ fails_same a b faults.OutOfMemory e h = tt
 
 -- ---- lines of the header
 
-pub gives_made : {X Y Z : Type 0} (view : X → Y) (make : Y → Z) (r : Result X Cause) (read : Result Y Cause) → Gives view r read → Gives (λ x. make (view x)) r (read >>= λ y. Ok (make y))
+pub gives_made : {X Y Z : Type 0} (view : X → Y) (make : Y → Z) (r : Result X Cause) (read : Result Y Cause)
+    → Gives view r read → Gives (λ x. make (view x)) r (read >>= λ y. Ok (make y))
 gives_made view make (Ok x) read g = rw g refl
 gives_made view make (Err cause) read g = rw g refl
 
-pub line_leads : {X : Type 0} (view : X → Place) (n : ℕ) (p : Place) (words : List (List ℕ)) (bytes : List ℕ) (o : Result (Settings × List Event) ScriptFault) (r : Result X Cause) → Gives view r (next p words) → o ≡ onward n p words (lines bytes) → Leads view o n bytes (in_line n r)
+pub line_leads : {X : Type 0} (view : X → Place) (n : ℕ) (p : Place) (words : List (List ℕ)) (bytes : List ℕ)
+    (o : Result (Settings × List Event) ScriptFault) (r : Result X Cause) → Gives view r (next p words)
+    → o ≡ onward n p words (lines bytes) → Leads view o n bytes (in_line n r)
 line_leads view n p words bytes o (Ok x) g h = h ∙ onward_ok n p (view x) words (lines bytes) (ap (in_line n) g)
 line_leads view n p words bytes o (Err cause) g h = h ∙ onward_err n p words (lines bytes) _ (ap (in_line n) g)
 
-pub gives_same : {Y Z : Type 0} (make : Y → Z) (r read : Result Y Cause) → r ≡ read → Gives make r (read >>= λ y. Ok (make y))
+pub gives_same : {Y Z : Type 0} (make : Y → Z) (r read : Result Y Cause) → r ≡ read
+    → Gives make r (read >>= λ y. Ok (make y))
 gives_same make (Ok x) read e = rw (← e) refl
 gives_same make (Err cause) read e = rw (← e) refl
 
@@ -102,7 +116,8 @@ pub sets_timeout : (c p l : ℕ) → Sets (HasLongest c p l) (codes "timeout") 6
 unfolding next
 sets_timeout c p l = (tt, λ words. refl)
 
-pub next_timeout : (s : Settings) (words : List (List ℕ)) → next (HasTimeout s) words ≡ (first_units words >>= λ units. Ok (HasUnits (record s { units = units })))
+pub next_timeout : (s : Settings) (words : List (List ℕ))
+    → next (HasTimeout s) words ≡ (first_units words >>= λ units. Ok (HasUnits (record s { units = units })))
 unfolding next
 next_timeout s words = refl
 

@@ -30,7 +30,8 @@ use Rattle.mscp_script.proofs.Pieces.{front_len, front_len_is, parts_after, spli
 
 -- ---- letters and digits
 
-letters_step : (x : ℕ) (xs : List ℕ) (b : Bool) → is_letter x ≡ b → list_all is_letter (take (front_len (λ c. not (is_letter c)) xs) xs) ≡ true
+letters_step : (x : ℕ) (xs : List ℕ) (b : Bool) → is_letter x ≡ b
+    → list_all is_letter (take (front_len (λ c. not (is_letter c)) xs) xs) ≡ true
     → list_all is_letter (take (front_len (λ c. not (is_letter c)) (x ∷ xs)) (x ∷ xs)) ≡ true
 letters_step x xs true e h = rw (e, e, h) refl
 letters_step x xs false e h = rw e refl
@@ -40,7 +41,8 @@ letters_front [] = refl
 letters_front (x ∷ xs) = letters_step x xs (is_letter x) refl (letters_front xs)
 
 -- letters stand before the first other byte
-pub letters : (xs : List ℕ) → list_all is_letter (take (unwrap_or (position (λ c. not (is_letter c)) xs) (length xs)) xs) ≡ true
+pub letters : (xs : List ℕ) → list_all is_letter (take (unwrap_or (position (λ c. not (is_letter c)) xs) (length xs))
+    xs) ≡ true
 letters xs = rw (front_len_is (λ c. not (is_letter c)) xs) (letters_front xs)
 
 -- a printed byte that is no space
@@ -59,11 +61,13 @@ solid_digit b h = grind (arith, nat_tests)
 
 pub solid_letters : (w : List ℕ) → list_all is_letter w ≡ true → AllSolid w
 solid_letters [] h = refl
-solid_letters (b ∷ w) h = let p = and_parts (is_letter b) (list_all is_letter w) h in and_from _ _ (solid_letter b p.0) (solid_letters w p.1)
+solid_letters (b ∷ w) h = let p = and_parts (is_letter b) (list_all is_letter w) h in
+    and_from _ _ (solid_letter b p.0) (solid_letters w p.1)
 
 pub solid_digits : (w : List ℕ) → list_all is_digit w ≡ true → AllSolid w
 solid_digits [] h = refl
-solid_digits (b ∷ w) h = let p = and_parts (is_digit b) (list_all is_digit w) h in and_from _ _ (solid_digit b p.0) (solid_digits w p.1)
+solid_digits (b ∷ w) h = let p = and_parts (is_digit b) (list_all is_digit w) h in
+    and_from _ _ (solid_digit b p.0) (solid_digits w p.1)
 
 solid_apart : (b : ℕ) → is_solid b ≡ true → (b == 32) ≡ false
 solid_apart b h = grind (arith, nat_tests)
@@ -71,9 +75,11 @@ solid_apart b h = grind (arith, nat_tests)
 solid_printed : (b : ℕ) → is_solid b ≡ true → is_printed b ≡ true
 solid_printed b h = grind (arith, nat_tests)
 
-printed_front : (w line : List ℕ) → AllSolid w → list_all is_printed line ≡ true → list_all is_printed (w ++ line) ≡ true
+printed_front : (w line : List ℕ) → AllSolid w → list_all is_printed line ≡ true
+    → list_all is_printed (w ++ line) ≡ true
 printed_front [] line solid h = h
-printed_front (b ∷ w) line solid h = let p = and_parts (is_solid b) (list_all is_solid w) solid in and_from _ _ (solid_printed b p.0) (printed_front w line p.1 h)
+printed_front (b ∷ w) line solid h = let p = and_parts (is_solid b) (list_all is_solid w) solid in
+    and_from _ _ (solid_printed b p.0) (printed_front w line p.1 h)
 
 -- ---- words
 
@@ -81,7 +87,8 @@ apart_split : (line : List ℕ) → IsApart line → slice_split (λ b. b == 32)
 apart_split [] h = refl
 apart_split (b ∷ line) h = rw h refl
 
-word_split : (w line : List ℕ) → AllSolid w → IsApart line → slice_split (λ b. b == 32) (w ++ line) ≡ w ∷ parts_after (λ b. b == 32) line
+word_split : (w line : List ℕ) → AllSolid w → IsApart line
+    → slice_split (λ b. b == 32) (w ++ line) ≡ w ∷ parts_after (λ b. b == 32) line
 word_split [] line solid h = apart_split line h
 word_split (b ∷ w) line solid h =
     let p = and_parts (is_solid b) (list_all is_solid w) solid in
@@ -95,7 +102,8 @@ apart_words (b ∷ line) h = rw h refl
 pub word_front : (w line : List ℕ) → 0 < length w → AllSolid w → IsApart line → words (w ++ line) ≡ w ∷ words line
 unfolding words
 word_front [] line some solid h = absurd (omega arith)
-word_front (b ∷ w) line some solid h = ap (filter is_some_word) (word_split (b ∷ w) line solid h) ∙ ap (λ ws. (b ∷ w) ∷ ws) (apart_words line h)
+word_front (b ∷ w) line some solid h = ap (filter is_some_word) (word_split (b ∷ w) line solid h)
+    ∙ ap (λ ws. (b ∷ w) ∷ ws) (apart_words line h)
 
 after_space : (line : List ℕ) → words (32 ∷ line) ≡ words line
 unfolding words
@@ -125,40 +133,52 @@ at_feed xs behind e = record { line = []; whole = e; apart = tt; printed = refl;
 printed_fed : (b : ℕ) → is_printed b ≡ true → (b == 10) ≡ false
 printed_fed b h = grind (arith, nat_tests)
 
-feed_split : (line behind : List ℕ) → list_all is_printed line ≡ true → slice_split (λ b. b == 10) (line ++ 10 ∷ behind) ≡ line ∷ slice_split (λ b. b == 10) behind
+feed_split : (line behind : List ℕ) → list_all is_printed line ≡ true
+    → slice_split (λ b. b == 10) (line ++ 10 ∷ behind) ≡ line ∷ slice_split (λ b. b == 10) behind
 feed_split [] behind h = refl
-feed_split (b ∷ line) behind h = let p = and_parts (is_printed b) (list_all is_printed line) h in rw (printed_fed b p.0, feed_split line behind p.1) refl
+feed_split (b ∷ line) behind h = let p = and_parts (is_printed b) (list_all is_printed line) h in
+    rw (printed_fed b p.0, feed_split line behind p.1) refl
 
-pub said_plain : (line : List ℕ) → length line ≤ 200 → is_comment line ≡ false → list_all is_printed line ≡ true → said line ≡ Ok (words line)
+pub said_plain : (line : List ℕ) → length line ≤ 200 → is_comment line ≡ false → list_all is_printed line ≡ true
+    → said line ≡ Ok (words line)
 unfolding said
 said_plain line short other printed = rw (other, printed) (grind (arith, nat_tests))
 
 -- ---- numbers
 
-number_word : (most : ℕ) (w : List ℕ) → list_all is_digit w ≡ true → 0 < length w → length w ≤ 10 → digits_value 10 w ≤ most → number most w ≡ Ok (digits_value 10 w)
+number_word : (most : ℕ) (w : List ℕ) → list_all is_digit w ≡ true → 0 < length w → length w ≤ 10
+    → digits_value 10 w ≤ most → number most w ≡ Ok (digits_value 10 w)
 unfolding number
 number_word most w digits some few small = rw digits (grind (arith, nat_tests))
 
 -- a space and a number were cut off
-pub cut_number : (old : List ℕ) (value digits : ℕ) → 0 < length old → get_or old 0 0 ≡ 32 → IsNumeral value digits (take (length old - 1) (drop 1 old)) → ¬ (digits ≡ 0) → value ≤ 4294967295
-    → CutsWord wide value old (take (length (take (length old - 1) (drop 1 old)) - digits) (drop digits (take (length old - 1) (drop 1 old))))
+pub cut_number : (old : List ℕ) (value digits : ℕ) → 0 < length old → get_or old 0 0 ≡ 32
+    → IsNumeral value digits (take (length old - 1) (drop 1 old)) → ¬ (digits ≡ 0) → value ≤ 4294967295
+    → CutsWord wide value old (take (length (take (length old - 1) (drop 1 old)) - digits)
+        (drop digits (take (length old - 1) (drop 1 old))))
 cut_number old value digits some space numeral least small =
     let bytes : List ℕ = take (length old - 1) (drop 1 old) in
     let word : List ℕ = take digits bytes in
     let rest : List ℕ = drop digits bytes in
     let new : List ℕ = take (length bytes - digits) rest in
     let size : length word ≡ digits = length-take-le digits bytes numeral.within in
-    let whole : 32 ∷ (word ++ new) ≡ old = ap (λ xs. 32 ∷ (word ++ xs)) (take_all (length bytes - digits) rest (omega (arith, length-drop digits bytes))) ∙ ap (λ xs. 32 ∷ xs) (take-append-drop digits bytes) ∙ sym (seen old 32 some space) in
+    let whole : 32 ∷ (word ++ new) ≡ old = ap (λ xs. 32 ∷ (word ++ xs))
+        (take_all (length bytes - digits) rest (omega (arith, length-drop digits bytes)))
+        ∙ ap (λ xs. 32 ∷ xs) (take-append-drop digits bytes) ∙ sym (seen old 32 some space) in
     let long : 0 < length word = omega (arith, size, least) in
-    let means : wide word ≡ Ok value = number_word 4294967295 word numeral.all long (omega (arith, size, numeral.few)) (omega (arith, numeral.value, small)) ∙ ap Ok (sym numeral.value) in
+    let means : wide word ≡ Ok value = number_word 4294967295 word numeral.all long (omega (arith, size, numeral.few))
+        (omega (arith, numeral.value, small)) ∙ ap Ok (sym numeral.value) in
     (word, means, subst (λ xs. Cuts xs (word ∷ []) new) whole (cut_word word new long (solid_digits word numeral.all)))
 
-narrow_step : (d v : ℕ) (b : Bool) → nat_le d 4294967295 ≡ b → (let r : Result ℕ Cause = if b then Ok d else Err causes.Number in r ≡ Ok v) → v ≤ 65535
+narrow_step : (d v : ℕ) (b : Bool) → nat_le d 4294967295 ≡ b
+    → (let r : Result ℕ Cause = if b then Ok d else Err causes.Number in r ≡ Ok v) → v ≤ 65535
     → (let r : Result ℕ Cause = if nat_le d 65535 then Ok d else Err causes.Number in r ≡ Ok v)
-narrow_step d v true e h small = let same : d ≡ v = cc in let fits : nat_le d 65535 ≡ true = grind (arith, nat_tests, same) in rw fits h
+narrow_step d v true e h small = let same : d ≡ v = cc in let fits : nat_le d 65535 ≡ true =
+    grind (arith, nat_tests, same) in rw fits h
 narrow_step d v false e h small = cc
 
-narrow_case : (d v : ℕ) (b : Bool) → (let r : Result ℕ Cause = if b && nat_le d 4294967295 then Ok d else Err causes.Number in r ≡ Ok v) → v ≤ 65535
+narrow_case : (d v : ℕ) (b : Bool) → (let r : Result ℕ Cause =
+    if b && nat_le d 4294967295 then Ok d else Err causes.Number in r ≡ Ok v) → v ≤ 65535
     → (let r : Result ℕ Cause = if b && nat_le d 65535 then Ok d else Err causes.Number in r ≡ Ok v)
 narrow_case d v true h small = narrow_step d v (nat_le d 4294967295) refl h small
 narrow_case d v false h small = cc
@@ -169,7 +189,8 @@ narrow_is word v h small = narrow_case (digits_value 10 word) v (is_numeral word
 
 -- ---- requests
 
-pub transfer_asks : (kind : MoveKind) (xs ys zs us vs : List ℕ) (r u c b : ℕ) → CutsWord wide r xs ys → CutsWord narrow u ys zs → CutsWord wide c zs us → CutsWord wide b us vs
+pub transfer_asks : (kind : MoveKind) (xs ys zs us vs : List ℕ) (r u c b : ℕ) → CutsWord wide r xs ys
+    → CutsWord narrow u ys zs → CutsWord wide c zs us → CutsWord wide b us vs
     → Asks (forms.Transfer kind) (sent r u (orders.Move kind c b)) xs vs
 unfolding asked
 transfer_asks kind xs ys zs us vs r u c b p q s t = (
@@ -178,15 +199,19 @@ transfer_asks kind xs ys zs us vs r u c b p q s t = (
   λ more behind e. p.2 _ behind (q.2 _ behind (s.2 _ behind (t.2 more behind e))),
 )
 
-pub other_asks : (order : Order) (xs ys zs : List ℕ) (r u : ℕ) → CutsWord wide r xs ys → CutsWord narrow u ys zs → Asks (forms.Plain order) (sent r u order) xs zs
+pub other_asks : (order : Order) (xs ys zs : List ℕ) (r u : ℕ) → CutsWord wide r xs ys → CutsWord narrow u ys zs
+    → Asks (forms.Plain order) (sent r u order) xs zs
 unfolding asked
-other_asks order xs ys zs r u p q = (p.0 ∷ q.0 ∷ [], rw (p.1, q.1) refl, λ more behind e. p.2 _ behind (q.2 more behind e))
+other_asks order xs ys zs r u p q = (p.0 ∷ q.0 ∷ [], rw (p.1, q.1) refl, λ more behind e.
+    p.2 _ behind (q.2 more behind e))
 
-pub poll_asks : (xs ys zs : List ℕ) (r o : ℕ) → CutsWord wide r xs ys → CutsWord wide o ys zs → Asks forms.Status (sent r 0 (orders.Status o)) xs zs
+pub poll_asks : (xs ys zs : List ℕ) (r o : ℕ) → CutsWord wide r xs ys → CutsWord wide o ys zs
+    → Asks forms.Status (sent r 0 (orders.Status o)) xs zs
 unfolding asked
 poll_asks xs ys zs r o p q = (p.0 ∷ q.0 ∷ [], rw (p.1, q.1) refl, λ more behind e. p.2 _ behind (q.2 more behind e))
 
-pub steps_asks : (xs ys : List ℕ) (n : ℕ) → CutsWord wide n xs ys → 1 ≤ n → n ≤ 1000 → Asks forms.Step (requests.Steps n) xs ys
+pub steps_asks : (xs ys : List ℕ) (n : ℕ) → CutsWord wide n xs ys → 1 ≤ n → n ≤ 1000
+    → Asks forms.Step (requests.Steps n) xs ys
 unfolding asked
 steps_asks xs ys n p low high =
     let fits : steps_in n ≡ Ok n = grind (arith, nat_tests) in
@@ -212,7 +237,8 @@ no_comment : (w line : List ℕ) → 0 < length w → list_all is_letter w ≡ t
 no_comment [] line some h = absurd (omega arith)
 no_comment (b ∷ w) line some h = letter_first b (and_parts (is_letter b) (list_all is_letter w) h).0
 
-pub plain_is : (bytes w rest new behind : List ℕ) (form : Form) (what : Request) → bytes ≡ w ++ rest → list_all is_letter w ≡ true → form_of w ≡ Some form → Asks form what rest new → Ends new [] behind
+pub plain_is : (bytes w rest new behind : List ℕ) (form : Form) (what : Request) → bytes ≡ w ++ rest
+    → list_all is_letter w ≡ true → form_of w ≡ Some form → Asks form what rest new → Ends new [] behind
     → IsPlain bytes what behind
 unfolding request
 plain_is bytes w rest new behind form what is letters known asks ends =
@@ -231,47 +257,58 @@ plain_is bytes w rest new behind form what is letters known asks ends =
 
 last_printed : (line : List ℕ) (i : ℕ) → list_all is_printed line ≡ true → (get_or line i 0 == 13) ≡ false
 last_printed [] i h = refl
-last_printed (b ∷ line) zero h = let p = (and_parts (is_printed b) (list_all is_printed line) h).0 in grind (arith, nat_tests, p)
+last_printed (b ∷ line) zero h = let p = (and_parts (is_printed b) (list_all is_printed line) h).0 in
+    grind (arith, nat_tests, p)
 last_printed (b ∷ line) (suc i) h = last_printed line i (and_parts (is_printed b) (list_all is_printed line) h).1
 
 strip_printed : (line : List ℕ) → list_all is_printed line ≡ true → strip_carriage_return line ≡ line
 strip_printed line h = rw (last_printed line (length line - 1) h) refl
 
-plain_lines : (line behind : List ℕ) → list_all is_printed line ≡ true → lines (line ++ 10 ∷ behind) ≡ line ∷ lines behind
+plain_lines : (line behind : List ℕ) → list_all is_printed line ≡ true
+    → lines (line ++ 10 ∷ behind) ≡ line ∷ lines behind
 unfolding lines
 plain_lines line behind h =
     ap (λ parts. map strip_carriage_return (without_empty_last parts)) (feed_split line behind h)
     ∙ ap (map strip_carriage_return) (split_parts (λ b. b == 10) behind line)
-    ∙ ap (λ l. l ∷ map strip_carriage_return (without_empty_last (slice_split (λ b. b == 10) behind))) (strip_printed line h)
+    ∙ ap (λ l. l ∷ map strip_carriage_return (without_empty_last (slice_split (λ b. b == 10) behind)))
+        (strip_printed line h)
 
 some_words : (ws : List (List ℕ)) (what : Request) → request ws ≡ Ok what → ¬ (ws ≡ [])
 unfolding request
 some_words [] what h = λ e. cc
 some_words (w ∷ ws) what h = λ e. cc
 
-said_by : (n : ℕ) (line : List ℕ) → n + 1 ≤ 1000000 → said line ≡ Ok (words line) → in_line (n + 1) (said_at (n + 1) line) ≡ Ok (words line)
+said_by : (n : ℕ) (line : List ℕ) → n + 1 ≤ 1000000 → said line ≡ Ok (words line)
+    → in_line (n + 1) (said_at (n + 1) line) ≡ Ok (words line)
 said_by n line few h = let fits : nat_lt 1000000 (n + 1) ≡ false = grind (arith, nat_tests) in rw (fits, h) refl
 
 -- what becomes of the lines of which the first is plain
-pub plain_onward : (n : ℕ) (bytes behind : List ℕ) (what : Request) (r : IsPlain bytes what behind) → n + 1 ≤ 1000000 → length r.line ≤ 200
+pub plain_onward : (n : ℕ) (bytes behind : List ℕ) (what : Request) (r : IsPlain bytes what behind) → n + 1 ≤ 1000000
+    → length r.line ≤ 200
     → (p : Place) → rest_outcome n p bytes ≡ onward (n + 1) p (words r.line) (lines behind)
 plain_onward n bytes behind what r few short p =
     ap (λ xs. rest_outcome n p xs) r.whole
     ∙ ap (outcome n p) (plain_lines r.line behind r.printed)
-    ∙ speaks n r.line (lines behind) (words r.line) (said_by n r.line few (said_plain r.line short r.said r.printed)) (some_words _ what r.asks) p
+    ∙ speaks n r.line (lines behind) (words r.line) (said_by n r.line few (said_plain r.line short r.said r.printed))
+        (some_words _ what r.asks) p
 
 -- its length, and the line itself
-pub line_length : (bytes behind : List ℕ) (what : Request) (r : IsPlain bytes what behind) → length bytes - length behind - 1 ≡ length r.line
+pub line_length : (bytes behind : List ℕ) (what : Request) (r : IsPlain bytes what behind)
+    → length bytes - length behind - 1 ≡ length r.line
 line_length bytes behind what r = omega (arith, ap length r.whole, length-append r.line (10 ∷ behind))
 
-pub line_of : (bytes behind : List ℕ) (what : Request) (r : IsPlain bytes what behind) → take (length bytes - length behind - 1) bytes ≡ r.line
-line_of bytes behind what r = rw (line_length bytes behind what r) (ap (take (length r.line)) r.whole ∙ take-append_seam r.line (10 ∷ behind))
+pub line_of : (bytes behind : List ℕ) (what : Request) (r : IsPlain bytes what behind)
+    → take (length bytes - length behind - 1) bytes ≡ r.line
+line_of bytes behind what r = rw (line_length bytes behind what r)
+    (ap (take (length r.line)) r.whole ∙ take-append_seam r.line (10 ∷ behind))
 
 -- what a plain line leads to, where its events aren't too many
-pub plain_next : (s : Settings) (es : List Event) (said : List (List ℕ)) (plain : Plain) (n : ℕ) → request said ≡ Ok (plain_request plain)
+pub plain_next : (s : Settings) (es : List Event) (said : List (List ℕ)) (plain : Plain) (n : ℕ)
+    → request said ≡ Ok (plain_request plain)
     → length es + length (events_of (plain_request plain)) ≤ 1000000
     → in_line n (next (HasGone s es) said) ≡ Ok (HasGone s (es ++ events_of (plain_request plain)))
 unfolding next
 plain_next s es said plain n asks few =
-    let fits : nat_le (length es + length (events_of (plain_request plain))) 1000000 ≡ true = grind (arith, nat_tests) in
+    let fits : nat_le (length es + length (events_of (plain_request plain))) 1000000 ≡ true =
+        grind (arith, nat_tests) in
     rw (asks, fits) refl

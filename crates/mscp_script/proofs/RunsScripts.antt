@@ -44,7 +44,8 @@ at_line n cause = record { line = n; cause = cause }
 -- ---- lines, words and numbers
 
 -- the last line may lack its line feed, and one carriage return is dropped at each line's end
-lines_cut : lines (codes "a" ++ 10 ∷ 10 ∷ codes "b" ++ 13 ∷ 10 ∷ 13 ∷ 13 ∷ []) ≡ codes "a" ∷ [] ∷ codes "b" ∷ (13 ∷ []) ∷ []
+lines_cut : lines (codes "a" ++ 10 ∷ 10 ∷ codes "b" ++ 13 ∷ 10 ∷ 13 ∷ 13 ∷ []) ≡ codes "a" ∷ [] ∷ codes "b" ∷ (13 ∷ [])
+    ∷ []
 unfolding lines
 lines_cut = refl
 
@@ -80,7 +81,8 @@ number_past = refl
 
 abbrev shown : List (List ℕ)
 shown =
-    header ++ codes "# a comment" ∷ [] ∷ codes "read 1 0 1024 5" ∷ codes " step  2 " ∷ codes "bad 00E8" ∷ codes "packet 0aFF" ∷ codes "abort 2 1" ∷ codes "take" ∷ codes "look" ∷ []
+    header ++ codes "# a comment" ∷ [] ∷ codes "read 1 0 1024 5" ∷ codes " step  2 " ∷ codes "bad 00E8"
+        ∷ codes "packet 0aFF" ∷ codes "abort 2 1" ∷ codes "take" ∷ codes "look" ∷ []
 
 abbrev sent : ℕ → ℕ → orders.the_data → Event
 sent r u o = events.Send (record { items = command_bytes (record { reference = r; unit = u; order = o }) })
@@ -91,7 +93,8 @@ asked_for =
     ∷ events.Send (record { items = 0x0A ∷ 0xFF ∷ [] }) ∷ sent 2 0 (orders.Abort 1) ∷ events.Take ∷ events.Look ∷ []
 
 shown_read : Reads (text shown) (settings (shape 0 ∷ [])) asked_for
-unfolding lines words said number message status form_of asked request setting unit_of more_units first_units with_unit gone unit_or_go next after_line outcome decode_pairs
+unfolding lines words said number message status form_of asked request setting unit_of more_units first_units with_unit
+    gone unit_or_go next after_line outcome decode_pairs
 shown_read = is_read (text shown) (settings (shape 0 ∷ [])) asked_for (lit≤ tt) refl
 
 -- two units
@@ -99,7 +102,8 @@ abbrev two : List (List ℕ)
 two = limits_lines ++ codes "unit 0 10 2 1 1000" ∷ codes "unit 7 10 2 1 1000" ∷ codes "go" ∷ []
 
 two_read : Reads (text two) (settings (shape 0 ∷ shape 7 ∷ [])) []
-unfolding lines words said number message status form_of asked request setting unit_of more_units first_units with_unit gone unit_or_go next after_line outcome decode_pairs
+unfolding lines words said number message status form_of asked request setting unit_of more_units first_units with_unit
+    gone unit_or_go next after_line outcome decode_pairs
 two_read = is_read (text two) (settings (shape 0 ∷ shape 7 ∷ [])) [] (lit≤ tt) refl
 
 -- ---- a fault of each cause
@@ -112,7 +116,8 @@ abbrev long : List (List ℕ)
 long = header ++ replicate 201 32 ∷ []
 
 long_fault : Faulty long 7 causes.Long
-unfolding lines words said number message status form_of asked request setting unit_of more_units first_units with_unit gone unit_or_go next after_line outcome decode_pairs
+unfolding lines words said number message status form_of asked request setting unit_of more_units first_units with_unit
+    gone unit_or_go next after_line outcome decode_pairs
 long_fault = is_fault (text long) (at_line 7 causes.Long) (lit≤ tt) refl
 
 -- a tab
@@ -120,7 +125,8 @@ abbrev byte : List (List ℕ)
 byte = header ++ (9 ∷ codes "take") ∷ []
 
 byte_fault : Faulty byte 7 causes.Byte
-unfolding lines words said number message status form_of asked request setting unit_of more_units first_units with_unit gone unit_or_go next after_line outcome decode_pairs
+unfolding lines words said number message status form_of asked request setting unit_of more_units first_units with_unit
+    gone unit_or_go next after_line outcome decode_pairs
 byte_fault = is_fault (text byte) (at_line 7 causes.Byte) (lit≤ tt) refl
 
 -- a line of the header that comes again
@@ -128,7 +134,8 @@ abbrev again : List (List ℕ)
 again = header ++ codes "credits 4" ∷ []
 
 again_fault : Faulty again 7 causes.Word
-unfolding lines words said number message status form_of asked request setting unit_of more_units first_units with_unit gone unit_or_go next after_line outcome decode_pairs
+unfolding lines words said number message status form_of asked request setting unit_of more_units first_units with_unit
+    gone unit_or_go next after_line outcome decode_pairs
 again_fault = is_fault (text again) (at_line 7 causes.Word) (lit≤ tt) refl
 
 -- another line of the header than is due
@@ -136,7 +143,8 @@ abbrev word_first : List (List ℕ)
 word_first = codes "passing 0" ∷ []
 
 word_first_fault : Faulty word_first 1 causes.Word
-unfolding lines words said number message status form_of asked request setting unit_of more_units first_units with_unit gone unit_or_go next after_line outcome decode_pairs
+unfolding lines words said number message status form_of asked request setting unit_of more_units first_units with_unit
+    gone unit_or_go next after_line outcome decode_pairs
 word_first_fault = is_fault (text word_first) (at_line 1 causes.Word) (lit≤ tt) refl
 
 -- spaces before what would be a comment
@@ -144,7 +152,8 @@ abbrev word_comment : List (List ℕ)
 word_comment = header ++ codes " # no comment" ∷ []
 
 word_comment_fault : Faulty word_comment 7 causes.Word
-unfolding lines words said number message status form_of asked request setting unit_of more_units first_units with_unit gone unit_or_go next after_line outcome decode_pairs
+unfolding lines words said number message status form_of asked request setting unit_of more_units first_units with_unit
+    gone unit_or_go next after_line outcome decode_pairs
 word_comment_fault = is_fault (text word_comment) (at_line 7 causes.Word) (lit≤ tt) refl
 
 -- a word too many
@@ -152,7 +161,8 @@ abbrev count : List (List ℕ)
 count = header ++ codes "take 1" ∷ []
 
 count_fault : Faulty count 7 causes.Count
-unfolding lines words said number message status form_of asked request setting unit_of more_units first_units with_unit gone unit_or_go next after_line outcome decode_pairs
+unfolding lines words said number message status form_of asked request setting unit_of more_units first_units with_unit
+    gone unit_or_go next after_line outcome decode_pairs
 count_fault = is_fault (text count) (at_line 7 causes.Count) (lit≤ tt) refl
 
 -- too few words come before a wrong number
@@ -160,7 +170,8 @@ abbrev count_first : List (List ℕ)
 count_first = header ++ codes "read 1 x" ∷ []
 
 count_first_fault : Faulty count_first 7 causes.Count
-unfolding lines words said number message status form_of asked request setting unit_of more_units first_units with_unit gone unit_or_go next after_line outcome decode_pairs
+unfolding lines words said number message status form_of asked request setting unit_of more_units first_units with_unit
+    gone unit_or_go next after_line outcome decode_pairs
 count_first_fault = is_fault (text count_first) (at_line 7 causes.Count) (lit≤ tt) refl
 
 -- no step
@@ -168,7 +179,8 @@ abbrev zero_steps : List (List ℕ)
 zero_steps = header ++ codes "step 0" ∷ []
 
 zero_steps_fault : Faulty zero_steps 7 causes.Number
-unfolding lines words said number message status form_of asked request setting unit_of more_units first_units with_unit gone unit_or_go next after_line outcome decode_pairs
+unfolding lines words said number message status form_of asked request setting unit_of more_units first_units with_unit
+    gone unit_or_go next after_line outcome decode_pairs
 zero_steps_fault = is_fault (text zero_steps) (at_line 7 causes.Number) (lit≤ tt) refl
 
 -- an odd number of digits
@@ -176,7 +188,8 @@ abbrev odd_digits : List (List ℕ)
 odd_digits = header ++ codes "packet abc" ∷ []
 
 odd_digits_fault : Faulty odd_digits 7 causes.Hex
-unfolding lines words said number message status form_of asked request setting unit_of more_units first_units with_unit gone unit_or_go next after_line outcome decode_pairs
+unfolding lines words said number message status form_of asked request setting unit_of more_units first_units with_unit
+    gone unit_or_go next after_line outcome decode_pairs
 odd_digits_fault = is_fault (text odd_digits) (at_line 7 causes.Hex) (lit≤ tt) refl
 
 -- too few digits of a status
@@ -184,7 +197,8 @@ abbrev hex_four : List (List ℕ)
 hex_four = header ++ codes "bad 0" ∷ []
 
 hex_four_fault : Faulty hex_four 7 causes.Hex
-unfolding lines words said number message status form_of asked request setting unit_of more_units first_units with_unit gone unit_or_go next after_line outcome decode_pairs
+unfolding lines words said number message status form_of asked request setting unit_of more_units first_units with_unit
+    gone unit_or_go next after_line outcome decode_pairs
 hex_four_fault = is_fault (text hex_four) (at_line 7 causes.Hex) (lit≤ tt) refl
 
 -- code 4
@@ -192,7 +206,8 @@ abbrev code_four : List (List ℕ)
 code_four = header ++ codes "bad 0004" ∷ []
 
 code_four_fault : Faulty code_four 7 causes.Status
-unfolding lines words said number message status form_of asked request setting unit_of more_units first_units with_unit gone unit_or_go next after_line outcome decode_pairs
+unfolding lines words said number message status form_of asked request setting unit_of more_units first_units with_unit
+    gone unit_or_go next after_line outcome decode_pairs
 code_four_fault = is_fault (text code_four) (at_line 7 causes.Status) (lit≤ tt) refl
 
 -- a size of zero
@@ -200,7 +215,8 @@ abbrev no_size : List (List ℕ)
 no_size = limits_lines ++ codes "unit 0 0 2 1 1000" ∷ []
 
 no_size_fault : Faulty no_size 5 causes.Unit
-unfolding lines words said number message status form_of asked request setting unit_of more_units first_units with_unit gone unit_or_go next after_line outcome decode_pairs
+unfolding lines words said number message status form_of asked request setting unit_of more_units first_units with_unit
+    gone unit_or_go next after_line outcome decode_pairs
 no_size_fault = is_fault (text no_size) (at_line 5 causes.Unit) (lit≤ tt) refl
 
 -- a number that doesn't rise
@@ -208,15 +224,18 @@ abbrev unit_again : List (List ℕ)
 unit_again = limits_lines ++ codes "unit 3 10 2 1 1000" ∷ codes "unit 3 10 2 1 1000" ∷ []
 
 unit_again_fault : Faulty unit_again 6 causes.Unit
-unfolding lines words said number message status form_of asked request setting unit_of more_units first_units with_unit gone unit_or_go next after_line outcome decode_pairs
+unfolding lines words said number message status form_of asked request setting unit_of more_units first_units with_unit
+    gone unit_or_go next after_line outcome decode_pairs
 unit_again_fault = is_fault (text unit_again) (at_line 6 causes.Unit) (lit≤ tt) refl
 
 -- one credit: at go, before what comes later
 abbrev one_credit : List (List ℕ)
-one_credit = codes "credits 1" ∷ codes "passing 0" ∷ codes "longest 8" ∷ codes "timeout 60" ∷ codes "unit 0 10 2 1 1000" ∷ codes "go" ∷ codes "wrong" ∷ []
+one_credit = codes "credits 1" ∷ codes "passing 0" ∷ codes "longest 8" ∷ codes "timeout 60" ∷ codes "unit 0 10 2 1 1000"
+    ∷ codes "go" ∷ codes "wrong" ∷ []
 
 one_credit_fault : Faulty one_credit 6 causes.Config
-unfolding lines words said number message status form_of asked request setting unit_of more_units first_units with_unit gone unit_or_go next after_line outcome decode_pairs
+unfolding lines words said number message status form_of asked request setting unit_of more_units first_units with_unit
+    gone unit_or_go next after_line outcome decode_pairs
 one_credit_fault = is_fault (text one_credit) (at_line 6 causes.Config) (lit≤ tt) refl
 
 -- the script ends before go
@@ -224,7 +243,8 @@ abbrev no_go : List (List ℕ)
 no_go = limits_lines ++ [] ∷ []
 
 no_go_fault : Faulty no_go 6 causes.Header
-unfolding lines words said number message status form_of asked request setting unit_of more_units first_units with_unit gone unit_or_go next after_line outcome decode_pairs
+unfolding lines words said number message status form_of asked request setting unit_of more_units first_units with_unit
+    gone unit_or_go next after_line outcome decode_pairs
 no_go_fault = is_fault (text no_go) (at_line 6 causes.Header) (lit≤ tt) refl
 
 -- line 1,000,001, whatever stands in it
@@ -233,7 +253,8 @@ unfolding after_line
 lines_fault p line = refl
 
 -- one event more than 1,000,000
-events_fault : (s : Settings) (es : List Event) → length es ≡ 1000000 → next (HasGone s es) (codes "take" ∷ []) ≡ Err causes.Events
+events_fault : (s : Settings) (es : List Event) → length es ≡ 1000000
+    → next (HasGone s es) (codes "take" ∷ []) ≡ Err causes.Events
 unfolding next words form_of asked request
 events_fault s es e = rw e refl
 

@@ -98,7 +98,8 @@ no_endcode : shown (codes "0100000000000000a5000000") ≡ Err faults.Code
 unfolding shown decode_pairs
 no_endcode = refl
 
-an_end_one_byte_short : shown (codes "0100000000000000a100000000040000000000000000000000000000000000") ≡ Err faults.Length
+an_end_one_byte_short : shown (codes "0100000000000000a100000000040000000000000000000000000000000000")
+    ≡ Err faults.Length
 unfolding shown decode_pairs
 an_end_one_byte_short = refl
 

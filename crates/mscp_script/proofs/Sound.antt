@@ -20,14 +20,18 @@ ended_ok n (HasPassing credits passing) s es e = cc
 ended_ok n (HasLongest credits passing longest) s es e = cc
 ended_ok n (HasTimeout settings) s es e = cc
 ended_ok n (HasUnits settings) s es e = cc
-ended_ok n (HasGone settings events) s es e = let pair : (settings, events) ≡ (s, es) = cc in ap (λ (x : Settings × List Event). HasGone x.0 x.1) pair
+ended_ok n (HasGone settings events) s es e = let pair : (settings, events) ≡ (s, es) = cc in
+    ap (λ (x : Settings × List Event). HasGone x.0 x.1) pair
 
-ok_step : (n : ℕ) (rest : List (List ℕ)) (s : Settings) (es : List Event) (r : Result Place Cause) → ((q : Place) → outcome (n + 1) q rest ≡ Ok (s, es) → after_lines (n + 1) q rest ≡ Ok (HasGone s es))
-    → (in_line (n + 1) r >>= λ after. outcome (n + 1) after rest) ≡ Ok (s, es) → (r >>= λ after. after_lines (n + 1) after rest) ≡ Ok (HasGone s es)
+ok_step : (n : ℕ) (rest : List (List ℕ)) (s : Settings) (es : List Event) (r : Result Place Cause)
+    → ((q : Place) → outcome (n + 1) q rest ≡ Ok (s, es) → after_lines (n + 1) q rest ≡ Ok (HasGone s es))
+    → (in_line (n + 1) r >>= λ after. outcome (n + 1) after rest) ≡ Ok (s, es)
+        → (r >>= λ after. after_lines (n + 1) after rest) ≡ Ok (HasGone s es)
 ok_step n rest s es (Ok q) ih e = ih q e
 ok_step n rest s es (Err cause) ih e = cc
 
-pub outcome_ok : (n : ℕ) (p : Place) (all : List (List ℕ)) (s : Settings) (es : List Event) → outcome n p all ≡ Ok (s, es) → after_lines n p all ≡ Ok (HasGone s es)
+pub outcome_ok : (n : ℕ) (p : Place) (all : List (List ℕ)) (s : Settings) (es : List Event)
+    → outcome n p all ≡ Ok (s, es) → after_lines n p all ≡ Ok (HasGone s es)
 unfolding outcome after_lines
 outcome_ok n p [] s es e = ap Ok (ended_ok n p s es e)
 outcome_ok n p (line ∷ rest) s es e = ok_step n rest s es (after_line n p line) (λ q. outcome_ok (n + 1) q rest s es) e
@@ -52,10 +56,13 @@ record NoGoFrom (n : ℕ) (p : Place) (all : List (List ℕ)) (fault : ScriptFau
   cause : fault.cause ≡ causes.Header
   number : fault.line ≡ n + length all + 1
 
-made : (n : ℕ) (fault : ScriptFault) → (let m : ScriptFault = record { line = n + 1; cause = causes.Header } in m ≡ fault) → (fault.cause ≡ causes.Header) × (fault.line ≡ n + 0 + 1)
-made n fault e = (sym (ap (λ (f : ScriptFault). f.cause) e), let q : n + 1 ≡ fault.line = ap (λ (f : ScriptFault). f.line) e in omega arith)
+made : (n : ℕ) (fault : ScriptFault) → (let m : ScriptFault = record { line = n + 1; cause = causes.Header } in
+    m ≡ fault) → (fault.cause ≡ causes.Header) × (fault.line ≡ n + 0 + 1)
+made n fault e = (sym (ap (λ (f : ScriptFault). f.cause) e), let q : n + 1 ≡ fault.line =
+    ap (λ (f : ScriptFault). f.line) e in omega arith)
 
-early : (n : ℕ) (p : Place) (fault : ScriptFault) → IsInHeader p → (let m : ScriptFault = record { line = n + 1; cause = causes.Header } in m ≡ fault) → NoGoFrom n p [] fault
+early : (n : ℕ) (p : Place) (fault : ScriptFault) → IsInHeader p
+    → (let m : ScriptFault = record { line = n + 1; cause = causes.Header } in m ≡ fault) → NoGoFrom n p [] fault
 unfolding after_lines
 early n p fault h e = let q = made n fault e in record { place = p; right = refl; early = h; cause = q.0; number = q.1 }
 
@@ -69,7 +76,8 @@ ended_err n (HasUnits settings) fault e = early n _ fault tt cc
 ended_err n (HasGone settings events) fault e = cc
 
 -- the fault of the lines after one that is right
-later : (n : ℕ) (p q : Place) (line : List ℕ) (rest : List (List ℕ)) (fault : ScriptFault) → after_line n p line ≡ Ok q → FaultFrom (n + 1) q rest fault → FaultFrom n p (line ∷ rest) fault
+later : (n : ℕ) (p q : Place) (line : List ℕ) (rest : List (List ℕ)) (fault : ScriptFault) → after_line n p line ≡ Ok q
+    → FaultFrom (n + 1) q rest fault → FaultFrom n p (line ∷ rest) fault
 unfolding after_lines
 later n p q line rest fault e h = record {
   before = line ∷ h.before;
@@ -82,7 +90,8 @@ later n p q line rest fault e h = record {
   number = let k : fault.line ≡ n + 1 + length h.before + 1 = h.number in omega arith;
 }
 
-no_go_later : (n : ℕ) (p q : Place) (line : List ℕ) (rest : List (List ℕ)) (fault : ScriptFault) → after_line n p line ≡ Ok q → NoGoFrom (n + 1) q rest fault → NoGoFrom n p (line ∷ rest) fault
+no_go_later : (n : ℕ) (p q : Place) (line : List ℕ) (rest : List (List ℕ)) (fault : ScriptFault)
+    → after_line n p line ≡ Ok q → NoGoFrom (n + 1) q rest fault → NoGoFrom n p (line ∷ rest) fault
 unfolding after_lines
 no_go_later n p q line rest fault e h = record {
   place = h.place;
@@ -92,7 +101,8 @@ no_go_later n p q line rest fault e h = record {
   number = let k : fault.line ≡ n + 1 + length rest + 1 = h.number in omega arith;
 }
 
-here : (n : ℕ) (p : Place) (line : List ℕ) (rest : List (List ℕ)) (cause : Cause) (fault : ScriptFault) → after_line n p line ≡ Err cause
+here : (n : ℕ) (p : Place) (line : List ℕ) (rest : List (List ℕ)) (cause : Cause) (fault : ScriptFault)
+    → after_line n p line ≡ Err cause
     → (let m : ScriptFault = record { line = n + 1; cause = cause } in m ≡ fault) → FaultFrom n p (line ∷ rest) fault
 unfolding after_lines
 here n p line rest cause fault e f = record {
@@ -102,27 +112,36 @@ here n p line rest cause fault e f = record {
   place = p;
   whole = refl;
   right = refl;
-  wrong = subst (λ (k : ℕ). after_line k p line ≡ Err fault.cause) (omega arith) (e ∙ ap (λ (f : ScriptFault). Err f.cause) f);
+  wrong = subst (λ (k : ℕ). after_line k p line ≡ Err fault.cause) (omega arith)
+      (e ∙ ap (λ (f : ScriptFault). Err f.cause) f);
   number = let q : n + 1 ≡ fault.line = ap (λ (f : ScriptFault). f.line) f in omega arith;
 }
 
-err_step : (n : ℕ) (p : Place) (line : List ℕ) (rest : List (List ℕ)) (fault : ScriptFault) (r : Result Place Cause) → after_line n p line ≡ r
-    → ((q : Place) → outcome (n + 1) q rest ≡ Err fault → FaultFrom (n + 1) q rest fault ⊎ NoGoFrom (n + 1) q rest fault)
-    → (in_line (n + 1) r >>= λ after. outcome (n + 1) after rest) ≡ Err fault → FaultFrom n p (line ∷ rest) fault ⊎ NoGoFrom n p (line ∷ rest) fault
-err_step n p line rest fault (Ok q) e ih h = ⊎_elim (λ a. inl (later n p q line rest fault e a)) (λ b. inr (no_go_later n p q line rest fault e b)) (ih q h)
+err_step : (n : ℕ) (p : Place) (line : List ℕ) (rest : List (List ℕ)) (fault : ScriptFault) (r : Result Place Cause)
+    → after_line n p line ≡ r
+    → ((q : Place) → outcome (n + 1) q rest ≡ Err fault
+        → FaultFrom (n + 1) q rest fault ⊎ NoGoFrom (n + 1) q rest fault)
+    → (in_line (n + 1) r >>= λ after. outcome (n + 1) after rest) ≡ Err fault
+        → FaultFrom n p (line ∷ rest) fault ⊎ NoGoFrom n p (line ∷ rest) fault
+err_step n p line rest fault (Ok q) e ih h = ⊎_elim (λ a. inl (later n p q line rest fault e a))
+    (λ b. inr (no_go_later n p q line rest fault e b)) (ih q h)
 err_step n p line rest fault (Err cause) e ih h = inl (here n p line rest cause fault e cc)
 
-outcome_err : (n : ℕ) (p : Place) (all : List (List ℕ)) (fault : ScriptFault) → outcome n p all ≡ Err fault → FaultFrom n p all fault ⊎ NoGoFrom n p all fault
+outcome_err : (n : ℕ) (p : Place) (all : List (List ℕ)) (fault : ScriptFault) → outcome n p all ≡ Err fault
+    → FaultFrom n p all fault ⊎ NoGoFrom n p all fault
 unfolding outcome
 outcome_err n p [] fault e = inr (ended_err n p fault e)
-outcome_err n p (line ∷ rest) fault e = err_step n p line rest fault (after_line n p line) refl (λ q. outcome_err (n + 1) q rest fault) e
+outcome_err n p (line ∷ rest) fault e = err_step n p line rest fault (after_line n p line) refl
+    (λ q. outcome_err (n + 1) q rest fault) e
 
 -- ---- the whole
 
-pub is_read : (bytes : List ℕ) (s : Settings) (es : List Event) → length bytes ≤ 16777216 → outcome 0 Begins (lines bytes) ≡ Ok (s, es) → Reads bytes s es
+pub is_read : (bytes : List ℕ) (s : Settings) (es : List Event) → length bytes ≤ 16777216
+    → outcome 0 Begins (lines bytes) ≡ Ok (s, es) → Reads bytes s es
 is_read bytes s es small e = record { small = small; right = outcome_ok 0 Begins (lines bytes) s es e }
 
-pub is_fault : (bytes : List ℕ) (fault : ScriptFault) → length bytes ≤ 16777216 → outcome 0 Begins (lines bytes) ≡ Err fault → IsFault bytes fault
+pub is_fault : (bytes : List ℕ) (fault : ScriptFault) → length bytes ≤ 16777216
+    → outcome 0 Begins (lines bytes) ≡ Err fault → IsFault bytes fault
 is_fault bytes fault small e = inr (
   small,
   ⊎_elim

@@ -46,7 +46,8 @@ unit_of fields = do
   group ← narrow f.2
   cylinder ← narrow f.3
   size ← wide f.4
-  if has_sizes (unit_with n track group cylinder size) then Ok (unit_with n track group cylinder size) else Err causes.Unit
+  if has_sizes (unit_with n track group cylinder size) then Ok (unit_with n track group cylinder size)
+      else Err causes.Unit
 
 -- whether units may have one more of this number: there are fewer than 16, each of a lower number (profile)
 abbrev pub has_room : List Shape → ℕ → Bool

@@ -38,8 +38,8 @@ abbrev pub RunsTo : {Y : Type 0}
 RunsTo made c (Ok done) run told = (events : List Event) × Runs c events run × (told ≡ Ok (made events))
 RunsTo made c (Err fault) run told = Fails fault told
 
--- the events that came so far are of lines of which this was to become, and of what is left of them is to become the same;
--- or the lines have this fault, unless memory ran out
+-- the events that came so far are of lines of which this was to become, and of what is left of them is to become the
+-- same; or the lines have this fault, unless memory ran out
 abbrev pub GoesOn : Settings → Result (Unit {0}) ReadFault → Run → ℕ → List ℕ
     → Result (Settings × List Event) ScriptFault → Type 0
 GoesOn c (Ok done) run number rest told =

@@ -50,7 +50,8 @@ WritesReport (Ok done) known old new =
 WritesReport (Err faults.Write) known old new = Unit {0}
 WritesReport (Err fault) known old new = new ≡ old
 
--- where there is no fault it was written to once, and on a fault never. Nothing is said where the write failed (profile)
+-- where there is no fault it was written to once, and on a fault never. Nothing is said where the write failed
+-- (profile)
 abbrev pub WritesOnce : Result (Unit {0}) SimFault → Option ℕ → Option ℕ → Type 0
 WritesOnce (Ok done) old new = new ≡ option_map (λ n. n + 1) old
 WritesOnce (Err faults.Write) old new = Unit {0}

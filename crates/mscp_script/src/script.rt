@@ -46,7 +46,7 @@ pub struct Script {
 #[tactic(auto, using(crate::proofs::Sound::is_read, crate::proofs::Sound::is_fault, crate::proofs::Whole::outcome_of_read, crate::proofs::Whole::outcome_of_fault))]
 pub fn read_script(alloc: Global, bytes: &[u8]) -> Result<Script, ReadFault>
     ensures events { IfOk result (λ script. vec_len script.events ≤ 1000000) }
-    ensures size { (result ≡ Err (ReadFault.Script (record { line = 0; cause = Cause.Size }))) ↔ (MOST_BYTES < length
+    ensures size { (result ≡ Err (ReadFault.Script (record { line = 0; cause = Cause.Size }))) ↔ (16777216 < length
         bytes.now) }
     // It is what the definitions say, unless memory runs out.
     ensures outcome { Tells meaning_of result (script_outcome bytes.now) }

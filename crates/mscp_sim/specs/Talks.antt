@@ -1,5 +1,5 @@
--- A talk of a host with a controller, and what is collected of it by positions. A command of the host is the turn in which
--- it was sent, so a reference number that is used again names another command.
+-- A talk of a host with a controller, and what is collected of it by positions. A command of the host is the turn in
+-- which it was sent, so a reference number that is used again names another command.
 use Rattle.std.specs.Prelude.{ℕ, Bool, true, false, not, ◌&&◌, nat_eq, nat_lt, if◌then◌else◌, List, [], ◌∷◌, take, map, filter, find, flat_map, slice_index_or, Option, Some, None, option_map, option_to_list}
 use Rattle.std.specs.List.{list_any, range_with_len}
 use Rattle.mscp_packet.specs.declared.command.Order.TheVariants as orders
@@ -102,8 +102,8 @@ ended talk k = find (λ i. hands_over (reference talk i) (said talk k).moment) (
 
 -- ---- polls
 
--- the command that a poll in turn j is about: the oldest outstanding one that isn't answered when it arrives (manual, "Host
--- Command Timeouts")
+-- the command that a poll in turn j is about: the oldest outstanding one that isn't answered when it arrives (manual,
+-- "Host Command Timeouts")
 abbrev pub polled : Talk → ℕ → Option ℕ
 polled talk j = find (λ i. not (is_immediate (opcode talk i))) (outstanding talk j)
 

@@ -50,12 +50,13 @@ abbrev pub IsHanded : Account → Option (ArrayVec ℕ) → Heard → Account �
 IsHanded old None told new = (told ≡ hears.Quiet) × (new ≡ old)
 IsHanded old (Some b) told new = (n : News) × (told ≡ hears.News n) × (heard old b.items ≡ (Ok n, new))
 
--- what is heard in this turn by a host that keeps this, and what it keeps then: the rules of a host. The controller refuses
--- nothing that the host sends, and the host refuses no end (profile)
+-- what is heard in this turn by a host that keeps this, and what it keeps then: the rules of a host. The controller
+-- refuses nothing that the host sends, and the host refuses no end (profile)
 abbrev pub IsHeard : Account → Turn → Said → Account → Type 0
 IsHeard old (turns.Submit command) s new =
     IsSubmitted s (submits old command).0 × (new ≡ (submits old command).1)
-IsHeard old (turns.Poll reference) s new = IsPolled s (polls_oldest old reference).0 × (new ≡ (polls_oldest old reference).1)
+IsHeard old (turns.Poll reference) s new = IsPolled s (polls_oldest old reference).0
+    × (new ≡ (polls_oldest old reference).1)
 IsHeard old (turns.Step k) s new =
     (report : Report) × (s.heard ≡ hears.Stepped report)
     × (s.moment ≡ Some (events.Step k, entries.Stepped report)) × (new ≡ old)
@@ -64,8 +65,8 @@ IsHeard old turns.Take s new =
 
 -- ---- what is promised
 
--- turn j hands over the end of a poll about a command that is still outstanding, of which the host was told before, and the
--- answer isn't less than what it was told last (profile)
+-- turn j hands over the end of a poll about a command that is still outstanding, of which the host was told before, and
+-- the answer isn't less than what it was told last (profile)
 pub record Stands (c : Settings) (talk : Talk) (j : ℕ) : Type 0 where
   pub poll : ℕ
   pub command : ℕ
@@ -92,7 +93,8 @@ StepsBetweenPolls talk =
     (i q : ℕ) → q < length talk → asks_about talk i q ≡ true → StepsSincePolls talk i q
 
 -- what is promised of a talk of these turns in which this was heard, and of the controller's trace
-pub record AreTwoEnds (picks : List Choice → ℕ → Type 0) (c : Settings) (ts : List Turn) (hs : List Heard) (t : Trace) : Type 0 where
+pub record AreTwoEnds (picks : List Choice → ℕ → Type 0) (c : Settings) (ts : List Turn) (hs : List Heard) (t : Trace) :
+    Type 0 where
   -- one thing is heard in each turn, and each thing that comes to the controller is a moment of the trace
   pub talk : Talk
   pub turns : map (λ s. s.turn) talk ≡ ts
@@ -106,14 +108,16 @@ pub record AreTwoEnds (picks : List Choice → ℕ → Type 0) (c : Settings) (t
   pub picked : IsPicked c picks t
   -- where the picker sweeps, it is the one of least cost, and of those the oldest (profile)
   pub swept : Sweeps picks → IsSweeping c t
-  -- what is heard in each turn is what the rules of a host say of what it keeps then. The controller refuses nothing, and
-  -- the host refuses no end (profile)
-  pub says : (j : ℕ) → j < length talk → IsHeard (account_at c talk j) (said talk j).turn (said talk j) (account_at c talk (j + 1))
+  -- what is heard in each turn is what the rules of a host say of what it keeps then. The controller refuses nothing,
+  -- and the host refuses no end (profile)
+  pub says : (j : ℕ) → j < length talk → IsHeard (account_at c talk j) (said talk j).turn (said talk j)
+      (account_at c talk (j + 1))
   -- Reset is said exactly where the answer stands (profile)
   pub resets : (j : ℕ) → j < length talk → ((said talk j).heard ≡ hears.News news.Reset) ↔ Stands c talk j
   -- Lost is never said (profile)
   pub no_lost : (j : ℕ) → j < length talk → (said talk j).heard ≢ hears.News news.Lost
-  -- Reset isn't said of the answer to a poll where a step lies between it and each one before about its command (profile)
+  -- Reset isn't said of the answer to a poll where a step lies between it and each one before about its command
+  -- (profile)
   pub falls : (j i q : ℕ) → j < length talk → ended talk j ≡ Some q → asks_about talk i q ≡ true
       → StepsSincePolls talk i q → (said talk j).heard ≢ hears.News news.Reset
   -- and so it is never said where a step lies between any two polls about one command (profile)

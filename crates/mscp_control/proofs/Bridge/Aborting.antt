@@ -28,7 +28,8 @@ use Rattle.mscp_control.proofs.Bridge.Held.{held_of}
 
 -- ---- who is aborted
 
-names_from : (t : Trace) (x : ℕ) (xs : List ℕ) → AllByRecursion (λ y. reference t x ≢ reference t y) xs → AllByRecursion (λ n. n ≢ reference t x) (names (map (held_of t) xs))
+names_from : (t : Trace) (x : ℕ) (xs : List ℕ) → AllByRecursion (λ y. reference t x ≢ reference t y) xs
+    → AllByRecursion (λ n. n ≢ reference t x) (names (map (held_of t) xs))
 names_from t x [] h = tt
 names_from t x (y ∷ ys) h = ((λ e. h.0 (sym e)), names_from t x ys h.1)
 
@@ -37,10 +38,12 @@ apart_held t [] a = tt
 apart_held t (x ∷ xs) a = (names_from t x xs a.0, apart_held t xs a.1)
 
 -- the records of those that an order names
-named_held : (t : Trace) (ws : List Record) (o : Order) → Apart t (waiting t) → ws ≡ map (held_of t) (waiting t) → map (held_of t) (named t o) ≡ option_to_list (aborted ws o)
+named_held : (t : Trace) (ws : List Record) (o : Order) → Apart t (waiting t) → ws ≡ map (held_of t) (waiting t)
+    → map (held_of t) (named t o) ≡ option_to_list (aborted ws o)
 named_held t ws (orders.Abort other) a e =
     sym (filter_map_of (held_of t) (has_reference other) (waiting t))
-    ∙ (ap (filter (has_reference other)) (sym e) ∙ found_once other ws (subst (λ rs. AreApart (names rs)) (sym e) (apart_held t (waiting t) a)))
+    ∙ (ap (filter (has_reference other)) (sym e) ∙ found_once other ws
+        (subst (λ rs. AreApart (names rs)) (sym e) (apart_held t (waiting t) a)))
 named_held t ws (orders.Status other) a e = refl
 named_held t ws orders.UnitStatus a e = refl
 named_held t ws (orders.SetController version) a e = refl
@@ -54,19 +57,29 @@ unnamed : (t : Trace) (o : Order) (fault : Option ℕ) → named t o ≡ [] → 
 unnamed t o None h = h
 unnamed t o (Some status) h = refl
 
-aborted_by : (c : Settings) (t : Trace) (u : ℕ) (ws : List Record) (o : Order) → Apart t (waiting t) → ws ≡ map (held_of t) (waiting t)
+aborted_by : (c : Settings) (t : Trace) (u : ℕ) (ws : List Record) (o : Order) → Apart t (waiting t)
+    → ws ≡ map (held_of t) (waiting t)
     → map (held_of t) (aborted_unless t o (order_fault c u o)) ≡ option_to_list (aborted ws o)
 aborted_by c t u ws (orders.Abort other) a e = named_held t ws (orders.Abort other) a e
 aborted_by c t u ws (orders.Status other) a e = refl
-aborted_by c t u ws orders.UnitStatus a e = ap (map (held_of t)) (unnamed t orders.UnitStatus (order_fault c u orders.UnitStatus) refl)
-aborted_by c t u ws (orders.SetController version) a e = ap (map (held_of t)) (unnamed t (orders.SetController version) (order_fault c u (orders.SetController version)) refl)
-aborted_by c t u ws orders.Available a e = ap (map (held_of t)) (unnamed t orders.Available (order_fault c u orders.Available) refl)
-aborted_by c t u ws orders.Online a e = ap (map (held_of t)) (unnamed t orders.Online (order_fault c u orders.Online) refl)
-aborted_by c t u ws orders.SetUnit a e = ap (map (held_of t)) (unnamed t orders.SetUnit (order_fault c u orders.SetUnit) refl)
-aborted_by c t u ws (orders.Move kind count block) a e = ap (map (held_of t)) (unnamed t (orders.Move kind count block) (order_fault c u (orders.Move kind count block)) refl)
+aborted_by c t u ws orders.UnitStatus a e = ap (map (held_of t))
+    (unnamed t orders.UnitStatus (order_fault c u orders.UnitStatus) refl)
+aborted_by c t u ws (orders.SetController version) a e =
+    ap (map (held_of t)) (unnamed t (orders.SetController version) (order_fault c u (orders.SetController version))
+    refl)
+aborted_by c t u ws orders.Available a e = ap (map (held_of t))
+    (unnamed t orders.Available (order_fault c u orders.Available) refl)
+aborted_by c t u ws orders.Online a e = ap (map (held_of t))
+    (unnamed t orders.Online (order_fault c u orders.Online) refl)
+aborted_by c t u ws orders.SetUnit a e = ap (map (held_of t))
+    (unnamed t orders.SetUnit (order_fault c u orders.SetUnit) refl)
+aborted_by c t u ws (orders.Move kind count block) a e =
+    ap (map (held_of t)) (unnamed t (orders.Move kind count block) (order_fault c u (orders.Move kind count block))
+    refl)
 aborted_by c t u ws (orders.Invalid opcode status) a e = refl
 
-aborted_held : (c : Settings) (t : Trace) (ws : List Record) (k : Command) → Apart t (waiting t) → ws ≡ map (held_of t) (waiting t) → map (held_of t) (history.aborted c t k) ≡ option_to_list (aborted ws k.order)
+aborted_held : (c : Settings) (t : Trace) (ws : List Record) (k : Command) → Apart t (waiting t)
+    → ws ≡ map (held_of t) (waiting t) → map (held_of t) (history.aborted c t k) ≡ option_to_list (aborted ws k.order)
 aborted_held c t ws k a e = aborted_by c t k.unit ws k.order a e
 
 -- ---- what is told of it
@@ -75,45 +88,58 @@ abbrev first_reference : List Record → ℕ
 first_reference [] = 0
 first_reference (r ∷ rs) = r.command.reference
 
-first_held : (t : Trace) (xs : List ℕ) (o : Option Record) → map (held_of t) xs ≡ option_to_list o → option_map (reference t) (slice_get xs 0) ≡ option_map (λ r. r.command.reference) o
+first_held : (t : Trace) (xs : List ℕ) (o : Option Record) → map (held_of t) xs ≡ option_to_list o
+    → option_map (reference t) (slice_get xs 0) ≡ option_map (λ r. r.command.reference) o
 first_held t [] None e = refl
 first_held t [] (Some r) e = absurd (omega (arith, ap length e))
 first_held t (x ∷ xs) None e = absurd (omega (arith, ap length e))
 first_held t (x ∷ xs) (Some r) e = ap (λ rs. Some (first_reference rs)) e
 
 -- the reference number that is told
-pub reference_told : (c : Settings) (t : Trace) (ws : List Record) (k : Command) → Apart t (waiting t) → ws ≡ map (held_of t) (waiting t)
-    → option_map (reference t) (slice_get (history.aborted c t k) 0) ≡ option_map (λ r. r.command.reference) (aborted ws k.order)
+pub reference_told : (c : Settings) (t : Trace) (ws : List Record) (k : Command) → Apart t (waiting t)
+    → ws ≡ map (held_of t) (waiting t)
+    → option_map (reference t) (slice_get (history.aborted c t k) 0)
+        ≡ option_map (λ r. r.command.reference) (aborted ws k.order)
 reference_told c t ws k a e = first_held t (history.aborted c t k) (aborted ws k.order) (aborted_held c t ws k a e)
 
-mapped_option : (o : Option Record) → map aborted_record (option_to_list o) ≡ option_to_list (option_map aborted_record o)
+mapped_option : (o : Option Record) → map aborted_record (option_to_list o)
+    ≡ option_to_list (option_map aborted_record o)
 mapped_option None = refl
 mapped_option (Some r) = refl
 
 -- the end that is made
-pub end_made : (c : Settings) (t : Trace) (ws : List Record) (k : Command) → Apart t (waiting t) → ws ≡ map (held_of t) (waiting t)
-    → option_to_list (option_map aborted_record (aborted ws k.order)) ≡ map (λ x. aborted_end (command t x) (good t x)) (history.aborted c t k)
-end_made c t ws k a e = sym (mapped_option (aborted ws k.order)) ∙ (ap (map aborted_record) (sym (aborted_held c t ws k a e)) ∙ map_map (held_of t) aborted_record (history.aborted c t k))
+pub end_made : (c : Settings) (t : Trace) (ws : List Record) (k : Command) → Apart t (waiting t)
+    → ws ≡ map (held_of t) (waiting t)
+    → option_to_list (option_map aborted_record (aborted ws k.order))
+        ≡ map (λ x. aborted_end (command t x) (good t x)) (history.aborted c t k)
+end_made c t ws k a e = sym (mapped_option (aborted ws k.order))
+    ∙ (ap (map aborted_record) (sym (aborted_held c t ws k a e))
+    ∙ map_map (held_of t) aborted_record (history.aborted c t k))
 
 -- ---- who is left
 
 either_way : (a b : ℕ) → nat_eq a b ≡ nat_eq b a
 either_way a b =
     let both : (q : Bool) → nat_eq b a ≡ q → nat_eq a b ≡ q =
-    λ q. elim q as (λ q. nat_eq b a ≡ q → nat_eq a b ≡ q) [ true ↦ λ e. eq-eqb a b (sym (eqb-true b a e)) | false ↦ λ e. ne_eqb a b (λ h. eqb-false b a e (sym h)) ] in
+    λ q. elim q as (λ q. nat_eq b a ≡ q → nat_eq a b ≡ q)
+        [ true ↦ λ e. eq-eqb a b (sym (eqb-true b a e)) | false ↦ λ e. ne_eqb a b (λ h. eqb-false b a e (sym h)) ] in
     both (nat_eq b a) refl
 
 -- the answer to a message that aborts the command of this reference number, or none
 abbrev pub Answer : ℕ → Option ℕ → entries.the_data
 Answer q a = entries.Sent (Ok (sents.Answered q a))
 
-left_by : (q other : ℕ) (ws : List Record) → without other ws ≡ filter (λ r. not (ends_in (name_of r.command) (Answer q (option_map (λ r. r.command.reference) (find (has_reference other) ws))))) ws
+left_by : (q other : ℕ) (ws : List Record) → without other ws
+    ≡ filter (λ r. not (ends_in (name_of r.command)
+    (Answer q (option_map (λ r. r.command.reference) (find (has_reference other) ws))))) ws
 left_by q other ws =
     let p = has_reference other in
-    let ends : Option Record → Record → Bool = λ o r. ends_in (name_of r.command) (Answer q (option_map (λ r. r.command.reference) o)) in
+    let ends : Option Record → Record → Bool = λ o r.
+        ends_in (name_of r.command) (Answer q (option_map (λ r. r.command.reference) o)) in
     ⊎_elim
     (λ none.
-    filter_on (λ r. not (p r)) (λ r. not (ends None r)) ws (every_weaker (λ r. p r ≡ false) (λ r. not (p r) ≡ not (ends None r)) (λ r e. ap not e) ws none)
+    filter_on (λ r. not (p r)) (λ r. not (ends None r)) ws
+        (every_weaker (λ r. p r ≡ false) (λ r. not (p r) ≡ not (ends None r)) (λ r e. ap not e) ws none)
     ∙ ap (λ o. filter (λ r. not (ends o r)) ws) (sym (find_none p ws none)))
     (λ some.
     let A = some.0 in
@@ -121,15 +147,20 @@ left_by q other ws =
     let B = some.2 in
     let f = some.3 in
     let number : other ≡ y.command.reference = sym (eqb-true y.command.reference other f.passes) in
-    filter_on (λ r. not (p r)) (λ r. not (ends (Some y) r)) ws (every_from (λ r. not (p r) ≡ not (ends (Some y) r)) (λ r. ap not (either_way r.command.reference other ∙ ap (λ n. nat_eq n r.command.reference) number)) ws)
+    filter_on (λ r. not (p r)) (λ r. not (ends (Some y) r)) ws
+        (every_from (λ r. not (p r) ≡ not (ends (Some y) r))
+        (λ r. ap not (either_way r.command.reference other ∙ ap (λ n. nat_eq n r.command.reference) number)) ws)
     ∙ ap (λ o. filter (λ r. not (ends o r)) ws) (sym (ap (find p) f.is ∙ find_first p A y B f.before f.passes)))
     (find_cases p ws)
 
 none_left : (q : ℕ) (ws : List Record) → ws ≡ filter (λ r. not (ends_in (name_of r.command) (Answer q None))) ws
-none_left q ws = sym (filter_all (λ r. not (ends_in (name_of r.command) (Answer q None))) ws (every_from (λ r. not (ends_in (name_of r.command) (Answer q None)) ≡ not false) (λ r. refl) ws))
+none_left q ws = sym (filter_all (λ r. not (ends_in (name_of r.command) (Answer q None))) ws
+    (every_from (λ r. not (ends_in (name_of r.command) (Answer q None)) ≡ not false) (λ r. refl) ws))
 
 -- the others wait on
-pub others_wait : (q : ℕ) (ws : List Record) (o : Order) → unaborted ws o ≡ filter (λ r. not (ends_in (name_of r.command) (Answer q (option_map (λ r. r.command.reference) (aborted ws o))))) ws
+pub others_wait : (q : ℕ) (ws : List Record) (o : Order)
+    → unaborted ws o ≡ filter (λ r. not (ends_in (name_of r.command)
+    (Answer q (option_map (λ r. r.command.reference) (aborted ws o))))) ws
 others_wait q ws (orders.Abort other) = left_by q other ws
 others_wait q ws (orders.Status other) = none_left q ws
 others_wait q ws orders.UnitStatus = none_left q ws
@@ -145,31 +176,42 @@ others_wait q ws (orders.Invalid opcode status) = none_left q ws
 with_other : (n other : ℕ) → (if nat_eq n other then None else Some n) ≡ (if not (nat_eq other n) then Some n else None)
 with_other n other =
     ap (λ b. if b then None else Some n) (either_way n other)
-    ∙ elim (nat_eq other n) as (λ b. (if b then None else Some n) ≡ (if not b then Some n else None)) [ true ↦ refl | false ↦ refl ]
+    ∙ elim (nat_eq other n) as (λ b. (if b then None else Some n) ≡ (if not b then Some n else None))
+        [ true ↦ refl | false ↦ refl ]
 
 -- it is begun no more where it is aborted
 abbrev Left : ℕ → List Record → Name → Order → Type 0
-Left q ws n o = begun_after (Some n) o ≡ (if not (ends_in n (Answer q (option_map (λ r. r.command.reference) (aborted ws o)))) then Some n else None)
+Left q ws n o = begun_after (Some n) o ≡ (if not (ends_in n
+    (Answer q (option_map (λ r. r.command.reference) (aborted ws o)))) then Some n else None)
 
-abort_left : (q other : ℕ) (t : Trace) (ws : List Record) (n : Name) (y : ℕ) → ws ≡ map (held_of t) (waiting t) → is_waiting t y ≡ true → reference t y ≡ n → Left q ws n (orders.Abort other)
+abort_left : (q other : ℕ) (t : Trace) (ws : List Record) (n : Name) (y : ℕ) → ws ≡ map (held_of t) (waiting t)
+    → is_waiting t y ≡ true → reference t y ≡ n → Left q ws n (orders.Abort other)
 abort_left q other t ws n y e w own =
     let p = has_reference other in
-    let left : Option Record → Option Name = λ o. if not (ends_in n (Answer q (option_map (λ r. r.command.reference) o))) then Some n else None in
+    let left : Option Record → Option Name = λ o. if not
+        (ends_in n (Answer q (option_map (λ r. r.command.reference) o))) then Some n else None in
     ⊎_elim
     (λ none.
-    let all = every_mapped (held_of t) (λ r. p r ≡ false) (waiting t) (subst (AllByRecursion (λ r. p r ≡ false)) e none) in
+    let all = every_mapped (held_of t) (λ r. p r ≡ false) (waiting t)
+        (subst (AllByRecursion (λ r. p r ≡ false)) e none) in
     let c = cut t y (waits_below t y w) w in
-    let one : nat_eq (reference t y) other ≡ false = (every_parts (λ x. nat_eq (reference t x) other ≡ false) c.0 (y ∷ c.1) (subst (AllByRecursion (λ x. nat_eq (reference t x) other ≡ false)) c.2.is all)).1.0 in
-    ap (λ b. if b then None else Some n) (ap (λ k. nat_eq k other) (sym own) ∙ one) ∙ ap left (sym (find_none p ws none)))
+    let one : nat_eq (reference t y) other ≡ false =
+        (every_parts (λ x. nat_eq (reference t x) other ≡ false) c.0 (y ∷ c.1)
+        (subst (AllByRecursion (λ x. nat_eq (reference t x) other ≡ false)) c.2.is all)).1.0 in
+    ap (λ b. if b then None else Some n) (ap (λ k. nat_eq k other) (sym own) ∙ one)
+        ∙ ap left (sym (find_none p ws none)))
     (λ some.
     let A = some.0 in
     let r = some.1 in
     let B = some.2 in
     let f = some.3 in
-    with_other n other ∙ (ap (λ k. if not (nat_eq k n) then Some n else None) (sym (eqb-true r.command.reference other f.passes)) ∙ ap left (sym (ap (find p) f.is ∙ find_first p A r B f.before f.passes))))
+    with_other n other ∙ (ap (λ k. if not (nat_eq k n) then Some n else None)
+        (sym (eqb-true r.command.reference other f.passes))
+        ∙ ap left (sym (ap (find p) f.is ∙ find_first p A r B f.before f.passes))))
     (find_cases p ws)
 
-pub begun_left : (q : ℕ) (t : Trace) (ws : List Record) (n : Name) (y : ℕ) (o : Order) → ws ≡ map (held_of t) (waiting t) → is_waiting t y ≡ true → reference t y ≡ n → Left q ws n o
+pub begun_left : (q : ℕ) (t : Trace) (ws : List Record) (n : Name) (y : ℕ) (o : Order)
+    → ws ≡ map (held_of t) (waiting t) → is_waiting t y ≡ true → reference t y ≡ n → Left q ws n o
 begun_left q t ws n y (orders.Abort other) e w own = abort_left q other t ws n y e w own
 begun_left q t ws n y (orders.Status other) e w own = refl
 begun_left q t ws n y orders.UnitStatus e w own = refl

@@ -25,32 +25,40 @@ use Rattle.mscp_control.proofs.Bridge.Calling.{called}
 
 -- ---- a run
 
-pub runs : {K : Type 0} (c : Settings) (picks : List Choice → ℕ → Type 0) (picker : K) (es : List Event) (ns : List Entry) (h : Holdings K) → IsValid c → Answered picks (fresh c picker) es ns h → IsRun picks c es ns
+pub runs : {K : Type 0} (c : Settings) (picks : List Choice → ℕ → Type 0) (picker : K) (es : List Event)
+    (ns : List Entry) (h : Holdings K) → IsValid c → Answered picks (fresh c picker) es ns h → IsRun picks c es ns
 runs c picks picker es ns h v r =
     let t = zip es ns in
     let k = comes c picks picker h es ns v r in
     record {
-      headline = record { answers = as_many picks (fresh c picker) h es ns r; legal = k.legal; promise = progress c t v k.legal };
+      headline = record { answers = as_many picks (fresh c picker) h es ns r; legal = k.legal; promise =
+          progress c t v k.legal };
       picked = k.picked;
       swept = λ w. sweeping c picks t w k.picked;
     }
 
 -- the same where the controller is known to be new
-pub new_runs : {K : Type 0} (c : Settings) (picks : K → List Choice → ℕ → Type 0) (picker : K) (new : Holdings K) (es : List Event) (ns : List Entry) (h : Holdings K) → IsValid c → new ≡ fresh c picker
+pub new_runs : {K : Type 0} (c : Settings) (picks : K → List Choice → ℕ → Type 0) (picker : K) (new : Holdings K)
+    (es : List Event) (ns : List Entry) (h : Holdings K) → IsValid c → new ≡ fresh c picker
     → Answered (picks new.picker) new es ns h → IsRun (picks picker) c es ns
-new_runs {K} c picks picker new es ns h v e r = runs c (picks picker) picker es ns h v (subst (λ (n : Holdings K). Answered (picks n.picker) n es ns h) e r)
+new_runs {K} c picks picker new es ns h v e r = runs c (picks picker) picker es ns h v
+    (subst (λ (n : Holdings K). Answered (picks n.picker) n es ns h) e r)
 
 -- ---- whoever calls
 
-chosen_swept : (c : Settings) (picks : List Choice → ℕ → Type 0) (so_far : List Call) (n : Name) → Sweeps picks → IsChosen (IsPick c picks) so_far n → IsChosen (IsSwept c) so_far n
+chosen_swept : (c : Settings) (picks : List Choice → ℕ → Type 0) (so_far : List Call) (n : Name) → Sweeps picks
+    → IsChosen (IsPick c picks) so_far n → IsChosen (IsSwept c) so_far n
 chosen_swept c picks so_far n w (inl h) = inl (h.0, swept_pick c picks (history so_far) n w h.1)
-chosen_swept c picks so_far n w (inr h) = inr (h.0, h.1, h.2, h.3, h.4, swept_pick c picks (history (take h.2 so_far)) n w h.5)
+chosen_swept c picks so_far n w (inr h) = inr (h.0, h.1, h.2, h.3, h.4, swept_pick c picks (history (take h.2 so_far)) n
+    w h.5)
 
-starts_swept : (c : Settings) (picks : List Choice → ℕ → Type 0) (so_far : List Call) (o : Option Name) → Sweeps picks → IfSome o (IsChosen (IsPick c picks) so_far) → IfSome o (IsChosen (IsSwept c) so_far)
+starts_swept : (c : Settings) (picks : List Choice → ℕ → Type 0) (so_far : List Call) (o : Option Name) → Sweeps picks
+    → IfSome o (IsChosen (IsPick c picks) so_far) → IfSome o (IsChosen (IsSwept c) so_far)
 starts_swept c picks so_far None w h = tt
 starts_swept c picks so_far (Some n) w h = chosen_swept c picks so_far n w h
 
-pub keeps_promise : {K : Type 0} (c : Settings) (picks : List Choice → ℕ → Type 0) (picker : K) (calls : List Call) (h : Holdings K) → IsValid c → AnsweredCalls picks (fresh c picker) calls h → KeepsPromise picks c calls h
+pub keeps_promise : {K : Type 0} (c : Settings) (picks : List Choice → ℕ → Type 0) (picker : K) (calls : List Call)
+    (h : Holdings K) → IsValid c → AnsweredCalls picks (fresh c picker) calls h → KeepsPromise picks c calls h
 keeps_promise c picks picker calls h v r =
     let t = history calls in
     let k = called c picks picker h calls v r in
@@ -65,7 +73,9 @@ keeps_promise c picks picker calls h v r =
       settings = k.settings;
       waiting = ap names f.waits ∙ map_map (held_of t) (λ r. name_of r.command) (waiting t);
       untaken = f.ends;
-      figure = λ reference. ap (λ ws. figure_of_reference c.passing c.longest ws reference) f.waits ∙ figure_of_held c t reference;
+      figure = λ reference. ap (λ ws. figure_of_reference c.passing c.longest ws reference) f.waits
+          ∙ figure_of_held c t reference;
       drives = k.agrees.driven.drives;
-      balance = ap (λ (s : Settings). s.credits - (length h.waiting + length h.untaken)) k.settings ∙ balance_held c t h.waiting h.untaken f;
+      balance = ap (λ (s : Settings). s.credits - (length h.waiting + length h.untaken)) k.settings
+          ∙ balance_held c t h.waiting h.untaken f;
     }

@@ -32,7 +32,8 @@ use Rattle.mscp_control.proofs.Bridge.Stepped.{Turns, turns_at}
 
 -- ---- a look
 
-looks : {K : Type 0} (h : Holdings K) (t : Trace) (list : ArrayVec (ℕ × ℕ)) → 1 ≤ h.settings.longest → Agrees h.settings t h → list.items ≡ figures h.settings.passing h.settings.longest h.waiting
+looks : {K : Type 0} (h : Holdings K) (t : Trace) (list : ArrayVec (ℕ × ℕ)) → 1 ≤ h.settings.longest
+    → Agrees h.settings t h → list.items ≡ figures h.settings.passing h.settings.longest h.waiting
     → Sends h.settings t (events.Look, entries.Looked list) h
 looks h t list l a e =
     let c = h.settings in
@@ -42,17 +43,22 @@ looks h t list l a e =
 
 -- ---- a take
 
-takes_when : {K : Type 0} (h : Holdings K) (t : Trace) → 1 ≤ h.settings.longest → Agrees h.settings t h → (us : List End) → h.untaken ≡ us
-    → Sends h.settings t (events.Take, entries.Taken (option_map (λ e. record { items = end_bytes e }) (slice_get us 0))) (record h { untaken = drop 1 us })
+takes_when : {K : Type 0} (h : Holdings K) (t : Trace) → 1 ≤ h.settings.longest → Agrees h.settings t h
+    → (us : List End) → h.untaken ≡ us
+    → Sends h.settings t (events.Take, entries.Taken
+        (option_map (λ e. record { items = end_bytes e }) (slice_get us 0))) (record h { untaken = drop 1 us })
 takes_when h t l a [] e =
     let c = h.settings in
     let m : Moment = (events.Take, entries.Taken None) in
-    let r : IsRight c t m.0 m.1 = ap (λ us. option_map (λ e. record { items = end_bytes e }) (slice_get us 0)) (sym e ∙ a.follows.ends) in
-    quiet h (record h { untaken = [] }) t m l (record { unserved = refl; kept = λ r. refl }) refl refl refl (sym e ∙ ends_stay h t m refl a refl) a r
+    let r : IsRight c t m.0 m.1 = ap (λ us. option_map (λ e. record { items = end_bytes e }) (slice_get us 0))
+        (sym e ∙ a.follows.ends) in
+    quiet h (record h { untaken = [] }) t m l (record { unserved = refl; kept = λ r. refl }) refl refl refl
+        (sym e ∙ ends_stay h t m refl a refl) a r
 takes_when h t l a (u ∷ us) e =
     let c = h.settings in
     let m : Moment = (events.Take, entries.Taken (Some (record { items = end_bytes u }))) in
-    let r : IsRight c t m.0 m.1 = ap (λ us. option_map (λ e. record { items = end_bytes e }) (slice_get us 0)) (sym e ∙ a.follows.ends) in
+    let r : IsRight c t m.0 m.1 = ap (λ us. option_map (λ e. record { items = end_bytes e }) (slice_get us 0))
+        (sym e ∙ a.follows.ends) in
     let rest = ap (drop 1) (sym e ∙ a.follows.ends) ∙ sym (untaken_taken c t m refl refl) in
     quiet h (record h { untaken = us }) t m l (record { unserved = refl; kept = λ r. refl }) refl refl refl rest a r
 
@@ -62,7 +68,8 @@ pub none_mapped : {X Y : Type 0} (f : X → Y) (xs : List X) → map f xs ≡ []
 none_mapped f [] e = refl
 none_mapped f (x ∷ xs) e = absurd (omega (arith, ap length e))
 
-idles : {K : Type 0} (picks : List Choice → ℕ → Type 0) (h h' : Holdings K) (t : Trace) (k : Block) → IsValid h.settings → Agrees h.settings t h → Steps picks k h reports.Idle h'
+idles : {K : Type 0} (picks : List Choice → ℕ → Type 0) (h h' : Holdings K) (t : Trace) (k : Block) → IsValid h.settings
+    → Agrees h.settings t h → Steps picks k h reports.Idle h'
     → Turns h.settings picks t (events.Step k, entries.Stepped reports.Idle) h.begun h'
 idles {K} picks h h' t k v a s =
     let c = h.settings in
@@ -70,9 +77,12 @@ idles {K} picks h h' t k v a s =
     let none : waiting t ≡ [] = none_mapped (held_of t) (waiting t) (sym a.follows.waits ∙ s.serves.0) in
     let same = s.serves.2 in
     let ends : h'.untaken ≡ untaken c (t ++ m ∷ []) = s.ends ∙ ends_on h t m refl a [] refl in
-    record { sends = quiet h h' t m v.some_blocks (record { unserved = refl; kept = λ r. refl }) refl (ap (λ (l : Line K). l.waiting) same) (ap (λ (l : Line K). l.drives) same) ends a none; same = λ n b. tt; picked = λ b. tt }
+    record { sends = quiet h h' t m v.some_blocks (record { unserved = refl; kept = λ r. refl }) refl
+        (ap (λ (l : Line K). l.waiting) same) (ap (λ (l : Line K). l.drives) same) ends a none; same =
+        λ n b. tt; picked = λ b. tt }
 
-steps : {K : Type 0} (picks : List Choice → ℕ → Type 0) (h h' : Holdings K) (t : Trace) (k : Block) (report : Report) → IsValid h.settings → Agrees h.settings t h → Steps picks k h report h'
+steps : {K : Type 0} (picks : List Choice → ℕ → Type 0) (h h' : Holdings K) (t : Trace) (k : Block) (report : Report)
+    → IsValid h.settings → Agrees h.settings t h → Steps picks k h report h'
     → Turns h.settings picks t (events.Step k, entries.Stepped report) h.begun h'
 steps picks h h' t k reports.Idle v a s = idles picks h h' t k v a s
 steps picks h h' t k (reports.Served reference unit lbn started seek ended) v a s =
@@ -81,18 +91,28 @@ steps picks h h' t k (reports.Served reference unit lbn started seek ended) v a 
 -- ---- every event
 
 -- each answer is right and picked, and what is then held is that of the run
-pub turns : {K : Type 0} (picks : List Choice → ℕ → Type 0) (h h' : Holdings K) (t : Trace) (event : Event) (entry : Entry) → IsValid h.settings → Agrees h.settings t h → Answers picks h event entry h'
+pub turns : {K : Type 0} (picks : List Choice → ℕ → Type 0) (h h' : Holdings K) (t : Trace) (event : Event)
+    (entry : Entry) → IsValid h.settings → Agrees h.settings t h → Answers picks h event entry h'
     → Turns h.settings picks t (event, entry) h.begun h'
 turns {K} picks h h' t (events.Send message) (entries.Sent sent) v a r =
     let e = events.Send message in
-    let all : Turns h.settings picks t (e, entries.Sent (answer_to_message h message.items)) h.begun (after_message h message.items) = record { sends = sends h t e v.some_blocks a (λ s q. q); same = λ n b. tt; picked = λ b. tt } in
-    subst (λ s. Turns h.settings picks t (e, entries.Sent s) h.begun h') (sym r.0) (subst (λ (x : Holdings K). Turns h.settings picks t (e, entries.Sent (answer_to_message h message.items)) h.begun x) (sym r.1) all)
+    let all : Turns h.settings picks t (e, entries.Sent (answer_to_message h message.items)) h.begun
+        (after_message h message.items) = record { sends = sends h t e v.some_blocks a (λ s q. q); same =
+        λ n b. tt; picked = λ b. tt } in
+    subst (λ s. Turns h.settings picks t (e, entries.Sent s) h.begun h') (sym r.0)
+        (subst (λ (x : Holdings K). Turns h.settings picks t (e, entries.Sent (answer_to_message h message.items))
+        h.begun x) (sym r.1) all)
 turns {K} picks h h' t events.Take (entries.Taken end) v a r =
-    let all : Turns h.settings picks t (events.Take, entries.Taken (end_taken h)) h.begun (record h { untaken = drop 1 h.untaken }) = record { sends = takes_when h t v.some_blocks a h.untaken refl; same = λ n b. tt; picked = λ b. tt } in
-    subst (λ s. Turns h.settings picks t (events.Take, entries.Taken s) h.begun h') (sym r.0) (subst (λ (x : Holdings K). Turns h.settings picks t (events.Take, entries.Taken (end_taken h)) h.begun x) (sym r.1) all)
+    let all : Turns h.settings picks t (events.Take, entries.Taken (end_taken h)) h.begun
+        (record h { untaken = drop 1 h.untaken }) =
+        record { sends = takes_when h t v.some_blocks a h.untaken refl; same = λ n b. tt; picked = λ b. tt } in
+    subst (λ s. Turns h.settings picks t (events.Take, entries.Taken s) h.begun h') (sym r.0)
+        (subst (λ (x : Holdings K). Turns h.settings picks t (events.Take, entries.Taken (end_taken h)) h.begun x)
+        (sym r.1) all)
 turns picks h h' t (events.Step k) (entries.Stepped report) v a r = steps picks h h' t k report v a r
 turns {K} picks h h' t events.Look (entries.Looked list) v a r =
-    subst (λ (x : Holdings K). Turns h.settings picks t (events.Look, entries.Looked list) h.begun x) (sym r.1) (record { sends = looks h t list v.some_blocks a r.0; same = λ n b. tt; picked = λ b. tt })
+    subst (λ (x : Holdings K). Turns h.settings picks t (events.Look, entries.Looked list) h.begun x) (sym r.1)
+        (record { sends = looks h t list v.some_blocks a r.0; same = λ n b. tt; picked = λ b. tt })
 turns picks h h' t (events.Send message) (entries.Taken end) v a r = absurd r
 turns picks h h' t (events.Send message) (entries.Stepped report) v a r = absurd r
 turns picks h h' t (events.Send message) (entries.Looked list) v a r = absurd r
@@ -109,19 +129,23 @@ turns picks h h' t events.Look (entries.Stepped report) v a r = absurd r
 -- ---- a whole history
 
 -- what is known after each part of a history
-pub record Comes {K : Type 0} (c : Settings) (picks : List Choice → ℕ → Type 0) (t : Trace) (h : Holdings K) : Type 0 where
+pub record Comes {K : Type 0} (c : Settings) (picks : List Choice → ℕ → Type 0) (t : Trace) (h : Holdings K) :
+    Type 0 where
   pub settings : h.settings ≡ c
   pub legal : IsLegal c t
   pub picked : IsPicked c picks t
   pub agrees : Agrees c t h
   pub unbegun : h.begun ≡ None
 
-comes_more : {K : Type 0} (c : Settings) (picks : List Choice → ℕ → Type 0) (t : Trace) (h h' : Holdings K) (event : Event) (entry : Entry) → IsValid c → Answers picks h event entry h' → Comes c picks t h
+comes_more : {K : Type 0} (c : Settings) (picks : List Choice → ℕ → Type 0) (t : Trace) (h h' : Holdings K)
+    (event : Event) (entry : Entry) → IsValid c → Answers picks h event entry h' → Comes c picks t h
     → Comes c picks (t ++ (event, entry) ∷ []) h'
 comes_more {K} c picks t h h' event entry v r k =
     let m : Moment = (event, entry) in
     let turn : Turns c picks t m h.begun h' =
-    subst (λ s. Turns s picks t m h.begun h') k.settings (turns picks h h' t event entry (subst IsValid (sym k.settings) v) (subst (λ s. Agrees s t h) (sym k.settings) k.agrees) r) in
+    subst (λ s. Turns s picks t m h.begun h') k.settings
+        (turns picks h h' t event entry (subst IsValid (sym k.settings) v)
+        (subst (λ s. Agrees s t h) (sym k.settings) k.agrees) r) in
     record {
       settings = (owner_kept picks h h' event entry r).0 ∙ k.settings;
       legal = legal_more c t m k.legal turn.sends.right;
@@ -130,9 +154,11 @@ comes_more {K} c picks t h h' event entry v r k =
       unbegun = unbegun_kept picks h h' event entry k.unbegun r;
     }
 
-comes_after : {K : Type 0} (c : Settings) (picks : List Choice → ℕ → Type 0) (t : Trace) (h h' : Holdings K) (es : List Event) (ns : List Entry) → IsValid c → Answered picks h es ns h' → Comes c picks t h
+comes_after : {K : Type 0} (c : Settings) (picks : List Choice → ℕ → Type 0) (t : Trace) (h h' : Holdings K)
+    (es : List Event) (ns : List Entry) → IsValid c → Answered picks h es ns h' → Comes c picks t h
     → Comes c picks (t ++ zip es ns) h'
-comes_after {K} c picks t h h' [] [] v r k = subst (λ (x : Holdings K). Comes c picks (t ++ []) x) (sym r) (subst (λ u. Comes c picks u h) (sym (append-nil t)) k)
+comes_after {K} c picks t h h' [] [] v r k = subst (λ (x : Holdings K). Comes c picks (t ++ []) x) (sym r)
+    (subst (λ u. Comes c picks u h) (sym (append-nil t)) k)
 comes_after {K} c picks t h h' (e ∷ es) (n ∷ ns) v r k =
     let next = r.0 in
     subst (λ u. Comes c picks u h') (append_assoc t ((e, n) ∷ []) (zip es ns))
@@ -142,16 +168,21 @@ comes_after c picks t h h' (e ∷ es) [] v r k = absurd r
 
 pub none_held : {K : Type 0} (c : Settings) (picker : K) → Agrees c [] (fresh c picker)
 unfolding waiting untaken ends collect
-none_held c picker = record { follows = record { known = known_empty c; waits = refl; ends = refl }; driven = driven_fresh c }
+none_held c picker = record { follows = record { known = known_empty c; waits = refl; ends = refl }; driven =
+    driven_fresh c }
 
 -- What a new controller answers to events comes so.
-pub comes : {K : Type 0} (c : Settings) (picks : List Choice → ℕ → Type 0) (picker : K) (h : Holdings K) (es : List Event) (ns : List Entry) → IsValid c → Answered picks (fresh c picker) es ns h
+pub comes : {K : Type 0} (c : Settings) (picks : List Choice → ℕ → Type 0) (picker : K) (h : Holdings K)
+    (es : List Event) (ns : List Entry) → IsValid c → Answered picks (fresh c picker) es ns h
     → Comes c picks (zip es ns) h
 comes {K} c picks picker h es ns v r =
-    comes_after c picks [] (fresh c picker) h es ns v r (record { settings = refl; legal = λ i l. absurd (omega (arith, l)); picked = λ i l. absurd (omega (arith, l)); agrees = none_held c picker; unbegun = refl })
+    comes_after c picks [] (fresh c picker) h es ns v r
+        (record { settings = refl; legal = λ i l. absurd (omega (arith, l)); picked =
+        λ i l. absurd (omega (arith, l)); agrees = none_held c picker; unbegun = refl })
 
 -- there is one entry an event
-pub as_many : {K : Type 0} (picks : List Choice → ℕ → Type 0) (h h' : Holdings K) (es : List Event) (ns : List Entry) → Answered picks h es ns h' → length ns ≡ length es
+pub as_many : {K : Type 0} (picks : List Choice → ℕ → Type 0) (h h' : Holdings K) (es : List Event) (ns : List Entry)
+    → Answered picks h es ns h' → length ns ≡ length es
 as_many picks h h' [] [] r = refl
 as_many picks h h' (e ∷ es) (n ∷ ns) r = ap (λ k. suc k) (as_many picks r.0 h' es ns r.2)
 as_many picks h h' [] (n ∷ ns) r = absurd r

@@ -23,7 +23,8 @@ waiting_held : (rs : List Record) (reference : ℕ) → holds (names rs) referen
 waiting_held [] reference = refl
 waiting_held (r ∷ rs) reference = ap (λ b. has_reference reference r || b) (waiting_held rs reference)
 
-untaken_held : (es : List End) (reference : ℕ) → holds (map end_name es) reference ≡ list_any (λ e. same_name (end_name e) reference) es
+untaken_held : (es : List End) (reference : ℕ) → holds (map end_name es) reference
+    ≡ list_any (λ e. same_name (end_name e) reference) es
 untaken_held [] reference = refl
 untaken_held (e ∷ es) reference = ap (λ b. same_name (end_name e) reference || b) (untaken_held es reference)
 
@@ -37,22 +38,29 @@ holds_either rs es reference =
     ∙ ap (λ b. list_any (has_reference reference) rs || b) (untaken_held es reference)
 
 -- a message of 12 to 64 bytes is refused for its credit and reference number alone
-refusal_read : (balance : ℕ) (outstanding b : List ℕ) → 12 ≤ length b → length b ≤ 64 → refusal balance outstanding b ≡ credit_fault balance outstanding (slice_index b 8) (num b 0 4)
+refusal_read : (balance : ℕ) (outstanding b : List ℕ) → 12 ≤ length b → length b ≤ 64
+    → refusal balance outstanding b ≡ credit_fault balance outstanding (slice_index b 8) (num b 0 4)
 refusal_read balance outstanding b low high =
-    ap (λ s. if s then Some Short else (if nat_lt 64 (length b) then Some Long else credit_fault balance outstanding (slice_index b 8) (num b 0 4))) (le-ltb (length b) 12 low)
-    ∙ ap (λ l. if l then Some Long else credit_fault balance outstanding (slice_index b 8) (num b 0 4)) (le-ltb 64 (length b) high)
+    ap (λ s. if s then Some Short else (if nat_lt 64 (length b) then Some Long
+        else credit_fault balance outstanding (slice_index b 8) (num b 0 4))) (le-ltb (length b) 12 low)
+    ∙ ap (λ l. if l then Some Long else credit_fault balance outstanding (slice_index b 8) (num b 0 4))
+        (le-ltb 64 (length b) high)
 
 -- a message that is the command and isn't refused for its credit isn't refused
-pub taken : (balance : ℕ) (outstanding b : List ℕ) (command : Command) → IsCommand b command → credit_fault balance outstanding (slice_index b 8) command.reference ≡ None → refusal balance outstanding b ≡ None
+pub taken : (balance : ℕ) (outstanding b : List ℕ) (command : Command) → IsCommand b command
+    → credit_fault balance outstanding (slice_index b 8) command.reference ≡ None → refusal balance outstanding b ≡ None
 taken balance outstanding b command h e =
-    refusal_read balance outstanding b h.low h.high ∙ ap (credit_fault balance outstanding (slice_index b 8)) (sym h.reference) ∙ e
+    refusal_read balance outstanding b h.low h.high
+        ∙ ap (credit_fault balance outstanding (slice_index b 8)) (sym h.reference) ∙ e
 
 -- no command that waits has a reference number that isn't outstanding
 or_left : (a b : Bool) → (a || b) ≡ false → a ≡ false
 or_left true b h = absurd (true≢false h)
 or_left false b h = refl
 
-pub none_waits : (rs : List Record) (es : List End) (reference : ℕ) → holds (names rs ++ map end_name es) reference ≡ false
+pub none_waits : (rs : List Record) (es : List End) (reference : ℕ)
+    → holds (names rs ++ map end_name es) reference ≡ false
     → list_any (has_reference reference) rs ≡ false
 none_waits rs es reference h =
-    or_left (list_any (has_reference reference) rs) (list_any (λ e. same_name (end_name e) reference) es) (sym (holds_either rs es reference) ∙ h)
+    or_left (list_any (has_reference reference) rs) (list_any (λ e. same_name (end_name e) reference) es)
+        (sym (holds_either rs es reference) ∙ h)

@@ -37,7 +37,8 @@ units_fresh : (us : List Shape) → units_of (map fresh_drive us) ≡ us
 units_fresh [] = refl
 units_fresh (u ∷ us) = ap (λ vs. u ∷ vs) (units_fresh us)
 
-pub held_fresh : {K : Type 0} (c : Settings) (units : List Shape) (room' passing longest : ℕ) (picker : K) (line : Line K) (us : List End) → IsValid c → units ≡ c.units → room' ≡ room c → passing ≡ c.passing
+pub held_fresh : {K : Type 0} (c : Settings) (units : List Shape) (room' passing longest : ℕ) (picker : K)
+    (line : Line K) (us : List End) → IsValid c → units ≡ c.units → room' ≡ room c → passing ≡ c.passing
     → longest ≡ c.longest → line ≡ lines.fresh units room' passing longest picker → us ≡ [] → IsHeld c line us
 held_fresh {K} c units room' passing longest picker line us v u r p l e n =
     let some = v.some_credits in
@@ -61,32 +62,41 @@ remains_count r (Some end) = omega arith
 
 -- where a command ends, one less waits
 count_after : (n place : ℕ) (r : Record) (rs : List Record) (e : Option End) → place < length rs
-    → length (map (passed_by n) (take place rs) ++ (remains r e ++ drop (place + 1) rs)) + length (option_to_list e) ≡ length rs
+    → length (map (passed_by n) (take place rs) ++ (remains r e ++ drop (place + 1) rs)) + length (option_to_list e)
+        ≡ length rs
 count_after n place r rs e l =
     let A = take place rs in
     let B = drop (place + 1) rs in
-    omega (arith, remains_count r e, length-append (map (passed_by n) A) (remains r e ++ B), length-map A (passed_by n), length-append (remains r e) B, length-take-le place rs (omega arith), length-drop (place + 1) rs)
+    omega (arith, remains_count r e, length-append (map (passed_by n) A) (remains r e ++ B), length-map A (passed_by n),
+        length-append (remains r e) B, length-take-le place rs (omega arith), length-drop (place + 1) rs)
 
 -- the waiting commands and the ends that a step brings are as many as waited
-pub count_stepped : {K : Type 0} (picks : List Choice → ℕ → Type 0) (k : Block) (old : Line K) (report : Report) (new : Line K) → Serves picks k old report new
+pub count_stepped : {K : Type 0} (picks : List Choice → ℕ → Type 0) (k : Block) (old : Line K) (report : Report)
+    (new : Line K) → Serves picks k old report new
     → length new.waiting + length (ends_reported report) ≡ length old.waiting
-count_stepped {K} picks k old reports.Idle new h = let same = ap (λ (l : Line K). length l.waiting) h.2 in omega (arith, same)
+count_stepped {K} picks k old reports.Idle new h = let same = ap (λ (l : Line K). length l.waiting) h.2 in
+    omega (arith, same)
 count_stepped {K} picks k old (reports.Served reference unit lbn started seek ended) new h =
     let place = h.0 in
     let s = h.1 in
     let r = record_at old.waiting place in
     let e = end_given k (drive_at old.drives old.waiting place) r in
-    let ends : ends_reported (reports.Served reference unit lbn started seek ended) ≡ option_to_list e = ap ends_reported s.told in
-    omega (arith, ap (λ (l : Line K). length l.waiting) s.left, ap length ends, count_after (step_toll r) place r old.waiting e s.next.servable.inside)
+    let ends : ends_reported (reports.Served reference unit lbn started seek ended) ≡ option_to_list e =
+        ap ends_reported s.told in
+    omega (arith, ap (λ (l : Line K). length l.waiting) s.left, ap length ends, count_after (step_toll r) place r
+        old.waiting e s.next.servable.inside)
 
 -- and the limits and the picker stay
-pub stays : {K : Type 0} (picks : List Choice → ℕ → Type 0) (k : Block) (old : Line K) (report : Report) (new : Line K) → Serves picks k old report new
+pub stays : {K : Type 0} (picks : List Choice → ℕ → Type 0) (k : Block) (old : Line K) (report : Report) (new : Line K)
+    → Serves picks k old report new
     → (new.room ≡ old.room) × (new.passing ≡ old.passing) × (new.longest ≡ old.longest) × (new.picker ≡ old.picker)
 stays {K} picks k old reports.Idle new h =
-    (ap (λ (l : Line K). l.room) h.2, ap (λ (l : Line K). l.passing) h.2, ap (λ (l : Line K). l.longest) h.2, ap (λ (l : Line K). l.picker) h.2)
+    (ap (λ (l : Line K). l.room) h.2, ap (λ (l : Line K). l.passing) h.2, ap (λ (l : Line K). l.longest) h.2, ap
+        (λ (l : Line K). l.picker) h.2)
 stays {K} picks k old (reports.Served reference unit lbn started seek ended) new h =
     let e = h.1.left in
-    (ap (λ (l : Line K). l.room) e, ap (λ (l : Line K). l.passing) e, ap (λ (l : Line K). l.longest) e, ap (λ (l : Line K). l.picker) e)
+    (ap (λ (l : Line K). l.room) e, ap (λ (l : Line K). l.passing) e, ap (λ (l : Line K). l.longest) e, ap
+        (λ (l : Line K). l.picker) e)
 
 -- the ends that a step brings are of their kind
 reported_kinds : (report : Report) → IfSome (end_in report) IsOfKind → AllByRecursion IsOfKind (ends_reported report)
@@ -94,8 +104,10 @@ reported_kinds reports.Idle h = tt
 reported_kinds (reports.Served reference unit lbn started seek None) h = tt
 reported_kinds (reports.Served reference unit lbn started seek (Some end)) h = (h, tt)
 
-pub held_stepped : {K : Type 0} (c : Settings) (picks : List Choice → ℕ → Type 0) (k : Block) (old : Line K) (report : Report) (new : Line K) (us us' : List End) → IsHeld c old us → Serves picks k old report new
-    → units_of new.drives ≡ units_of old.drives → IfSome (end_in report) IsOfKind → us' ≡ us ++ ends_reported report → IsHeld c new us'
+pub held_stepped : {K : Type 0} (c : Settings) (picks : List Choice → ℕ → Type 0) (k : Block) (old : Line K)
+    (report : Report) (new : Line K) (us us' : List End) → IsHeld c old us → Serves picks k old report new
+    → units_of new.drives ≡ units_of old.drives → IfSome (end_in report) IsOfKind → us' ≡ us ++ ends_reported report
+        → IsHeld c new us'
 held_stepped {K} c picks k old report new us us' h s u kind e =
     let count = count_stepped picks k old report new s in
     let same = stays picks k old report new s in
@@ -104,7 +116,8 @@ held_stepped {K} c picks k old report new us us' h s u kind e =
     record {
       valid = h.valid;
       covered = omega (arith, count, ap length e, length-append us (ends_reported report));
-      shaped = subst (AllByRecursion IsOfKind) (sym e) (every_append IsOfKind us (ends_reported report) h.shaped (reported_kinds report kind));
+      shaped = subst (AllByRecursion IsOfKind) (sym e)
+          (every_append IsOfKind us (ends_reported report) h.shaped (reported_kinds report kind));
       fits = omega (arith, count);
       same_room = same.0 ∙ h.same_room;
       same_passing = same.1 ∙ h.same_passing;
@@ -113,7 +126,8 @@ held_stepped {K} c picks k old report new us us' h s u kind e =
     }
 
 -- there is room for the end that a step brings
-pub end_fits : {K : Type 0} (c : Settings) (picks : List Choice → ℕ → Type 0) (k : Block) (old : Line K) (report : Report) (new : Line K) (us : List End) → IsHeld c old us → Serves picks k old report new
+pub end_fits : {K : Type 0} (c : Settings) (picks : List Choice → ℕ → Type 0) (k : Block) (old : Line K)
+    (report : Report) (new : Line K) (us : List End) → IsHeld c old us → Serves picks k old report new
     → length us + length (ends_reported report) ≤ 64
 end_fits {K} c picks k old report new us h s =
     let count = count_stepped picks k old report new s in
@@ -127,17 +141,25 @@ end_fits {K} c picks k old report new us h s =
 abbrev pub IsSameOwner : {K : Type 0} → Holdings K → Holdings K → Type 0
 IsSameOwner h h' = (h'.settings ≡ h.settings) × (h'.picker ≡ h.picker)
 
-owner_unless : {K : Type 0} (h : Holdings K) (command : Command) (o : Option SendFault) → IsSameOwner h (held_unless h command o)
+owner_unless : {K : Type 0} (h : Holdings K) (command : Command) (o : Option SendFault)
+    → IsSameOwner h (held_unless h command o)
 owner_unless h command (Some fault) = (refl, refl)
-owner_unless h command None = elim (is_queued h.settings command) as (λ b. IsSameOwner h (if b then queued h command else ended (aborting h command.order) (answered_end h command))) [ true ↦ (refl, refl) | false ↦ (refl, refl) ]
+owner_unless h command None = elim (is_queued h.settings command) as
+    (λ b. IsSameOwner h (if b then queued h command else ended (aborting h command.order) (answered_end h command)))
+    [ true ↦ (refl, refl) | false ↦ (refl, refl) ]
 
 -- no event changes the settings or the picker
-pub owner_kept : {K : Type 0} (picks : List Choice → ℕ → Type 0) (h h' : Holdings K) (event : Event) (entry : Entry) → Answers picks h event entry h' → IsSameOwner h h'
+pub owner_kept : {K : Type 0} (picks : List Choice → ℕ → Type 0) (h h' : Holdings K) (event : Event) (entry : Entry)
+    → Answers picks h event entry h' → IsSameOwner h h'
 owner_kept {K} picks h h' (events.Send message) (entries.Sent sent) r =
-    subst (λ (x : Holdings K). IsSameOwner h x) (sym r.1) (owner_unless h (command_of message.items) (refusal (balance_of h) (outstanding_of h) message.items))
-owner_kept {K} picks h h' events.Take (entries.Taken end) r = subst (λ (x : Holdings K). IsSameOwner h x) (sym r.1) (refl, refl)
-owner_kept picks h h' (events.Step k) (entries.Stepped report) r = (r.settings, (stays picks k (line_of h) report (line_of h') r.serves).3)
-owner_kept {K} picks h h' events.Look (entries.Looked list) r = subst (λ (x : Holdings K). IsSameOwner h x) (sym r.1) (refl, refl)
+    subst (λ (x : Holdings K). IsSameOwner h x) (sym r.1)
+        (owner_unless h (command_of message.items) (refusal (balance_of h) (outstanding_of h) message.items))
+owner_kept {K} picks h h' events.Take (entries.Taken end) r =
+    subst (λ (x : Holdings K). IsSameOwner h x) (sym r.1) (refl, refl)
+owner_kept picks h h' (events.Step k) (entries.Stepped report) r =
+    (r.settings, (stays picks k (line_of h) report (line_of h') r.serves).3)
+owner_kept {K} picks h h' events.Look (entries.Looked list) r =
+    subst (λ (x : Holdings K). IsSameOwner h x) (sym r.1) (refl, refl)
 owner_kept picks h h' (events.Send message) (entries.Taken end) r = absurd r
 owner_kept picks h h' (events.Send message) (entries.Stepped report) r = absurd r
 owner_kept picks h h' (events.Send message) (entries.Looked list) r = absurd r
@@ -164,22 +186,29 @@ begun_after_none orders.SetUnit = refl
 begun_after_none (orders.Move kind count block) = refl
 begun_after_none (orders.Invalid opcode status) = refl
 
-unbegun_unless : {K : Type 0} (h : Holdings K) (command : Command) (o : Option SendFault) → h.begun ≡ None → (held_unless h command o).begun ≡ None
+unbegun_unless : {K : Type 0} (h : Holdings K) (command : Command) (o : Option SendFault) → h.begun ≡ None
+    → (held_unless h command o).begun ≡ None
 unbegun_unless h command (Some fault) n = n
 unbegun_unless {K} h command None n =
-    elim (is_queued h.settings command) as (λ b. (if b then queued h command else ended (aborting h command.order) (answered_end h command)).begun ≡ None)
+    elim (is_queued h.settings command) as (λ b. (if b then queued h command
+        else ended (aborting h command.order) (answered_end h command)).begun ≡ None)
     [ true ↦ n | false ↦ ap (λ b. begun_after b command.order) n ∙ begun_after_none command.order ]
 
-unbegun_stepped : {K : Type 0} (picks : List Choice → ℕ → Type 0) (k : Block) (old : Line K) (report : Report) (new : Line K) → old.begun ≡ None → Serves picks k old report new → new.begun ≡ None
+unbegun_stepped : {K : Type 0} (picks : List Choice → ℕ → Type 0) (k : Block) (old : Line K) (report : Report)
+    (new : Line K) → old.begun ≡ None → Serves picks k old report new → new.begun ≡ None
 unbegun_stepped {K} picks k old reports.Idle new n h = ap (λ (l : Line K). l.begun) h.2 ∙ n
-unbegun_stepped {K} picks k old (reports.Served reference unit lbn started seek ended) new n h = ap (λ (l : Line K). l.begun) h.1.left
+unbegun_stepped {K} picks k old (reports.Served reference unit lbn started seek ended) new n h =
+    ap (λ (l : Line K). l.begun) h.1.left
 
 -- no event begins a command
-pub unbegun_kept : {K : Type 0} (picks : List Choice → ℕ → Type 0) (h h' : Holdings K) (event : Event) (entry : Entry) → h.begun ≡ None → Answers picks h event entry h' → h'.begun ≡ None
+pub unbegun_kept : {K : Type 0} (picks : List Choice → ℕ → Type 0) (h h' : Holdings K) (event : Event) (entry : Entry)
+    → h.begun ≡ None → Answers picks h event entry h' → h'.begun ≡ None
 unbegun_kept {K} picks h h' (events.Send message) (entries.Sent sent) n r =
-    ap (λ (x : Holdings K). x.begun) r.1 ∙ unbegun_unless h (command_of message.items) (refusal (balance_of h) (outstanding_of h) message.items) n
+    ap (λ (x : Holdings K). x.begun) r.1 ∙ unbegun_unless h (command_of message.items)
+        (refusal (balance_of h) (outstanding_of h) message.items) n
 unbegun_kept {K} picks h h' events.Take (entries.Taken end) n r = ap (λ (x : Holdings K). x.begun) r.1 ∙ n
-unbegun_kept picks h h' (events.Step k) (entries.Stepped report) n r = unbegun_stepped picks k (line_of h) report (line_of h') n r.serves
+unbegun_kept picks h h' (events.Step k) (entries.Stepped report) n r =
+    unbegun_stepped picks k (line_of h) report (line_of h') n r.serves
 unbegun_kept {K} picks h h' events.Look (entries.Looked list) n r = ap (λ (x : Holdings K). x.begun) r.1 ∙ n
 unbegun_kept picks h h' (events.Send message) (entries.Taken end) n r = absurd r
 unbegun_kept picks h h' (events.Send message) (entries.Stepped report) n r = absurd r

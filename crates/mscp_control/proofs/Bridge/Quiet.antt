@@ -31,14 +31,16 @@ pub record IsQuiet (m : Moment) : Type 0 where
 -- ---- one command
 
 -- a record of which nothing changes
-pub held_same : (t : Trace) (m : Moment) (x : ℕ) → x < length t → done (t ++ m ∷ []) x ≡ done t x → good (t ++ m ∷ []) x ≡ good t x → passes (t ++ m ∷ []) x ≡ passes t x
+pub held_same : (t : Trace) (m : Moment) (x : ℕ) → x < length t → done (t ++ m ∷ []) x ≡ done t x
+    → good (t ++ m ∷ []) x ≡ good t x → passes (t ++ m ∷ []) x ≡ passes t x
     → held_of (t ++ m ∷ []) x ≡ held_of t x
 held_same t m x l d g p = λ i.
     let k = command_before t m x l in
     record { command = k i; weight = order_weight (k i).order; done = d i; good = g i; passes = p i }
 
 good_kept : (t : Trace) (m : Moment) (x : ℕ) → service_in m.1 ≡ None → x < length t → good (t ++ m ∷ []) x ≡ good t x
-good_kept t m x e l = good_before t m x l ∙ (ap (λ o. good t x + cond (service_is (reference t x) o && is_good m.0) 1 0) e ∙ omega arith)
+good_kept t m x e l = good_before t m x l ∙ (ap (λ o. good t x + cond (service_is (reference t x) o && is_good m.0) 1 0)
+    e ∙ omega arith)
 
 passes_kept : (t : Trace) (m : Moment) (x : ℕ) → service_in m.1 ≡ None → passes (t ++ m ∷ []) x ≡ passes t x
 passes_kept t m x e = none_starts t m x (λ r. ap (service_starts r) e)
@@ -53,29 +55,36 @@ keeps t m e =
     (λ x l. held_same t m x l (done_kept t m x e l) (good_kept t m x e l) (passes_kept t m x e))
     (waiting t) (waiting_below t)
 
-waiting_kept : (t : Trace) (m : Moment) → IsQuiet m → waiting (t ++ m ∷ []) ≡ waiting t ++ cond (queues m.1) (length t ∷ []) []
+waiting_kept : (t : Trace) (m : Moment) → IsQuiet m
+    → waiting (t ++ m ∷ []) ≡ waiting t ++ cond (queues m.1) (length t ∷ []) []
 waiting_kept t m q =
     waiting_more t m ∙ ap (λ l. l ++ cond (queues m.1) (length t ∷ []) [])
-    (filter_all (λ x. not (ends_in (reference t x) m.1)) (waiting t) (every_from (λ x. not (ends_in (reference t x) m.1) ≡ true) (λ x. ap not (q.kept (reference t x))) (waiting t)))
+    (filter_all (λ x. not (ends_in (reference t x) m.1)) (waiting t)
+        (every_from (λ x. not (ends_in (reference t x) m.1) ≡ true) (λ x. ap not (q.kept (reference t x))) (waiting t)))
 
-pub records_kept : (t t' : Trace) (xs : List ℕ) → AllByRecursion (Keeps t t') xs → map (held_of t') xs ≡ map (held_of t) xs
+pub records_kept : (t t' : Trace) (xs : List ℕ) → AllByRecursion (Keeps t t') xs
+    → map (held_of t') xs ≡ map (held_of t) xs
 records_kept t t' xs k = map_on (held_of t') (held_of t) xs k
 
 -- ---- nobody comes
 
 -- What is held after a moment that serves nobody and queues nobody: the records of the commands that it doesn't end.
-pub follows_left : (c : Settings) (t : Trace) (m : Moment) (ws ws' : List Record) (us us' : List End) → 1 ≤ c.longest → IsRight c t m.0 m.1 → service_in m.1 ≡ None → queues m.1 ≡ false
-    → ws' ≡ filter (λ r. not (ends_in (name_of r.command) m.1)) ws → us' ≡ untaken c (t ++ m ∷ []) → Follows c t ws us → Follows c (t ++ m ∷ []) ws' us'
+pub follows_left : (c : Settings) (t : Trace) (m : Moment) (ws ws' : List Record) (us us' : List End) → 1 ≤ c.longest
+    → IsRight c t m.0 m.1 → service_in m.1 ≡ None → queues m.1 ≡ false
+    → ws' ≡ filter (λ r. not (ends_in (name_of r.command) m.1)) ws → us' ≡ untaken c (t ++ m ∷ []) → Follows c t ws us
+        → Follows c (t ++ m ∷ []) ws' us'
 follows_left c t m ws ws' us us' l r unserved n left e f =
     let t' = t ++ m ∷ [] in
     let keep : ℕ → Bool = λ x. not (ends_in (reference t x) m.1) in
     let stays : Record → Bool = λ r. not (ends_in (name_of r.command) m.1) in
     let kept = filter keep (waiting t) in
-    let same : waiting t' ≡ kept = waiting_more t m ∙ (ap (λ b. kept ++ cond b (length t ∷ []) []) n ∙ append-nil kept) in
+    let same : waiting t' ≡ kept = waiting_more t m
+        ∙ (ap (λ b. kept ++ cond b (length t ∷ []) []) n ∙ append-nil kept) in
     let k = every_kept (Keeps t t') keep (waiting t) (keeps t m unserved) in
     record {
       known = known_more c l t m r f.known;
-      waits = left ∙ (ap (filter stays) f.waits ∙ (filter_map_of (held_of t) stays (waiting t) ∙ (sym (records_kept t t' kept k) ∙ ap (map (held_of t')) (sym same))));
+      waits = left ∙ (ap (filter stays) f.waits ∙ (filter_map_of (held_of t) stays (waiting t)
+          ∙ (sym (records_kept t t' kept k) ∙ ap (map (held_of t')) (sym same))));
       ends = e;
     }
 
@@ -90,17 +99,21 @@ record_new t m = λ i.
     record { command = k i; weight = order_weight (k i).order; done = d i; good = g i; passes = p i }
 
 -- What is held after a command was queued: its record comes last.
-pub follows_queued : (c : Settings) (t : Trace) (m : Moment) (ws : List Record) (us us' : List End) → 1 ≤ c.longest → IsRight c t m.0 m.1 → IsQuiet m → queues m.1 ≡ true
-    → us' ≡ untaken c (t ++ m ∷ []) → Follows c t ws us → Follows c (t ++ m ∷ []) (ws ++ fresh_record (command_of (sent_bytes m.0)) ∷ []) us'
+pub follows_queued : (c : Settings) (t : Trace) (m : Moment) (ws : List Record) (us us' : List End) → 1 ≤ c.longest
+    → IsRight c t m.0 m.1 → IsQuiet m → queues m.1 ≡ true
+    → us' ≡ untaken c (t ++ m ∷ []) → Follows c t ws us
+        → Follows c (t ++ m ∷ []) (ws ++ fresh_record (command_of (sent_bytes m.0)) ∷ []) us'
 follows_queued c t m ws us us' l r q n e f =
     let t' = t ++ m ∷ [] in
     let x = length t in
-    let same : waiting t' ≡ waiting t ++ x ∷ [] = waiting_kept t m q ∙ ap (λ b. waiting t ++ cond b (length t ∷ []) []) n in
+    let same : waiting t' ≡ waiting t ++ x ∷ [] = waiting_kept t m q
+        ∙ ap (λ b. waiting t ++ cond b (length t ∷ []) []) n in
     let k = keeps t m q.unserved in
     record {
       known = known_more c l t m r f.known;
       waits =
-          ap (λ ys. ys ++ fresh_record (command_of (sent_bytes m.0)) ∷ []) (f.waits ∙ sym (records_kept t t' (waiting t) k))
+          ap (λ ys. ys ++ fresh_record (command_of (sent_bytes m.0)) ∷ [])
+              (f.waits ∙ sym (records_kept t t' (waiting t) k))
           ∙ (ap (λ y. map (held_of t') (waiting t) ++ y ∷ []) (sym (record_new t m))
           ∙ (sym (map-append (held_of t') (waiting t) (x ∷ [])) ∙ ap (map (held_of t')) (sym same)));
       ends = e;
@@ -109,10 +122,13 @@ follows_queued c t m ws us us' l r q n e f =
 -- ---- an end is taken
 
 -- Where an end is taken, the others stay.
-pub untaken_taken : (c : Settings) (t : Trace) (m : Moment) → takes m.1 ≡ true → ends_at c t m ≡ [] → untaken c (t ++ m ∷ []) ≡ drop 1 (untaken c t)
+pub untaken_taken : (c : Settings) (t : Trace) (m : Moment) → takes m.1 ≡ true → ends_at c t m ≡ []
+    → untaken c (t ++ m ∷ []) ≡ drop 1 (untaken c t)
 unfolding untaken
 untaken_taken c t m e n =
     let k = count_by (λ (n : Moment). takes n.1) t in
-    let one : count_by (λ (n : Moment). takes n.1) (t ++ m ∷ []) ≡ k + 1 = taken_more t m ∙ ap (λ b. k + cond b 1 0) e in
-    let same : ends c (t ++ m ∷ []) ≡ ends c t = ends_more c t m ∙ (ap (λ l. ends c t ++ l) n ∙ append-nil (ends c t)) in
+    let one : count_by (λ (n : Moment). takes n.1) (t ++ m ∷ []) ≡ k + 1 =
+        taken_more t m ∙ ap (λ b. k + cond b 1 0) e in
+    let same : ends c (t ++ m ∷ []) ≡ ends c t = ends_more c t m
+        ∙ (ap (λ l. ends c t ++ l) n ∙ append-nil (ends c t)) in
     ap (λ j. drop j (ends c (t ++ m ∷ []))) one ∙ (ap (drop (k + 1)) same ∙ sym (drop-drop 1 k (ends c t)))

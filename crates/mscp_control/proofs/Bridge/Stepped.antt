@@ -1,4 +1,5 @@
--- A step of the record that may be served next: it is right, it is picked, and what is held after it is that of the run.
+-- A step of the record that may be served next: it is right, it is picked, and what is held after it is that of the
+-- run.
 use Rattle.std.proofs.Common.{◌≡◌, ℕ, ◌+◌, ◌<◌, Bool, true, false, cond, ◌&&◌, ◌||◌, List, [], ◌∷◌, ◌++◌, map, take, drop, get_or, length, refl, ap, sym, ◌∙◌, subst, arith}
 use Rattle.std.specs.Prelude.{All, IfSome, nat_eq, nat_lt, Option, Some, None, is_some, option_to_list, if◌then◌else◌}
 use Rattle.std.specs.List.{AllByRecursion, list_all}
@@ -64,7 +65,8 @@ idle_held : (t : Trace) → All (λ r. r.done ≡ 0) (map (held_of t) (waiting t
 idle_held t h =
     all_of (λ x. nat_eq (done t x) 0) (waiting t)
     (every_weaker (λ x. done t x ≡ 0) (λ x. nat_eq (done t x) 0 ≡ true) (λ x d. eq-eqb (done t x) 0 d) (waiting t)
-    (every_mapped (held_of t) (λ r. r.done ≡ 0) (waiting t) (recursion_from_All (λ r. r.done ≡ 0) (map (held_of t) (waiting t)) h)))
+    (every_mapped (held_of t) (λ r. r.done ≡ 0) (waiting t)
+        (recursion_from_All (λ r. r.done ≡ 0) (map (held_of t) (waiting t)) h)))
 
 -- what is known of a record that may be served next: that its command may be
 pub record Next (c : Settings) (t : Trace) (place : ℕ) : Type 0 where
@@ -72,30 +74,37 @@ pub record Next (c : Settings) (t : Trace) (place : ℕ) : Type 0 where
   pub next : (in_service t (waiting_at t place) || is_startable c t (waiting_at t place)) ≡ true
 
 -- and that it was begun, or where nothing was, that it is picked
-pub record Chosen (c : Settings) (picks : List Choice → ℕ → Type 0) (t : Trace) (begun : Option Name) (place : ℕ) : Type 0 where
+pub record Chosen (c : Settings) (picks : List Choice → ℕ → Type 0) (t : Trace) (begun : Option Name) (place : ℕ) :
+    Type 0 where
   pub same : (n : Name) → begun ≡ Some n → reference t (waiting_at t place) ≡ n
-  pub picked : begun ≡ None → nat_eq (done t (waiting_at t place)) 0 ≡ true → (i : ℕ) × (i < length (startable c t)) × (get_or (startable c t) i 0 ≡ waiting_at t place) × picks (view c t) i
+  pub picked : begun ≡ None → nat_eq (done t (waiting_at t place)) 0 ≡ true
+      → (i : ℕ) × (i < length (startable c t)) × (get_or (startable c t) i 0 ≡ waiting_at t place) × picks (view c t) i
 
-pub next_held : (c : Settings) (picks : List Choice → ℕ → Type 0) (t : Trace) (ds : List Drive) (begun : Option Name) (place : ℕ) → Driven c t ds → IsNext picks c.passing ds (map (held_of t) (waiting t)) begun place
+pub next_held : (c : Settings) (picks : List Choice → ℕ → Type 0) (t : Trace) (ds : List Drive) (begun : Option Name)
+    (place : ℕ) → Driven c t ds → IsNext picks c.passing ds (map (held_of t) (waiting t)) begun place
     → Next c t place × Chosen c picks t begun place
 next_held c picks t ds begun place d n =
     let rs = map (held_of t) (waiting t) in
     let y = waiting_at t place in
-    let inside : place < length (waiting t) = let l = n.servable.inside in omega (arith, length-map (waiting t) (held_of t)) in
-    let same : recorded.is_unstarted (record_at rs place) ≡ nat_eq (done t y) 0 = ap recorded.is_unstarted (record_held t place inside) in
+    let inside : place < length (waiting t) = let l = n.servable.inside in
+        omega (arith, length-map (waiting t) (held_of t)) in
+    let same : recorded.is_unstarted (record_at rs place) ≡ nat_eq (done t y) 0 =
+        ap recorded.is_unstarted (record_held t place inside) in
     let places = open_places c.passing rs in
     let both : (b : Bool) → nat_eq (done t y) 0 ≡ b → (in_service t y || is_startable c t y) ≡ true =
     λ b. elim b as (λ b. nat_eq (done t y) 0 ≡ b → (in_service t y || is_startable c t y) ≡ true) [
       | true ↦ λ e.
           let idle = idle_held t (n.servable.idle (same ∙ e)) in
-          or_right (in_service t y) (is_startable c t y) (startable_held c t place inside idle ∙ n.servable.opens (same ∙ e))
+          or_right (in_service t y) (is_startable c t y)
+              (startable_held c t place inside idle ∙ n.servable.opens (same ∙ e))
       | false ↦ λ e.
           let some = eqb-false (done t y) 0 e in
           ap (λ b. b || is_startable c t y) (lt-ltb 0 (done t y) (omega arith))
     ] in
     let next : Next c t place = record { inside = inside; next = both (nat_eq (done t y) 0) refl } in
     let chosen : Chosen c picks t begun place = record {
-      same = λ k e. ap (λ (r : Record). r.command.reference) (sym (record_held t place inside)) ∙ eqb-true (record_at rs place).command.reference k (n.same k e);
+      same = λ k e. ap (λ (r : Record). r.command.reference) (sym (record_held t place inside))
+          ∙ eqb-true (record_at rs place).command.reference k (n.same k e);
       picked = λ b e.
           let idle = idle_held t (n.servable.idle (same ∙ e)) in
           let p = n.picked b (same ∙ e) in
@@ -114,35 +123,42 @@ pub record Reads (c : Settings) (t : Trace) (ds : List Drive) (ws : List Record)
   pub own : record_at ws place ≡ held_of t (waiting_at t place)
   pub at : drive_of ds (record_at ws place).command.unit ≡ drive_by c t (unit t (waiting_at t place))
 
-pub reads : (c : Settings) (t : Trace) (ds : List Drive) (ws : List Record) (place : ℕ) → Driven c t ds → ws ≡ map (held_of t) (waiting t) → place < length (waiting t) → Reads c t ds ws place
+pub reads : (c : Settings) (t : Trace) (ds : List Drive) (ws : List Record) (place : ℕ) → Driven c t ds
+    → ws ≡ map (held_of t) (waiting t) → place < length (waiting t) → Reads c t ds ws place
 reads c t ds ws place d e l =
     let W = waiting t in
     let y = waiting_at t place in
     let found : is_some (unit_found c (unit t y)) ≡ true =
-    (every_parts (λ x. is_some (unit_found c (unit t x)) ≡ true) (take place W) (y ∷ drop (place + 1) W) (subst (AllByRecursion (λ x. is_some (unit_found c (unit t x)) ≡ true)) (cut_at t place l) d.configured)).1.0 in
+    (every_parts (λ x. is_some (unit_found c (unit t x)) ≡ true) (take place W) (y ∷ drop (place + 1) W)
+        (subst (AllByRecursion (λ x. is_some (unit_found c (unit t x)) ≡ true)) (cut_at t place l) d.configured)).1.0 in
     let own : record_at ws place ≡ held_of t y = ap (λ zs. record_at zs place) e ∙ record_held t place l in
-    record { own = own; at = ap (λ (r : Record). drive_of ds r.command.unit) own ∙ drive_found c t ds (unit t y) d found }
+    record { own = own; at = ap (λ (r : Record). drive_of ds r.command.unit) own
+        ∙ drive_found c t ds (unit t y) d found }
 
 -- ---- what it says
 
 -- the moment that serves y
 abbrev pub serving : Settings → Trace → Block → ℕ → Moment
 serving c t k y =
-    (events.Step k, entries.Stepped (reports.Served (reference t y) (unit t y) (block_of t y) (nat_eq (done t y) 0) (seek_to c t (unit t y) (block_of t y)) (end_of c t k y)))
+    (events.Step k, entries.Stepped (reports.Served (reference t y) (unit t y) (block_of t y) (nat_eq (done t y) 0)
+        (seek_to c t (unit t y) (block_of t y)) (end_of c t k y)))
 
 -- a step of a record reports the service
 report_held : (c : Settings) (t : Trace) (k : Block) (y : ℕ)
     → entries.Stepped (report_of k (drive_by c t (unit t y)) (held_of t y)) ≡ (serving c t k y).1
 unfolding block_of
-report_held c t k y = λ i. entries.Stepped (reports.Served (reference t y) (unit t y) (block_of t y) (nat_eq (done t y) 0) (seek_held c t (unit t y) (block_of t y) i) (end_held c t k y i))
+report_held c t k y = λ i. entries.Stepped (reports.Served (reference t y) (unit t y) (block_of t y)
+    (nat_eq (done t y) 0) (seek_held c t (unit t y) (block_of t y) i) (end_held c t k y i))
 
 -- the command at a place waits
 pub waits_at : (t : Trace) (place : ℕ) → place < length (waiting t) → is_waiting t (waiting_at t place) ≡ true
 waits_at t place l =
     let P : ℕ → Type 0 = λ x. is_waiting t x ≡ true in
-    (every_parts P (take place (waiting t)) (waiting_at t place ∷ drop (place + 1) (waiting t)) (subst (AllByRecursion P) (cut_at t place l) (waiting_waits t))).1.0
+    (every_parts P (take place (waiting t)) (waiting_at t place ∷ drop (place + 1) (waiting t))
+        (subst (AllByRecursion P) (cut_at t place l) (waiting_waits t))).1.0
 
-served_at : (c : Settings) (t : Trace) (k : Block) (place : ℕ) → Next c t place → IsServed c t k (service_by c t k (waiting_at t place)) (waiting_at t place)
+served_at : (c : Settings) (t : Trace) (k : Block) (place : ℕ) → Next c t place
+    → IsServed c t k (service_by c t k (waiting_at t place)) (waiting_at t place)
 served_at c t k place n =
     record {
       waits = waits_at t place n.inside;
@@ -157,13 +173,16 @@ served_at c t k place n =
 
 -- and so the step is one of the command there, among the others
 step_at : (c : Settings) (t : Trace) (k : Block) (place : ℕ) → Apart t (waiting t) → Next c t place
-    → Step c t (serving c t k (waiting_at t place)) (service_by c t k (waiting_at t place)) k (waiting_at t place) (take place (waiting t)) (drop (place + 1) (waiting t))
+    → Step c t (serving c t k (waiting_at t place)) (service_by c t k (waiting_at t place)) k (waiting_at t place)
+        (take place (waiting t)) (drop (place + 1) (waiting t))
 step_at c t k place apart n =
     let y = waiting_at t place in
     let A = take place (waiting t) in
     let B = drop (place + 1) (waiting t) in
-    let serves : Serves t (serving c t k y) (service_by c t k y) y A B = record { among = alone t y A B apart (cut_of t A y B (cut_at t place n.inside)); is = refl; same = refl } in
-    record { served = served_at c t k place n; serves = serves; changes = changes t (serving c t k y) (service_by c t k y) y A B serves }
+    let serves : Serves t (serving c t k y) (service_by c t k y) y A B =
+        record { among = alone t y A B apart (cut_of t A y B (cut_at t place n.inside)); is = refl; same = refl } in
+    record { served = served_at c t k place n; serves = serves; changes =
+        changes t (serving c t k y) (service_by c t k y) y A B serves }
 
 -- ---- the others
 
@@ -175,13 +194,17 @@ unfolding one_if
 unserved true well n h = absurd (omega arith)
 unserved false well n h = refl
 
-good_same : (t : Trace) (m : Moment) (x : ℕ) → x < length t → done (t ++ m ∷ []) x ≡ done t x → good (t ++ m ∷ []) x ≡ good t x
+good_same : (t : Trace) (m : Moment) (x : ℕ) → x < length t → done (t ++ m ∷ []) x ≡ done t x
+    → good (t ++ m ∷ []) x ≡ good t x
 unfolding one_if
 good_same t m x l d =
-    good_before t m x l ∙ (ap (λ n. good t x + n) (unserved (serves_in (reference t x) m.1) (is_good m.0) (done t x) (sym (done_before t m x l) ∙ d)) ∙ omega arith)
+    good_before t m x l ∙ (ap (λ n. good t x + n) (unserved (serves_in (reference t x) m.1) (is_good m.0) (done t x)
+        (sym (done_before t m x l) ∙ d)) ∙ omega arith)
 
 -- the commands behind it keep their records
-behind_kept : (c : Settings) (t : Trace) (k : Block) (y : ℕ) (A B : List ℕ) → Step c t (serving c t k y) (service_by c t k y) k y A B → map (held_of (t ++ serving c t k y ∷ [])) B ≡ map (held_of t) B
+behind_kept : (c : Settings) (t : Trace) (k : Block) (y : ℕ) (A B : List ℕ)
+    → Step c t (serving c t k y) (service_by c t k y) k y A B
+    → map (held_of (t ++ serving c t k y ∷ [])) B ≡ map (held_of t) B
 behind_kept c t k y A B st =
     let m = serving c t k y in
     let t' = t ++ m ∷ [] in
@@ -190,11 +213,14 @@ behind_kept c t k y A B st =
     let D : ℕ → Type 0 = λ x. done t' x ≡ done t x in
     records_kept t t' B
     (every_weaker (λ x. L x × D x) (λ x. held_of t' x ≡ held_of t x)
-    (λ x h. held_same t m x h.0.0 h.1 (good_same t m x h.0.0 h.1) (passed_behind c t m (service_by c t k y) k y A B st x (omega (arith, h.0.1))))
-    B (every_both L D B (every_both (λ x. x < length t) (λ x. y < x) B (below_parts t y A B at).1.1 at.behind) st.changes.back_done))
+    (λ x h. held_same t m x h.0.0 h.1 (good_same t m x h.0.0 h.1)
+        (passed_behind c t m (service_by c t k y) k y A B st x (omega (arith, h.0.1))))
+    B (every_both L D B (every_both (λ x. x < length t) (λ x. y < x) B (below_parts t y A B at).1.1 at.behind)
+        st.changes.back_done))
 
 -- a record that was passed
-held_passed : (t : Trace) (m : Moment) (x n : ℕ) → x < length t → done (t ++ m ∷ []) x ≡ done t x → good (t ++ m ∷ []) x ≡ good t x → passes (t ++ m ∷ []) x ≡ passes t x + n
+held_passed : (t : Trace) (m : Moment) (x n : ℕ) → x < length t → done (t ++ m ∷ []) x ≡ done t x
+    → good (t ++ m ∷ []) x ≡ good t x → passes (t ++ m ∷ []) x ≡ passes t x + n
     → held_of (t ++ m ∷ []) x ≡ passed_by n (held_of t x)
 held_passed t m x n l d g p = λ i.
     let k = command_before t m x l in
@@ -204,7 +230,9 @@ cost_held : (t : Trace) (y : ℕ) (b : Bool) → nat_eq (done t y) 0 ≡ b → s
 cost_held t y b e = ap (λ b. cond b 1 0) e
 
 -- how often a command in front was passed then
-passes_front : (c : Settings) (t : Trace) (k : Block) (y : ℕ) (A B : List ℕ) → Step c t (serving c t k y) (service_by c t k y) k y A B → (nat_eq (done t y) 0 ≡ true → AllByRecursion (λ x. passing.is_unstarted t x ≡ true) A)
+passes_front : (c : Settings) (t : Trace) (k : Block) (y : ℕ) (A B : List ℕ)
+    → Step c t (serving c t k y) (service_by c t k y) k y A B
+    → (nat_eq (done t y) 0 ≡ true → AllByRecursion (λ x. passing.is_unstarted t x ≡ true) A)
     → AllByRecursion (λ x. passes (t ++ serving c t k y ∷ []) x ≡ passes t x + step_toll (held_of t y)) A
 passes_front c t k y A B st idle =
     let m = serving c t k y in
@@ -214,14 +242,19 @@ passes_front c t k y A B st idle =
     let both : (b : Bool) → nat_eq (done t y) 0 ≡ b → AllByRecursion (Q (step_toll (held_of t y))) A =
     λ b. elim b as (λ b. nat_eq (done t y) 0 ≡ b → AllByRecursion (Q (step_toll (held_of t y))) A) [
       | true ↦ λ e. subst (λ n. AllByRecursion (Q n) A) (sym (cost_held t y true e))
-          (every_weaker (λ x. (x < y) × (passing.is_unstarted t x ≡ true)) (Q 1) (λ x h. passed_front c t m s k y A B st e x h.0 h.1) A (every_both (λ x. x < y) (λ x. passing.is_unstarted t x ≡ true) A at.before (idle e)))
+          (every_weaker (λ x. (x < y) × (passing.is_unstarted t x ≡ true)) (Q 1)
+              (λ x h. passed_front c t m s k y A B st e x h.0 h.1) A
+              (every_both (λ x. x < y) (λ x. passing.is_unstarted t x ≡ true) A at.before (idle e)))
       | false ↦ λ e. subst (λ n. AllByRecursion (Q n) A) (sym (cost_held t y false e))
-          (every_from (Q 0) (λ x. none_starts t m x (λ r. ap (λ b. nat_eq (reference t y) r && b) e ∙ and-false (nat_eq (reference t y) r)) ∙ omega arith) A)
+          (every_from (Q 0) (λ x. none_starts t m x
+              (λ r. ap (λ b. nat_eq (reference t y) r && b) e ∙ and-false (nat_eq (reference t y) r)) ∙ omega arith) A)
     ] in
     both (nat_eq (done t y) 0) refl
 
 -- the commands in front of it were passed
-front_passed : (c : Settings) (t : Trace) (k : Block) (y : ℕ) (A B : List ℕ) → Step c t (serving c t k y) (service_by c t k y) k y A B → (nat_eq (done t y) 0 ≡ true → AllByRecursion (λ x. passing.is_unstarted t x ≡ true) A)
+front_passed : (c : Settings) (t : Trace) (k : Block) (y : ℕ) (A B : List ℕ)
+    → Step c t (serving c t k y) (service_by c t k y) k y A B
+    → (nat_eq (done t y) 0 ≡ true → AllByRecursion (λ x. passing.is_unstarted t x ≡ true) A)
     → map (passed_by (step_toll (held_of t y))) (map (held_of t) A) ≡ map (held_of (t ++ serving c t k y ∷ [])) A
 front_passed c t k y A B st idle =
     let m = serving c t k y in
@@ -234,7 +267,8 @@ front_passed c t k y A B st idle =
     ∙ map_on (λ x. passed_by n (held_of t x)) (held_of t') A
     (every_weaker (λ x. D x × P x) (λ x. passed_by n (held_of t x) ≡ held_of t' x)
     (λ x h. sym (held_passed t m x n h.0.0 h.0.1 (good_same t m x h.0.0 h.0.1) h.1)) A
-    (every_both D P A (every_both (λ x. x < length t) (λ x. done t' x ≡ done t x) A (below_parts t y A B at).0 st.changes.front_done) (passes_front c t k y A B st idle)))
+    (every_both D P A (every_both (λ x. x < length t) (λ x. done t' x ≡ done t x) A (below_parts t y A B at).0
+        st.changes.front_done) (passes_front c t k y A B st idle)))
 
 -- ---- the command itself, where it goes on
 
@@ -254,15 +288,19 @@ goes_when false e h = absurd (true≢false (ap is_some h))
 goes_on_good : (c : Settings) (t : Trace) (k : Block) (y : ℕ) → end_of c t k y ≡ None → is_good (events.Step k) ≡ true
 goes_on_good c t k y h =
     let on = is_online t (unit t y) in
-    goes_good (touches on (order t y)) (nat_lt 1 (left t y)) k (goes_when (goes_on on (order t y) k (left t y)) (outcome c t k y) h)
+    goes_good (touches on (order t y)) (nat_lt 1 (left t y)) k
+        (goes_when (goes_on on (order t y) k (left t y)) (outcome c t k y) h)
 
-good_own : (c : Settings) (t : Trace) (k : Block) (y : ℕ) → y < length t → end_of c t k y ≡ None → good (t ++ serving c t k y ∷ []) y ≡ good t y + 1
+good_own : (c : Settings) (t : Trace) (k : Block) (y : ℕ) → y < length t → end_of c t k y ≡ None
+    → good (t ++ serving c t k y ∷ []) y ≡ good t y + 1
 good_own c t k y l e =
     good_before t (serving c t k y) y l
     ∙ (ap (λ b. good t y + cond (b && is_good (events.Step k)) 1 0) (eq-eqb (reference t y) (reference t y) refl)
     ∙ ap (λ b. good t y + cond b 1 0) (goes_on_good c t k y e))
 
-held_own : (c : Settings) (t : Trace) (k : Block) (y : ℕ) (A B : List ℕ) → Step c t (serving c t k y) (service_by c t k y) k y A B → end_of c t k y ≡ None → held_of (t ++ serving c t k y ∷ []) y ≡ advanced (held_of t y)
+held_own : (c : Settings) (t : Trace) (k : Block) (y : ℕ) (A B : List ℕ)
+    → Step c t (serving c t k y) (service_by c t k y) k y A B → end_of c t k y ≡ None
+    → held_of (t ++ serving c t k y ∷ []) y ≡ advanced (held_of t y)
 held_own c t k y A B st e =
     let m = serving c t k y in
     let l = (below_parts t y A B st.serves.among.at).1.0 in
@@ -272,7 +310,8 @@ held_own c t k y A B st e =
     let p = passed_behind c t m (service_by c t k y) k y A B st y (omega arith) in
     λ i. record { command = q i; weight = order_weight (q i).order; done = d i; good = g i; passes = p i }
 
-own_remains : (c : Settings) (t : Trace) (k : Block) (y : ℕ) (A B : List ℕ) → Step c t (serving c t k y) (service_by c t k y) k y A B → (o : Option End) → end_of c t k y ≡ o
+own_remains : (c : Settings) (t : Trace) (k : Block) (y : ℕ) (A B : List ℕ)
+    → Step c t (serving c t k y) (service_by c t k y) k y A B → (o : Option End) → end_of c t k y ≡ o
     → remains (held_of t y) o ≡ map (held_of (t ++ serving c t k y ∷ [])) (cond (is_some o) [] (y ∷ []))
 own_remains c t k y A B st None e = ap (λ r. r ∷ []) (sym (held_own c t k y A B st e))
 own_remains c t k y A B st (Some end) e = refl
@@ -280,9 +319,13 @@ own_remains c t k y A B st (Some end) e = refl
 -- ---- what is held afterwards
 
 -- the records after a step of the one at the place
-waiting_served : (c : Settings) (t : Trace) (k : Block) (place : ℕ) (d : Drive) → Apart t (waiting t) → Next c t place → d ≡ drive_by c t (unit t (waiting_at t place))
-    → (nat_eq (done t (waiting_at t place)) 0 ≡ true → AllByRecursion (λ x. passing.is_unstarted t x ≡ true) (take place (waiting t)))
-    → waiting_after k d (map (held_of t) (waiting t)) place ≡ map (held_of (t ++ serving c t k (waiting_at t place) ∷ [])) (waiting (t ++ serving c t k (waiting_at t place) ∷ []))
+waiting_served : (c : Settings) (t : Trace) (k : Block) (place : ℕ) (d : Drive) → Apart t (waiting t) → Next c t place
+    → d ≡ drive_by c t (unit t (waiting_at t place))
+    → (nat_eq (done t (waiting_at t place)) 0 ≡ true
+        → AllByRecursion (λ x. passing.is_unstarted t x ≡ true) (take place (waiting t)))
+    → waiting_after k d (map (held_of t) (waiting t)) place
+        ≡ map (held_of (t ++ serving c t k (waiting_at t place) ∷ []))
+        (waiting (t ++ serving c t k (waiting_at t place) ∷ []))
 waiting_served c t k place d apart n e idle =
     let y = waiting_at t place in
     let A = take place (waiting t) in
@@ -294,12 +337,16 @@ waiting_served c t k place d apart n e idle =
     let o = end_of c t k y in
     let st = step_at c t k place apart n in
     let gone = cond (is_some o) [] (y ∷ []) in
-    let leaves : Drive → Record → List Record → List Record → List Record = λ d r front back. map (passed_by (step_toll r)) front ++ (remains r (end_given k d r) ++ back) in
+    let leaves : Drive → Record → List Record → List Record → List Record =
+        λ d r front back. map (passed_by (step_toll r)) front ++ (remains r (end_given k d r) ++ back) in
     ap (λ r. leaves d r (take place rs) (drop (place + 1) rs)) (record_held t place n.inside)
     ∙ (ap (λ d. leaves d (held_of t y) (take place rs) (drop (place + 1) rs)) e
-    ∙ (ap (λ a. leaves (drive_by c t (unit t y)) (held_of t y) a (drop (place + 1) rs)) (take-map (held_of t) place (waiting t))
-    ∙ (ap (λ b. leaves (drive_by c t (unit t y)) (held_of t y) (map (held_of t) A) b) (drop-map (held_of t) (place + 1) (waiting t))
-    ∙ (ap (λ x. map (passed_by (step_toll (held_of t y))) (map (held_of t) A) ++ (remains (held_of t y) x ++ map (held_of t) B)) (end_held c t k y)
+    ∙ (ap (λ a. leaves (drive_by c t (unit t y)) (held_of t y) a (drop (place + 1) rs))
+        (take-map (held_of t) place (waiting t))
+    ∙ (ap (λ b. leaves (drive_by c t (unit t y)) (held_of t y) (map (held_of t) A) b)
+        (drop-map (held_of t) (place + 1) (waiting t))
+    ∙ (ap (λ x. map (passed_by (step_toll (held_of t y))) (map (held_of t) A)
+        ++ (remains (held_of t y) x ++ map (held_of t) B)) (end_held c t k y)
     ∙ (ap (λ a. a ++ (remains (held_of t y) o ++ map (held_of t) B)) (front_passed c t k y A B st idle)
     ∙ (ap (λ r. map h' A ++ (r ++ map (held_of t) B)) (own_remains c t k y A B st o refl)
     ∙ (ap (λ b. map h' A ++ (map h' gone ++ b)) (sym (behind_kept c t k y A B st))
@@ -307,39 +354,55 @@ waiting_served c t k place d apart n e idle =
     ∙ (sym (map-append h' A (gone ++ B)) ∙ ap (map h') (sym st.changes.waits))))))))))
 
 -- what is answered to a step is right and picked, and what is then held is that of the run
-pub record Turns {K : Type 0} (c : Settings) (picks : List Choice → ℕ → Type 0) (t : Trace) (m : Moment) (begun : Option Name) (h : Holdings K) : Type 0 where
+pub record Turns {K : Type 0} (c : Settings) (picks : List Choice → ℕ → Type 0) (t : Trace) (m : Moment)
+    (begun : Option Name) (h : Holdings K) : Type 0 where
   pub sends : Sends c t m h
   -- what was begun is served
   pub same : (n : Name) → begun ≡ Some n → IfSome (service_in m.1) (λ s. service_name s ≡ n)
   -- and where nothing was, what starts is picked
   pub picked : begun ≡ None → WhenStarted (λ s. IsPick c picks t (service_name s)) (service_in m.1)
 
-unstarted_by : (t : Trace) (x : ℕ) → x < length t → is_waiting t x ≡ true → done t x ≡ 0 → passing.is_unstarted t x ≡ true
+unstarted_by : (t : Trace) (x : ℕ) → x < length t → is_waiting t x ≡ true → done t x ≡ 0
+    → passing.is_unstarted t x ≡ true
 unstarted_by t x l w d =
     ap (λ b. b && is_waiting t x && nat_eq (done t x) 0) (lt-ltb x (length t) l)
     ∙ (ap (λ b. b && nat_eq (done t x) 0) w ∙ eq-eqb (done t x) 0 d)
 
 -- where one starts, each that waits was never served
-unstarted_front : (c : Settings) (picks : List Choice → ℕ → Type 0) (t : Trace) (place : ℕ) (ds : List Drive) (rs : List Record) (begun : Option Name) → rs ≡ map (held_of t) (waiting t) → IsNext picks c.passing ds rs begun place → Next c t place
-    → nat_eq (done t (waiting_at t place)) 0 ≡ true → AllByRecursion (λ x. passing.is_unstarted t x ≡ true) (take place (waiting t))
+unstarted_front : (c : Settings) (picks : List Choice → ℕ → Type 0) (t : Trace) (place : ℕ) (ds : List Drive)
+    (rs : List Record) (begun : Option Name) → rs ≡ map (held_of t) (waiting t)
+    → IsNext picks c.passing ds rs begun place → Next c t place
+    → nat_eq (done t (waiting_at t place)) 0 ≡ true
+        → AllByRecursion (λ x. passing.is_unstarted t x ≡ true) (take place (waiting t))
 unstarted_front c picks t place ds rs begun e n held u =
     let W = waiting t in
-    let here : recorded.is_unstarted (record_at rs place) ≡ true = ap (λ l. recorded.is_unstarted (record_at l place)) e ∙ (ap recorded.is_unstarted (record_held t place held.inside) ∙ u) in
-    let done_all = every_mapped (held_of t) (λ r. r.done ≡ 0) W (recursion_from_All (λ r. r.done ≡ 0) (map (held_of t) W) (subst (All (λ r. r.done ≡ 0)) e (n.servable.idle here))) in
-    let W' : AllByRecursion (λ x. (x < length t) × (is_waiting t x ≡ true)) W = every_both (λ x. x < length t) (λ x. is_waiting t x ≡ true) W (waiting_below t) (waiting_waits t) in
-    let all = every_weaker (λ x. ((x < length t) × (is_waiting t x ≡ true)) × (done t x ≡ 0)) (λ x. passing.is_unstarted t x ≡ true)
-    (λ x q. unstarted_by t x q.0.0 q.0.1 q.1) W (every_both (λ x. (x < length t) × (is_waiting t x ≡ true)) (λ x. done t x ≡ 0) W W' done_all) in
-    (every_parts (λ x. passing.is_unstarted t x ≡ true) (take place W) (waiting_at t place ∷ drop (place + 1) W) (subst (AllByRecursion (λ x. passing.is_unstarted t x ≡ true)) (cut_at t place held.inside) all)).0
+    let here : recorded.is_unstarted (record_at rs place) ≡ true =
+        ap (λ l. recorded.is_unstarted (record_at l place)) e
+        ∙ (ap recorded.is_unstarted (record_held t place held.inside) ∙ u) in
+    let done_all = every_mapped (held_of t) (λ r. r.done ≡ 0) W
+        (recursion_from_All (λ r. r.done ≡ 0) (map (held_of t) W)
+        (subst (All (λ r. r.done ≡ 0)) e (n.servable.idle here))) in
+    let W' : AllByRecursion (λ x. (x < length t) × (is_waiting t x ≡ true)) W =
+        every_both (λ x. x < length t) (λ x. is_waiting t x ≡ true) W (waiting_below t) (waiting_waits t) in
+    let all = every_weaker (λ x. ((x < length t) × (is_waiting t x ≡ true)) × (done t x ≡ 0))
+        (λ x. passing.is_unstarted t x ≡ true)
+    (λ x q. unstarted_by t x q.0.0 q.0.1 q.1) W (every_both (λ x. (x < length t) × (is_waiting t x ≡ true))
+        (λ x. done t x ≡ 0) W W' done_all) in
+    (every_parts (λ x. passing.is_unstarted t x ≡ true) (take place W) (waiting_at t place ∷ drop (place + 1) W)
+        (subst (AllByRecursion (λ x. passing.is_unstarted t x ≡ true)) (cut_at t place held.inside) all)).0
 
 -- A step of the record at a place.
-pub turns_at : {K : Type 0} (picks : List Choice → ℕ → Type 0) (h h' : Holdings K) (t : Trace) (k : Block) (report : Report) (place : ℕ) → IsValid h.settings → Agrees h.settings t h
-    → ServesAt picks k (line_of h) report (line_of h') place → h'.untaken ≡ h.untaken ++ ends_reported report → Turns h.settings picks t (events.Step k, entries.Stepped report) h.begun h'
+pub turns_at : {K : Type 0} (picks : List Choice → ℕ → Type 0) (h h' : Holdings K) (t : Trace) (k : Block)
+    (report : Report) (place : ℕ) → IsValid h.settings → Agrees h.settings t h
+    → ServesAt picks k (line_of h) report (line_of h') place → h'.untaken ≡ h.untaken ++ ends_reported report
+        → Turns h.settings picks t (events.Step k, entries.Stepped report) h.begun h'
 turns_at {K} picks h h' t k report place v a s u =
     let c = h.settings in
     let W = waiting t in
     let rs = map (held_of t) W in
     let f = a.follows in
-    let next : IsNext picks c.passing h.drives rs h.begun place = subst (λ ws. IsNext picks c.passing h.drives ws h.begun place) f.waits s.next in
+    let next : IsNext picks c.passing h.drives rs h.begun place =
+        subst (λ ws. IsNext picks c.passing h.drives ws h.begun place) f.waits s.next in
     let both = next_held c picks t h.drives h.begun place a.driven next in
     let n = both.0 in
     let y = waiting_at t place in
@@ -351,17 +414,22 @@ turns_at {K} picks h h' t k report place v a s u =
     let read = reads c t h.drives h.waiting place a.driven f.waits n.inside in
     let own = read.own in
     let at = read.at in
-    let told : report ≡ report_of k (drive_by c t (unit t y)) (held_of t y) = s.told ∙ (λ i. report_of k (at i) (own i)) in
+    let told : report ≡ report_of k (drive_by c t (unit t y)) (held_of t y) =
+        s.told ∙ (λ i. report_of k (at i) (own i)) in
     let entry : entries.Stepped report ≡ m.1 = ap entries.Stepped told ∙ report_held c t k y in
     let right : IsRight c t m.0 m.1 = (y, served_at c t k place n) in
     let known = known_more c v.some_blocks t m right f.known in
     let waits : h'.waiting ≡ map (held_of t') (waiting t') =
-    ap (λ (l : Line K). l.waiting) s.left ∙ (ap (λ ws. waiting_after k (drive_of h.drives (record_at h.waiting place).command.unit) ws place) f.waits
+    ap (λ (l : Line K). l.waiting) s.left ∙ (ap (λ ws.
+        waiting_after k (drive_of h.drives (record_at h.waiting place).command.unit) ws place) f.waits
     ∙ waiting_served c t k place (drive_of h.drives (record_at h.waiting place).command.unit) apart n at idle) in
     let ends : h'.untaken ≡ untaken c t' =
-    u ∙ ((λ i. f.ends i ++ ends_reported (told i)) ∙ (ap (λ o. untaken c t ++ option_to_list o) (end_held c t k y) ∙ sym (untaken_more c t m refl f.known.room.taken))) in
+    u ∙ ((λ i. f.ends i ++ ends_reported (told i))
+        ∙ (ap (λ o. untaken c t ++ option_to_list o) (end_held c t k y)
+        ∙ sym (untaken_more c t m refl f.known.room.taken))) in
     let drives : h'.drives ≡ replaced (unit t y) (drive_after k (drive_by c t (unit t y)) (held_of t y)) h.drives =
-    ap (λ (l : Line K). l.drives) s.left ∙ (λ i. replaced (own i).command.unit (drive_after k (at i) (own i)) h.drives) in
+    ap (λ (l : Line K). l.drives) s.left ∙ (λ i. replaced (own i).command.unit (drive_after k (at i) (own i))
+        h.drives) in
     let driven = driven_served c t m k y (take place W) (drop (place + 1) W) h.drives v.unit_list st right a.driven in
     let all : Turns c picks t m h.begun h' = record {
       sends = record {

@@ -25,32 +25,44 @@ Apart t xs = Pairs (λ x y. reference t x ≢ reference t y) xs
 pub reference_before : (t : Trace) (m : Moment) (x : ℕ) → x < length t → reference (t ++ m ∷ []) x ≡ reference t x
 reference_before t m x h = ap (λ (k : Command). k.reference) (command_before t m x h)
 
-pub reference_last : (t : Trace) (m : Moment) → reference (t ++ m ∷ []) (length t) ≡ (command_of (sent_bytes m.0)).reference
+pub reference_last : (t : Trace) (m : Moment) → reference (t ++ m ∷ []) (length t)
+    ≡ (command_of (sent_bytes m.0)).reference
 reference_last t m = ap (λ (k : Command). k.reference) (command_last t m)
 
-apart_from : (t : Trace) (m : Moment) (x : ℕ) (xs : List ℕ) → x < length t → AllByRecursion (λ y. y < length t) xs → AllByRecursion (λ y. reference t x ≢ reference t y) xs → AllByRecursion (λ y. reference (t ++ m ∷ []) x ≢ reference (t ++ m ∷ []) y) xs
+apart_from : (t : Trace) (m : Moment) (x : ℕ) (xs : List ℕ) → x < length t → AllByRecursion (λ y. y < length t) xs
+    → AllByRecursion (λ y. reference t x ≢ reference t y) xs
+    → AllByRecursion (λ y. reference (t ++ m ∷ []) x ≢ reference (t ++ m ∷ []) y) xs
 apart_from t m x [] l h a = tt
-apart_from t m x (y ∷ ys) l h a = ((λ e. a.0 (sym (reference_before t m x l) ∙ (e ∙ reference_before t m y h.0))), apart_from t m x ys l h.1 a.1)
+apart_from t m x (y ∷ ys) l h a = ((λ e. a.0 (sym (reference_before t m x l) ∙ (e ∙ reference_before t m y h.0))),
+    apart_from t m x ys l h.1 a.1)
 
-apart_along : (t : Trace) (m : Moment) (xs : List ℕ) → AllByRecursion (λ x. x < length t) xs → Apart t xs → Apart (t ++ m ∷ []) xs
+apart_along : (t : Trace) (m : Moment) (xs : List ℕ) → AllByRecursion (λ x. x < length t) xs → Apart t xs
+    → Apart (t ++ m ∷ []) xs
 apart_along t m [] h a = tt
 apart_along t m (x ∷ xs) h a = (apart_from t m x xs h.0 h.1 a.0, apart_along t m xs h.1 a.1)
 
 not_held : (f : ℕ → ℕ) (xs us : List ℕ) (q : ℕ) → holds (map f xs ++ us) q ≡ false → AllByRecursion (λ x. f x ≢ q) xs
 not_held f [] us q h = tt
-not_held f (x ∷ xs) us q h = let p = or_parts (nat_eq (f x) q) (holds (map f xs ++ us) q) h in (eqb-false (f x) q p.0, not_held f xs us q p.1)
+not_held f (x ∷ xs) us q h = let p = or_parts (nat_eq (f x) q) (holds (map f xs ++ us) q) h in
+    (eqb-false (f x) q p.0, not_held f xs us q p.1)
 
-new_apart : (t : Trace) (m : Moment) (xs : List ℕ) → AllByRecursion (λ x. x < length t) xs → AllByRecursion (λ x. reference t x ≢ (command_of (sent_bytes m.0)).reference) xs → AllByRecursion (λ x. reference (t ++ m ∷ []) x ≢ reference (t ++ m ∷ []) (length t)) xs
+new_apart : (t : Trace) (m : Moment) (xs : List ℕ) → AllByRecursion (λ x. x < length t) xs
+    → AllByRecursion (λ x. reference t x ≢ (command_of (sent_bytes m.0)).reference) xs
+    → AllByRecursion (λ x. reference (t ++ m ∷ []) x ≢ reference (t ++ m ∷ []) (length t)) xs
 new_apart t m [] h a = tt
-new_apart t m (x ∷ xs) h a = ((λ e. a.0 (sym (reference_before t m x h.0) ∙ (e ∙ reference_last t m))), new_apart t m xs h.1 a.1)
+new_apart t m (x ∷ xs) h a = ((λ e. a.0 (sym (reference_before t m x h.0) ∙ (e ∙ reference_last t m))), new_apart t m xs
+    h.1 a.1)
 
 -- a queued command has a new reference
-pub new_reference : (c : Settings) (t : Trace) (m : Moment) → IsRight c t m.0 m.1 → queues m.1 ≡ true → AllByRecursion (λ x. reference t x ≢ (command_of (sent_bytes m.0)).reference) (waiting t)
+pub new_reference : (c : Settings) (t : Trace) (m : Moment) → IsRight c t m.0 m.1 → queues m.1 ≡ true
+    → AllByRecursion (λ x. reference t x ≢ (command_of (sent_bytes m.0)).reference) (waiting t)
 unfolding outstanding command_of
-new_reference c t m r q = not_held (reference t) (waiting t) (map (λ (e : End). e.reference) (untaken c t)) (command_of (sent_bytes m.0)).reference (queued_right c t m.0 m.1 q r).taken.new
+new_reference c t m r q = not_held (reference t) (waiting t) (map (λ (e : End). e.reference) (untaken c t))
+    (command_of (sent_bytes m.0)).reference (queued_right c t m.0 m.1 q r).taken.new
 
 -- A legal moment keeps the references apart.
-pub apart_more : (c : Settings) (t : Trace) (m : Moment) → IsRight c t m.0 m.1 → Apart t (waiting t) → Apart (t ++ m ∷ []) (waiting (t ++ m ∷ []))
+pub apart_more : (c : Settings) (t : Trace) (m : Moment) → IsRight c t m.0 m.1 → Apart t (waiting t)
+    → Apart (t ++ m ∷ []) (waiting (t ++ m ∷ []))
 apart_more c t m r a =
     let keep : ℕ → Bool = λ x. not (ends_in (reference t x) m.1) in
     let kept = filter keep (waiting t) in
@@ -59,7 +71,8 @@ apart_more c t m r a =
     let both : (b : Bool) → queues m.1 ≡ b → Apart (t ++ m ∷ []) (kept ++ cond b (length t ∷ []) []) =
     λ b. elim b as (λ b. queues m.1 ≡ b → Apart (t ++ m ∷ []) (kept ++ cond b (length t ∷ []) [])) [
       | true ↦ λ e. pairs_append (λ x y. reference (t ++ m ∷ []) x ≢ reference (t ++ m ∷ []) y) kept (length t) old
-          (new_apart t m kept below (every_kept (λ x. reference t x ≢ (command_of (sent_bytes m.0)).reference) keep (waiting t) (new_reference c t m r e)))
+          (new_apart t m kept below (every_kept (λ x. reference t x ≢ (command_of (sent_bytes m.0)).reference) keep
+              (waiting t) (new_reference c t m r e)))
       | false ↦ λ e. subst (λ l. Apart (t ++ m ∷ []) l) (sym (append-nil kept)) old
     ] in
     subst (λ l. Apart (t ++ m ∷ []) l) (sym (waiting_more t m)) (both (queues m.1) refl)

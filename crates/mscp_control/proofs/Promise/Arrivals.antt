@@ -28,24 +28,28 @@ pub record IsTaken (credit : ℕ) (references b : List ℕ) : Type 0 where
   pub last : (nat_eq credit 1 && not (is_immediate_class (class (slice_index b 8)))) ≡ false
   pub new : holds references (num b 0 4) ≡ false
 
-pub if_none : {X : Type 0} (b : Bool) (f : X) (rest : Option X) → (if b then Some f else rest) ≡ None → (b ≡ false) × (rest ≡ None)
+pub if_none : {X : Type 0} (b : Bool) (f : X) (rest : Option X) → (if b then Some f else rest) ≡ None
+    → (b ≡ false) × (rest ≡ None)
 if_none true f rest h = absurd (true≢false (ap is_some h))
 if_none false f rest h = (refl, h)
 
-pub refusal_none : (credit : ℕ) (references b : List ℕ) → refusal credit references b ≡ None → IsTaken credit references b
+pub refusal_none : (credit : ℕ) (references b : List ℕ) → refusal credit references b ≡ None
+    → IsTaken credit references b
 refusal_none credit references b h =
     let e = if_none (nat_lt (length b) 12) Short _ h in
     let f = if_none (nat_lt 64 (length b)) Long _ e.1 in
     let g = if_none (nat_eq credit 0) NoCredit _ f.1 in
     let k = if_none (nat_eq credit 1 && not (is_immediate_class (class (slice_index b 8)))) LastCredit _ g.1 in
     let l = if_none (holds references (num b 0 4)) Doubled None k.1 in
-    record { low = ltb-false (length b) 12 e.0; high = ltb-false 64 (length b) f.0; free = eqb-false credit 0 g.0; last = k.0; new = l.0 }
+    record { low = ltb-false (length b) 12 e.0; high = ltb-false 64 (length b) f.0; free =
+        eqb-false credit 0 g.0; last = k.0; new = l.0 }
 
 sent_or : Sent → Result Sent SendFault → Sent
 sent_or s (Ok r) = r
 sent_or s (Err f) = s
 
-unless_ok : (c : Settings) (t : Trace) (command : Command) (s : Sent) (o : Option SendFault) → Ok s ≡ becomes_unless c t command o → (o ≡ None) × (s ≡ becomes c t command)
+unless_ok : (c : Settings) (t : Trace) (command : Command) (s : Sent) (o : Option SendFault)
+    → Ok s ≡ becomes_unless c t command o → (o ≡ None) × (s ≡ becomes c t command)
 unfolding sent_or
 unless_ok c t command s None h = (refl, ap (sent_or s) h)
 unless_ok c t command s (Some fault) h = absurd (true≢false (ap is_ok h))
@@ -69,7 +73,8 @@ pub record Queues (c : Settings) (t : Trace) (b : List ℕ) : Type 0 where
   pub taken : IsTaken (balance c t) (outstanding c t) b
   pub waits : is_queued c (command_of b) ≡ true
 
-queue_of : (c : Settings) (t : Trace) (command : Command) (r : ℕ) → sents.Queued r ≡ becomes c t command → is_queued c command ≡ true
+queue_of : (c : Settings) (t : Trace) (command : Command) (r : ℕ) → sents.Queued r ≡ becomes c t command
+    → is_queued c command ≡ true
 unfolding is_queue
 queue_of c t command r h =
     let both : (q : Bool) → is_queued c command ≡ q → is_queued c command ≡ true =
@@ -79,7 +84,8 @@ queue_of c t command r h =
     ] in
     both (is_queued c command) refl
 
-pub queued_right : (c : Settings) (t : Trace) (event : Event) (entry : Entry) → queues entry ≡ true → IsRight c t event entry → Queues c t (sent_bytes event)
+pub queued_right : (c : Settings) (t : Trace) (event : Event) (entry : Entry) → queues entry ≡ true
+    → IsRight c t event entry → Queues c t (sent_bytes event)
 queued_right c t (events.Send b) (entries.Sent (Ok (sents.Queued r))) q h =
     let a = arrives c t b.items (sents.Queued r) h in
     record { taken = a.taken; waits = queue_of c t (command_of b.items) r a.is }

@@ -28,7 +28,8 @@ pub record Falling (c : Settings) (t : Trace) (m : Moment) : Type 0 where
 nobody : (t : Trace) (x : ℕ) → waiting t ≡ [] → Contains (waiting t) x → ⊥
 nobody t x e h = let l = ap length e in let k = h.1 in omega (arith, l, k)
 
-idle_right : (c : Settings) (t : Trace) (event : Event) (entry : Entry) → is_step event ≡ true → service_in entry ≡ None → IsRight c t event entry → waiting t ≡ []
+idle_right : (c : Settings) (t : Trace) (event : Event) (entry : Entry) → is_step event ≡ true → service_in entry ≡ None
+    → IsRight c t event entry → waiting t ≡ []
 idle_right c t (events.Step k) (entries.Stepped reports.Idle) s e r = r
 idle_right c t (events.Step k) (entries.Stepped (reports.Served a b d f g h)) s e r = absurd (true≢false (ap is_some e))
 idle_right c t (events.Step k) (entries.Sent sent) s e r = absurd r
@@ -38,11 +39,13 @@ idle_right c t events.Take entry s e r = absurd (false≢true s)
 idle_right c t events.Look entry s e r = absurd (false≢true s)
 idle_right c t (events.Send b) entry s e r = absurd (false≢true s)
 
-pub falling : (c : Settings) (t : Trace) (m : Moment) → IsRight c t m.0 m.1 → Steady c t → Short c t (waiting t) → Falling c t m
+pub falling : (c : Settings) (t : Trace) (m : Moment) → IsRight c t m.0 m.1 → Steady c t → Short c t (waiting t)
+    → Falling c t m
 falling c t m r steady short =
     let both : (o : Option Service) → service_in m.1 ≡ o → Falling c t m =
     λ o. elim o as (λ o. service_in m.1 ≡ o → Falling c t m) [
-      | None ↦ λ e. record { step = λ s x w. absurd (nobody t x (idle_right c t m.0 m.1 s e r) w); other = never_rises c t m (leaves_of t m e) (done_last t m) }
+      | None ↦ λ e. record { step = λ s x w. absurd (nobody t x (idle_right c t m.0 m.1 s e r) w); other =
+          never_rises c t m (leaves_of t m e) (done_last t m) }
       | Some s ↦ λ e.
           let z = step_right c t m s steady.apart e r in
           let less = step_falls c t m s z.2 z.1 z.3 (fit_of c t m s z.0 z.1 z.2 z.3 z.4 steady short) in

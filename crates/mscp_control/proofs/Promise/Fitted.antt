@@ -18,12 +18,15 @@ use Rattle.mscp_control.proofs.Promise.Figured.{record_of, marks, made_is}
 use Rattle.mscp_control.proofs.Promise.Falls.{Fit}
 use Rattle.mscp_control.proofs.Promise.Stays.{Leaves}
 
-pub fit_of : (c : Settings) (t : Trace) (m : Moment) (s : Service) (k : Block) (y : ℕ) (front back : List ℕ) → Step c t m s k y front back → Steady c t → Short c t (waiting t) → Fit c t m s front y back
+pub fit_of : (c : Settings) (t : Trace) (m : Moment) (s : Service) (k : Block) (y : ℕ) (front back : List ℕ)
+    → Step c t m s k y front back → Steady c t → Short c t (waiting t) → Fit c t m s front y back
 fit_of c t m s k y front back st steady short =
     let w = st.serves.among.at.is in
     let idle = idle_others c t y front back w steady.single st.served.next in
-    let unfinished = every_parts (λ x. done t x < weight t x) front (y ∷ back) (subst (AllByRecursion (λ x. done t x < weight t x)) w steady.unfinished) in
-    let shorts = every_parts (λ x. weight t x ≤ c.longest) front (y ∷ back) (subst (AllByRecursion (λ x. weight t x ≤ c.longest)) w short) in
+    let unfinished = every_parts (λ x. done t x < weight t x) front (y ∷ back)
+        (subst (AllByRecursion (λ x. done t x < weight t x)) w steady.unfinished) in
+    let shorts = every_parts (λ x. weight t x ≤ c.longest) front (y ∷ back)
+        (subst (AllByRecursion (λ x. weight t x ≤ c.longest)) w short) in
     record {
       is = w;
       after = st.changes.waits;
@@ -36,11 +39,14 @@ fit_of c t m s k y front back st steady short =
       short = shorts.1.0;
       idle_front = idle.0;
       idle_back = idle.1;
-      affordable = λ b. subst (AllByRecursion (λ x. passes t x + toll t y ≤ c.passing)) (earlier_is t y front back st.serves.among.at) (startable_parts c t y (startable_of c t k s y st.served b)).affordable;
+      affordable = λ b. subst (AllByRecursion (λ x. passes t x + toll t y ≤ c.passing))
+          (earlier_is t y front back st.serves.among.at)
+          (startable_parts c t y (startable_of c t k s y st.served b)).affordable;
     }
 
 pub leaves_of : (t : Trace) (m : Moment) → service_in m.1 ≡ None → Leaves t m
 leaves_of t m e =
     let t' = t ++ m ∷ [] in
     every_weaker (λ x. x < length t) (λ x. record_of t' x ≡ record_of t x)
-    (λ x l. made_is _ _ _ _ _ _ (weight_before t m x l) (done_kept t m x e l) (none_starts t m x (λ r. ap (service_starts r) e))) (waiting t) (waiting_below t)
+    (λ x l. made_is _ _ _ _ _ _ (weight_before t m x l) (done_kept t m x e l)
+        (none_starts t m x (λ r. ap (service_starts r) e))) (waiting t) (waiting_below t)

@@ -30,26 +30,33 @@ pub positions_more : (t : Trace) (m : Moment) → positions (t ++ m ∷ []) ≡ 
 positions_more t m = ap (range_with_len 0) (length_push t m) ∙ range_more (length t)
 
 -- What is collected after one more moment: what was, and what is seen in it.
-pub collect_more : {X : Type 0} (seen : Trace → Moment → List X) (t : Trace) (m : Moment) → collect seen (t ++ m ∷ []) ≡ collect seen t ++ seen t m
+pub collect_more : {X : Type 0} (seen : Trace → Moment → List X) (t : Trace) (m : Moment)
+    → collect seen (t ++ m ∷ []) ≡ collect seen t ++ seen t m
 unfolding collect
 collect_more seen t m =
-    let before = flat_on (λ i. seen (take i (t ++ m ∷ [])) (moment (t ++ m ∷ []) i)) (λ i. seen (take i t) (moment t i)) (positions t)
-    (every_weaker (λ i. (0 ≤ i) × (i < 0 + length t)) (λ i. seen (take i (t ++ m ∷ [])) (moment (t ++ m ∷ []) i) ≡ seen (take i t) (moment t i))
-    (λ i h. ap (λ u. seen u (moment (t ++ m ∷ []) i)) (take-append-le i t (m ∷ []) (omega arith)) ∙ ap (seen (take i t)) (moment_before t m i (omega arith)))
+    let before = flat_on (λ i. seen (take i (t ++ m ∷ [])) (moment (t ++ m ∷ []) i)) (λ i. seen (take i t) (moment t i))
+        (positions t)
+    (every_weaker (λ i. (0 ≤ i) × (i < 0 + length t))
+        (λ i. seen (take i (t ++ m ∷ [])) (moment (t ++ m ∷ []) i) ≡ seen (take i t) (moment t i))
+    (λ i h. ap (λ u. seen u (moment (t ++ m ∷ []) i)) (take-append-le i t (m ∷ []) (omega arith))
+        ∙ ap (seen (take i t)) (moment_before t m i (omega arith)))
     (positions t) (range_below 0 (length t))) in
     let last : seen (take (length t) (t ++ m ∷ [])) (moment (t ++ m ∷ []) (length t)) ≡ seen t m =
-    ap (λ u. seen u (moment (t ++ m ∷ []) (length t))) (take_at t (m ∷ []) (length t) refl) ∙ ap (seen t) (moment_last t m) in
+    ap (λ u. seen u (moment (t ++ m ∷ []) (length t))) (take_at t (m ∷ []) (length t) refl)
+        ∙ ap (seen t) (moment_last t m) in
     ap (flat_map (λ i. seen (take i (t ++ m ∷ [])) (moment (t ++ m ∷ []) i))) (positions_more t m)
     ∙ (flat_map-append (λ i. seen (take i (t ++ m ∷ [])) (moment (t ++ m ∷ []) i)) (positions t) (length t ∷ [])
     ∙ (ap (λ l. l ++ (seen (take (length t) (t ++ m ∷ [])) (moment (t ++ m ∷ []) (length t)) ++ [])) before
-    ∙ ap (λ l. flat_map (λ i. seen (take i t) (moment t i)) (positions t) ++ l) (append-nil (seen (take (length t) (t ++ m ∷ [])) (moment (t ++ m ∷ []) (length t))) ∙ last)))
+    ∙ ap (λ l. flat_map (λ i. seen (take i t) (moment t i)) (positions t) ++ l)
+        (append-nil (seen (take (length t) (t ++ m ∷ [])) (moment (t ++ m ∷ []) (length t))) ∙ last)))
 
 pub last_or-append : {X : Type 0} (xs ys : List X) (d : X) → last_or (xs ++ ys) d ≡ last_or ys (last_or xs d)
 last_or-append [] ys d = refl
 last_or-append (x ∷ xs) ys d = last_or-append xs ys x
 
 -- The last that was collected: what is seen in the moment, or else what it was.
-pub last_more : {X : Type 0} (seen : Trace → Moment → List X) (d : X) (t : Trace) (m : Moment) → last_or (collect seen (t ++ m ∷ [])) d ≡ last_or (seen t m) (last_or (collect seen t) d)
+pub last_more : {X : Type 0} (seen : Trace → Moment → List X) (d : X) (t : Trace) (m : Moment)
+    → last_or (collect seen (t ++ m ∷ [])) d ≡ last_or (seen t m) (last_or (collect seen t) d)
 last_more seen d t m = ap (λ l. last_or l d) (collect_more seen t m) ∙ last_or-append (collect seen t) (seen t m) d
 
 -- ---- commands
@@ -62,7 +69,8 @@ pub command_last : (t : Trace) (m : Moment) → command (t ++ m ∷ []) (length 
 unfolding command
 command_last t m = ap (λ (n : Moment). command_of (sent_bytes n.0)) (moment_last t m)
 
-pub drop_before : (t : Trace) (m : Moment) (x : ℕ) → x < length t → drop (x + 1) (t ++ m ∷ []) ≡ drop (x + 1) t ++ m ∷ []
+pub drop_before : (t : Trace) (m : Moment) (x : ℕ) → x < length t
+    → drop (x + 1) (t ++ m ∷ []) ≡ drop (x + 1) t ++ m ∷ []
 drop_before t m x h = drop-append-le (x + 1) t (m ∷ []) (omega arith)
 
 pub drop_last : (t : Trace) (m : Moment) → drop (length t + 1) (t ++ m ∷ []) ≡ []
@@ -75,12 +83,15 @@ still true false true = refl
 still true false false = refl
 still false a e = refl
 
-pub is_waiting_before : (t : Trace) (m : Moment) (x : ℕ) → x < length t → is_waiting (t ++ m ∷ []) x ≡ (is_waiting t x && not (ends_in (reference t x) m.1))
+pub is_waiting_before : (t : Trace) (m : Moment) (x : ℕ) → x < length t
+    → is_waiting (t ++ m ∷ []) x ≡ (is_waiting t x && not (ends_in (reference t x) m.1))
 unfolding is_waiting
 is_waiting_before t m x h =
     let E : Command → Moment → Bool = λ k n. ends_in k.reference n.1 in
-    ap (λ (n : Moment). queues n.1 && not (list_any (E (command (t ++ m ∷ []) x)) (drop (x + 1) (t ++ m ∷ [])))) (moment_before t m x h)
-    ∙ ap (λ (k : Command). queues (moment t x).1 && not (list_any (E k) (drop (x + 1) (t ++ m ∷ [])))) (command_before t m x h)
+    ap (λ (n : Moment). queues n.1 && not (list_any (E (command (t ++ m ∷ []) x)) (drop (x + 1) (t ++ m ∷ []))))
+        (moment_before t m x h)
+    ∙ ap (λ (k : Command). queues (moment t x).1 && not (list_any (E k) (drop (x + 1) (t ++ m ∷ []))))
+        (command_before t m x h)
     ∙ ap (λ l. queues (moment t x).1 && not (list_any (E (command t x)) l)) (drop_before t m x h)
     ∙ ap (λ b. queues (moment t x).1 && not b) (list_any-append (E (command t x)) (drop (x + 1) t) (m ∷ []))
     ∙ still (queues (moment t x).1) (list_any (E (command t x)) (drop (x + 1) t)) (E (command t x) m)
@@ -98,30 +109,39 @@ is_waiting_last t m =
     ∙ and_true (queues m.1)
 
 -- What waits after one more moment: what waited and isn't ended by it, and what it queues.
-pub waiting_more : (t : Trace) (m : Moment) → waiting (t ++ m ∷ []) ≡ filter (λ x. not (ends_in (reference t x) m.1)) (waiting t) ++ cond (queues m.1) (length t ∷ []) []
+pub waiting_more : (t : Trace) (m : Moment) → waiting (t ++ m ∷ [])
+    ≡ filter (λ x. not (ends_in (reference t x) m.1)) (waiting t) ++ cond (queues m.1) (length t ∷ []) []
 unfolding waiting
 waiting_more t m =
-    let before = filter_on (is_waiting (t ++ m ∷ [])) (λ x. is_waiting t x && not (ends_in (reference t x) m.1)) (positions t)
-    (every_weaker (λ x. (0 ≤ x) × (x < 0 + length t)) (λ x. is_waiting (t ++ m ∷ []) x ≡ (is_waiting t x && not (ends_in (reference t x) m.1)))
+    let before = filter_on (is_waiting (t ++ m ∷ [])) (λ x. is_waiting t x && not (ends_in (reference t x) m.1))
+        (positions t)
+    (every_weaker (λ x. (0 ≤ x) × (x < 0 + length t))
+        (λ x. is_waiting (t ++ m ∷ []) x ≡ (is_waiting t x && not (ends_in (reference t x) m.1)))
     (λ x h. is_waiting_before t m x (omega arith)) (positions t) (range_below 0 (length t))) in
     ap (filter (is_waiting (t ++ m ∷ []))) (positions_more t m)
     ∙ (filter-append (is_waiting (t ++ m ∷ [])) (positions t) (length t ∷ [])
-    ∙ (ap (λ l. l ++ filter (is_waiting (t ++ m ∷ [])) (length t ∷ [])) (before ∙ sym (filter_filter (λ x. not (ends_in (reference t x) m.1)) (is_waiting t) (positions t)))
-    ∙ ap (λ b. filter (λ x. not (ends_in (reference t x) m.1)) (filter (is_waiting t) (positions t)) ++ cond b (length t ∷ []) []) (is_waiting_last t m)))
+    ∙ (ap (λ l. l ++ filter (is_waiting (t ++ m ∷ [])) (length t ∷ []))
+        (before ∙ sym (filter_filter (λ x. not (ends_in (reference t x) m.1)) (is_waiting t) (positions t)))
+    ∙ ap (λ b. filter (λ x. not (ends_in (reference t x) m.1)) (filter (is_waiting t) (positions t))
+        ++ cond b (length t ∷ []) []) (is_waiting_last t m)))
 
 -- a count of what came after x, at a test of its command
-count_before : (p : Command → Moment → Bool) (t : Trace) (m : Moment) (x : ℕ) → x < length t → count_by (p (command (t ++ m ∷ []) x)) (drop (x + 1) (t ++ m ∷ [])) ≡ count_by (p (command t x)) (drop (x + 1) t) + cond (p (command t x) m) 1 0
+count_before : (p : Command → Moment → Bool) (t : Trace) (m : Moment) (x : ℕ) → x < length t
+    → count_by (p (command (t ++ m ∷ []) x)) (drop (x + 1) (t ++ m ∷ [])) ≡ count_by (p (command t x)) (drop (x + 1) t)
+    + cond (p (command t x) m) 1 0
 count_before p t m x h =
     ap (λ (k : Command). count_by (p k) (drop (x + 1) (t ++ m ∷ []))) (command_before t m x h)
     ∙ (ap (count_by (p (command t x))) (drop_before t m x h)
     ∙ sum_by_push (λ (n : Moment). cond (p (command t x) n) 1 0) (drop (x + 1) t) m)
 
 -- How often a command was served after one more moment, and how often well.
-pub done_before : (t : Trace) (m : Moment) (x : ℕ) → x < length t → done (t ++ m ∷ []) x ≡ done t x + cond (serves_in (reference t x) m.1) 1 0
+pub done_before : (t : Trace) (m : Moment) (x : ℕ) → x < length t
+    → done (t ++ m ∷ []) x ≡ done t x + cond (serves_in (reference t x) m.1) 1 0
 unfolding done
 done_before t m x h = count_before (λ k n. serves_in k.reference n.1) t m x h
 
-pub good_before : (t : Trace) (m : Moment) (x : ℕ) → x < length t → good (t ++ m ∷ []) x ≡ good t x + cond (serves_in (reference t x) m.1 && is_good m.0) 1 0
+pub good_before : (t : Trace) (m : Moment) (x : ℕ) → x < length t
+    → good (t ++ m ∷ []) x ≡ good t x + cond (serves_in (reference t x) m.1 && is_good m.0) 1 0
 unfolding good
 good_before t m x h = count_before (λ k n. serves_in k.reference n.1 && is_good n.0) t m x h
 
@@ -131,7 +151,8 @@ done_last t m = ap (count_by (λ (n : Moment). serves_in (reference (t ++ m ∷ 
 
 pub good_last : (t : Trace) (m : Moment) → good (t ++ m ∷ []) (length t) ≡ 0
 unfolding good
-good_last t m = ap (count_by (λ (n : Moment). serves_in (reference (t ++ m ∷ []) (length t)) n.1 && is_good n.0)) (drop_last t m)
+good_last t m = ap (count_by (λ (n : Moment). serves_in (reference (t ++ m ∷ []) (length t)) n.1 && is_good n.0))
+    (drop_last t m)
 
 -- How often a command was passed after one more moment.
 pub passes_more : (t : Trace) (m : Moment) (x : ℕ) → passes (t ++ m ∷ []) x ≡ passes t x + passes_at t m x
@@ -140,10 +161,12 @@ passes_more t m x =
     let P : Trace → ℕ → ℕ = λ u i. passes_at (take i u) (moment u i) x in
     let before = sum_on (P (t ++ m ∷ [])) (P t) (positions t)
     (every_weaker (λ i. (0 ≤ i) × (i < 0 + length t)) (λ i. P (t ++ m ∷ []) i ≡ P t i)
-    (λ i h. ap (λ u. passes_at u (moment (t ++ m ∷ []) i) x) (take-append-le i t (m ∷ []) (omega arith)) ∙ ap (λ n. passes_at (take i t) n x) (moment_before t m i (omega arith)))
+    (λ i h. ap (λ u. passes_at u (moment (t ++ m ∷ []) i) x) (take-append-le i t (m ∷ []) (omega arith))
+        ∙ ap (λ n. passes_at (take i t) n x) (moment_before t m i (omega arith)))
     (positions t) (range_below 0 (length t))) in
     let last : P (t ++ m ∷ []) (length t) ≡ passes_at t m x =
-    ap (λ u. passes_at u (moment (t ++ m ∷ []) (length t)) x) (take_at t (m ∷ []) (length t) refl) ∙ ap (λ n. passes_at t n x) (moment_last t m) in
+    ap (λ u. passes_at u (moment (t ++ m ∷ []) (length t)) x) (take_at t (m ∷ []) (length t) refl)
+        ∙ ap (λ n. passes_at t n x) (moment_last t m) in
     ap (sum_by (P (t ++ m ∷ []))) (positions_more t m)
     ∙ (sum_by_push (P (t ++ m ∷ [])) (positions t) (length t)
     ∙ (ap (λ k. k + P (t ++ m ∷ []) (length t)) before ∙ ap (λ k. sum_by (P t) (positions t) + k) last))
@@ -155,22 +178,28 @@ pub ends_more : (c : Settings) (t : Trace) (m : Moment) → ends c (t ++ m ∷ [
 unfolding ends
 ends_more c t m = collect_more (ends_at c) t m
 
-pub taken_more : (t : Trace) (m : Moment) → count_by (λ n. takes n.1) (t ++ m ∷ []) ≡ count_by (λ n. takes n.1) t + cond (takes m.1) 1 0
+pub taken_more : (t : Trace) (m : Moment) → count_by (λ n. takes n.1) (t ++ m ∷ []) ≡ count_by (λ n. takes n.1) t
+    + cond (takes m.1) 1 0
 taken_more t m = sum_by_push (λ (n : Moment). cond (takes n.1) 1 0) t m
 
 -- Where nothing is taken, the ends that it makes come behind the untaken ones.
-pub untaken_more : (c : Settings) (t : Trace) (m : Moment) → takes m.1 ≡ false → count_by (λ n. takes n.1) t ≤ length (ends c t) → untaken c (t ++ m ∷ []) ≡ untaken c t ++ ends_at c t m
+pub untaken_more : (c : Settings) (t : Trace) (m : Moment) → takes m.1 ≡ false
+    → count_by (λ n. takes n.1) t ≤ length (ends c t) → untaken c (t ++ m ∷ []) ≡ untaken c t ++ ends_at c t m
 unfolding untaken
 untaken_more c t m e h =
     let k = count_by (λ (n : Moment). takes n.1) t in
-    let same : count_by (λ (n : Moment). takes n.1) (t ++ m ∷ []) ≡ k = taken_more t m ∙ (ap (λ b. k + cond b 1 0) e ∙ omega arith) in
-    ap (λ n. drop n (ends c (t ++ m ∷ []))) same ∙ (ap (drop k) (ends_more c t m) ∙ drop-append-le k (ends c t) (ends_at c t m) h)
+    let same : count_by (λ (n : Moment). takes n.1) (t ++ m ∷ []) ≡ k =
+        taken_more t m ∙ (ap (λ b. k + cond b 1 0) e ∙ omega arith) in
+    ap (λ n. drop n (ends c (t ++ m ∷ []))) same ∙ (ap (drop k) (ends_more c t m)
+        ∙ drop-append-le k (ends c t) (ends_at c t m) h)
 
 -- ---- steps
 
 -- How many steps there were after a command, after one more moment.
-pub steps_more : (t : Trace) (m : Moment) (x : ℕ) → x < length t → steps_after (t ++ m ∷ []) x ≡ steps_after t x + cond (is_step m.0) 1 0
-steps_more t m x h = ap (count_by (λ (n : Moment). is_step n.0)) (drop_before t m x h) ∙ sum_by_push (λ (n : Moment). cond (is_step n.0) 1 0) (drop (x + 1) t) m
+pub steps_more : (t : Trace) (m : Moment) (x : ℕ) → x < length t
+    → steps_after (t ++ m ∷ []) x ≡ steps_after t x + cond (is_step m.0) 1 0
+steps_more t m x h = ap (count_by (λ (n : Moment). is_step n.0)) (drop_before t m x h)
+    ∙ sum_by_push (λ (n : Moment). cond (is_step n.0) 1 0) (drop (x + 1) t) m
 
 pub steps_last : (t : Trace) (m : Moment) → steps_after (t ++ m ∷ []) (length t) ≡ 0
 steps_last t m = ap (count_by (λ (n : Moment). is_step n.0)) (drop_last t m)

@@ -21,7 +21,9 @@ unfolding moment
 more_at t i h = take_more t i (events.Take, entries.Taken None) h
 
 -- What holds of the empty run, and is kept by right moments, holds after every part of a legal run.
-pub by_moments : (c : Settings) (P : Trace → Type 0) → P [] → ((t : Trace) (m : Moment) → IsRight c t m.0 m.1 → P t → P (t ++ m ∷ [])) → (t : Trace) → IsLegal c t → (i : ℕ) → i ≤ length t → P (take i t)
+pub by_moments : (c : Settings) (P : Trace → Type 0) → P []
+    → ((t : Trace) (m : Moment) → IsRight c t m.0 m.1 → P t → P (t ++ m ∷ [])) → (t : Trace) → IsLegal c t → (i : ℕ)
+    → i ≤ length t → P (take i t)
 by_moments c P start keeps t legal zero h = start
 by_moments c P start keeps t legal (suc i) h =
     let e : i + 1 ≡ suc i = omega arith in
@@ -39,7 +41,8 @@ pub known_empty : (c : Settings) → Known c []
 unfolding waiting
 known_empty c = record { steady = steady_empty c; room = room_empty c; short = tt; limited = tt; within = tt }
 
-pub known_more : (c : Settings) → 1 ≤ c.longest → (t : Trace) (m : Moment) → IsRight c t m.0 m.1 → Known c t → Known c (t ++ m ∷ [])
+pub known_more : (c : Settings) → 1 ≤ c.longest → (t : Trace) (m : Moment) → IsRight c t m.0 m.1 → Known c t
+    → Known c (t ++ m ∷ [])
 known_more c l t m r k =
     let short = short_more c t m l r k.short in
     record {

@@ -23,49 +23,66 @@ starts_behind t m x z = nat_lt x z && starts_in (reference t z) m.1
 starters_at : (t : Trace) (m : Moment) (x : ℕ) → starters t m x ≡ filter (starts_behind t m x) (waiting t)
 starters_at t m x = filter_filter (λ z. starts_in (reference t z) m.1) (λ z. nat_lt x z) (waiting t)
 
-passed_more : (t : Trace) (m : Moment) (x : ℕ) (ys : List ℕ) → starters t m x ≡ ys → passes (t ++ m ∷ []) x ≡ passes t x + cond (is_unstarted t x) (sum_by (toll t) ys) 0
+passed_more : (t : Trace) (m : Moment) (x : ℕ) (ys : List ℕ) → starters t m x ≡ ys
+    → passes (t ++ m ∷ []) x ≡ passes t x + cond (is_unstarted t x) (sum_by (toll t) ys) 0
 unfolding passes_at
 passed_more t m x ys e = passes_more t m x ∙ ap (λ l. passes t x + cond (is_unstarted t x) (sum_by (toll t) l) 0) e
 
 unpassed : (t : Trace) (m : Moment) (x : ℕ) → starters t m x ≡ [] → passes (t ++ m ∷ []) x ≡ passes t x
 unpassed t m x e =
     let z : ℕ = 0 in
-    let none : cond (is_unstarted t x) z z ≡ z = elim (is_unstarted t x) as (λ b. cond b z z ≡ z) [ true ↦ refl | false ↦ refl ] in
+    let none : cond (is_unstarted t x) z z ≡ z = elim (is_unstarted t x) as (λ b. cond b z z ≡ z)
+        [ true ↦ refl | false ↦ refl ] in
     passed_more t m x [] e ∙ (ap (λ n. passes t x + n) none ∙ omega arith)
 
 -- Where nobody starts, nobody is passed.
-pub none_starts : (t : Trace) (m : Moment) (x : ℕ) → ((r : ℕ) → starts_in r m.1 ≡ false) → passes (t ++ m ∷ []) x ≡ passes t x
-none_starts t m x f = unpassed t m x (filter_none (λ z. starts_in (reference t z) m.1) (later t x) (every_from (λ z. starts_in (reference t z) m.1 ≡ false) (λ z. f (reference t z)) (later t x)))
+pub none_starts : (t : Trace) (m : Moment) (x : ℕ) → ((r : ℕ) → starts_in r m.1 ≡ false)
+    → passes (t ++ m ∷ []) x ≡ passes t x
+none_starts t m x f = unpassed t m x (filter_none (λ z. starts_in (reference t z) m.1) (later t x)
+    (every_from (λ z. starts_in (reference t z) m.1 ≡ false) (λ z. f (reference t z)) (later t x)))
 
-starts_other : (t : Trace) (m : Moment) (s : Service) (y z : ℕ) → service_in m.1 ≡ Some s → s.reference ≡ reference t y → reference t z ≢ reference t y → starts_in (reference t z) m.1 ≡ false
-starts_other t m s y z e r n = ap (service_starts (reference t z)) e ∙ ap (λ b. b && s.started) (ne_eqb s.reference (reference t z) (λ h. n (sym h ∙ r)))
+starts_other : (t : Trace) (m : Moment) (s : Service) (y z : ℕ) → service_in m.1 ≡ Some s → s.reference ≡ reference t y
+    → reference t z ≢ reference t y → starts_in (reference t z) m.1 ≡ false
+starts_other t m s y z e r n = ap (service_starts (reference t z)) e
+    ∙ ap (λ b. b && s.started) (ne_eqb s.reference (reference t z) (λ h. n (sym h ∙ r)))
 
-starts_own : (t : Trace) (m : Moment) (s : Service) (y : ℕ) → service_in m.1 ≡ Some s → s.reference ≡ reference t y → s.started ≡ true → starts_in (reference t y) m.1 ≡ true
-starts_own t m s y e r h = ap (service_starts (reference t y)) e ∙ (ap (λ b. b && s.started) (eq-eqb s.reference (reference t y) r) ∙ h)
+starts_own : (t : Trace) (m : Moment) (s : Service) (y : ℕ) → service_in m.1 ≡ Some s → s.reference ≡ reference t y
+    → s.started ≡ true → starts_in (reference t y) m.1 ≡ true
+starts_own t m s y e r h = ap (service_starts (reference t y)) e
+    ∙ (ap (λ b. b && s.started) (eq-eqb s.reference (reference t y) r) ∙ h)
 
-behind_other : (t : Trace) (m : Moment) (s : Service) (x y : ℕ) → service_in m.1 ≡ Some s → s.reference ≡ reference t y → (xs : List ℕ) → AllByRecursion (λ z. reference t z ≢ reference t y) xs → AllByRecursion (λ z. starts_behind t m x z ≡ false) xs
+behind_other : (t : Trace) (m : Moment) (s : Service) (x y : ℕ) → service_in m.1 ≡ Some s → s.reference ≡ reference t y
+    → (xs : List ℕ) → AllByRecursion (λ z. reference t z ≢ reference t y) xs
+    → AllByRecursion (λ z. starts_behind t m x z ≡ false) xs
 behind_other t m s x y e r xs h =
     every_weaker (λ z. reference t z ≢ reference t y) (λ z. starts_behind t m x z ≡ false)
     (λ z n. and_right (nat_lt x z) (starts_in (reference t z) m.1) (starts_other t m s y z e r n)) xs h
 
 -- A command that isn't earlier than y isn't passed by a step of y.
-pub passed_behind : (c : Settings) (t : Trace) (m : Moment) (s : Service) (k : Block) (y : ℕ) (front back : List ℕ) → Step c t m s k y front back → (x : ℕ) → y ≤ x → passes (t ++ m ∷ []) x ≡ passes t x
+pub passed_behind : (c : Settings) (t : Trace) (m : Moment) (s : Service) (k : Block) (y : ℕ) (front back : List ℕ)
+    → Step c t m s k y front back → (x : ℕ) → y ≤ x → passes (t ++ m ∷ []) x ≡ passes t x
 passed_behind c t m s k y front back st x h =
     let a = st.serves.among in
     let P : ℕ → Type 0 = λ z. starts_behind t m x z ≡ false in
     let all : AllByRecursion P (front ++ y ∷ back) =
     every_append P front (y ∷ back) (behind_other t m s x y st.serves.is st.serves.same front a.before)
-    (and_left (nat_lt x y) (starts_in (reference t y) m.1) (le-ltb x y h), behind_other t m s x y st.serves.is st.serves.same back a.behind) in
-    unpassed t m x (starters_at t m x ∙ filter_none (starts_behind t m x) (waiting t) (subst (AllByRecursion P) (sym a.at.is) all))
+    (and_left (nat_lt x y) (starts_in (reference t y) m.1) (le-ltb x y h), behind_other t m s x y st.serves.is
+        st.serves.same back a.behind) in
+    unpassed t m x (starters_at t m x ∙ filter_none (starts_behind t m x) (waiting t)
+        (subst (AllByRecursion P) (sym a.at.is) all))
 
 -- An earlier one that was never served is passed by a start of y, at its toll.
-pub passed_front : (c : Settings) (t : Trace) (m : Moment) (s : Service) (k : Block) (y : ℕ) (front back : List ℕ) → Step c t m s k y front back → s.started ≡ true → (x : ℕ) → x < y → is_unstarted t x ≡ true → passes (t ++ m ∷ []) x ≡ passes t x + toll t y
+pub passed_front : (c : Settings) (t : Trace) (m : Moment) (s : Service) (k : Block) (y : ℕ) (front back : List ℕ)
+    → Step c t m s k y front back → s.started ≡ true → (x : ℕ) → x < y → is_unstarted t x ≡ true
+    → passes (t ++ m ∷ []) x ≡ passes t x + toll t y
 passed_front c t m s k y front back st e x h u =
     let a = st.serves.among in
-    let own : starts_behind t m x y ≡ true = ap (λ b. b && starts_in (reference t y) m.1) (lt-ltb x y h) ∙ starts_own t m s y st.serves.is st.serves.same e in
+    let own : starts_behind t m x y ≡ true = ap (λ b. b && starts_in (reference t y) m.1) (lt-ltb x y h)
+        ∙ starts_own t m s y st.serves.is st.serves.same e in
     let one : starters t m x ≡ y ∷ [] =
     starters_at t m x ∙ (ap (filter (starts_behind t m x)) a.at.is
-    ∙ filter_one (starts_behind t m x) front y back (behind_other t m s x y st.serves.is st.serves.same front a.before) own (behind_other t m s x y st.serves.is st.serves.same back a.behind)) in
+    ∙ filter_one (starts_behind t m x) front y back (behind_other t m s x y st.serves.is st.serves.same front a.before)
+        own (behind_other t m s x y st.serves.is st.serves.same back a.behind)) in
     passed_more t m x (y ∷ []) one
     ∙ (ap (λ b. passes t x + cond b (sum_by (toll t) (y ∷ [])) 0) u
     ∙ ap (λ n. passes t x + n) (sum_by-cons (toll t) y [] ∙ omega arith))

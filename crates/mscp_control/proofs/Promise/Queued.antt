@@ -40,7 +40,8 @@ queued_open c k h =
     let both : (b : Bool) → is_immediate k.order ≡ b → IsOpen c k =
     λ b. elim b as (λ b. is_immediate k.order ≡ b → IsOpen c k) [
       | true ↦ λ e. absurd (false≢true (sym (ap (λ b. if b then false else is_none (fault_of c k)) e) ∙ h))
-      | false ↦ λ e. record { waits = e; sound = none_of (fault_of c k) (sym (ap (λ b. if b then false else is_none (fault_of c k)) e) ∙ h) }
+      | false ↦ λ e. record { waits = e; sound = none_of (fault_of c k)
+          (sym (ap (λ b. if b then false else is_none (fault_of c k)) e) ∙ h) }
     ] in
     both (is_immediate k.order) refl
 
@@ -50,7 +51,8 @@ queued_open c k h =
 abbrev pub Short : Settings → Trace → List ℕ → Type 0
 Short c t xs = AllByRecursion (λ x. weight t x ≤ c.longest) xs
 
-move_short : (c : Settings) (count block : ℕ) (o : Option Shape) → move_fault c count block o ≡ None → extent.weight count ≤ c.longest
+move_short : (c : Settings) (count block : ℕ) (o : Option Shape) → move_fault c count block o ≡ None
+    → extent.weight count ≤ c.longest
 move_short c count block None h = absurd (true≢false (ap is_some h))
 move_short c count block (Some unit) h =
     let long = nat_lt c.longest (extent.weight count) in
@@ -65,51 +67,67 @@ order_short c u (orders.Move kind count block) l h = move_short c count block (u
 order_short c u o l h = l
 
 -- a queued command is no longer than the longest
-pub queued_short : (c : Settings) (k : Command) → 1 ≤ c.longest → is_queued c k ≡ true → order_weight k.order ≤ c.longest
+pub queued_short : (c : Settings) (k : Command) → 1 ≤ c.longest → is_queued c k ≡ true
+    → order_weight k.order ≤ c.longest
 queued_short c k l q = order_short c k.unit k.order l (queued_open c k q).sound
 
 -- ---- what holds of each command that is queued
 
-same_each : (P : Command → Type 0) (t : Trace) (m : Moment) (xs : List ℕ) → AllByRecursion (λ x. x < length t) xs → AllByRecursion (λ x. P (command t x)) xs → AllByRecursion (λ x. P (command (t ++ m ∷ []) x)) xs
+same_each : (P : Command → Type 0) (t : Trace) (m : Moment) (xs : List ℕ) → AllByRecursion (λ x. x < length t) xs
+    → AllByRecursion (λ x. P (command t x)) xs → AllByRecursion (λ x. P (command (t ++ m ∷ []) x)) xs
 same_each P t m [] l h = tt
 same_each P t m (x ∷ xs) l h = (subst P (sym (command_before t m x l.0)) h.0, same_each P t m xs l.1 h.1)
 
 -- What holds of each command that is queued is kept by each right moment.
-pub each_queued : (c : Settings) (P : Command → Type 0) → ((k : Command) → is_queued c k ≡ true → P k) → (t : Trace) (m : Moment) → IsRight c t m.0 m.1
-    → AllByRecursion (λ x. P (command t x)) (waiting t) → AllByRecursion (λ x. P (command (t ++ m ∷ []) x)) (waiting (t ++ m ∷ []))
+pub each_queued : (c : Settings) (P : Command → Type 0) → ((k : Command) → is_queued c k ≡ true → P k)
+    → (t : Trace) (m : Moment) → IsRight c t m.0 m.1
+    → AllByRecursion (λ x. P (command t x)) (waiting t)
+        → AllByRecursion (λ x. P (command (t ++ m ∷ []) x)) (waiting (t ++ m ∷ []))
 each_queued c P each t m r h =
     let t' = t ++ m ∷ [] in
     let Q : ℕ → Type 0 = λ x. P (command t' x) in
     let keep : ℕ → Bool = λ x. not (ends_in (reference t x) m.1) in
     let kept = filter keep (waiting t) in
-    let old = same_each P t m kept (every_kept (λ x. x < length t) keep (waiting t) (waiting_below t)) (every_kept (λ x. P (command t x)) keep (waiting t) h) in
+    let old = same_each P t m kept (every_kept (λ x. x < length t) keep (waiting t) (waiting_below t))
+        (every_kept (λ x. P (command t x)) keep (waiting t) h) in
     let both : (b : Bool) → queues m.1 ≡ b → AllByRecursion Q (cond b (length t ∷ []) []) =
     λ b. elim b as (λ b. queues m.1 ≡ b → AllByRecursion Q (cond b (length t ∷ []) [])) [
-      | true ↦ λ e. (subst P (sym (command_last t m)) (each (command_of (sent_bytes m.0)) (queued_right c t m.0 m.1 e r).waits), tt)
+      | true ↦ λ e. (subst P (sym (command_last t m))
+          (each (command_of (sent_bytes m.0)) (queued_right c t m.0 m.1 e r).waits), tt)
       | false ↦ λ e. tt
     ] in
-    subst (AllByRecursion Q) (sym (waiting_more t m)) (every_append Q kept (cond (queues m.1) (length t ∷ []) []) old (both (queues m.1) refl))
+    subst (AllByRecursion Q) (sym (waiting_more t m))
+        (every_append Q kept (cond (queues m.1) (length t ∷ []) []) old (both (queues m.1) refl))
 
 -- Each right moment keeps it that no waiting command is longer than the longest.
-pub short_more : (c : Settings) (t : Trace) (m : Moment) → 1 ≤ c.longest → IsRight c t m.0 m.1 → Short c t (waiting t) → Short c (t ++ m ∷ []) (waiting (t ++ m ∷ []))
+pub short_more : (c : Settings) (t : Trace) (m : Moment) → 1 ≤ c.longest → IsRight c t m.0 m.1 → Short c t (waiting t)
+    → Short c (t ++ m ∷ []) (waiting (t ++ m ∷ []))
 short_more c t m l r h = each_queued c (λ k. order_weight k.order ≤ c.longest) (λ k q. queued_short c k l q) t m r h
 
 -- ---- credits
 
 -- a message that isn't too short has its own order
-long_enough : (c : Settings) (u : ℕ) (short : Bool) (byte : ℕ) (o : Order) → is_immediate (if short then orders.Invalid byte 0x0001 else o) ≡ false → order_fault c u (if short then orders.Invalid byte 0x0001 else o) ≡ None → is_immediate o ≡ false
+long_enough : (c : Settings) (u : ℕ) (short : Bool) (byte : ℕ) (o : Order)
+    → is_immediate (if short then orders.Invalid byte 0x0001 else o) ≡ false
+    → order_fault c u (if short then orders.Invalid byte 0x0001 else o) ≡ None → is_immediate o ≡ false
 long_enough c u true byte o i h = absurd (true≢false (ap is_some h))
 long_enough c u false byte o i h = i
 
-class_with : (c : Settings) (u : ℕ) (o : Option Opcode) (b : List ℕ) → is_immediate (order_with o b) ≡ false → order_fault c u (order_with o b) ≡ None → is_immediate_class (class_of_opcode o) ≡ false
+class_with : (c : Settings) (u : ℕ) (o : Option Opcode) (b : List ℕ) → is_immediate (order_with o b) ≡ false
+    → order_fault c u (order_with o b) ≡ None → is_immediate_class (class_of_opcode o) ≡ false
 class_with c u None b i h = refl
-class_with c u (Some codes.Abort) b i h = long_enough c u (nat_lt (length b) 16) (slice_index b 8) (orders.Abort (num b 12 4)) i h
-class_with c u (Some codes.Status) b i h = long_enough c u (nat_lt (length b) 16) (slice_index b 8) (orders.Status (num b 12 4)) i h
-class_with c u (Some codes.UnitStatus) b i h = long_enough c u (nat_lt (length b) 12) (slice_index b 8) orders.UnitStatus i h
-class_with c u (Some codes.SetController) b i h = long_enough c u (nat_lt (length b) 14) (slice_index b 8) (orders.SetController (num b 12 2)) i h
+class_with c u (Some codes.Abort) b i h = long_enough c u (nat_lt (length b) 16) (slice_index b 8)
+    (orders.Abort (num b 12 4)) i h
+class_with c u (Some codes.Status) b i h = long_enough c u (nat_lt (length b) 16) (slice_index b 8)
+    (orders.Status (num b 12 4)) i h
+class_with c u (Some codes.UnitStatus) b i h = long_enough c u (nat_lt (length b) 12) (slice_index b 8)
+    orders.UnitStatus i h
+class_with c u (Some codes.SetController) b i h = long_enough c u (nat_lt (length b) 14) (slice_index b 8)
+    (orders.SetController (num b 12 2)) i h
 class_with c u (Some opcode) b i h = refl
 
-class_queued : (c : Settings) (b : List ℕ) → IsOpen c (command_of b) → is_immediate_class (class (slice_index b 8)) ≡ false
+class_queued : (c : Settings) (b : List ℕ) → IsOpen c (command_of b)
+    → is_immediate_class (class (slice_index b 8)) ≡ false
 unfolding command_of
 class_queued c b k = class_with c (num b 4 2) (opcode_of (slice_index b 8)) b k.waits k.sound
 
@@ -125,4 +143,5 @@ two_of n false i z h =
 
 -- Where a command is queued, two credits are free.
 pub two_free : (c : Settings) (t : Trace) (b : List ℕ) → Queues c t b → 2 ≤ balance c t
-two_free c t b q = two_of (balance c t) (is_immediate_class (class (slice_index b 8))) (class_queued c b (queued_open c (command_of b) q.waits)) q.taken.free q.taken.last
+two_free c t b q = two_of (balance c t) (is_immediate_class (class (slice_index b 8)))
+    (class_queued c b (queued_open c (command_of b) q.waits)) q.taken.free q.taken.last

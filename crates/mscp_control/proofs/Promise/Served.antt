@@ -22,7 +22,8 @@ use Rattle.mscp_control.proofs.Promise.Among.{Alone, alone}
 
 -- ---- what a moment that serves says of the others
 
-pub ends_served : (r : ℕ) (entry : Entry) (s : Service) → service_in entry ≡ Some s → ends_in r entry ≡ service_ends r (Some s)
+pub ends_served : (r : ℕ) (entry : Entry) (s : Service) → service_in entry ≡ Some s
+    → ends_in r entry ≡ service_ends r (Some s)
 ends_served r (entries.Stepped report) s e = ap (service_ends r) e
 ends_served r (entries.Sent sent) s e = absurd (false≢true (ap is_some e))
 ends_served r (entries.Taken taken) s e = absurd (false≢true (ap is_some e))
@@ -43,7 +44,8 @@ unfolding some_value
 some_same x y e = ap (some_value x) e
 
 -- A right moment that serves is a step of a command that may be served.
-pub served_right : (c : Settings) (t : Trace) (event : Event) (entry : Entry) (s : Service) → service_in entry ≡ Some s → IsRight c t event entry → (k : Block) × (y : ℕ) × IsServed c t k s y
+pub served_right : (c : Settings) (t : Trace) (event : Event) (entry : Entry) (s : Service) → service_in entry ≡ Some s
+    → IsRight c t event entry → (k : Block) × (y : ℕ) × IsServed c t k s y
 served_right c t (events.Step k) (entries.Stepped (reports.Served reference unit lbn started seek ended)) s e h =
     (k, h.0, subst (λ (s : Service). IsServed c t k s h.0) (some_same _ s e) h.1)
 served_right c t event (entries.Stepped reports.Idle) s e h = absurd (false≢true (ap is_some e))
@@ -52,7 +54,8 @@ served_right c t event (entries.Taken taken) s e h = absurd (false≢true (ap is
 served_right c t event (entries.Looked list) s e h = absurd (false≢true (ap is_some e))
 served_right c t events.Take (entries.Stepped (reports.Served reference unit lbn started seek ended)) s e h = absurd h
 served_right c t events.Look (entries.Stepped (reports.Served reference unit lbn started seek ended)) s e h = absurd h
-served_right c t (events.Send b) (entries.Stepped (reports.Served reference unit lbn started seek ended)) s e h = absurd h
+served_right c t (events.Send b) (entries.Stepped (reports.Served reference unit lbn started seek ended)) s e h =
+    absurd h
 
 -- ---- a step of y
 
@@ -69,24 +72,32 @@ pub record Changes (t : Trace) (t' : Trace) (s : Service) (y : ℕ) (front back 
   pub own_done : done t' y ≡ done t y + 1
   pub back_done : AllByRecursion (λ x. done t' x ≡ done t x) back
 
-pub below_parts : (t : Trace) (y : ℕ) (front back : List ℕ) → Cut t y front back → AllByRecursion (λ x. x < length t) front × ((y < length t) × AllByRecursion (λ x. x < length t) back)
+pub below_parts : (t : Trace) (y : ℕ) (front back : List ℕ) → Cut t y front back
+    → AllByRecursion (λ x. x < length t) front × ((y < length t) × AllByRecursion (λ x. x < length t) back)
 below_parts t y front back k =
-    let p = every_parts (λ x. x < length t) front (y ∷ back) (subst (AllByRecursion (λ x. x < length t)) k.is (waiting_below t)) in
+    let p = every_parts (λ x. x < length t) front (y ∷ back)
+        (subst (AllByRecursion (λ x. x < length t)) k.is (waiting_below t)) in
     (p.0, (p.1.0, p.1.1))
 
-kept_other : (t : Trace) (m : Moment) (s : Service) (y x : ℕ) → service_in m.1 ≡ Some s → s.reference ≡ reference t y → reference t x ≢ reference t y → not (ends_in (reference t x) m.1) ≡ true
-kept_other t m s y x e r n = ap not (ends_served (reference t x) m.1 s e ∙ ap (λ b. b && is_some s.ended) (ne_eqb s.reference (reference t x) (λ h. n (sym h ∙ r))))
+kept_other : (t : Trace) (m : Moment) (s : Service) (y x : ℕ) → service_in m.1 ≡ Some s → s.reference ≡ reference t y
+    → reference t x ≢ reference t y → not (ends_in (reference t x) m.1) ≡ true
+kept_other t m s y x e r n = ap not (ends_served (reference t x) m.1 s e
+    ∙ ap (λ b. b && is_some s.ended) (ne_eqb s.reference (reference t x) (λ h. n (sym h ∙ r))))
 
-pub kept_own : (t : Trace) (m : Moment) (s : Service) (y : ℕ) → service_in m.1 ≡ Some s → s.reference ≡ reference t y → not (ends_in (reference t y) m.1) ≡ not (is_some s.ended)
-kept_own t m s y e r = ap not (ends_served (reference t y) m.1 s e ∙ ap (λ b. b && is_some s.ended) (eq-eqb s.reference (reference t y) r))
+pub kept_own : (t : Trace) (m : Moment) (s : Service) (y : ℕ) → service_in m.1 ≡ Some s → s.reference ≡ reference t y
+    → not (ends_in (reference t y) m.1) ≡ not (is_some s.ended)
+kept_own t m s y e r = ap not (ends_served (reference t y) m.1 s e
+    ∙ ap (λ b. b && is_some s.ended) (eq-eqb s.reference (reference t y) r))
 
-done_other : (t : Trace) (m : Moment) (s : Service) (y x : ℕ) → service_in m.1 ≡ Some s → s.reference ≡ reference t y → x < length t → reference t x ≢ reference t y → done (t ++ m ∷ []) x ≡ done t x
+done_other : (t : Trace) (m : Moment) (s : Service) (y x : ℕ) → service_in m.1 ≡ Some s → s.reference ≡ reference t y
+    → x < length t → reference t x ≢ reference t y → done (t ++ m ∷ []) x ≡ done t x
 done_other t m s y x e r l n =
     done_before t m x l
     ∙ (ap (λ o. done t x + cond (service_is (reference t x) o) 1 0) e
     ∙ (ap (λ b. done t x + cond b 1 0) (ne_eqb s.reference (reference t x) (λ h. n (sym h ∙ r))) ∙ omega arith))
 
-done_own : (t : Trace) (m : Moment) (s : Service) (y : ℕ) → service_in m.1 ≡ Some s → s.reference ≡ reference t y → y < length t → done (t ++ m ∷ []) y ≡ done t y + 1
+done_own : (t : Trace) (m : Moment) (s : Service) (y : ℕ) → service_in m.1 ≡ Some s → s.reference ≡ reference t y
+    → y < length t → done (t ++ m ∷ []) y ≡ done t y + 1
 done_own t m s y e r l =
     done_before t m y l
     ∙ (ap (λ o. done t y + cond (service_is (reference t y) o) 1 0) e
@@ -96,13 +107,15 @@ cond_not : (y : ℕ) (back : List ℕ) (b : Bool) → cond (not b) (y ∷ back) 
 cond_not y back true = refl
 cond_not y back false = refl
 
-pub changes : (t : Trace) (m : Moment) (s : Service) (y : ℕ) (front back : List ℕ) → Serves t m s y front back → Changes t (t ++ m ∷ []) s y front back
+pub changes : (t : Trace) (m : Moment) (s : Service) (y : ℕ) (front back : List ℕ) → Serves t m s y front back
+    → Changes t (t ++ m ∷ []) s y front back
 changes t m s y front back v =
     let a = v.among in
     let keep : ℕ → Bool = λ x. not (ends_in (reference t x) m.1) in
     let other : (x : ℕ) → reference t x ≢ reference t y → keep x ≡ true = λ x n. kept_other t m s y x v.is v.same n in
     let below = below_parts t y front back a.at in
-    let still : (x : ℕ) → (reference t x ≢ reference t y) × (x < length t) → done (t ++ m ∷ []) x ≡ done t x = λ x h. done_other t m s y x v.is v.same h.1 h.0 in
+    let still : (x : ℕ) → (reference t x ≢ reference t y) × (x < length t) → done (t ++ m ∷ []) x ≡ done t x =
+        λ x h. done_other t m s y x v.is v.same h.1 h.0 in
     record {
       waits =
           waiting_more t m
@@ -110,22 +123,32 @@ changes t m s y front back v =
           ∙ (append-nil (filter keep (waiting t))
           ∙ (ap (filter keep) a.at.is
           ∙ (filter-append keep front (y ∷ back)
-          ∙ (ap (λ l. l ++ cond (keep y) (y ∷ filter keep back) (filter keep back)) (filter_all keep front (every_weaker (λ x. reference t x ≢ reference t y) (λ x. keep x ≡ true) other front a.before))
-          ∙ (ap (λ l. front ++ cond (keep y) (y ∷ l) l) (filter_all keep back (every_weaker (λ x. reference t x ≢ reference t y) (λ x. keep x ≡ true) other back a.behind))
+          ∙ (ap (λ l. l ++ cond (keep y) (y ∷ filter keep back) (filter keep back))
+              (filter_all keep front (every_weaker (λ x. reference t x ≢ reference t y) (λ x. keep x ≡ true) other front
+              a.before))
+          ∙ (ap (λ l. front ++ cond (keep y) (y ∷ l) l)
+              (filter_all keep back (every_weaker (λ x. reference t x ≢ reference t y) (λ x. keep x ≡ true) other back
+              a.behind))
           ∙ (ap (λ b. front ++ cond b (y ∷ back) back) (kept_own t m s y v.is v.same)
           ∙ ap (λ l. front ++ l) (cond_not y back (is_some s.ended)))))))));
-      front_done = every_weaker (λ x. (reference t x ≢ reference t y) × (x < length t)) (λ x. done (t ++ m ∷ []) x ≡ done t x) still front (every_both (λ x. reference t x ≢ reference t y) (λ x. x < length t) front a.before below.0);
+      front_done = every_weaker (λ x. (reference t x ≢ reference t y) × (x < length t))
+          (λ x. done (t ++ m ∷ []) x ≡ done t x) still front
+          (every_both (λ x. reference t x ≢ reference t y) (λ x. x < length t) front a.before below.0);
       own_done = done_own t m s y v.is v.same below.1.0;
-      back_done = every_weaker (λ x. (reference t x ≢ reference t y) × (x < length t)) (λ x. done (t ++ m ∷ []) x ≡ done t x) still back (every_both (λ x. reference t x ≢ reference t y) (λ x. x < length t) back a.behind below.1.1);
+      back_done = every_weaker (λ x. (reference t x ≢ reference t y) × (x < length t))
+          (λ x. done (t ++ m ∷ []) x ≡ done t x) still back
+          (every_both (λ x. reference t x ≢ reference t y) (λ x. x < length t) back a.behind below.1.1);
     }
 
 -- So each right step is a step of a command among others, which changes so.
-pub record Step (c : Settings) (t : Trace) (m : Moment) (s : Service) (k : Block) (y : ℕ) (front back : List ℕ) : Type 0 where
+pub record Step (c : Settings) (t : Trace) (m : Moment) (s : Service) (k : Block) (y : ℕ) (front back : List ℕ) :
+    Type 0 where
   pub served : IsServed c t k s y
   pub serves : Serves t m s y front back
   pub changes : Changes t (t ++ m ∷ []) s y front back
 
-pub step_right : (c : Settings) (t : Trace) (m : Moment) (s : Service) → Apart t (waiting t) → service_in m.1 ≡ Some s → IsRight c t m.0 m.1 → (k : Block) × (y : ℕ) × (front : List ℕ) × (back : List ℕ) × Step c t m s k y front back
+pub step_right : (c : Settings) (t : Trace) (m : Moment) (s : Service) → Apart t (waiting t) → service_in m.1 ≡ Some s
+    → IsRight c t m.0 m.1 → (k : Block) × (y : ℕ) × (front : List ℕ) × (back : List ℕ) × Step c t m s k y front back
 step_right c t m s a e r =
     let h = served_right c t m.0 m.1 s e r in
     let k = h.0 in

@@ -63,12 +63,15 @@ coded_short (codes.Move moves.Compare) = refl
 coded_short (codes.Move moves.Read) = refl
 coded_short (codes.Move moves.Write) = refl
 
-coded_with : (b : List ℕ) (found : Option Opcode) → find (λ o. nat_eq (line_of o).byte (slice_index b 8)) opcodes ≡ found → IsCoded (order_with found b)
+coded_with : (b : List ℕ) (found : Option Opcode) → find (λ o. nat_eq (line_of o).byte (slice_index b 8)) opcodes
+    ≡ found → IsCoded (order_with found b)
 coded_with b None e = refl
 coded_with b (Some o) e =
     let byte : (line_of o).byte ≡ slice_index b 8 =
-    eqb-true (line_of o).byte (slice_index b 8) (found_is (λ (x : Opcode). nat_eq (line_of x).byte (slice_index b 8)) opcodes o e) in
-    elim (nat_lt (length b) (least o)) as (λ s. IsCoded (if s then orders.Invalid (slice_index b 8) invalid_length else parameters o b)) [
+    eqb-true (line_of o).byte (slice_index b 8) (found_is (λ (x : Opcode). nat_eq (line_of x).byte (slice_index b 8))
+        opcodes o e) in
+    elim (nat_lt (length b) (least o)) as (λ s. IsCoded
+        (if s then orders.Invalid (slice_index b 8) invalid_length else parameters o b)) [
       | true ↦ subst (λ k. IsCoded (orders.Invalid k invalid_length)) byte (coded_short o)
       | false ↦ coded_parameters o b
     ]
@@ -83,16 +86,19 @@ command_coded t x = coded (sent_bytes (moment t x).0)
 
 -- ---- the end of an answered command
 
-answer_kind : (c : Settings) (figure number : ℕ) (o : Order) → IsCoded o → kind_of_code (endcode o) ≡ Some (kind_of_body (answer_body c figure number o))
+answer_kind : (c : Settings) (figure number : ℕ) (o : Order) → IsCoded o
+    → kind_of_code (endcode o) ≡ Some (kind_of_body (answer_body c figure number o))
 answer_kind c figure number (orders.Move kind count block) h = refused_kind (endcode (orders.Move kind count block)) h
 answer_kind c figure number (orders.Invalid byte t) h = refused_kind (endcode (orders.Invalid byte t)) h
 answer_kind c figure number o h = refl
 
-answered_kind : (c : Settings) (online : Bool) (figure : ℕ) (sent : Command) (fault : Option ℕ) → IsCoded sent.order → IsOfKind (own_end_with c online figure sent fault)
+answered_kind : (c : Settings) (online : Bool) (figure : ℕ) (sent : Command) (fault : Option ℕ) → IsCoded sent.order
+    → IsOfKind (own_end_with c online figure sent fault)
 answered_kind c online figure sent (Some status) h = refused_kind (endcode sent.order) h
 answered_kind c online figure sent None h = answer_kind c figure sent.unit sent.order h
 
-pub own_kind : (c : Settings) (online : Bool) (figure : ℕ) (sent : Command) → IsCoded sent.order → IsOfKind (own_end c online figure sent)
+pub own_kind : (c : Settings) (online : Bool) (figure : ℕ) (sent : Command) → IsCoded sent.order
+    → IsOfKind (own_end c online figure sent)
 own_kind c online figure sent h = answered_kind c online figure sent _ h
 
 -- ---- the ends of a moment
@@ -109,16 +115,19 @@ answer_kinds c t b =
 
 outcome_kind : (c : Settings) (t : Trace) (k : Block) (y : ℕ) → IsOfKind (outcome c t k y)
 unfolding outcome
-outcome_kind c t k y = ended_kind (unit_shape c (command t y).unit) (is_online t (unit t y)) (command t y) (good t y) k (command_coded t y)
+outcome_kind c t k y = ended_kind (unit_shape c (command t y).unit) (is_online t (unit t y)) (command t y) (good t y) k
+    (command_coded t y)
 
 end_kinds : (c : Settings) (t : Trace) (k : Block) (y : ℕ) → AllByRecursion IsOfKind (option_to_list (end_of c t k y))
 end_kinds c t k y =
-    elim (goes_on (is_online t (unit t y)) (order t y) k (left t y)) as (λ b. AllByRecursion IsOfKind (option_to_list (if b then None else Some (outcome c t k y)))) [
+    elim (goes_on (is_online t (unit t y)) (order t y) k (left t y)) as
+        (λ b. AllByRecursion IsOfKind (option_to_list (if b then None else Some (outcome c t k y)))) [
       | true ↦ tt
       | false ↦ (outcome_kind c t k y, tt)
     ]
 
-sent_kinds : (c : Settings) (t : Trace) (b : List ℕ) (answered : Bool) → AllByRecursion IsOfKind ((if answered then answer c t b else []) ++ [])
+sent_kinds : (c : Settings) (t : Trace) (b : List ℕ) (answered : Bool)
+    → AllByRecursion IsOfKind ((if answered then answer c t b else []) ++ [])
 sent_kinds c t b true = every_append IsOfKind (answer c t b) [] (answer_kinds c t b) tt
 sent_kinds c t b false = tt
 
@@ -135,10 +144,12 @@ moment_kinds c t (events.Look, entries.Stepped (reports.Served reference unit lb
 
 -- ---- all ends
 
-every_flat : {X A : Type 0} (P : A → Type 0) (f : X → List A) → (xs : List X) → AllByRecursion (λ x. AllByRecursion P (f x)) xs → AllByRecursion P (flat_map f xs)
+every_flat : {X A : Type 0} (P : A → Type 0) (f : X → List A) → (xs : List X)
+    → AllByRecursion (λ x. AllByRecursion P (f x)) xs → AllByRecursion P (flat_map f xs)
 every_flat P f [] h = tt
 every_flat P f (x ∷ xs) h =
-    subst (AllByRecursion P) (sym (flat_map-cons f x xs)) (every_append P (f x) (flat_map f xs) h.0 (every_flat P f xs h.1))
+    subst (AllByRecursion P) (sym (flat_map-cons f x xs))
+        (every_append P (f x) (flat_map f xs) h.0 (every_flat P f xs h.1))
 
 every_range : (P : ℕ → Type 0) (a n : ℕ) → ((i : ℕ) → i < a + n → P i) → AllByRecursion P (range_with_len a n)
 every_range P a zero h = tt
@@ -149,4 +160,5 @@ unfolding ends collect
 shaped c t l =
     All-from_recursion IsOfKind (ends c t)
     (every_flat IsOfKind (λ i. ends_at c (take i t) (moment t i)) (positions t)
-    (every_range (λ i. AllByRecursion IsOfKind (ends_at c (take i t) (moment t i))) 0 (length t) (λ i q. moment_kinds c (take i t) (moment t i) (l i (omega (arith, q))))))
+    (every_range (λ i. AllByRecursion IsOfKind (ends_at c (take i t) (moment t i))) 0 (length t)
+        (λ i q. moment_kinds c (take i t) (moment t i) (l i (omega (arith, q))))))

@@ -31,13 +31,17 @@ unfolding is_startable
 startable_parts c t y h =
     let p = three_parts (is_idle t) (is_free t y) (is_affordable c t y) h in
     record {
-      idle = every_weaker (λ x. nat_eq (done t x) 0 ≡ true) (λ x. done t x ≡ 0) (λ x e. eqb-true (done t x) 0 e) (waiting t) (every_of (λ x. nat_eq (done t x) 0) (waiting t) p.0);
+      idle = every_weaker (λ x. nat_eq (done t x) 0 ≡ true) (λ x. done t x ≡ 0) (λ x e. eqb-true (done t x) 0 e)
+          (waiting t) (every_of (λ x. nat_eq (done t x) 0) (waiting t) p.0);
       free = p.1;
-      affordable = every_weaker (λ x. nat_le (passes t x + toll t y) c.passing ≡ true) (λ x. passes t x + toll t y ≤ c.passing) (λ x e. leb-true (passes t x + toll t y) c.passing e) (earlier t y) (every_of (λ x. nat_le (passes t x + toll t y) c.passing) (earlier t y) p.2);
+      affordable = every_weaker (λ x. nat_le (passes t x + toll t y) c.passing ≡ true)
+          (λ x. passes t x + toll t y ≤ c.passing) (λ x e. leb-true (passes t x + toll t y) c.passing e) (earlier t y)
+          (every_of (λ x. nat_le (passes t x + toll t y) c.passing) (earlier t y) p.2);
     }
 
 -- A command that starts may start.
-pub startable_of : (c : Settings) (t : Trace) (k : Block) (s : Service) (y : ℕ) → IsServed c t k s y → s.started ≡ true → is_startable c t y ≡ true
+pub startable_of : (c : Settings) (t : Trace) (k : Block) (s : Service) (y : ℕ) → IsServed c t k s y → s.started ≡ true
+    → is_startable c t y ≡ true
 startable_of c t k s y v e =
     let zero_done = eqb-true (done t y) 0 (sym v.started ∙ e) in
     let idle : in_service t y ≡ false = le-ltb 0 (done t y) (omega (arith, zero_done)) in

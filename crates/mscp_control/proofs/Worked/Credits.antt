@@ -28,12 +28,14 @@ last_credit =
     ∷ []
 
 pub last_credit_legal : IsLegal (settings 2 2) last_credit
-unfolding moment collect command_of command is_waiting waiting done good passes_at passes is_free is_startable startable figure figure_of is_online head_cylinder head_up answer outcome ends untaken balance outstanding arrival block_of
+unfolding moment collect command_of command is_waiting waiting done good passes_at passes is_free is_startable startable
+    figure figure_of is_online head_cylinder head_up answer outcome ends untaken balance outstanding arrival block_of
 last_credit_legal = legal_from (settings 2 2) last_credit (refl, (refl, (refl, (refl, (refl, (refl, tt))))))
 
 -- One end is left.
 last_credit_balance : balance (settings 2 2) last_credit ≡ 0
-unfolding moment collect command_of command is_waiting waiting done good passes_at passes is_free is_startable startable figure figure_of is_online head_cylinder head_up answer outcome ends untaken balance outstanding arrival block_of
+unfolding moment collect command_of command is_waiting waiting done good passes_at passes is_free is_startable startable
+    figure figure_of is_online head_cylinder head_up answer outcome ends untaken balance outstanding arrival block_of
 last_credit_balance = refl
 
 -- A reference number may be used again once its end is taken.
@@ -41,13 +43,16 @@ abbrev pub doubled : Trace
 doubled =
     answered 1 0 orders.UnitStatus
     ∷ refused 1 0 (read 512 0) faults.Doubled
-    ∷ took ((1 ∷ 0 ∷ 0 ∷ 0 ∷ 0 ∷ 0 ∷ 0 ∷ 0 ∷ 0x83 ∷ 0 ∷ 4 ∷ 0 ∷ []) ++ (replicate 8 0 ++ ((1 ∷ 0 ∷ 0 ∷ 0 ∷ 0 ∷ 0 ∷ 0 ∷ 0 ∷ []) ++ (replicate 8 0 ++ ((0x0A ∷ 0 ∷ 2 ∷ 0 ∷ 1 ∷ 0 ∷ []) ++ replicate 6 0)))))
+    ∷ took ((1 ∷ 0 ∷ 0 ∷ 0 ∷ 0 ∷ 0 ∷ 0 ∷ 0 ∷ 0x83 ∷ 0 ∷ 4 ∷ 0 ∷ [])
+        ++ (replicate 8 0 ++ ((1 ∷ 0 ∷ 0 ∷ 0 ∷ 0 ∷ 0 ∷ 0 ∷ 0 ∷ [])
+        ++ (replicate 8 0 ++ ((0x0A ∷ 0 ∷ 2 ∷ 0 ∷ 1 ∷ 0 ∷ []) ++ replicate 6 0)))))
     ∷ queued 1 0 (read 512 0)
     ∷ refused 1 0 (orders.Status 7) faults.Doubled
     ∷ []
 
 pub doubled_legal : IsLegal (settings 4 2) doubled
-unfolding moment collect command_of command is_waiting waiting done good passes_at passes is_free is_startable startable figure figure_of is_online head_cylinder head_up answer outcome ends untaken balance outstanding arrival block_of
+unfolding moment collect command_of command is_waiting waiting done good passes_at passes is_free is_startable startable
+    figure figure_of is_online head_cylinder head_up answer outcome ends untaken balance outstanding arrival block_of
 doubled_legal = legal_from (settings 4 2) doubled (refl, (refl, (refl, (refl, (refl, tt)))))
 
 -- A message of 11 bytes is too short and one of 65 too long, and neither costs a credit.
@@ -58,12 +63,14 @@ lengths =
     ∷ []
 
 pub lengths_legal : IsLegal (settings 4 2) lengths
-unfolding moment collect command_of command is_waiting waiting done good passes_at passes is_free is_startable startable figure figure_of is_online head_cylinder head_up answer outcome ends untaken balance outstanding arrival block_of
+unfolding moment collect command_of command is_waiting waiting done good passes_at passes is_free is_startable startable
+    figure figure_of is_online head_cylinder head_up answer outcome ends untaken balance outstanding arrival block_of
 lengths_legal = legal_from (settings 4 2) lengths (refl, (refl, tt))
 
 -- All credits are there.
 lengths_balance : balance (settings 4 2) lengths ≡ 4
-unfolding moment collect command_of command is_waiting waiting done good passes_at passes is_free is_startable startable figure figure_of is_online head_cylinder head_up answer outcome ends untaken balance outstanding arrival block_of
+unfolding moment collect command_of command is_waiting waiting done good passes_at passes is_free is_startable startable
+    figure figure_of is_online head_cylinder head_up answer outcome ends untaken balance outstanding arrival block_of
 lengths_balance = refl
 
 -- Where nothing came there is nothing to serve, to take or to look at.
@@ -75,11 +82,12 @@ nothing =
     ∷ []
 
 pub nothing_legal : IsLegal (settings 4 2) nothing
-unfolding moment collect command_of command is_waiting waiting done good passes_at passes is_free is_startable startable figure figure_of is_online head_cylinder head_up answer outcome ends untaken balance outstanding arrival block_of
+unfolding moment collect command_of command is_waiting waiting done good passes_at passes is_free is_startable startable
+    figure figure_of is_online head_cylinder head_up answer outcome ends untaken balance outstanding arrival block_of
 nothing_legal = legal_from (settings 4 2) nothing (refl, (refl, (refl, tt)))
 
--- Which messages the last credit is kept from is told by the opcode byte alone: an unknown opcode is refused, and a poll
--- that is too short is taken.
+-- Which messages the last credit is kept from is told by the opcode byte alone: an unknown opcode is refused, and a
+-- poll that is too short is taken.
 abbrev pub by_opcode : Trace
 by_opcode =
     queued 1 0 (read 512 0)
@@ -89,5 +97,6 @@ by_opcode =
     ∷ []
 
 pub by_opcode_legal : IsLegal (settings 2 2) by_opcode
-unfolding moment collect command_of command is_waiting waiting done good passes_at passes is_free is_startable startable figure figure_of is_online head_cylinder head_up answer outcome ends untaken balance outstanding arrival block_of
+unfolding moment collect command_of command is_waiting waiting done good passes_at passes is_free is_startable startable
+    figure figure_of is_online head_cylinder head_up answer outcome ends untaken balance outstanding arrival block_of
 by_opcode_legal = legal_from (settings 2 2) by_opcode (refl, (refl, (refl, (refl, tt))))

@@ -30,7 +30,8 @@ find_false p [] h = refl
 find_false p (x ∷ xs) h = ap (λ b. cond b (Some x) (find p xs)) (h x) ∙ find_false p xs h
 
 pub none_handed : (talk : Talk) (j : ℕ) → NoEnd talk j → ended talk j ≡ None
-none_handed talk j n = find_false (λ i. hands_over (reference talk i) (said talk j).moment) (outstanding talk j) (λ i. n (reference talk i))
+none_handed talk j n = find_false (λ i. hands_over (reference talk i) (said talk j).moment) (outstanding talk j)
+    (λ i. n (reference talk i))
 
 and_false : (b : Bool) → (b && false) ≡ false
 and_false true = refl
@@ -42,74 +43,108 @@ or_none false = refl
 
 outstanding_same : (talk : Talk) (j i : ℕ) → NoEnd talk j → is_outstanding talk (j + 1) i ≡ is_outstanding talk j i
 outstanding_same talk j i n =
-    let no : (nat_lt i j && hands_over (reference talk i) (said talk j).moment) ≡ false = ap (λ b. nat_lt i j && b) (n (reference talk i)) ∙ and_false (nat_lt i j) in
-    ap (λ b. sends (said talk i).heard && not b) (any_more talk j i ∙ (ap (λ b. list_any (is_ended talk i) (before j) || b) no ∙ or_none (list_any (is_ended talk i) (before j))))
+    let no : (nat_lt i j && hands_over (reference talk i) (said talk j).moment) ≡ false =
+        ap (λ b. nat_lt i j && b) (n (reference talk i)) ∙ and_false (nat_lt i j) in
+    ap (λ b. sends (said talk i).heard && not b) (any_more talk j i
+        ∙ (ap (λ b. list_any (is_ended talk i) (before j) || b) no ∙ or_none (list_any (is_ended talk i) (before j))))
 
-pub all_stay : (talk : Talk) (j : ℕ) → NoEnd talk j → filter (λ i. not (ends_now talk j i)) (outstanding talk j) ≡ outstanding talk j
-all_stay talk j n = filter_all (λ i. not (ends_now talk j i)) (outstanding talk j) (every_from (λ i. not (ends_now talk j i) ≡ true) (λ i. ap not (n (reference talk i))) (outstanding talk j))
+pub all_stay : (talk : Talk) (j : ℕ) → NoEnd talk j
+    → filter (λ i. not (ends_now talk j i)) (outstanding talk j) ≡ outstanding talk j
+all_stay talk j n = filter_all (λ i. not (ends_now talk j i)) (outstanding talk j)
+    (every_from (λ i. not (ends_now talk j i) ≡ true) (λ i. ap not (n (reference talk i))) (outstanding talk j))
 
-pub no_answer : (c : Settings) (talk : Talk) (j i : ℕ) → NoEnd talk j → last_answer c talk (j + 1) i ≡ last_answer c talk j i
+pub no_answer : (c : Settings) (talk : Talk) (j i : ℕ) → NoEnd talk j
+    → last_answer c talk (j + 1) i ≡ last_answer c talk j i
 no_answer c talk j i n = last_same c talk j i (ap (answers_of c talk i) (none_handed talk j n))
 
-subs_same : (c : Settings) (talk : Talk) (j : ℕ) (xs : List ℕ) → NoEnd talk j → map (submission_at c talk (j + 1)) xs ≡ map (submission_at c talk j) xs
+subs_same : (c : Settings) (talk : Talk) (j : ℕ) (xs : List ℕ) → NoEnd talk j
+    → map (submission_at c talk (j + 1)) xs ≡ map (submission_at c talk j) xs
 subs_same c talk j xs n =
     map_on (submission_at c talk (j + 1)) (submission_at c talk j) xs
-    (every_from (λ i. submission_at c talk (j + 1) i ≡ submission_at c talk j i) (λ i. ap (λ t. record { reference = reference talk i; unit = unit_of_turn talk i (said talk i).turn; opcode = opcode talk i; told = t }) (no_answer c talk j i n)) xs)
+    (every_from (λ i. submission_at c talk (j + 1) i ≡ submission_at c talk j i)
+        (λ i. ap (λ t. record { reference = reference talk i; unit = unit_of_turn talk i (said talk i).turn; opcode =
+        opcode talk i; told = t }) (no_answer c talk j i n)) xs)
 
-stands_same : (talk : Talk) (j : ℕ) (o : Option ℕ) → NoEnd talk j → polled_is_outstanding talk (j + 1) o ≡ polled_is_outstanding talk j o
+stands_same : (talk : Talk) (j : ℕ) (o : Option ℕ) → NoEnd talk j
+    → polled_is_outstanding talk (j + 1) o ≡ polled_is_outstanding talk j o
 stands_same talk j None n = refl
 stands_same talk j (Some i) n = outstanding_same talk j i n
 
-watch_same : (talk : Talk) (j : ℕ) (o : Option ℕ) → NoEnd talk j → option_map (watch_at talk (j + 1)) o ≡ option_map (watch_at talk j) o
+watch_same : (talk : Talk) (j : ℕ) (o : Option ℕ) → NoEnd talk j
+    → option_map (watch_at talk (j + 1)) o ≡ option_map (watch_at talk j) o
 watch_same talk j None n = refl
-watch_same talk j (Some p) n = ap (λ b. Some (record { reference = reference talk p; polled = reference_found talk (polled talk p); is_outstanding = b })) (stands_same talk j (polled talk p) n)
+watch_same talk j (Some p) n = ap (λ b. Some (record
+    { reference = reference talk p; polled = reference_found talk (polled talk p); is_outstanding = b }))
+    (stands_same talk j (polled talk p) n)
 
 -- nothing is sent either
-pub account_quiet : (c : Settings) (talk : Talk) (j : ℕ) → NoEnd talk j → sends (said talk j).heard ≡ false → account_at c talk (j + 1) ≡ account_at c talk j
+pub account_quiet : (c : Settings) (talk : Talk) (j : ℕ) → NoEnd talk j → sends (said talk j).heard ≡ false
+    → account_at c talk (j + 1) ≡ account_at c talk j
 account_quiet c talk j n s =
-    let outs : outstanding talk (j + 1) ≡ outstanding talk j = outstanding_more talk j ∙ ((λ i. all_stay talk j n i ++ cond (s i) (j ∷ []) []) ∙ append-nil (outstanding talk j)) in
-    let subs : map (submission_at c talk (j + 1)) (outstanding talk (j + 1)) ≡ map (submission_at c talk j) (outstanding talk j) = ap (map (submission_at c talk (j + 1))) outs ∙ subs_same c talk j (outstanding talk j) n in
+    let outs : outstanding talk (j + 1) ≡ outstanding talk j =
+        outstanding_more talk j ∙ ((λ i. all_stay talk j n i ++ cond (s i) (j ∷ []) [])
+        ∙ append-nil (outstanding talk j)) in
+    let subs : map (submission_at c talk (j + 1)) (outstanding talk (j + 1))
+        ≡ map (submission_at c talk j) (outstanding talk j) =
+        ap (map (submission_at c talk (j + 1))) outs ∙ subs_same c talk j (outstanding talk j) n in
     let flight : in_flight talk (j + 1) ≡ in_flight talk j = ap (find (λ p. is_asked (said talk p).heard)) outs in
     let watch = ap (option_map (watch_at talk (j + 1))) flight ∙ watch_same talk j (in_flight talk j) n in
     λ i. record { credits = c.credits; outstanding = subs i; watch = watch i }
 
 -- ---- a command is sent
 
-pub outs_sent : (talk : Talk) (j : ℕ) → NoEnd talk j → sends (said talk j).heard ≡ true → outstanding talk (j + 1) ≡ outstanding talk j ++ j ∷ []
+pub outs_sent : (talk : Talk) (j : ℕ) → NoEnd talk j → sends (said talk j).heard ≡ true
+    → outstanding talk (j + 1) ≡ outstanding talk j ++ j ∷ []
 outs_sent talk j n s = outstanding_more talk j ∙ (λ i. all_stay talk j n i ++ cond (s i) (j ∷ []) [])
 
 subs_sent : (c : Settings) (talk : Talk) (j : ℕ) → NoEnd talk j → sends (said talk j).heard ≡ true
-    → map (submission_at c talk (j + 1)) (outstanding talk (j + 1)) ≡ map (submission_at c talk j) (outstanding talk j) ++ record { reference = reference talk j; unit = unit_of_turn talk j (said talk j).turn; opcode = opcode talk j; told = None } ∷ []
+    → map (submission_at c talk (j + 1)) (outstanding talk (j + 1)) ≡ map (submission_at c talk j) (outstanding talk j)
+        ++ record { reference = reference talk j; unit = unit_of_turn talk j (said talk j).turn; opcode =
+        opcode talk j; told = None } ∷ []
 subs_sent c talk j n s =
     ap (map (submission_at c talk (j + 1))) (outs_sent talk j n s)
     ∙ (subs_same c talk j (outstanding talk j ++ j ∷ []) n
     ∙ (map-append (submission_at c talk j) (outstanding talk j) (j ∷ [])
-    ∙ ap (λ t. map (submission_at c talk j) (outstanding talk j) ++ record { reference = reference talk j; unit = unit_of_turn talk j (said talk j).turn; opcode = opcode talk j; told = t } ∷ []) (untold c talk j)))
+    ∙ ap (λ t. map (submission_at c talk j) (outstanding talk j)
+        ++ record { reference = reference talk j; unit = unit_of_turn talk j (said talk j).turn; opcode =
+        opcode talk j; told = t } ∷ []) (untold c talk j)))
 
 or_nothing : (o : Option ℕ) → option_or o None ≡ o
 or_nothing None = refl
 or_nothing (Some x) = refl
 
-pub account_submitted : (c : Settings) (talk : Talk) (j : ℕ) (command : Command) (sent : Sent) → NoEnd talk j → (said talk j).turn ≡ turns.Submit command → (said talk j).heard ≡ hears.Submitted sent → account_at c talk (j + 1) ≡ submitted (account_at c talk j) command
+pub account_submitted : (c : Settings) (talk : Talk) (j : ℕ) (command : Command) (sent : Sent) → NoEnd talk j
+    → (said talk j).turn ≡ turns.Submit command → (said talk j).heard ≡ hears.Submitted sent
+    → account_at c talk (j + 1) ≡ submitted (account_at c talk j) command
 account_submitted c talk j command sent n t h =
     let s : sends (said talk j).heard ≡ true = ap sends h in
-    let new : record { reference = reference talk j; unit = unit_of_turn talk j (said talk j).turn; opcode = opcode talk j; told = None } ≡ submission_of command = ap (λ u. record { reference = reference_in u; unit = unit_of_turn talk j u; opcode = opcode_in u; told = None }) t in
+    let new : record { reference = reference talk j; unit = unit_of_turn talk j (said talk j).turn; opcode =
+        opcode talk j; told = None } ≡ submission_of command =
+        ap (λ u. record { reference = reference_in u; unit = unit_of_turn talk j u; opcode = opcode_in u; told = None })
+        t in
     let subs = subs_sent c talk j n s ∙ ap (λ x. map (submission_at c talk j) (outstanding talk j) ++ x ∷ []) new in
     let p : ℕ → Bool = λ p. is_asked (said talk p).heard in
-    let flight : in_flight talk (j + 1) ≡ in_flight talk j = ap (find p) (outs_sent talk j n s) ∙ (find-append p (outstanding talk j) (j ∷ []) ∙ (ap (λ b. option_or (in_flight talk j) (cond b (Some j) None)) (ap is_asked h) ∙ or_nothing (in_flight talk j))) in
+    let flight : in_flight talk (j + 1) ≡ in_flight talk j =
+        ap (find p) (outs_sent talk j n s) ∙ (find-append p (outstanding talk j) (j ∷ [])
+        ∙ (ap (λ b. option_or (in_flight talk j) (cond b (Some j) None)) (ap is_asked h)
+        ∙ or_nothing (in_flight talk j))) in
     let watch = ap (option_map (watch_at talk (j + 1))) flight ∙ watch_same talk j (in_flight talk j) n in
     λ i. record { credits = c.credits; outstanding = subs i; watch = watch i }
 
 -- ---- a poll is sent
 
-pub find_map : {X Y : Type 0} (f : X → Y) (p : Y → Bool) (xs : List X) → find p (map f xs) ≡ option_map f (find (λ x. p (f x)) xs)
+pub find_map : {X Y : Type 0} (f : X → Y) (p : Y → Bool) (xs : List X)
+    → find p (map f xs) ≡ option_map f (find (λ x. p (f x)) xs)
 find_map f p [] = refl
-find_map {X} f p (x ∷ xs) = elim (p (f x)) as (λ b. cond b (Some (f x)) (find p (map f xs)) ≡ option_map f (cond b (Some x) (find (λ (y : X). p (f y)) xs))) [ true ↦ refl | false ↦ find_map f p xs ]
+find_map {X} f p (x ∷ xs) = elim (p (f x)) as (λ b. cond b (Some (f x)) (find p (map f xs))
+    ≡ option_map f (cond b (Some x) (find (λ (y : X). p (f y)) xs))) [ true ↦ refl | false ↦ find_map f p xs ]
 
-pub oldest_is : (c : Settings) (talk : Talk) (j : ℕ) → oldest (account_at c talk j) ≡ option_map (submission_at c talk j) (polled talk j)
+pub oldest_is : (c : Settings) (talk : Talk) (j : ℕ)
+    → oldest (account_at c talk j) ≡ option_map (submission_at c talk j) (polled talk j)
 oldest_is c talk j = find_map (submission_at c talk j) (λ s. not (is_immediate s.opcode)) (outstanding talk j)
 
-pub unit_same : (talk : Talk) (i : ℕ) (turn : Turn) → not (is_immediate (opcode_in turn)) ≡ true → unit_in turn ≡ unit_of_turn talk i turn
+pub unit_same : (talk : Talk) (i : ℕ) (turn : Turn) → not (is_immediate (opcode_in turn)) ≡ true
+    → unit_in turn ≡ unit_of_turn talk i turn
 unit_same talk i (turns.Poll r) e = absurd (false≢true e)
 unit_same talk i turn e = refl
 
@@ -119,32 +154,49 @@ pub record Polls (c : Settings) (talk : Talk) (j : ℕ) (s : Submission) : Type 
   pub found : polled talk j ≡ Some command
   pub is : s ≡ submission_at c talk j command
 
-polls_when : (c : Settings) (talk : Talk) (j : ℕ) (s : Submission) (o : Option ℕ) → polled talk j ≡ o → option_map (submission_at c talk j) o ≡ Some s → Polls c talk j s
+polls_when : (c : Settings) (talk : Talk) (j : ℕ) (s : Submission) (o : Option ℕ) → polled talk j ≡ o
+    → option_map (submission_at c talk j) o ≡ Some s → Polls c talk j s
 polls_when c talk j s None q e = absurd (false≢true (ap is_some e))
 polls_when c talk j s (Some i) q e = record { command = i; found = q; is = ap (λ o. unwrap_or o s) (sym e) }
 
-pub polls_of : (c : Settings) (talk : Talk) (j : ℕ) (s : Submission) → oldest (account_at c talk j) ≡ Some s → Polls c talk j s
+pub polls_of : (c : Settings) (talk : Talk) (j : ℕ) (s : Submission) → oldest (account_at c talk j) ≡ Some s
+    → Polls c talk j s
 polls_of c talk j s e = polls_when c talk j s (polled talk j) refl (sym (oldest_is c talk j) ∙ e)
 
 pub no_flight : (talk : Talk) (j : ℕ) (o : Option ℕ) → is_some (option_map (watch_at talk j) o) ≡ false → o ≡ None
 no_flight talk j None e = refl
 no_flight talk j (Some p) e = absurd (true≢false e)
 
-pub account_asked : (c : Settings) (talk : Talk) (j r : ℕ) (s : Submission) → NoEnd talk j → (said talk j).turn ≡ turns.Poll r → (said talk j).heard ≡ hears.Asked → is_some (account_at c talk j).watch ≡ false → oldest (account_at c talk j) ≡ Some s
+pub account_asked : (c : Settings) (talk : Talk) (j r : ℕ) (s : Submission) → NoEnd talk j
+    → (said talk j).turn ≡ turns.Poll r → (said talk j).heard ≡ hears.Asked
+    → is_some (account_at c talk j).watch ≡ false → oldest (account_at c talk j) ≡ Some s
     → account_at c talk (j + 1) ≡ watching (account_at c talk j) r s
 account_asked c talk j r s n t h w o =
     let a = polls_of c talk j s o in
     let i = a.command in
     let sent : sends (said talk j).heard ≡ true = ap sends h in
-    let oldest : not (is_immediate (opcode talk i)) ≡ true = found_is (λ x. not (is_immediate (opcode talk x))) (outstanding talk j) i a.found in
-    let unit : unit_found talk (polled talk j) ≡ s.unit = ap (unit_found talk) a.found ∙ (unit_same talk i (said talk i).turn oldest ∙ ap (λ (x : Submission). x.unit) (sym a.is)) in
-    let number : reference_found talk (polled talk j) ≡ s.reference = ap (reference_found talk) a.found ∙ ap (λ (x : Submission). x.reference) (sym a.is) in
-    let new : record { reference = reference talk j; unit = unit_of_turn talk j (said talk j).turn; opcode = opcode talk j; told = None } ≡ submission_of (poll_of r s) = ap (λ u. record { reference = reference_in u; unit = unit_of_turn talk j u; opcode = opcode_in u; told = None }) t ∙ ap (λ u. record { reference = r; unit = u; opcode = 0x02; told = None }) unit in
+    let oldest : not (is_immediate (opcode talk i)) ≡ true =
+        found_is (λ x. not (is_immediate (opcode talk x))) (outstanding talk j) i a.found in
+    let unit : unit_found talk (polled talk j) ≡ s.unit =
+        ap (unit_found talk) a.found ∙ (unit_same talk i (said talk i).turn oldest
+        ∙ ap (λ (x : Submission). x.unit) (sym a.is)) in
+    let number : reference_found talk (polled talk j) ≡ s.reference =
+        ap (reference_found talk) a.found ∙ ap (λ (x : Submission). x.reference) (sym a.is) in
+    let new : record { reference = reference talk j; unit = unit_of_turn talk j (said talk j).turn; opcode =
+        opcode talk j; told = None } ≡ submission_of (poll_of r s) =
+        ap (λ u. record { reference = reference_in u; unit = unit_of_turn talk j u; opcode = opcode_in u; told = None })
+        t ∙ ap (λ u. record { reference = r; unit = u; opcode = 0x02; told = None }) unit in
     let subs = subs_sent c talk j n sent ∙ ap (λ x. map (submission_at c talk j) (outstanding talk j) ++ x ∷ []) new in
     let p : ℕ → Bool = λ p. is_asked (said talk p).heard in
     let idle : in_flight talk j ≡ None = no_flight talk j (in_flight talk j) w in
-    let flight : in_flight talk (j + 1) ≡ Some j = ap (find p) (outs_sent talk j n sent) ∙ (find-append p (outstanding talk j) (j ∷ []) ∙ (λ k. option_or (idle k) (cond (is_asked (h k)) (Some j) None))) in
-    let there : polled_is_outstanding talk (j + 1) (polled talk j) ≡ true = ap (polled_is_outstanding talk (j + 1)) a.found ∙ (outstanding_same talk j i n ∙ found_stands talk j i _ a.found) in
-    let watch : option_map (watch_at talk (j + 1)) (in_flight talk (j + 1)) ≡ Some (record { reference = r; polled = s.reference; is_outstanding = true }) =
-    ap (option_map (watch_at talk (j + 1))) flight ∙ (λ k. Some (record { reference = reference_in (t k); polled = number k; is_outstanding = there k })) in
+    let flight : in_flight talk (j + 1) ≡ Some j =
+        ap (find p) (outs_sent talk j n sent) ∙ (find-append p (outstanding talk j) (j ∷ [])
+        ∙ (λ k. option_or (idle k) (cond (is_asked (h k)) (Some j) None))) in
+    let there : polled_is_outstanding talk (j + 1) (polled talk j) ≡ true =
+        ap (polled_is_outstanding talk (j + 1)) a.found
+        ∙ (outstanding_same talk j i n ∙ found_stands talk j i _ a.found) in
+    let watch : option_map (watch_at talk (j + 1)) (in_flight talk (j + 1))
+        ≡ Some (record { reference = r; polled = s.reference; is_outstanding = true }) =
+    ap (option_map (watch_at talk (j + 1))) flight
+        ∙ (λ k. Some (record { reference = reference_in (t k); polled = number k; is_outstanding = there k })) in
     λ k. record { credits = c.credits; outstanding = subs k; watch = watch k }

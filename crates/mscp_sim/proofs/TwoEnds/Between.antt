@@ -52,7 +52,8 @@ record Came (c : Settings) (talk : Talk) (j i l : ℕ) : Type 0 where
   pub about : asks_about talk i poll ≡ true
   pub told : figure_told c talk poll ≡ l
 
-came_from : (c : Settings) (talk : Talk) (j i l : ℕ) (ks : List ℕ) → AllByRecursion (λ k. k < j) ks → last_of (flat_map (λ k. answers_of c talk i (ended talk k)) ks) ≡ Some l → Came c talk j i l
+came_from : (c : Settings) (talk : Talk) (j i l : ℕ) (ks : List ℕ) → AllByRecursion (λ k. k < j) ks
+    → last_of (flat_map (λ k. answers_of c talk i (ended talk k)) ks) ≡ Some l → Came c talk j i l
 came_from c talk j i l [] h e = absurd (false≢true (ap is_some e))
 came_from c talk j i l (k ∷ ks) h e =
     let rest = flat_map (λ k. answers_of c talk i (ended talk k)) ks in
@@ -60,13 +61,17 @@ came_from c talk j i l (k ∷ ks) h e =
     λ o. elim o as (λ o. ended talk k ≡ o → last_of (answers_of c talk i o ++ rest) ≡ Some l → Came c talk j i l) [
       | None ↦ λ q f. came_from c talk j i l ks h.1 f
       | Some p ↦ λ q.
-          let when : (b : Bool) → asks_about talk i p ≡ b → last_of (cond b (figure_told c talk p ∷ []) [] ++ rest) ≡ Some l → Came c talk j i l =
-          λ b. elim b as (λ b. asks_about talk i p ≡ b → last_of (cond b (figure_told c talk p ∷ []) [] ++ rest) ≡ Some l → Came c talk j i l) [
+          let when : (b : Bool) → asks_about talk i p ≡ b
+              → last_of (cond b (figure_told c talk p ∷ []) [] ++ rest) ≡ Some l → Came c talk j i l =
+          λ b. elim b as (λ b. asks_about talk i p ≡ b
+              → last_of (cond b (figure_told c talk p ∷ []) [] ++ rest) ≡ Some l → Came c talk j i l) [
             | false ↦ λ a f. came_from c talk j i l ks h.1 f
             | true ↦ λ a.
-                let tail : (ys : List ℕ) → rest ≡ ys → last_of (figure_told c talk p ∷ ys) ≡ Some l → Came c talk j i l =
+                let tail : (ys : List ℕ) → rest ≡ ys → last_of (figure_told c talk p ∷ ys) ≡ Some l
+                    → Came c talk j i l =
                 λ ys. elim ys as (λ ys. rest ≡ ys → last_of (figure_told c talk p ∷ ys) ≡ Some l → Came c talk j i l) [
-                  | [] ↦ λ r f. record { turn = k; poll = p; early = h.0; handed = q; about = a; told = ap (λ o. unwrap_or o l) f }
+                  | [] ↦ λ r f. record { turn = k; poll = p; early = h.0; handed = q; about = a; told =
+                      ap (λ o. unwrap_or o l) f }
                   | y ∷ ys ↦ λ r f. came_from c talk j i l ks h.1 (ap last_of r ∙ f)
                 ] in
                 tail rest refl
@@ -84,14 +89,17 @@ weaker_and false p q e = e
 
 stood_one : (talk : Talk) (m i : ℕ) → is_outstanding talk (m + 1) i ≡ true → is_outstanding talk m i ≡ true
 stood_one talk m i e =
-    weaker_and (sends (said talk i).heard) (list_any (is_ended talk i) (before m)) (is_ended talk i m) (sym (ap (λ b. sends (said talk i).heard && not b) (any_more talk m i)) ∙ e)
+    weaker_and (sends (said talk i).heard) (list_any (is_ended talk i) (before m)) (is_ended talk i m)
+        (sym (ap (λ b. sends (said talk i).heard && not b) (any_more talk m i)) ∙ e)
 
 stood_by : (talk : Talk) (m i d : ℕ) → is_outstanding talk (m + d) i ≡ true → is_outstanding talk m i ≡ true
 stood_by talk m i zero e = let same : m + 0 ≡ m = omega arith in subst (λ k. is_outstanding talk k i ≡ true) same e
-stood_by talk m i (suc d) e = let same : m + suc d ≡ m + d + 1 = omega arith in stood_by talk m i d (stood_one talk (m + d) i (subst (λ k. is_outstanding talk k i ≡ true) same e))
+stood_by talk m i (suc d) e = let same : m + suc d ≡ m + d + 1 = omega arith in
+    stood_by talk m i d (stood_one talk (m + d) i (subst (λ k. is_outstanding talk k i ≡ true) same e))
 
 stood : (talk : Talk) (m j i : ℕ) → m ≤ j → is_outstanding talk j i ≡ true → is_outstanding talk m i ≡ true
-stood talk m j i l e = let same : j ≡ m + (j - m) = omega (arith, l) in stood_by talk m i (j - m) (subst (λ k. is_outstanding talk k i ≡ true) same e)
+stood talk m j i l e = let same : j ≡ m + (j - m) = omega (arith, l) in
+    stood_by talk m i (j - m) (subst (λ k. is_outstanding talk k i ≡ true) same e)
 
 or_yes : (p q : Bool) → q ≡ true → (p || q) ≡ true
 or_yes true q e = refl
@@ -101,10 +109,12 @@ never : (b : Bool) → (b && not true) ≡ false
 never true = refl
 never false = refl
 
-any_there : (q : ℕ → Bool) (xs : List ℕ) (k : ℕ) → q k ≡ true → list_any (λ x. nat_eq x k) xs ≡ true → list_any q xs ≡ true
+any_there : (q : ℕ → Bool) (xs : List ℕ) (k : ℕ) → q k ≡ true → list_any (λ x. nat_eq x k) xs ≡ true
+    → list_any q xs ≡ true
 any_there q [] k e h = absurd (false≢true h)
 any_there q (x ∷ xs) k e h =
-    let out : (b : Bool) → nat_eq x k ≡ b → (b || list_any (λ y. nat_eq y k) xs) ≡ true → (q x || list_any q xs) ≡ true =
+    let out : (b : Bool) → nat_eq x k ≡ b → (b || list_any (λ y. nat_eq y k) xs) ≡ true
+        → (q x || list_any q xs) ≡ true =
     λ b. elim b as (λ b. nat_eq x k ≡ b → (b || list_any (λ y. nat_eq y k) xs) ≡ true → (q x || list_any q xs) ≡ true) [
       | true ↦ λ n g. ap (λ b. b || list_any q xs) (ap q (eqb-true x k n) ∙ e)
       | false ↦ λ n g. or_yes (q x) (list_any q xs) (any_there q xs k e g)
@@ -116,13 +126,17 @@ gone : (talk : Talk) (j k p : ℕ) → k < j → ended talk k ≡ Some p → is_
 gone talk j k p l e =
     let below = found_below talk k p _ e in
     let after : nat_lt p k ≡ true = grind (arith, nat_tests, below) in
-    let handed : hands_over (talks.reference talk p) (said talk k).moment ≡ true = found_is (λ i. hands_over (talks.reference talk i) (said talk k).moment) (outstanding talk k) p e in
+    let handed : hands_over (talks.reference talk p) (said talk k).moment ≡ true =
+        found_is (λ i. hands_over (talks.reference talk i) (said talk k).moment) (outstanding talk k) p e in
     let own : is_ended talk p k ≡ true = (λ i. after i && handed i) in
-    ap (λ b. sends (said talk p).heard && not b) (any_there (is_ended talk p) (before j) k own (any_before k j l)) ∙ never (sends (said talk p).heard)
+    ap (λ b. sends (said talk p).heard && not b) (any_there (is_ended talk p) (before j) k own (any_before k j l))
+        ∙ never (sends (said talk p).heard)
 
 -- ---- the first poll came first
 
-order_of : (c : Settings) (talk : Talk) (j k p q : ℕ) → AllKnown c talk → j < length talk → k < j → ended talk k ≡ Some p → ended talk j ≡ Some q → is_asked (said talk p).heard ≡ true → is_asked (said talk q).heard ≡ true → p < q
+order_of : (c : Settings) (talk : Talk) (j k p q : ℕ) → AllKnown c talk → j < length talk → k < j
+    → ended talk k ≡ Some p → ended talk j ≡ Some q → is_asked (said talk p).heard ≡ true
+    → is_asked (said talk q).heard ≡ true → p < q
 order_of c talk j k p q known l m e f a b =
     let pk : p < k = found_below talk k p _ e in
     let qj : q < j = found_below talk j q _ f in
@@ -135,7 +149,8 @@ order_of c talk j k p q known l m e f a b =
     let less : q < p = omega (arith, more, other) in
     let there = outstanding_found talk p q (stood talk p j q (omega (arith, pk, m)) stands) less in
     let idle = (known p (omega (arith, pk, m, l))).tells.idle a in
-    let silent = found_all (λ x. is_asked (said talk x).heard ≡ false) _ (outstanding talk p) q (none_found (λ x. is_asked (said talk x).heard) (outstanding talk p) idle) there in
+    let silent = found_all (λ x. is_asked (said talk x).heard ≡ false) _ (outstanding talk p) q
+        (none_found (λ x. is_asked (said talk x).heard) (outstanding talk p) idle) there in
     absurd (true≢false (sym b ∙ silent)))
     (cases_eq p q))
     (cases_lt p q)
@@ -147,7 +162,8 @@ contains_in [] x B = (0, omega arith, refl)
 contains_in (a ∷ A) x B = let rest = contains_in A x B in let l = rest.1 in (suc rest.0, omega (arith, l), rest.2)
 
 contains_waiting : (t : Trace) (x : ℕ) → is_waiting t x ≡ true → Contains (waiting t) x
-contains_waiting t x w = let k = cut t x (waits_below t x w) w in subst (λ xs. Contains xs x) (sym k.2.is) (contains_in k.0 x k.1)
+contains_waiting t x w = let k = cut t x (waits_below t x w) w in
+    subst (λ xs. Contains xs x) (sym k.2.is) (contains_in k.0 x k.1)
 
 -- no figure of a waiting command of this number is over g, less s
 abbrev AtMost : Settings → Trace → ℕ → ℕ → ℕ → Type 0
@@ -157,12 +173,15 @@ abbrev trace_at : Talk → ℕ → Trace
 trace_at talk m = trace_of (take m talk)
 
 -- what each part of a promised trace has
-part_of : (c : Settings) (t u : Trace) → Promise c (t ++ u) → (x : ℕ) → Contains (waiting t) x → figure_of c t (reference t x) ≡ figure c t x
+part_of : (c : Settings) (t u : Trace) → Promise c (t ++ u) → (x : ℕ) → Contains (waiting t) x
+    → figure_of c t (reference t x) ≡ figure c t x
 part_of c t u p x w =
     let inside : length t ≤ length (t ++ u) = let l = length-append t u in omega (arith, l) in
-    subst (λ v. (x : ℕ) → Contains (waiting v) x → figure_of c v (reference v x) ≡ figure c v x) (take-append_seam t u) (p.own (length t) inside) x w
+    subst (λ v. (x : ℕ) → Contains (waiting v) x → figure_of c v (reference v x) ≡ figure c v x) (take-append_seam t u)
+        (p.own (length t) inside) x w
 
-first_most : (c : Settings) (talk : Talk) (p n : ℕ) → AllKnown c talk → p < length talk → AtMost c (trace_at talk p) n (figure_of c (trace_at talk p) n) 0
+first_most : (c : Settings) (talk : Talk) (p n : ℕ) → AllKnown c talk → p < length talk
+    → AtMost c (trace_at talk p) n (figure_of c (trace_at talk p) n) 0
 first_most c talk p n known l x w r =
     let t = trace_at talk p in
     let promise = subst (Promise c) (trace_more talk p l) (known p l).promise in
@@ -171,23 +190,32 @@ first_most c talk p n known l x w r =
     omega (arith, same)
 
 -- the promise at its last moment
-never_rises_at : (c : Settings) (t : Trace) (m : Moment) → Promise c (t ++ m ∷ []) → (x : ℕ) → Contains (waiting t) x → figure c (t ++ m ∷ []) x ≤ figure c t x
+never_rises_at : (c : Settings) (t : Trace) (m : Moment) → Promise c (t ++ m ∷ []) → (x : ℕ) → Contains (waiting t) x
+    → figure c (t ++ m ∷ []) x ≤ figure c t x
 never_rises_at c t m p x w =
     let size : length (t ++ m ∷ []) ≡ length t + 1 = length-append t (m ∷ []) in
-    let all : take (length t + 1) (t ++ m ∷ []) ≡ t ++ m ∷ [] = take_all (length t + 1) (t ++ m ∷ []) (omega (arith, size)) in
+    let all : take (length t + 1) (t ++ m ∷ []) ≡ t ++ m ∷ [] =
+        take_all (length t + 1) (t ++ m ∷ []) (omega (arith, size)) in
     subst (λ v. figure c v x ≤ figure c t x) all
-    (subst (λ v. (y : ℕ) → Contains (waiting v) y → figure c (take (length t + 1) (t ++ m ∷ [])) y ≤ figure c v y) (take-append_seam t (m ∷ [])) (p.never_rises (length t) (omega (arith, size))) x w)
+    (subst (λ v. (y : ℕ) → Contains (waiting v) y → figure c (take (length t + 1) (t ++ m ∷ [])) y ≤ figure c v y)
+        (take-append_seam t (m ∷ [])) (p.never_rises (length t) (omega (arith, size))) x w)
 
-falls_at : (c : Settings) (t : Trace) (m : Moment) → Promise c (t ++ m ∷ []) → is_step m.0 ≡ true → (x : ℕ) → Contains (waiting t) x → figure c (t ++ m ∷ []) x < figure c t x
+falls_at : (c : Settings) (t : Trace) (m : Moment) → Promise c (t ++ m ∷ []) → is_step m.0 ≡ true → (x : ℕ)
+    → Contains (waiting t) x → figure c (t ++ m ∷ []) x < figure c t x
 falls_at c t m p s x w =
     let size : length (t ++ m ∷ []) ≡ length t + 1 = length-append t (m ∷ []) in
-    let all : take (length t + 1) (t ++ m ∷ []) ≡ t ++ m ∷ [] = take_all (length t + 1) (t ++ m ∷ []) (omega (arith, size)) in
-    let step : is_step (moment (t ++ m ∷ []) (length t)).0 ≡ true = ap (λ (n : Moment). is_step n.0) (moment_last t m) ∙ s in
+    let all : take (length t + 1) (t ++ m ∷ []) ≡ t ++ m ∷ [] =
+        take_all (length t + 1) (t ++ m ∷ []) (omega (arith, size)) in
+    let step : is_step (moment (t ++ m ∷ []) (length t)).0 ≡ true =
+        ap (λ (n : Moment). is_step n.0) (moment_last t m) ∙ s in
     subst (λ v. figure c v x < figure c t x) all
-    (subst (λ v. (y : ℕ) → Contains (waiting v) y → figure c (take (length t + 1) (t ++ m ∷ [])) y < figure c v y) (take-append_seam t (m ∷ [])) (p.falls (length t) (omega (arith, size)) step) x w)
+    (subst (λ v. (y : ℕ) → Contains (waiting v) y → figure c (take (length t + 1) (t ++ m ∷ [])) y < figure c v y)
+        (take-append_seam t (m ∷ [])) (p.falls (length t) (omega (arith, size)) step) x w)
 
 -- a moment raises no figure, and a step lowers each
-most_moment : (c : Settings) (t : Trace) (m : Moment) (n g s s' : ℕ) → Promise c (t ++ m ∷ []) → (queues m.1 ≡ true → (sent_command m).reference ≡ n → ⊥) → (s' ≡ s) ⊎ ((is_step m.0 ≡ true) × (s ≡ 0) × (s' ≡ 1)) → AtMost c t n g s → AtMost c (t ++ m ∷ []) n g s'
+most_moment : (c : Settings) (t : Trace) (m : Moment) (n g s s' : ℕ) → Promise c (t ++ m ∷ [])
+    → (queues m.1 ≡ true → (sent_command m).reference ≡ n → ⊥) → (s' ≡ s) ⊎ ((is_step m.0 ≡ true) × (s ≡ 0) × (s' ≡ 1))
+    → AtMost c t n g s → AtMost c (t ++ m ∷ []) n g s'
 most_moment c t m n g s s' p new way most x w r =
     let t' = t ++ m ∷ [] in
     let size : length t' ≡ length t + 1 = length-append t (m ∷ []) in
@@ -200,7 +228,9 @@ most_moment c t m n g s s' p new way most x w r =
     let old = most x waits named in
     let there = contains_waiting t x waits in
     let rises = never_rises_at c t m p x there in
-    ⊎_elim (λ same. omega (arith, old, rises, same)) (λ step. let falls = falls_at c t m p step.0 x there in let a = step.1 in let b = step.2 in omega (arith, old, falls, a, b)) way)
+    ⊎_elim (λ same. omega (arith, old, rises, same))
+        (λ step. let falls = falls_at c t m p step.0 x there in let a = step.1 in let b = step.2 in
+        omega (arith, old, falls, a, b)) way)
     (λ beyond.
     let last : x ≡ length t = omega (arith, beyond, inside, size) in
     let queued : queues m.1 ≡ true = sym (is_waiting_last t m) ∙ (ap (is_waiting t') (sym last) ∙ w) in
@@ -209,45 +239,66 @@ most_moment c t m n g s s' p new way most x w r =
 
 -- ---- from poll to poll
 
-most_same_with : (c : Settings) (talk : Talk) (m i g s : ℕ) (o : Option Moment) → AllKnown c talk → m < length talk → i < m → is_outstanding talk m i ≡ true → (said talk m).moment ≡ o → AtMost c (trace_at talk m) (talks.reference talk i) g s
+most_same_with : (c : Settings) (talk : Talk) (m i g s : ℕ) (o : Option Moment) → AllKnown c talk → m < length talk
+    → i < m → is_outstanding talk m i ≡ true → (said talk m).moment ≡ o
+    → AtMost c (trace_at talk m) (talks.reference talk i) g s
     → AtMost c (trace_at talk m ++ option_to_list o) (talks.reference talk i) g s
-most_same_with c talk m i g s None known l b st e most = subst (λ t. AtMost c t (talks.reference talk i) g s) (sym (append-nil (trace_at talk m))) most
+most_same_with c talk m i g s None known l b st e most =
+    subst (λ t. AtMost c t (talks.reference talk i) g s) (sym (append-nil (trace_at talk m))) most
 most_same_with c talk m i g s (Some n) known l b st e most =
     let k = known m l in
-    let promise = subst (λ o. Promise c (trace_at talk m ++ option_to_list o)) e (subst (Promise c) (trace_more talk m l) k.promise) in
-    most_moment c (trace_at talk m) n (talks.reference talk i) g s s promise (λ q. k.tells.new n e q i b st) (inl refl) most
+    let promise = subst (λ o. Promise c (trace_at talk m ++ option_to_list o)) e
+        (subst (Promise c) (trace_more talk m l) k.promise) in
+    most_moment c (trace_at talk m) n (talks.reference talk i) g s s promise (λ q. k.tells.new n e q i b st) (inl refl)
+        most
 
 -- a turn raises no figure of a command that is outstanding
-most_same : (c : Settings) (talk : Talk) (m i g s : ℕ) → AllKnown c talk → m < length talk → i < m → is_outstanding talk m i ≡ true → AtMost c (trace_at talk m) (talks.reference talk i) g s → AtMost c (trace_at talk (m + 1)) (talks.reference talk i) g s
-most_same c talk m i g s known l b st most = subst (λ t. AtMost c t (talks.reference talk i) g s) (sym (trace_more talk m l)) (most_same_with c talk m i g s (said talk m).moment known l b st refl most)
+most_same : (c : Settings) (talk : Talk) (m i g s : ℕ) → AllKnown c talk → m < length talk → i < m
+    → is_outstanding talk m i ≡ true → AtMost c (trace_at talk m) (talks.reference talk i) g s
+    → AtMost c (trace_at talk (m + 1)) (talks.reference talk i) g s
+most_same c talk m i g s known l b st most = subst (λ t. AtMost c t (talks.reference talk i) g s)
+    (sym (trace_more talk m l)) (most_same_with c talk m i g s (said talk m).moment known l b st refl most)
 
-step_moment : (talk : Talk) (m : ℕ) (a a' : Account) (t : Turn) → IsStepTurn t → IsHeard a t (said talk m) a' → (n : Moment) × ((said talk m).moment ≡ Some n) × (is_step n.0 ≡ true)
+step_moment : (talk : Talk) (m : ℕ) (a a' : Account) (t : Turn) → IsStepTurn t → IsHeard a t (said talk m) a'
+    → (n : Moment) × ((said talk m).moment ≡ Some n) × (is_step n.0 ≡ true)
 step_moment talk m a a' (turns.Step k) w r = ((events.Step k, entries.Stepped r.0), r.2, refl)
 step_moment talk m a a' (turns.Submit command) w r = absurd w
 step_moment talk m a a' (turns.Poll n) w r = absurd w
 step_moment talk m a a' turns.Take w r = absurd w
 
 -- a step lowers it
-most_step : (c : Settings) (talk : Talk) (m i g : ℕ) → AllKnown c talk → m < length talk → i < m → is_outstanding talk m i ≡ true → IsStepTurn (said talk m).turn → AtMost c (trace_at talk m) (talks.reference talk i) g 0
+most_step : (c : Settings) (talk : Talk) (m i g : ℕ) → AllKnown c talk → m < length talk → i < m
+    → is_outstanding talk m i ≡ true → IsStepTurn (said talk m).turn
+    → AtMost c (trace_at talk m) (talks.reference talk i) g 0
     → AtMost c (trace_at talk (m + 1)) (talks.reference talk i) g 1
 most_step c talk m i g known l b st w most =
     let k = known m l in
     let n = step_moment talk m (account_at c talk m) (account_at c talk (m + 1)) (said talk m).turn w k.tells.says in
-    let more : trace_at talk (m + 1) ≡ trace_at talk m ++ n.0 ∷ [] = trace_more talk m l ∙ ap (λ o. trace_at talk m ++ option_to_list o) n.1 in
+    let more : trace_at talk (m + 1) ≡ trace_at talk m ++ n.0 ∷ [] =
+        trace_more talk m l ∙ ap (λ o. trace_at talk m ++ option_to_list o) n.1 in
     subst (λ t. AtMost c t (talks.reference talk i) g 1) (sym more)
-    (most_moment c (trace_at talk m) n.0 (talks.reference talk i) g 0 1 (subst (Promise c) more k.promise) (λ q. k.tells.new n.0 n.1 q i b st) (inr (n.2, refl, refl)) most)
+    (most_moment c (trace_at talk m) n.0 (talks.reference talk i) g 0 1 (subst (Promise c) more k.promise)
+        (λ q. k.tells.new n.0 n.1 q i b st) (inr (n.2, refl, refl)) most)
 
-most_by : (c : Settings) (talk : Talk) (m q i g s d : ℕ) → AllKnown c talk → q < length talk → m + d ≤ q → i < m → is_outstanding talk q i ≡ true → AtMost c (trace_at talk m) (talks.reference talk i) g s → AtMost c (trace_at talk (m + d)) (talks.reference talk i) g s
-most_by c talk m q i g s zero known l e b st most = let same : m ≡ m + 0 = omega arith in subst (λ k. AtMost c (trace_at talk k) (talks.reference talk i) g s) same most
+most_by : (c : Settings) (talk : Talk) (m q i g s d : ℕ) → AllKnown c talk → q < length talk → m + d ≤ q → i < m
+    → is_outstanding talk q i ≡ true → AtMost c (trace_at talk m) (talks.reference talk i) g s
+    → AtMost c (trace_at talk (m + d)) (talks.reference talk i) g s
+most_by c talk m q i g s zero known l e b st most = let same : m ≡ m + 0 = omega arith in
+    subst (λ k. AtMost c (trace_at talk k) (talks.reference talk i) g s) same most
 most_by c talk m q i g s (suc d) known l e b st most =
     let same : m + d + 1 ≡ m + suc d = omega arith in
     subst (λ k. AtMost c (trace_at talk k) (talks.reference talk i) g s) same
-    (most_same c talk (m + d) i g s known (omega (arith, l, e)) (omega (arith, b)) (stood talk (m + d) q i (omega (arith, e)) st) (most_by c talk m q i g s d known l (omega (arith, e)) b st most))
+    (most_same c talk (m + d) i g s known (omega (arith, l, e)) (omega (arith, b))
+        (stood talk (m + d) q i (omega (arith, e)) st)
+        (most_by c talk m q i g s d known l (omega (arith, e)) b st most))
 
-most_until : (c : Settings) (talk : Talk) (m n q i g s : ℕ) → AllKnown c talk → q < length talk → m ≤ n → n ≤ q → i < m → is_outstanding talk q i ≡ true → AtMost c (trace_at talk m) (talks.reference talk i) g s → AtMost c (trace_at talk n) (talks.reference talk i) g s
+most_until : (c : Settings) (talk : Talk) (m n q i g s : ℕ) → AllKnown c talk → q < length talk → m ≤ n → n ≤ q → i < m
+    → is_outstanding talk q i ≡ true → AtMost c (trace_at talk m) (talks.reference talk i) g s
+    → AtMost c (trace_at talk n) (talks.reference talk i) g s
 most_until c talk m n q i g s known l a e b st most =
     let same : m + (n - m) ≡ n = omega (arith, a) in
-    subst (λ k. AtMost c (trace_at talk k) (talks.reference talk i) g s) same (most_by c talk m q i g s (n - m) known l (omega (arith, a, e)) b st most)
+    subst (λ k. AtMost c (trace_at talk k) (talks.reference talk i) g s) same
+        (most_by c talk m q i g s (n - m) known l (omega (arith, a, e)) b st most)
 
 it_is : (i : ℕ) (o : Option ℕ) → is_it i o ≡ true → o ≡ Some i
 it_is i None e = absurd (false≢true e)
@@ -260,7 +311,8 @@ record Waits (c : Settings) (t : Trace) (n : ℕ) : Type 0 where
   pub named : reference t command ≡ n
   pub figure : figure_of c t n ≡ figure c t command
 
-waits_of : (c : Settings) (t : Trace) (n : ℕ) (o : Option ℕ) → find (λ x. nat_eq (reference t x) n) (waiting t) ≡ o → figure_of c t n ≡ figure_found c t o → 1 ≤ figure_found c t o → Waits c t n
+waits_of : (c : Settings) (t : Trace) (n : ℕ) (o : Option ℕ) → find (λ x. nat_eq (reference t x) n) (waiting t) ≡ o
+    → figure_of c t n ≡ figure_found c t o → 1 ≤ figure_found c t o → Waits c t n
 waits_of c t n None e f l = absurd (omega (arith, l))
 waits_of c t n (Some x) e f l = record {
   command = x;
@@ -273,7 +325,8 @@ waits_at : (c : Settings) (t : Trace) (n : ℕ) → 1 ≤ figure_of c t n → Wa
 unfolding figure_of
 waits_at c t n l = waits_of c t n (find (λ x. nat_eq (reference t x) n) (waiting t)) refl refl l
 
-pub never_reset : (c : Settings) (talk : Talk) → AllKnown c talk → (j : ℕ) → j < length talk → (st : Stands c talk j) → StepsSincePolls talk st.command st.poll → ⊥
+pub never_reset : (c : Settings) (talk : Talk) → AllKnown c talk → (j : ℕ) → j < length talk → (st : Stands c talk j)
+    → StepsSincePolls talk st.command st.poll → ⊥
 never_reset c talk known j l st steps =
     let i = st.command in
     let q = st.poll in
@@ -292,13 +345,16 @@ never_reset c talk known j l st steps =
     let stands : is_outstanding talk q i ≡ true = stood talk q j i (omega (arith, qj)) st.outstanding in
     let g = figure_of c (trace_at talk p) n in
     let first : st.last ≡ g = sym came.told ∙ ap (λ o. figure_of c (trace_at talk p) (reference_found talk o)) pp in
-    let second : figure_told c talk q ≡ figure_of c (trace_at talk q) n = ap (λ o. figure_of c (trace_at talk q) (reference_found talk o)) pq in
+    let second : figure_told c talk q ≡ figure_of c (trace_at talk q) n =
+        ap (λ o. figure_of c (trace_at talk q) (reference_found talk o)) pq in
     let at_p = first_most c talk p n known (omega (arith, less, ql)) in
     let pk = step.1 in
     let kq = step.2 in
     let at_k = most_until c talk p step.0 q i g 0 known ql (omega (arith, pk)) (omega (arith, kq)) ip stands at_p in
-    let after = most_step c talk step.0 i g known (omega (arith, kq, ql)) (omega (arith, ip, pk)) (stood talk step.0 q i (omega (arith, kq)) stands) step.3 at_k in
-    let at_q = most_until c talk (step.0 + 1) q q i g 1 known ql (omega (arith, kq)) (omega arith) (omega (arith, ip, pk)) stands after in
+    let after = most_step c talk step.0 i g known (omega (arith, kq, ql)) (omega (arith, ip, pk))
+        (stood talk step.0 q i (omega (arith, kq)) stands) step.3 at_k in
+    let at_q = most_until c talk (step.0 + 1) q q i g 1 known ql (omega (arith, kq)) (omega arith)
+        (omega (arith, ip, pk)) stands after in
     let some : 1 ≤ figure_told c talk q = (known j l).tells.some q i st.handed st.about st.outstanding in
     let x = waits_at c (trace_at talk q) n (subst (λ k. 1 ≤ k) second some) in
     let low = at_q x.command x.waits x.named in
@@ -307,10 +363,14 @@ never_reset c talk known j l st steps =
     omega (arith, low, fig, high, first, second)
 
 -- the answer of the poll q about the command i doesn't stand where a step lies between it and each one before
-pub never_stands : (c : Settings) (talk : Talk) → AllKnown c talk → (j : ℕ) → j < length talk → (i q : ℕ) → ended talk j ≡ Some q → asks_about talk i q ≡ true → StepsSincePolls talk i q → Stands c talk j → ⊥
+pub never_stands : (c : Settings) (talk : Talk) → AllKnown c talk → (j : ℕ) → j < length talk → (i q : ℕ)
+    → ended talk j ≡ Some q → asks_about talk i q ≡ true → StepsSincePolls talk i q → Stands c talk j → ⊥
 never_stands c talk known j l i q h a steps st =
     let poll : q ≡ st.poll = ap (λ o. unwrap_or o q) (sym h ∙ st.handed) in
     let at : is_it i (polled talk q) ≡ true = (both_true (is_asked (said talk q).heard) _ a).1 in
-    let at' : is_it st.command (polled talk st.poll) ≡ true = (both_true (is_asked (said talk st.poll).heard) _ st.about).1 in
-    let command : i ≡ st.command = ap (λ o. unwrap_or o i) (sym (it_is i (polled talk q) at) ∙ (ap (polled talk) poll ∙ it_is st.command (polled talk st.poll) at')) in
-    never_reset c talk known j l st (subst (λ k. StepsSincePolls talk k st.poll) command (subst (StepsSincePolls talk i) poll steps))
+    let at' : is_it st.command (polled talk st.poll) ≡ true =
+        (both_true (is_asked (said talk st.poll).heard) _ st.about).1 in
+    let command : i ≡ st.command = ap (λ o. unwrap_or o i)
+        (sym (it_is i (polled talk q) at) ∙ (ap (polled talk) poll ∙ it_is st.command (polled talk st.poll) at')) in
+    never_reset c talk known j l st (subst (λ k. StepsSincePolls talk k st.poll) command
+        (subst (StepsSincePolls talk i) poll steps))

@@ -42,11 +42,15 @@ coded_short (codes.Move moves.Compare) = refl
 coded_short (codes.Move moves.Read) = refl
 coded_short (codes.Move moves.Write) = refl
 
-coded_with : (b : List ℕ) (found : Option Opcode) → find (λ o. nat_eq (line_of o).byte (slice_index b 8)) opcodes ≡ found → HasOwnEndcode (order_with found b)
+coded_with : (b : List ℕ) (found : Option Opcode) → find (λ o. nat_eq (line_of o).byte (slice_index b 8)) opcodes
+    ≡ found → HasOwnEndcode (order_with found b)
 coded_with b None e = refl
 coded_with b (Some o) e =
-    let byte : (line_of o).byte ≡ slice_index b 8 = eqb-true (line_of o).byte (slice_index b 8) (found_is (λ (x : Opcode). nat_eq (line_of x).byte (slice_index b 8)) opcodes o e) in
-    elim (nat_lt (length b) (least o)) as (λ s. HasOwnEndcode (if s then orders.Invalid (slice_index b 8) invalid_length else parameters o b)) [
+    let byte : (line_of o).byte ≡ slice_index b 8 =
+        eqb-true (line_of o).byte (slice_index b 8)
+        (found_is (λ (x : Opcode). nat_eq (line_of x).byte (slice_index b 8)) opcodes o e) in
+    elim (nat_lt (length b) (least o)) as (λ s. HasOwnEndcode
+        (if s then orders.Invalid (slice_index b 8) invalid_length else parameters o b)) [
       | true ↦ subst (λ k. HasOwnEndcode (orders.Invalid k invalid_length)) byte (coded_short o)
       | false ↦ coded_parameters o b
     ]

@@ -14,42 +14,53 @@ pub times_append : (r : ℕ) (xs ys : List ℕ) → times r (xs ++ ys) ≡ times
 times_append r [] ys = omega arith
 times_append r (x ∷ xs) ys =
     let rest = times_append r xs ys in
-    elim (nat_eq x r) as (λ b. cond b (1 + times r (xs ++ ys)) (times r (xs ++ ys)) ≡ cond b (1 + times r xs) (times r xs) + times r ys) [ true ↦ omega (arith, rest) | false ↦ rest ]
+    elim (nat_eq x r) as (λ b. cond b (1 + times r (xs ++ ys)) (times r (xs ++ ys))
+        ≡ cond b (1 + times r xs) (times r xs) + times r ys) [ true ↦ omega (arith, rest) | false ↦ rest ]
 
 -- it stands there exactly where it is found
 any_times : (r : ℕ) (xs : List ℕ) → list_any (λ x. nat_eq x r) xs ≡ nat_lt 0 (times r xs)
 any_times r [] = refl
 any_times r (x ∷ xs) =
-    elim (nat_eq x r) as (λ b. (b || list_any (λ y. nat_eq y r) xs) ≡ nat_lt 0 (cond b (1 + times r xs) (times r xs))) [ true ↦ grind (arith, nat_tests) | false ↦ any_times r xs ]
+    elim (nat_eq x r) as (λ b. (b || list_any (λ y. nat_eq y r) xs) ≡ nat_lt 0 (cond b (1 + times r xs) (times r xs)))
+        [ true ↦ grind (arith, nat_tests) | false ↦ any_times r xs ]
 
-pub any_alike : (r : ℕ) (xs ys : List ℕ) → times r xs ≡ times r ys → list_any (λ x. nat_eq x r) xs ≡ list_any (λ x. nat_eq x r) ys
+pub any_alike : (r : ℕ) (xs ys : List ℕ) → times r xs ≡ times r ys
+    → list_any (λ x. nat_eq x r) xs ≡ list_any (λ x. nat_eq x r) ys
 any_alike r xs ys e = any_times r xs ∙ (ap (nat_lt 0) e ∙ sym (any_times r ys))
 
-pub has_any : (r : ℕ) (xs : List Submission) → list_any (has_reference r) xs ≡ list_any (λ x. nat_eq x r) (references xs)
+pub has_any : (r : ℕ) (xs : List Submission) → list_any (has_reference r) xs
+    ≡ list_any (λ x. nat_eq x r) (references xs)
 has_any r [] = refl
 has_any r (s ∷ xs) = ap (λ b. nat_eq s.reference r || b) (has_any r xs)
 
 -- ---- taken out
 
 -- the number of what is found stands once more
-pub times_without : (r n : ℕ) (xs : List Submission) (s : Submission) → find (has_reference n) xs ≡ Some s → times r (references xs) ≡ times r (n ∷ []) + times r (references (without n xs))
+pub times_without : (r n : ℕ) (xs : List Submission) (s : Submission) → find (has_reference n) xs ≡ Some s
+    → times r (references xs) ≡ times r (n ∷ []) + times r (references (without n xs))
 times_without r n [] s e = absurd (false≢true (ap is_some e))
 times_without r n (x ∷ xs) s e =
     let out : (b : Bool) → nat_eq x.reference n ≡ b → cond b (Some x) (find (has_reference n) xs) ≡ Some s
     → times r (references (x ∷ xs)) ≡ times r (n ∷ []) + times r (references (cond b xs (x ∷ without n xs))) =
-    λ b. elim b as (λ b. nat_eq x.reference n ≡ b → cond b (Some x) (find (has_reference n) xs) ≡ Some s → times r (references (x ∷ xs)) ≡ times r (n ∷ []) + times r (references (cond b xs (x ∷ without n xs)))) [
+    λ b. elim b as (λ b. nat_eq x.reference n ≡ b → cond b (Some x) (find (has_reference n) xs) ≡ Some s
+        → times r (references (x ∷ xs)) ≡ times r (n ∷ []) + times r (references (cond b xs (x ∷ without n xs)))) [
       | true ↦ λ q f. rw (eqb-true x.reference n q) (times_append r (n ∷ []) (references xs))
       | false ↦ λ q f.
           let rest = times_without r n xs s f in
-          elim (nat_eq x.reference r) as (λ b. cond b (1 + times r (references xs)) (times r (references xs)) ≡ times r (n ∷ []) + cond b (1 + times r (references (without n xs))) (times r (references (without n xs)))) [ true ↦ omega (arith, rest) | false ↦ rest ]
+          elim (nat_eq x.reference r) as (λ b. cond b (1 + times r (references xs)) (times r (references xs))
+              ≡ times r (n ∷ []) + cond b (1 + times r (references (without n xs)))
+              (times r (references (without n xs)))) [ true ↦ omega (arith, rest) | false ↦ rest ]
     ] in
     out (nat_eq x.reference n) refl e
 
-pub length_without : (n : ℕ) (xs : List Submission) (s : Submission) → find (has_reference n) xs ≡ Some s → length xs ≡ 1 + length (without n xs)
+pub length_without : (n : ℕ) (xs : List Submission) (s : Submission) → find (has_reference n) xs ≡ Some s
+    → length xs ≡ 1 + length (without n xs)
 length_without n [] s e = absurd (false≢true (ap is_some e))
 length_without n (x ∷ xs) s e =
-    let out : (b : Bool) → cond b (Some x) (find (has_reference n) xs) ≡ Some s → length (x ∷ xs) ≡ 1 + length (cond b xs (x ∷ without n xs)) =
-    λ b. elim b as (λ b. cond b (Some x) (find (has_reference n) xs) ≡ Some s → length (x ∷ xs) ≡ 1 + length (cond b xs (x ∷ without n xs))) [
+    let out : (b : Bool) → cond b (Some x) (find (has_reference n) xs) ≡ Some s
+        → length (x ∷ xs) ≡ 1 + length (cond b xs (x ∷ without n xs)) =
+    λ b. elim b as (λ b. cond b (Some x) (find (has_reference n) xs) ≡ Some s
+        → length (x ∷ xs) ≡ 1 + length (cond b xs (x ∷ without n xs))) [
       | true ↦ λ f. omega arith
       | false ↦ λ f. let rest = length_without n xs s f in omega (arith, rest)
     ] in
@@ -57,38 +68,57 @@ length_without n (x ∷ xs) s e =
 
 pub small_without : (n : ℕ) (xs : List Submission) → AllByRecursion IsSmall xs → AllByRecursion IsSmall (without n xs)
 small_without n [] h = tt
-small_without n (x ∷ xs) h = elim (nat_eq x.reference n) as (λ b. AllByRecursion IsSmall (cond b xs (x ∷ without n xs))) [ true ↦ h.1 | false ↦ (h.0, small_without n xs h.1) ]
+small_without n (x ∷ xs) h = elim (nat_eq x.reference n) as (λ b. AllByRecursion IsSmall (cond b xs (x ∷ without n xs)))
+    [ true ↦ h.1 | false ↦ (h.0, small_without n xs h.1) ]
 
 -- ---- the opcode byte that is found
 
-found_without : (r n : ℕ) (xs : List Submission) → nat_eq n r ≡ false → opcode_found (without n xs) r ≡ opcode_found xs r
+found_without : (r n : ℕ) (xs : List Submission) → nat_eq n r ≡ false
+    → opcode_found (without n xs) r ≡ opcode_found xs r
 found_without r n [] d = refl
 found_without r n (x ∷ xs) d =
-    let out : (b : Bool) → nat_eq x.reference n ≡ b → opcode_found (cond b xs (x ∷ without n xs)) r ≡ opcode_found (x ∷ xs) r =
-    λ b. elim b as (λ b. nat_eq x.reference n ≡ b → opcode_found (cond b xs (x ∷ without n xs)) r ≡ opcode_found (x ∷ xs) r) [
-      | true ↦ λ q. let other : nat_eq x.reference r ≡ false = ap (λ k. nat_eq k r) (eqb-true x.reference n q) ∙ d in rw other refl
-      | false ↦ λ q. elim (nat_eq x.reference r) as (λ b. option_map (λ (s : Submission). s.opcode) (cond b (Some x) (find (has_reference r) (without n xs))) ≡ option_map (λ (s : Submission). s.opcode) (cond b (Some x) (find (has_reference r) xs))) [ true ↦ refl | false ↦ found_without r n xs d ]
+    let out : (b : Bool) → nat_eq x.reference n ≡ b
+        → opcode_found (cond b xs (x ∷ without n xs)) r ≡ opcode_found (x ∷ xs) r =
+    λ b. elim b as (λ b. nat_eq x.reference n ≡ b → opcode_found (cond b xs (x ∷ without n xs)) r
+        ≡ opcode_found (x ∷ xs) r) [
+      | true ↦ λ q. let other : nat_eq x.reference r ≡ false = ap (λ k. nat_eq k r) (eqb-true x.reference n q) ∙ d in
+          rw other refl
+      | false ↦ λ q. elim (nat_eq x.reference r) as
+          (λ b. option_map (λ (s : Submission). s.opcode) (cond b (Some x) (find (has_reference r) (without n xs)))
+          ≡ option_map (λ (s : Submission). s.opcode) (cond b (Some x) (find (has_reference r) xs)))
+          [ true ↦ refl | false ↦ found_without r n xs d ]
     ] in
     out (nat_eq x.reference n) refl
 
-pub opcode_without : (r n o : ℕ) (xs : List Submission) → nat_eq n r ≡ false → opcode_found xs r ≡ Some o → opcode_found (without n xs) r ≡ Some o
+pub opcode_without : (r n o : ℕ) (xs : List Submission) → nat_eq n r ≡ false → opcode_found xs r ≡ Some o
+    → opcode_found (without n xs) r ≡ Some o
 opcode_without r n o xs d e = found_without r n xs d ∙ e
 
-pub opcode_pushed : (r o : ℕ) (xs : List Submission) (s : Submission) → opcode_found xs r ≡ Some o → opcode_found (xs ++ s ∷ []) r ≡ Some o
+pub opcode_pushed : (r o : ℕ) (xs : List Submission) (s : Submission) → opcode_found xs r ≡ Some o
+    → opcode_found (xs ++ s ∷ []) r ≡ Some o
 opcode_pushed r o [] s e = absurd (false≢true (ap is_some e))
 opcode_pushed r o (x ∷ xs) s e =
-    let out : (b : Bool) → option_map (λ (q : Submission). q.opcode) (cond b (Some x) (find (has_reference r) xs)) ≡ Some o → option_map (λ (q : Submission). q.opcode) (cond b (Some x) (find (has_reference r) (xs ++ s ∷ []))) ≡ Some o =
-    λ b. elim b as (λ b. option_map (λ (q : Submission). q.opcode) (cond b (Some x) (find (has_reference r) xs)) ≡ Some o → option_map (λ (q : Submission). q.opcode) (cond b (Some x) (find (has_reference r) (xs ++ s ∷ []))) ≡ Some o) [
+    let out : (b : Bool) → option_map (λ (q : Submission). q.opcode) (cond b (Some x) (find (has_reference r) xs))
+        ≡ Some o → option_map (λ (q : Submission). q.opcode) (cond b (Some x) (find (has_reference r) (xs ++ s ∷ [])))
+        ≡ Some o =
+    λ b. elim b as (λ b. option_map (λ (q : Submission). q.opcode) (cond b (Some x) (find (has_reference r) xs))
+        ≡ Some o → option_map (λ (q : Submission). q.opcode) (cond b (Some x) (find (has_reference r) (xs ++ s ∷ [])))
+        ≡ Some o) [
       | true ↦ λ e. e
       | false ↦ λ e. opcode_pushed r o xs s e
     ] in
     out (nat_eq x.reference r) e
 
-pub opcode_new : (xs : List Submission) (s : Submission) → times s.reference (references xs) ≡ 0 → opcode_found (xs ++ s ∷ []) s.reference ≡ Some s.opcode
+pub opcode_new : (xs : List Submission) (s : Submission) → times s.reference (references xs) ≡ 0
+    → opcode_found (xs ++ s ∷ []) s.reference ≡ Some s.opcode
 opcode_new [] s z = rw (eq-eqb s.reference s.reference refl) refl
 opcode_new (x ∷ xs) s z =
-    let out : (b : Bool) → cond b (1 + times s.reference (references xs)) (times s.reference (references xs)) ≡ 0 → option_map (λ (q : Submission). q.opcode) (cond b (Some x) (find (has_reference s.reference) (xs ++ s ∷ []))) ≡ Some s.opcode =
-    λ b. elim b as (λ b. cond b (1 + times s.reference (references xs)) (times s.reference (references xs)) ≡ 0 → option_map (λ (q : Submission). q.opcode) (cond b (Some x) (find (has_reference s.reference) (xs ++ s ∷ []))) ≡ Some s.opcode) [
+    let out : (b : Bool) → cond b (1 + times s.reference (references xs)) (times s.reference (references xs)) ≡ 0
+        → option_map (λ (q : Submission). q.opcode) (cond b (Some x) (find (has_reference s.reference) (xs ++ s ∷ [])))
+        ≡ Some s.opcode =
+    λ b. elim b as (λ b. cond b (1 + times s.reference (references xs)) (times s.reference (references xs)) ≡ 0
+        → option_map (λ (q : Submission). q.opcode) (cond b (Some x) (find (has_reference s.reference) (xs ++ s ∷ [])))
+        ≡ Some s.opcode) [
       | true ↦ λ z. absurd (omega (arith, z))
       | false ↦ λ z. opcode_new xs s z
     ] in
@@ -99,17 +129,29 @@ opcode_new (x ∷ xs) s z =
 pub references_told : (n f : ℕ) (xs : List Submission) → references (with_told n f xs) ≡ references xs
 references_told n f [] = refl
 references_told n f (x ∷ xs) =
-    elim (nat_eq x.reference n) as (λ b. references (cond b (record x { told = Some f } ∷ xs) (x ∷ with_told n f xs)) ≡ references (x ∷ xs)) [ true ↦ refl | false ↦ ap (λ ys. x.reference ∷ ys) (references_told n f xs) ]
+    elim (nat_eq x.reference n) as (λ b. references (cond b (record x { told = Some f } ∷ xs) (x ∷ with_told n f xs))
+        ≡ references (x ∷ xs)) [ true ↦ refl | false ↦ ap (λ ys. x.reference ∷ ys) (references_told n f xs) ]
 
-pub small_told : (n f : ℕ) (xs : List Submission) → AllByRecursion IsSmall xs → AllByRecursion IsSmall (with_told n f xs)
+pub small_told : (n f : ℕ) (xs : List Submission) → AllByRecursion IsSmall xs
+    → AllByRecursion IsSmall (with_told n f xs)
 small_told n f [] h = tt
 small_told n f (x ∷ xs) h =
-    elim (nat_eq x.reference n) as (λ b. AllByRecursion IsSmall (cond b (record x { told = Some f } ∷ xs) (x ∷ with_told n f xs))) [ true ↦ (h.0, h.1) | false ↦ (h.0, small_told n f xs h.1) ]
+    elim (nat_eq x.reference n) as (λ b. AllByRecursion IsSmall
+        (cond b (record x { told = Some f } ∷ xs) (x ∷ with_told n f xs)))
+        [ true ↦ (h.0, h.1) | false ↦ (h.0, small_told n f xs h.1) ]
 
 pub opcode_told : (r n f : ℕ) (xs : List Submission) → opcode_found (with_told n f xs) r ≡ opcode_found xs r
 opcode_told r n f [] = refl
 opcode_told r n f (x ∷ xs) =
-    elim (nat_eq x.reference n) as (λ b. opcode_found (cond b (record x { told = Some f } ∷ xs) (x ∷ with_told n f xs)) r ≡ opcode_found (x ∷ xs) r) [
-      | true ↦ elim (nat_eq x.reference r) as (λ b. option_map (λ (q : Submission). q.opcode) (cond b (Some (record x { told = Some f })) (find (has_reference r) xs)) ≡ option_map (λ (q : Submission). q.opcode) (cond b (Some x) (find (has_reference r) xs))) [ true ↦ refl | false ↦ refl ]
-      | false ↦ elim (nat_eq x.reference r) as (λ b. option_map (λ (q : Submission). q.opcode) (cond b (Some x) (find (has_reference r) (with_told n f xs))) ≡ option_map (λ (q : Submission). q.opcode) (cond b (Some x) (find (has_reference r) xs))) [ true ↦ refl | false ↦ opcode_told r n f xs ]
+    elim (nat_eq x.reference n) as (λ b. opcode_found (cond b (record x { told = Some f } ∷ xs) (x ∷ with_told n f xs))
+        r ≡ opcode_found (x ∷ xs) r) [
+      | true ↦ elim (nat_eq x.reference r) as (λ b.
+          option_map (λ (q : Submission). q.opcode)
+          (cond b (Some (record x { told = Some f })) (find (has_reference r) xs))
+          ≡ option_map (λ (q : Submission). q.opcode) (cond b (Some x) (find (has_reference r) xs)))
+          [ true ↦ refl | false ↦ refl ]
+      | false ↦ elim (nat_eq x.reference r) as (λ b.
+          option_map (λ (q : Submission). q.opcode) (cond b (Some x) (find (has_reference r) (with_told n f xs)))
+          ≡ option_map (λ (q : Submission). q.opcode) (cond b (Some x) (find (has_reference r) xs)))
+          [ true ↦ refl | false ↦ opcode_told r n f xs ]
     ]

@@ -24,11 +24,13 @@ use Rattle.mscp_sim.proofs.TwoEnds.Matching.{called, counted_names, times_ends}
 
 -- ---- reading
 
-read_as : (b : List ℕ) (e : End) (kind : Option BodyKind) → IsEnd b e → kind_of_code (slice_index b 8) ≡ kind → HasBody kind b e.body → reading_with kind b ≡ Ok e
+read_as : (b : List ℕ) (e : End) (kind : Option BodyKind) → IsEnd b e → kind_of_code (slice_index b 8) ≡ kind
+    → HasBody kind b e.body → reading_with kind b ≡ Ok e
 read_as b e None i k h = absurd h
 read_as b e (Some kind) i k h =
     let long : nat_lt (length b) (end_length kind) ≡ false = let l = h.0 in grind (arith, nat_tests, l) in
-    let same : end_at kind b ≡ e = λ j. record { reference = sym i.reference j; unit = sym i.unit j; code = sym i.code j; status = sym i.status j; body = sym h.1 j } in
+    let same : end_at kind b ≡ e = λ j. record { reference = sym i.reference j; unit = sym i.unit j; code =
+        sym i.code j; status = sym i.status j; body = sym h.1 j } in
     rw long (ap Ok same)
 
 -- the bytes of an end are read as that end
@@ -52,75 +54,98 @@ not_first n k t z =
     ] in
     out (nat_eq k n) refl z
 
-other_commands : (n : ℕ) (cs : List Command) → times n (called cs) ≡ 0 → AllByRecursion (λ c. nat_eq n c.reference ≡ false) cs
+other_commands : (n : ℕ) (cs : List Command) → times n (called cs) ≡ 0
+    → AllByRecursion (λ c. nat_eq n c.reference ≡ false) cs
 other_commands n [] z = tt
 other_commands n (c ∷ cs) z = let k = not_first n c.reference (times n (called cs)) z in (k.0, other_commands n cs k.1)
 
-other_ends : (n : ℕ) (us : List End) → times n (map end_name us) ≡ 0 → AllByRecursion (λ e. nat_eq n e.reference ≡ false) us
+other_ends : (n : ℕ) (us : List End) → times n (map end_name us) ≡ 0
+    → AllByRecursion (λ e. nat_eq n e.reference ≡ false) us
 other_ends n [] z = tt
 other_ends n (e ∷ us) z = let k = not_first n e.reference (times n (map end_name us)) z in (k.0, other_ends n us k.1)
 
 -- no other command has the number of the first end
-pub alone : {K : Type 0} (a : Account) (h : Holdings K) (told : Flight) (e : End) (us : List End) → Matches a h told → h.untaken ≡ e ∷ us → (times e.reference (called (commands h.waiting)) ≡ 0) × (times e.reference (map end_name us) ≡ 0)
+pub alone : {K : Type 0} (a : Account) (h : Holdings K) (told : Flight) (e : End) (us : List End) → Matches a h told
+    → h.untaken ≡ e ∷ us → (times e.reference (called (commands h.waiting)) ≡ 0)
+    × (times e.reference (map end_name us) ≡ 0)
 alone a h told e us m u =
     let n = e.reference in
     let one = m.once n in
     let all = counted_names n h in
-    let ends : times n (map end_name h.untaken) ≡ 1 + times n (map end_name us) = ap (λ es. times n (map end_name es)) u ∙ times_own n (map end_name us) in
+    let ends : times n (map end_name h.untaken) ≡ 1 + times n (map end_name us) =
+        ap (λ es. times n (map end_name es)) u ∙ times_own n (map end_name us) in
     (omega (arith, one, all, ends), omega (arith, one, all, ends))
 
 -- ---- what the first end tells
 
-status_of : (w : Watch) (figure : ℕ) (body : EndBody) → body ≡ bodies.Status w.polled figure → is_about_polled (Some w) (told_in body) ≡ true
+status_of : (w : Watch) (figure : ℕ) (body : EndBody) → body ≡ bodies.Status w.polled figure
+    → is_about_polled (Some w) (told_in body) ≡ true
 status_of w figure body e = rw e (eq-eqb w.polled w.polled refl)
 
 -- the end of the poll in flight comes first, where the first end has its number
-pub first_is : (e : End) (us : List End) (w : Watch) (told : Flight) → (f : IsFlight (e ∷ us) w told) → times e.reference (map end_name us) ≡ 0 → w.reference ≡ e.reference → (f.front ≡ []) × (f.end ≡ e)
+pub first_is : (e : End) (us : List End) (w : Watch) (told : Flight) → (f : IsFlight (e ∷ us) w told)
+    → times e.reference (map end_name us) ≡ 0 → w.reference ≡ e.reference → (f.front ≡ []) × (f.end ≡ e)
 first_is e us w told f z s =
     let cases : (front : List End) → f.front ≡ front → e ∷ us ≡ front ++ f.end ∷ f.back → (f.front ≡ []) × (f.end ≡ e) =
-    λ front. elim front as (λ front. f.front ≡ front → e ∷ us ≡ front ++ f.end ∷ f.back → (f.front ≡ []) × (f.end ≡ e)) [
+    λ front. elim front as (λ front. f.front ≡ front → e ∷ us ≡ front ++ f.end ∷ f.back → (f.front ≡ []) × (f.end ≡ e))
+        [
       | [] ↦ λ q p. (q, ap (λ xs. unwrap_or (slice_get xs 0) f.end) (sym p))
       | g ∷ gs ↦ λ q p.
           let tail : us ≡ gs ++ f.end ∷ f.back = ap (drop 1) p in
           let named : f.end.reference ≡ e.reference = f.reference ∙ s in
-          let counts : times e.reference (map end_name us) ≡ times e.reference (map end_name (gs ++ f.end ∷ f.back)) = ap (λ xs. times e.reference (map end_name xs)) tail in
-          let some : times e.reference (map end_name (gs ++ f.end ∷ f.back)) ≡ times e.reference (map end_name gs) + (1 + times e.reference (map end_name f.back)) =
-          times_ends e.reference gs (f.end ∷ f.back) ∙ ap (λ n. times e.reference (map end_name gs) + n) (subst (λ k. times k (f.end.reference ∷ map end_name f.back) ≡ 1 + times k (map end_name f.back)) named (times_own f.end.reference (map end_name f.back))) in
+          let counts : times e.reference (map end_name us) ≡ times e.reference (map end_name (gs ++ f.end ∷ f.back)) =
+              ap (λ xs. times e.reference (map end_name xs)) tail in
+          let some : times e.reference (map end_name (gs ++ f.end ∷ f.back)) ≡ times e.reference (map end_name gs)
+              + (1 + times e.reference (map end_name f.back)) =
+          times_ends e.reference gs (f.end ∷ f.back)
+              ∙ ap (λ n. times e.reference (map end_name gs) + n)
+              (subst (λ k. times k (f.end.reference ∷ map end_name f.back) ≡ 1 + times k (map end_name f.back)) named
+              (times_own f.end.reference (map end_name f.back))) in
           absurd (omega (arith, z, counts, some))
     ] in
     cases f.front refl f.split
 
-about_with : (e : End) (us : List End) (w : Watch) (told : Flight) (b : Bool) → nat_eq w.reference e.reference ≡ b → IsFlight (e ∷ us) w told → times e.reference (map end_name us) ≡ 0
+about_with : (e : End) (us : List End) (w : Watch) (told : Flight) (b : Bool) → nat_eq w.reference e.reference ≡ b
+    → IsFlight (e ∷ us) w told → times e.reference (map end_name us) ≡ 0
     → is_about_polled (Some w) (if b && nat_eq e.code 0x82 then told_in e.body else None) ≡ true
 about_with e us w told false s f z = refl
 about_with e us w told true s f z =
     let k = first_is e us w told f z (eqb-true w.reference e.reference s) in
     let body : e.body ≡ bodies.Status w.polled told.figure = ap (λ (x : End). x.body) (sym k.1) ∙ f.body in
-    elim (nat_eq e.code 0x82) as (λ c. is_about_polled (Some w) (if c then told_in e.body else None) ≡ true) [ true ↦ status_of w told.figure e.body body | false ↦ refl ]
+    elim (nat_eq e.code 0x82) as (λ c. is_about_polled (Some w) (if c then told_in e.body else None) ≡ true)
+        [ true ↦ status_of w told.figure e.body body | false ↦ refl ]
 
-about : (e : End) (us : List End) (watch : Option Watch) (told : Flight) → HasFlight (e ∷ us) watch told → times e.reference (map end_name us) ≡ 0 → is_about_polled watch (answered watch e) ≡ true
+about : (e : End) (us : List End) (watch : Option Watch) (told : Flight) → HasFlight (e ∷ us) watch told
+    → times e.reference (map end_name us) ≡ 0 → is_about_polled watch (answered watch e) ≡ true
 about e us None told f z = refl
 about e us (Some w) told f z = about_with e us w told (nat_eq w.reference e.reference) refl f z
 
-found_some : (o : Option Submission) (k : ℕ) → option_map (λ (s : Submission). s.opcode) o ≡ Some k → (s : Submission) × (o ≡ Some s) × (s.opcode ≡ k)
+found_some : (o : Option Submission) (k : ℕ) → option_map (λ (s : Submission). s.opcode) o ≡ Some k
+    → (s : Submission) × (o ≡ Some s) × (s.opcode ≡ k)
 found_some None k e = absurd (false≢true (ap is_some e))
 found_some (Some s) k e = (s, refl, ap (λ o. unwrap_or o k) e)
 
 -- the host takes the first end for that of one of its commands
-pub first_heard : {K : Type 0} (a : Account) (h : Holdings K) (told : Flight) (e : End) (us : List End) (b : List ℕ) → Matches a h told → h.untaken ≡ e ∷ us → IsEnd b e → heard a b ≡ (Ok (news_with a e (answered a.watch e)), received a e)
+pub first_heard : {K : Type 0} (a : Account) (h : Holdings K) (told : Flight) (e : End) (us : List End) (b : List ℕ)
+    → Matches a h told → h.untaken ≡ e ∷ us → IsEnd b e
+    → heard a b ≡ (Ok (news_with a e (answered a.watch e)), received a e)
 first_heard {K} a h told e us b m u i =
     let ends = subst (AllByRecursion (IsAwaited a.outstanding)) u m.ends in
     let own = ends.0 in
     let s = found_some (find (has_reference e.reference) a.outstanding) own.opcode own.found in
-    heard_ok a b e s.0 (read_end b e i) s.1 (ap (is_code_of e.code) s.2 ∙ own.code) (about e us a.watch told (subst (λ xs. HasFlight xs a.watch told) u m.flight) (alone a h told e us m u).1)
+    heard_ok a b e s.0 (read_end b e i) s.1 (ap (is_code_of e.code) s.2 ∙ own.code)
+        (about e us a.watch told (subst (λ xs. HasFlight xs a.watch told) u m.flight) (alone a h told e us m u).1)
 
 -- ---- the match after it
 
 length_told : (n f : ℕ) (xs : List Submission) → length (with_told n f xs) ≡ length xs
 length_told n f [] = refl
-length_told n f (x ∷ xs) = elim (nat_eq x.reference n) as (λ b. length (cond b (record x { told = Some f } ∷ xs) (x ∷ with_told n f xs)) ≡ suc (length xs)) [ true ↦ refl | false ↦ ap (λ k. suc k) (length_told n f xs) ]
+length_told n f (x ∷ xs) = elim (nat_eq x.reference n) as
+    (λ b. length (cond b (record x { told = Some f } ∷ xs) (x ∷ with_told n f xs)) ≡ suc (length xs))
+    [ true ↦ refl | false ↦ ap (λ k. suc k) (length_told n f xs) ]
 
-told_match : {K : Type 0} (a : Account) (h : Holdings K) (told : Flight) (n f : ℕ) → Matches a h told → Matches (record a { outstanding = with_told n f a.outstanding }) h told
+told_match : {K : Type 0} (a : Account) (h : Holdings K) (told : Flight) (n f : ℕ) → Matches a h told
+    → Matches (record a { outstanding = with_told n f a.outstanding }) h told
 told_match a h told n f m =
     let xs = with_told n f a.outstanding in
     record {
@@ -129,21 +154,29 @@ told_match a h told n f m =
       same = λ r. ap (times r) (references_told n f a.outstanding) ∙ m.same r;
       once = m.once;
       small = small_told n f a.outstanding m.small;
-      waits = every_weaker (IsKnown a.outstanding) (IsKnown xs) (λ c k. (opcode_told c.reference n f a.outstanding ∙ k.0, k.1)) (commands h.waiting) m.waits;
-      ends = every_weaker (IsAwaited a.outstanding) (IsAwaited xs) (λ e k. record { opcode = k.opcode; found = opcode_told e.reference n f a.outstanding ∙ k.found; code = k.code }) h.untaken m.ends;
+      waits = every_weaker (IsKnown a.outstanding) (IsKnown xs)
+          (λ c k. (opcode_told c.reference n f a.outstanding ∙ k.0, k.1)) (commands h.waiting) m.waits;
+      ends = every_weaker (IsAwaited a.outstanding) (IsAwaited xs)
+          (λ e k. record { opcode = k.opcode; found = opcode_told e.reference n f a.outstanding ∙ k.found; code =
+          k.code }) h.untaken m.ends;
       flight = m.flight;
     }
 
 abbrev outstanding_told : Account → Option (ℕ × ℕ) → Account
 outstanding_told a o = record a { outstanding = outstanding_with a o }
 
-told_if : {K : Type 0} (a : Account) (h : Holdings K) (told : Flight) (o : Option (ℕ × ℕ)) → Matches a h told → Matches (outstanding_told a o) h told
+told_if : {K : Type 0} (a : Account) (h : Holdings K) (told : Flight) (o : Option (ℕ × ℕ)) → Matches a h told
+    → Matches (outstanding_told a o) h told
 told_if a h told None m = m
 told_if {K} a h told (Some t) m =
-    elim (polled_is_outstanding a.watch) as (λ b. Matches (record a { outstanding = if b then with_told t.0 t.1 a.outstanding else a.outstanding }) h told) [ true ↦ told_match a h told t.0 t.1 m | false ↦ m ]
+    elim (polled_is_outstanding a.watch) as (λ b. Matches
+        (record a { outstanding = if b then with_told t.0 t.1 a.outstanding else a.outstanding }) h told)
+        [ true ↦ told_match a h told t.0 t.1 m | false ↦ m ]
 
-flight_rest : (e : End) (us : List End) (w w' : Watch) (told : Flight) (f : IsFlight (e ∷ us) w told) → nat_eq w.reference e.reference ≡ false → w'.reference ≡ w.reference → w'.polled ≡ w.polled
-    → (w'.is_outstanding ≡ true → (w.is_outstanding ≡ true) × (nat_eq e.reference w.polled ≡ false)) → IsFlight us w' told
+flight_rest : (e : End) (us : List End) (w w' : Watch) (told : Flight) (f : IsFlight (e ∷ us) w told)
+    → nat_eq w.reference e.reference ≡ false → w'.reference ≡ w.reference → w'.polled ≡ w.polled
+    → (w'.is_outstanding ≡ true → (w.is_outstanding ≡ true) × (nat_eq e.reference w.polled ≡ false))
+        → IsFlight us w' told
 flight_rest e us w w' told f n r p s =
     let cases : (front : List End) → f.front ≡ front → e ∷ us ≡ front ++ f.end ∷ f.back → IsFlight us w' told =
     λ front. elim front as (λ front. f.front ≡ front → e ∷ us ≡ front ++ f.end ∷ f.back → IsFlight us w' told) [
@@ -163,26 +196,35 @@ flight_rest e us w w' told f n r p s =
             body = f.body ∙ ap (λ x. bodies.Status x told.figure) (sym p);
             ended = λ st wa.
                 let was = s st in
-                let any = subst (λ xs. list_any (λ (x : End). nat_eq x.reference w.polled) xs ≡ true) q (f.ended was.0 wa) in
-                let other : nat_eq g.reference w.polled ≡ false = ap (λ (x : End). nat_eq x.reference w.polled) (sym first) ∙ was.1 in
+                let any = subst (λ xs. list_any (λ (x : End). nat_eq x.reference w.polled) xs ≡ true) q
+                    (f.ended was.0 wa) in
+                let other : nat_eq g.reference w.polled ≡ false =
+                    ap (λ (x : End). nat_eq x.reference w.polled) (sym first) ∙ was.1 in
                 let rest = rw other at any in
                 subst (λ x. list_any (λ (y : End). nat_eq y.reference x) gs ≡ true) (sym p) rest;
           }
     ] in
     cases f.front refl f.split
 
-flight_with : (e : End) (us : List End) (w : Watch) (told : Flight) (b c : Bool) → nat_eq w.reference e.reference ≡ b → nat_eq w.polled e.reference ≡ c → IsFlight (e ∷ us) w told
+flight_with : (e : End) (us : List End) (w : Watch) (told : Flight) (b c : Bool) → nat_eq w.reference e.reference ≡ b
+    → nat_eq w.polled e.reference ≡ c → IsFlight (e ∷ us) w told
     → HasFlight us (if b then None else (if c then Some (record w { is_outstanding = false }) else Some w)) told
 flight_with e us w told true c p q f = tt
-flight_with e us w told false true p q f = flight_rest e us w (record w { is_outstanding = false }) told f p refl refl (λ s. absurd (false≢true s))
-flight_with e us w told false false p q f = flight_rest e us w w told f p refl refl (λ s. (s, grind (arith, nat_tests, q)))
+flight_with e us w told false true p q f = flight_rest e us w (record w { is_outstanding = false }) told f p refl refl
+    (λ s. absurd (false≢true s))
+flight_with e us w told false false p q f = flight_rest e us w w told f p refl refl
+    (λ s. (s, grind (arith, nat_tests, q)))
 
-flight_after : (e : End) (us : List End) (watch : Option Watch) (told : Flight) → HasFlight (e ∷ us) watch told → HasFlight us (watch_after watch e.reference) told
+flight_after : (e : End) (us : List End) (watch : Option Watch) (told : Flight) → HasFlight (e ∷ us) watch told
+    → HasFlight us (watch_after watch e.reference) told
 flight_after e us None told f = tt
-flight_after e us (Some w) told f = flight_with e us w told (nat_eq w.reference e.reference) (nat_eq w.polled e.reference) refl refl f
+flight_after e us (Some w) told f = flight_with e us w told (nat_eq w.reference e.reference)
+    (nat_eq w.polled e.reference) refl refl f
 
-taken_out : {K : Type 0} (a : Account) (h : Holdings K) (told : Flight) (e : End) (us : List End) → Matches a h told → h.untaken ≡ e ∷ us
-    → Matches (record { credits = a.credits; outstanding = without e.reference a.outstanding; watch = watch_after a.watch e.reference }) (record h { untaken = us }) told
+taken_out : {K : Type 0} (a : Account) (h : Holdings K) (told : Flight) (e : End) (us : List End) → Matches a h told
+    → h.untaken ≡ e ∷ us
+    → Matches (record { credits = a.credits; outstanding = without e.reference a.outstanding; watch =
+        watch_after a.watch e.reference }) (record h { untaken = us }) told
 taken_out {K} a h told e us m u =
     let n = e.reference in
     let h' : Holdings K = record h { untaken = us } in
@@ -212,12 +254,21 @@ taken_out {K} a h told e us m u =
           let one = m.once r in
           omega (arith, c, one);
       small = small_without n a.outstanding m.small;
-      waits = every_weaker (λ c. IsKnown a.outstanding c × (nat_eq n c.reference ≡ false)) (IsKnown (without n a.outstanding)) (λ c k. (opcode_without c.reference n (opcode_byte c.order) a.outstanding k.1 k.0.0, k.0.1)) (commands h.waiting)
-          (every_both (IsKnown a.outstanding) (λ c. nat_eq n c.reference ≡ false) (commands h.waiting) m.waits (other_commands n (commands h.waiting) apart.0));
-      ends = every_weaker (λ x. IsAwaited a.outstanding x × (nat_eq n x.reference ≡ false)) (IsAwaited (without n a.outstanding)) (λ x k. record { opcode = k.0.opcode; found = opcode_without x.reference n k.0.opcode a.outstanding k.1 k.0.found; code = k.0.code }) us
-          (every_both (IsAwaited a.outstanding) (λ x. nat_eq n x.reference ≡ false) us ends.1 (other_ends n us apart.1));
+      waits = every_weaker (λ c. IsKnown a.outstanding c × (nat_eq n c.reference ≡ false))
+          (IsKnown (without n a.outstanding)) (λ c k.
+          (opcode_without c.reference n (opcode_byte c.order) a.outstanding k.1 k.0.0, k.0.1)) (commands h.waiting)
+          (every_both (IsKnown a.outstanding) (λ c. nat_eq n c.reference ≡ false) (commands h.waiting) m.waits
+              (other_commands n (commands h.waiting) apart.0));
+      ends = every_weaker (λ x. IsAwaited a.outstanding x × (nat_eq n x.reference ≡ false))
+          (IsAwaited (without n a.outstanding)) (λ x k.
+          record { opcode = k.0.opcode; found = opcode_without x.reference n k.0.opcode a.outstanding k.1 k.0.found;
+          code = k.0.code }) us
+          (every_both (IsAwaited a.outstanding) (λ x. nat_eq n x.reference ≡ false) us ends.1
+              (other_ends n us apart.1));
       flight = flight_after e us a.watch told (subst (λ xs. HasFlight xs a.watch told) u m.flight);
     }
 
-pub received_match : {K : Type 0} (a : Account) (h : Holdings K) (told : Flight) (e : End) (us : List End) → Matches a h told → h.untaken ≡ e ∷ us → Matches (received a e) (record h { untaken = us }) told
-received_match a h told e us m u = taken_out (outstanding_told a (answered a.watch e)) h told e us (told_if a h told (answered a.watch e) m) u
+pub received_match : {K : Type 0} (a : Account) (h : Holdings K) (told : Flight) (e : End) (us : List End)
+    → Matches a h told → h.untaken ≡ e ∷ us → Matches (received a e) (record h { untaken = us }) told
+received_match a h told e us m u = taken_out (outstanding_told a (answered a.watch e)) h told e us
+    (told_if a h told (answered a.watch e) m) u

@@ -37,18 +37,24 @@ length_commands (r ∷ rs) = ap (λ n. suc n) (length_commands rs)
 abbrev pub counted : ℕ → List Command → List End → ℕ
 counted r cs us = times r (called cs) + times r (map end_name us)
 
-pub counted_names : {K : Type 0} (r : ℕ) (h : Holdings K) → times r (outstanding_of h) ≡ counted r (commands h.waiting) h.untaken
-counted_names r h = times_append r (names h.waiting) (map end_name h.untaken) ∙ ap (λ ns. times r ns + times r (map end_name h.untaken)) (names_called h.waiting)
+pub counted_names : {K : Type 0} (r : ℕ) (h : Holdings K)
+    → times r (outstanding_of h) ≡ counted r (commands h.waiting) h.untaken
+counted_names r h = times_append r (names h.waiting) (map end_name h.untaken)
+    ∙ ap (λ ns. times r ns + times r (map end_name h.untaken)) (names_called h.waiting)
 
-pub times_called : (r : ℕ) (xs ys : List Command) → times r (called (xs ++ ys)) ≡ times r (called xs) + times r (called ys)
-times_called r xs ys = ap (times r) (map-append (λ (c : Command). c.reference) xs ys) ∙ times_append r (called xs) (called ys)
+pub times_called : (r : ℕ) (xs ys : List Command) → times r (called (xs ++ ys)) ≡ times r (called xs)
+    + times r (called ys)
+times_called r xs ys = ap (times r) (map-append (λ (c : Command). c.reference) xs ys)
+    ∙ times_append r (called xs) (called ys)
 
-pub times_ends : (r : ℕ) (xs ys : List End) → times r (map end_name (xs ++ ys)) ≡ times r (map end_name xs) + times r (map end_name ys)
+pub times_ends : (r : ℕ) (xs ys : List End) → times r (map end_name (xs ++ ys)) ≡ times r (map end_name xs)
+    + times r (map end_name ys)
 times_ends r xs ys = ap (times r) (map-append end_name xs ys) ∙ times_append r (map end_name xs) (map end_name ys)
 
 -- ---- the flight
 
-pub flight_on : (us : List End) (w : Option Watch) (told : Flight) (e : End) → HasFlight us w told → HasFlight (us ++ e ∷ []) w told
+pub flight_on : (us : List End) (w : Option Watch) (told : Flight) (e : End) → HasFlight us w told
+    → HasFlight (us ++ e ∷ []) w told
 flight_on us None told e f = tt
 flight_on us (Some w) told e f = record {
   front = f.front;
@@ -64,9 +70,11 @@ flight_on us (Some w) told e f = record {
 -- ---- the commands stay where they are
 
 -- nothing that a match asks for is changed
-pub stays : {K : Type 0} (a : Account) (h h' : Holdings K) (told : Flight) → commands h'.waiting ≡ commands h.waiting → h'.untaken ≡ h.untaken → h'.settings ≡ h.settings → Matches a h told → Matches a h' told
+pub stays : {K : Type 0} (a : Account) (h h' : Holdings K) (told : Flight) → commands h'.waiting ≡ commands h.waiting
+    → h'.untaken ≡ h.untaken → h'.settings ≡ h.settings → Matches a h told → Matches a h' told
 stays {K} a h h' told w u s m =
-    let counts : (r : ℕ) → times r (outstanding_of h') ≡ times r (outstanding_of h) = λ r. counted_names r h' ∙ ((λ i. counted r (w i) (u i)) ∙ sym (counted_names r h)) in
+    let counts : (r : ℕ) → times r (outstanding_of h') ≡ times r (outstanding_of h) =
+        λ r. counted_names r h' ∙ ((λ i. counted r (w i) (u i)) ∙ sym (counted_names r h)) in
     let lengths = sym (length_commands h'.waiting) ∙ (ap length w ∙ length_commands h.waiting) in
     record {
       credits = m.credits ∙ ap (λ c. c.credits) (sym s);
@@ -94,25 +102,32 @@ pub record Ends {K : Type 0} (h h' : Holdings K) : Type 0 where
   pub code : end.code ≡ endcode own.order
   pub settings : h'.settings ≡ h.settings
 
-ends_counted : {K : Type 0} (r : ℕ) (h h' : Holdings K) → (x : Ends h h') → times r (outstanding_of h') ≡ times r (outstanding_of h)
+ends_counted : {K : Type 0} (r : ℕ) (h h' : Holdings K) → (x : Ends h h')
+    → times r (outstanding_of h') ≡ times r (outstanding_of h)
 ends_counted {K} r h h' x =
     let own = times r (x.own.reference ∷ []) in
     let old : times r (called (commands h.waiting)) ≡ times r (called x.front) + (own + times r (called x.back)) =
-    ap (λ cs. times r (called cs)) x.waited ∙ (times_called r x.front (x.own ∷ x.back) ∙ ap (λ n. times r (called x.front) + n) (times_called r (x.own ∷ []) x.back)) in
-    let new : times r (called (commands h'.waiting)) ≡ times r (called x.front) + times r (called x.back) = ap (λ cs. times r (called cs)) x.left ∙ times_called r x.front x.back in
+    ap (λ cs. times r (called cs)) x.waited ∙ (times_called r x.front (x.own ∷ x.back)
+        ∙ ap (λ n. times r (called x.front) + n) (times_called r (x.own ∷ []) x.back)) in
+    let new : times r (called (commands h'.waiting)) ≡ times r (called x.front) + times r (called x.back) =
+        ap (λ cs. times r (called cs)) x.left ∙ times_called r x.front x.back in
     let ends : times r (map end_name h'.untaken) ≡ times r (map end_name h.untaken) + own =
-    ap (λ us. times r (map end_name us)) x.ends ∙ (times_ends r h.untaken (x.end ∷ []) ∙ ap (λ n. times r (map end_name h.untaken) + times r (n ∷ [])) x.reference) in
+    ap (λ us. times r (map end_name us)) x.ends ∙ (times_ends r h.untaken (x.end ∷ [])
+        ∙ ap (λ n. times r (map end_name h.untaken) + times r (n ∷ [])) x.reference) in
     let before = counted_names r h in
     let after = counted_names r h' in
     omega (arith, old, new, ends, before, after)
 
-pub ends_match : {K : Type 0} (a : Account) (h h' : Holdings K) (told : Flight) → Ends h h' → Matches a h told → Matches a h' told
+pub ends_match : {K : Type 0} (a : Account) (h h' : Holdings K) (told : Flight) → Ends h h' → Matches a h told
+    → Matches a h' told
 ends_match {K} a h h' told x m =
     let counts : (r : ℕ) → times r (outstanding_of h') ≡ times r (outstanding_of h) = λ r. ends_counted r h h' x in
     let waited = subst (AllByRecursion (IsKnown a.outstanding)) x.waited m.waits in
     let parts = every_parts (IsKnown a.outstanding) x.front (x.own ∷ x.back) waited in
-    let before : length h.waiting ≡ length x.front + suc (length x.back) = sym (length_commands h.waiting) ∙ (ap length x.waited ∙ length-append x.front (x.own ∷ x.back)) in
-    let after : length h'.waiting ≡ length x.front + length x.back = sym (length_commands h'.waiting) ∙ (ap length x.left ∙ length-append x.front x.back) in
+    let before : length h.waiting ≡ length x.front + suc (length x.back) =
+        sym (length_commands h.waiting) ∙ (ap length x.waited ∙ length-append x.front (x.own ∷ x.back)) in
+    let after : length h'.waiting ≡ length x.front + length x.back =
+        sym (length_commands h'.waiting) ∙ (ap length x.left ∙ length-append x.front x.back) in
     let ends : length h'.untaken ≡ length h.untaken + 1 = ap length x.ends ∙ length-append h.untaken (x.end ∷ []) in
     let known = parts.1.0 in
     let awaited : IsAwaited a.outstanding x.end = record {
@@ -126,21 +141,28 @@ ends_match {K} a h h' told x m =
       same = λ r. m.same r ∙ sym (counts r);
       once = λ r. subst (λ n. n ≤ 1) (sym (counts r)) (m.once r);
       small = m.small;
-      waits = subst (AllByRecursion (IsKnown a.outstanding)) (sym x.left) (every_append (IsKnown a.outstanding) x.front x.back parts.0 parts.1.1);
-      ends = subst (AllByRecursion (IsAwaited a.outstanding)) (sym x.ends) (every_append (IsAwaited a.outstanding) h.untaken (x.end ∷ []) m.ends (awaited, tt));
+      waits = subst (AllByRecursion (IsKnown a.outstanding)) (sym x.left)
+          (every_append (IsKnown a.outstanding) x.front x.back parts.0 parts.1.1);
+      ends = subst (AllByRecursion (IsAwaited a.outstanding)) (sym x.ends)
+          (every_append (IsAwaited a.outstanding) h.untaken (x.end ∷ []) m.ends (awaited, tt));
       flight = subst (λ us. HasFlight us a.watch told) (sym x.ends) (flight_on h.untaken a.watch told x.end m.flight);
     }
 
 -- ---- a command arrives
 
 -- a submission is pushed whose number is new, and a record that waits, or an end
-pub known_more : (xs : List Submission) (s : Submission) (cs : List Command) → AllByRecursion (IsKnown xs) cs → AllByRecursion (IsKnown (xs ++ s ∷ [])) cs
+pub known_more : (xs : List Submission) (s : Submission) (cs : List Command) → AllByRecursion (IsKnown xs) cs
+    → AllByRecursion (IsKnown (xs ++ s ∷ [])) cs
 known_more xs s cs h =
-    every_weaker (IsKnown xs) (IsKnown (xs ++ s ∷ [])) (λ c k. (opcode_pushed c.reference (opcode_byte c.order) xs s k.0, k.1)) cs h
+    every_weaker (IsKnown xs) (IsKnown (xs ++ s ∷ []))
+        (λ c k. (opcode_pushed c.reference (opcode_byte c.order) xs s k.0, k.1)) cs h
 
-pub awaited_more : (xs : List Submission) (s : Submission) (us : List End) → AllByRecursion (IsAwaited xs) us → AllByRecursion (IsAwaited (xs ++ s ∷ [])) us
+pub awaited_more : (xs : List Submission) (s : Submission) (us : List End) → AllByRecursion (IsAwaited xs) us
+    → AllByRecursion (IsAwaited (xs ++ s ∷ [])) us
 awaited_more xs s us h =
-    every_weaker (IsAwaited xs) (IsAwaited (xs ++ s ∷ [])) (λ e k. record { opcode = k.opcode; found = opcode_pushed e.reference k.opcode xs s k.found; code = k.code }) us h
+    every_weaker (IsAwaited xs) (IsAwaited (xs ++ s ∷ []))
+        (λ e k. record { opcode = k.opcode; found = opcode_pushed e.reference k.opcode xs s k.found; code = k.code }) us
+        h
 
 -- what is known where a submission is pushed: its number is new, and the controller has it once more
 pub record Pushes {K : Type 0} (a a' : Account) (h h' : Holdings K) (s : Submission) : Type 0 where
@@ -163,18 +185,26 @@ once_pushed r n t l z =
     ] in
     both (nat_eq n r) refl
 
-pub pushes_match : {K : Type 0} (a a' : Account) (h h' : Holdings K) (s : Submission) (told told' : Flight) → Pushes a a' h h' s → Matches a h told → HasFlight h'.untaken a'.watch told' → Matches a' h' told'
+pub pushes_match : {K : Type 0} (a a' : Account) (h h' : Holdings K) (s : Submission) (told told' : Flight)
+    → Pushes a a' h h' s → Matches a h told → HasFlight h'.untaken a'.watch told' → Matches a' h' told'
 pushes_match {K} a a' h h' s told told' x m f =
     record {
       credits = x.credits ∙ (m.credits ∙ ap (λ c. c.credits) (sym x.settings));
       many =
-          let pushed : length a'.outstanding ≡ length a.outstanding + 1 = ap length x.outstanding ∙ length-append a.outstanding (s ∷ []) in
+          let pushed : length a'.outstanding ≡ length a.outstanding + 1 =
+              ap length x.outstanding ∙ length-append a.outstanding (s ∷ []) in
           let many = m.many in
           let more = x.more in
           omega (arith, pushed, many, more);
-      same = λ r. ap (λ xs. times r (references xs)) x.outstanding ∙ (ap (times r) (map-append (λ (q : Submission). q.reference) a.outstanding (s ∷ [])) ∙ (times_append r (references a.outstanding) (s.reference ∷ []) ∙ (ap (λ n. n + times r (s.reference ∷ [])) (m.same r) ∙ sym (x.counts r))));
-      once = λ r. subst (λ n. n ≤ 1) (sym (x.counts r)) (once_pushed r s.reference (times r (outstanding_of h)) (m.once r) (λ e. ap (λ n. times n (outstanding_of h)) e ∙ x.new));
-      small = subst (AllByRecursion IsSmall) (sym x.outstanding) (every_append IsSmall a.outstanding (s ∷ []) m.small (x.small, tt));
+      same = λ r. ap (λ xs. times r (references xs)) x.outstanding
+          ∙ (ap (times r) (map-append (λ (q : Submission). q.reference) a.outstanding (s ∷ []))
+          ∙ (times_append r (references a.outstanding) (s.reference ∷ [])
+          ∙ (ap (λ n. n + times r (s.reference ∷ [])) (m.same r) ∙ sym (x.counts r))));
+      once = λ r. subst (λ n. n ≤ 1) (sym (x.counts r))
+          (once_pushed r s.reference (times r (outstanding_of h)) (m.once r)
+          (λ e. ap (λ n. times n (outstanding_of h)) e ∙ x.new));
+      small = subst (AllByRecursion IsSmall) (sym x.outstanding)
+          (every_append IsSmall a.outstanding (s ∷ []) m.small (x.small, tt));
       waits = subst (λ xs. AllByRecursion (IsKnown xs) (commands h'.waiting)) (sym x.outstanding) x.waits;
       ends = subst (λ xs. AllByRecursion (IsAwaited xs) h'.untaken) (sym x.outstanding) x.ends;
       flight = f;

@@ -38,19 +38,28 @@ use Rattle.mscp_sim.proofs.TwoEnds.Turning.{At, Turns, heard_at, is_news, never_
 
 -- ---- which command was it
 
-found_poll : (c : Settings) (talk : Talk) (j : ℕ) (e : End) (k : ℕ) → ((r : ℕ) → hands_over r (said talk j).moment ≡ nat_eq e.reference r) → (o : Option ℕ) → find (λ i. nat_eq (reference talk i) e.reference) (outstanding talk j) ≡ o
-    → option_map (λ (s : Submission). s.opcode) (option_map (submission_at c talk j) o) ≡ Some k → (p : ℕ) × (ended talk j ≡ Some p)
+found_poll : (c : Settings) (talk : Talk) (j : ℕ) (e : End) (k : ℕ)
+    → ((r : ℕ) → hands_over r (said talk j).moment ≡ nat_eq e.reference r) → (o : Option ℕ)
+    → find (λ i. nat_eq (reference talk i) e.reference) (outstanding talk j) ≡ o
+    → option_map (λ (s : Submission). s.opcode) (option_map (submission_at c talk j) o) ≡ Some k
+        → (p : ℕ) × (ended talk j ≡ Some p)
 found_poll c talk j e k h None f q = absurd (false≢true (ap is_some q))
 found_poll c talk j e k h (Some p) f q =
-    (p, ap (λ (t : ℕ → Bool). find t (outstanding talk j)) (λ n i. (h (reference talk i) ∙ flip e.reference (reference talk i)) n) ∙ f)
+    (p, ap (λ (t : ℕ → Bool). find t (outstanding talk j))
+        (λ n i. (h (reference talk i) ∙ flip e.reference (reference talk i)) n) ∙ f)
 
 -- what is known of the turn
-gives : {K : Type 0} (c : Settings) (picks : List Choice → ℕ → Type 0) (picker : K) (talk : Talk) (j : ℕ) (a : Account) (h : Holdings K) (told : Flight) (e : End) (us : List End) → At c picks picker talk j a h told → h.untaken ≡ e ∷ us
-    → ((r : ℕ) → hands_over r (said talk j).moment ≡ nat_eq e.reference r) → sends (said talk j).heard ≡ false → Gives c talk j e
+gives : {K : Type 0} (c : Settings) (picks : List Choice → ℕ → Type 0) (picker : K) (talk : Talk) (j : ℕ) (a : Account)
+    (h : Holdings K) (told : Flight) (e : End) (us : List End) → At c picks picker talk j a h told → h.untaken ≡ e ∷ us
+    → ((r : ℕ) → hands_over r (said talk j).moment ≡ nat_eq e.reference r) → sends (said talk j).heard ≡ false
+        → Gives c talk j e
 gives {K} c picks picker talk j a h told e us s u hands silent =
     let m = subst (λ (x : Account). Matches x h told) s.account s.match in
     let own = (subst (AllByRecursion (IsAwaited (account_at c talk j).outstanding)) u m.ends).0 in
-    let poll = found_poll c talk j e own.opcode hands (find (λ i. nat_eq (reference talk i) e.reference) (outstanding talk j)) refl (ap (option_map (λ (s : Submission). s.opcode)) (sym (find_map (submission_at c talk j) (has_reference e.reference) (outstanding talk j))) ∙ own.found) in
+    let poll = found_poll c talk j e own.opcode hands
+        (find (λ i. nat_eq (reference talk i) e.reference) (outstanding talk j)) refl
+        (ap (option_map (λ (s : Submission). s.opcode))
+        (sym (find_map (submission_at c talk j) (has_reference e.reference) (outstanding talk j))) ∙ own.found) in
     record {
       hands = hands;
       silent = silent;
@@ -60,22 +69,32 @@ gives {K} c picks picker talk j a h told e us s u hands silent =
       found = poll.1;
       tells = λ p f n.
           let watch : (account_at c talk j).watch ≡ Some (watch_at talk j p) = ap (option_map (watch_at talk j)) f in
-          let flight : IsFlight (e ∷ us) (watch_at talk j p) told = subst (λ w. HasFlight (e ∷ us) w told) watch (subst (λ xs. HasFlight xs (account_at c talk j).watch told) u m.flight) in
+          let flight : IsFlight (e ∷ us) (watch_at talk j p) told =
+              subst (λ w. HasFlight (e ∷ us) w told) watch
+              (subst (λ xs. HasFlight xs (account_at c talk j).watch told) u m.flight) in
           let first = first_is e us (watch_at talk j p) told flight (alone (account_at c talk j) h told e us m u).1 n in
-          (ap (λ (x : End). x.code) (sym first.1) ∙ flight.code, ap (λ (x : End). x.body) (sym first.1) ∙ (flight.body ∙ ap (λ k. bodies.Status (reference_found talk (polled talk p)) k) (s.flight p f).0));
+          (ap (λ (x : End). x.code) (sym first.1) ∙ flight.code, ap (λ (x : End). x.body) (sym first.1)
+              ∙ (flight.body ∙ ap (λ k. bodies.Status (reference_found talk (polled talk p)) k) (s.flight p f).0));
     }
 
 -- a poll's answer is at least 1 where its command still stands
-answer_some : {K : Type 0} (c : Settings) (picks : List Choice → ℕ → Type 0) (picker : K) (talk : Talk) (j : ℕ) (a : Account) (h : Holdings K) (told : Flight) (e : End) (us : List End) (p : ℕ) → At c picks picker talk j a h told → h.untaken ≡ e ∷ us → in_flight talk j ≡ Some p
+answer_some : {K : Type 0} (c : Settings) (picks : List Choice → ℕ → Type 0) (picker : K) (talk : Talk) (j : ℕ)
+    (a : Account) (h : Holdings K) (told : Flight) (e : End) (us : List End) (p : ℕ) → At c picks picker talk j a h told
+    → h.untaken ≡ e ∷ us → in_flight talk j ≡ Some p
     → reference talk p ≡ e.reference → polled_is_outstanding talk j (polled talk p) ≡ true → 1 ≤ figure_told c talk p
 answer_some {K} c picks picker talk j a h told e us p s u f n st =
     let m = subst (λ (x : Account). Matches x h told) s.account s.match in
     let watch : (account_at c talk j).watch ≡ Some (watch_at talk j p) = ap (option_map (watch_at talk j)) f in
-    let flight : IsFlight (e ∷ us) (watch_at talk j p) told = subst (λ w. HasFlight (e ∷ us) w told) watch (subst (λ xs. HasFlight xs (account_at c talk j).watch told) u m.flight) in
+    let flight : IsFlight (e ∷ us) (watch_at talk j p) told =
+        subst (λ w. HasFlight (e ∷ us) w told) watch
+        (subst (λ xs. HasFlight xs (account_at c talk j).watch told) u m.flight) in
     let first = first_is e us (watch_at talk j p) told flight (alone (account_at c talk j) h told e us m u).1 n in
     let waits : told.waited ≡ true =
     let out : (b : Bool) → told.waited ≡ b → told.waited ≡ true =
-    λ b. elim b as (λ b. told.waited ≡ b → told.waited ≡ true) [ true ↦ λ q. q | false ↦ λ q. absurd (false≢true (ap (list_any (λ (x : End). nat_eq x.reference (reference_found talk (polled talk p)))) (sym first.0) ∙ flight.ended st q)) ] in
+    λ b. elim b as (λ b. told.waited ≡ b → told.waited ≡ true)
+        [ true ↦ λ q. q | false ↦ λ q. absurd (false≢true
+        (ap (list_any (λ (x : End). nat_eq x.reference (reference_found talk (polled talk p)))) (sym first.0)
+        ∙ flight.ended st q)) ] in
     out told.waited refl in
     let both = s.flight p f in
     subst (λ k. 1 ≤ k) both.0 (both.1 waits)
@@ -107,7 +126,8 @@ reset_is (news.First f) h = absurd (false≢true h)
 reset_is news.Late h = absurd (false≢true h)
 reset_is news.Lost h = absurd (false≢true h)
 
-stands_it : (talk : Talk) (j x : ℕ) (o : Option ℕ) → is_it x o ≡ true → is_outstanding talk j x ≡ true → polled_is_outstanding talk j o ≡ true
+stands_it : (talk : Talk) (j x : ℕ) (o : Option ℕ) → is_it x o ≡ true → is_outstanding talk j x ≡ true
+    → polled_is_outstanding talk j o ≡ true
 stands_it talk j x None h m = absurd (false≢true h)
 stands_it talk j x (Some i) h m = ap (is_outstanding talk j) (eqb-true i x h) ∙ m
 
@@ -121,10 +141,12 @@ asked_of : (b d : Bool) → (b && d) ≡ true → (b ≡ true) × (d ≡ true)
 asked_of true d e = (refl, e)
 asked_of false d e = absurd (false≢true e)
 
-its_poll : (c : Settings) (talk : Talk) (j : ℕ) (e : End) (g : Gives c talk j e) → (st : Stands c talk j) → st.poll ≡ g.poll
+its_poll : (c : Settings) (talk : Talk) (j : ℕ) (e : End) (g : Gives c talk j e) → (st : Stands c talk j)
+    → st.poll ≡ g.poll
 its_poll c talk j e g st = ap (λ o. unwrap_or o st.poll) (sym st.handed ∙ g.found)
 
-in_flight_then : (c : Settings) (talk : Talk) (j : ℕ) (e : End) (g : Gives c talk j e) → Stands c talk j → in_flight talk j ≡ Some g.poll
+in_flight_then : (c : Settings) (talk : Talk) (j : ℕ) (e : End) (g : Gives c talk j e) → Stands c talk j
+    → in_flight talk j ≡ Some g.poll
 in_flight_then c talk j e g st =
     let asked = (asked_of (is_asked (said talk st.poll).heard) (is_it st.command (polled talk st.poll)) st.about).0 in
     poll_asks c talk j e g (ap (λ p. is_asked (said talk p).heard) (sym (its_poll c talk j e g st)) ∙ asked)
@@ -136,14 +158,19 @@ said_ended c talk j e never = record { not_lost = refl; resets = (λ q. absurd (
 said_late : (c : Settings) (talk : Talk) (j : ℕ) → (Stands c talk j → ⊥) → IsSaid c talk j news.Late
 said_late c talk j never = record { not_lost = refl; resets = (λ q. absurd (false≢true q), λ st. absurd (never st)) }
 
-said_figure : (c : Settings) (talk : Talk) (j f : ℕ) (last : Option ℕ) → 1 ≤ f → (Stands c talk j → (l : ℕ) × (last ≡ Some l) × (l ≤ f)) → ((l : ℕ) → last ≡ Some l → l ≤ f → Stands c talk j) → IsSaid c talk j (news_of_figure last f)
+said_figure : (c : Settings) (talk : Talk) (j f : ℕ) (last : Option ℕ) → 1 ≤ f
+    → (Stands c talk j → (l : ℕ) × (last ≡ Some l) × (l ≤ f)) → ((l : ℕ) → last ≡ Some l → l ≤ f → Stands c talk j)
+    → IsSaid c talk j (news_of_figure last f)
 said_figure c talk j f None some from to =
     let no : nat_eq f 0 ≡ false = grind (arith, nat_tests, some) in
-    rw no (record { not_lost = refl; resets = (λ q. absurd (false≢true q), λ st. absurd (false≢true (ap is_some (from st).1))) })
+    rw no (record { not_lost = refl; resets = (λ q. absurd (false≢true q), λ st.
+        absurd (false≢true (ap is_some (from st).1))) })
 said_figure c talk j f (Some l) some from to =
     let no : nat_eq f 0 ≡ false = grind (arith, nat_tests, some) in
-    let both : (b : Bool) → nat_lt f l ≡ b → IsSaid c talk j (if b then (if nat_eq f 0 then news.Lost else news.Progress f) else news.Reset) =
-    λ b. elim b as (λ b. nat_lt f l ≡ b → IsSaid c talk j (if b then (if nat_eq f 0 then news.Lost else news.Progress f) else news.Reset)) [
+    let both : (b : Bool) → nat_lt f l ≡ b → IsSaid c talk j
+        (if b then (if nat_eq f 0 then news.Lost else news.Progress f) else news.Reset) =
+    λ b. elim b as (λ b. nat_lt f l ≡ b → IsSaid c talk j
+        (if b then (if nat_eq f 0 then news.Lost else news.Progress f) else news.Reset)) [
       | true ↦ λ q. rw no (record {
         not_lost = refl;
         resets = (
@@ -161,29 +188,41 @@ said_figure c talk j f (Some l) some from to =
     both (nat_lt f l) refl
 
 -- what was last told of an outstanding command
-told_last : (c : Settings) (talk : Talk) (j i : ℕ) (e : End) → Gives c talk j e → find (λ x. nat_eq x i) (outstanding talk j) ≡ Some i → last_told (account_at c talk j).outstanding (reference talk i) ≡ last_answer c talk j i
+told_last : (c : Settings) (talk : Talk) (j i : ℕ) (e : End) → Gives c talk j e
+    → find (λ x. nat_eq x i) (outstanding talk j) ≡ Some i
+    → last_told (account_at c talk j).outstanding (reference talk i) ≡ last_answer c talk j i
 told_last c talk j i e g f =
-    let one = only_one (reference talk) (λ x. nat_eq x i) (outstanding talk j) i (once_at c talk j (reference talk i) e g) f in
-    let found : find (λ x. nat_eq (reference talk x) (reference talk i)) (outstanding talk j) ≡ Some i = ap (λ (t : ℕ → Bool). find t (outstanding talk j)) (λ n x. flip (reference talk x) (reference talk i) n) ∙ one in
-    ap told_of (find_map (submission_at c talk j) (has_reference (reference talk i)) (outstanding talk j)) ∙ ap (λ o. told_of (option_map (submission_at c talk j) o)) found
+    let one = only_one (reference talk) (λ x. nat_eq x i) (outstanding talk j) i
+        (once_at c talk j (reference talk i) e g) f in
+    let found : find (λ x. nat_eq (reference talk x) (reference talk i)) (outstanding talk j) ≡ Some i =
+        ap (λ (t : ℕ → Bool). find t (outstanding talk j)) (λ n x. flip (reference talk x) (reference talk i) n)
+        ∙ one in
+    ap told_of (find_map (submission_at c talk j) (has_reference (reference talk i)) (outstanding talk j))
+        ∙ ap (λ o. told_of (option_map (submission_at c talk j) o)) found
 
 -- what is said of the answer of the poll p, whose command is o
-said_answer : (c : Settings) (talk : Talk) (j p : ℕ) (e : End) (g : Gives c talk j e) → in_flight talk j ≡ Some p → p ≡ g.poll → (o : Option ℕ) → polled talk p ≡ o → (b : Bool) → polled_is_outstanding talk j o ≡ b → (b ≡ true → 1 ≤ figure_told c talk p)
-    → IsSaid c talk j (if b then news_of_figure (last_told (account_at c talk j).outstanding (reference_found talk o)) (figure_told c talk p) else news.Late)
+said_answer : (c : Settings) (talk : Talk) (j p : ℕ) (e : End) (g : Gives c talk j e) → in_flight talk j ≡ Some p
+    → p ≡ g.poll → (o : Option ℕ) → polled talk p ≡ o → (b : Bool) → polled_is_outstanding talk j o ≡ b
+    → (b ≡ true → 1 ≤ figure_told c talk p)
+    → IsSaid c talk j (if b then news_of_figure (last_told (account_at c talk j).outstanding (reference_found talk o))
+        (figure_told c talk p) else news.Late)
 said_answer c talk j p e g q s None r true t some = absurd (false≢true t)
 said_answer c talk j p e g q s (Some i) r true t some =
     let below : i < p = found_below talk p i _ r in
     let before : p < j = found_below talk j p _ q in
-    let there : find (λ x. nat_eq x i) (outstanding talk j) ≡ Some i = outstanding_found talk j i t (omega (arith, below, before)) in
+    let there : find (λ x. nat_eq x i) (outstanding talk j) ≡ Some i =
+        outstanding_found talk j i t (omega (arith, below, before)) in
     let last = told_last c talk j i e g there in
     rw last (said_figure c talk j (figure_told c talk p) (last_answer c talk j i) (some refl)
     (λ st.
     let about = (asked_of (is_asked (said talk st.poll).heard) (is_it st.command (polled talk st.poll)) st.about).1 in
     let poll : st.poll ≡ p = its_poll c talk j e g st ∙ sym s in
-    let same : i ≡ st.command = eqb-true i st.command (ap (is_it st.command) (sym (ap (polled talk) poll ∙ r)) ∙ about) in
+    let same : i ≡ st.command = eqb-true i st.command
+        (ap (is_it st.command) (sym (ap (polled talk) poll ∙ r)) ∙ about) in
     (st.last, ap (last_answer c talk j) same ∙ st.told, subst (λ k. st.last ≤ figure_told c talk k) poll st.not_less))
     (λ l k m.
-    let asked : is_asked (said talk p).heard ≡ true = found_is (λ x. is_asked (said talk x).heard) (outstanding talk j) p q in
+    let asked : is_asked (said talk p).heard ≡ true =
+        found_is (λ x. is_asked (said talk x).heard) (outstanding talk j) p q in
     record {
       poll = p;
       command = i;
@@ -198,37 +237,55 @@ said_answer c talk j p e g q s o r false t some =
     said_late c talk j (λ st.
     let about = (asked_of (is_asked (said talk st.poll).heard) (is_it st.command (polled talk st.poll)) st.about).1 in
     let poll : st.poll ≡ p = its_poll c talk j e g st ∙ sym s in
-    true≢false (sym (stands_it talk j st.command o (ap (is_it st.command) (sym (ap (polled talk) poll ∙ r)) ∙ about) st.outstanding) ∙ t))
+    true≢false (sym (stands_it talk j st.command o (ap (is_it st.command) (sym (ap (polled talk) poll ∙ r)) ∙ about)
+        st.outstanding) ∙ t))
 
-said_flight : (c : Settings) (talk : Talk) (j p : ℕ) (e : End) (g : Gives c talk j e) → in_flight talk j ≡ Some p → (b : Bool) → nat_eq (reference talk p) e.reference ≡ b → (b ≡ true → polled_is_outstanding talk j (polled talk p) ≡ true → 1 ≤ figure_told c talk p)
-    → IsSaid c talk j (news_with (account_at c talk j) e (if b && nat_eq e.code 0x82 then host.told_in e.body else None))
+said_flight : (c : Settings) (talk : Talk) (j p : ℕ) (e : End) (g : Gives c talk j e) → in_flight talk j ≡ Some p
+    → (b : Bool) → nat_eq (reference talk p) e.reference ≡ b
+    → (b ≡ true → polled_is_outstanding talk j (polled talk p) ≡ true → 1 ≤ figure_told c talk p)
+    → IsSaid c talk j (news_with (account_at c talk j) e
+        (if b && nat_eq e.code 0x82 then host.told_in e.body else None))
 said_flight c talk j p e g q true n some =
     let named = eqb-true (reference talk p) e.reference n in
     let tells = g.tells p q named in
     let same : p ≡ g.poll = same_poll c talk j e _ p g q named in
     let watch : (account_at c talk j).watch ≡ Some (watch_at talk j p) = ap (option_map (watch_at talk j)) q in
-    rw (eq-eqb e.code 0x82 tells.0, tells.1, watch) (said_answer c talk j p e g q same (polled talk p) refl (polled_is_outstanding talk j (polled talk p)) refl (some refl))
+    rw (eq-eqb e.code 0x82 tells.0, tells.1, watch)
+        (said_answer c talk j p e g q same (polled talk p) refl (polled_is_outstanding talk j (polled talk p)) refl
+        (some refl))
 said_flight c talk j p e g q false n some =
     said_ended c talk j e (λ st.
     let same : p ≡ g.poll = ap (λ o. unwrap_or o p) (sym q ∙ in_flight_then c talk j e g st) in
     true≢false (sym (eq-eqb (reference talk p) e.reference (ap (reference talk) same ∙ poll_named c talk j e g)) ∙ n))
 
-said_with : (c : Settings) (talk : Talk) (j : ℕ) (e : End) (g : Gives c talk j e) (o : Option ℕ) → in_flight talk j ≡ o → ((p : ℕ) → in_flight talk j ≡ Some p → reference talk p ≡ e.reference → polled_is_outstanding talk j (polled talk p) ≡ true → 1 ≤ figure_told c talk p)
+said_with : (c : Settings) (talk : Talk) (j : ℕ) (e : End) (g : Gives c talk j e) (o : Option ℕ) → in_flight talk j ≡ o
+    → ((p : ℕ) → in_flight talk j ≡ Some p → reference talk p ≡ e.reference
+    → polled_is_outstanding talk j (polled talk p) ≡ true → 1 ≤ figure_told c talk p)
     → IsSaid c talk j (news_with (account_at c talk j) e (answered (option_map (watch_at talk j) o) e))
-said_with c talk j e g None q some = said_ended c talk j e (λ st. true≢false (ap is_some (sym (in_flight_then c talk j e g st) ∙ q)))
-said_with c talk j e g (Some p) q some = said_flight c talk j p e g q (nat_eq (reference talk p) e.reference) refl (λ b. some p q (eqb-true (reference talk p) e.reference b))
+said_with c talk j e g None q some = said_ended c talk j e
+    (λ st. true≢false (ap is_some (sym (in_flight_then c talk j e g st) ∙ q)))
+said_with c talk j e g (Some p) q some = said_flight c talk j p e g q (nat_eq (reference talk p) e.reference) refl
+    (λ b. some p q (eqb-true (reference talk p) e.reference b))
 
 -- ---- the turn
 
-take_none : {K : Type 0} (c : Settings) (picks : List Choice → ℕ → Type 0) (picker : K) (talk : Talk) (j : ℕ) (a a' : Account) (h h' : Holdings K) (told : Flight) → j < length talk → At c picks picker talk j a h told → Says picks a h (said talk j) a' h'
-    → (said talk j).moment ≡ Some (events.Take, entries.Taken None) → IsHanded a None (said talk j).heard a' → Turns c picks picker talk j a' h'
+take_none : {K : Type 0} (c : Settings) (picks : List Choice → ℕ → Type 0) (picker : K) (talk : Talk) (j : ℕ)
+    (a a' : Account) (h h' : Holdings K) (told : Flight) → j < length talk → At c picks picker talk j a h told
+    → Says picks a h (said talk j) a' h'
+    → (said talk j).moment ≡ Some (events.Take, entries.Taken None) → IsHanded a None (said talk j).heard a'
+        → Turns c picks picker talk j a' h'
 take_none {K} c picks picker talk j a a' h h' told l s r m k =
     let n = no_end talk j (Some (events.Take, entries.Taken None)) m (λ r. refl) in
     let answers = subst (λ o. AnswersTurn picks h o h') m r.1 in
-    quiet c picks picker talk j a a' h h' told l s r (Some (events.Take, entries.Taken None)) m refl n (ap sends k.0) (ap is_news k.0) k.1 (subst (λ (y : Holdings K). Matches a y told) (sym answers.1) (taken_none a h told (sym answers.0) s.match))
+    quiet c picks picker talk j a a' h h' told l s r (Some (events.Take, entries.Taken None)) m refl n (ap sends k.0)
+        (ap is_news k.0) k.1 (subst (λ (y : Holdings K). Matches a y told) (sym answers.1)
+        (taken_none a h told (sym answers.0) s.match))
 
-take_some : {K : Type 0} (c : Settings) (picks : List Choice → ℕ → Type 0) (picker : K) (talk : Talk) (j : ℕ) (a a' : Account) (h h' : Holdings K) (told : Flight) (b : ArrayVec ℕ) → j < length talk → At c picks picker talk j a h told → Says picks a h (said talk j) a' h'
-    → (said talk j).turn ≡ turns.Take → (said talk j).moment ≡ Some (events.Take, entries.Taken (Some b)) → IsHanded a (Some b) (said talk j).heard a' → Turns c picks picker talk j a' h'
+take_some : {K : Type 0} (c : Settings) (picks : List Choice → ℕ → Type 0) (picker : K) (talk : Talk) (j : ℕ)
+    (a a' : Account) (h h' : Holdings K) (told : Flight) (b : ArrayVec ℕ) → j < length talk
+    → At c picks picker talk j a h told → Says picks a h (said talk j) a' h'
+    → (said talk j).turn ≡ turns.Take → (said talk j).moment ≡ Some (events.Take, entries.Taken (Some b))
+        → IsHanded a (Some b) (said talk j).heard a' → Turns c picks picker talk j a' h'
 take_some {K} c picks picker talk j a a' h h' told b l s r t m k =
     let n = k.0 in
     let sound = subst (λ u. IsSound h u (said talk j).moment) t r.2 in
@@ -236,38 +293,53 @@ take_some {K} c picks picker talk j a a' h h' told b l s r t m k =
     let x = taken_some a h told b (sym answers.0) (λ e f. sound b e m f) s.match in
     let e = x.end in
     let message : IsEnd b.items e = sound b e m (ap (λ xs. slice_get xs 0) x.untaken) in
-    let hands : (r : ℕ) → hands_over r (said talk j).moment ≡ nat_eq e.reference r = λ r. ap (hands_over r) m ∙ ap (λ q. nat_eq q r) (sym message.reference) in
+    let hands : (r : ℕ) → hands_over r (said talk j).moment ≡ nat_eq e.reference r =
+        λ r. ap (hands_over r) m ∙ ap (λ q. nat_eq q r) (sym message.reference) in
     let g = gives c picks picker talk j a h told e x.rest s x.untaken hands (ap sends k.1) in
     let both = sym k.2 ∙ x.heard in
     let left : a' ≡ received a e = ap (λ p. p.1) both in
-    let same : a' ≡ account_at c talk (j + 1) = left ∙ (ap (λ y. received y e) s.account ∙ sym (account_received c talk j e g)) in
-    let news : n ≡ news_with (account_at c talk j) e (answered (account_at c talk j).watch e) = ap (λ p. news_or p.0 n) both ∙ ap (λ (y : Account). news_with y e (answered y.watch e)) s.account in
-    let said_so = said_with c talk j e g (in_flight talk j) refl (λ p f q st. answer_some c picks picker talk j a h told e x.rest p s x.untaken f q st) in
+    let same : a' ≡ account_at c talk (j + 1) = left
+        ∙ (ap (λ y. received y e) s.account ∙ sym (account_received c talk j e g)) in
+    let news : n ≡ news_with (account_at c talk j) e (answered (account_at c talk j).watch e) =
+        ap (λ p. news_or p.0 n) both ∙ ap (λ (y : Account). news_with y e (answered y.watch e)) s.account in
+    let said_so = said_with c talk j e g (in_flight talk j) refl
+        (λ p f q st. answer_some c picks picker talk j a h told e x.rest p s x.untaken f q st) in
     let known : IsSaid c talk j n = subst (IsSaid c talk j) (sym news) said_so in
     record {
       tells = record {
         says = heard_at c talk j a a' s.account same r.0;
-        resets = (λ q. known.resets.0 (ap (λ o. is_reset (news_in o)) (sym k.1 ∙ q)), λ st. k.1 ∙ ap hears.News (reset_is n (known.resets.1 st)));
+        resets = (λ q. known.resets.0 (ap (λ o. is_reset (news_in o)) (sym k.1 ∙ q)), λ st. k.1
+            ∙ ap hears.News (reset_is n (known.resets.1 st)));
         no_lost = λ q. true≢false (sym (ap (λ o. is_lost (news_in o)) (sym k.1 ∙ q)) ∙ known.not_lost);
         new = unqueued talk j (Some (events.Take, entries.Taken (Some b))) m refl;
         idle = never_idle talk j (ap is_asked k.1);
         some = λ p i f about st.
             let this : p ≡ g.poll = ap (λ o. unwrap_or o p) (sym f ∙ g.found) in
             let parts = asked_of (is_asked (said talk p).heard) (is_it i (polled talk p)) about in
-            let flight : in_flight talk j ≡ Some p = poll_asks c talk j e g (ap (λ q. is_asked (said talk q).heard) (sym this) ∙ parts.0) ∙ ap Some (sym this) in
-            answer_some c picks picker talk j a h told e x.rest p s x.untaken flight (ap (reference talk) this ∙ poll_named c talk j e g) (stands_it talk j i (polled talk p) parts.1 st);
+            let flight : in_flight talk j ≡ Some p =
+                poll_asks c talk j e g (ap (λ q. is_asked (said talk q).heard) (sym this) ∙ parts.0)
+                ∙ ap Some (sym this) in
+            answer_some c picks picker talk j a h told e x.rest p s x.untaken flight
+                (ap (reference talk) this ∙ poll_named c talk j e g) (stands_it talk j i (polled talk p) parts.1 st);
       };
       told = told;
       next = record {
         account = same;
-        match = subst (λ (y : Account). Matches y h' told) (sym left) (subst (λ (y : Holdings K). Matches (received a e) y told) (sym answers.1) x.match);
+        match = subst (λ (y : Account). Matches y h' told) (sym left)
+            (subst (λ (y : Holdings K). Matches (received a e) y told) (sym answers.1) x.match);
         reached = reached_next c picks picker talk j a h h' told l s r.1;
         one = one_received c talk j e g;
         flight = λ p f. s.flight p (flight_back c talk j e p g f);
       };
     }
 
-pub take_turn : {K : Type 0} (c : Settings) (picks : List Choice → ℕ → Type 0) (picker : K) (talk : Talk) (j : ℕ) (a a' : Account) (h h' : Holdings K) (told : Flight) → j < length talk → At c picks picker talk j a h told → Says picks a h (said talk j) a' h'
-    → (said talk j).turn ≡ turns.Take → (end : Option (ArrayVec ℕ)) → (said talk j).moment ≡ Some (events.Take, entries.Taken end) → IsHanded a end (said talk j).heard a' → Turns c picks picker talk j a' h'
-take_turn c picks picker talk j a a' h h' told l s r t None m k = take_none c picks picker talk j a a' h h' told l s r m k
-take_turn c picks picker talk j a a' h h' told l s r t (Some b) m k = take_some c picks picker talk j a a' h h' told b l s r t m k
+pub take_turn : {K : Type 0} (c : Settings) (picks : List Choice → ℕ → Type 0) (picker : K) (talk : Talk) (j : ℕ)
+    (a a' : Account) (h h' : Holdings K) (told : Flight) → j < length talk → At c picks picker talk j a h told
+    → Says picks a h (said talk j) a' h'
+    → (said talk j).turn ≡ turns.Take → (end : Option (ArrayVec ℕ))
+        → (said talk j).moment ≡ Some (events.Take, entries.Taken end) → IsHanded a end (said talk j).heard a'
+        → Turns c picks picker talk j a' h'
+take_turn c picks picker talk j a a' h h' told l s r t None m k =
+    take_none c picks picker talk j a a' h h' told l s r m k
+take_turn c picks picker talk j a a' h h' told l s r t (Some b) m k =
+    take_some c picks picker talk j a a' h h' told b l s r t m k

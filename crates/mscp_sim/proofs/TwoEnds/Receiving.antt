@@ -17,7 +17,8 @@ use Rattle.mscp_sim.proofs.TwoEnds.Singled.{any_before, found_in, only_one}
 
 -- at most one poll is outstanding
 abbrev pub OnePoll : Talk → ℕ → Type 0
-OnePoll talk j = AllByRecursion (λ p. is_asked (said talk p).heard ≡ true → in_flight talk j ≡ Some p) (outstanding talk j)
+OnePoll talk j = AllByRecursion (λ p. is_asked (said talk p).heard ≡ true → in_flight talk j ≡ Some p)
+    (outstanding talk j)
 
 -- what is known of a turn that hands over the end e
 pub record Gives (c : Settings) (talk : Talk) (j : ℕ) (e : End) : Type 0 where
@@ -34,16 +35,21 @@ pub record Gives (c : Settings) (talk : Talk) (j : ℕ) (e : End) : Type 0 where
 abbrev pub keep : Talk → End → ℕ → Bool
 keep talk e i = not (nat_eq e.reference (reference talk i))
 
-pub references_at : (c : Settings) (talk : Talk) (j k : ℕ) (xs : List ℕ) → references (map (submission_at c talk j) xs) ≡ map (reference talk) xs
+pub references_at : (c : Settings) (talk : Talk) (j k : ℕ) (xs : List ℕ)
+    → references (map (submission_at c talk j) xs) ≡ map (reference talk) xs
 references_at c talk j k xs = map_map (submission_at c talk j) (λ (s : Submission). s.reference) xs
 
-pub once_at : (c : Settings) (talk : Talk) (j r : ℕ) (e : End) → Gives c talk j e → times r (map (reference talk) (outstanding talk j)) ≤ 1
+pub once_at : (c : Settings) (talk : Talk) (j r : ℕ) (e : End) → Gives c talk j e
+    → times r (map (reference talk) (outstanding talk j)) ≤ 1
 once_at c talk j r e g = subst (λ xs. times r xs ≤ 1) (references_at c talk j j (outstanding talk j)) (g.once r)
 
-pub outs_after : (c : Settings) (talk : Talk) (j : ℕ) (e : End) → Gives c talk j e → outstanding talk (j + 1) ≡ filter (keep talk e) (outstanding talk j)
+pub outs_after : (c : Settings) (talk : Talk) (j : ℕ) (e : End) → Gives c talk j e
+    → outstanding talk (j + 1) ≡ filter (keep talk e) (outstanding talk j)
 outs_after c talk j e g =
     outstanding_more talk j
-    ∙ ((λ i. filter_on (λ x. not (ends_now talk j x)) (keep talk e) (outstanding talk j) (every_from (λ x. not (ends_now talk j x) ≡ keep talk e x) (λ x. ap not (g.hands (reference talk x))) (outstanding talk j)) i ++ cond (g.silent i) (j ∷ []) [])
+    ∙ ((λ i. filter_on (λ x. not (ends_now talk j x)) (keep talk e) (outstanding talk j)
+        (every_from (λ x. not (ends_now talk j x) ≡ keep talk e x) (λ x. ap not (g.hands (reference talk x)))
+        (outstanding talk j)) i ++ cond (g.silent i) (j ∷ []) [])
     ∙ append-nil (filter (keep talk e) (outstanding talk j)))
 
 -- ---- members
@@ -64,52 +70,64 @@ found_self (x ∷ xs) P h = (
   h x (ap (λ b. cond b (Some x) (find (λ y. nat_eq y x) xs)) (eq-eqb x x refl)),
   found_self xs P (λ y m. h y (
       let out : (b : Bool) → nat_eq x y ≡ b → cond b (Some x) (find (λ z. nat_eq z y) xs) ≡ Some y =
-      λ b. elim b as (λ b. nat_eq x y ≡ b → cond b (Some x) (find (λ z. nat_eq z y) xs) ≡ Some y) [ true ↦ λ e. ap Some (eqb-true x y e) | false ↦ λ e. m ] in
+      λ b. elim b as (λ b. nat_eq x y ≡ b → cond b (Some x) (find (λ z. nat_eq z y) xs) ≡ Some y)
+          [ true ↦ λ e. ap Some (eqb-true x y e) | false ↦ λ e. m ] in
       out (nat_eq x y) refl)),
 )
 
 -- each that is found by itself
-every_members : (P : ℕ → Type 0) (xs : List ℕ) → ((x : ℕ) → find (λ y. nat_eq y x) xs ≡ Some x → P x) → AllByRecursion P xs
+every_members : (P : ℕ → Type 0) (xs : List ℕ) → ((x : ℕ) → find (λ y. nat_eq y x) xs ≡ Some x → P x)
+    → AllByRecursion P xs
 every_members P xs h = found_self xs P h
 
 pub differs : (a b : ℕ) → (a ≡ b → ⊥) → nat_eq a b ≡ false
 differs a b n =
     let out : (x : Bool) → nat_eq a b ≡ x → nat_eq a b ≡ false =
-    λ x. elim x as (λ x. nat_eq a b ≡ x → nat_eq a b ≡ false) [ true ↦ λ e. absurd (n (eqb-true a b e)) | false ↦ λ e. e ] in
+    λ x. elim x as (λ x. nat_eq a b ≡ x → nat_eq a b ≡ false)
+        [ true ↦ λ e. absurd (n (eqb-true a b e)) | false ↦ λ e. e ] in
     out (nat_eq a b) refl
 
-pub outstanding_found : (talk : Talk) (j i : ℕ) → is_outstanding talk j i ≡ true → i < j → find (λ x. nat_eq x i) (outstanding talk j) ≡ Some i
+pub outstanding_found : (talk : Talk) (j i : ℕ) → is_outstanding talk j i ≡ true → i < j
+    → find (λ x. nat_eq x i) (outstanding talk j) ≡ Some i
 unfolding outstanding
 outstanding_found talk j i o l = found_in (is_outstanding talk j) (before j) i o (any_before i j l)
 
-gone_is : (talk : Talk) (j x : ℕ) (o : Option ℕ) → polled_is_outstanding talk j o ≡ false → is_outstanding talk j x ≡ true → is_it x o ≡ false
+gone_is : (talk : Talk) (j x : ℕ) (o : Option ℕ) → polled_is_outstanding talk j o ≡ false
+    → is_outstanding talk j x ≡ true → is_it x o ≡ false
 gone_is talk j x None t m = refl
 gone_is talk j x (Some i) t m = differs i x (λ z. true≢false (sym m ∙ (ap (is_outstanding talk j) (sym z) ∙ t)))
 
 -- ---- whose end it is
 
 -- the command that a test finds, and that has the number of the end, is the one whose end it is
-pub same_poll : (c : Settings) (talk : Talk) (j : ℕ) (e : End) (q : ℕ → Bool) (x : ℕ) → (g : Gives c talk j e) → find q (outstanding talk j) ≡ Some x → reference talk x ≡ e.reference → x ≡ g.poll
+pub same_poll : (c : Settings) (talk : Talk) (j : ℕ) (e : End) (q : ℕ → Bool) (x : ℕ) → (g : Gives c talk j e)
+    → find q (outstanding talk j) ≡ Some x → reference talk x ≡ e.reference → x ≡ g.poll
 same_poll c talk j e q x g f r =
     let only = only_one (reference talk) q (outstanding talk j) x (once_at c talk j (reference talk x) e g) f in
     let named : find (λ i. hands_over (reference talk i) (said talk j).moment) (outstanding talk j) ≡ Some x =
-    ap (λ (t : ℕ → Bool). find t (outstanding talk j)) (λ k i. (g.hands (reference talk i) ∙ ap (λ n. nat_eq n (reference talk i)) (sym r)) k) ∙ only in
+    ap (λ (t : ℕ → Bool). find t (outstanding talk j))
+        (λ k i. (g.hands (reference talk i) ∙ ap (λ n. nat_eq n (reference talk i)) (sym r)) k) ∙ only in
     ap (λ o. unwrap_or o x) (sym named ∙ g.found)
 
 -- two outstanding commands of one number are one
-same_command : (c : Settings) (talk : Talk) (j : ℕ) (e : End) (p q : ℕ → Bool) (x y : ℕ) → Gives c talk j e → find p (outstanding talk j) ≡ Some x → find q (outstanding talk j) ≡ Some y → reference talk x ≡ reference talk y → x ≡ y
+same_command : (c : Settings) (talk : Talk) (j : ℕ) (e : End) (p q : ℕ → Bool) (x y : ℕ) → Gives c talk j e
+    → find p (outstanding talk j) ≡ Some x → find q (outstanding talk j) ≡ Some y → reference talk x ≡ reference talk y
+    → x ≡ y
 same_command c talk j e p q x y g f h r =
     let one = only_one (reference talk) p (outstanding talk j) x (once_at c talk j (reference talk x) e g) f in
     let two = only_one (reference talk) q (outstanding talk j) y (once_at c talk j (reference talk y) e g) h in
     ap (λ o. unwrap_or o x) (sym one ∙ (ap (λ n. find (λ i. nat_eq n (reference talk i)) (outstanding talk j)) r ∙ two))
 
-pub poll_named : (c : Settings) (talk : Talk) (j : ℕ) (e : End) → (g : Gives c talk j e) → reference talk g.poll ≡ e.reference
+pub poll_named : (c : Settings) (talk : Talk) (j : ℕ) (e : End) → (g : Gives c talk j e)
+    → reference talk g.poll ≡ e.reference
 poll_named c talk j e g =
     let h = found_is (λ i. hands_over (reference talk i) (said talk j).moment) (outstanding talk j) g.poll g.found in
     sym (eqb-true e.reference (reference talk g.poll) (sym (g.hands (reference talk g.poll)) ∙ h))
 
-pub poll_asks : (c : Settings) (talk : Talk) (j : ℕ) (e : End) → (g : Gives c talk j e) → is_asked (said talk g.poll).heard ≡ true → in_flight talk j ≡ Some g.poll
-poll_asks c talk j e g a = found_all (λ p. is_asked (said talk p).heard ≡ true → in_flight talk j ≡ Some p) _ (outstanding talk j) g.poll g.one g.found a
+pub poll_asks : (c : Settings) (talk : Talk) (j : ℕ) (e : End) → (g : Gives c talk j e)
+    → is_asked (said talk g.poll).heard ≡ true → in_flight talk j ≡ Some g.poll
+poll_asks c talk j e g a = found_all (λ p. is_asked (said talk p).heard ≡ true → in_flight talk j ≡ Some p) _
+    (outstanding talk j) g.poll g.one g.found a
 
 -- ---- what was told
 
@@ -117,96 +135,134 @@ poll_asks c talk j e g a = found_all (λ p. is_asked (said talk p).heard ≡ tru
 abbrev TellsNothing : Settings → Talk → ℕ → ℕ → Type 0
 TellsNothing c talk j i = answers_of c talk i (ended talk j) ≡ []
 
-nothing_asked : (c : Settings) (talk : Talk) (j i : ℕ) (e : End) → (g : Gives c talk j e) → is_asked (said talk g.poll).heard ≡ false → TellsNothing c talk j i
-nothing_asked c talk j i e g a = ap (answers_of c talk i) g.found ∙ ap (λ b. cond (b && is_it i (polled talk g.poll)) (figure_told c talk g.poll ∷ []) []) a
+nothing_asked : (c : Settings) (talk : Talk) (j i : ℕ) (e : End) → (g : Gives c talk j e)
+    → is_asked (said talk g.poll).heard ≡ false → TellsNothing c talk j i
+nothing_asked c talk j i e g a = ap (answers_of c talk i) g.found
+    ∙ ap (λ b. cond (b && is_it i (polled talk g.poll)) (figure_told c talk g.poll ∷ []) []) a
 
-subs_kept : (c : Settings) (talk : Talk) (j : ℕ) (xs : List ℕ) → AllByRecursion (TellsNothing c talk j) xs → map (submission_at c talk (j + 1)) xs ≡ map (submission_at c talk j) xs
+subs_kept : (c : Settings) (talk : Talk) (j : ℕ) (xs : List ℕ) → AllByRecursion (TellsNothing c talk j) xs
+    → map (submission_at c talk (j + 1)) xs ≡ map (submission_at c talk j) xs
 subs_kept c talk j xs h =
     map_on (submission_at c talk (j + 1)) (submission_at c talk j) xs
     (every_weaker (TellsNothing c talk j) (λ i. submission_at c talk (j + 1) i ≡ submission_at c talk j i)
-    (λ i n. ap (λ t. record { reference = reference talk i; unit = unit_of_turn talk i (said talk i).turn; opcode = opcode talk i; told = t }) (last_same c talk j i n)) xs h)
+    (λ i n. ap (λ t. record { reference = reference talk i; unit = unit_of_turn talk i (said talk i).turn; opcode =
+        opcode talk i; told = t }) (last_same c talk j i n)) xs h)
 
 -- where the end is that of a poll about the command i
-one_told : (c : Settings) (talk : Talk) (j i f : ℕ) → answers_of c talk i (ended talk j) ≡ f ∷ [] → submission_at c talk (j + 1) i ≡ record (submission_at c talk j i) { told = Some f }
-one_told c talk j i f n = ap (λ t. record { reference = reference talk i; unit = unit_of_turn talk i (said talk i).turn; opcode = opcode talk i; told = t }) (last_new c talk j i f n)
+one_told : (c : Settings) (talk : Talk) (j i f : ℕ) → answers_of c talk i (ended talk j) ≡ f ∷ []
+    → submission_at c talk (j + 1) i ≡ record (submission_at c talk j i) { told = Some f }
+one_told c talk j i f n = ap (λ t. record { reference = reference talk i; unit =
+    unit_of_turn talk i (said talk i).turn; opcode = opcode talk i; told = t }) (last_new c talk j i f n)
 
 -- of each command: it has the number n and is told f, or it has another and is told nothing
 abbrev IsTold : Settings → Talk → ℕ → ℕ → ℕ → ℕ → Type 0
-IsTold c talk j n f i = (nat_eq (reference talk i) n ≡ true → answers_of c talk i (ended talk j) ≡ f ∷ []) × (nat_eq (reference talk i) n ≡ false → TellsNothing c talk j i)
+IsTold c talk j n f i = (nat_eq (reference talk i) n ≡ true → answers_of c talk i (ended talk j) ≡ f ∷ [])
+    × (nat_eq (reference talk i) n ≡ false → TellsNothing c talk j i)
 
-none_told : (c : Settings) (talk : Talk) (j n f : ℕ) (xs : List ℕ) → AllByRecursion (IsTold c talk j n f) xs → times n (map (reference talk) xs) ≡ 0 → AllByRecursion (TellsNothing c talk j) xs
+none_told : (c : Settings) (talk : Talk) (j n f : ℕ) (xs : List ℕ) → AllByRecursion (IsTold c talk j n f) xs
+    → times n (map (reference talk) xs) ≡ 0 → AllByRecursion (TellsNothing c talk j) xs
 none_told c talk j n f [] h z = tt
 none_told c talk j n f (x ∷ xs) h z =
     let t = times n (map (reference talk) xs) in
-    let out : (b : Bool) → nat_eq (reference talk x) n ≡ b → cond b (1 + t) t ≡ 0 → AllByRecursion (TellsNothing c talk j) (x ∷ xs) =
-    λ b. elim b as (λ b. nat_eq (reference talk x) n ≡ b → cond b (1 + t) t ≡ 0 → AllByRecursion (TellsNothing c talk j) (x ∷ xs)) [
+    let out : (b : Bool) → nat_eq (reference talk x) n ≡ b → cond b (1 + t) t ≡ 0
+        → AllByRecursion (TellsNothing c talk j) (x ∷ xs) =
+    λ b. elim b as (λ b. nat_eq (reference talk x) n ≡ b → cond b (1 + t) t ≡ 0
+        → AllByRecursion (TellsNothing c talk j) (x ∷ xs)) [
       | true ↦ λ e z. absurd (omega (arith, z))
       | false ↦ λ e z. (h.0.1 e, none_told c talk j n f xs h.1 z)
     ] in
     out (nat_eq (reference talk x) n) refl z
 
-subs_told : (c : Settings) (talk : Talk) (j n f : ℕ) (xs : List ℕ) → AllByRecursion (IsTold c talk j n f) xs → times n (map (reference talk) xs) ≤ 1 → with_told n f (map (submission_at c talk j) xs) ≡ map (submission_at c talk (j + 1)) xs
+subs_told : (c : Settings) (talk : Talk) (j n f : ℕ) (xs : List ℕ) → AllByRecursion (IsTold c talk j n f) xs
+    → times n (map (reference talk) xs) ≤ 1 → with_told n f (map (submission_at c talk j) xs)
+    ≡ map (submission_at c talk (j + 1)) xs
 subs_told c talk j n f [] h l = refl
 subs_told c talk j n f (x ∷ xs) h l =
     let t = times n (map (reference talk) xs) in
     let rest = map (submission_at c talk j) xs in
     let s = submission_at c talk j x in
-    let out : (b : Bool) → nat_eq (reference talk x) n ≡ b → cond b (1 + t) t ≤ 1 → cond b (record s { told = Some f } ∷ rest) (s ∷ with_told n f rest) ≡ map (submission_at c talk (j + 1)) (x ∷ xs) =
-    λ b. elim b as (λ b. nat_eq (reference talk x) n ≡ b → cond b (1 + t) t ≤ 1 → cond b (record s { told = Some f } ∷ rest) (s ∷ with_told n f rest) ≡ map (submission_at c talk (j + 1)) (x ∷ xs)) [
-      | true ↦ λ e l. λ k. sym (one_told c talk j x f (h.0.0 e)) k ∷ sym (subs_kept c talk j xs (none_told c talk j n f xs h.1 (omega (arith, l)))) k
+    let out : (b : Bool) → nat_eq (reference talk x) n ≡ b → cond b (1 + t) t ≤ 1
+        → cond b (record s { told = Some f } ∷ rest) (s ∷ with_told n f rest)
+        ≡ map (submission_at c talk (j + 1)) (x ∷ xs) =
+    λ b. elim b as (λ b. nat_eq (reference talk x) n ≡ b → cond b (1 + t) t ≤ 1
+        → cond b (record s { told = Some f } ∷ rest) (s ∷ with_told n f rest)
+        ≡ map (submission_at c talk (j + 1)) (x ∷ xs)) [
+      | true ↦ λ e l. λ k. sym (one_told c talk j x f (h.0.0 e)) k
+          ∷ sym (subs_kept c talk j xs (none_told c talk j n f xs h.1 (omega (arith, l)))) k
       | false ↦ λ e l. λ k. sym (subs_kept c talk j (x ∷ []) (h.0.1 e, tt)) k ++ subs_told c talk j n f xs h.1 l k
     ] in
     out (nat_eq (reference talk x) n) refl l
 
-not_asks : (c : Settings) (talk : Talk) (j : ℕ) (e : End) (g : Gives c talk j e) → (is_asked (said talk g.poll).heard ≡ true → ⊥) → is_asked (said talk g.poll).heard ≡ false
+not_asks : (c : Settings) (talk : Talk) (j : ℕ) (e : End) (g : Gives c talk j e)
+    → (is_asked (said talk g.poll).heard ≡ true → ⊥) → is_asked (said talk g.poll).heard ≡ false
 not_asks c talk j e g n =
     let out : (b : Bool) → is_asked (said talk g.poll).heard ≡ b → is_asked (said talk g.poll).heard ≡ false =
-    λ b. elim b as (λ b. is_asked (said talk g.poll).heard ≡ b → is_asked (said talk g.poll).heard ≡ false) [ true ↦ λ a. absurd (n a) | false ↦ λ a. a ] in
+    λ b. elim b as (λ b. is_asked (said talk g.poll).heard ≡ b → is_asked (said talk g.poll).heard ≡ false)
+        [ true ↦ λ a. absurd (n a) | false ↦ λ a. a ] in
     out (is_asked (said talk g.poll).heard) refl
 
 -- the poll p tells of its command, where that still stands
-told_of_stands : (c : Settings) (talk : Talk) (j : ℕ) (e : End) (g : Gives c talk j e) (p : ℕ) (o : Option ℕ) → in_flight talk j ≡ Some p → p ≡ g.poll → polled talk p ≡ o → (b : Bool) → polled_is_outstanding talk j o ≡ b
-    → (if b then with_told (reference_found talk o) (figure_told c talk p) (account_at c talk j).outstanding else (account_at c talk j).outstanding) ≡ map (submission_at c talk (j + 1)) (outstanding talk j)
+told_of_stands : (c : Settings) (talk : Talk) (j : ℕ) (e : End) (g : Gives c talk j e) (p : ℕ) (o : Option ℕ)
+    → in_flight talk j ≡ Some p → p ≡ g.poll → polled talk p ≡ o → (b : Bool) → polled_is_outstanding talk j o ≡ b
+    → (if b then with_told (reference_found talk o) (figure_told c talk p) (account_at c talk j).outstanding
+        else (account_at c talk j).outstanding) ≡ map (submission_at c talk (j + 1)) (outstanding talk j)
 told_of_stands c talk j e g p None q s r true t = absurd (false≢true t)
 told_of_stands c talk j e g p (Some i) q s r true t =
     let n = reference talk i in
     let f = figure_told c talk p in
-    let asked : is_asked (said talk p).heard ≡ true = found_is (λ x. is_asked (said talk x).heard) (outstanding talk j) p q in
+    let asked : is_asked (said talk p).heard ≡ true =
+        found_is (λ x. is_asked (said talk x).heard) (outstanding talk j) p q in
     let below : i < p = found_below talk p i _ r in
     let before : p < j = found_below talk j p _ q in
-    let there : find (λ x. nat_eq x i) (outstanding talk j) ≡ Some i = outstanding_found talk j i t (omega (arith, below, before)) in
+    let there : find (λ x. nat_eq x i) (outstanding talk j) ≡ Some i =
+        outstanding_found talk j i t (omega (arith, below, before)) in
     let own : (x : ℕ) → answers_of c talk x (ended talk j) ≡ cond (nat_eq i x) (f ∷ []) [] = λ x.
     ap (answers_of c talk x) (g.found ∙ ap Some (sym s)) ∙ ((λ k. cond (asked k && is_it x (r k)) (f ∷ []) [])) in
     subs_told c talk j n f (outstanding talk j)
     (every_members (λ x. IsTold c talk j n f x) (outstanding talk j) (λ x m. (
-      λ y. own x ∙ ap (λ b. cond b (f ∷ []) []) (eq-eqb i x (same_command c talk j e _ _ i x g there m (sym (eqb-true (reference talk x) n y)))),
-      λ y. own x ∙ ap (λ b. cond b (f ∷ []) []) (differs i x (λ z. true≢false (sym (eq-eqb (reference talk x) n (ap (reference talk) (sym z))) ∙ y))),
+      λ y. own x ∙ ap (λ b. cond b (f ∷ []) []) (eq-eqb i x
+          (same_command c talk j e _ _ i x g there m (sym (eqb-true (reference talk x) n y)))),
+      λ y. own x ∙ ap (λ b. cond b (f ∷ []) []) (differs i x
+          (λ z. true≢false (sym (eq-eqb (reference talk x) n (ap (reference talk) (sym z))) ∙ y))),
     ))) (once_at c talk j n e g)
 told_of_stands c talk j e g p o q s r false t =
     let f = figure_told c talk p in
-    let asked : is_asked (said talk p).heard ≡ true = found_is (λ x. is_asked (said talk x).heard) (outstanding talk j) p q in
-    sym (subs_kept c talk j (outstanding talk j) (every_weaker (λ x. is_outstanding talk j x ≡ true) (TellsNothing c talk j) (λ x m.
-    ap (answers_of c talk x) (g.found ∙ ap Some (sym s)) ∙ ((λ k. cond (asked k && is_it x (r k)) (f ∷ []) []) ∙ ap (λ b. cond b (f ∷ []) []) (gone_is talk j x o t m))) (outstanding talk j) (outstanding_are talk j)))
+    let asked : is_asked (said talk p).heard ≡ true =
+        found_is (λ x. is_asked (said talk x).heard) (outstanding talk j) p q in
+    sym (subs_kept c talk j (outstanding talk j) (every_weaker (λ x. is_outstanding talk j x ≡ true)
+        (TellsNothing c talk j) (λ x m.
+    ap (answers_of c talk x) (g.found ∙ ap Some (sym s))
+        ∙ ((λ k. cond (asked k && is_it x (r k)) (f ∷ []) []) ∙ ap (λ b. cond b (f ∷ []) []) (gone_is talk j x o t m)))
+        (outstanding talk j) (outstanding_are talk j)))
 
-told_when : (c : Settings) (talk : Talk) (j : ℕ) (e : End) (g : Gives c talk j e) (p : ℕ) → in_flight talk j ≡ Some p → (b : Bool) → nat_eq (reference talk p) e.reference ≡ b
-    → outstanding_with (account_at c talk j) (if b && nat_eq e.code 0x82 then told_in e.body else None) ≡ map (submission_at c talk (j + 1)) (outstanding talk j)
+told_when : (c : Settings) (talk : Talk) (j : ℕ) (e : End) (g : Gives c talk j e) (p : ℕ) → in_flight talk j ≡ Some p
+    → (b : Bool) → nat_eq (reference talk p) e.reference ≡ b
+    → outstanding_with (account_at c talk j) (if b && nat_eq e.code 0x82 then told_in e.body else None)
+        ≡ map (submission_at c talk (j + 1)) (outstanding talk j)
 told_when c talk j e g p q true n =
     let named = eqb-true (reference talk p) e.reference n in
     let tells = g.tells p q named in
     let same : p ≡ g.poll = same_poll c talk j e _ p g q named in
     let watch : (account_at c talk j).watch ≡ Some (watch_at talk j p) = ap (option_map (watch_at talk j)) q in
-    rw (eq-eqb e.code 0x82 tells.0, tells.1, watch) (told_of_stands c talk j e g p (polled talk p) q same refl (polled_is_outstanding talk j (polled talk p)) refl)
+    rw (eq-eqb e.code 0x82 tells.0, tells.1, watch)
+        (told_of_stands c talk j e g p (polled talk p) q same refl (polled_is_outstanding talk j (polled talk p)) refl)
 told_when c talk j e g p q false n =
     let other : is_asked (said talk g.poll).heard ≡ false = not_asks c talk j e g (λ a.
     let same : p ≡ g.poll = ap (λ o. unwrap_or o p) (sym q ∙ poll_asks c talk j e g a) in
-    true≢false (sym (eq-eqb (reference talk p) e.reference (ap (reference talk) same ∙ poll_named c talk j e g)) ∙ n)) in
-    sym (subs_kept c talk j (outstanding talk j) (every_from (TellsNothing c talk j) (λ i. nothing_asked c talk j i e g other) (outstanding talk j)))
+    true≢false (sym (eq-eqb (reference talk p) e.reference (ap (reference talk) same ∙ poll_named c talk j e g))
+        ∙ n)) in
+    sym (subs_kept c talk j (outstanding talk j) (every_from (TellsNothing c talk j)
+        (λ i. nothing_asked c talk j i e g other) (outstanding talk j)))
 
 -- ---- the answer that the end is, or that it is none
 
-pub all_told : (c : Settings) (talk : Talk) (j : ℕ) (e : End) (g : Gives c talk j e) (o : Option ℕ) → in_flight talk j ≡ o
-    → outstanding_with (account_at c talk j) (answered (option_map (watch_at talk j) o) e) ≡ map (submission_at c talk (j + 1)) (outstanding talk j)
+pub all_told : (c : Settings) (talk : Talk) (j : ℕ) (e : End) (g : Gives c talk j e) (o : Option ℕ)
+    → in_flight talk j ≡ o
+    → outstanding_with (account_at c talk j) (answered (option_map (watch_at talk j) o) e)
+        ≡ map (submission_at c talk (j + 1)) (outstanding talk j)
 all_told c talk j e g None q =
-    let quiet : is_asked (said talk g.poll).heard ≡ false = not_asks c talk j e g (λ a. true≢false (ap is_some (sym (poll_asks c talk j e g a) ∙ q))) in
-    sym (subs_kept c talk j (outstanding talk j) (every_from (TellsNothing c talk j) (λ i. nothing_asked c talk j i e g quiet) (outstanding talk j)))
+    let quiet : is_asked (said talk g.poll).heard ≡ false =
+        not_asks c talk j e g (λ a. true≢false (ap is_some (sym (poll_asks c talk j e g a) ∙ q))) in
+    sym (subs_kept c talk j (outstanding talk j) (every_from (TellsNothing c talk j)
+        (λ i. nothing_asked c talk j i e g quiet) (outstanding talk j)))
 all_told c talk j e g (Some p) q = told_when c talk j e g p q (nat_eq (reference talk p) e.reference) refl

@@ -51,7 +51,8 @@ same_opcode c k = opcode_kept (command_bytes c) (command_of (command_bytes c)).o
 
 -- ---- what one refuses, the other refuses
 
-none_too : (p q d : Bool) → (if p then Some faults.NoCredit else (if q then Some faults.LastCredit else (if d then Some faults.Doubled else None))) ≡ None
+none_too : (p q d : Bool) → (if p then Some faults.NoCredit
+    else (if q then Some faults.LastCredit else (if d then Some faults.Doubled else None))) ≡ None
     → (p ≡ false) × (q ≡ false) × (d ≡ false)
 none_too true q d e = absurd (true≢false (ap is_some e))
 none_too false true d e = absurd (true≢false (ap is_some e))
@@ -61,8 +62,10 @@ none_too false false false e = (refl, refl, refl)
 same_balance : {K : Type 0} (a : Account) (h : Holdings K) (told : Flight) → Matches a h told → balance_of h ≡ balance a
 same_balance a h told m = λ i. sym m.credits i - sym m.many i
 
-same_holds : {K : Type 0} (a : Account) (h : Holdings K) (told : Flight) (r : ℕ) → Matches a h told → holds (outstanding_of h) r ≡ list_any (has_reference r) a.outstanding
-same_holds a h told r m = any_alike r (outstanding_of h) (references a.outstanding) (sym (m.same r)) ∙ sym (has_any r a.outstanding)
+same_holds : {K : Type 0} (a : Account) (h : Holdings K) (told : Flight) (r : ℕ) → Matches a h told
+    → holds (outstanding_of h) r ≡ list_any (has_reference r) a.outstanding
+same_holds a h told r m = any_alike r (outstanding_of h) (references a.outstanding) (sym (m.same r))
+    ∙ sym (has_any r a.outstanding)
 
 -- why the host would refuse, where it doesn't
 pub record Free (a : Account) (opcode reference : ℕ) : Type 0 where
@@ -72,20 +75,24 @@ pub record Free (a : Account) (opcode reference : ℕ) : Type 0 where
 
 pub free : (a : Account) (opcode reference : ℕ) → host.refusal a opcode reference ≡ None → Free a opcode reference
 free a opcode reference e =
-    let k = none_too (nat_eq (balance a) 0) (nat_eq (balance a) 1 && not (is_immediate opcode)) (list_any (has_reference reference) a.outstanding) e in
+    let k = none_too (nat_eq (balance a) 0) (nat_eq (balance a) 1 && not (is_immediate opcode))
+        (list_any (has_reference reference) a.outstanding) e in
     record { some = k.0; spare = k.1; new = k.2 }
 
-unrefused : {K : Type 0} (a : Account) (h : Holdings K) (told : Flight) (opcode reference : ℕ) → Matches a h told → Free a opcode reference → credit_fault (balance_of h) (outstanding_of h) opcode reference ≡ None
+unrefused : {K : Type 0} (a : Account) (h : Holdings K) (told : Flight) (opcode reference : ℕ) → Matches a h told
+    → Free a opcode reference → credit_fault (balance_of h) (outstanding_of h) opcode reference ≡ None
 unrefused a h told opcode reference m f =
     rw (same_balance a h told m, same_holds a h told reference m, f.some, f.spare, f.new) refl
 
 -- the controller takes in what the host sends
-taken_in : {K : Type 0} (a : Account) (h : Holdings K) (told : Flight) (c : Command) → Matches a h told → Carries c → Free a (opcode_byte c.order) c.reference → refusal (balance_of h) (outstanding_of h) (command_bytes c) ≡ None
+taken_in : {K : Type 0} (a : Account) (h : Holdings K) (told : Flight) (c : Command) → Matches a h told → Carries c
+    → Free a (opcode_byte c.order) c.reference → refusal (balance_of h) (outstanding_of h) (command_bytes c) ≡ None
 taken_in a h told c m k f =
     let b = command_bytes c in
     let low : nat_lt (length b) 12 ≡ false = let l = k.read.low in grind (arith, nat_tests, l) in
     let high : nat_lt 64 (length b) ≡ false = let l = k.read.high in grind (arith, nat_tests, l) in
-    rw (low, high) ((λ i. credit_fault (balance_of h) (outstanding_of h) (k.opcode i) (k.reference i)) ∙ unrefused a h told (opcode_byte c.order) c.reference m f)
+    rw (low, high) ((λ i. credit_fault (balance_of h) (outstanding_of h) (k.opcode i) (k.reference i))
+        ∙ unrefused a h told (opcode_byte c.order) c.reference m f)
 
 -- ---- what both keep then
 
@@ -99,14 +106,17 @@ none_times n (x ∷ xs) e =
     ] in
     out (nat_eq x n) e
 
-nobody_named : {K : Type 0} (a : Account) (h : Holdings K) (told : Flight) (n : ℕ) → Matches a h told → list_any (has_reference n) a.outstanding ≡ false → times n (outstanding_of h) ≡ 0
+nobody_named : {K : Type 0} (a : Account) (h : Holdings K) (told : Flight) (n : ℕ) → Matches a h told
+    → list_any (has_reference n) a.outstanding ≡ false → times n (outstanding_of h) ≡ 0
 nobody_named a h told n m e = none_times n (outstanding_of h) (same_holds a h told n m ∙ e)
 
-own_reference_of : (c : Settings) (online : Bool) (figure : ℕ) (command : Command) (o : Option ℕ) → (own_end_with c online figure command o).reference ≡ command.reference
+own_reference_of : (c : Settings) (online : Bool) (figure : ℕ) (command : Command) (o : Option ℕ)
+    → (own_end_with c online figure command o).reference ≡ command.reference
 own_reference_of c online figure command None = refl
 own_reference_of c online figure command (Some status) = refl
 
-own_code_of : (c : Settings) (online : Bool) (figure : ℕ) (command : Command) (o : Option ℕ) → (own_end_with c online figure command o).code ≡ endcode command.order
+own_code_of : (c : Settings) (online : Bool) (figure : ℕ) (command : Command) (o : Option ℕ)
+    → (own_end_with c online figure command o).code ≡ endcode command.order
 own_code_of c online figure command None = refl
 own_code_of c online figure command (Some status) = refl
 
@@ -120,36 +130,48 @@ pub record Arrives {K : Type 0} (a a' : Account) (h : Holdings K) (s : Submissio
   pub small : IsSmall s
   pub new : times s.reference (outstanding_of h) ≡ 0
 
-arrives_queued : {K : Type 0} (a a' : Account) (h : Holdings K) (told : Flight) (s : Submission) (c : Command) → Arrives a a' h s c → Matches a h told → a'.watch ≡ a.watch → Matches a' (queued h c) told
+arrives_queued : {K : Type 0} (a a' : Account) (h : Holdings K) (told : Flight) (s : Submission) (c : Command)
+    → Arrives a a' h s c → Matches a h told → a'.watch ≡ a.watch → Matches a' (queued h c) told
 arrives_queued a a' h told s c x m w =
-    pushes_match a a' h (queued h c) s told told (queued_pushes a a' h told s c m x.credits x.outstanding x.reference x.opcode x.coded x.small x.new) m (subst (λ (o : Option Watch). HasFlight h.untaken o told) (sym w) m.flight)
+    pushes_match a a' h (queued h c) s told told (queued_pushes a a' h told s c m x.credits x.outstanding x.reference
+        x.opcode x.coded x.small x.new) m (subst (λ (o : Option Watch). HasFlight h.untaken o told) (sym w) m.flight)
 
 -- the same number is as new where another command was aborted
-new_still : {K : Type 0} (a : Account) (h h' : Holdings K) (told : Flight) (n : ℕ) → Matches a h told → Matches a h' told → times n (outstanding_of h) ≡ 0 → times n (outstanding_of h') ≡ 0
+new_still : {K : Type 0} (a : Account) (h h' : Holdings K) (told : Flight) (n : ℕ) → Matches a h told
+    → Matches a h' told → times n (outstanding_of h) ≡ 0 → times n (outstanding_of h') ≡ 0
 new_still a h h' told n m m' z = sym (m'.same n) ∙ (m.same n ∙ z)
 
-arrives_ended : {K : Type 0} (a a' : Account) (h : Holdings K) (told told' : Flight) (s : Submission) (c : Command) → Arrives a a' h s c → Matches a h told
-    → HasFlight (ended (aborting h c.order) (answered_end h c)).untaken a'.watch told' → Matches a' (ended (aborting h c.order) (answered_end h c)) told'
+arrives_ended : {K : Type 0} (a a' : Account) (h : Holdings K) (told told' : Flight) (s : Submission) (c : Command)
+    → Arrives a a' h s c → Matches a h told
+    → HasFlight (ended (aborting h c.order) (answered_end h c)).untaken a'.watch told'
+        → Matches a' (ended (aborting h c.order) (answered_end h c)) told'
 arrives_ended {K} a a' h told told' s c x m f =
     let h1 : Holdings K = aborting h c.order in
     let e = answered_end h c in
     let m1 = aborting_matches a h told c.order m in
-    let code : is_code_of e.code s.opcode ≡ true = ap (is_code_of e.code) x.opcode ∙ (ap (λ q. is_code_of q (opcode_byte c.order)) (own_code_of h.settings _ _ c (fault_of h.settings c)) ∙ x.coded) in
+    let code : is_code_of e.code s.opcode ≡ true =
+        ap (is_code_of e.code) x.opcode ∙ (ap (λ q. is_code_of q (opcode_byte c.order))
+        (own_code_of h.settings _ _ c (fault_of h.settings c)) ∙ x.coded) in
     let own : e.reference ≡ s.reference = own_reference_of h.settings _ _ c (fault_of h.settings c) ∙ sym x.reference in
-    pushes_match a a' h1 (ended h1 e) s told told' (ended_pushes a a' h1 told s e m1 x.credits x.outstanding own code x.small (new_still a h h1 told s.reference m m1 x.new)) m1 f
+    pushes_match a a' h1 (ended h1 e) s told told'
+        (ended_pushes a a' h1 told s e m1 x.credits x.outstanding own code x.small
+        (new_still a h h1 told s.reference m m1 x.new)) m1 f
 
 -- ---- a command that is submitted
 
-message_taken : {K : Type 0} (h : Holdings K) (b : List ℕ) → refusal (balance_of h) (outstanding_of h) b ≡ None → (answer_to_message h b ≡ Ok (taken_as h (command_of b))) × (after_message h b ≡ arrives h (command_of b))
+message_taken : {K : Type 0} (h : Holdings K) (b : List ℕ) → refusal (balance_of h) (outstanding_of h) b ≡ None
+    → (answer_to_message h b ≡ Ok (taken_as h (command_of b))) × (after_message h b ≡ arrives h (command_of b))
 message_taken h b e = (rw e refl, rw e refl)
 
-arrives_match : {K : Type 0} (a a' : Account) (h : Holdings K) (told : Flight) (s : Submission) (c : Command) → Arrives a a' h s c → Matches a h told → a'.watch ≡ a.watch → Matches a' (arrives h c) told
+arrives_match : {K : Type 0} (a a' : Account) (h : Holdings K) (told : Flight) (s : Submission) (c : Command)
+    → Arrives a a' h s c → Matches a h told → a'.watch ≡ a.watch → Matches a' (arrives h c) told
 arrives_match {K} a a' h told s c x m w =
     let h1 : Holdings K = aborting h c.order in
     let flight = flight_on h1.untaken a.watch told (answered_end h c) (aborting_matches a h told c.order m).flight in
     elim (is_queued h.settings c) as (λ b. Matches a' (if b then queued h c else ended h1 (answered_end h c)) told) [
       | true ↦ arrives_queued a a' h told s c x m w
-      | false ↦ arrives_ended a a' h told told s c x m (subst (λ (o : Option Watch). HasFlight (h1.untaken ++ answered_end h c ∷ []) o told) (sym w) flight)
+      | false ↦ arrives_ended a a' h told told s c x m
+          (subst (λ (o : Option Watch). HasFlight (h1.untaken ++ answered_end h c ∷ []) o told) (sym w) flight)
     ]
 
 -- what the host submits the controller takes in
@@ -157,7 +179,9 @@ pub record TakesIn {K : Type 0} (h : Holdings K) (b : List ℕ) (a' : Account) (
   pub taken : answer_to_message h b ≡ Ok (taken_as h (command_of b))
   pub match : Matches a' (after_message h b) told
 
-pub submitted_match : {K : Type 0} (a : Account) (h : Holdings K) (told : Flight) (c : Command) → c.reference < 2 ^ 32 → c.unit < 2 ^ 16 → Matches a h told → host.refusal a (opcode_byte c.order) c.reference ≡ None → TakesIn h (command_bytes c) (submitted a c) told
+pub submitted_match : {K : Type 0} (a : Account) (h : Holdings K) (told : Flight) (c : Command) → c.reference < 2 ^ 32
+    → c.unit < 2 ^ 16 → Matches a h told → host.refusal a (opcode_byte c.order) c.reference ≡ None
+    → TakesIn h (command_bytes c) (submitted a c) told
 submitted_match {K} a h told c small unit m e =
     let k = carries c small in
     let f = free a (opcode_byte c.order) c.reference e in
@@ -172,7 +196,8 @@ submitted_match {K} a h told c small unit m e =
       small = (small, unit);
       new = nobody_named a h told c.reference m f.new;
     } in
-    record { taken = both.0; match = subst (λ (q : Holdings K). Matches (submitted a c) q told) (sym both.1) (arrives_match a (submitted a c) h told (submission_of c) (command_of b) x m refl) }
+    record { taken = both.0; match = subst (λ (q : Holdings K). Matches (submitted a c) q told) (sym both.1)
+        (arrives_match a (submitted a c) h told (submission_of c) (command_of b) x m refl) }
 
 -- ---- a poll
 
@@ -180,9 +205,11 @@ same_command : (c : Command) → IsValidOrder c.order → HasCommandRange c → 
 same_command c valid fits =
     let k = command_bytes_are_messages c valid fits in
     let r = command_read c in
-    λ i. record { reference = (r.reference ∙ sym k.reference) i; unit = (r.unit ∙ sym k.unit) i; order = (r.order ∙ sym k.order) i }
+    λ i. record { reference = (r.reference ∙ sym k.reference) i; unit = (r.unit ∙ sym k.unit) i; order =
+        (r.order ∙ sym k.order) i }
 
-found_small : (p : Submission → Bool) (xs : List Submission) (s : Submission) → find p xs ≡ Some s → AllByRecursion IsSmall xs → IsSmall s
+found_small : (p : Submission → Bool) (xs : List Submission) (s : Submission) → find p xs ≡ Some s
+    → AllByRecursion IsSmall xs → IsSmall s
 found_small p [] s e h = absurd (false≢true (ap is_some e))
 found_small p (x ∷ xs) s e h =
     let out : (b : Bool) → cond b (Some x) (find p xs) ≡ Some s → IsSmall s =
@@ -193,17 +220,24 @@ found_small p (x ∷ xs) s e h =
     out (p x) e
 
 -- what is found is there, under its number
-found_named : (p : Submission → Bool) (xs : List Submission) (s : Submission) → find p xs ≡ Some s → list_any (has_reference s.reference) xs ≡ true
+found_named : (p : Submission → Bool) (xs : List Submission) (s : Submission) → find p xs ≡ Some s
+    → list_any (has_reference s.reference) xs ≡ true
 found_named p [] s e = absurd (false≢true (ap is_some e))
 found_named p (x ∷ xs) s e =
-    let out : (b : Bool) → cond b (Some x) (find p xs) ≡ Some s → (nat_eq x.reference s.reference || list_any (has_reference s.reference) xs) ≡ true =
-    λ b. elim b as (λ b. cond b (Some x) (find p xs) ≡ Some s → (nat_eq x.reference s.reference || list_any (has_reference s.reference) xs) ≡ true) [
-      | true ↦ λ q. let same : nat_eq x.reference s.reference ≡ true = eq-eqb x.reference s.reference (ap (λ o. (unwrap_or o x).reference) q) in rw same refl
-      | false ↦ λ q. let rest = found_named p xs s q in elim (nat_eq x.reference s.reference) as (λ c. (c || list_any (has_reference s.reference) xs) ≡ true) [ true ↦ refl | false ↦ rest ]
+    let out : (b : Bool) → cond b (Some x) (find p xs) ≡ Some s
+        → (nat_eq x.reference s.reference || list_any (has_reference s.reference) xs) ≡ true =
+    λ b. elim b as (λ b. cond b (Some x) (find p xs) ≡ Some s
+        → (nat_eq x.reference s.reference || list_any (has_reference s.reference) xs) ≡ true) [
+      | true ↦ λ q. let same : nat_eq x.reference s.reference ≡ true =
+          eq-eqb x.reference s.reference (ap (λ o. (unwrap_or o x).reference) q) in rw same refl
+      | false ↦ λ q. let rest = found_named p xs s q in
+          elim (nat_eq x.reference s.reference) as (λ c. (c || list_any (has_reference s.reference) xs) ≡ true)
+          [ true ↦ refl | false ↦ rest ]
     ] in
     out (p x) e
 
-any_ends : (n : ℕ) (us : List End) → list_any (λ x. nat_eq x n) (map end_name us) ≡ list_any (λ e. nat_eq e.reference n) us
+any_ends : (n : ℕ) (us : List End) → list_any (λ x. nat_eq x n) (map end_name us)
+    ≡ list_any (λ e. nat_eq e.reference n) us
 any_ends n [] = refl
 any_ends n (e ∷ us) = ap (λ b. nat_eq e.reference n || b) (any_ends n us)
 
@@ -218,8 +252,10 @@ told_now h s = record {
   waited = list_any (λ x. nat_eq x s.reference) (names h.waiting);
 }
 
-poll_flight : {K : Type 0} (a : Account) (h : Holdings K) (told : Flight) (r : ℕ) (s : Submission) → Matches a h told → list_any (has_reference s.reference) a.outstanding ≡ true
-    → HasFlight (ended (aborting h (orders.Status s.reference)) (answered_end h (poll_of r s))).untaken (watching a r s).watch (told_now h s)
+poll_flight : {K : Type 0} (a : Account) (h : Holdings K) (told : Flight) (r : ℕ) (s : Submission) → Matches a h told
+    → list_any (has_reference s.reference) a.outstanding ≡ true
+    → HasFlight (ended (aborting h (orders.Status s.reference)) (answered_end h (poll_of r s))).untaken
+        (watching a r s).watch (told_now h s)
 poll_flight {K} a h told r s m there =
     record {
       front = h.untaken ++ [];
@@ -231,12 +267,17 @@ poll_flight {K} a h told r s m there =
       body = refl;
       ended = λ st wa.
           let all = same_holds a h told s.reference m ∙ there in
-          let either = sym (list_any-append (λ x. nat_eq x s.reference) (names h.waiting) (map end_name h.untaken)) ∙ all in
-          let second = second_of (list_any (λ x. nat_eq x s.reference) (names h.waiting)) (list_any (λ x. nat_eq x s.reference) (map end_name h.untaken)) either wa in
-          subst (λ us. list_any (λ (e : End). nat_eq e.reference s.reference) us ≡ true) (sym (append-nil h.untaken)) (sym (any_ends s.reference h.untaken) ∙ second);
+          let either = sym (list_any-append (λ x. nat_eq x s.reference) (names h.waiting) (map end_name h.untaken))
+              ∙ all in
+          let second = second_of (list_any (λ x. nat_eq x s.reference) (names h.waiting))
+              (list_any (λ x. nat_eq x s.reference) (map end_name h.untaken)) either wa in
+          subst (λ us. list_any (λ (e : End). nat_eq e.reference s.reference) us ≡ true) (sym (append-nil h.untaken))
+              (sym (any_ends s.reference h.untaken) ∙ second);
     }
 
-pub polled_match : {K : Type 0} (a : Account) (h : Holdings K) (told : Flight) (r : ℕ) (s : Submission) → r < 2 ^ 32 → Matches a h told → host.oldest a ≡ Some s → host.refusal a (opcode_byte (poll_of r s).order) r ≡ None → TakesIn h (command_bytes (poll_of r s)) (watching a r s) (told_now h s)
+pub polled_match : {K : Type 0} (a : Account) (h : Holdings K) (told : Flight) (r : ℕ) (s : Submission) → r < 2 ^ 32
+    → Matches a h told → host.oldest a ≡ Some s → host.refusal a (opcode_byte (poll_of r s).order) r ≡ None
+    → TakesIn h (command_bytes (poll_of r s)) (watching a r s) (told_now h s)
 polled_match {K} a h told r s small m found e =
     let c = poll_of r s in
     let b = command_bytes c in
@@ -255,5 +296,8 @@ polled_match {K} a h told r s small m found e =
       small = (small, fits.1);
       new = nobody_named a h told r m f.new;
     } in
-    let match : Matches (watching a r s) (arrives h c) (told_now h s) = arrives_ended a (watching a r s) h told (told_now h s) (submission_of c) c x m (poll_flight a h told r s m (found_named p a.outstanding s found)) in
-    record { taken = both.0; match = subst (λ (q : Holdings K). Matches (watching a r s) q (told_now h s)) (sym (both.1 ∙ ap (arrives h) same)) match }
+    let match : Matches (watching a r s) (arrives h c) (told_now h s) =
+        arrives_ended a (watching a r s) h told (told_now h s) (submission_of c) c x m
+        (poll_flight a h told r s m (found_named p a.outstanding s found)) in
+    record { taken = both.0; match = subst (λ (q : Holdings K). Matches (watching a r s) q (told_now h s))
+        (sym (both.1 ∙ ap (arrives h) same)) match }

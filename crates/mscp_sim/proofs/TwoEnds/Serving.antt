@@ -34,22 +34,30 @@ commands_passed n [] = refl
 commands_passed n (r ∷ rs) = ap (λ cs. r.command ∷ cs) (commands_passed n rs)
 
 -- the commands of the records in front of a place, of that at the place, and of those behind it
-commands_cut : (rs : List Record) (place : ℕ) → place < length rs → commands rs ≡ commands (take place rs) ++ (record_at rs place).command ∷ commands (drop (place + 1) rs)
-commands_cut rs place l = ap commands (cut_at no_record rs place l) ∙ map-append (λ (r : Record). r.command) (take place rs) (record_at rs place ∷ drop (place + 1) rs)
+commands_cut : (rs : List Record) (place : ℕ) → place < length rs
+    → commands rs ≡ commands (take place rs) ++ (record_at rs place).command ∷ commands (drop (place + 1) rs)
+commands_cut rs place l = ap commands (cut_at no_record rs place l)
+    ∙ map-append (λ (r : Record). r.command) (take place rs) (record_at rs place ∷ drop (place + 1) rs)
 
 -- and after a step
 commands_after : (k : Block) (d : Drive) (rs : List Record) (place : ℕ) → let r = record_at rs place in
-    commands (waiting_after k d rs place) ≡ commands (take place rs) ++ (commands (remains r (end_given k d r)) ++ commands (drop (place + 1) rs))
+    commands (waiting_after k d rs place) ≡ commands (take place rs)
+        ++ (commands (remains r (end_given k d r)) ++ commands (drop (place + 1) rs))
 commands_after k d rs place =
     let r = record_at rs place in
-    map-append (λ (q : Record). q.command) (map (passed_by (step_toll r)) (take place rs)) (remains r (end_given k d r) ++ drop (place + 1) rs)
-    ∙ ((λ i. commands_passed (step_toll r) (take place rs) i ++ map-append (λ (q : Record). q.command) (remains r (end_given k d r)) (drop (place + 1) rs) i))
+    map-append (λ (q : Record). q.command) (map (passed_by (step_toll r)) (take place rs))
+        (remains r (end_given k d r) ++ drop (place + 1) rs)
+    ∙ ((λ i. commands_passed (step_toll r) (take place rs) i
+        ++ map-append (λ (q : Record). q.command) (remains r (end_given k d r)) (drop (place + 1) rs) i))
 
-served_with : {K : Type 0} (a : Account) (h h' : Holdings K) (told : Flight) (k : Block) (d : Drive) (place : ℕ) (o : Option End) → place < length h.waiting
+served_with : {K : Type 0} (a : Account) (h h' : Holdings K) (told : Flight) (k : Block) (d : Drive) (place : ℕ)
+    (o : Option End) → place < length h.waiting
     → let r = record_at h.waiting place in
-    commands h'.waiting ≡ commands (take place h.waiting) ++ (commands (remains r o) ++ commands (drop (place + 1) h.waiting))
+    commands h'.waiting ≡ commands (take place h.waiting)
+        ++ (commands (remains r o) ++ commands (drop (place + 1) h.waiting))
     → h'.untaken ≡ h.untaken ++ option_to_list o → h'.settings ≡ h.settings
-    → ((e : End) → o ≡ Some e → e ≡ outcome_at d.unit d.online r.command r.good k) → Matches a h told → Matches a h' told
+    → ((e : End) → o ≡ Some e → e ≡ outcome_at d.unit d.online r.command r.good k) → Matches a h told
+        → Matches a h' told
 served_with a h h' told k d place None l w u s g m =
     stays a h h' told (w ∙ sym (commands_cut h.waiting place l)) (u ∙ append-nil h.untaken) s m
 served_with {K} a h h' told k d place (Some e) l w u s g m =
@@ -69,16 +77,20 @@ served_with {K} a h h' told k d place (Some e) l w u s g m =
     } in
     ends_match a h h' told ends m
 
-given_is : (k : Block) (d : Drive) (r : Record) (e : End) → end_given k d r ≡ Some e → e ≡ outcome_at d.unit d.online r.command r.good k
+given_is : (k : Block) (d : Drive) (r : Record) (e : End) → end_given k d r ≡ Some e
+    → e ≡ outcome_at d.unit d.online r.command r.good k
 given_is k d r e h =
-    let out : (b : Bool) → (if b then None else Some (outcome_at d.unit d.online r.command r.good k)) ≡ Some e → e ≡ outcome_at d.unit d.online r.command r.good k =
-    λ b. elim b as (λ b. (if b then None else Some (outcome_at d.unit d.online r.command r.good k)) ≡ Some e → e ≡ outcome_at d.unit d.online r.command r.good k) [
+    let out : (b : Bool) → (if b then None else Some (outcome_at d.unit d.online r.command r.good k)) ≡ Some e
+        → e ≡ outcome_at d.unit d.online r.command r.good k =
+    λ b. elim b as (λ b. (if b then None else Some (outcome_at d.unit d.online r.command r.good k)) ≡ Some e
+        → e ≡ outcome_at d.unit d.online r.command r.good k) [
       | true ↦ λ q. absurd (false≢true (ap is_some q))
       | false ↦ λ q. cc
     ] in
     out (goes_on d.online r.command.order k (left_of r)) h
 
-pub steps_match : {K : Type 0} (picks : List Choice → ℕ → Type 0) (a : Account) (h h' : Holdings K) (told : Flight) (k : Block) (report : Report) → Steps picks k h report h' → Matches a h told → Matches a h' told
+pub steps_match : {K : Type 0} (picks : List Choice → ℕ → Type 0) (a : Account) (h h' : Holdings K) (told : Flight)
+    (k : Block) (report : Report) → Steps picks k h report h' → Matches a h told → Matches a h' told
 steps_match {K} picks a h h' told k reports.Idle s m =
     stays a h h' told (ap (λ (l : Line K). commands l.waiting) s.serves.2) (s.ends ∙ append-nil h.untaken) s.settings m
 steps_match {K} picks a h h' told k (reports.Served reference unit lbn started seek end) s m =
@@ -94,12 +106,15 @@ steps_match {K} picks a h h' told k (reports.Served reference unit lbn started s
 -- ---- an abort
 
 -- none of the number is there, so none is taken out
-none_out : (n : ℕ) (rs : List Record) → times n (map (λ (c : Command). c.reference) (commands rs)) ≡ 0 → without n rs ≡ rs
+none_out : (n : ℕ) (rs : List Record) → times n (map (λ (c : Command). c.reference) (commands rs)) ≡ 0
+    → without n rs ≡ rs
 none_out n [] z = refl
 none_out n (r ∷ rs) z =
     let ns = map (λ (c : Command). c.reference) (commands rs) in
-    let out : (b : Bool) → cond b (1 + times n ns) (times n ns) ≡ 0 → cond (not b) (r ∷ without n rs) (without n rs) ≡ r ∷ rs =
-    λ b. elim b as (λ b. cond b (1 + times n ns) (times n ns) ≡ 0 → cond (not b) (r ∷ without n rs) (without n rs) ≡ r ∷ rs) [
+    let out : (b : Bool) → cond b (1 + times n ns) (times n ns) ≡ 0
+        → cond (not b) (r ∷ without n rs) (without n rs) ≡ r ∷ rs =
+    λ b. elim b as (λ b. cond b (1 + times n ns) (times n ns) ≡ 0
+        → cond (not b) (r ∷ without n rs) (without n rs) ≡ r ∷ rs) [
       | true ↦ λ z. absurd (omega (arith, z))
       | false ↦ λ z. ap (λ qs. r ∷ qs) (none_out n rs z)
     ] in
@@ -109,22 +124,35 @@ all_kept : (n : ℕ) (rs : List Record) → AllByRecursion (λ y. has_reference 
 all_kept n [] h = refl
 all_kept n (r ∷ rs) h = rw (h.0) (ap (λ qs. r ∷ qs) (all_kept n rs h.1))
 
-front_kept : (n : ℕ) (front : List Record) (x : Record) (back : List Record) → AllByRecursion (λ y. has_reference n y ≡ false) front → has_reference n x ≡ true → without n back ≡ back → without n (front ++ x ∷ back) ≡ front ++ back
+front_kept : (n : ℕ) (front : List Record) (x : Record) (back : List Record)
+    → AllByRecursion (λ y. has_reference n y ≡ false) front → has_reference n x ≡ true → without n back ≡ back
+    → without n (front ++ x ∷ back) ≡ front ++ back
 front_kept n [] x back h e b = rw e b
 front_kept n (y ∷ ys) x back h e b = rw (h.0) (ap (λ rs. y ∷ rs) (front_kept n ys x back h.1 e b))
 
-aborts_found : {K : Type 0} (a : Account) (h : Holdings K) (told : Flight) (n : ℕ) (front : List Record) (x : Record) (back : List Record) → Found (has_reference n) h.waiting front x back → Matches a h told → Matches a (aborting h (orders.Abort n)) told
+aborts_found : {K : Type 0} (a : Account) (h : Holdings K) (told : Flight) (n : ℕ) (front : List Record) (x : Record)
+    (back : List Record) → Found (has_reference n) h.waiting front x back → Matches a h told
+    → Matches a (aborting h (orders.Abort n)) told
 aborts_found {K} a h told n front x back f m =
     let command = x.command in
-    let cut : commands h.waiting ≡ commands front ++ command ∷ commands back = ap commands f.is ∙ map-append (λ (r : Record). r.command) front (x ∷ back) in
+    let cut : commands h.waiting ≡ commands front ++ command ∷ commands back =
+        ap commands f.is ∙ map-append (λ (r : Record). r.command) front (x ∷ back) in
     let named : command.reference ≡ n = eqb-true command.reference n f.passes in
     let one = m.once n in
     let counts = counted_names n h in
-    let parts : times n (map (λ (c : Command). c.reference) (commands h.waiting)) ≡ times n (map (λ (c : Command). c.reference) (commands front)) + (1 + times n (map (λ (c : Command). c.reference) (commands back))) =
-    ap (λ cs. times n (map (λ (c : Command). c.reference) cs)) cut ∙ (times_called n (commands front) (command ∷ commands back) ∙ ap (λ b. times n (map (λ (c : Command). c.reference) (commands front)) + cond b (1 + times n (map (λ (c : Command). c.reference) (commands back))) (times n (map (λ (c : Command). c.reference) (commands back)))) f.passes) in
+    let parts : times n (map (λ (c : Command). c.reference) (commands h.waiting))
+        ≡ times n (map (λ (c : Command). c.reference) (commands front))
+        + (1 + times n (map (λ (c : Command). c.reference) (commands back))) =
+    ap (λ cs. times n (map (λ (c : Command). c.reference) cs)) cut
+        ∙ (times_called n (commands front) (command ∷ commands back)
+        ∙ ap (λ b. times n (map (λ (c : Command). c.reference) (commands front))
+        + cond b (1 + times n (map (λ (c : Command). c.reference) (commands back)))
+        (times n (map (λ (c : Command). c.reference) (commands back)))) f.passes) in
     let none : times n (map (λ (c : Command). c.reference) (commands back)) ≡ 0 = omega (arith, one, counts, parts) in
-    let out : without n h.waiting ≡ front ++ back = ap (without n) f.is ∙ front_kept n front x back f.before f.passes (none_out n back none) in
-    let found : find (has_reference n) h.waiting ≡ Some x = ap (find (has_reference n)) f.is ∙ find_first (has_reference n) front x back f.before f.passes in
+    let out : without n h.waiting ≡ front ++ back =
+        ap (without n) f.is ∙ front_kept n front x back f.before f.passes (none_out n back none) in
+    let found : find (has_reference n) h.waiting ≡ Some x =
+        ap (find (has_reference n)) f.is ∙ find_first (has_reference n) front x back f.before f.passes in
     let ends : Ends h (aborting h (orders.Abort n)) = record {
       front = commands front;
       own = command;
@@ -139,14 +167,19 @@ aborts_found {K} a h told n front x back f m =
     } in
     ends_match a h (aborting h (orders.Abort n)) told ends m
 
-aborts_none : {K : Type 0} (a : Account) (h : Holdings K) (told : Flight) (n : ℕ) → AllByRecursion (λ y. has_reference n y ≡ false) h.waiting → Matches a h told → Matches a (aborting h (orders.Abort n)) told
+aborts_none : {K : Type 0} (a : Account) (h : Holdings K) (told : Flight) (n : ℕ)
+    → AllByRecursion (λ y. has_reference n y ≡ false) h.waiting → Matches a h told
+    → Matches a (aborting h (orders.Abort n)) told
 aborts_none {K} a h told n none m =
     let found : find (has_reference n) h.waiting ≡ None = find_none (has_reference n) h.waiting none in
-    stays a h (aborting h (orders.Abort n)) told (ap commands (all_kept n h.waiting none)) (ap (λ o. h.untaken ++ option_to_list (option_map aborted_record o)) found ∙ append-nil h.untaken) refl m
+    stays a h (aborting h (orders.Abort n)) told (ap commands (all_kept n h.waiting none))
+        (ap (λ o. h.untaken ++ option_to_list (option_map aborted_record o)) found ∙ append-nil h.untaken) refl m
 
-pub aborting_matches : {K : Type 0} (a : Account) (h : Holdings K) (told : Flight) (order : Order) → Matches a h told → Matches a (aborting h order) told
+pub aborting_matches : {K : Type 0} (a : Account) (h : Holdings K) (told : Flight) (order : Order) → Matches a h told
+    → Matches a (aborting h order) told
 aborting_matches a h told (orders.Abort n) m =
-    ⊎_elim (λ none. aborts_none a h told n none m) (λ some. aborts_found a h told n some.0 some.1 some.2 some.3 m) (find_cases (has_reference n) h.waiting)
+    ⊎_elim (λ none. aborts_none a h told n none m) (λ some. aborts_found a h told n some.0 some.1 some.2 some.3 m)
+        (find_cases (has_reference n) h.waiting)
 aborting_matches a h told order m = stays a h (aborting h order) told refl (append-nil h.untaken) refl m
 
 -- ---- a command arrives
@@ -154,15 +187,20 @@ aborting_matches a h told order m = stays a h (aborting h order) told refl (appe
 more_called : (r : ℕ) (rs : List Record) (c : Command) → commands (rs ++ fresh_record c ∷ []) ≡ commands rs ++ c ∷ []
 more_called r rs c = map-append (λ (q : Record). q.command) rs (fresh_record c ∷ [])
 
-new_to_host : {K : Type 0} (a : Account) (h : Holdings K) (told : Flight) (n : ℕ) → Matches a h told → times n (outstanding_of h) ≡ 0 → times n (references a.outstanding) ≡ 0
+new_to_host : {K : Type 0} (a : Account) (h : Holdings K) (told : Flight) (n : ℕ) → Matches a h told
+    → times n (outstanding_of h) ≡ 0 → times n (references a.outstanding) ≡ 0
 new_to_host a h told n m z = m.same n ∙ z
 
 -- it waits
-pub queued_pushes : {K : Type 0} (a a' : Account) (h : Holdings K) (told : Flight) (s : Submission) (c : Command) → Matches a h told → a'.credits ≡ a.credits → a'.outstanding ≡ a.outstanding ++ s ∷ []
-    → s.reference ≡ c.reference → s.opcode ≡ opcode_byte c.order → HasOwnEndcode c.order → IsSmall s → times s.reference (outstanding_of h) ≡ 0 → Pushes a a' h (queued h c) s
+pub queued_pushes : {K : Type 0} (a a' : Account) (h : Holdings K) (told : Flight) (s : Submission) (c : Command)
+    → Matches a h told → a'.credits ≡ a.credits → a'.outstanding ≡ a.outstanding ++ s ∷ []
+    → s.reference ≡ c.reference → s.opcode ≡ opcode_byte c.order → HasOwnEndcode c.order → IsSmall s
+        → times s.reference (outstanding_of h) ≡ 0 → Pushes a a' h (queued h c) s
 queued_pushes {K} a a' h told s c m credits more reference opcode coded small new =
     let cs : commands (queued h c).waiting ≡ commands h.waiting ++ c ∷ [] = more_called 0 h.waiting c in
-    let own : IsKnown (a.outstanding ++ s ∷ []) c = (subst (λ n. opcode_found (a.outstanding ++ s ∷ []) n ≡ Some (opcode_byte c.order)) reference (opcode_new a.outstanding s (new_to_host a h told s.reference m new) ∙ ap Some opcode), coded) in
+    let own : IsKnown (a.outstanding ++ s ∷ []) c =
+        (subst (λ n. opcode_found (a.outstanding ++ s ∷ []) n ≡ Some (opcode_byte c.order)) reference
+        (opcode_new a.outstanding s (new_to_host a h told s.reference m new) ∙ ap Some opcode), coded) in
     record {
       credits = credits;
       outstanding = more;
@@ -171,22 +209,29 @@ queued_pushes {K} a a' h told s c m credits more reference opcode coded small ne
       counts = λ r.
           let old = counted_names r h in
           let now = counted_names r (queued h c) in
-          let pushed = ap (λ ds. times r (map (λ (d : Command). d.reference) ds)) cs ∙ times_called r (commands h.waiting) (c ∷ []) in
-          let same : times r (c.reference ∷ []) ≡ times r (s.reference ∷ []) = ap (λ n. times r (n ∷ [])) (sym reference) in
+          let pushed = ap (λ ds. times r (map (λ (d : Command). d.reference) ds)) cs
+              ∙ times_called r (commands h.waiting) (c ∷ []) in
+          let same : times r (c.reference ∷ []) ≡ times r (s.reference ∷ []) =
+              ap (λ n. times r (n ∷ [])) (sym reference) in
           omega (arith, old, now, pushed, same);
       more = let l = length-append h.waiting (fresh_record c ∷ []) in omega (arith, l);
       settings = refl;
-      waits = subst (AllByRecursion (IsKnown (a.outstanding ++ s ∷ []))) (sym cs) (every_append (IsKnown (a.outstanding ++ s ∷ [])) (commands h.waiting) (c ∷ []) (known_more a.outstanding s (commands h.waiting) m.waits) (own, tt));
+      waits = subst (AllByRecursion (IsKnown (a.outstanding ++ s ∷ []))) (sym cs)
+          (every_append (IsKnown (a.outstanding ++ s ∷ [])) (commands h.waiting) (c ∷ [])
+          (known_more a.outstanding s (commands h.waiting) m.waits) (own, tt));
       ends = awaited_more a.outstanding s h.untaken m.ends;
     }
 
 -- it has its end at once
-pub ended_pushes : {K : Type 0} (a a' : Account) (h : Holdings K) (told : Flight) (s : Submission) (e : End) → Matches a h told → a'.credits ≡ a.credits → a'.outstanding ≡ a.outstanding ++ s ∷ []
-    → e.reference ≡ s.reference → is_code_of e.code s.opcode ≡ true → IsSmall s → times s.reference (outstanding_of h) ≡ 0 → Pushes a a' h (ended h e) s
+pub ended_pushes : {K : Type 0} (a a' : Account) (h : Holdings K) (told : Flight) (s : Submission) (e : End)
+    → Matches a h told → a'.credits ≡ a.credits → a'.outstanding ≡ a.outstanding ++ s ∷ []
+    → e.reference ≡ s.reference → is_code_of e.code s.opcode ≡ true → IsSmall s
+        → times s.reference (outstanding_of h) ≡ 0 → Pushes a a' h (ended h e) s
 ended_pushes {K} a a' h told s e m credits more reference code small new =
     let own : IsAwaited (a.outstanding ++ s ∷ []) e = record {
       opcode = s.opcode;
-      found = subst (λ n. opcode_found (a.outstanding ++ s ∷ []) n ≡ Some s.opcode) (sym reference) (opcode_new a.outstanding s (new_to_host a h told s.reference m new));
+      found = subst (λ n. opcode_found (a.outstanding ++ s ∷ []) n ≡ Some s.opcode) (sym reference)
+          (opcode_new a.outstanding s (new_to_host a h told s.reference m new));
       code = code;
     } in
     record {
@@ -203,5 +248,6 @@ ended_pushes {K} a a' h told s e m credits more reference code small new =
       more = let l = length-append h.untaken (e ∷ []) in omega (arith, l);
       settings = refl;
       waits = known_more a.outstanding s (commands h.waiting) m.waits;
-      ends = every_append (IsAwaited (a.outstanding ++ s ∷ [])) h.untaken (e ∷ []) (awaited_more a.outstanding s h.untaken m.ends) (own, tt);
+      ends = every_append (IsAwaited (a.outstanding ++ s ∷ [])) h.untaken (e ∷ [])
+          (awaited_more a.outstanding s h.untaken m.ends) (own, tt);
     }

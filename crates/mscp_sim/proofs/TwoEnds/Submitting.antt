@@ -33,7 +33,8 @@ asked_or p other = other.items
 -- ---- a command
 
 -- where the host takes the command, so does the controller
-pub record Submits {K : Type 0} (a : Account) (h : Holdings K) (told : Flight) (c : Command) (sent : List ℕ) (a' : Account) : Type 0 where
+pub record Submits {K : Type 0} (a : Account) (h : Holdings K) (told : Flight) (c : Command) (sent : List ℕ)
+    (a' : Account) : Type 0 where
   pub message : sent ≡ command_bytes c
   pub left : a' ≡ submitted a c
   pub fresh : list_any (has_reference c.reference) a.outstanding ≡ false
@@ -41,7 +42,9 @@ pub record Submits {K : Type 0} (a : Account) (h : Holdings K) (told : Flight) (
   pub taken : answer_to_message h sent ≡ Ok (taken_as h (command_of sent))
   pub match : Matches a' (after_message h sent) told
 
-submits_when : {K : Type 0} (a : Account) (h : Holdings K) (told : Flight) (c : Command) (o : Option HostFault) (b : ArrayVec ℕ) (a' : Account) → c.reference < 2 ^ 32 → c.unit < 2 ^ 16 → Matches a h told → refusal a (opcode_byte c.order) c.reference ≡ o → submits_unless a c o ≡ (Ok b, a')
+submits_when : {K : Type 0} (a : Account) (h : Holdings K) (told : Flight) (c : Command) (o : Option HostFault)
+    (b : ArrayVec ℕ) (a' : Account) → c.reference < 2 ^ 32 → c.unit < 2 ^ 16 → Matches a h told
+    → refusal a (opcode_byte c.order) c.reference ≡ o → submits_unless a c o ≡ (Ok b, a')
     → Submits a h told c b.items a'
 submits_when a h told c (Some fault) b a' r u m o e = absurd (false≢true (ap (λ p. is_ok p.0) e))
 submits_when {K} a h told c None b a' r u m o e =
@@ -54,18 +57,24 @@ submits_when {K} a h told c None b a' r u m o e =
       fresh = (free a (opcode_byte c.order) c.reference o).new;
       named = ap (λ q. (command_of q).reference) message ∙ same_reference c (carries c r);
       taken = subst (λ q. answer_to_message h q ≡ Ok (taken_as h (command_of q))) (sym message) x.taken;
-      match = subst (λ (y : Account). Matches y (after_message h b.items) told) (sym left) (subst (λ q. Matches (submitted a c) (after_message h q) told) (sym message) x.match);
+      match = subst (λ (y : Account). Matches y (after_message h b.items) told) (sym left)
+          (subst (λ q. Matches (submitted a c) (after_message h q) told) (sym message) x.match);
     }
 
-pub submits_match : {K : Type 0} (a : Account) (h : Holdings K) (told : Flight) (c : Command) (b : ArrayVec ℕ) (a' : Account) → c.reference < 2 ^ 32 → c.unit < 2 ^ 16 → Matches a h told → submits a c ≡ (Ok b, a') → Submits a h told c b.items a'
-submits_match a h told c b a' r u m e = submits_when a h told c (refusal a (opcode_byte c.order) c.reference) b a' r u m refl e
+pub submits_match : {K : Type 0} (a : Account) (h : Holdings K) (told : Flight) (c : Command) (b : ArrayVec ℕ)
+    (a' : Account) → c.reference < 2 ^ 32 → c.unit < 2 ^ 16 → Matches a h told → submits a c ≡ (Ok b, a')
+    → Submits a h told c b.items a'
+submits_match a h told c b a' r u m e = submits_when a h told c (refusal a (opcode_byte c.order) c.reference) b a' r u m
+    refl e
 
 -- where it doesn't, nothing changes
-kept_when : (a : Account) (c : Command) (o : Option HostFault) (fault : HostFault) (a' : Account) → submits_unless a c o ≡ (Err fault, a') → a' ≡ a
+kept_when : (a : Account) (c : Command) (o : Option HostFault) (fault : HostFault) (a' : Account)
+    → submits_unless a c o ≡ (Err fault, a') → a' ≡ a
 kept_when a c (Some f) fault a' e = ap (λ p. p.1) (sym e)
 kept_when a c None fault a' e = absurd (true≢false (ap (λ p. is_ok p.0) e))
 
-pub submits_kept : (a : Account) (c : Command) (fault : HostFault) (a' : Account) → submits a c ≡ (Err fault, a') → a' ≡ a
+pub submits_kept : (a : Account) (c : Command) (fault : HostFault) (a' : Account) → submits a c ≡ (Err fault, a')
+    → a' ≡ a
 submits_kept a c fault a' e = kept_when a c (refusal a (opcode_byte c.order) c.reference) fault a' e
 
 -- ---- a poll
@@ -82,8 +91,10 @@ pub record Asks {K : Type 0} (a : Account) (h : Holdings K) (r : ℕ) (sent : Li
   pub taken : answer_to_message h sent ≡ Ok (taken_as h (command_of sent))
   pub match : Matches a' (after_message h sent) (told_now h about)
 
-asks_when : {K : Type 0} (a : Account) (h : Holdings K) (r : ℕ) (s : Submission) (o : Option HostFault) (b : ArrayVec ℕ) (a' : Account) → r < 2 ^ 32 → Match a h → is_some a.watch ≡ false → oldest a ≡ Some s
-    → refusal a (opcode_byte (poll_of r s).order) r ≡ o → asks_unless a r s o ≡ (Ok (polls.Ask b), a') → Asks a h r b.items a'
+asks_when : {K : Type 0} (a : Account) (h : Holdings K) (r : ℕ) (s : Submission) (o : Option HostFault) (b : ArrayVec ℕ)
+    (a' : Account) → r < 2 ^ 32 → Match a h → is_some a.watch ≡ false → oldest a ≡ Some s
+    → refusal a (opcode_byte (poll_of r s).order) r ≡ o → asks_unless a r s o ≡ (Ok (polls.Ask b), a')
+        → Asks a h r b.items a'
 asks_when a h r s (Some fault) b a' l m w f o e = absurd (false≢true (ap (λ p. is_ok p.0) e))
 asks_when {K} a h r s None b a' l m w f o e =
     let c = poll_of r s in
@@ -99,30 +110,40 @@ asks_when {K} a h r s None b a' l m w f o e =
       fresh = (free a (opcode_byte c.order) r o).new;
       named = ap (λ q. (command_of q).reference) message ∙ same_reference c (carries c l);
       taken = subst (λ q. answer_to_message h q ≡ Ok (taken_as h (command_of q))) (sym message) x.taken;
-      match = subst (λ (y : Account). Matches y (after_message h b.items) (told_now h s)) (sym left) (subst (λ q. Matches (watching a r s) (after_message h q) (told_now h s)) (sym message) x.match);
+      match = subst (λ (y : Account). Matches y (after_message h b.items) (told_now h s)) (sym left)
+          (subst (λ q. Matches (watching a r s) (after_message h q) (told_now h s)) (sym message) x.match);
     }
 
-asks_of : {K : Type 0} (a : Account) (h : Holdings K) (r : ℕ) (s : Option Submission) (b : ArrayVec ℕ) (a' : Account) → r < 2 ^ 32 → Match a h → is_some a.watch ≡ false → oldest a ≡ s → asks a r s ≡ (Ok (polls.Ask b), a') → Asks a h r b.items a'
+asks_of : {K : Type 0} (a : Account) (h : Holdings K) (r : ℕ) (s : Option Submission) (b : ArrayVec ℕ) (a' : Account)
+    → r < 2 ^ 32 → Match a h → is_some a.watch ≡ false → oldest a ≡ s → asks a r s ≡ (Ok (polls.Ask b), a')
+    → Asks a h r b.items a'
 asks_of a h r None b a' l m w f e = absurd (false≢true (ap (λ p. is_ask p.0) e))
-asks_of a h r (Some s) b a' l m w f e = asks_when a h r s (refusal a (opcode_byte (poll_of r s).order) r) b a' l m w f refl e
+asks_of a h r (Some s) b a' l m w f e = asks_when a h r s (refusal a (opcode_byte (poll_of r s).order) r) b a' l m w f
+    refl e
 
-asks_idle : {K : Type 0} (a : Account) (h : Holdings K) (r : ℕ) (q : Bool) (b : ArrayVec ℕ) (a' : Account) → r < 2 ^ 32 → Match a h → is_some a.watch ≡ q → (if q then (Ok polls.Busy, a) else asks a r (oldest a)) ≡ (Ok (polls.Ask b), a') → Asks a h r b.items a'
+asks_idle : {K : Type 0} (a : Account) (h : Holdings K) (r : ℕ) (q : Bool) (b : ArrayVec ℕ) (a' : Account) → r < 2 ^ 32
+    → Match a h → is_some a.watch ≡ q → (if q then (Ok polls.Busy, a) else asks a r (oldest a)) ≡ (Ok (polls.Ask b), a')
+    → Asks a h r b.items a'
 asks_idle a h r true b a' l m w e = absurd (false≢true (ap (λ p. is_ask p.0) e))
 asks_idle a h r false b a' l m w e = asks_of a h r (oldest a) b a' l m w refl e
 
-pub asks_match : {K : Type 0} (a : Account) (h : Holdings K) (r : ℕ) (b : ArrayVec ℕ) (a' : Account) → r < 2 ^ 32 → Match a h → polls_oldest a r ≡ (Ok (polls.Ask b), a') → Asks a h r b.items a'
+pub asks_match : {K : Type 0} (a : Account) (h : Holdings K) (r : ℕ) (b : ArrayVec ℕ) (a' : Account) → r < 2 ^ 32
+    → Match a h → polls_oldest a r ≡ (Ok (polls.Ask b), a') → Asks a h r b.items a'
 asks_match a h r b a' l m e = asks_idle a h r (is_some a.watch) b a' l m refl e
 
 -- where it doesn't, nothing changes
-unasked_when : (a : Account) (r : ℕ) (s : Submission) (o : Option HostFault) (p : Result Poll HostFault) (a' : Account) → is_ask p ≡ false → asks_unless a r s o ≡ (p, a') → a' ≡ a
+unasked_when : (a : Account) (r : ℕ) (s : Submission) (o : Option HostFault) (p : Result Poll HostFault) (a' : Account)
+    → is_ask p ≡ false → asks_unless a r s o ≡ (p, a') → a' ≡ a
 unasked_when a r s (Some fault) p a' n e = ap (λ q. q.1) (sym e)
 unasked_when a r s None p a' n e = absurd (true≢false (ap (λ q. is_ask q.0) e ∙ n))
 
-unasked_of : (a : Account) (r : ℕ) (s : Option Submission) (p : Result Poll HostFault) (a' : Account) → is_ask p ≡ false → asks a r s ≡ (p, a') → a' ≡ a
+unasked_of : (a : Account) (r : ℕ) (s : Option Submission) (p : Result Poll HostFault) (a' : Account) → is_ask p ≡ false
+    → asks a r s ≡ (p, a') → a' ≡ a
 unasked_of a r None p a' n e = ap (λ q. q.1) (sym e)
 unasked_of a r (Some s) p a' n e = unasked_when a r s (refusal a (opcode_byte (poll_of r s).order) r) p a' n e
 
-pub polled_kept : (a : Account) (r : ℕ) (p : Result Poll HostFault) (a' : Account) → is_ask p ≡ false → polls_oldest a r ≡ (p, a') → a' ≡ a
+pub polled_kept : (a : Account) (r : ℕ) (p : Result Poll HostFault) (a' : Account) → is_ask p ≡ false
+    → polls_oldest a r ≡ (p, a') → a' ≡ a
 polled_kept a r p a' n e =
     let both : (b : Bool) → (if b then (Ok polls.Busy, a) else asks a r (oldest a)) ≡ (p, a') → a' ≡ a =
     λ b. elim b as (λ b. (if b then (Ok polls.Busy, a) else asks a r (oldest a)) ≡ (p, a') → a' ≡ a) [

@@ -23,11 +23,14 @@ none_of : (o : Option End) → end_of o ≡ None → o ≡ None
 none_of None e = refl
 none_of (Some x) e = absurd (true≢false (ap is_some e))
 
-none_when : {K : Type 0} (a : Account) (h : Holdings K) (told : Flight) (us : List End) → h.untaken ≡ us → end_taken h ≡ None → Matches a h told → Matches a (after_take h) told
+none_when : {K : Type 0} (a : Account) (h : Holdings K) (told : Flight) (us : List End) → h.untaken ≡ us
+    → end_taken h ≡ None → Matches a h told → Matches a (after_take h) told
 none_when {K} a h told [] u e m = subst (λ xs. Matches a (record h { untaken = xs }) told) (u ∙ ap (drop 1) (sym u)) m
-none_when a h told (x ∷ us) u e m = absurd (true≢false (ap is_some (ap (λ xs. slice_get xs 0) (sym u) ∙ none_of (slice_get h.untaken 0) e)))
+none_when a h told (x ∷ us) u e m = absurd (true≢false
+    (ap is_some (ap (λ xs. slice_get xs 0) (sym u) ∙ none_of (slice_get h.untaken 0) e)))
 
-pub taken_none : {K : Type 0} (a : Account) (h : Holdings K) (told : Flight) → end_taken h ≡ None → Matches a h told → Matches a (after_take h) told
+pub taken_none : {K : Type 0} (a : Account) (h : Holdings K) (told : Flight) → end_taken h ≡ None → Matches a h told
+    → Matches a (after_take h) told
 taken_none a h told e m = none_when a h told h.untaken refl e m
 
 -- the end that was handed over
@@ -38,7 +41,9 @@ pub record Handed {K : Type 0} (a : Account) (h : Holdings K) (told : Flight) (b
   pub heard : heard a b ≡ (Ok (news_with a end (answered a.watch end)), received a end)
   pub match : Matches (received a end) (after_take h) told
 
-some_when : {K : Type 0} (a : Account) (h : Holdings K) (told : Flight) (us : List End) (b : ArrayVec ℕ) → h.untaken ≡ us → end_taken h ≡ Some b → ((e : End) → slice_get h.untaken 0 ≡ Some e → IsEnd b.items e) → Matches a h told → Handed a h told b.items
+some_when : {K : Type 0} (a : Account) (h : Holdings K) (told : Flight) (us : List End) (b : ArrayVec ℕ)
+    → h.untaken ≡ us → end_taken h ≡ Some b → ((e : End) → slice_get h.untaken 0 ≡ Some e → IsEnd b.items e)
+    → Matches a h told → Handed a h told b.items
 some_when a h told [] b u e r m = absurd (false≢true (ap is_some (ap (λ xs. end_of (slice_get xs 0)) (sym u) ∙ e)))
 some_when {K} a h told (x ∷ us) b u e r m =
     record {
@@ -46,18 +51,22 @@ some_when {K} a h told (x ∷ us) b u e r m =
       rest = us;
       untaken = u;
       heard = first_heard a h told x us b.items m u (r x (ap (λ xs. slice_get xs 0) u));
-      match = subst (λ xs. Matches (received a x) (record h { untaken = xs }) told) (ap (drop 1) (sym u)) (received_match a h told x us m u);
+      match = subst (λ xs. Matches (received a x) (record h { untaken = xs }) told) (ap (drop 1) (sym u))
+          (received_match a h told x us m u);
     }
 
-pub taken_some : {K : Type 0} (a : Account) (h : Holdings K) (told : Flight) (b : ArrayVec ℕ) → end_taken h ≡ Some b → ((e : End) → slice_get h.untaken 0 ≡ Some e → IsEnd b.items e) → Matches a h told → Handed a h told b.items
+pub taken_some : {K : Type 0} (a : Account) (h : Holdings K) (told : Flight) (b : ArrayVec ℕ) → end_taken h ≡ Some b
+    → ((e : End) → slice_get h.untaken 0 ≡ Some e → IsEnd b.items e) → Matches a h told → Handed a h told b.items
 taken_some a h told b e r m = some_when a h told h.untaken b refl e r m
 
 -- what is left where that was returned
-pub handed_on : {K : Type 0} (a a' : Account) (h h' : Holdings K) (told : Flight) (b : List ℕ) (r : Result News HostFault) (n : News) → Handed a h told b → (r, a') ≡ heard a b → r ≡ Ok n → h' ≡ after_take h
+pub handed_on : {K : Type 0} (a a' : Account) (h h' : Holdings K) (told : Flight) (b : List ℕ)
+    (r : Result News HostFault) (n : News) → Handed a h told b → (r, a') ≡ heard a b → r ≡ Ok n → h' ≡ after_take h
     → (heard a b ≡ (Ok n, a')) × Matches a' h' told
 handed_on {K} a a' h h' told b r n x e o k =
     let left : a' ≡ received a x.end = ap (λ p. p.1) (e ∙ x.heard) in
-    (sym e ∙ ap (λ q. (q, a')) o, subst (λ (y : Account). Matches y h' told) (sym left) (subst (λ (y : Holdings K). Matches (received a x.end) y told) (sym k) x.match))
+    (sym e ∙ ap (λ q. (q, a')) o, subst (λ (y : Account). Matches y h' told) (sym left)
+        (subst (λ (y : Holdings K). Matches (received a x.end) y told) (sym k) x.match))
 
 -- the bytes that a moment hands over
 abbrev pub handed_in : Option Moment → Option (ArrayVec ℕ)

@@ -41,35 +41,53 @@ drop_next j xs = sym (drop-drop 1 j xs)
 
 -- ---- one turn
 
-turn_of : {K : Type 0} (c : Settings) (picks : List Choice → ℕ → Type 0) (picker : K) (talk : Talk) (j : ℕ) (a a' : Account) (h h' : Holdings K) (told : Flight) → IsValid c → ControllersKeepThePromise picks picker → j < length talk → At c picks picker talk j a h told → Says picks a h (said talk j) a' h'
+turn_of : {K : Type 0} (c : Settings) (picks : List Choice → ℕ → Type 0) (picker : K) (talk : Talk) (j : ℕ)
+    (a a' : Account) (h h' : Holdings K) (told : Flight) → IsValid c → ControllersKeepThePromise picks picker
+    → j < length talk → At c picks picker talk j a h told → Says picks a h (said talk j) a' h'
     → (t : Turn) → (said talk j).turn ≡ t → IsHeard a t (said talk j) a' → Turns c picks picker talk j a' h'
-turn_of c picks picker talk j a a' h h' told v law l s r (turns.Step k) t one = step_turn c picks picker talk j a a' h h' told k l s r t
-turn_of c picks picker talk j a a' h h' told v law l s r (turns.Submit command) t one = submit_turn c picks picker talk j a a' h h' told command l s r t (submits a command).0 (λ i. ((submits a command).0, sym one.1 i)) one.0
-turn_of c picks picker talk j a a' h h' told v law l s r (turns.Poll n) t one = poll_turn c picks picker talk j a a' h h' told n v law l s r t (polls_oldest a n).0 (λ i. ((polls_oldest a n).0, sym one.1 i)) one.0
-turn_of c picks picker talk j a a' h h' told v law l s r turns.Take t one = take_turn c picks picker talk j a a' h h' told l s r t one.0 one.1 one.2
+turn_of c picks picker talk j a a' h h' told v law l s r (turns.Step k) t one =
+    step_turn c picks picker talk j a a' h h' told k l s r t
+turn_of c picks picker talk j a a' h h' told v law l s r (turns.Submit command) t one =
+    submit_turn c picks picker talk j a a' h h' told command l s r t (submits a command).0
+    (λ i. ((submits a command).0, sym one.1 i)) one.0
+turn_of c picks picker talk j a a' h h' told v law l s r (turns.Poll n) t one =
+    poll_turn c picks picker talk j a a' h h' told n v law l s r t (polls_oldest a n).0
+    (λ i. ((polls_oldest a n).0, sym one.1 i)) one.0
+turn_of c picks picker talk j a a' h h' told v law l s r turns.Take t one =
+    take_turn c picks picker talk j a a' h h' told l s r t one.0 one.1 one.2
 
-kept : {K : Type 0} (c : Settings) (picks : List Choice → ℕ → Type 0) (picker : K) (talk : Talk) (j : ℕ) (a : Account) (h : Holdings K) (told : Flight) → IsValid c → ControllersKeepThePromise picks picker → At c picks picker talk j a h told → Promise c (trace_of (take j talk))
-kept c picks picker talk j a h told v law s = subst (Promise c) (history_of (trace_of (take j talk))) (law c (calls_of (trace_of (take j talk))) h v s.reached).promise
+kept : {K : Type 0} (c : Settings) (picks : List Choice → ℕ → Type 0) (picker : K) (talk : Talk) (j : ℕ) (a : Account)
+    (h : Holdings K) (told : Flight) → IsValid c → ControllersKeepThePromise picks picker
+    → At c picks picker talk j a h told → Promise c (trace_of (take j talk))
+kept c picks picker talk j a h told v law s = subst (Promise c) (history_of (trace_of (take j talk)))
+    (law c (calls_of (trace_of (take j talk))) h v s.reached).promise
 
 -- ---- all turns
 
-drop_more : (talk : Talk) (j : ℕ) (s : Said) (rest : Talk) → drop j talk ≡ s ∷ rest → (j < length talk) × (said talk j ≡ s) × (drop (j + 1) talk ≡ rest)
+drop_more : (talk : Talk) (j : ℕ) (s : Said) (rest : Talk) → drop j talk ≡ s ∷ rest
+    → (j < length talk) × (said talk j ≡ s) × (drop (j + 1) talk ≡ rest)
 drop_more talk j s rest e =
     let some : length talk - j ≡ suc (length rest) = sym (length-drop j talk) ∙ ap length e in
     let here : j + 0 ≡ j = omega arith in
-    let first : said talk j ≡ s = subst (λ k. said talk k ≡ s) here (sym (get_or-drop j talk 0 nothing) ∙ ap (λ xs. get_or xs 0 nothing) e) in
+    let first : said talk j ≡ s = subst (λ k. said talk k ≡ s) here
+        (sym (get_or-drop j talk 0 nothing) ∙ ap (λ xs. get_or xs 0 nothing) e) in
     (omega (arith, some), first, drop_next j talk ∙ ap (drop 1) e)
 
-turns_from : {K : Type 0} (c : Settings) (picks : List Choice → ℕ → Type 0) (picker : K) (talk rest : Talk) (j : ℕ) (a a' : Account) (h h' : Holdings K) (told : Flight) → IsValid c → ControllersKeepThePromise picks picker → drop j talk ≡ rest → At c picks picker talk j a h told
+turns_from : {K : Type 0} (c : Settings) (picks : List Choice → ℕ → Type 0) (picker : K) (talk rest : Talk) (j : ℕ)
+    (a a' : Account) (h h' : Holdings K) (told : Flight) → IsValid c → ControllersKeepThePromise picks picker
+    → drop j talk ≡ rest → At c picks picker talk j a h told
     → Converses picks a h rest a' h' → (i : ℕ) → j ≤ i → i < length talk → Known c talk i
-turns_from c picks picker talk [] j a a' h h' told v law e s r i l k = let none = length-drop j talk in let empty = ap length e in absurd (omega (arith, l, k, none, empty))
+turns_from c picks picker talk [] j a a' h h' told v law e s r i l k = let none = length-drop j talk in let empty =
+    ap length e in absurd (omega (arith, l, k, none, empty))
 turns_from {K} c picks picker talk (t ∷ rest) j a a' h h' told v law e s r i l k =
     let d = drop_more talk j t rest e in
     let says : Says picks a h (said talk j) r.0 r.1 = subst (λ x. Says picks a h x r.0 r.1) (sym d.1) r.2 in
     let turn = turn_of c picks picker talk j a r.0 h r.1 told v law d.0 s says (said talk j).turn refl says.0 in
     ⊎_elim
-    (λ same. subst (Known c talk) same (record { tells = turn.tells; promise = kept c picks picker talk (j + 1) r.0 r.1 turn.told v law turn.next }))
-    (λ other. turns_from c picks picker talk rest (j + 1) r.0 a' r.1 h' turn.told v law d.2 turn.next r.3 i (omega (arith, l, other)) k)
+    (λ same. subst (Known c talk) same (record { tells = turn.tells; promise =
+        kept c picks picker talk (j + 1) r.0 r.1 turn.told v law turn.next }))
+    (λ other. turns_from c picks picker talk rest (j + 1) r.0 a' r.1 h' turn.told v law d.2 turn.next r.3 i
+        (omega (arith, l, other)) k)
     (cases_eq j i)
 
 -- ---- the start
@@ -77,7 +95,8 @@ turns_from {K} c picks picker talk (t ∷ rest) j a a' h h' told v law e s r i l
 abbrev pub no_flight_yet : Flight
 no_flight_yet = record { figure = 0; waited = false }
 
-pub match_new : {K : Type 0} (c : Settings) (picker : K) → Matches (host.fresh c.credits) (holdings.fresh c picker) no_flight_yet
+pub match_new : {K : Type 0} (c : Settings) (picker : K)
+    → Matches (host.fresh c.credits) (holdings.fresh c picker) no_flight_yet
 match_new c picker = record {
   credits = refl;
   many = refl;
@@ -89,7 +108,8 @@ match_new c picker = record {
   flight = tt;
 }
 
-at_start : {K : Type 0} (c : Settings) (picks : List Choice → ℕ → Type 0) (picker : K) (talk : Talk) → At c picks picker talk 0 (host.fresh c.credits) (holdings.fresh c picker) no_flight_yet
+at_start : {K : Type 0} (c : Settings) (picks : List Choice → ℕ → Type 0) (picker : K) (talk : Talk)
+    → At c picks picker talk 0 (host.fresh c.credits) (holdings.fresh c picker) no_flight_yet
 unfolding outstanding
 at_start c picks picker talk = record {
   account = refl;
@@ -101,27 +121,39 @@ at_start c picks picker talk = record {
 
 -- ---- the whole trace
 
-calls_front : {K : Type 0} (picks : List Choice → ℕ → Type 0) (h m h' : Holdings K) (o : Option Moment) (t : Trace) → AnswersTurn picks h o m → AnsweredCalls picks m (calls_of t) h' → AnsweredCalls picks h (calls_of (option_to_list o ++ t)) h'
+calls_front : {K : Type 0} (picks : List Choice → ℕ → Type 0) (h m h' : Holdings K) (o : Option Moment) (t : Trace)
+    → AnswersTurn picks h o m → AnsweredCalls picks m (calls_of t) h'
+    → AnsweredCalls picks h (calls_of (option_to_list o ++ t)) h'
 calls_front {K} picks h m h' None t r a = subst (λ (x : Holdings K). AnsweredCalls picks x (calls_of t) h') r a
 calls_front picks h m h' (Some n) t r a = (m, r, a)
 
-whole_calls : {K : Type 0} (picks : List Choice → ℕ → Type 0) (a a' : Account) (h h' : Holdings K) (talk : Talk) → Converses picks a h talk a' h' → AnsweredCalls picks h (calls_of (trace_of talk)) h'
+whole_calls : {K : Type 0} (picks : List Choice → ℕ → Type 0) (a a' : Account) (h h' : Holdings K) (talk : Talk)
+    → Converses picks a h talk a' h' → AnsweredCalls picks h (calls_of (trace_of talk)) h'
 whole_calls {K} picks a a' h h' [] r = r.1
-whole_calls picks a a' h h' (s ∷ talk) r = calls_front picks h r.1 h' s.moment (trace_of talk) r.2.1 (whole_calls picks r.0 a' r.1 h' talk r.3)
+whole_calls picks a a' h h' (s ∷ talk) r = calls_front picks h r.1 h' s.moment (trace_of talk) r.2.1
+    (whole_calls picks r.0 a' r.1 h' talk r.3)
 
 -- ---- two ends
 
-pub two_ends : {K : Type 0} (c : Settings) (picks : List Choice → ℕ → Type 0) (picker : K) (ts : List Turn) (old new : List Heard × Trace) (a a' : Account) (h h' : Holdings K) → IsValid c → RunsKeepThePromise picks picker → ControllersKeepThePromise picks picker
-    → old.0 ≡ [] → old.1 ≡ [] → a ≡ host.fresh c.credits → h ≡ holdings.fresh c picker → GoesOn picks a h ts old new a' h' → AreTwoEnds picks c ts new.0 new.1
+pub two_ends : {K : Type 0} (c : Settings) (picks : List Choice → ℕ → Type 0) (picker : K) (ts : List Turn)
+    (old new : List Heard × Trace) (a a' : Account) (h h' : Holdings K) → IsValid c → RunsKeepThePromise picks picker
+    → ControllersKeepThePromise picks picker
+    → old.0 ≡ [] → old.1 ≡ [] → a ≡ host.fresh c.credits → h ≡ holdings.fresh c picker
+        → GoesOn picks a h ts old new a' h' → AreTwoEnds picks c ts new.0 new.1
 two_ends {K} c picks picker ts old new a a' h h' v runs law oh ot ea eh g =
     let talk = g.talk in
     let t = trace_of talk in
-    let says : Converses picks (host.fresh c.credits) (holdings.fresh c picker) talk a' h' = subst (λ (x : Account). Converses picks x (holdings.fresh c picker) talk a' h') ea (subst (λ (y : Holdings K). Converses picks a y talk a' h') eh g.says) in
-    let answered = answered_calls picks (holdings.fresh c picker) h' t (whole_calls picks (host.fresh c.credits) a' (holdings.fresh c picker) h' talk says) in
+    let says : Converses picks (host.fresh c.credits) (holdings.fresh c picker) talk a' h' =
+        subst (λ (x : Account). Converses picks x (holdings.fresh c picker) talk a' h') ea
+        (subst (λ (y : Holdings K). Converses picks a y talk a' h') eh g.says) in
+    let answered = answered_calls picks (holdings.fresh c picker) h' t
+        (whole_calls picks (host.fresh c.credits) a' (holdings.fresh c picker) h' talk says) in
     let run = runs c (events_of t) (entries_of t) h' v answered in
     let trace : trace_of talk ≡ new.1 = ap (λ xs. xs ++ t) (sym ot) ∙ sym g.trace in
     let whole : zip (events_of t) (entries_of t) ≡ new.1 = zipped t ∙ trace in
-    let known : (i : ℕ) → i < length talk → Known c talk i = λ i l. turns_from c picks picker talk talk 0 (host.fresh c.credits) a' (holdings.fresh c picker) h' no_flight_yet v law refl (at_start c picks picker talk) says i (omega arith) l in
+    let known : (i : ℕ) → i < length talk → Known c talk i =
+        λ i l. turns_from c picks picker talk talk 0 (host.fresh c.credits) a' (holdings.fresh c picker) h'
+        no_flight_yet v law refl (at_start c picks picker talk) says i (omega arith) l in
     record {
       talk = talk;
       turns = g.turns;

@@ -26,19 +26,27 @@ pub history_of : (t : Trace) → history (calls_of t) ≡ t
 history_of [] = refl
 history_of (m ∷ t) = ap (λ r. m ∷ r) (history_of t)
 
-calls_push : {K : Type 0} (picks : List Choice → ℕ → Type 0) (h m h' : Holdings K) (calls : List Call) (call : Call) → AnsweredCalls picks h calls m → AnswersCall picks m call h' → AnsweredCalls picks h (calls ++ call ∷ []) h'
+calls_push : {K : Type 0} (picks : List Choice → ℕ → Type 0) (h m h' : Holdings K) (calls : List Call) (call : Call)
+    → AnsweredCalls picks h calls m → AnswersCall picks m call h' → AnsweredCalls picks h (calls ++ call ∷ []) h'
 calls_push {K} picks h m h' [] call r a = (h', subst (λ (x : Holdings K). AnswersCall picks x call h') r a, refl)
 calls_push picks h m h' (c ∷ calls) call r a = (r.0, r.1, calls_push picks r.0 m h' calls call r.2 a)
 
 -- what came so far, and one more moment, if there is one
-pub reached_more : {K : Type 0} (picks : List Choice → ℕ → Type 0) (h m h' : Holdings K) (t : Trace) (o : Option Moment) → AnsweredCalls picks h (calls_of t) m → AnswersTurn picks m o h' → AnsweredCalls picks h (calls_of (t ++ option_to_list o)) h'
-reached_more {K} picks h m h' t None r a = subst (λ (x : Holdings K). AnsweredCalls picks h (calls_of (t ++ [])) x) (sym a) (subst (λ u. AnsweredCalls picks h (calls_of u) m) (sym (append-nil t)) r)
-reached_more {K} picks h m h' t (Some n) r a = subst (λ cs. AnsweredCalls picks h cs h') (sym (map-append (λ (x : Moment). Plain x.0 x.1) t (n ∷ []))) (calls_push picks h m h' (calls_of t) (Plain n.0 n.1) r a)
+pub reached_more : {K : Type 0} (picks : List Choice → ℕ → Type 0) (h m h' : Holdings K) (t : Trace) (o : Option Moment)
+    → AnsweredCalls picks h (calls_of t) m → AnswersTurn picks m o h'
+    → AnsweredCalls picks h (calls_of (t ++ option_to_list o)) h'
+reached_more {K} picks h m h' t None r a = subst (λ (x : Holdings K). AnsweredCalls picks h (calls_of (t ++ [])) x)
+    (sym a) (subst (λ u. AnsweredCalls picks h (calls_of u) m) (sym (append-nil t)) r)
+reached_more {K} picks h m h' t (Some n) r a = subst (λ cs. AnsweredCalls picks h cs h')
+    (sym (map-append (λ (x : Moment). Plain x.0 x.1) t (n ∷ [])))
+    (calls_push picks h m h' (calls_of t) (Plain n.0 n.1) r a)
 
 -- the trace before the next turn
-pub trace_more : (talk : Talk) (j : ℕ) → j < length talk → trace_of (take (j + 1) talk) ≡ trace_of (take j talk) ++ option_to_list (said talk j).moment
+pub trace_more : (talk : Talk) (j : ℕ) → j < length talk
+    → trace_of (take (j + 1) talk) ≡ trace_of (take j talk) ++ option_to_list (said talk j).moment
 trace_more talk j l =
-    ap trace_of (take_more talk j _ l) ∙ (flat_map-append (λ (s : Said). option_to_list s.moment) (take j talk) (said talk j ∷ []) ∙ ap (λ xs. trace_of (take j talk) ++ xs) (append-nil (option_to_list (said talk j).moment)))
+    ap trace_of (take_more talk j _ l) ∙ (flat_map-append (λ (s : Said). option_to_list s.moment) (take j talk)
+        (said talk j ∷ []) ∙ ap (λ xs. trace_of (take j talk) ++ xs) (append-nil (option_to_list (said talk j).moment)))
 
 -- ---- the whole trace
 
@@ -53,7 +61,8 @@ pub zipped : (t : Trace) → zip (events_of t) (entries_of t) ≡ t
 zipped [] = refl
 zipped (m ∷ t) = ap (λ r. m ∷ r) (zipped t)
 
-pub answered_calls : {K : Type 0} (picks : List Choice → ℕ → Type 0) (h h' : Holdings K) (t : Trace) → AnsweredCalls picks h (calls_of t) h' → Answered picks h (events_of t) (entries_of t) h'
+pub answered_calls : {K : Type 0} (picks : List Choice → ℕ → Type 0) (h h' : Holdings K) (t : Trace)
+    → AnsweredCalls picks h (calls_of t) h' → Answered picks h (events_of t) (entries_of t) h'
 answered_calls picks h h' [] r = r
 answered_calls picks h h' (m ∷ t) r = (r.0, r.1, answered_calls picks r.0 h' t r.2)
 
@@ -70,20 +79,24 @@ finds f p [] e = absurd (false≢true e)
 finds {X} f p (x ∷ xs) e =
     let out : (b : Bool) → p (f x) ≡ b → (b || list_any p (map f xs)) ≡ true → Finds (λ y. p (f y)) (x ∷ xs) =
     λ b. elim b as (λ b. p (f x) ≡ b → (b || list_any p (map f xs)) ≡ true → Finds (λ y. p (f y)) (x ∷ xs)) [
-      | true ↦ λ q h. record { item = x; found = ap (λ b. cond b (Some x) (find (λ y. p (f y)) xs)) q; there = (0, omega arith, refl) }
+      | true ↦ λ q h. record { item = x; found = ap (λ b. cond b (Some x) (find (λ y. p (f y)) xs)) q; there =
+          (0, omega arith, refl) }
       | false ↦ λ q h.
           let rest = finds f p xs h in
           let l = rest.there.1 in
-          record { item = rest.item; found = ap (λ b. cond b (Some x) (find (λ y. p (f y)) xs)) q ∙ rest.found; there = (suc rest.there.0, omega (arith, l), rest.there.2) }
+          record { item = rest.item; found = ap (λ b. cond b (Some x) (find (λ y. p (f y)) xs)) q ∙ rest.found; there =
+              (suc rest.there.0, omega (arith, l), rest.there.2) }
     ] in
     out (p (f x)) refl e
 
 -- the figure of a number that waits is at least 1
-pub some_figure : (c : Settings) (t : Trace) (n : ℕ) → Promise c t → list_any (λ x. nat_eq x n) (map (name t) (waiting t)) ≡ true → 1 ≤ figure_of c t n
+pub some_figure : (c : Settings) (t : Trace) (n : ℕ) → Promise c t
+    → list_any (λ x. nat_eq x n) (map (name t) (waiting t)) ≡ true → 1 ≤ figure_of c t n
 unfolding figure_of
 some_figure c t n p e =
     let x = finds (name t) (λ y. nat_eq y n) (waiting t) e in
     let whole : take (length t) t ≡ t = take_all (length t) t (omega arith) in
-    let positive = subst (λ u. (y : ℕ) → Contains (waiting u) y ↔ (1 ≤ figure c u y)) whole (p.positive (length t) (omega arith)) in
+    let positive = subst (λ u. (y : ℕ) → Contains (waiting u) y ↔ (1 ≤ figure c u y)) whole
+        (p.positive (length t) (omega arith)) in
     let some : 1 ≤ figure c t x.item = (positive x.item).0 x.there in
     subst (λ o. 1 ≤ figure_found c t o) (sym x.found) some

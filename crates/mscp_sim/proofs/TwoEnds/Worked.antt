@@ -79,12 +79,14 @@ first_told = refl
 
 it_stands : Stands (settings 4 2) standing 7
 unfolding moment command_of command is_waiting waiting done passes_at passes figure figure_of outstanding
-it_stands = record { poll = 6; command = 3; last = 18; handed = refl; about = refl; outstanding = refl; told = refl; not_less = omega arith }
+it_stands = record { poll = 6; command = 3; last = 18; handed = refl; about = refl; outstanding = refl; told =
+    refl; not_less = omega arith }
 
 -- before the second poll is answered the host keeps the READ, of which 18 was told, and the poll
 kept : account_at (settings 4 2) standing 7 ≡ record {
   credits = 4;
-  outstanding = record { reference = 1; unit = 0; opcode = 0x21; told = Some 18 } ∷ record { reference = 11; unit = 0; opcode = 0x02; told = None } ∷ [];
+  outstanding = record { reference = 1; unit = 0; opcode = 0x21; told = Some 18 }
+      ∷ record { reference = 11; unit = 0; opcode = 0x02; told = None } ∷ [];
   watch = Some (record { reference = 11; polled = 1; is_outstanding = true });
 }
 unfolding moment command_of command is_waiting waiting done passes_at passes figure figure_of outstanding
@@ -121,8 +123,10 @@ falls : Stands (settings 4 2) moving 8 → ⊥
 unfolding moment command_of command is_waiting waiting done passes_at passes figure figure_of outstanding
 falls st =
     let poll : st.poll ≡ 7 = sym (ap (λ o. unwrap_or o 0) st.handed) in
-    let command : st.command ≡ 3 = sym (eqb-true 3 st.command (subst (λ p. asks_about moving st.command p ≡ true) poll st.about)) in
-    let last : 18 ≡ st.last = ap (λ o. unwrap_or o 0) (subst (λ i. last_answer (settings 4 2) moving 8 i ≡ Some st.last) command st.told) in
+    let command : st.command ≡ 3 = sym (eqb-true 3 st.command
+        (subst (λ p. asks_about moving st.command p ≡ true) poll st.about)) in
+    let last : 18 ≡ st.last = ap (λ o. unwrap_or o 0)
+        (subst (λ i. last_answer (settings 4 2) moving 8 i ≡ Some st.last) command st.told) in
     let low : st.last ≤ 1 = subst (λ p. st.last ≤ figure_told (settings 4 2) moving p) poll st.not_less in
     omega (arith, last, low)
 
@@ -131,7 +135,8 @@ late : Stands (settings 4 2) moving 12 → ⊥
 unfolding moment command_of command is_waiting waiting done passes_at passes figure figure_of outstanding
 late st =
     let poll : st.poll ≡ 10 = sym (ap (λ o. unwrap_or o 0) st.handed) in
-    let command : st.command ≡ 3 = sym (eqb-true 3 st.command (subst (λ p. asks_about moving st.command p ≡ true) poll st.about)) in
+    let command : st.command ≡ 3 = sym (eqb-true 3 st.command
+        (subst (λ p. asks_about moving st.command p ≡ true) poll st.about)) in
     false≢true (subst (λ i. is_outstanding moving 12 i ≡ true) command st.outstanding)
 
 -- when the third answer comes the READ is outstanding no more
@@ -144,7 +149,8 @@ unfolding moment command_of command is_waiting waiting done passes_at passes fig
 kept_late = refl
 
 -- what is heard there is what the rules of a host say
-heard_late : IsHeard (account_at (settings 4 2) moving 12) turns.Take (said moving 12) (account_at (settings 4 2) moving 13)
+heard_late : IsHeard (account_at (settings 4 2) moving 12) turns.Take (said moving 12)
+    (account_at (settings 4 2) moving 13)
 unfolding moment command_of command is_waiting waiting done passes_at passes figure figure_of outstanding
 heard_late = (Some (record { items = end_bytes (answer 12 0) }), refl, (news.Late, refl, refl))
 
@@ -172,7 +178,8 @@ untold = refl
 -- though the figure is the one that was last told of the first
 kept_again : account_at (settings 4 2) again 13 ≡ record {
   credits = 4;
-  outstanding = record { reference = 1; unit = 0; opcode = 0x21; told = None } ∷ record { reference = 12; unit = 0; opcode = 0x02; told = None } ∷ [];
+  outstanding = record { reference = 1; unit = 0; opcode = 0x21; told = None }
+      ∷ record { reference = 12; unit = 0; opcode = 0x02; told = None } ∷ [];
   watch = Some (record { reference = 12; polled = 1; is_outstanding = true });
 }
 unfolding moment command_of command is_waiting waiting done passes_at passes figure figure_of outstanding

@@ -7,6 +7,8 @@ pub returns-then-count-gt-MOST_BYTES-clause-value :
     goal.returns-then-count-gt-MOST_BYTES-clause-value
 returns-then-count-gt-MOST_BYTES-clause-value c =
     elim c.if-is_hexadecimal.branch [
-      | then-is_hexadecimal w ↦ rw w.result-is (long_word c.args.word.now c.if-count-gt-MOST_BYTES.true (sym c.is_hexadecimal.ensures ∙ w.if-is_hexadecimal.true))
-      | else-is_hexadecimal w ↦ rw w.result-is (no_word c.args.word.now (sym c.is_hexadecimal.ensures ∙ w.if-is_hexadecimal.false))
+      | then-is_hexadecimal w ↦ rw w.result-is (long_word c.args.word.now c.if-count-gt-MOST_BYTES.true
+          (sym c.is_hexadecimal.ensures ∙ w.if-is_hexadecimal.true))
+      | else-is_hexadecimal w ↦ rw w.result-is (no_word c.args.word.now
+          (sym c.is_hexadecimal.ensures ∙ w.if-is_hexadecimal.false))
     ]

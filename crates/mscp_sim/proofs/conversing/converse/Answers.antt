@@ -13,6 +13,14 @@ pub returns-clause-talk : goal.returns-clause-talk
 returns-clause-talk g c =
     let host = c.in-Ok.ensures.new ∙ ap fresh c.credits.ensures.value in
     let picker = ap (λ h. h.picker) c.new-controller.ensures.fresh in
-    let goes = subst (λ k. GoesOn (g.K.Picker.picks k) c.in-Ok.host c.new-controller.result c.args.turns.now (c.in_ok-with_capacity.field-0.items, c.in_ok-with_capacity-2.field-0.items) (c.hear_each.new.talk.heard.items, c.hear_each.new.talk.trace.items) c.hear_each.new.host c.hear_each.new.controller) picker c.hear_each.ensures in
-    two_ends c.args.config (g.K.Picker.picks c.args.picker) c.args.picker c.args.turns.now (c.in_ok-with_capacity.field-0.items, c.in_ok-with_capacity-2.field-0.items) (c.hear_each.new.talk.heard.items, c.hear_each.new.talk.trace.items) c.in-Ok.host c.hear_each.new.host c.new-controller.result c.hear_each.new.controller
-    c.new-controller.ensures.valid c.runs_keep_the_promise.ensures c.controllers_keep_the_promise.ensures c.in_ok-with_capacity.ensures.items c.in_ok-with_capacity-2.ensures.items host c.new-controller.ensures.fresh goes
+    let goes = subst (λ k. GoesOn (g.K.Picker.picks k) c.in-Ok.host c.new-controller.result c.args.turns.now
+        (c.in_ok-with_capacity.field-0.items, c.in_ok-with_capacity-2.field-0.items)
+        (c.hear_each.new.talk.heard.items, c.hear_each.new.talk.trace.items) c.hear_each.new.host
+        c.hear_each.new.controller) picker c.hear_each.ensures in
+    two_ends c.args.config (g.K.Picker.picks c.args.picker) c.args.picker c.args.turns.now
+        (c.in_ok-with_capacity.field-0.items, c.in_ok-with_capacity-2.field-0.items)
+        (c.hear_each.new.talk.heard.items, c.hear_each.new.talk.trace.items) c.in-Ok.host c.hear_each.new.host
+        c.new-controller.result c.hear_each.new.controller
+    c.new-controller.ensures.valid c.runs_keep_the_promise.ensures c.controllers_keep_the_promise.ensures
+        c.in_ok-with_capacity.ensures.items c.in_ok-with_capacity-2.ensures.items host c.new-controller.ensures.fresh
+        goes

@@ -7,7 +7,8 @@ use Rattle.mscp_sim.proofs.conversing.hear_each.Goals as goal
 pub loop-turn-init : goal.loop-turn-init
 loop-turn-init g c =
     record {
-      talks = talks_none g.K.Picker.picks c.args.host.now c.args.controller.now (c.args.talk.now.heard.items, c.args.talk.now.trace.items) c.requires.both;
+      talks = talks_none g.K.Picker.picks c.args.host.now c.args.controller.now
+          (c.args.talk.now.heard.items, c.args.talk.now.trace.items) c.requires.both;
       room = let room = c.requires.room in (omega (arith, room.0), omega (arith, room.1));
     }
 
@@ -23,14 +24,22 @@ keep-requires g c =
 pub loop-turn-preserved : goal.loop-turn-preserved
 loop-turn-preserved g c =
     let left = c.loop-turn-test.true in
-    let more : length c.args.turns.now - c.loop-turn.turn-index ≡ (length c.args.turns.now - (c.loop-turn.turn-index + 1)) + 1 = omega (arith, left) in
+    let more : length c.args.turns.now - c.loop-turn.turn-index
+        ≡ (length c.args.turns.now - (c.loop-turn.turn-index + 1)) + 1 = omega (arith, left) in
     record {
       talks =
-          talks_more g.K.Picker.picks c.args.host.now c.loop-turn.host c.hear-heard.new.host c.args.controller.now c.loop-turn.controller c.hear-heard.new.controller c.args.turns.now c.loop-turn.turn-index c.turn-item.result
-          (c.args.talk.now.heard.items, c.args.talk.now.trace.items) (c.loop-turn.talk.heard.items, c.loop-turn.talk.trace.items) (c.keep.new.self.heard.items, c.keep.new.self.trace.items) c.hear-heard.result
-          left c.turn-item.is c.loop-turn.invariant.talks c.hear-heard.ensures c.keep.ensures.heard c.keep.ensures.trace;
-      room = c.keep.ensures.room (length c.args.turns.now - (c.loop-turn.turn-index + 1)) (subst (HasRoom c.loop-turn.talk) more c.loop-turn.invariant.room);
+          talks_more g.K.Picker.picks c.args.host.now c.loop-turn.host c.hear-heard.new.host c.args.controller.now
+              c.loop-turn.controller c.hear-heard.new.controller c.args.turns.now c.loop-turn.turn-index
+              c.turn-item.result
+          (c.args.talk.now.heard.items, c.args.talk.now.trace.items)
+              (c.loop-turn.talk.heard.items, c.loop-turn.talk.trace.items)
+              (c.keep.new.self.heard.items, c.keep.new.self.trace.items) c.hear-heard.result
+          left c.turn-item.is c.loop-turn.invariant.talks c.hear-heard.ensures c.keep.ensures.heard
+              c.keep.ensures.trace;
+      room = c.keep.ensures.room (length c.args.turns.now - (c.loop-turn.turn-index + 1))
+          (subst (HasRoom c.loop-turn.talk) more c.loop-turn.invariant.room);
     }
 
 pub returns : goal.returns
-returns g c = rw (take_all c.loop-turn.turn-index c.args.turns.now c.loop-turn-test.false) at c.loop-turn.invariant.talks.goes
+returns g c = rw (take_all c.loop-turn.turn-index c.args.turns.now c.loop-turn-test.false) at
+    c.loop-turn.invariant.talks.goes

@@ -22,26 +22,32 @@ record IsServed (passing place : ℕ) (rs : List Record) (r : Record) : Type 0 w
   pub servable : IsServable passing rs place
   pub own : r ≡ record_at rs place
 
-served : (g : Rattle.mscp_queue.proofs.queue.Queue.serve_at.Given.Over) (c : goal.After-sequential_ended g) → IsServed c.self.inside.passing c.args.place c.self.inside.waiting.items c.index-deref-place.result
+served : (g : Rattle.mscp_queue.proofs.queue.Queue.serve_at.Given.Over) (c : goal.After-sequential_ended g)
+    → IsServed c.self.inside.passing c.args.place c.self.inside.waiting.items c.index-deref-place.result
 served g c =
     let q = c.self.inside in
     let rs = q.waiting.items in
     let place = c.args.place in
     let K = g.row.K.Denot in
     let next : IsNext (g.K.Picker.picks q.picker) q.passing q.drives.items rs q.begun place =
-    subst (λ (l : Line K). IsNext (g.K.Picker.picks l.picker) l.passing l.drives l.waiting l.begun place) (sym c.self.view_is) c.requires in
+    subst (λ (l : Line K). IsNext (g.K.Picker.picks l.picker) l.passing l.drives l.waiting l.begun place)
+        (sym c.self.view_is) c.requires in
     let item = c.index-deref-place.result in
     record {
       servable = next.servable;
-      own = c.index-deref-place.is ∙ (ap (λ l. get_or l place item) c.deref.ensures.0 ∙ get_or_default rs place item no_record next.servable.inside);
+      own = c.index-deref-place.is ∙ (ap (λ l. get_or l place item) c.deref.ensures.0
+          ∙ get_or_default rs place item no_record next.servable.inside);
     }
 
 -- what ends is counted out
-out : (g : Rattle.mscp_queue.proofs.queue.Queue.serve_at.Given.Over) (c : goal.After-sequential_ended g) → IsCountedOut c.self.inside.sequential c.sequential_ended.result c.leave.new.waiting.items
+out : (g : Rattle.mscp_queue.proofs.queue.Queue.serve_at.Given.Over) (c : goal.After-sequential_ended g)
+    → IsCountedOut c.self.inside.sequential c.sequential_ended.result c.leave.new.waiting.items
 out g c =
     let s = served g c in
-    counted_left c.self.inside.waiting.items c.leave.new.waiting.items c.args.place c.step_toll.result c.self.inside.sequential c.sequential_ended.result c.is_some-ends.result s.servable.inside c.leave.ensures.left
-    c.self.invariant.counted (c.sequential_ended.ensures ∙ ap {B = ℕ} (λ (r : Record). cond (c.is_some-ends.result && is_sequential r.command.order) 1 0) s.own)
+    counted_left c.self.inside.waiting.items c.leave.new.waiting.items c.args.place c.step_toll.result
+        c.self.inside.sequential c.sequential_ended.result c.is_some-ends.result s.servable.inside c.leave.ensures.left
+    c.self.invariant.counted (c.sequential_ended.ensures
+        ∙ ap {B = ℕ} (λ (r : Record). cond (c.is_some-ends.result && is_sequential r.command.order) 1 0) s.own)
 
 pub overflow_sub-self : goal.overflow_sub-self
 overflow_sub-self g c = (out g c).below
@@ -56,22 +62,32 @@ invariant_of-self g c =
     let slice = c.as_mut_slice.ensures.value in
     let new : c.replace_drive.new.drives ≡ replaced c.command-command.result.unit c.serve-service.result.drive ds =
     c.replace_drive.ensures ∙ ap (replaced c.command-command.result.unit c.serve-service.result.drive) slice in
-    let long : length c.replace_drive.new.drives ≡ length ds = ap length new ∙ length-map ds (λ (d : Drive). if has_number c.command-command.result.unit d then c.serve-service.result.drive else d) in
+    let long : length c.replace_drive.new.drives ≡ length ds =
+        ap length new ∙ length-map ds (λ (d : Drive). if has_number c.command-command.result.unit d
+        then c.serve-service.result.drive else d) in
     let q = c.self.inside in
     let ds' = refill (length ds) ds c.replace_drive.new.drives in
     let now = refilled ds c.replace_drive.new.drives long ∙ new in
-    let drive = c.drive_of-drive.ensures ∙ ap (λ l. drive_of l c.command-command.result.unit) c.as_slice.ensures.value in
-    let units : units_of ds' ≡ units_of ds = units_step c.command-command.result.unit c.drive_of-drive.result c.serve-service.result.drive ds ds' c.args.block.now item c.self.invariant.held.units drive c.serve-service.ensures.drive now in
+    let drive = c.drive_of-drive.ensures ∙ ap (λ l. drive_of l c.command-command.result.unit)
+        c.as_slice.ensures.value in
+    let units : units_of ds' ≡ units_of ds = units_step c.command-command.result.unit c.drive_of-drive.result
+        c.serve-service.result.drive ds ds' c.args.block.now item c.self.invariant.held.units drive
+        c.serve-service.ensures.drive now in
     record {
       held =
-          held_step q.room q.passing q.longest place rs c.leave.new.waiting.items ds ds' q.begun q.serving _ c.args.block.now item
-          c.command-command.result c.drive_of-drive.result c.serve-service.result.drive c.serve-service.result.ended c.is_some-ends.result c.step_toll.result
+          held_step q.room q.passing q.longest place rs c.leave.new.waiting.items ds ds' q.begun q.serving _
+              c.args.block.now item
+          c.command-command.result c.drive_of-drive.result c.serve-service.result.drive c.serve-service.result.ended
+              c.is_some-ends.result c.step_toll.result
           c.self.invariant.held s.servable s.own c.command-command.ensures drive
-          c.serve-service.ensures.ended c.is_some-ends.ensures c.serve-service.ensures.drive c.step_toll.ensures.value c.serve-service.ensures.on_unit
+          c.serve-service.ensures.ended c.is_some-ends.ensures c.serve-service.ensures.drive c.step_toll.ensures.value
+              c.serve-service.ensures.on_unit
           c.leave.ensures.left refl now;
-      aimed = c.leave.ensures.aims (units_of ds) c.self.invariant.aimed ∙ ap (λ us. aims_of us c.leave.new.waiting.items) (sym units);
+      aimed = c.leave.ensures.aims (units_of ds) c.self.invariant.aimed
+          ∙ ap (λ us. aims_of us c.leave.new.waiting.items) (sym units);
       counted = (out g c.before.before.before).counted;
-      order = passes_left rs c.leave.new.waiting.items place c.step_toll.result c.is_some-ends.result s.servable.inside c.leave.ensures.left c.self.invariant.order;
+      order = passes_left rs c.leave.new.waiting.items place c.step_toll.result c.is_some-ends.result s.servable.inside
+          c.leave.ensures.left c.self.invariant.order;
     }
 
 pub returns-clause-units : goal.returns-clause-units
@@ -80,10 +96,14 @@ returns-clause-units g c =
     let K = g.row.K.Denot in
     let number = c.command-command.result.unit in
     let service = c.serve-service in
-    let new : c.replace_drive.new.drives ≡ replaced number service.result.drive ds = c.replace_drive.ensures ∙ ap (replaced number service.result.drive) c.as_mut_slice.ensures.value in
-    let long : length c.replace_drive.new.drives ≡ length ds = ap length new ∙ length-map ds (λ (d : Drive). if has_number number d then service.result.drive else d) in
-    units_step number c.drive_of-drive.result service.result.drive ds (refill (length ds) ds c.replace_drive.new.drives) c.args.block.now c.index-deref-place.result c.self.invariant.held.units
-    (c.drive_of-drive.ensures ∙ ap (λ l. drive_of l number) c.as_slice.ensures.value) service.ensures.drive (refilled ds c.replace_drive.new.drives long ∙ new)
+    let new : c.replace_drive.new.drives ≡ replaced number service.result.drive ds =
+        c.replace_drive.ensures ∙ ap (replaced number service.result.drive) c.as_mut_slice.ensures.value in
+    let long : length c.replace_drive.new.drives ≡ length ds =
+        ap length new ∙ length-map ds (λ (d : Drive). if has_number number d then service.result.drive else d) in
+    units_step number c.drive_of-drive.result service.result.drive ds (refill (length ds) ds c.replace_drive.new.drives)
+        c.args.block.now c.index-deref-place.result c.self.invariant.held.units
+    (c.drive_of-drive.ensures ∙ ap (λ l. drive_of l number) c.as_slice.ensures.value) service.ensures.drive
+        (refilled ds c.replace_drive.new.drives long ∙ new)
     ∙ ap (λ (l : Line K). units_of l.drives) c.self.view_is
 
 pub returns-clause-shaped : goal.returns-clause-shaped
@@ -92,8 +112,10 @@ returns-clause-shaped g c =
     let rs = c.self.inside.waiting.items in
     let place = c.args.place in
     let item = c.index-deref-place.result in
-    let inside : place < length rs = subst (λ (l : Line K). place < length l.waiting) (sym c.self.view_is) c.requires.servable.inside in
-    let own : item ≡ record_at rs place = c.index-deref-place.is ∙ (ap (λ l. get_or l place item) c.deref.ensures.0 ∙ get_or_default rs place item no_record inside) in
+    let inside : place < length rs = subst (λ (l : Line K). place < length l.waiting) (sym c.self.view_is)
+        c.requires.servable.inside in
+    let own : item ≡ record_at rs place = c.index-deref-place.is
+        ∙ (ap (λ l. get_or l place item) c.deref.ensures.0 ∙ get_or_default rs place item no_record inside) in
     let CanWait : Record → Type 0 = λ r. (is_sequential r.command.order || is_move r.command.order) ≡ true in
     let kept = c.self.invariant.held.each place no_record inside in
     subst (λ e. IfSome e IsOfKind) (sym c.serve-service.ensures.ended)

@@ -10,7 +10,8 @@ loop-events-preserved c =
     let number = rw c.in-Some.is at (c.in_ok-line.ensures.number) in
     record {
       few = c.in_ok-read_line.ensures.few;
-      same = λ s. c.loop-events.invariant.same s ∙ (some (HasGone s c.loop-events.events.items) ∙ onward_ok _ _ _ _ _ (rw number at (c.in_ok-read_line.ensures.next s)));
+      same = λ s. c.loop-events.invariant.same s ∙ (some (HasGone s c.loop-events.events.items)
+          ∙ onward_ok _ _ _ _ _ (rw number at (c.in_ok-read_line.ensures.next s)));
     }
 
 pub returns-in_err-read_line-clause-outcome : goal.returns-in_err-read_line-clause-outcome
@@ -18,4 +19,6 @@ returns-in_err-read_line-clause-outcome c =
     let some = rw c.in-Some.is at (c.in_ok-line.ensures.some) in
     let number = rw c.in-Some.is at (c.in_ok-line.ensures.number) in
     let p = err_from_is_err_and c.from_residual-in_err-read_line.result c.from_residual-in_err-read_line.ensures.1 in
-    rw (p.1, p.2) (λ s. onward_fails _ _ _ _ _ c.in_err-read_line.field-0.0 (rw number at (c.in_err-read_line.ensures.next s)) (c.loop-events.invariant.same s ∙ some (HasGone s c.loop-events.events.items)))
+    rw (p.1, p.2) (λ s. onward_fails _ _ _ _ _ c.in_err-read_line.field-0.0
+        (rw number at (c.in_err-read_line.ensures.next s))
+        (c.loop-events.invariant.same s ∙ some (HasGone s c.loop-events.events.items)))

@@ -7,7 +7,8 @@ use Rattle.mscp_script.proofs.script.events.read_events.Given as goal
 abbrev pub invariant-loop-events : goal.invariant-loop-events
 invariant-loop-events l = record {
   few : vec_len l.events ≤ 1000000;
-  same : (s : Settings) → rest_outcome l.initial.lines.number (HasGone s []) l.initial.lines.rest.now ≡ rest_outcome l.lines.number (HasGone s l.events.items) l.lines.rest.now;
+  same : (s : Settings) → rest_outcome l.initial.lines.number (HasGone s []) l.initial.lines.rest.now
+      ≡ rest_outcome l.lines.number (HasGone s l.events.items) l.lines.rest.now;
 }
 
 abbrev pub decreases-loop-events : goal.decreases-loop-events

@@ -7,7 +7,8 @@ use Rattle.mscp_script.proofs.script.header.read_header.Given as goal
 abbrev pub invariant-loop-config : goal.invariant-loop-config
 invariant-loop-config l = record {
   list : IsUnitList l.units.items;
-  same : rest_outcome l.fn.lines.number Begins l.fn.lines.rest.now ≡ rest_outcome l.lines.number (HasUnits (settled l.limits l.units.items)) l.lines.rest.now;
+  same : rest_outcome l.fn.lines.number Begins l.fn.lines.rest.now
+      ≡ rest_outcome l.lines.number (HasUnits (settled l.limits l.units.items)) l.lines.rest.now;
 }
 
 abbrev pub decreases-loop-config : goal.decreases-loop-config

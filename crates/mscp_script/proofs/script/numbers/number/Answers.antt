@@ -9,6 +9,7 @@ loop-digit-preserved c =
     let high : get_or c.args.word.now i 0 ≤ 57 = search rules in
     record {
       digits = all_more c.args.word.now i c.loop-digit-test.true low high c.loop-digit.invariant.digits;
-      value = rw c.from.ensures (value_more c.args.word.now i c.loop-digit.value c.loop-digit-test.true low high c.loop-digit.invariant.value);
+      value = rw c.from.ensures (value_more c.args.word.now i c.loop-digit.value c.loop-digit-test.true low high
+          c.loop-digit.invariant.value);
       small = small_more i c.loop-digit.value c.from.result (omega arith) c.loop-digit.invariant.small;
     }

@@ -8,7 +8,8 @@ use Rattle.mscp_script.proofs.script.reported.run_events.Given as goal
 
 abbrev pub invariant-loop-line : goal.invariant-loop-line
 invariant-loop-line l = record {
-  going : (c : Settings) → Runs c [] l.fn.run → Going c (rest_outcome l.fn.lines.number (HasGone c []) l.fn.lines.rest.now) l.run l.lines.number l.lines.rest.now;
+  going : (c : Settings) → Runs c [] l.fn.run → Going c
+      (rest_outcome l.fn.lines.number (HasGone c []) l.fn.lines.rest.now) l.run l.lines.number l.lines.rest.now;
   few : l.run.reporter.count ≤ 1000000;
 }
 

@@ -9,7 +9,9 @@ use Rattle.mscp_script.proofs.script.reported.run_plain_lines.Given as goal
 
 abbrev pub invariant-loop-found : goal.invariant-loop-found
 invariant-loop-found l = record {
-  going : (c : Settings) (es : List Event) → Runs c es l.initial.run → Going c (rest_outcome l.initial.lines.number (HasGone c es) l.initial.lines.rest.now) l.run l.lines.number l.lines.rest.now;
+  going : (c : Settings) (es : List Event) → Runs c es l.initial.run
+      → Going c (rest_outcome l.initial.lines.number (HasGone c es) l.initial.lines.rest.now) l.run l.lines.number
+      l.lines.rest.now;
   few : l.run.reporter.count ≤ 1000000;
   left : length l.lines.rest.now ≤ length l.initial.lines.rest.now;
 }
