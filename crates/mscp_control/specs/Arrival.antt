@@ -12,13 +12,13 @@ use Rattle.mscp_drive.specs.Extent as extent
 use Rattle.mscp_queue.specs.Orders.{order_weight}
 use Rattle.mscp_control.specs.declared.event.SendFault.{SendFault}
 use Rattle.mscp_control.specs.declared.event.SendFault.TheVariants.{Short, Long, NoCredit, LastCredit, Doubled}
-use Rattle.mscp_queue.specs.Names.{same_name}
+use Rattle.mscp_queue.specs.Names.{Name, same_name}
 use Rattle.mscp_control.specs.Settings.{Settings, unit_found}
 
 -- ---- credits
 
 -- a reference number is among these
-abbrev pub holds : List ℕ → ℕ → Bool
+abbrev pub holds : List Name → Name → Bool
 holds references reference = list_any (λ x. same_name x reference) references
 
 -- why a command with this opcode byte and reference number is refused, the first that holds, where so many

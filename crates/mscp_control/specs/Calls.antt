@@ -131,7 +131,7 @@ HoldsTo upcoming call = IfSome (service_of call) (IsAsTold upcoming)
 abbrev pub HoldsToBegun : List Call → Call → Type 0
 HoldsToBegun so_far call = (upcoming : Upcoming) (y j : ℕ) → IsBegunSince so_far upcoming y j → HoldsTo upcoming call
 
--- the command of this name was chosen where R allowed it: now, where nothing is begun, or else at its begin (profile)
+-- R allows the command of this name: now, if nothing is begun, or else at the begin that told of it (profile)
 abbrev pub IsChosen : (Trace → Name → Type 0) → List Call → Name → Type 0
 IsChosen R so_far n =
     (NothingBegun so_far × R (history so_far) n)

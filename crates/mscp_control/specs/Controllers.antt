@@ -19,8 +19,8 @@ use Rattle.mscp_control.specs.Headline.{Promise}
 use Rattle.mscp_control.specs.Calls.{AtEachCall, AnsweredCalls, Call, HoldsToBegun, IsRightCall, StartsChosen, history}
 
 -- a unit with its state and its head after t (manual, heads are the profile's)
-abbrev pub drive_at : Settings → Trace → Shape → Drive
-drive_at c t u = record { unit = u; online = is_online t u.number; head = head c t u.number }
+abbrev pub drive_now : Settings → Trace → Shape → Drive
+drive_now c t u = record { unit = u; online = is_online t u.number; head = head c t u.number }
 
 -- what is promised of a controller that answered so to these calls, and now holds this
 pub record KeepsPromise {K : Type 0} (picks : List Choice → ℕ → Type 0) (c : Settings)
@@ -48,7 +48,7 @@ pub record KeepsPromise {K : Type 0} (picks : List Choice → ℕ → Type 0) (c
       ≡ figure_of c (history calls) reference
   -- its drives are the units with the states and heads of the history, the way that each head goes too (manual, heads
   -- are the profile's)
-  pub drives : held.drives ≡ map (drive_at c (history calls)) c.units
+  pub drives : held.drives ≡ map (drive_now c (history calls)) c.units
   -- and its balance is that of the history (manual)
   pub balance : balance_of held ≡ balance c (history calls)
 

@@ -1,5 +1,5 @@
 -- Credits, and what becomes of a message.
-use Rattle.std.specs.Prelude.{ℕ, ◌-◌, Bool, true, false, List, ◌++◌, length, map, slice_get, Option, Some, None, option_map, Result, Ok, Err}
+use Rattle.std.specs.Prelude.{ℕ, ◌-◌, if◌then◌else◌, List, ◌++◌, length, map, slice_get, Option, Some, None, option_map, Result, Ok, Err}
 use Rattle.mscp_packet.specs.declared.command.Command.{Command}
 use Rattle.mscp_packet.specs.Commands.{command_of}
 use Rattle.mscp_control.specs.declared.event.SendFault.{SendFault}
@@ -24,20 +24,17 @@ outstanding c t = map (name t) (waiting t) ++ map end_name (untaken c t)
 abbrev pub aborted_reference : Settings → Trace → Command → Option ℕ
 aborted_reference c t command = option_map (reference t) (slice_get (aborted c t command) 0)
 
--- what a message that is taken becomes: it is queued, or answered at once (manual)
-abbrev pub becomes_when : Settings → Trace → Command → Bool → Sent
-becomes_when c t command true = Queued command.reference
-becomes_when c t command false = Answered command.reference (aborted_reference c t command)
+-- what a command becomes that isn't refused: queued, or answered at once (manual)
+abbrev pub taken_in : Settings → Trace → Command → Sent
+taken_in c t command =
+    if is_queued c command then Queued command.reference
+    else Answered command.reference (aborted_reference c t command)
 
--- the same (manual)
-abbrev pub becomes : Settings → Trace → Command → Sent
-becomes c t command = becomes_when c t command (is_queued c command)
-
--- what is answered to a message that is refused so, or isn't (manual)
-abbrev pub becomes_unless : Settings → Trace → Command → Option SendFault → Result Sent SendFault
-becomes_unless c t command (Some fault) = Err fault
-becomes_unless c t command None = Ok (becomes c t command)
+-- what is answered to a command: this fault, if there is one (manual)
+abbrev pub taken_unless : Settings → Trace → Command → Option SendFault → Result Sent SendFault
+taken_unless c t command (Some fault) = Err fault
+taken_unless c t command None = Ok (taken_in c t command)
 
 -- what is answered to a message after t (manual)
 unfoldable pub arrival : Settings → Trace → List ℕ → Result Sent SendFault
-arrival c t b = becomes_unless c t (command_of b) (refusal (balance c t) (outstanding c t) b)
+arrival c t b = taken_unless c t (command_of b) (refusal (balance c t) (outstanding c t) b)

@@ -32,8 +32,8 @@ collect seen t = flat_map (λ i. seen (take i t) (moment t i)) (positions t)
 
 -- the last of a list, or else d (profile)
 abbrev pub last_or : {X : Type 0} → List X → X → X
-last_or [] d = d
-last_or (x ∷ xs) d = last_or xs x
+last_or [] default = default
+last_or (x ∷ xs) default = last_or xs x
 
 -- ---- what one moment says
 

@@ -83,9 +83,9 @@ figure_polled c rs (orders.Status other) = figure_of_reference c.passing c.longe
 figure_polled c rs order = 0
 
 -- the waiting command that an order names to be aborted, if there is one (manual)
-abbrev pub aborted : List Record → Order → Option Record
-aborted rs (orders.Abort other) = find (has_reference other) rs
-aborted rs order = None
+abbrev pub record_aborted : List Record → Order → Option Record
+record_aborted rs (orders.Abort other) = find (has_reference other) rs
+record_aborted rs order = None
 
 -- what waits once that command was aborted: the others (manual)
 abbrev pub unaborted : List Record → Order → List Record
@@ -101,21 +101,23 @@ begun_after begun order = begun
 abbrev pub taken_as : {K : Type 0} → Holdings K → Command → Sent
 taken_as h command =
     if is_queued h.settings command then sents.Queued command.reference
-    else sents.Answered command.reference (option_map (λ r. r.command.reference) (aborted h.waiting command.order))
+    else sents.Answered command.reference (option_map (λ r. r.command.reference)
+        (record_aborted h.waiting command.order))
 
--- what is held once a command waits, or an end was made
+-- what is held once this command waits
 abbrev pub queued : {K : Type 0} → Holdings K → Command → Holdings K
 queued h command = record h { waiting = h.waiting ++ fresh_record command ∷ [] }
 
-abbrev pub ended : {K : Type 0} → Holdings K → End → Holdings K
-ended h end = record h { untaken = h.untaken ++ end ∷ [] }
+-- what is held once this end was made
+abbrev pub with_end : {K : Type 0} → Holdings K → End → Holdings K
+with_end h end = record h { untaken = h.untaken ++ end ∷ [] }
 
 -- what is held once the command that an order names was aborted: its end is untaken. A pass that it made isn't given
 -- back (manual, the latter is the profile's)
 abbrev pub aborting : {K : Type 0} → Holdings K → Order → Holdings K
 aborting h order = record h {
   waiting = unaborted h.waiting order;
-  untaken = h.untaken ++ option_to_list (option_map aborted_record (aborted h.waiting order));
+  untaken = h.untaken ++ option_to_list (option_map aborted_record (record_aborted h.waiting order));
   begun = begun_after h.begun order;
 }
 
@@ -129,12 +131,14 @@ answered_end h command =
 abbrev pub arrives : {K : Type 0} → Holdings K → Command → Holdings K
 arrives h command =
     if is_queued h.settings command then queued h command
-    else ended (aborting h command.order) (answered_end h command)
+    else with_end (aborting h command.order) (answered_end h command)
 
+-- what is answered to a command: this fault, if there is one (manual)
 abbrev pub sent_unless : {K : Type 0} → Holdings K → Command → Option SendFault → Result Sent SendFault
 sent_unless h command (Some fault) = Err fault
 sent_unless h command None = Ok (taken_as h command)
 
+-- what is held after it, if it is refused for this fault, or isn't
 abbrev pub held_unless : {K : Type 0} → Holdings K → Command → Option SendFault → Holdings K
 held_unless h command (Some fault) = h
 held_unless h command None = arrives h command

@@ -9,7 +9,7 @@ ghost use Rattle.mscp_queue.specs.Figures.{figure_of_reference, figures};
 ghost use Rattle.mscp_queue.specs.Outcomes.{IsCoded};
 ghost use Rattle.mscp_control.specs.Arrival.{credit_fault, fault_of, holds, is_queued};
 ghost use Rattle.mscp_control.specs.Settings.{IsValid};
-ghost use Rattle.mscp_control.specs.Holdings.{Answers, Finishes, Foretells, IsBalanced, Steps, aborted, aborting, after_message, after_take, answer_to_message, answered_end, arrives, balance_of, end_taken, ended, ends_reported, fresh, outstanding_of, queued, taken_as};
+ghost use Rattle.mscp_control.specs.Holdings.{Answers, Finishes, Foretells, IsBalanced, Steps, record_aborted, aborting, after_message, after_take, answer_to_message, answered_end, arrives, balance_of, end_taken, with_end, ends_reported, fresh, outstanding_of, queued, taken_as};
 
 #[cfg(test)]
 mod tests;
@@ -214,7 +214,7 @@ impl<K: Picker> Controller<K> {
     fn end(&mut self, end: End)
         requires free { 1 ≤ balance_of self.old }
         requires shaped { IsOfKind end }
-        ensures after { self.new ≡ ended self.old end }
+        ensures after { self.new ≡ with_end self.old end }
         ensures account { IsBalanced self.new }
     {
         self.untaken.push(end);
@@ -251,7 +251,7 @@ impl<K: Picker> Controller<K> {
 
     /// Ends the waiting command that the order names to be aborted, if there is one, and tells its reference number.
     fn abort(&mut self, order: &Order) -> Option<u32>
-        ensures reference { result ≡ option_map (λ r. r.command.reference) (aborted self.old.waiting order.now) }
+        ensures reference { result ≡ option_map (λ r. r.command.reference) (record_aborted self.old.waiting order.now) }
         ensures after { self.new ≡ aborting self.old order.now }
         ensures balance { balance_of self.new ≡ balance_of self.old }
     {
@@ -270,9 +270,9 @@ impl<K: Picker> Controller<K> {
         requires free { 1 ≤ balance_of self.old }
         requires coded { IsCoded command.now.order }
         ensures aborted { result
-            ≡ option_map (λ r. r.command.reference) (aborted self.old.waiting command.now.order) }
+            ≡ option_map (λ r. r.command.reference) (record_aborted self.old.waiting command.now.order) }
         ensures after { self.new
-            ≡ ended (aborting self.old command.now.order) (answered_end self.old command.now) }
+            ≡ with_end (aborting self.old command.now.order) (answered_end self.old command.now) }
         ensures account { IsBalanced self.new }
     {
         let own = self.answered_end(command);

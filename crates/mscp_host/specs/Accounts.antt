@@ -1,4 +1,17 @@
 -- What a host keeps, and how each call changes it.
+--
+-- What is said of bytes that are received is the first of these that holds (profile), and beside each stands the
+-- definition that decides it:
+--
+--     Unreadable   the bytes are no end                                          heard_in, end_in
+--     Unknown      no submission of that number is outstanding, or the end
+--                  can't be that of this one                                     heard_of, may_end
+--     Ended        the end answers no poll                                       news_with, answered
+--     Late         it answers the poll of a command whose end was received       news_with, polled_is_outstanding
+--     Reset        the figure is no lower than the last of this command          news_of_figure
+--     Lost         the figure is 0                                               news_of_figure
+--     First        the command's first figure                                    news_of_figure
+--     Progress     a figure that fell                                            news_of_figure
 use Rattle.std.specs.Prelude.{ℕ, ◌+◌, ◌-◌, Bool, true, false, not, ◌&&◌, ◌||◌, nat_eq, nat_lt, nat_le, if◌then◌else◌, List, [], ◌∷◌, ◌++◌, length, find, slice_index, Option, Some, None, is_some, Result, Ok, Err}
 use Rattle.std.specs.List.{list_any}
 use Rattle.arrayvec.specs.ArrayVec.{ArrayVec}
@@ -43,7 +56,12 @@ has_reference reference s = nat_eq s.reference reference
 
 -- the submission of a command, of which nothing was told yet
 abbrev pub submission_of : Command → Submission
-submission_of c = record { reference = c.reference; unit = c.unit; opcode = opcode_byte c.order; told = None }
+submission_of command = record {
+  reference = command.reference;
+  unit = command.unit;
+  opcode = opcode_byte command.order;
+  told = None;
+}
 
 -- the credits that are free (manual, "Flow Control")
 abbrev pub balance : Account → ℕ
@@ -59,16 +77,16 @@ refusal a opcode reference =
 
 -- what is kept once a command was sent: it is outstanding, behind the others
 abbrev pub submitted : Account → Command → Account
-submitted a c = record a { outstanding = a.outstanding ++ submission_of c ∷ [] }
+submitted a command = record a { outstanding = a.outstanding ++ submission_of command ∷ [] }
 
 -- what is answered to a submission, and what is kept then: the message, or why not, and then nothing changes
 abbrev pub submits_unless : Account → Command → Option HostFault → Result (ArrayVec ℕ) HostFault × Account
-submits_unless a c (Some fault) = (Err fault, a)
-submits_unless a c None = (Ok (record { items = command_bytes c }), submitted a c)
+submits_unless a command (Some fault) = (Err fault, a)
+submits_unless a command None = (Ok (record { items = command_bytes command }), submitted a command)
 
 -- what is answered where a command is to be sent, and what is kept then
 abbrev pub submits : Account → Command → Result (ArrayVec ℕ) HostFault × Account
-submits a c = submits_unless a c (refusal a (opcode_byte c.order) c.reference)
+submits a command = submits_unless a command (refusal a (opcode_byte command.order) command.reference)
 
 -- ---- a poll
 

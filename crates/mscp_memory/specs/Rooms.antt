@@ -17,9 +17,9 @@ abbrev pub align_of : RattleType → ℕ
 align_of T = machine.align (layout T)
 
 -- what is owned: by the first formula where the test is true, and otherwise by the second
-abbrev pub one_of : Bool → Fml → Fml → Fml
-one_of true F G = F
-one_of false F G = G
+abbrev pub if_fml : Bool → Fml → Fml → Fml
+if_fml true F G = F
+if_fml false F G = G
 
 -- why nothing of this size and alignment fits in so many bytes from this address on, if it doesn't
 abbrev pub place_fault : ℕ → ℕ → ℕ → ℕ → Option RoomFault

@@ -6,28 +6,28 @@ use Rattle.mscp_packet.specs.declared.class.Opcode.{Opcode}
 use Rattle.mscp_packet.specs.declared.class.Opcode.TheVariants as codes
 use Rattle.mscp_packet.specs.declared.command.Order.{Order}
 use Rattle.mscp_packet.specs.declared.command.Order.TheVariants as orders
-use Rattle.mscp_packet.specs.Opcodes.{least, line_of, opcode_of, opcodes}
+use Rattle.mscp_packet.specs.Opcodes.{least, row_of, opcode_of, opcodes}
 use Rattle.mscp_packet.specs.Commands.{opcode_byte, order_with, parameters}
 use Rattle.mscp_packet.specs.Statuses.{invalid_length}
 
 -- what is found of a byte has that byte
-found_byte : (os : List Opcode) (byte : ℕ) (o : Opcode) → find (λ x. nat_eq (line_of x).byte byte) os ≡ Some o
-    → (line_of o).byte ≡ byte
+found_byte : (os : List Opcode) (byte : ℕ) (o : Opcode) → find (λ x. nat_eq (row_of x).byte byte) os ≡ Some o
+    → (row_of o).byte ≡ byte
 found_byte [] byte o h = absurd (false≢true (ap is_some h))
 found_byte (x ∷ xs) byte o h =
-    let rest = find (λ (y : Opcode). nat_eq (line_of y).byte byte) xs in
-    let both : (b : Bool) → nat_eq (line_of x).byte byte ≡ b → cond b (Some x) rest ≡ Some o → (line_of o).byte ≡ byte =
-    λ b. elim b as (λ b. nat_eq (line_of x).byte byte ≡ b → cond b (Some x) rest ≡ Some o → (line_of o).byte ≡ byte) [
-      | true ↦ λ e q. ap (λ f. (line_of (unwrap_or f o)).byte) (sym q) ∙ eqb-true (line_of x).byte byte e
+    let rest = find (λ (y : Opcode). nat_eq (row_of y).byte byte) xs in
+    let both : (b : Bool) → nat_eq (row_of x).byte byte ≡ b → cond b (Some x) rest ≡ Some o → (row_of o).byte ≡ byte =
+    λ b. elim b as (λ b. nat_eq (row_of x).byte byte ≡ b → cond b (Some x) rest ≡ Some o → (row_of o).byte ≡ byte) [
+      | true ↦ λ e q. ap (λ f. (row_of (unwrap_or f o)).byte) (sym q) ∙ eqb-true (row_of x).byte byte e
       | false ↦ λ e q. found_byte xs byte o q
     ] in
-    both (nat_eq (line_of x).byte byte) refl h
+    both (nat_eq (row_of x).byte byte) refl h
 
-parameter_byte : (o : Opcode) (b : List ℕ) → opcode_byte (parameters o b) ≡ (line_of o).byte
+parameter_byte : (o : Opcode) (b : List ℕ) → opcode_byte (parameters o b) ≡ (row_of o).byte
 parameter_byte (codes.Move kind) b = refl
 parameter_byte o b = refl
 
-order_byte : (found : Option Opcode) (b : List ℕ) → ((o : Opcode) → found ≡ Some o → (line_of o).byte ≡ slice_index b 8)
+order_byte : (found : Option Opcode) (b : List ℕ) → ((o : Opcode) → found ≡ Some o → (row_of o).byte ≡ slice_index b 8)
     → opcode_byte (order_with found b) ≡ slice_index b 8
 order_byte None b h = refl
 order_byte (Some o) b h =

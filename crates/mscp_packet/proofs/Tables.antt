@@ -1,7 +1,7 @@
 -- The tables, line by line.
 use Rattle.std.proofs.Common.{◌≡◌, ◌+◌, ◌<◌, ◌≤◌, refl, arith}
 use Rattle.std.specs.Prelude.{Some}
-use Rattle.mscp_packet.specs.Opcodes.{opcode_of, line_of}
+use Rattle.mscp_packet.specs.Opcodes.{opcode_of, row_of}
 use Rattle.mscp_packet.proofs.Ends.{length_span}
 use Rattle.mscp_packet.specs.Ends.{kind_of_code}
 use Rattle.mscp_packet.specs.Table.{IsSound}
@@ -11,12 +11,12 @@ use Rattle.mscp_packet.specs.declared.command.MoveKind.TheVariants as moves
 
 -- what the tables owe for one opcode
 record Line (o : Opcode) : Type 0 where
-  byte : opcode_of (line_of o).byte ≡ Some o
-  low : (line_of o).byte < 0x80
-  code : kind_of_code ((line_of o).byte + 0x80) ≡ Some (line_of o).body
-  least : 12 ≤ (line_of o).least_length
-  enough : (line_of o).least_length ≤ (line_of o).written_length
-  room : (line_of o).written_length ≤ 48
+  byte : opcode_of (row_of o).byte ≡ Some o
+  low : (row_of o).byte < 0x80
+  code : kind_of_code ((row_of o).byte + 0x80) ≡ Some (row_of o).body
+  least : 12 ≤ (row_of o).least_length
+  enough : (row_of o).least_length ≤ (row_of o).written_length
+  room : (row_of o).written_length ≤ 48
 
 line : (o : Opcode) → Line o
 line (codes.Move moves.Access) =

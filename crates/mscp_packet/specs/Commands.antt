@@ -5,7 +5,7 @@ use Rattle.byteorder.specs.Endian.{little_bytes}
 use Rattle.mscp_packet.specs.Number.{num}
 use Rattle.mscp_packet.specs.Places.{Field, field}
 use Rattle.mscp_packet.specs.Statuses.{invalid_length, invalid_opcode}
-use Rattle.mscp_packet.specs.Opcodes.{least, opcode_of, line_of}
+use Rattle.mscp_packet.specs.Opcodes.{least, opcode_of, row_of}
 use Rattle.mscp_packet.specs.declared.class.Opcode.{Opcode}
 use Rattle.mscp_packet.specs.declared.class.Opcode.TheVariants as codes
 use Rattle.mscp_packet.specs.declared.command.Order.{Order}
@@ -61,14 +61,14 @@ order_opcode (orders.Invalid byte status) = None
 
 -- the opcode byte that an order is written with (manual)
 abbrev pub opcode_byte : Order → ℕ
-opcode_byte (orders.Abort other) = (line_of codes.Abort).byte
-opcode_byte (orders.Status other) = (line_of codes.Status).byte
-opcode_byte orders.UnitStatus = (line_of codes.UnitStatus).byte
-opcode_byte (orders.SetController version) = (line_of codes.SetController).byte
-opcode_byte orders.Available = (line_of codes.Available).byte
-opcode_byte orders.Online = (line_of codes.Online).byte
-opcode_byte orders.SetUnit = (line_of codes.SetUnit).byte
-opcode_byte (orders.Move kind count block) = (line_of (codes.Move kind)).byte
+opcode_byte (orders.Abort other) = (row_of codes.Abort).byte
+opcode_byte (orders.Status other) = (row_of codes.Status).byte
+opcode_byte orders.UnitStatus = (row_of codes.UnitStatus).byte
+opcode_byte (orders.SetController version) = (row_of codes.SetController).byte
+opcode_byte orders.Available = (row_of codes.Available).byte
+opcode_byte orders.Online = (row_of codes.Online).byte
+opcode_byte orders.SetUnit = (row_of codes.SetUnit).byte
+opcode_byte (orders.Move kind count block) = (row_of (codes.Move kind)).byte
 opcode_byte (orders.Invalid byte status) = byte
 
 -- what is written from byte 12 on (manual, "Command Messages"). The controller flags and the host timeout of SET
@@ -93,7 +93,7 @@ command_bytes command =
 -- how many bytes are written: those of the table, or 12 of what is no valid command (profile)
 abbrev pub written_with : Option Opcode → ℕ
 written_with None = 12
-written_with (Some o) = (line_of o).written_length
+written_with (Some o) = (row_of o).written_length
 
 abbrev pub written : Order → ℕ
 written order = written_with (order_opcode order)

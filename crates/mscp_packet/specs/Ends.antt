@@ -5,7 +5,7 @@ use Rattle.std.specs.Option.{option_map}
 use Rattle.byteorder.specs.Endian.{little_bytes}
 use Rattle.mscp_packet.specs.Number.{num}
 use Rattle.mscp_packet.specs.Places.{Field, field}
-use Rattle.mscp_packet.specs.Opcodes.{line_of, opcodes}
+use Rattle.mscp_packet.specs.Opcodes.{row_of, opcodes}
 use Rattle.mscp_packet.specs.declared.end.EndBody.{EndBody}
 use Rattle.mscp_packet.specs.declared.end.EndBody.TheVariants as bodies
 use Rattle.mscp_packet.specs.declared.end.BodyKind.{BodyKind}
@@ -19,7 +19,7 @@ use Rattle.mscp_packet.specs.declared.reading.EndFault.TheVariants as faults
 -- each endcode, and the shape of the body that follows it: that of an opcode is its byte with the top bit set (manual,
 -- "End Messages"), and that bit alone is the endcode of an unknown opcode (profile)
 abbrev pub endcodes : List (ℕ × BodyKind)
-endcodes = (0x80, kinds.Bare) ∷ map (λ o. ((line_of o).byte + 0x80, (line_of o).body)) opcodes
+endcodes = (0x80, kinds.Bare) ∷ map (λ o. ((row_of o).byte + 0x80, (row_of o).body)) opcodes
 
 -- the shape of the body that follows an endcode. No other byte is one
 abbrev pub kind_of_code : ℕ → Option BodyKind

@@ -11,15 +11,15 @@ use Rattle.mscp_packet.specs.declared.end.BodyKind.TheVariants as kinds
 
 -- what is told of an opcode: its byte, how its commands are scheduled, the fewest bytes that a command of it
 -- has, how many bytes are written of one, and the shape of its end's body
-pub record Line : Type 0 where
+pub record OpcodeRow : Type 0 where
   pub byte : ℕ
   pub scheduled : Class
   pub least_length : ℕ
   pub written_length : ℕ
   pub body : BodyKind
 
-abbrev pub line : ℕ → Class → ℕ → ℕ → BodyKind → Line
-line byte scheduled least written body =
+abbrev pub opcode_row : ℕ → Class → ℕ → ℕ → BodyKind → OpcodeRow
+opcode_row byte scheduled least written body =
     record { byte = byte; scheduled = scheduled; least_length = least; written_length = written; body = body }
 
 -- the bytes of the five transfers (manual)
@@ -32,15 +32,15 @@ move_byte moves.Write = 34  -- WRITE
 
 -- the table: byte, class, least length, written length and body (manual, "Command Categories and Execution
 -- Order" and "End Messages"; the lengths are the profile's)
-abbrev pub line_of : Opcode → Line
-line_of codes.Abort = line 1 Immediate 16 16 kinds.Abort  -- ABORT
-line_of codes.Status = line 2 Immediate 16 16 kinds.Status  -- GET COMMAND STATUS
-line_of codes.UnitStatus = line 3 Immediate 12 12 kinds.UnitStatus  -- GET UNIT STATUS
-line_of codes.SetController = line 4 Immediate 14 18 kinds.Controller  -- SET CONTROLLER CHARACTERISTICS
-line_of codes.Available = line 8 Sequential 12 12 kinds.Bare  -- AVAILABLE
-line_of codes.Online = line 9 Sequential 12 12 kinds.Online  -- ONLINE
-line_of codes.SetUnit = line 10 Sequential 12 12 kinds.Online  -- SET UNIT CHARACTERISTICS
-line_of (codes.Move kind) = line (move_byte kind) Free 32 32 kinds.Moved  -- the five transfers
+abbrev pub row_of : Opcode → OpcodeRow
+row_of codes.Abort = opcode_row 1 Immediate 16 16 kinds.Abort  -- ABORT
+row_of codes.Status = opcode_row 2 Immediate 16 16 kinds.Status  -- GET COMMAND STATUS
+row_of codes.UnitStatus = opcode_row 3 Immediate 12 12 kinds.UnitStatus  -- GET UNIT STATUS
+row_of codes.SetController = opcode_row 4 Immediate 14 18 kinds.Controller  -- SET CONTROLLER CHARACTERISTICS
+row_of codes.Available = opcode_row 8 Sequential 12 12 kinds.Bare  -- AVAILABLE
+row_of codes.Online = opcode_row 9 Sequential 12 12 kinds.Online  -- ONLINE
+row_of codes.SetUnit = opcode_row 10 Sequential 12 12 kinds.Online  -- SET UNIT CHARACTERISTICS
+row_of (codes.Move kind) = opcode_row (move_byte kind) Free 32 32 kinds.Moved  -- the five transfers
 
 -- ---- read off the table
 
@@ -63,16 +63,16 @@ opcodes =
 
 -- the opcode of a byte. No other byte is one
 abbrev pub opcode_of : ℕ → Option Opcode
-opcode_of byte = find (λ o. nat_eq (line_of o).byte byte) opcodes
+opcode_of byte = find (λ o. nat_eq (row_of o).byte byte) opcodes
 
 -- the fewest bytes that a command of an opcode has, at least 12 (profile)
 abbrev pub least : Opcode → ℕ
-least o = (line_of o).least_length
+least o = (row_of o).least_length
 
 -- how the commands of an opcode are scheduled (manual, "Command Categories and Execution Order")
 abbrev pub class_of_opcode : Option Opcode → Class
 class_of_opcode None = Unknown
-class_of_opcode (Some o) = (line_of o).scheduled
+class_of_opcode (Some o) = (row_of o).scheduled
 
 -- the class of an opcode byte
 abbrev pub class : ℕ → Class

@@ -1,7 +1,7 @@
 // The opcodes. All that is told of one stands in one line of a table, and everything else asks the table.
 
 ghost use Rattle.std.specs.Prelude.{◌≡◌};
-ghost use Rattle.mscp_packet.specs.Opcodes.{class, is_immediate_class, line_of, opcode_of};
+ghost use Rattle.mscp_packet.specs.Opcodes.{class, is_immediate_class, row_of, opcode_of};
 
 use crate::command::MoveKind;
 use crate::end::BodyKind;
@@ -87,10 +87,10 @@ impl Opcode {
     /// The table: an opcode's byte, its class, the least length of its commands, and the body of its end (manual,
     /// "Command Categories and Execution Order" and "End Messages"; the lengths are the profile's).
     pub fn line(self) -> Line
-        ensures byte { result.byte ≡ (line_of self).byte }
-        ensures class { result.class ≡ (line_of self).scheduled }
-        ensures least { result.least ≡ (line_of self).least_length }
-        ensures body { result.body ≡ (line_of self).body }
+        ensures byte { result.byte ≡ (row_of self).byte }
+        ensures class { result.class ≡ (row_of self).scheduled }
+        ensures least { result.least ≡ (row_of self).least_length }
+        ensures body { result.body ≡ (row_of self).body }
     {
         match self {
             Opcode::Abort => Line::new(1, Class::Immediate, 16, BodyKind::Abort),

@@ -22,19 +22,19 @@ apart_behind : (A : List ℕ) (x : ℕ) (B : List ℕ) → AreApart (A ++ x ∷ 
 apart_behind [] x B h = h.0
 apart_behind (y ∷ ys) x B h = apart_behind ys x B h.1
 
-others : (reference : ℕ) (rs : List Record) → AllByRecursion (λ y. y ≢ reference) (names rs)
+others : (reference : Name) (rs : List Record) → AllByRecursion (λ y. y ≢ reference) (names rs)
     → AllByRecursion (λ r. has_reference reference r ≡ false) rs
 others reference [] h = tt
 others reference (r ∷ rs) h = (ne_eqb r.command.reference reference h.0, others reference rs h.1)
 
 -- the records where one of them has the reference number
-pub record Cut (reference : ℕ) (rs A : List Record) (r : Record) (B : List Record) : Type 0 where
+pub record Cut (reference : Name) (rs A : List Record) (r : Record) (B : List Record) : Type 0 where
   pub is : rs ≡ A ++ r ∷ B
   pub own : has_reference reference r ≡ true
   pub before : AllByRecursion (λ z. has_reference reference z ≡ false) A
   pub behind : AllByRecursion (λ z. has_reference reference z ≡ false) B
 
-cut_by : (reference : ℕ) (rs A : List Record) (r : Record) (B : List Record) → AreApart (names rs)
+cut_by : (reference : Name) (rs A : List Record) (r : Record) (B : List Record) → AreApart (names rs)
     → Found (has_reference reference) rs A r B → Cut reference rs A r B
 cut_by reference rs A r B apart f =
     let same : names rs ≡ names A ++ r.command.reference ∷ names B =
@@ -48,7 +48,7 @@ cut_by reference rs A r B apart f =
           (apart_behind (names A) r.command.reference (names B) (subst AreApart same apart)));
     }
 
-without_cut : (reference : ℕ) (rs A : List Record) (r : Record) (B : List Record) → Cut reference rs A r B
+without_cut : (reference : Name) (rs A : List Record) (r : Record) (B : List Record) → Cut reference rs A r B
     → without reference rs ≡ A ++ B
 without_cut reference rs A r B k =
     let keep : Record → Bool = λ z. not (has_reference reference z) in
@@ -63,13 +63,13 @@ without_cut reference rs A r B k =
 -- ---- the one that is found
 
 -- what is taken out where a record is found at a place
-pub record Aborts (reference : ℕ) (rs : List Record) (place : ℕ) : Type 0 where
+pub record Aborts (reference : Name) (rs : List Record) (place : ℕ) : Type 0 where
   pub inside : place < length rs
   pub found : find (has_reference reference) rs ≡ Some (record_at rs place)
   pub left : remove rs place ≡ without reference rs
   pub count : length (without reference rs) + 1 ≡ length rs
 
-pub aborts_at : (reference : ℕ) (rs : List Record) (place : ℕ) → AreApart (names rs)
+pub aborts_at : (reference : Name) (rs : List Record) (place : ℕ) → AreApart (names rs)
     → position (has_reference reference) rs ≡ Some place → Aborts reference rs place
 aborts_at reference rs place apart h =
     ⊎_elim
@@ -95,11 +95,11 @@ aborts_at reference rs place apart h =
     (find_cases (has_reference reference) rs)
 
 -- nothing is taken out where none is found
-pub record AbortsNone (reference : ℕ) (rs : List Record) : Type 0 where
+pub record AbortsNone (reference : Name) (rs : List Record) : Type 0 where
   pub found : find (has_reference reference) rs ≡ None
   pub left : without reference rs ≡ rs
 
-pub aborts_none : (reference : ℕ) (rs : List Record) → position (has_reference reference) rs ≡ None
+pub aborts_none : (reference : Name) (rs : List Record) → position (has_reference reference) rs ≡ None
     → AbortsNone reference rs
 aborts_none reference rs h =
     ⊎_elim
@@ -115,7 +115,7 @@ aborts_none reference rs h =
     (find_cases (has_reference reference) rs)
 
 -- the records that have the reference number are the one that is found
-pub found_once : (reference : ℕ) (rs : List Record) → AreApart (names rs)
+pub found_once : (reference : Name) (rs : List Record) → AreApart (names rs)
     → filter (has_reference reference) rs ≡ option_to_list (find (has_reference reference) rs)
 found_once reference rs apart =
     let p = has_reference reference in
@@ -131,7 +131,7 @@ found_once reference rs apart =
     (find_cases p rs)
 
 -- and it is counted out
-pub counted_without : (reference : ℕ) (rs new : List Record) (r : Record) (n k : ℕ) → AreApart (names rs)
+pub counted_without : (reference : Name) (rs new : List Record) (r : Record) (n k : ℕ) → AreApart (names rs)
     → Some r ≡ find (has_reference reference) rs → new ≡ without reference rs
     → n ≡ sequential_count rs → k ≡ one_if r → IsCountedOut n k new
 counted_without reference rs new r n k apart h is counted e =
@@ -196,7 +196,8 @@ fewer_of {X} p q (x ∷ xs) =
         [ true ↦ both true (p x) | false ↦ both false (p x) ] in
     split (q x)
 
-pub held_aborted : (room passing longest reference : ℕ) (rs new : List Record) (ds : List Drive) (begun : Option Name)
+pub held_aborted : (room passing longest : ℕ) (reference : Name) (rs new : List Record) (ds : List Drive)
+    (begun : Option Name)
     (serving b : Bool) → is_begun reference begun ≡ b → IsHeld room passing longest rs ds begun serving
     → new ≡ without reference rs
     → IsHeld room passing longest new ds (if b then None else begun) serving
@@ -225,7 +226,7 @@ held_aborted room passing longest reference rs new ds begun serving b was h e =
         (subst (λ zs. IsHeld room passing longest zs ds left serving) (sym e) all)
 
 -- where nothing is aborted, what was begun stays
-pub none_aborted : (passing reference : ℕ) (rs : List Record) (begun : Option Name)
+pub none_aborted : (passing : ℕ) (reference : Name) (rs : List Record) (begun : Option Name)
     → ((name : Name) → begun ≡ Some name → IsStillServable passing rs name) → find (has_reference reference) rs ≡ None
     → begun ≡ begun_without reference begun
 none_aborted passing reference rs None s h = refl

@@ -94,7 +94,7 @@ open_left passing r keep front h =
     ap (λ q. q && is_affordable passing r (filter keep front)) (all_left (λ z. not (fences r z)) keep front b.0)
         ∙ all_left (λ z. nat_le (z.passes + toll r) passing) keep front b.1
 
-pub still_aborted : (passing reference : ℕ) (rs : List Record) (name : Name) → nat_eq name reference ≡ false
+pub still_aborted : (passing : ℕ) (reference : Name) (rs : List Record) (name : Name) → nat_eq name reference ≡ false
     → IsStillServable passing rs name → IsStillServable passing (without reference rs) name
 still_aborted passing reference rs name other s =
     let place = s.0 in
@@ -114,7 +114,7 @@ still_aborted passing reference rs name other s =
     })
 
 -- what is begun after an abort was begun before, and isn't what was aborted
-pub still_begun : (reference : ℕ) (begun : Option Name) (name : Name) → begun_without reference begun ≡ Some name
+pub still_begun : (reference : Name) (begun : Option Name) (name : Name) → begun_without reference begun ≡ Some name
     → (begun ≡ Some name) × (nat_eq name reference ≡ false)
 still_begun reference None name e = absurd (false≢true (ap is_some e))
 still_begun reference (Some x) name e =

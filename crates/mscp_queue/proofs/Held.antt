@@ -96,7 +96,7 @@ or_parts : (a b : Bool) → (a || b) ≡ false → (a ≡ false) × (b ≡ false
 or_parts true b h = absurd (true≢false h)
 or_parts false b h = (refl, h)
 
-none_has : (reference : ℕ) (rs : List Record) → list_any (has_reference reference) rs ≡ false
+none_has : (reference : Name) (rs : List Record) → list_any (has_reference reference) rs ≡ false
     → AllByRecursion (λ y. reference ≢ y) (names rs)
 none_has reference [] h = tt
 none_has reference (r ∷ rs) h =

@@ -20,6 +20,7 @@ use Rattle.mscp_queue.specs.Orders.{endcode, is_move, is_sequential}
 use Rattle.mscp_queue.specs.Outcomes.{IsCoded, aborted_end, goes_on, is_success, moved_body, online_body, outcome_at, outcome_body}
 use Rattle.mscp_queue.specs.Records.{Record, aborted_record, has_reference, left_of}
 use Rattle.mscp_queue.specs.Serving.{end_given}
+use Rattle.mscp_queue.specs.Names.{Name}
 use Rattle.mscp_queue.proofs.Lists.{every_weaker}
 
 -- what is sequential or a transfer has an endcode
@@ -91,7 +92,7 @@ given_kind k d r h =
       | false ↦ ended_kind d.unit d.online r.command r.good k (waitable_coded r.command.order h)
     ]
 
-found_kind : (reference : ℕ) (rs : List Record) → AllByRecursion
+found_kind : (reference : Name) (rs : List Record) → AllByRecursion
     (λ r. (is_sequential r.command.order || is_move r.command.order) ≡ true) rs
     → IfSome (option_map aborted_record (find (has_reference reference) rs)) IsOfKind
 found_kind reference [] h = tt
@@ -103,7 +104,7 @@ found_kind reference (r ∷ rs) h =
     ]
 
 -- an abort of what waits gives it an end of its kind
-pub aborts_kind : (passing longest reference : ℕ) (units : List Shape) (rs : List Record)
+pub aborts_kind : (passing longest : ℕ) (reference : Name) (units : List Shape) (rs : List Record)
     → All (IsKept passing longest units) rs → IfSome (option_map aborted_record (find (has_reference reference) rs))
     IsOfKind
 aborts_kind passing longest reference units rs h =

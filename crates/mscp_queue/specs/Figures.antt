@@ -2,6 +2,7 @@
 use Rattle.std.specs.Prelude.{ℕ, ◌+◌, ◌-◌, ◌*◌, if◌then◌else◌, List, length, map, take, drop, filter, sum_by, Option, Some, None}
 use Rattle.std.specs.List.{position, range_with_len}
 use Rattle.mscp_queue.specs.Records.{Record, has_reference, is_in_service, left_of, record_at}
+use Rattle.mscp_queue.specs.Names.{Name}
 
 -- the figure of a record between those before it and those after it, under a passing limit and a longest transfer. In
 -- service it is what is left of the command alone. Else it is also what is left of all before it and of a later one in
@@ -21,15 +22,15 @@ figure_at_place passing longest rs None = 0
 figure_at_place passing longest rs (Some place) = figure_at passing longest rs place
 
 -- the figure of the waiting command of a reference number, 0 if there is none (profile)
-abbrev pub figure_of_reference : ℕ → ℕ → List Record → ℕ → ℕ
+abbrev pub figure_of_reference : ℕ → ℕ → List Record → Name → ℕ
 figure_of_reference passing longest rs reference =
     figure_at_place passing longest rs (position (has_reference reference) rs)
 
 -- the reference numbers and the figures of the records at these places
-abbrev pub figures_from : ℕ → ℕ → List Record → List ℕ → List (ℕ × ℕ)
+abbrev pub figures_from : ℕ → ℕ → List Record → List ℕ → List (Name × ℕ)
 figures_from passing longest rs places =
     map (λ place. ((record_at rs place).command.reference, figure_at passing longest rs place)) places
 
 -- the reference number and the figure of each waiting command, in order of arrival (profile)
-abbrev pub figures : ℕ → ℕ → List Record → List (ℕ × ℕ)
+abbrev pub figures : ℕ → ℕ → List Record → List (Name × ℕ)
 figures passing longest rs = figures_from passing longest rs (range_with_len 0 (length rs))

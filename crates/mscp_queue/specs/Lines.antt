@@ -61,7 +61,7 @@ Begins picks old None new = (old.waiting ≡ []) × (old.begun ≡ None) × (new
 Begins picks old (Some upcoming) new = (place : ℕ) × BeginsAt picks old upcoming new place
 
 -- a queue once the command of this reference number was aborted: it is begun no more
-abbrev pub aborting : {K : Type 0} → ℕ → Line K → Line K
+abbrev pub aborting : {K : Type 0} → Name → Line K → Line K
 aborting reference line = record line {
   waiting = without reference line.waiting;
   begun = begun_without reference line.begun;

@@ -5,7 +5,7 @@ use Rattle.mscp_packet.specs.declared.command.Order.TheVariants as orders
 use Rattle.mscp_packet.specs.declared.end.End.{End}
 use Rattle.mscp_queue.specs.declared.drive.Drive.{Drive}
 use Rattle.mscp_queue.specs.Drives.{drive_of}
-use Rattle.mscp_queue.specs.Names.{name_of, same_name}
+use Rattle.mscp_queue.specs.Names.{Name, name_of, same_name}
 use Rattle.mscp_queue.specs.Orders.{order_weight}
 use Rattle.mscp_queue.specs.Outcomes.{aborted_end}
 
@@ -38,7 +38,7 @@ abbrev pub record_at : List Record → ℕ → Record
 record_at rs place = slice_index_or rs place no_record
 
 -- the record is of the command of this reference number
-abbrev pub has_reference : ℕ → Record → Bool
+abbrev pub has_reference : Name → Record → Bool
 has_reference reference r = same_name (name_of r.command) reference
 
 -- the drive of the record at a place
@@ -46,7 +46,7 @@ abbrev pub drive_at : List Drive → List Record → ℕ → Drive
 drive_at ds rs place = drive_of ds (record_at rs place).command.unit
 
 -- the records without that of the command of this reference number
-abbrev pub without : ℕ → List Record → List Record
+abbrev pub without : Name → List Record → List Record
 without reference rs = filter (λ r. not (has_reference reference r)) rs
 
 -- the end of a record's command that is aborted, which counts the bytes of its good blocks (manual)

@@ -78,12 +78,12 @@ pub record IsServable (passing : ℕ) (rs : List Record) (place : ℕ) : Type 0 
   pub opens : is_unstarted (record_at rs place) ≡ true → is_open_at passing rs place ≡ true
 
 -- the command of this reference number was begun (profile)
-abbrev pub is_begun : ℕ → Option Name → Bool
+abbrev pub is_begun : Name → Option Name → Bool
 is_begun reference None = false
 is_begun reference (Some name) = same_name name reference
 
 -- what is begun without the command of this reference number: nothing, where it was that (profile)
-abbrev pub begun_without : ℕ → Option Name → Option Name
+abbrev pub begun_without : Name → Option Name → Option Name
 begun_without reference begun = if is_begun reference begun then None else begun
 
 -- the record at a place may be served next: it may be served, and it is what was begun, or where nothing was, it is in

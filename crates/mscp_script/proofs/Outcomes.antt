@@ -11,7 +11,7 @@ use Rattle.mscp_script.specs.declared.script.fault.ReadFault.TheVariants as faul
 use Rattle.mscp_control.specs.Settings.{Settings}
 use Rattle.mscp_control.specs.declared.event.Event.{Event}
 use Rattle.mscp_script.specs.Grammar.{Place, next_unless_skipped, Begins, HasCredits, HasPassing, HasLongest, HasTimeout, HasUnits, HasGone, IsInHeader, said_at, next, after_line, limits, first_units, unit_or_go}
-use Rattle.mscp_script.specs.Outcome.{Fails, Sets, Leads, in_line, outcome, onward, ended}
+use Rattle.mscp_script.specs.Outcome.{Fails, Sets, Leads, in_line, lines_outcome, onward, all_read}
 
 from_ok : {A : Type 0} (n : ℕ) (r : Result A Cause) (x : A) → in_line n r ≡ Ok x → r ≡ Ok x
 from_ok n (Ok y) x e = cc
@@ -20,36 +20,37 @@ from_ok n (Err cause) x e = cc
 -- a line that says nothing
 pub skips : (n : ℕ) (line : List ℕ) (rest : List (List ℕ)) (words : List (List ℕ))
     → in_line (n + 1) (said_at (n + 1) line) ≡ Ok words → words ≡ [] → (p : Place)
-    → outcome n p (line ∷ rest) ≡ outcome (n + 1) p rest
-unfolding outcome after_line
+    → lines_outcome n p (line ∷ rest) ≡ lines_outcome (n + 1) p rest
+unfolding lines_outcome after_line
 skips n line rest words e none p = rw (from_ok (n + 1) (said_at (n + 1) line) words e, none) refl
 
 -- a line that says something
 pub speaks : (n : ℕ) (line : List ℕ) (rest : List (List ℕ)) (words : List (List ℕ))
     → in_line (n + 1) (said_at (n + 1) line) ≡ Ok words → ¬ (words ≡ []) → (p : Place)
-    → outcome n p (line ∷ rest) ≡ onward (n + 1) p words rest
-unfolding outcome after_line onward
+    → lines_outcome n p (line ∷ rest) ≡ onward (n + 1) p words rest
+unfolding lines_outcome after_line onward
 speaks n line rest [] e some p = absurd (some refl)
 speaks n line rest (w ∷ fields) e some p = rw (from_ok (n + 1) (said_at (n + 1) line) (w ∷ fields) e) refl
 
 wrong_step : (n : ℕ) (p : Place) (rest : List (List ℕ)) (r : Result (List (List ℕ)) Cause) (fault : ScriptFault)
     → in_line n r ≡ Err fault
-    → (in_line n (r >>= next_unless_skipped p) >>= λ after. outcome n after rest) ≡ Err fault
+    → (in_line n (r >>= next_unless_skipped p) >>= λ after. lines_outcome n after rest) ≡ Err fault
 wrong_step n p rest (Ok words) fault e = cc
 wrong_step n p rest (Err cause) fault e = let made : ScriptFault = record { line = n; cause = cause } in
     let q : made ≡ fault = cc in ap Err q
 
 -- a line that is wrong by itself
 pub wrong : (n : ℕ) (line : List ℕ) (rest : List (List ℕ)) (fault : ScriptFault)
-    → in_line (n + 1) (said_at (n + 1) line) ≡ Err fault → (p : Place) → outcome n p (line ∷ rest) ≡ Err fault
-unfolding outcome after_line
+    → in_line (n + 1) (said_at (n + 1) line) ≡ Err fault → (p : Place) → lines_outcome n p (line ∷ rest) ≡ Err fault
+unfolding lines_outcome after_line
 wrong n line rest fault e p = wrong_step (n + 1) p rest (said_at (n + 1) line) fault e
 
-pub at_end : (n : ℕ) (p : Place) → outcome n p [] ≡ ended n p
-unfolding outcome
+pub at_end : (n : ℕ) (p : Place) → lines_outcome n p [] ≡ all_read n p
+unfolding lines_outcome
 at_end n p = refl
 
-pub ended_early : (n : ℕ) (p : Place) → IsInHeader p → ended n p ≡ Err (record { line = n + 1; cause = causes.Header })
+pub ended_early : (n : ℕ) (p : Place) → IsInHeader p
+    → all_read n p ≡ Err (record { line = n + 1; cause = causes.Header })
 ended_early n Begins h = refl
 ended_early n (HasCredits credits) h = refl
 ended_early n (HasPassing credits passing) h = refl
@@ -61,7 +62,7 @@ ended_early n (HasGone settings events) h = absurd h
 -- ---- a line that says something
 
 pub onward_ok : (n : ℕ) (p q : Place) (words rest : List (List ℕ)) → in_line n (next p words) ≡ Ok q
-    → onward n p words rest ≡ outcome n q rest
+    → onward n p words rest ≡ lines_outcome n q rest
 unfolding onward
 onward_ok n p q words rest e = rw e refl
 

@@ -15,7 +15,7 @@ use Rattle.mscp_script.specs.Lexical.{is_comment, is_digit, is_numeral, is_print
 use Rattle.mscp_script.specs.Plain.{plain_request, Asks, Cuts, CutsWord, Ends, IsApart, IsNumeral, IsPlain, is_letter}
 use Rattle.mscp_script.specs.Requests.{asked, events_of, form_of, request, sent}
 use Rattle.mscp_script.specs.Grammar.{HasGone, Place, next, said_at}
-use Rattle.mscp_script.specs.Outcome.{in_line, onward, outcome, rest_outcome}
+use Rattle.mscp_script.specs.Outcome.{in_line, onward, lines_outcome, rest_outcome}
 use Rattle.mscp_script.specs.declared.script.events.Form.{Form}
 use Rattle.mscp_script.specs.declared.script.events.Form.TheVariants as forms
 use Rattle.mscp_script.specs.declared.script.events.Request.{Request}
@@ -288,7 +288,7 @@ pub plain_onward : (n : ℕ) (bytes behind : List ℕ) (what : Request) (r : IsP
     → (p : Place) → rest_outcome n p bytes ≡ onward (n + 1) p (words r.line) (lines behind)
 plain_onward n bytes behind what r few short p =
     ap (λ xs. rest_outcome n p xs) r.whole
-    ∙ ap (outcome n p) (plain_lines r.line behind r.printed)
+    ∙ ap (lines_outcome n p) (plain_lines r.line behind r.printed)
     ∙ speaks n r.line (lines behind) (words r.line) (said_by n r.line few (said_plain r.line short r.said r.printed))
         (some_words _ what r.asks) p
 

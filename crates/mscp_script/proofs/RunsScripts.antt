@@ -16,7 +16,7 @@ use Rattle.mscp_script.specs.declared.script.fault.ScriptFault.{ScriptFault}
 use Rattle.mscp_script.specs.Lexical.{lines, words, said, number, message, status}
 use Rattle.mscp_script.specs.Requests.{form_of, asked, request}
 use Rattle.mscp_script.specs.Grammar.{Place, HasGone, setting, unit_of, more_units, first_units, with_unit, gone, unit_or_go, next, after_line, Reads, IsFault}
-use Rattle.mscp_script.specs.Outcome.{outcome}
+use Rattle.mscp_script.specs.Outcome.{lines_outcome}
 use Rattle.mscp_script.proofs.Sound.{is_read, is_fault}
 use Rattle.hex.specs.Hex.{decode_pairs}
 
@@ -94,7 +94,7 @@ asked_for =
 
 shown_read : Reads (text shown) (settings (shape 0 ∷ [])) asked_for
 unfolding lines words said number message status form_of asked request setting unit_of more_units first_units with_unit
-    gone unit_or_go next after_line outcome decode_pairs
+    gone unit_or_go next after_line lines_outcome decode_pairs
 shown_read = is_read (text shown) (settings (shape 0 ∷ [])) asked_for (lit≤ tt) refl
 
 -- two units
@@ -103,7 +103,7 @@ two = limits_lines ++ codes "unit 0 10 2 1 1000" ∷ codes "unit 7 10 2 1 1000" 
 
 two_read : Reads (text two) (settings (shape 0 ∷ shape 7 ∷ [])) []
 unfolding lines words said number message status form_of asked request setting unit_of more_units first_units with_unit
-    gone unit_or_go next after_line outcome decode_pairs
+    gone unit_or_go next after_line lines_outcome decode_pairs
 two_read = is_read (text two) (settings (shape 0 ∷ shape 7 ∷ [])) [] (lit≤ tt) refl
 
 -- ---- a fault of each cause
@@ -117,7 +117,7 @@ long = header ++ replicate 201 32 ∷ []
 
 long_fault : Faulty long 7 causes.Long
 unfolding lines words said number message status form_of asked request setting unit_of more_units first_units with_unit
-    gone unit_or_go next after_line outcome decode_pairs
+    gone unit_or_go next after_line lines_outcome decode_pairs
 long_fault = is_fault (text long) (at_line 7 causes.Long) (lit≤ tt) refl
 
 -- a tab
@@ -126,7 +126,7 @@ byte = header ++ (9 ∷ codes "take") ∷ []
 
 byte_fault : Faulty byte 7 causes.Byte
 unfolding lines words said number message status form_of asked request setting unit_of more_units first_units with_unit
-    gone unit_or_go next after_line outcome decode_pairs
+    gone unit_or_go next after_line lines_outcome decode_pairs
 byte_fault = is_fault (text byte) (at_line 7 causes.Byte) (lit≤ tt) refl
 
 -- a line of the header that comes again
@@ -135,7 +135,7 @@ again = header ++ codes "credits 4" ∷ []
 
 again_fault : Faulty again 7 causes.Word
 unfolding lines words said number message status form_of asked request setting unit_of more_units first_units with_unit
-    gone unit_or_go next after_line outcome decode_pairs
+    gone unit_or_go next after_line lines_outcome decode_pairs
 again_fault = is_fault (text again) (at_line 7 causes.Word) (lit≤ tt) refl
 
 -- another line of the header than is due
@@ -144,7 +144,7 @@ word_first = codes "passing 0" ∷ []
 
 word_first_fault : Faulty word_first 1 causes.Word
 unfolding lines words said number message status form_of asked request setting unit_of more_units first_units with_unit
-    gone unit_or_go next after_line outcome decode_pairs
+    gone unit_or_go next after_line lines_outcome decode_pairs
 word_first_fault = is_fault (text word_first) (at_line 1 causes.Word) (lit≤ tt) refl
 
 -- spaces before what would be a comment
@@ -153,7 +153,7 @@ word_comment = header ++ codes " # no comment" ∷ []
 
 word_comment_fault : Faulty word_comment 7 causes.Word
 unfolding lines words said number message status form_of asked request setting unit_of more_units first_units with_unit
-    gone unit_or_go next after_line outcome decode_pairs
+    gone unit_or_go next after_line lines_outcome decode_pairs
 word_comment_fault = is_fault (text word_comment) (at_line 7 causes.Word) (lit≤ tt) refl
 
 -- a word too many
@@ -162,7 +162,7 @@ count = header ++ codes "take 1" ∷ []
 
 count_fault : Faulty count 7 causes.Count
 unfolding lines words said number message status form_of asked request setting unit_of more_units first_units with_unit
-    gone unit_or_go next after_line outcome decode_pairs
+    gone unit_or_go next after_line lines_outcome decode_pairs
 count_fault = is_fault (text count) (at_line 7 causes.Count) (lit≤ tt) refl
 
 -- too few words come before a wrong number
@@ -171,7 +171,7 @@ count_first = header ++ codes "read 1 x" ∷ []
 
 count_first_fault : Faulty count_first 7 causes.Count
 unfolding lines words said number message status form_of asked request setting unit_of more_units first_units with_unit
-    gone unit_or_go next after_line outcome decode_pairs
+    gone unit_or_go next after_line lines_outcome decode_pairs
 count_first_fault = is_fault (text count_first) (at_line 7 causes.Count) (lit≤ tt) refl
 
 -- no step
@@ -180,7 +180,7 @@ zero_steps = header ++ codes "step 0" ∷ []
 
 zero_steps_fault : Faulty zero_steps 7 causes.Number
 unfolding lines words said number message status form_of asked request setting unit_of more_units first_units with_unit
-    gone unit_or_go next after_line outcome decode_pairs
+    gone unit_or_go next after_line lines_outcome decode_pairs
 zero_steps_fault = is_fault (text zero_steps) (at_line 7 causes.Number) (lit≤ tt) refl
 
 -- an odd number of digits
@@ -189,7 +189,7 @@ odd_digits = header ++ codes "packet abc" ∷ []
 
 odd_digits_fault : Faulty odd_digits 7 causes.Hex
 unfolding lines words said number message status form_of asked request setting unit_of more_units first_units with_unit
-    gone unit_or_go next after_line outcome decode_pairs
+    gone unit_or_go next after_line lines_outcome decode_pairs
 odd_digits_fault = is_fault (text odd_digits) (at_line 7 causes.Hex) (lit≤ tt) refl
 
 -- too few digits of a status
@@ -198,7 +198,7 @@ hex_four = header ++ codes "bad 0" ∷ []
 
 hex_four_fault : Faulty hex_four 7 causes.Hex
 unfolding lines words said number message status form_of asked request setting unit_of more_units first_units with_unit
-    gone unit_or_go next after_line outcome decode_pairs
+    gone unit_or_go next after_line lines_outcome decode_pairs
 hex_four_fault = is_fault (text hex_four) (at_line 7 causes.Hex) (lit≤ tt) refl
 
 -- code 4
@@ -207,7 +207,7 @@ code_four = header ++ codes "bad 0004" ∷ []
 
 code_four_fault : Faulty code_four 7 causes.Status
 unfolding lines words said number message status form_of asked request setting unit_of more_units first_units with_unit
-    gone unit_or_go next after_line outcome decode_pairs
+    gone unit_or_go next after_line lines_outcome decode_pairs
 code_four_fault = is_fault (text code_four) (at_line 7 causes.Status) (lit≤ tt) refl
 
 -- a size of zero
@@ -216,7 +216,7 @@ no_size = limits_lines ++ codes "unit 0 0 2 1 1000" ∷ []
 
 no_size_fault : Faulty no_size 5 causes.Unit
 unfolding lines words said number message status form_of asked request setting unit_of more_units first_units with_unit
-    gone unit_or_go next after_line outcome decode_pairs
+    gone unit_or_go next after_line lines_outcome decode_pairs
 no_size_fault = is_fault (text no_size) (at_line 5 causes.Unit) (lit≤ tt) refl
 
 -- a number that doesn't rise
@@ -225,7 +225,7 @@ unit_again = limits_lines ++ codes "unit 3 10 2 1 1000" ∷ codes "unit 3 10 2 1
 
 unit_again_fault : Faulty unit_again 6 causes.Unit
 unfolding lines words said number message status form_of asked request setting unit_of more_units first_units with_unit
-    gone unit_or_go next after_line outcome decode_pairs
+    gone unit_or_go next after_line lines_outcome decode_pairs
 unit_again_fault = is_fault (text unit_again) (at_line 6 causes.Unit) (lit≤ tt) refl
 
 -- one credit: at go, before what comes later
@@ -235,7 +235,7 @@ one_credit = codes "credits 1" ∷ codes "passing 0" ∷ codes "longest 8" ∷ c
 
 one_credit_fault : Faulty one_credit 6 causes.Config
 unfolding lines words said number message status form_of asked request setting unit_of more_units first_units with_unit
-    gone unit_or_go next after_line outcome decode_pairs
+    gone unit_or_go next after_line lines_outcome decode_pairs
 one_credit_fault = is_fault (text one_credit) (at_line 6 causes.Config) (lit≤ tt) refl
 
 -- the script ends before go
@@ -244,7 +244,7 @@ no_go = limits_lines ++ [] ∷ []
 
 no_go_fault : Faulty no_go 6 causes.Header
 unfolding lines words said number message status form_of asked request setting unit_of more_units first_units with_unit
-    gone unit_or_go next after_line outcome decode_pairs
+    gone unit_or_go next after_line lines_outcome decode_pairs
 no_go_fault = is_fault (text no_go) (at_line 6 causes.Header) (lit≤ tt) refl
 
 -- line 1,000,001, whatever stands in it

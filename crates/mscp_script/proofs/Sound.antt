@@ -9,11 +9,11 @@ use Rattle.mscp_script.specs.declared.script.fault.Cause.{Cause}
 use Rattle.mscp_script.specs.declared.script.fault.Cause.TheVariants as causes
 use Rattle.mscp_script.specs.declared.script.fault.ScriptFault.{ScriptFault}
 use Rattle.mscp_script.specs.Grammar.{Place, Begins, HasCredits, HasPassing, HasLongest, HasTimeout, HasUnits, HasGone, IsInHeader, after_line, after_lines, Reads, IsFault}
-use Rattle.mscp_script.specs.Outcome.{in_line, outcome, ended}
+use Rattle.mscp_script.specs.Outcome.{in_line, lines_outcome, all_read}
 
 -- ---- read
 
-ended_ok : (n : ℕ) (p : Place) (s : Settings) (es : List Event) → ended n p ≡ Ok (s, es) → p ≡ HasGone s es
+ended_ok : (n : ℕ) (p : Place) (s : Settings) (es : List Event) → all_read n p ≡ Ok (s, es) → p ≡ HasGone s es
 ended_ok n Begins s es e = cc
 ended_ok n (HasCredits credits) s es e = cc
 ended_ok n (HasPassing credits passing) s es e = cc
@@ -24,15 +24,15 @@ ended_ok n (HasGone settings events) s es e = let pair : (settings, events) ≡ 
     ap (λ (x : Settings × List Event). HasGone x.0 x.1) pair
 
 ok_step : (n : ℕ) (rest : List (List ℕ)) (s : Settings) (es : List Event) (r : Result Place Cause)
-    → ((q : Place) → outcome (n + 1) q rest ≡ Ok (s, es) → after_lines (n + 1) q rest ≡ Ok (HasGone s es))
-    → (in_line (n + 1) r >>= λ after. outcome (n + 1) after rest) ≡ Ok (s, es)
+    → ((q : Place) → lines_outcome (n + 1) q rest ≡ Ok (s, es) → after_lines (n + 1) q rest ≡ Ok (HasGone s es))
+    → (in_line (n + 1) r >>= λ after. lines_outcome (n + 1) after rest) ≡ Ok (s, es)
         → (r >>= λ after. after_lines (n + 1) after rest) ≡ Ok (HasGone s es)
 ok_step n rest s es (Ok q) ih e = ih q e
 ok_step n rest s es (Err cause) ih e = cc
 
 pub outcome_ok : (n : ℕ) (p : Place) (all : List (List ℕ)) (s : Settings) (es : List Event)
-    → outcome n p all ≡ Ok (s, es) → after_lines n p all ≡ Ok (HasGone s es)
-unfolding outcome after_lines
+    → lines_outcome n p all ≡ Ok (s, es) → after_lines n p all ≡ Ok (HasGone s es)
+unfolding lines_outcome after_lines
 outcome_ok n p [] s es e = ap Ok (ended_ok n p s es e)
 outcome_ok n p (line ∷ rest) s es e = ok_step n rest s es (after_line n p line) (λ q. outcome_ok (n + 1) q rest s es) e
 
@@ -66,7 +66,7 @@ early : (n : ℕ) (p : Place) (fault : ScriptFault) → IsInHeader p
 unfolding after_lines
 early n p fault h e = let q = made n fault e in record { place = p; right = refl; early = h; cause = q.0; number = q.1 }
 
-ended_err : (n : ℕ) (p : Place) (fault : ScriptFault) → ended n p ≡ Err fault → NoGoFrom n p [] fault
+ended_err : (n : ℕ) (p : Place) (fault : ScriptFault) → all_read n p ≡ Err fault → NoGoFrom n p [] fault
 ended_err n Begins fault e = early n Begins fault tt cc
 ended_err n (HasCredits credits) fault e = early n _ fault tt cc
 ended_err n (HasPassing credits passing) fault e = early n _ fault tt cc
@@ -119,17 +119,17 @@ here n p line rest cause fault e f = record {
 
 err_step : (n : ℕ) (p : Place) (line : List ℕ) (rest : List (List ℕ)) (fault : ScriptFault) (r : Result Place Cause)
     → after_line n p line ≡ r
-    → ((q : Place) → outcome (n + 1) q rest ≡ Err fault
+    → ((q : Place) → lines_outcome (n + 1) q rest ≡ Err fault
         → FaultFrom (n + 1) q rest fault ⊎ NoGoFrom (n + 1) q rest fault)
-    → (in_line (n + 1) r >>= λ after. outcome (n + 1) after rest) ≡ Err fault
+    → (in_line (n + 1) r >>= λ after. lines_outcome (n + 1) after rest) ≡ Err fault
         → FaultFrom n p (line ∷ rest) fault ⊎ NoGoFrom n p (line ∷ rest) fault
 err_step n p line rest fault (Ok q) e ih h = ⊎_elim (λ a. inl (later n p q line rest fault e a))
     (λ b. inr (no_go_later n p q line rest fault e b)) (ih q h)
 err_step n p line rest fault (Err cause) e ih h = inl (here n p line rest cause fault e cc)
 
-outcome_err : (n : ℕ) (p : Place) (all : List (List ℕ)) (fault : ScriptFault) → outcome n p all ≡ Err fault
+outcome_err : (n : ℕ) (p : Place) (all : List (List ℕ)) (fault : ScriptFault) → lines_outcome n p all ≡ Err fault
     → FaultFrom n p all fault ⊎ NoGoFrom n p all fault
-unfolding outcome
+unfolding lines_outcome
 outcome_err n p [] fault e = inr (ended_err n p fault e)
 outcome_err n p (line ∷ rest) fault e = err_step n p line rest fault (after_line n p line) refl
     (λ q. outcome_err (n + 1) q rest fault) e
@@ -137,11 +137,11 @@ outcome_err n p (line ∷ rest) fault e = err_step n p line rest fault (after_li
 -- ---- the whole
 
 pub is_read : (bytes : List ℕ) (s : Settings) (es : List Event) → length bytes ≤ 16777216
-    → outcome 0 Begins (lines bytes) ≡ Ok (s, es) → Reads bytes s es
+    → lines_outcome 0 Begins (lines bytes) ≡ Ok (s, es) → Reads bytes s es
 is_read bytes s es small e = record { small = small; right = outcome_ok 0 Begins (lines bytes) s es e }
 
 pub is_fault : (bytes : List ℕ) (fault : ScriptFault) → length bytes ≤ 16777216
-    → outcome 0 Begins (lines bytes) ≡ Err fault → IsFault bytes fault
+    → lines_outcome 0 Begins (lines bytes) ≡ Err fault → IsFault bytes fault
 is_fault bytes fault small e = inr (
   small,
   ⊎_elim

@@ -16,24 +16,24 @@ use Rattle.mscp_script.specs.declared.script.fault.ReadFault.TheVariants as faul
 
 -- a cause in the line of this number
 abbrev pub in_line : {A : Type 0} → ℕ → Result A Cause → Result A ScriptFault
-in_line n (Ok x) = Ok x
-in_line n (Err cause) = Err (record { line = n; cause = cause })
+in_line number (Ok x) = Ok x
+in_line number (Err cause) = Err (record { line = number; cause = cause })
 
--- where a script of so many lines ends
-abbrev pub ended : ℕ → Place → Result (Settings × List Event) ScriptFault
-ended n (HasGone settings events) = Ok (settings, events)
-ended n place = Err (record { line = n + 1; cause = causes.Header })
+-- what a script of so many lines stands for, once all are read
+abbrev pub all_read : ℕ → Place → Result (Settings × List Event) ScriptFault
+all_read n (HasGone settings events) = Ok (settings, events)
+all_read n place = Err (record { line = n + 1; cause = causes.Header })
 
 -- what becomes of lines that so many right ones stand before
-unfoldable pub outcome : ℕ → Place → List (List ℕ) → Result (Settings × List Event) ScriptFault
-outcome before place [] = ended before place
-outcome before place (line ∷ rest) =
-    in_line (before + 1) (after_line before place line) >>= λ after. outcome (before + 1) after rest
+unfoldable pub lines_outcome : ℕ → Place → List (List ℕ) → Result (Settings × List Event) ScriptFault
+lines_outcome before place [] = all_read before place
+lines_outcome before place (line ∷ rest) =
+    in_line (before + 1) (after_line before place line) >>= λ after. lines_outcome (before + 1) after rest
 
 -- what becomes of a line of these words, the last of so many, and of those after it
 unfoldable pub onward : ℕ → Place → List (List ℕ) → List (List ℕ) → Result (Settings × List Event) ScriptFault
 onward number place words rest =
-    in_line number (next place words) >>= λ after. outcome number after rest
+    in_line number (next place words) >>= λ after. lines_outcome number after rest
 
 -- a line of the header of this word and of a number makes a place
 abbrev pub Sets : Place → List ℕ → ℕ → (ℕ → Place) → Type 0
@@ -43,7 +43,7 @@ Sets place name most made =
 
 -- what becomes of the rest of a script
 abbrev pub rest_outcome : ℕ → Place → List ℕ → Result (Settings × List Event) ScriptFault
-rest_outcome before place bytes = outcome before place (lines bytes)
+rest_outcome before place bytes = lines_outcome before place (lines bytes)
 
 -- the fault is that of the definition, unless memory ran out
 abbrev pub Fails : {Y : Type 0} → ReadFault → Result Y ScriptFault → Type 0

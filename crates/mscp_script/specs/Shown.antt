@@ -53,8 +53,9 @@ order_text (orders.Move kind count block) =
 order_text (orders.Invalid opcode status) = invalid_name status ++ codes " opcode " ++ decimal opcode
 
 abbrev pub command_text : Command → List ℕ
-command_text c =
-    codes "command " ++ decimal c.reference ++ codes " unit " ++ decimal c.unit ++ codes " " ++ order_text c.order
+command_text command =
+    codes "command " ++ decimal command.reference ++ codes " unit " ++ decimal command.unit ++ codes " "
+    ++ order_text command.order
 
 -- ---- an end
 

@@ -27,7 +27,7 @@ IsReportOf c events bytes =
 abbrev pub IsReport : List ℕ → List ℕ → Type 0
 IsReport script bytes = (c : Settings) × (events : List Event) × Reads script c events × IsReportOf c events bytes
 
--- what a reader gives of the bytes that there are, where they are known, has R (profile)
+-- R holds of the bytes that the reader gave; if those aren't known (a file, a terminal), of some bytes (profile)
 abbrev pub IsGiven : Option (List ℕ) → (List ℕ → Type 0) → Type 0
 IsGiven known R = (script : List ℕ) × IsFront most_read known script × R script
 

@@ -97,15 +97,15 @@ unfoldable pub outstanding : Talk → ℕ → List ℕ
 outstanding talk j = filter (is_outstanding talk j) (before j)
 
 -- the command whose end turn k hands over, if it hands one over
-abbrev pub ended : Talk → ℕ → Option ℕ
-ended talk k = find (λ i. hands_over (reference talk i) (said talk k).moment) (outstanding talk k)
+abbrev pub handed_over : Talk → ℕ → Option ℕ
+handed_over talk k = find (λ i. hands_over (reference talk i) (said talk k).moment) (outstanding talk k)
 
 -- ---- polls
 
 -- the command that a poll in turn j is about: the oldest outstanding one that isn't answered when it arrives (manual,
 -- "Host Command Timeouts")
-abbrev pub polled : Talk → ℕ → Option ℕ
-polled talk j = find (λ i. not (is_immediate (opcode talk i))) (outstanding talk j)
+abbrev pub asked_for : Talk → ℕ → Option ℕ
+asked_for talk j = find (λ i. not (is_immediate (opcode talk i))) (outstanding talk j)
 
 -- its reference number, 0 if there is none
 abbrev pub reference_found : Talk → Option ℕ → ℕ
@@ -113,13 +113,13 @@ reference_found talk None = 0
 reference_found talk (Some i) = reference talk i
 
 -- its unit, 0 if there is none
-abbrev pub unit_found : Talk → Option ℕ → ℕ
-unit_found talk None = 0
-unit_found talk (Some i) = unit_in (said talk i).turn
+abbrev pub unit_or_0 : Talk → Option ℕ → ℕ
+unit_or_0 talk None = 0
+unit_or_0 talk (Some i) = unit_in (said talk i).turn
 
 -- what the poll in turn j is told: the figure of that command after the trace so far (manual, "Host Command Timeouts")
 abbrev pub figure_told : Settings → Talk → ℕ → ℕ
-figure_told c talk j = figure_of c (trace_of (take j talk)) (reference_found talk (polled talk j))
+figure_told c talk j = figure_of c (trace_of (take j talk)) (reference_found talk (asked_for talk j))
 
 -- a command was found, and it is i
 abbrev pub is_it : ℕ → Option ℕ → Bool
@@ -128,7 +128,7 @@ is_it i (Some x) = nat_eq x i
 
 -- turn p was a poll about the command i
 abbrev pub asks_about : Talk → ℕ → ℕ → Bool
-asks_about talk i p = is_asked (said talk p).heard && is_it i (polled talk p)
+asks_about talk i p = is_asked (said talk p).heard && is_it i (asked_for talk p)
 
 -- what the end of the command that was sent in turn p tells of the command i: an answer, if it was a poll about it
 abbrev pub answers_of : Settings → Talk → ℕ → Option ℕ → List ℕ
@@ -137,7 +137,7 @@ answers_of c talk i (Some p) = if asks_about talk i p then figure_told c talk p 
 
 -- all that the host was told of the command i before turn j, in order
 abbrev pub answers_about : Settings → Talk → ℕ → ℕ → List ℕ
-answers_about c talk j i = flat_map (λ k. answers_of c talk i (ended talk k)) (before j)
+answers_about c talk j i = flat_map (λ k. answers_of c talk i (handed_over talk k)) (before j)
 
 -- the last of a list, if there is one
 abbrev pub last_of : List ℕ → Option ℕ
@@ -150,16 +150,20 @@ last_answer c talk j i = last_of (answers_about c talk j i)
 
 -- ---- what the host keeps
 
--- the unit that the command of turn i names: a poll names that of the command that it is about
-abbrev pub unit_of_turn : Talk → ℕ → Turn → ℕ
-unit_of_turn talk i (turns.Poll reference) = unit_found talk (polled talk i)
-unit_of_turn talk i turn = unit_in turn
+-- the unit that this turn i names: a poll names that of the command that it is about
+abbrev pub unit_named : Talk → ℕ → Turn → ℕ
+unit_named talk i (turns.Poll reference) = unit_or_0 talk (asked_for talk i)
+unit_named talk i turn = unit_in turn
 
--- of the command i, before turn j
+-- the unit that the command i names
+abbrev pub unit_at : Talk → ℕ → ℕ
+unit_at talk i = unit_named talk i (said talk i).turn
+
+-- what the host keeps of the command i before turn j
 abbrev pub submission_at : Settings → Talk → ℕ → ℕ → Submission
 submission_at c talk j i = record {
   reference = reference talk i;
-  unit = unit_of_turn talk i (said talk i).turn;
+  unit = unit_at talk i;
   opcode = opcode talk i;
   told = last_answer c talk j i;
 }
@@ -169,19 +173,19 @@ abbrev pub polled_is_outstanding : Talk → ℕ → Option ℕ → Bool
 polled_is_outstanding talk j None = false
 polled_is_outstanding talk j (Some i) = is_outstanding talk j i
 
--- of the poll of turn p, before turn j
+-- what it keeps of the poll of turn p then
 abbrev pub watch_at : Talk → ℕ → ℕ → Watch
 watch_at talk j p = record {
   reference = reference talk p;
-  polled = reference_found talk (polled talk p);
-  is_outstanding = polled_is_outstanding talk j (polled talk p);
+  polled = reference_found talk (asked_for talk p);
+  is_outstanding = polled_is_outstanding talk j (asked_for talk p);
 }
 
 -- the poll whose end wasn't handed over before turn j, if there is one
 abbrev pub in_flight : Talk → ℕ → Option ℕ
 in_flight talk j = find (λ p. is_asked (said talk p).heard) (outstanding talk j)
 
--- before turn j
+-- all that the host keeps before turn j: computed from the talk, not from the host
 abbrev pub account_at : Settings → Talk → ℕ → Account
 account_at c talk j = record {
   credits = c.credits;

@@ -21,7 +21,7 @@ use Rattle.mscp_sim.specs.declared.conversing.Turn.{Turn}
 use Rattle.mscp_sim.specs.declared.conversing.Turn.TheVariants as turns
 use Rattle.mscp_sim.specs.declared.conversing.Heard.{Heard}
 use Rattle.mscp_sim.specs.declared.conversing.Heard.TheVariants as hears
-use Rattle.mscp_sim.specs.Talks.{Said, Talk, account_at, asks_about, ended, is_outstanding, last_answer, said, figure_told, trace_of}
+use Rattle.mscp_sim.specs.Talks.{Said, Talk, account_at, asks_about, handed_over, is_outstanding, last_answer, said, figure_told, trace_of}
 
 -- ---- one turn
 
@@ -48,7 +48,7 @@ IsPolled s (Ok (polls.Ask message)) = (sent : Sent) × (s.heard ≡ hears.Asked)
 -- what is heard of an end that is handed over, or of none, and what the host keeps then
 abbrev pub IsHanded : Account → Option (ArrayVec ℕ) → Heard → Account → Type 0
 IsHanded old None told new = (told ≡ hears.Quiet) × (new ≡ old)
-IsHanded old (Some b) told new = (n : News) × (told ≡ hears.News n) × (heard old b.items ≡ (Ok n, new))
+IsHanded old (Some b) told new = (news : News) × (told ≡ hears.News news) × (heard old b.items ≡ (Ok news, new))
 
 -- what is heard in this turn by a host that keeps this, and what it keeps then: the rules of a host. The controller
 -- refuses nothing that the host sends, and the host refuses no end (profile)
@@ -65,21 +65,21 @@ IsHeard old turns.Take s new =
 
 -- ---- what is promised
 
--- turn j hands over the end of a poll about a command that is still outstanding, of which the host was told before, and
--- the answer isn't less than what it was told last (profile)
+-- an answer stands still: turn j hands over the end of a poll of a command that is still outstanding, an earlier poll
+-- of that command was answered, and the number is no lower than then (profile)
 pub record Stands (c : Settings) (talk : Talk) (j : ℕ) : Type 0 where
   pub poll : ℕ
   pub command : ℕ
   pub last : ℕ
-  pub handed : ended talk j ≡ Some poll
+  pub handed : handed_over talk j ≡ Some poll
   pub about : asks_about talk command poll ≡ true
   pub outstanding : is_outstanding talk j command ≡ true
   pub told : last_answer c talk j command ≡ Some last
   pub not_less : last ≤ figure_told c talk poll
 
--- turn k is a step
+-- the turn is a step
 abbrev pub IsStepTurn : Turn → Type 0
-IsStepTurn (turns.Step k) = Unit {0}
+IsStepTurn (turns.Step block) = Unit {0}
 IsStepTurn turn = ⊥
 
 -- a step lies between turn q and each poll about the command i that came before it (profile)
@@ -118,7 +118,7 @@ pub record AreTwoEnds (picks : List Choice → ℕ → Type 0) (c : Settings) (t
   pub no_lost : (j : ℕ) → j < length talk → (said talk j).heard ≢ hears.News news.Lost
   -- Reset isn't said of the answer to a poll where a step lies between it and each one before about its command
   -- (profile)
-  pub falls : (j i q : ℕ) → j < length talk → ended talk j ≡ Some q → asks_about talk i q ≡ true
+  pub falls : (j i q : ℕ) → j < length talk → handed_over talk j ≡ Some q → asks_about talk i q ≡ true
       → StepsSincePolls talk i q → (said talk j).heard ≢ hears.News news.Reset
   -- and so it is never said where a step lies between any two polls about one command (profile)
   pub no_reset : StepsBetweenPolls talk → (j : ℕ) → j < length talk → (said talk j).heard ≢ hears.News news.Reset

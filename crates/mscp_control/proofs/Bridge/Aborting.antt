@@ -21,7 +21,7 @@ use Rattle.mscp_control.specs.History.{Trace}
 use Rattle.mscp_control.specs.Commands.{command, reference, waiting, good, ends_in, is_waiting}
 use Rattle.mscp_control.specs.Ends as history
 use Rattle.mscp_control.specs.Ends.{aborted_unless, named}
-use Rattle.mscp_control.specs.Holdings.{aborted, begun_after, unaborted}
+use Rattle.mscp_control.specs.Holdings.{record_aborted, begun_after, unaborted}
 use Rattle.mscp_control.proofs.Promise.Apart.{Apart}
 use Rattle.mscp_control.proofs.Promise.Waits.{cut, waits_below}
 use Rattle.mscp_control.proofs.Bridge.Held.{held_of}
@@ -39,7 +39,7 @@ apart_held t (x ∷ xs) a = (names_from t x xs a.0, apart_held t xs a.1)
 
 -- the records of those that an order names
 named_held : (t : Trace) (ws : List Record) (o : Order) → Apart t (waiting t) → ws ≡ map (held_of t) (waiting t)
-    → map (held_of t) (named t o) ≡ option_to_list (aborted ws o)
+    → map (held_of t) (named t o) ≡ option_to_list (record_aborted ws o)
 named_held t ws (orders.Abort other) a e =
     sym (filter_map_of (held_of t) (has_reference other) (waiting t))
     ∙ (ap (filter (has_reference other)) (sym e) ∙ found_once other ws
@@ -59,7 +59,7 @@ unnamed t o (Some status) h = refl
 
 aborted_by : (c : Settings) (t : Trace) (u : ℕ) (ws : List Record) (o : Order) → Apart t (waiting t)
     → ws ≡ map (held_of t) (waiting t)
-    → map (held_of t) (aborted_unless t o (order_fault c u o)) ≡ option_to_list (aborted ws o)
+    → map (held_of t) (aborted_unless t o (order_fault c u o)) ≡ option_to_list (record_aborted ws o)
 aborted_by c t u ws (orders.Abort other) a e = named_held t ws (orders.Abort other) a e
 aborted_by c t u ws (orders.Status other) a e = refl
 aborted_by c t u ws orders.UnitStatus a e = ap (map (held_of t))
@@ -79,7 +79,8 @@ aborted_by c t u ws (orders.Move kind count block) a e =
 aborted_by c t u ws (orders.Invalid opcode status) a e = refl
 
 aborted_held : (c : Settings) (t : Trace) (ws : List Record) (k : Command) → Apart t (waiting t)
-    → ws ≡ map (held_of t) (waiting t) → map (held_of t) (history.aborted c t k) ≡ option_to_list (aborted ws k.order)
+    → ws ≡ map (held_of t) (waiting t) → map (held_of t) (history.aborted c t k)
+        ≡ option_to_list (record_aborted ws k.order)
 aborted_held c t ws k a e = aborted_by c t k.unit ws k.order a e
 
 -- ---- what is told of it
@@ -99,8 +100,9 @@ first_held t (x ∷ xs) (Some r) e = ap (λ rs. Some (first_reference rs)) e
 pub reference_told : (c : Settings) (t : Trace) (ws : List Record) (k : Command) → Apart t (waiting t)
     → ws ≡ map (held_of t) (waiting t)
     → option_map (reference t) (slice_get (history.aborted c t k) 0)
-        ≡ option_map (λ r. r.command.reference) (aborted ws k.order)
-reference_told c t ws k a e = first_held t (history.aborted c t k) (aborted ws k.order) (aborted_held c t ws k a e)
+        ≡ option_map (λ r. r.command.reference) (record_aborted ws k.order)
+reference_told c t ws k a e = first_held t (history.aborted c t k) (record_aborted ws k.order)
+    (aborted_held c t ws k a e)
 
 mapped_option : (o : Option Record) → map aborted_record (option_to_list o)
     ≡ option_to_list (option_map aborted_record o)
@@ -110,9 +112,9 @@ mapped_option (Some r) = refl
 -- the end that is made
 pub end_made : (c : Settings) (t : Trace) (ws : List Record) (k : Command) → Apart t (waiting t)
     → ws ≡ map (held_of t) (waiting t)
-    → option_to_list (option_map aborted_record (aborted ws k.order))
+    → option_to_list (option_map aborted_record (record_aborted ws k.order))
         ≡ map (λ x. aborted_end (command t x) (good t x)) (history.aborted c t k)
-end_made c t ws k a e = sym (mapped_option (aborted ws k.order))
+end_made c t ws k a e = sym (mapped_option (record_aborted ws k.order))
     ∙ (ap (map aborted_record) (sym (aborted_held c t ws k a e))
     ∙ map_map (held_of t) aborted_record (history.aborted c t k))
 
@@ -160,7 +162,7 @@ none_left q ws = sym (filter_all (λ r. not (ends_in (name_of r.command) (Answer
 -- the others wait on
 pub others_wait : (q : ℕ) (ws : List Record) (o : Order)
     → unaborted ws o ≡ filter (λ r. not (ends_in (name_of r.command)
-    (Answer q (option_map (λ r. r.command.reference) (aborted ws o))))) ws
+    (Answer q (option_map (λ r. r.command.reference) (record_aborted ws o))))) ws
 others_wait q ws (orders.Abort other) = left_by q other ws
 others_wait q ws (orders.Status other) = none_left q ws
 others_wait q ws orders.UnitStatus = none_left q ws
@@ -182,7 +184,7 @@ with_other n other =
 -- it is begun no more where it is aborted
 abbrev Left : ℕ → List Record → Name → Order → Type 0
 Left q ws n o = begun_after (Some n) o ≡ (if not (ends_in n
-    (Answer q (option_map (λ r. r.command.reference) (aborted ws o)))) then Some n else None)
+    (Answer q (option_map (λ r. r.command.reference) (record_aborted ws o)))) then Some n else None)
 
 abort_left : (q other : ℕ) (t : Trace) (ws : List Record) (n : Name) (y : ℕ) → ws ≡ map (held_of t) (waiting t)
     → is_waiting t y ≡ true → reference t y ≡ n → Left q ws n (orders.Abort other)

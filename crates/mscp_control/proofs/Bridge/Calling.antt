@@ -28,7 +28,7 @@ use Rattle.mscp_control.specs.History.{Trace, Moment, Service, is_step, service_
 use Rattle.mscp_control.specs.Commands.{ends_in, is_waiting, reference, unit, waiting}
 use Rattle.mscp_control.specs.Units.{is_online}
 use Rattle.mscp_control.specs.Legal.{IsLegal, IsPick, IsServed, block_of}
-use Rattle.mscp_control.specs.Holdings.{Answers, Finishes, Holdings, Steps, aborted, aborting, answered_end, balance_of, begun_after, ended, fresh, held_unless, outstanding_of, queued, sent_unless}
+use Rattle.mscp_control.specs.Holdings.{Answers, Finishes, Holdings, Steps, record_aborted, aborting, answered_end, balance_of, begun_after, with_end, fresh, held_unless, outstanding_of, queued, sent_unless}
 use Rattle.mscp_control.specs.Calls.{AnsweredCalls, AnswersCall, AtEachCall, Begin, Call, Finish, HoldsToBegun, IsAsTold, IsBegun, IsBegunSince, IsChosen, IsRightCall, Plain, StartsChosen, foretold, history, start_of}
 use Rattle.mscp_queue.proofs.Placed.{each_push}
 use Rattle.mscp_control.proofs.Promise.Among.{one_waits}
@@ -107,9 +107,9 @@ begun_unless : {K : Type 0} (h : Holdings K) (t : Trace) (k : Command) (n : Name
     → (held_unless h k o).begun ≡ (if not (ends_in n (entries.Sent (sent_unless h k o))) then Some n else None)
 begun_unless h t k n y (Some fault) e b w own = b
 begun_unless {K} h t k n y None e b w own =
-    let told = option_map (λ (r : Record). r.command.reference) (aborted h.waiting k.order) in
+    let told = option_map (λ (r : Record). r.command.reference) (record_aborted h.waiting k.order) in
     elim (is_queued h.settings k) as (λ q. (if q then queued h k
-        else ended (aborting h k.order) (answered_end h k)).begun
+        else with_end (aborting h k.order) (answered_end h k)).begun
     ≡ (if not (ends_in n (entries.Sent (Ok (if q then sents.Queued k.reference else sents.Answered k.reference told))))
         then Some n else None))
     [ true ↦ b | false ↦ ap (λ o. begun_after o k.order) b ∙ begun_left k.reference t h.waiting n y k.order e w own ]

@@ -21,7 +21,7 @@ use Rattle.mscp_control.specs.Units.{head, is_online}
 use Rattle.mscp_control.specs.Ends.{outcome}
 use Rattle.mscp_control.specs.Legal.{IsRight, block_of, end_of, seek_to}
 use Rattle.mscp_queue.specs.Serving.{drive_after, end_given, seek_from, state_left, touched}
-use Rattle.mscp_control.specs.Controllers.{drive_at}
+use Rattle.mscp_control.specs.Controllers.{drive_now}
 use Rattle.mscp_queue.proofs.Lists.{every_from, every_weaker}
 use Rattle.mscp_control.proofs.Promise.Served.{Step, some_same}
 use Rattle.mscp_control.proofs.Promise.Queued.{each_queued, queued_open}
@@ -94,11 +94,11 @@ drive_by c t u = record { unit = unit_shape c u; online = is_online t u; head = 
 
 -- The drives are those of the units, and each waiting command has one.
 pub record Driven (c : Settings) (t : Trace) (ds : List Drive) : Type 0 where
-  pub drives : ds ≡ map (drive_at c t) c.units
+  pub drives : ds ≡ map (drive_now c t) c.units
   pub configured : AllByRecursion (λ x. IsConfigured c (command t x)) (waiting t)
 
 same_drive : (c : Settings) (t : Trace) (s : Shape) (u : ℕ) → unit_found c u ≡ Some s → s.number ≡ u
-    → drive_at c t s ≡ drive_by c t u
+    → drive_now c t s ≡ drive_by c t u
 same_drive c t s u e n =
     let shape : s ≡ unit_shape c u = sym (ap (λ o. unwrap_or o one_block) e) in
     λ i. record { unit = shape i; online = is_online t (n i); head = head c t (n i) }
@@ -112,7 +112,7 @@ drive_found c t ds u d h =
     let e = some.1 in
     ap (λ ds. drive_of ds u) d.drives
     ∙ (ap (λ o. unwrap_or o (fresh_drive one_block))
-        (find_map (λ (x : Drive). nat_eq x.unit.number u) (drive_at c t) c.units ∙ ap (option_map (drive_at c t)) e)
+        (find_map (λ (x : Drive). nat_eq x.unit.number u) (drive_now c t) c.units ∙ ap (option_map (drive_now c t)) e)
     ∙ same_drive c t s u e (found_number c.units u s e))
 
 -- ---- at first, and where nothing is served
@@ -125,8 +125,8 @@ configured_more c t m r h = each_queued c (IsConfigured c) (queued_configured c)
 pub driven_fresh : (c : Settings) → Driven c [] (map fresh_drive c.units)
 unfolding waiting
 driven_fresh c = record {
-  drives = map_on fresh_drive (drive_at c []) c.units
-      (every_from (λ s. fresh_drive s ≡ drive_at c [] s)
+  drives = map_on fresh_drive (drive_now c []) c.units
+      (every_from (λ s. fresh_drive s ≡ drive_now c [] s)
           (λ s. λ i. record { unit = s; online = sym (is_online_empty s.number) i; head =
           sym (head_empty c s.number) i }) c.units);
   configured = tt;
@@ -137,8 +137,8 @@ pub driven_kept : (c : Settings) (t : Trace) (m : Moment) (ds : List Drive) → 
 driven_kept c t m ds n r d =
     let t' = t ++ m ∷ [] in
     record {
-      drives = d.drives ∙ map_on (drive_at c t) (drive_at c t') c.units
-          (every_from (λ s. drive_at c t s ≡ drive_at c t' s)
+      drives = d.drives ∙ map_on (drive_now c t) (drive_now c t') c.units
+          (every_from (λ s. drive_now c t s ≡ drive_now c t' s)
               (λ s. λ i. record { unit = s; online = sym (is_online_kept t m s.number n) i; head =
               sym (head_kept c t m s.number n) i }) c.units);
       configured = configured_more c t m r d.configured;
@@ -183,14 +183,14 @@ own_served c t m k y front back st =
 one_served : (c : Settings) (t : Trace) (m : Moment) (k : Block) (y : ℕ) (front back : List ℕ)
     → Step c t m (service_by c t k y) k y front back
     → (s : Shape) → unit_found c s.number ≡ Some s
-    → (if nat_eq s.number (unit t y) then drive_after k (drive_by c t (unit t y)) (held_of t y) else drive_at c t s)
-        ≡ drive_at c (t ++ m ∷ []) s
+    → (if nat_eq s.number (unit t y) then drive_after k (drive_by c t (unit t y)) (held_of t y) else drive_now c t s)
+        ≡ drive_now c (t ++ m ∷ []) s
 one_served c t m k y front back st s found =
     let t' = t ++ m ∷ [] in
     let u = unit t y in
-    let served : Bool → Drive = λ b. if b then drive_after k (drive_by c t u) (held_of t y) else drive_at c t s in
-    let both : (b : Bool) → nat_eq s.number u ≡ b → served b ≡ drive_at c t' s =
-    λ b. elim b as (λ b. nat_eq s.number u ≡ b → served b ≡ drive_at c t' s) [
+    let served : Bool → Drive = λ b. if b then drive_after k (drive_by c t u) (held_of t y) else drive_now c t s in
+    let both : (b : Bool) → nat_eq s.number u ≡ b → served b ≡ drive_now c t' s =
+    λ b. elim b as (λ b. nat_eq s.number u ≡ b → served b ≡ drive_now c t' s) [
       | true ↦ λ e.
           let n = eqb-true s.number u e in
           let there = ap (unit_found c) (sym n) ∙ found in
@@ -212,9 +212,9 @@ driven_served c t m k y front back ds l st r d =
     let new = drive_after k (drive_by c t (unit t y)) (held_of t y) in
     let serve : Drive → Drive = λ q. if has_number (unit t y) q then new else q in
     record {
-      drives = ap (map serve) d.drives ∙ (map_map (drive_at c t) serve c.units
-          ∙ map_on (λ s. serve (drive_at c t s)) (drive_at c t') c.units
-          (every_weaker (λ s. unit_found c s.number ≡ Some s) (λ s. serve (drive_at c t s) ≡ drive_at c t' s)
+      drives = ap (map serve) d.drives ∙ (map_map (drive_now c t) serve c.units
+          ∙ map_on (λ s. serve (drive_now c t s)) (drive_now c t') c.units
+          (every_weaker (λ s. unit_found c s.number ≡ Some s) (λ s. serve (drive_now c t s) ≡ drive_now c t' s)
               (one_served c t m k y front back st) c.units (units_found c.units l)));
       configured = configured_more c t m r d.configured;
     }

@@ -4,7 +4,7 @@ use Rattle.std.specs.Prelude.{nat_lt, if◌then◌else◌, slice_index, Some, No
 use Rattle.std.specs.List.{list_any}
 use Rattle.std.proofs.lemmas.List.Folds.{list_any-append}
 use Rattle.std.proofs.lemmas.Bool.{le-ltb, true≢false}
-use Rattle.mscp_queue.specs.Names.{end_name, same_name}
+use Rattle.mscp_queue.specs.Names.{Name, end_name, same_name}
 use Rattle.mscp_queue.specs.Kept.{names}
 use Rattle.mscp_queue.specs.Records.{Record, has_reference}
 use Rattle.mscp_packet.specs.declared.command.Command.{Command}
@@ -19,17 +19,18 @@ pub command_is : (b : List ℕ) (c : Command) → IsCommand b c → c ≡ comman
 unfolding command_of
 command_is b c h = λ i. record { reference = h.reference i; unit = h.unit i; order = h.order i }
 
-waiting_held : (rs : List Record) (reference : ℕ) → holds (names rs) reference ≡ list_any (has_reference reference) rs
+waiting_held : (rs : List Record) (reference : Name)
+    → holds (names rs) reference ≡ list_any (has_reference reference) rs
 waiting_held [] reference = refl
 waiting_held (r ∷ rs) reference = ap (λ b. has_reference reference r || b) (waiting_held rs reference)
 
-untaken_held : (es : List End) (reference : ℕ) → holds (map end_name es) reference
+untaken_held : (es : List End) (reference : Name) → holds (map end_name es) reference
     ≡ list_any (λ e. same_name (end_name e) reference) es
 untaken_held [] reference = refl
 untaken_held (e ∷ es) reference = ap (λ b. same_name (end_name e) reference || b) (untaken_held es reference)
 
 -- a reference number is outstanding where it waits or has an end that wasn't taken
-pub holds_either : (rs : List Record) (es : List End) (reference : ℕ)
+pub holds_either : (rs : List Record) (es : List End) (reference : Name)
     → holds (names rs ++ map end_name es) reference
     ≡ (list_any (has_reference reference) rs || list_any (λ e. same_name (end_name e) reference) es)
 holds_either rs es reference =
@@ -58,7 +59,7 @@ or_left : (a b : Bool) → (a || b) ≡ false → a ≡ false
 or_left true b h = absurd (true≢false h)
 or_left false b h = refl
 
-pub none_waits : (rs : List Record) (es : List End) (reference : ℕ)
+pub none_waits : (rs : List Record) (es : List End) (reference : Name)
     → holds (names rs ++ map end_name es) reference ≡ false
     → list_any (has_reference reference) rs ≡ false
 none_waits rs es reference h =

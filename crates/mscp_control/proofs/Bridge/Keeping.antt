@@ -28,7 +28,7 @@ use Rattle.mscp_control.specs.declared.event.Event.TheVariants as events
 use Rattle.mscp_control.specs.declared.event.Entry.{Entry}
 use Rattle.mscp_control.specs.declared.event.Entry.TheVariants as entries
 use Rattle.mscp_control.specs.Arrival.{refusal, is_queued}
-use Rattle.mscp_control.specs.Holdings.{Answers, Holdings, aborting, answered_end, balance_of, begun_after, ended, ends_reported, held_unless, line_of, outstanding_of, queued}
+use Rattle.mscp_control.specs.Holdings.{Answers, Holdings, aborting, answered_end, balance_of, begun_after, with_end, ends_reported, held_unless, line_of, outstanding_of, queued}
 use Rattle.mscp_control.specs.Kept.{IsHeld}
 
 -- ---- nothing came
@@ -145,7 +145,7 @@ owner_unless : {K : Type 0} (h : Holdings K) (command : Command) (o : Option Sen
     → IsSameOwner h (held_unless h command o)
 owner_unless h command (Some fault) = (refl, refl)
 owner_unless h command None = elim (is_queued h.settings command) as
-    (λ b. IsSameOwner h (if b then queued h command else ended (aborting h command.order) (answered_end h command)))
+    (λ b. IsSameOwner h (if b then queued h command else with_end (aborting h command.order) (answered_end h command)))
     [ true ↦ (refl, refl) | false ↦ (refl, refl) ]
 
 -- no event changes the settings or the picker
@@ -191,7 +191,7 @@ unbegun_unless : {K : Type 0} (h : Holdings K) (command : Command) (o : Option S
 unbegun_unless h command (Some fault) n = n
 unbegun_unless {K} h command None n =
     elim (is_queued h.settings command) as (λ b. (if b then queued h command
-        else ended (aborting h command.order) (answered_end h command)).begun ≡ None)
+        else with_end (aborting h command.order) (answered_end h command)).begun ≡ None)
     [ true ↦ n | false ↦ ap (λ b. begun_after b command.order) n ∙ begun_after_none command.order ]
 
 unbegun_stepped : {K : Type 0} (picks : List Choice → ℕ → Type 0) (k : Block) (old : Line K) (report : Report)

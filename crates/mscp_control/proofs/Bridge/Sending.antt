@@ -25,11 +25,12 @@ use Rattle.mscp_control.specs.Commands.{ends_in, reference, waiting}
 use Rattle.mscp_control.specs.Units.{is_online}
 use Rattle.mscp_control.specs.Ends.{answer, ends_at, untaken}
 use Rattle.mscp_control.specs.Ends as history
-use Rattle.mscp_control.specs.Credits.{arrival, balance, becomes, becomes_unless, becomes_when, outstanding}
+use Rattle.mscp_control.specs.Credits.{arrival, balance, taken_in, taken_unless, outstanding}
 use Rattle.mscp_control.specs.Legal.{IsRight}
-use Rattle.mscp_control.specs.Holdings.{Holdings, aborted, aborting, after_message, answer_to_message, answered_end, balance_of, ended, figure_polled, held_unless, outstanding_of, queued, sent_unless}
+use Rattle.mscp_control.specs.Holdings.{Holdings, record_aborted, aborting, after_message, answer_to_message, answered_end, balance_of, with_end, figure_polled, held_unless, outstanding_of, queued, sent_unless}
 use Rattle.mscp_queue.specs.Drives.{drive_of}
 use Rattle.mscp_queue.specs.Figures.{figure_of_reference}
+use Rattle.mscp_control.proofs.Promise.Arrivals.{taken_when}
 use Rattle.mscp_control.proofs.Promise.Grows.{untaken_more}
 use Rattle.mscp_queue.proofs.Lists.{every_from, filter_all}
 use Rattle.mscp_queue.proofs.Placed.{map_map}
@@ -108,7 +109,7 @@ own_same c on on' figure reference unit o h =
         with_same c on on' figure k (order_fault c unit o) refl
 
 answer_held : {K : Type 0} (h : Holdings K) (t : Trace) (b : List ℕ) → Agrees h.settings t h
-    → option_to_list (option_map aborted_record (aborted h.waiting (command_of b).order))
+    → option_to_list (option_map aborted_record (record_aborted h.waiting (command_of b).order))
         ++ answered_end h (command_of b) ∷ [] ≡ answer h.settings t b
 unfolding answer
 answer_held h t b a =
@@ -192,41 +193,42 @@ waits h t e l a r =
 
 -- the reference number of the command that a message aborts
 abbrev pub told : {K : Type 0} → Holdings K → Command → Option ℕ
-told h k = option_map (λ r. r.command.reference) (aborted h.waiting k.order)
+told h k = option_map (λ r. r.command.reference) (record_aborted h.waiting k.order)
 
 answered : {K : Type 0} (h : Holdings K) (t : Trace) (e : Event) → 1 ≤ h.settings.longest → Agrees h.settings t h
     → IsRight h.settings t e (entries.Sent (Ok (sents.Answered (command_of (sent_bytes e)).reference
         (told h (command_of (sent_bytes e))))))
     → Sends h.settings t (sending e (Ok (sents.Answered (command_of (sent_bytes e)).reference
         (told h (command_of (sent_bytes e))))))
-    (ended (aborting h (command_of (sent_bytes e)).order) (answered_end h (command_of (sent_bytes e))))
+    (with_end (aborting h (command_of (sent_bytes e)).order) (answered_end h (command_of (sent_bytes e))))
 answered h t e l a r =
     let b = sent_bytes e in
     let k = command_of b in
     let m = sending e (Ok (sents.Answered k.reference (told h k))) in
-    let made = option_to_list (option_map aborted_record (aborted h.waiting k.order)) in
+    let made = option_to_list (option_map aborted_record (record_aborted h.waiting k.order)) in
     let all = answer_held h t b a ∙ sym (append-nil (answer h.settings t b)) in
-    leaves h (ended (aborting h k.order) (answered_end h k)) t m l refl refl (others_wait k.reference h.waiting k.order)
+    leaves h (with_end (aborting h k.order) (answered_end h k)) t m l refl refl
+        (others_wait k.reference h.waiting k.order)
         refl
     (append_assoc h.untaken made (answered_end h k ∷ []) ∙ ends_on h t m refl a (made ++ answered_end h k ∷ []) all) a r
 
 -- ---- every message
 
-becomes_queued : (c : Settings) (t : Trace) (k : Command) → is_queued c k ≡ true
-    → sents.Queued k.reference ≡ becomes c t k
-becomes_queued c t k q = sym (ap (becomes_when c t k) q)
+taken_as_queued : (c : Settings) (t : Trace) (k : Command) → is_queued c k ≡ true
+    → sents.Queued k.reference ≡ taken_in c t k
+taken_as_queued c t k q = sym (ap (taken_when c t k) q)
 
-becomes_answered : {K : Type 0} (h : Holdings K) (t : Trace) (k : Command) → Follows h.settings t h.waiting h.untaken
-    → is_queued h.settings k ≡ false → sents.Answered k.reference (told h k) ≡ becomes h.settings t k
-becomes_answered h t k f q = ap (sents.Answered k.reference)
+taken_as_answered : {K : Type 0} (h : Holdings K) (t : Trace) (k : Command) → Follows h.settings t h.waiting h.untaken
+    → is_queued h.settings k ≡ false → sents.Answered k.reference (told h k) ≡ taken_in h.settings t k
+taken_as_answered h t k f q = ap (sents.Answered k.reference)
     (sym (reference_told h.settings t h.waiting k f.known.steady.apart f.waits))
-    ∙ sym (ap (becomes_when h.settings t k) q)
+    ∙ sym (ap (taken_when h.settings t k) q)
 
 -- what the history says of a message that is refused so, or isn't
 arrival_when : (c : Settings) (t : Trace) (b : List ℕ) (o : Option SendFault)
-    → refusal (balance c t) (outstanding c t) b ≡ o → becomes_unless c t (command_of b) o ≡ arrival c t b
+    → refusal (balance c t) (outstanding c t) b ≡ o → taken_unless c t (command_of b) o ≡ arrival c t b
 unfolding arrival
-arrival_when c t b o e = sym (ap (becomes_unless c t (command_of b)) e)
+arrival_when c t b o e = sym (ap (taken_unless c t (command_of b)) e)
 
 sends_taken : {K : Type 0} (h : Holdings K) (t : Trace) (e : Event) → 1 ≤ h.settings.longest → Agrees h.settings t h
     → ((s : Result Sent SendFault) → s ≡ arrival h.settings t (sent_bytes e) → IsRight h.settings t e (entries.Sent s))
@@ -234,17 +236,17 @@ sends_taken : {K : Type 0} (h : Holdings K) (t : Trace) (e : Event) → 1 ≤ h.
     → (q : Bool) → is_queued h.settings (command_of (sent_bytes e)) ≡ q
     → let k = command_of (sent_bytes e) in
     Sends h.settings t (sending e (Ok (if q then sents.Queued k.reference else sents.Answered k.reference (told h k))))
-    (if q then queued h k else ended (aborting h k.order) (answered_end h k))
+    (if q then queued h k else with_end (aborting h k.order) (answered_end h k))
 sends_taken h t e l f right none true q =
     let c = h.settings in
     let b = sent_bytes e in
     waits h t e l f (right (Ok (sents.Queued (command_of b).reference))
-        (ap Ok (becomes_queued c t (command_of b) q) ∙ arrival_when c t b None none))
+        (ap Ok (taken_as_queued c t (command_of b) q) ∙ arrival_when c t b None none))
 sends_taken h t e l f right none false q =
     let c = h.settings in
     let b = sent_bytes e in
     answered h t e l f (right (Ok (sents.Answered (command_of b).reference (told h (command_of b))))
-        (ap Ok (becomes_answered h t (command_of b) f.follows q) ∙ arrival_when c t b None none))
+        (ap Ok (taken_as_answered h t (command_of b) f.follows q) ∙ arrival_when c t b None none))
 
 sends_when : {K : Type 0} (h : Holdings K) (t : Trace) (e : Event) → 1 ≤ h.settings.longest → Agrees h.settings t h
     → ((s : Result Sent SendFault) → s ≡ arrival h.settings t (sent_bytes e) → IsRight h.settings t e (entries.Sent s))

@@ -17,7 +17,7 @@ use Rattle.mscp_packet.specs.Opcodes.{class, is_immediate_class}
 use Rattle.mscp_packet.specs.Commands.{command_of}
 use Rattle.mscp_control.specs.Arrival.{is_queued, holds, refusal}
 use Rattle.mscp_control.specs.History.{Trace, queues, sent_bytes}
-use Rattle.mscp_control.specs.Credits.{balance, outstanding, becomes, becomes_when, becomes_unless, arrival}
+use Rattle.mscp_control.specs.Credits.{balance, outstanding, aborted_reference, taken_in, taken_unless, arrival}
 use Rattle.mscp_control.specs.Legal.{IsRight}
 
 -- no reason to refuse it
@@ -49,14 +49,14 @@ sent_or s (Ok r) = r
 sent_or s (Err f) = s
 
 unless_ok : (c : Settings) (t : Trace) (command : Command) (s : Sent) (o : Option SendFault)
-    → Ok s ≡ becomes_unless c t command o → (o ≡ None) × (s ≡ becomes c t command)
+    → Ok s ≡ taken_unless c t command o → (o ≡ None) × (s ≡ taken_in c t command)
 unfolding sent_or
 unless_ok c t command s None h = (refl, ap (sent_or s) h)
 unless_ok c t command s (Some fault) h = absurd (true≢false (ap is_ok h))
 
 pub record Arrives (c : Settings) (t : Trace) (b : List ℕ) (s : Sent) : Type 0 where
   pub taken : IsTaken (balance c t) (outstanding c t) b
-  pub is : s ≡ becomes c t (command_of b)
+  pub is : s ≡ taken_in c t (command_of b)
 
 pub arrives : (c : Settings) (t : Trace) (b : List ℕ) (s : Sent) → Ok s ≡ arrival c t b → Arrives c t b s
 unfolding arrival
@@ -73,14 +73,19 @@ pub record Queues (c : Settings) (t : Trace) (b : List ℕ) : Type 0 where
   pub taken : IsTaken (balance c t) (outstanding c t) b
   pub waits : is_queued c (command_of b) ≡ true
 
-queue_of : (c : Settings) (t : Trace) (command : Command) (r : ℕ) → sents.Queued r ≡ becomes c t command
+-- what a command becomes, if it is queued or isn't
+abbrev pub taken_when : Settings → Trace → Command → Bool → Sent
+taken_when c t command q =
+    if q then sents.Queued command.reference else sents.Answered command.reference (aborted_reference c t command)
+
+queue_of : (c : Settings) (t : Trace) (command : Command) (r : ℕ) → sents.Queued r ≡ taken_in c t command
     → is_queued c command ≡ true
 unfolding is_queue
 queue_of c t command r h =
     let both : (q : Bool) → is_queued c command ≡ q → is_queued c command ≡ true =
     λ q. elim q as (λ q. is_queued c command ≡ q → is_queued c command ≡ true) [
       | true ↦ λ e. e
-      | false ↦ λ e. absurd (true≢false (ap is_queue (h ∙ ap (becomes_when c t command) e)))
+      | false ↦ λ e. absurd (true≢false (ap is_queue (h ∙ ap (taken_when c t command) e)))
     ] in
     both (is_queued c command) refl
 

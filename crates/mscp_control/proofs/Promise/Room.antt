@@ -21,11 +21,11 @@ use Rattle.mscp_control.specs.History.{Trace, Moment, collect, queues, takes, Se
 use Rattle.mscp_control.specs.Commands.{command, reference, waiting, good, ends_in, aborts}
 use Rattle.mscp_queue.specs.Outcomes.{aborted_end}
 use Rattle.mscp_control.specs.Ends.{aborted, aborted_unless, answer, ends_at, ends, untaken}
-use Rattle.mscp_control.specs.Credits.{balance, becomes_when, aborted_reference}
+use Rattle.mscp_control.specs.Credits.{balance, aborted_reference}
 use Rattle.mscp_control.specs.Legal.{IsRight}
 use Rattle.mscp_queue.proofs.Lists.{fewer, every_weaker, every_filter, every_from}
 use Rattle.mscp_control.proofs.Promise.Grows.{waiting_more, ends_more, taken_more, untaken_more}
-use Rattle.mscp_control.proofs.Promise.Arrivals.{arrives}
+use Rattle.mscp_control.proofs.Promise.Arrivals.{arrives, taken_when}
 use Rattle.mscp_control.proofs.Promise.Served.{step_right}
 use Rattle.mscp_control.proofs.Promise.Steady.{Steady}
 
@@ -126,11 +126,11 @@ aborted_of : Sent → Option ℕ
 aborted_of (sents.Queued r) = None
 aborted_of (sents.Answered r a) = a
 
-becomes_answer : (c : Settings) (t : Trace) (command : Command) (q : Bool) (r : ℕ) (a : Option ℕ)
-    → sents.Answered r a ≡ becomes_when c t command q → a ≡ aborted_reference c t command
+taken_as_answer : (c : Settings) (t : Trace) (command : Command) (q : Bool) (r : ℕ) (a : Option ℕ)
+    → sents.Answered r a ≡ taken_when c t command q → a ≡ aborted_reference c t command
 unfolding is_answer aborted_of
-becomes_answer c t command true r a e = absurd (true≢false (ap is_answer e))
-becomes_answer c t command false r a e = ap aborted_of e
+taken_as_answer c t command true r a e = absurd (true≢false (ap is_answer e))
+taken_as_answer c t command false r a e = ap aborted_of e
 
 served_fits : (c : Settings) (t : Trace) (m : Moment) (s : Service) → Room c t → Steady c t → service_in m.1 ≡ Some s
     → IsRight c t m.0 m.1 → ends_at c t m ≡ option_to_list s.ended → Fits c t m
@@ -166,7 +166,7 @@ fits c t (events.Send b) (entries.Sent (Ok (sents.Queued q))) h st r =
 fits c t (events.Send b) (entries.Sent (Ok (sents.Answered q o))) h st r =
     let m : Moment = (events.Send b, entries.Sent (Ok (sents.Answered q o))) in
     let a = arrives c t b.items (sents.Answered q o) r in
-    let is = becomes_answer c t (command_of b.items) (is_queued c (command_of b.items)) q o a.is in
+    let is = taken_as_answer c t (command_of b.items) (is_queued c (command_of b.items)) q o a.is in
     let rest = aborted_rest t q (command_of b.items).order (fault_of c (command_of b.items)) o is in
     omega (arith, balance_some c t a.taken.free, waiting_length t m, rest, ap length (append-nil (answer c t b.items))
         ∙ answered_length c t b.items)

@@ -20,10 +20,10 @@ impl Model for Handle {
     ghost use Rattle.std.specs.Prelude.{is_none};
     ghost use Rattle.std.specs.Borrow.{full_share};
     ghost use Rattle.std.specs.Ptr.{lies_at, room_at};
-    ghost use Rattle.mscp_memory.specs.Rooms.{one_of};
+    ghost use Rattle.mscp_memory.specs.Rooms.{if_fml};
     ghost use Rattle.mscp_memory.specs.HostRoom.{fault_of, is_made_of, row};
 
     ghost also_owns = { λ h.
-        one_of (is_made_of h.mark) (lies_at row full_share h.at h.held)
-        (one_of (is_none (fault_of h.address h.length h.mark)) (room_at row h.at) ftrue) };
+        if_fml (is_made_of h.mark) (lies_at row full_share h.at h.held)
+        (if_fml (is_none (fault_of h.address h.length h.mark)) (room_at row h.at) ftrue) };
 }

@@ -9,7 +9,7 @@ ghost use Rattle.mscp_script.specs.Plain.{plain_request};
 ghost use Rattle.mscp_script.specs.Requests.{request};
 ghost use Rattle.mscp_script.specs.Grammar.{Place, IsInHeader};
 ghost use Rattle.mscp_script.specs.Grammar.{said_at};
-ghost use Rattle.mscp_script.specs.Outcome.{in_line, outcome, rest_outcome, onward, ended};
+ghost use Rattle.mscp_script.specs.Outcome.{in_line, lines_outcome, rest_outcome, onward, all_read};
 ghost use Rattle.mscp_script.specs.declared.script.TheConstants.{MOST_BYTES};
 
 use crate::script::MOST_BYTES;
@@ -66,7 +66,7 @@ impl<'a> Lines<'a> {
         ensures fault { IfErr result (λ fault. 1 ≤ fault.line) }
         ensures number { IfOk result (λ found. IfSome found (λ line. line.number ≡ self.new.number)) }
         ensures none { IfOk result (λ found. IfNone found ((p : Place) → rest_outcome self.old.number p
-            self.old.rest.now ≡ ended self.new.number p)) }
+            self.old.rest.now ≡ all_read self.new.number p)) }
         ensures some { IfOk result (λ found. IfSome found (λ line. (p : Place) → rest_outcome self.old.number p
             self.old.rest.now
             ≡ onward self.new.number p (lexical.words line.words.rest.now) (lexical.lines self.new.rest.now))) }

@@ -16,7 +16,7 @@ use Rattle.mscp_host.specs.Accounts.{is_immediate, oldest, poll_of, submission_o
 use Rattle.mscp_sim.specs.declared.conversing.Turn.{Turn}
 use Rattle.mscp_sim.specs.declared.conversing.Turn.TheVariants as turns
 use Rattle.mscp_sim.specs.declared.conversing.Heard.TheVariants as hears
-use Rattle.mscp_sim.specs.Talks.{Talk, account_at, answers_of, is_asked, before, ended, hands_over, in_flight, is_ended, is_outstanding, last_answer, opcode, opcode_in, outstanding, polled, reference, reference_found, reference_in, said, sends, polled_is_outstanding, submission_at, unit_found, unit_in, unit_of_turn, watch_at}
+use Rattle.mscp_sim.specs.Talks.{Talk, account_at, answers_of, is_asked, before, handed_over, hands_over, in_flight, is_ended, is_outstanding, last_answer, opcode, opcode_in, outstanding, asked_for, reference, reference_found, reference_in, said, sends, polled_is_outstanding, submission_at, unit_or_0, unit_in, unit_named, watch_at}
 use Rattle.mscp_sim.proofs.TwoEnds.Outstanding.{any_more, ends_now, found_stands, last_same, outstanding_more, untold}
 
 -- ---- nothing is handed over
@@ -29,7 +29,7 @@ find_false : {X : Type 0} (p : X → Bool) (xs : List X) → ((x : X) → p x �
 find_false p [] h = refl
 find_false p (x ∷ xs) h = ap (λ b. cond b (Some x) (find p xs)) (h x) ∙ find_false p xs h
 
-pub none_handed : (talk : Talk) (j : ℕ) → NoEnd talk j → ended talk j ≡ None
+pub none_handed : (talk : Talk) (j : ℕ) → NoEnd talk j → handed_over talk j ≡ None
 none_handed talk j n = find_false (λ i. hands_over (reference talk i) (said talk j).moment) (outstanding talk j)
     (λ i. n (reference talk i))
 
@@ -62,7 +62,7 @@ subs_same : (c : Settings) (talk : Talk) (j : ℕ) (xs : List ℕ) → NoEnd tal
 subs_same c talk j xs n =
     map_on (submission_at c talk (j + 1)) (submission_at c talk j) xs
     (every_from (λ i. submission_at c talk (j + 1) i ≡ submission_at c talk j i)
-        (λ i. ap (λ t. record { reference = reference talk i; unit = unit_of_turn talk i (said talk i).turn; opcode =
+        (λ i. ap (λ t. record { reference = reference talk i; unit = unit_named talk i (said talk i).turn; opcode =
         opcode talk i; told = t }) (no_answer c talk j i n)) xs)
 
 stands_same : (talk : Talk) (j : ℕ) (o : Option ℕ) → NoEnd talk j
@@ -74,8 +74,8 @@ watch_same : (talk : Talk) (j : ℕ) (o : Option ℕ) → NoEnd talk j
     → option_map (watch_at talk (j + 1)) o ≡ option_map (watch_at talk j) o
 watch_same talk j None n = refl
 watch_same talk j (Some p) n = ap (λ b. Some (record
-    { reference = reference talk p; polled = reference_found talk (polled talk p); is_outstanding = b }))
-    (stands_same talk j (polled talk p) n)
+    { reference = reference talk p; polled = reference_found talk (asked_for talk p); is_outstanding = b }))
+    (stands_same talk j (asked_for talk p) n)
 
 -- nothing is sent either
 pub account_quiet : (c : Settings) (talk : Talk) (j : ℕ) → NoEnd talk j → sends (said talk j).heard ≡ false
@@ -99,14 +99,14 @@ outs_sent talk j n s = outstanding_more talk j ∙ (λ i. all_stay talk j n i ++
 
 subs_sent : (c : Settings) (talk : Talk) (j : ℕ) → NoEnd talk j → sends (said talk j).heard ≡ true
     → map (submission_at c talk (j + 1)) (outstanding talk (j + 1)) ≡ map (submission_at c talk j) (outstanding talk j)
-        ++ record { reference = reference talk j; unit = unit_of_turn talk j (said talk j).turn; opcode =
+        ++ record { reference = reference talk j; unit = unit_named talk j (said talk j).turn; opcode =
         opcode talk j; told = None } ∷ []
 subs_sent c talk j n s =
     ap (map (submission_at c talk (j + 1))) (outs_sent talk j n s)
     ∙ (subs_same c talk j (outstanding talk j ++ j ∷ []) n
     ∙ (map-append (submission_at c talk j) (outstanding talk j) (j ∷ [])
     ∙ ap (λ t. map (submission_at c talk j) (outstanding talk j)
-        ++ record { reference = reference talk j; unit = unit_of_turn talk j (said talk j).turn; opcode =
+        ++ record { reference = reference talk j; unit = unit_named talk j (said talk j).turn; opcode =
         opcode talk j; told = t } ∷ []) (untold c talk j)))
 
 or_nothing : (o : Option ℕ) → option_or o None ≡ o
@@ -118,9 +118,9 @@ pub account_submitted : (c : Settings) (talk : Talk) (j : ℕ) (command : Comman
     → account_at c talk (j + 1) ≡ submitted (account_at c talk j) command
 account_submitted c talk j command sent n t h =
     let s : sends (said talk j).heard ≡ true = ap sends h in
-    let new : record { reference = reference talk j; unit = unit_of_turn talk j (said talk j).turn; opcode =
+    let new : record { reference = reference talk j; unit = unit_named talk j (said talk j).turn; opcode =
         opcode talk j; told = None } ≡ submission_of command =
-        ap (λ u. record { reference = reference_in u; unit = unit_of_turn talk j u; opcode = opcode_in u; told = None })
+        ap (λ u. record { reference = reference_in u; unit = unit_named talk j u; opcode = opcode_in u; told = None })
         t in
     let subs = subs_sent c talk j n s ∙ ap (λ x. map (submission_at c talk j) (outstanding talk j) ++ x ∷ []) new in
     let p : ℕ → Bool = λ p. is_asked (said talk p).heard in
@@ -140,28 +140,28 @@ find_map {X} f p (x ∷ xs) = elim (p (f x)) as (λ b. cond b (Some (f x)) (find
     ≡ option_map f (cond b (Some x) (find (λ (y : X). p (f y)) xs))) [ true ↦ refl | false ↦ find_map f p xs ]
 
 pub oldest_is : (c : Settings) (talk : Talk) (j : ℕ)
-    → oldest (account_at c talk j) ≡ option_map (submission_at c talk j) (polled talk j)
+    → oldest (account_at c talk j) ≡ option_map (submission_at c talk j) (asked_for talk j)
 oldest_is c talk j = find_map (submission_at c talk j) (λ s. not (is_immediate s.opcode)) (outstanding talk j)
 
 pub unit_same : (talk : Talk) (i : ℕ) (turn : Turn) → not (is_immediate (opcode_in turn)) ≡ true
-    → unit_in turn ≡ unit_of_turn talk i turn
+    → unit_in turn ≡ unit_named talk i turn
 unit_same talk i (turns.Poll r) e = absurd (false≢true e)
 unit_same talk i turn e = refl
 
 -- the submission that a poll is about
 pub record Polls (c : Settings) (talk : Talk) (j : ℕ) (s : Submission) : Type 0 where
   pub command : ℕ
-  pub found : polled talk j ≡ Some command
+  pub found : asked_for talk j ≡ Some command
   pub is : s ≡ submission_at c talk j command
 
-polls_when : (c : Settings) (talk : Talk) (j : ℕ) (s : Submission) (o : Option ℕ) → polled talk j ≡ o
+polls_when : (c : Settings) (talk : Talk) (j : ℕ) (s : Submission) (o : Option ℕ) → asked_for talk j ≡ o
     → option_map (submission_at c talk j) o ≡ Some s → Polls c talk j s
 polls_when c talk j s None q e = absurd (false≢true (ap is_some e))
 polls_when c talk j s (Some i) q e = record { command = i; found = q; is = ap (λ o. unwrap_or o s) (sym e) }
 
 pub polls_of : (c : Settings) (talk : Talk) (j : ℕ) (s : Submission) → oldest (account_at c talk j) ≡ Some s
     → Polls c talk j s
-polls_of c talk j s e = polls_when c talk j s (polled talk j) refl (sym (oldest_is c talk j) ∙ e)
+polls_of c talk j s e = polls_when c talk j s (asked_for talk j) refl (sym (oldest_is c talk j) ∙ e)
 
 pub no_flight : (talk : Talk) (j : ℕ) (o : Option ℕ) → is_some (option_map (watch_at talk j) o) ≡ false → o ≡ None
 no_flight talk j None e = refl
@@ -177,14 +177,14 @@ account_asked c talk j r s n t h w o =
     let sent : sends (said talk j).heard ≡ true = ap sends h in
     let oldest : not (is_immediate (opcode talk i)) ≡ true =
         found_is (λ x. not (is_immediate (opcode talk x))) (outstanding talk j) i a.found in
-    let unit : unit_found talk (polled talk j) ≡ s.unit =
-        ap (unit_found talk) a.found ∙ (unit_same talk i (said talk i).turn oldest
+    let unit : unit_or_0 talk (asked_for talk j) ≡ s.unit =
+        ap (unit_or_0 talk) a.found ∙ (unit_same talk i (said talk i).turn oldest
         ∙ ap (λ (x : Submission). x.unit) (sym a.is)) in
-    let number : reference_found talk (polled talk j) ≡ s.reference =
+    let number : reference_found talk (asked_for talk j) ≡ s.reference =
         ap (reference_found talk) a.found ∙ ap (λ (x : Submission). x.reference) (sym a.is) in
-    let new : record { reference = reference talk j; unit = unit_of_turn talk j (said talk j).turn; opcode =
+    let new : record { reference = reference talk j; unit = unit_named talk j (said talk j).turn; opcode =
         opcode talk j; told = None } ≡ submission_of (poll_of r s) =
-        ap (λ u. record { reference = reference_in u; unit = unit_of_turn talk j u; opcode = opcode_in u; told = None })
+        ap (λ u. record { reference = reference_in u; unit = unit_named talk j u; opcode = opcode_in u; told = None })
         t ∙ ap (λ u. record { reference = r; unit = u; opcode = 0x02; told = None }) unit in
     let subs = subs_sent c talk j n sent ∙ ap (λ x. map (submission_at c talk j) (outstanding talk j) ++ x ∷ []) new in
     let p : ℕ → Bool = λ p. is_asked (said talk p).heard in
@@ -192,7 +192,7 @@ account_asked c talk j r s n t h w o =
     let flight : in_flight talk (j + 1) ≡ Some j =
         ap (find p) (outs_sent talk j n sent) ∙ (find-append p (outstanding talk j) (j ∷ [])
         ∙ (λ k. option_or (idle k) (cond (is_asked (h k)) (Some j) None))) in
-    let there : polled_is_outstanding talk (j + 1) (polled talk j) ≡ true =
+    let there : polled_is_outstanding talk (j + 1) (asked_for talk j) ≡ true =
         ap (polled_is_outstanding talk (j + 1)) a.found
         ∙ (outstanding_same talk j i n ∙ found_stands talk j i _ a.found) in
     let watch : option_map (watch_at talk (j + 1)) (in_flight talk (j + 1))

@@ -22,7 +22,7 @@ use Rattle.mscp_host.specs.Accounts.{Account, has_reference, oldest, polls_oldes
 use Rattle.mscp_sim.specs.declared.conversing.Turn.TheVariants as turns
 use Rattle.mscp_sim.specs.declared.conversing.Heard.TheVariants as hears
 use Rattle.mscp_sim.specs.Matches.{Flight, Matches}
-use Rattle.mscp_sim.specs.Talks.{Talk, account_at, is_asked, in_flight, is_outstanding, polled, reference, reference_found, said, sends, figure_told, trace_of}
+use Rattle.mscp_sim.specs.Talks.{Talk, account_at, is_asked, in_flight, is_outstanding, asked_for, reference, reference_found, said, sends, figure_told, trace_of}
 use Rattle.mscp_sim.specs.Conversing.{IsSound, AnswersTurn, Says}
 use Rattle.mscp_sim.specs.TwoEnds.{IsPolled}
 use Rattle.mscp_sim.proofs.TwoEnds.Accounting.{account_asked, no_flight, polls_of}
@@ -73,7 +73,7 @@ poll_turn {K} c picks picker talk j a a' h h' told r v law l s p t (Ok (polls.As
         subst (λ (y : Account). oldest y ≡ Some x.about) s.account x.oldest in
     let none : in_flight talk j ≡ None = no_flight talk j (in_flight talk j) idle in
     let about = polls_of c talk j x.about first in
-    let number : x.about.reference ≡ reference_found talk (polled talk j) =
+    let number : x.about.reference ≡ reference_found talk (asked_for talk j) =
         ap (λ (y : Submission). y.reference) about.is ∙ ap (reference_found talk) (sym about.found) in
     let same : a' ≡ account_at c talk (j + 1) = x.left
         ∙ (ap (λ y. watching y r x.about) s.account ∙ sym (account_asked c talk j r x.about n t k.1 idle first)) in

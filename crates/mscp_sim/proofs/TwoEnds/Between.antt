@@ -21,7 +21,7 @@ use Rattle.mscp_queue.proofs.Placed.{found_is}
 use Rattle.mscp_sim.specs.declared.conversing.Turn.{Turn}
 use Rattle.mscp_sim.specs.declared.conversing.Turn.TheVariants as turns
 use Rattle.mscp_sim.specs.Talks as talks
-use Rattle.mscp_sim.specs.Talks.{Talk, account_at, answers_of, is_asked, asks_about, before, ended, hands_over, is_ended, is_it, is_outstanding, last_of, outstanding, polled, reference_found, said, sends, figure_told, trace_of}
+use Rattle.mscp_sim.specs.Talks.{Talk, account_at, answers_of, is_asked, asks_about, before, handed_over, hands_over, is_ended, is_it, is_outstanding, last_of, outstanding, asked_for, reference_found, said, sends, figure_told, trace_of}
 use Rattle.mscp_sim.specs.TwoEnds.{IsHeard, IsStepTurn, Stands, StepsSincePolls}
 use Rattle.mscp_sim.proofs.TwoEnds.Outstanding.{any_more, before_below, found_below, found_stands}
 use Rattle.mscp_sim.proofs.TwoEnds.Receiving.{found_all, outstanding_found}
@@ -48,17 +48,19 @@ record Came (c : Settings) (talk : Talk) (j i l : ℕ) : Type 0 where
   pub turn : ℕ
   pub poll : ℕ
   pub early : turn < j
-  pub handed : ended talk turn ≡ Some poll
+  pub handed : handed_over talk turn ≡ Some poll
   pub about : asks_about talk i poll ≡ true
   pub told : figure_told c talk poll ≡ l
 
 came_from : (c : Settings) (talk : Talk) (j i l : ℕ) (ks : List ℕ) → AllByRecursion (λ k. k < j) ks
-    → last_of (flat_map (λ k. answers_of c talk i (ended talk k)) ks) ≡ Some l → Came c talk j i l
+    → last_of (flat_map (λ k. answers_of c talk i (handed_over talk k)) ks) ≡ Some l → Came c talk j i l
 came_from c talk j i l [] h e = absurd (false≢true (ap is_some e))
 came_from c talk j i l (k ∷ ks) h e =
-    let rest = flat_map (λ k. answers_of c talk i (ended talk k)) ks in
-    let of : (o : Option ℕ) → ended talk k ≡ o → last_of (answers_of c talk i o ++ rest) ≡ Some l → Came c talk j i l =
-    λ o. elim o as (λ o. ended talk k ≡ o → last_of (answers_of c talk i o ++ rest) ≡ Some l → Came c talk j i l) [
+    let rest = flat_map (λ k. answers_of c talk i (handed_over talk k)) ks in
+    let of : (o : Option ℕ) → handed_over talk k ≡ o → last_of (answers_of c talk i o ++ rest) ≡ Some l
+        → Came c talk j i l =
+    λ o. elim o as (λ o. handed_over talk k ≡ o → last_of (answers_of c talk i o ++ rest) ≡ Some l → Came c talk j i l)
+        [
       | None ↦ λ q f. came_from c talk j i l ks h.1 f
       | Some p ↦ λ q.
           let when : (b : Bool) → asks_about talk i p ≡ b
@@ -78,7 +80,7 @@ came_from c talk j i l (k ∷ ks) h e =
           ] in
           when (asks_about talk i p) refl
     ] in
-    of (ended talk k) refl e
+    of (handed_over talk k) refl e
 
 -- ---- what was outstanding
 
@@ -122,7 +124,7 @@ any_there q (x ∷ xs) k e h =
     out (nat_eq x k) refl h
 
 -- a command whose end was handed over is outstanding no more
-gone : (talk : Talk) (j k p : ℕ) → k < j → ended talk k ≡ Some p → is_outstanding talk j p ≡ false
+gone : (talk : Talk) (j k p : ℕ) → k < j → handed_over talk k ≡ Some p → is_outstanding talk j p ≡ false
 gone talk j k p l e =
     let below = found_below talk k p _ e in
     let after : nat_lt p k ≡ true = grind (arith, nat_tests, below) in
@@ -135,7 +137,7 @@ gone talk j k p l e =
 -- ---- the first poll came first
 
 order_of : (c : Settings) (talk : Talk) (j k p q : ℕ) → AllKnown c talk → j < length talk → k < j
-    → ended talk k ≡ Some p → ended talk j ≡ Some q → is_asked (said talk p).heard ≡ true
+    → handed_over talk k ≡ Some p → handed_over talk j ≡ Some q → is_asked (said talk p).heard ≡ true
     → is_asked (said talk q).heard ≡ true → p < q
 order_of c talk j k p q known l m e f a b =
     let pk : p < k = found_below talk k p _ e in
@@ -333,10 +335,10 @@ never_reset c talk known j l st steps =
     let n = talks.reference talk i in
     let came = came_from c talk j i st.last (before j) (before_below j) st.told in
     let p = came.poll in
-    let ap_ = both_true (is_asked (said talk p).heard) (is_it i (polled talk p)) came.about in
-    let aq = both_true (is_asked (said talk q).heard) (is_it i (polled talk q)) st.about in
-    let pp : polled talk p ≡ Some i = it_is i (polled talk p) ap_.1 in
-    let pq : polled talk q ≡ Some i = it_is i (polled talk q) aq.1 in
+    let ap_ = both_true (is_asked (said talk p).heard) (is_it i (asked_for talk p)) came.about in
+    let aq = both_true (is_asked (said talk q).heard) (is_it i (asked_for talk q)) st.about in
+    let pp : asked_for talk p ≡ Some i = it_is i (asked_for talk p) ap_.1 in
+    let pq : asked_for talk q ≡ Some i = it_is i (asked_for talk q) aq.1 in
     let less = order_of c talk j came.turn p q known l came.early came.handed st.handed ap_.0 aq.0 in
     let qj : q < j = found_below talk j q _ st.handed in
     let ql : q < length talk = omega (arith, qj, l) in
@@ -364,13 +366,14 @@ never_reset c talk known j l st steps =
 
 -- the answer of the poll q about the command i doesn't stand where a step lies between it and each one before
 pub never_stands : (c : Settings) (talk : Talk) → AllKnown c talk → (j : ℕ) → j < length talk → (i q : ℕ)
-    → ended talk j ≡ Some q → asks_about talk i q ≡ true → StepsSincePolls talk i q → Stands c talk j → ⊥
+    → handed_over talk j ≡ Some q → asks_about talk i q ≡ true → StepsSincePolls talk i q → Stands c talk j → ⊥
 never_stands c talk known j l i q h a steps st =
     let poll : q ≡ st.poll = ap (λ o. unwrap_or o q) (sym h ∙ st.handed) in
-    let at : is_it i (polled talk q) ≡ true = (both_true (is_asked (said talk q).heard) _ a).1 in
-    let at' : is_it st.command (polled talk st.poll) ≡ true =
+    let at : is_it i (asked_for talk q) ≡ true = (both_true (is_asked (said talk q).heard) _ a).1 in
+    let at' : is_it st.command (asked_for talk st.poll) ≡ true =
         (both_true (is_asked (said talk st.poll).heard) _ st.about).1 in
     let command : i ≡ st.command = ap (λ o. unwrap_or o i)
-        (sym (it_is i (polled talk q) at) ∙ (ap (polled talk) poll ∙ it_is st.command (polled talk st.poll) at')) in
+        (sym (it_is i (asked_for talk q) at) ∙ (ap (asked_for talk) poll
+            ∙ it_is st.command (asked_for talk st.poll) at')) in
     never_reset c talk known j l st (subst (λ k. StepsSincePolls talk k st.poll) command
         (subst (StepsSincePolls talk i) poll steps))

@@ -6,7 +6,7 @@ use Rattle.mscp_packet.specs.declared.class.Opcode.{Opcode}
 use Rattle.mscp_packet.specs.declared.class.Opcode.TheVariants as codes
 use Rattle.mscp_packet.specs.declared.command.MoveKind.TheVariants as moves
 use Rattle.mscp_packet.specs.declared.command.Order.TheVariants as orders
-use Rattle.mscp_packet.specs.Opcodes.{least, line_of, opcode_of, opcodes}
+use Rattle.mscp_packet.specs.Opcodes.{least, row_of, opcode_of, opcodes}
 use Rattle.mscp_packet.specs.Commands.{command_of, order_with, parameters}
 use Rattle.mscp_packet.specs.Statuses.{invalid_length}
 use Rattle.mscp_queue.specs.Orders.{endcode}
@@ -28,7 +28,7 @@ coded_parameters (codes.Move moves.Read) b = refl
 coded_parameters (codes.Move moves.Write) b = refl
 
 -- a message that is too short has the endcode of its opcode
-coded_short : (o : Opcode) → HasOwnEndcode (orders.Invalid (line_of o).byte invalid_length)
+coded_short : (o : Opcode) → HasOwnEndcode (orders.Invalid (row_of o).byte invalid_length)
 coded_short codes.Abort = refl
 coded_short codes.Status = refl
 coded_short codes.UnitStatus = refl
@@ -42,13 +42,13 @@ coded_short (codes.Move moves.Compare) = refl
 coded_short (codes.Move moves.Read) = refl
 coded_short (codes.Move moves.Write) = refl
 
-coded_with : (b : List ℕ) (found : Option Opcode) → find (λ o. nat_eq (line_of o).byte (slice_index b 8)) opcodes
+coded_with : (b : List ℕ) (found : Option Opcode) → find (λ o. nat_eq (row_of o).byte (slice_index b 8)) opcodes
     ≡ found → HasOwnEndcode (order_with found b)
 coded_with b None e = refl
 coded_with b (Some o) e =
-    let byte : (line_of o).byte ≡ slice_index b 8 =
-        eqb-true (line_of o).byte (slice_index b 8)
-        (found_is (λ (x : Opcode). nat_eq (line_of x).byte (slice_index b 8)) opcodes o e) in
+    let byte : (row_of o).byte ≡ slice_index b 8 =
+        eqb-true (row_of o).byte (slice_index b 8)
+        (found_is (λ (x : Opcode). nat_eq (row_of x).byte (slice_index b 8)) opcodes o e) in
     elim (nat_lt (length b) (least o)) as (λ s. HasOwnEndcode
         (if s then orders.Invalid (slice_index b 8) invalid_length else parameters o b)) [
       | true ↦ subst (λ k. HasOwnEndcode (orders.Invalid k invalid_length)) byte (coded_short o)

@@ -24,7 +24,7 @@ use Rattle.mscp_sim.specs.declared.conversing.Turn.TheVariants as turns
 use Rattle.mscp_sim.specs.declared.conversing.Heard.{Heard}
 use Rattle.mscp_sim.specs.declared.conversing.Heard.TheVariants as hears
 use Rattle.mscp_sim.specs.Matches.{Flight, HasFlight, IsAwaited, IsFlight, Matches}
-use Rattle.mscp_sim.specs.Talks.{Talk, account_at, is_asked, ended, hands_over, in_flight, is_it, is_outstanding, last_answer, outstanding, polled, reference, reference_found, said, sends, polled_is_outstanding, submission_at, figure_told, watch_at}
+use Rattle.mscp_sim.specs.Talks.{Talk, account_at, is_asked, handed_over, hands_over, in_flight, is_it, is_outstanding, last_answer, outstanding, asked_for, reference, reference_found, said, sends, polled_is_outstanding, submission_at, figure_told, watch_at}
 use Rattle.mscp_sim.specs.Conversing.{IsSound, AnswersTurn, Says}
 use Rattle.mscp_sim.specs.TwoEnds.{IsHanded, Stands}
 use Rattle.mscp_sim.proofs.TwoEnds.Accounting.{find_map}
@@ -42,7 +42,7 @@ found_poll : (c : Settings) (talk : Talk) (j : ℕ) (e : End) (k : ℕ)
     → ((r : ℕ) → hands_over r (said talk j).moment ≡ nat_eq e.reference r) → (o : Option ℕ)
     → find (λ i. nat_eq (reference talk i) e.reference) (outstanding talk j) ≡ o
     → option_map (λ (s : Submission). s.opcode) (option_map (submission_at c talk j) o) ≡ Some k
-        → (p : ℕ) × (ended talk j ≡ Some p)
+        → (p : ℕ) × (handed_over talk j ≡ Some p)
 found_poll c talk j e k h None f q = absurd (false≢true (ap is_some q))
 found_poll c talk j e k h (Some p) f q =
     (p, ap (λ (t : ℕ → Bool). find t (outstanding talk j))
@@ -74,14 +74,14 @@ gives {K} c picks picker talk j a h told e us s u hands silent =
               (subst (λ xs. HasFlight xs (account_at c talk j).watch told) u m.flight) in
           let first = first_is e us (watch_at talk j p) told flight (alone (account_at c talk j) h told e us m u).1 n in
           (ap (λ (x : End). x.code) (sym first.1) ∙ flight.code, ap (λ (x : End). x.body) (sym first.1)
-              ∙ (flight.body ∙ ap (λ k. bodies.Status (reference_found talk (polled talk p)) k) (s.flight p f).0));
+              ∙ (flight.body ∙ ap (λ k. bodies.Status (reference_found talk (asked_for talk p)) k) (s.flight p f).0));
     }
 
 -- a poll's answer is at least 1 where its command still stands
 answer_some : {K : Type 0} (c : Settings) (picks : List Choice → ℕ → Type 0) (picker : K) (talk : Talk) (j : ℕ)
     (a : Account) (h : Holdings K) (told : Flight) (e : End) (us : List End) (p : ℕ) → At c picks picker talk j a h told
     → h.untaken ≡ e ∷ us → in_flight talk j ≡ Some p
-    → reference talk p ≡ e.reference → polled_is_outstanding talk j (polled talk p) ≡ true → 1 ≤ figure_told c talk p
+    → reference talk p ≡ e.reference → polled_is_outstanding talk j (asked_for talk p) ≡ true → 1 ≤ figure_told c talk p
 answer_some {K} c picks picker talk j a h told e us p s u f n st =
     let m = subst (λ (x : Account). Matches x h told) s.account s.match in
     let watch : (account_at c talk j).watch ≡ Some (watch_at talk j p) = ap (option_map (watch_at talk j)) f in
@@ -93,7 +93,7 @@ answer_some {K} c picks picker talk j a h told e us p s u f n st =
     let out : (b : Bool) → told.waited ≡ b → told.waited ≡ true =
     λ b. elim b as (λ b. told.waited ≡ b → told.waited ≡ true)
         [ true ↦ λ q. q | false ↦ λ q. absurd (false≢true
-        (ap (list_any (λ (x : End). nat_eq x.reference (reference_found talk (polled talk p)))) (sym first.0)
+        (ap (list_any (λ (x : End). nat_eq x.reference (reference_found talk (asked_for talk p)))) (sym first.0)
         ∙ flight.ended st q)) ] in
     out told.waited refl in
     let both = s.flight p f in
@@ -148,7 +148,8 @@ its_poll c talk j e g st = ap (λ o. unwrap_or o st.poll) (sym st.handed ∙ g.f
 in_flight_then : (c : Settings) (talk : Talk) (j : ℕ) (e : End) (g : Gives c talk j e) → Stands c talk j
     → in_flight talk j ≡ Some g.poll
 in_flight_then c talk j e g st =
-    let asked = (asked_of (is_asked (said talk st.poll).heard) (is_it st.command (polled talk st.poll)) st.about).0 in
+    let asked = (asked_of (is_asked (said talk st.poll).heard) (is_it st.command (asked_for talk st.poll))
+        st.about).0 in
     poll_asks c talk j e g (ap (λ p. is_asked (said talk p).heard) (sym (its_poll c talk j e g st)) ∙ asked)
 
 -- a command's own end says no more than that it ended
@@ -202,7 +203,7 @@ told_last c talk j i e g f =
 
 -- what is said of the answer of the poll p, whose command is o
 said_answer : (c : Settings) (talk : Talk) (j p : ℕ) (e : End) (g : Gives c talk j e) → in_flight talk j ≡ Some p
-    → p ≡ g.poll → (o : Option ℕ) → polled talk p ≡ o → (b : Bool) → polled_is_outstanding talk j o ≡ b
+    → p ≡ g.poll → (o : Option ℕ) → asked_for talk p ≡ o → (b : Bool) → polled_is_outstanding talk j o ≡ b
     → (b ≡ true → 1 ≤ figure_told c talk p)
     → IsSaid c talk j (if b then news_of_figure (last_told (account_at c talk j).outstanding (reference_found talk o))
         (figure_told c talk p) else news.Late)
@@ -215,10 +216,11 @@ said_answer c talk j p e g q s (Some i) r true t some =
     let last = told_last c talk j i e g there in
     rw last (said_figure c talk j (figure_told c talk p) (last_answer c talk j i) (some refl)
     (λ st.
-    let about = (asked_of (is_asked (said talk st.poll).heard) (is_it st.command (polled talk st.poll)) st.about).1 in
+    let about = (asked_of (is_asked (said talk st.poll).heard) (is_it st.command (asked_for talk st.poll))
+        st.about).1 in
     let poll : st.poll ≡ p = its_poll c talk j e g st ∙ sym s in
     let same : i ≡ st.command = eqb-true i st.command
-        (ap (is_it st.command) (sym (ap (polled talk) poll ∙ r)) ∙ about) in
+        (ap (is_it st.command) (sym (ap (asked_for talk) poll ∙ r)) ∙ about) in
     (st.last, ap (last_answer c talk j) same ∙ st.told, subst (λ k. st.last ≤ figure_told c talk k) poll st.not_less))
     (λ l k m.
     let asked : is_asked (said talk p).heard ≡ true =
@@ -235,14 +237,15 @@ said_answer c talk j p e g q s (Some i) r true t some =
     }))
 said_answer c talk j p e g q s o r false t some =
     said_late c talk j (λ st.
-    let about = (asked_of (is_asked (said talk st.poll).heard) (is_it st.command (polled talk st.poll)) st.about).1 in
+    let about = (asked_of (is_asked (said talk st.poll).heard) (is_it st.command (asked_for talk st.poll))
+        st.about).1 in
     let poll : st.poll ≡ p = its_poll c talk j e g st ∙ sym s in
-    true≢false (sym (stands_it talk j st.command o (ap (is_it st.command) (sym (ap (polled talk) poll ∙ r)) ∙ about)
+    true≢false (sym (stands_it talk j st.command o (ap (is_it st.command) (sym (ap (asked_for talk) poll ∙ r)) ∙ about)
         st.outstanding) ∙ t))
 
 said_flight : (c : Settings) (talk : Talk) (j p : ℕ) (e : End) (g : Gives c talk j e) → in_flight talk j ≡ Some p
     → (b : Bool) → nat_eq (reference talk p) e.reference ≡ b
-    → (b ≡ true → polled_is_outstanding talk j (polled talk p) ≡ true → 1 ≤ figure_told c talk p)
+    → (b ≡ true → polled_is_outstanding talk j (asked_for talk p) ≡ true → 1 ≤ figure_told c talk p)
     → IsSaid c talk j (news_with (account_at c talk j) e
         (if b && nat_eq e.code 0x82 then host.told_in e.body else None))
 said_flight c talk j p e g q true n some =
@@ -251,7 +254,8 @@ said_flight c talk j p e g q true n some =
     let same : p ≡ g.poll = same_poll c talk j e _ p g q named in
     let watch : (account_at c talk j).watch ≡ Some (watch_at talk j p) = ap (option_map (watch_at talk j)) q in
     rw (eq-eqb e.code 0x82 tells.0, tells.1, watch)
-        (said_answer c talk j p e g q same (polled talk p) refl (polled_is_outstanding talk j (polled talk p)) refl
+        (said_answer c talk j p e g q same (asked_for talk p) refl (polled_is_outstanding talk j (asked_for talk p))
+            refl
         (some refl))
 said_flight c talk j p e g q false n some =
     said_ended c talk j e (λ st.
@@ -260,7 +264,7 @@ said_flight c talk j p e g q false n some =
 
 said_with : (c : Settings) (talk : Talk) (j : ℕ) (e : End) (g : Gives c talk j e) (o : Option ℕ) → in_flight talk j ≡ o
     → ((p : ℕ) → in_flight talk j ≡ Some p → reference talk p ≡ e.reference
-    → polled_is_outstanding talk j (polled talk p) ≡ true → 1 ≤ figure_told c talk p)
+    → polled_is_outstanding talk j (asked_for talk p) ≡ true → 1 ≤ figure_told c talk p)
     → IsSaid c talk j (news_with (account_at c talk j) e (answered (option_map (watch_at talk j) o) e))
 said_with c talk j e g None q some = said_ended c talk j e
     (λ st. true≢false (ap is_some (sym (in_flight_then c talk j e g st) ∙ q)))
@@ -315,12 +319,12 @@ take_some {K} c picks picker talk j a a' h h' told b l s r t m k =
         idle = never_idle talk j (ap is_asked k.1);
         some = λ p i f about st.
             let this : p ≡ g.poll = ap (λ o. unwrap_or o p) (sym f ∙ g.found) in
-            let parts = asked_of (is_asked (said talk p).heard) (is_it i (polled talk p)) about in
+            let parts = asked_of (is_asked (said talk p).heard) (is_it i (asked_for talk p)) about in
             let flight : in_flight talk j ≡ Some p =
                 poll_asks c talk j e g (ap (λ q. is_asked (said talk q).heard) (sym this) ∙ parts.0)
                 ∙ ap Some (sym this) in
             answer_some c picks picker talk j a h told e x.rest p s x.untaken flight
-                (ap (reference talk) this ∙ poll_named c talk j e g) (stands_it talk j i (polled talk p) parts.1 st);
+                (ap (reference talk) this ∙ poll_named c talk j e g) (stands_it talk j i (asked_for talk p) parts.1 st);
       };
       told = told;
       next = record {

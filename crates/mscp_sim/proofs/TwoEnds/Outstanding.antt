@@ -9,7 +9,7 @@ use Rattle.std.proofs.lemmas.List.Folds.{list_any-append}
 use Rattle.mscp_queue.proofs.Lists.{every_kept, every_weaker, filter_filter, filter_on, range_below, range_more}
 use Rattle.mscp_control.specs.Settings.{Settings}
 use Rattle.mscp_control.specs.History.{last_or}
-use Rattle.mscp_sim.specs.Talks.{Talk, answers_about, answers_of, is_asked, before, ended, hands_over, is_ended, is_it, is_outstanding, last_answer, last_of, outstanding, polled, reference, said, sends, figure_told}
+use Rattle.mscp_sim.specs.Talks.{Talk, answers_about, answers_of, is_asked, before, handed_over, hands_over, is_ended, is_it, is_outstanding, last_answer, last_of, outstanding, asked_for, reference, said, sends, figure_told}
 
 -- ---- one more turn
 
@@ -103,18 +103,18 @@ outstanding_more talk j =
 -- ---- answers
 
 flat_more : (c : Settings) (talk : Talk) (j i : ℕ)
-    → answers_about c talk (j + 1) i ≡ answers_about c talk j i ++ answers_of c talk i (ended talk j)
+    → answers_about c talk (j + 1) i ≡ answers_about c talk j i ++ answers_of c talk i (handed_over talk j)
 flat_more c talk j i =
-    let f : ℕ → List ℕ = λ k. answers_of c talk i (ended talk k) in
+    let f : ℕ → List ℕ = λ k. answers_of c talk i (handed_over talk k) in
     ap (flat_map f) (range_more j) ∙ (flat_map-append f (before j) (j ∷ [])
         ∙ ap (λ xs. answers_about c talk j i ++ xs) (append-nil (f j)))
 
 pub answers_more : (c : Settings) (talk : Talk) (j i : ℕ)
-    → answers_about c talk (j + 1) i ≡ answers_about c talk j i ++ answers_of c talk i (ended talk j)
+    → answers_about c talk (j + 1) i ≡ answers_about c talk j i ++ answers_of c talk i (handed_over talk j)
 answers_more c talk j i = flat_more c talk j i
 
 -- the last answer stays where this turn brings none
-pub last_same : (c : Settings) (talk : Talk) (j i : ℕ) → answers_of c talk i (ended talk j) ≡ []
+pub last_same : (c : Settings) (talk : Talk) (j i : ℕ) → answers_of c talk i (handed_over talk j) ≡ []
     → last_answer c talk (j + 1) i ≡ last_answer c talk j i
 last_same c talk j i e = ap last_of (answers_more c talk j i
     ∙ (ap (λ xs. answers_about c talk j i ++ xs) e ∙ append-nil (answers_about c talk j i)))
@@ -128,7 +128,7 @@ last_of_push [] y = refl
 last_of_push (x ∷ xs) y = ap Some (last_push xs x y)
 
 -- and else it is what the turn brings
-pub last_new : (c : Settings) (talk : Talk) (j i f : ℕ) → answers_of c talk i (ended talk j) ≡ f ∷ []
+pub last_new : (c : Settings) (talk : Talk) (j i f : ℕ) → answers_of c talk i (handed_over talk j) ≡ f ∷ []
     → last_answer c talk (j + 1) i ≡ Some f
 last_new c talk j i f e = ap last_of (answers_more c talk j i ∙ ap (λ xs. answers_about c talk j i ++ xs) e)
     ∙ last_of_push (answers_about c talk j i) f
@@ -158,20 +158,21 @@ not_it : (j : ℕ) (o : Option ℕ) → ((x : ℕ) → o ≡ Some x → x < j) �
 not_it j None h = refl
 not_it j (Some x) h = let l = h x refl in grind (arith, nat_tests, l)
 
-untold_of : (c : Settings) (talk : Talk) (j k : ℕ) → k < j → (o : Option ℕ) → ended talk k ≡ o
+untold_of : (c : Settings) (talk : Talk) (j k : ℕ) → k < j → (o : Option ℕ) → handed_over talk k ≡ o
     → answers_of c talk j o ≡ []
 untold_of c talk j k l None e = refl
 untold_of c talk j k l (Some p) e =
     let below : p < k = found_below talk k p _ e in
-    let no : is_it j (polled talk p) ≡ false = not_it j (polled talk p)
+    let no : is_it j (asked_for talk p) ≡ false = not_it j (asked_for talk p)
         (λ x q. let m = found_below talk p x _ q in omega (arith, l, below, m)) in
-    elim (is_asked (said talk p).heard) as (λ b. cond (b && is_it j (polled talk p)) (figure_told c talk p ∷ []) []
+    elim (is_asked (said talk p).heard) as (λ b. cond (b && is_it j (asked_for talk p)) (figure_told c talk p ∷ []) []
         ≡ []) [ true ↦ rw no refl | false ↦ refl ]
 
 untold_in : (c : Settings) (talk : Talk) (j : ℕ) (ks : List ℕ) → AllByRecursion (λ k. k < j) ks
-    → flat_map (λ k. answers_of c talk j (ended talk k)) ks ≡ []
+    → flat_map (λ k. answers_of c talk j (handed_over talk k)) ks ≡ []
 untold_in c talk j [] h = refl
-untold_in c talk j (k ∷ ks) h = (λ i. untold_of c talk j k h.0 (ended talk k) refl i ++ untold_in c talk j ks h.1 i)
+untold_in c talk j (k ∷ ks) h = (λ i. untold_of c talk j k h.0 (handed_over talk k) refl i
+    ++ untold_in c talk j ks h.1 i)
 
 pub untold : (c : Settings) (talk : Talk) (j : ℕ) → last_answer c talk j j ≡ None
 untold c talk j = ap last_of (untold_in c talk j (before j) (before_below j))

@@ -10,7 +10,7 @@ use Rattle.mscp_control.specs.Settings.{Settings}
 use Rattle.mscp_host.specs.declared.watch.Watch.{Watch}
 use Rattle.mscp_host.specs.Accounts.{answered, outstanding_with, received, watch_after, without}
 use Rattle.mscp_sim.specs.Matches.{references, times}
-use Rattle.mscp_sim.specs.Talks.{Talk, account_at, is_asked, in_flight, is_outstanding, outstanding, polled, reference, reference_found, said, polled_is_outstanding, submission_at, watch_at}
+use Rattle.mscp_sim.specs.Talks.{Talk, account_at, is_asked, in_flight, is_outstanding, outstanding, asked_for, reference, reference_found, said, polled_is_outstanding, submission_at, watch_at}
 use Rattle.mscp_sim.proofs.TwoEnds.Outstanding.{found_below, stays_if}
 use Rattle.mscp_sim.proofs.TwoEnds.Receiving.{Gives, OnePoll, all_told, keep, once_at, outs_after, references_at}
 use Rattle.mscp_sim.proofs.TwoEnds.Singled.{find_kept, find_none_kept, flip, none_found, without_kept}
@@ -119,7 +119,7 @@ watch_left c talk j e (Some p) g q =
         else Some w))) [
       | true ↦ λ n. ap (option_map (watch_at talk (j + 1))) (flight_gone c talk j e p g q n)
       | false ↦ λ n. ap (option_map (watch_at talk (j + 1))) (flight_kept c talk j e p g q n)
-          ∙ stands_after c talk j e p (polled talk p) g (found_below talk j p _ q) (λ i f. found_below talk p i _ f)
+          ∙ stands_after c talk j e p (asked_for talk p) g (found_below talk j p _ q) (λ i f. found_below talk p i _ f)
     ] in
     both (nat_eq (reference talk p) e.reference) refl
 

@@ -11,7 +11,7 @@ use Rattle.mscp_control.specs.Settings.{Settings}
 use Rattle.mscp_host.specs.declared.submission.Submission.{Submission}
 use Rattle.mscp_host.specs.Accounts.{answered, outstanding_with, told_in, with_told}
 use Rattle.mscp_sim.specs.Matches.{references, times}
-use Rattle.mscp_sim.specs.Talks.{Talk, account_at, answers_of, is_asked, before, ended, figure_told, hands_over, in_flight, is_it, is_outstanding, opcode, outstanding, polled, reference, reference_found, said, sends, polled_is_outstanding, submission_at, unit_of_turn, watch_at}
+use Rattle.mscp_sim.specs.Talks.{Talk, account_at, answers_of, is_asked, before, handed_over, figure_told, hands_over, in_flight, is_it, is_outstanding, opcode, outstanding, asked_for, reference, reference_found, said, sends, polled_is_outstanding, submission_at, unit_named, watch_at}
 use Rattle.mscp_sim.proofs.TwoEnds.Outstanding.{ends_now, found_below, last_new, last_same, outstanding_are, outstanding_more}
 use Rattle.mscp_sim.proofs.TwoEnds.Singled.{any_before, found_in, only_one}
 
@@ -27,10 +27,10 @@ pub record Gives (c : Settings) (talk : Talk) (j : ℕ) (e : End) : Type 0 where
   pub once : (r : ℕ) → times r (references (account_at c talk j).outstanding) ≤ 1
   pub one : OnePoll talk j
   pub poll : ℕ
-  pub found : ended talk j ≡ Some poll
+  pub found : handed_over talk j ≡ Some poll
   -- the end of the poll in flight tells of its command
   pub tells : (p : ℕ) → in_flight talk j ≡ Some p → reference talk p ≡ e.reference
-      → (e.code ≡ 0x82) × (e.body ≡ bodies.Status (reference_found talk (polled talk p)) (figure_told c talk p))
+      → (e.code ≡ 0x82) × (e.body ≡ bodies.Status (reference_found talk (asked_for talk p)) (figure_told c talk p))
 
 abbrev pub keep : Talk → End → ℕ → Bool
 keep talk e i = not (nat_eq e.reference (reference talk i))
@@ -133,30 +133,30 @@ poll_asks c talk j e g a = found_all (λ p. is_asked (said talk p).heard ≡ tru
 
 -- the turn tells nothing of the command i
 abbrev TellsNothing : Settings → Talk → ℕ → ℕ → Type 0
-TellsNothing c talk j i = answers_of c talk i (ended talk j) ≡ []
+TellsNothing c talk j i = answers_of c talk i (handed_over talk j) ≡ []
 
 nothing_asked : (c : Settings) (talk : Talk) (j i : ℕ) (e : End) → (g : Gives c talk j e)
     → is_asked (said talk g.poll).heard ≡ false → TellsNothing c talk j i
 nothing_asked c talk j i e g a = ap (answers_of c talk i) g.found
-    ∙ ap (λ b. cond (b && is_it i (polled talk g.poll)) (figure_told c talk g.poll ∷ []) []) a
+    ∙ ap (λ b. cond (b && is_it i (asked_for talk g.poll)) (figure_told c talk g.poll ∷ []) []) a
 
 subs_kept : (c : Settings) (talk : Talk) (j : ℕ) (xs : List ℕ) → AllByRecursion (TellsNothing c talk j) xs
     → map (submission_at c talk (j + 1)) xs ≡ map (submission_at c talk j) xs
 subs_kept c talk j xs h =
     map_on (submission_at c talk (j + 1)) (submission_at c talk j) xs
     (every_weaker (TellsNothing c talk j) (λ i. submission_at c talk (j + 1) i ≡ submission_at c talk j i)
-    (λ i n. ap (λ t. record { reference = reference talk i; unit = unit_of_turn talk i (said talk i).turn; opcode =
+    (λ i n. ap (λ t. record { reference = reference talk i; unit = unit_named talk i (said talk i).turn; opcode =
         opcode talk i; told = t }) (last_same c talk j i n)) xs h)
 
 -- where the end is that of a poll about the command i
-one_told : (c : Settings) (talk : Talk) (j i f : ℕ) → answers_of c talk i (ended talk j) ≡ f ∷ []
+one_told : (c : Settings) (talk : Talk) (j i f : ℕ) → answers_of c talk i (handed_over talk j) ≡ f ∷ []
     → submission_at c talk (j + 1) i ≡ record (submission_at c talk j i) { told = Some f }
 one_told c talk j i f n = ap (λ t. record { reference = reference talk i; unit =
-    unit_of_turn talk i (said talk i).turn; opcode = opcode talk i; told = t }) (last_new c talk j i f n)
+    unit_named talk i (said talk i).turn; opcode = opcode talk i; told = t }) (last_new c talk j i f n)
 
 -- of each command: it has the number n and is told f, or it has another and is told nothing
 abbrev IsTold : Settings → Talk → ℕ → ℕ → ℕ → ℕ → Type 0
-IsTold c talk j n f i = (nat_eq (reference talk i) n ≡ true → answers_of c talk i (ended talk j) ≡ f ∷ [])
+IsTold c talk j n f i = (nat_eq (reference talk i) n ≡ true → answers_of c talk i (handed_over talk j) ≡ f ∷ [])
     × (nat_eq (reference talk i) n ≡ false → TellsNothing c talk j i)
 
 none_told : (c : Settings) (talk : Talk) (j n f : ℕ) (xs : List ℕ) → AllByRecursion (IsTold c talk j n f) xs
@@ -203,7 +203,7 @@ not_asks c talk j e g n =
 
 -- the poll p tells of its command, where that still stands
 told_of_stands : (c : Settings) (talk : Talk) (j : ℕ) (e : End) (g : Gives c talk j e) (p : ℕ) (o : Option ℕ)
-    → in_flight talk j ≡ Some p → p ≡ g.poll → polled talk p ≡ o → (b : Bool) → polled_is_outstanding talk j o ≡ b
+    → in_flight talk j ≡ Some p → p ≡ g.poll → asked_for talk p ≡ o → (b : Bool) → polled_is_outstanding talk j o ≡ b
     → (if b then with_told (reference_found talk o) (figure_told c talk p) (account_at c talk j).outstanding
         else (account_at c talk j).outstanding) ≡ map (submission_at c talk (j + 1)) (outstanding talk j)
 told_of_stands c talk j e g p None q s r true t = absurd (false≢true t)
@@ -216,7 +216,7 @@ told_of_stands c talk j e g p (Some i) q s r true t =
     let before : p < j = found_below talk j p _ q in
     let there : find (λ x. nat_eq x i) (outstanding talk j) ≡ Some i =
         outstanding_found talk j i t (omega (arith, below, before)) in
-    let own : (x : ℕ) → answers_of c talk x (ended talk j) ≡ cond (nat_eq i x) (f ∷ []) [] = λ x.
+    let own : (x : ℕ) → answers_of c talk x (handed_over talk j) ≡ cond (nat_eq i x) (f ∷ []) [] = λ x.
     ap (answers_of c talk x) (g.found ∙ ap Some (sym s)) ∙ ((λ k. cond (asked k && is_it x (r k)) (f ∷ []) [])) in
     subs_told c talk j n f (outstanding talk j)
     (every_members (λ x. IsTold c talk j n f x) (outstanding talk j) (λ x m. (
@@ -245,7 +245,8 @@ told_when c talk j e g p q true n =
     let same : p ≡ g.poll = same_poll c talk j e _ p g q named in
     let watch : (account_at c talk j).watch ≡ Some (watch_at talk j p) = ap (option_map (watch_at talk j)) q in
     rw (eq-eqb e.code 0x82 tells.0, tells.1, watch)
-        (told_of_stands c talk j e g p (polled talk p) q same refl (polled_is_outstanding talk j (polled talk p)) refl)
+        (told_of_stands c talk j e g p (asked_for talk p) q same refl (polled_is_outstanding talk j (asked_for talk p))
+            refl)
 told_when c talk j e g p q false n =
     let other : is_asked (said talk g.poll).heard ≡ false = not_asks c talk j e g (λ a.
     let same : p ≡ g.poll = ap (λ o. unwrap_or o p) (sym q ∙ poll_asks c talk j e g a) in

@@ -17,7 +17,7 @@ use Rattle.mscp_queue.specs.Kept.{names}
 use Rattle.mscp_queue.specs.Names.{end_name}
 use Rattle.mscp_queue.specs.Figures.{figure_of_reference}
 use Rattle.mscp_control.specs.Arrival.{credit_fault, fault_of, holds, is_queued, refusal}
-use Rattle.mscp_control.specs.Holdings.{Holdings, aborting, after_message, answer_to_message, answered_end, arrives, balance_of, ended, outstanding_of, queued, taken_as}
+use Rattle.mscp_control.specs.Holdings.{Holdings, aborting, after_message, answer_to_message, answered_end, arrives, balance_of, with_end, outstanding_of, queued, taken_as}
 use Rattle.mscp_host.specs.declared.news.HostFault.TheVariants as faults
 use Rattle.mscp_host.specs.declared.submission.Submission.{Submission}
 use Rattle.mscp_host.specs.declared.watch.Watch.{Watch}
@@ -143,8 +143,8 @@ new_still a h h' told n m m' z = sym (m'.same n) ∙ (m.same n ∙ z)
 
 arrives_ended : {K : Type 0} (a a' : Account) (h : Holdings K) (told told' : Flight) (s : Submission) (c : Command)
     → Arrives a a' h s c → Matches a h told
-    → HasFlight (ended (aborting h c.order) (answered_end h c)).untaken a'.watch told'
-        → Matches a' (ended (aborting h c.order) (answered_end h c)) told'
+    → HasFlight (with_end (aborting h c.order) (answered_end h c)).untaken a'.watch told'
+        → Matches a' (with_end (aborting h c.order) (answered_end h c)) told'
 arrives_ended {K} a a' h told told' s c x m f =
     let h1 : Holdings K = aborting h c.order in
     let e = answered_end h c in
@@ -254,7 +254,7 @@ told_now h s = record {
 
 poll_flight : {K : Type 0} (a : Account) (h : Holdings K) (told : Flight) (r : ℕ) (s : Submission) → Matches a h told
     → list_any (has_reference s.reference) a.outstanding ≡ true
-    → HasFlight (ended (aborting h (orders.Status s.reference)) (answered_end h (poll_of r s))).untaken
+    → HasFlight (with_end (aborting h (orders.Status s.reference)) (answered_end h (poll_of r s))).untaken
         (watching a r s).watch (told_now h s)
 poll_flight {K} a h told r s m there =
     record {

@@ -20,7 +20,7 @@ use Rattle.mscp_queue.specs.Records.{Record, aborted_record, drive_at, fresh_rec
 use Rattle.mscp_queue.specs.Serving.{end_given, waiting_after}
 use Rattle.mscp_queue.proofs.Lists.{every_append}
 use Rattle.mscp_queue.proofs.Placed.{Found, cut_at, find_cases, find_none, find_first}
-use Rattle.mscp_control.specs.Holdings.{Holdings, Steps, aborting, ended, ends_reported, outstanding_of, queued}
+use Rattle.mscp_control.specs.Holdings.{Holdings, Steps, aborting, with_end, ends_reported, outstanding_of, queued}
 use Rattle.mscp_host.specs.declared.submission.Submission.{Submission}
 use Rattle.mscp_host.specs.Accounts.{Account, is_code_of}
 use Rattle.mscp_sim.specs.Matches.{Flight, HasOwnEndcode, IsAwaited, IsKnown, IsSmall, Matches, commands, opcode_found, references, times}
@@ -226,7 +226,7 @@ queued_pushes {K} a a' h told s c m credits more reference opcode coded small ne
 pub ended_pushes : {K : Type 0} (a a' : Account) (h : Holdings K) (told : Flight) (s : Submission) (e : End)
     → Matches a h told → a'.credits ≡ a.credits → a'.outstanding ≡ a.outstanding ++ s ∷ []
     → e.reference ≡ s.reference → is_code_of e.code s.opcode ≡ true → IsSmall s
-        → times s.reference (outstanding_of h) ≡ 0 → Pushes a a' h (ended h e) s
+        → times s.reference (outstanding_of h) ≡ 0 → Pushes a a' h (with_end h e) s
 ended_pushes {K} a a' h told s e m credits more reference code small new =
     let own : IsAwaited (a.outstanding ++ s ∷ []) e = record {
       opcode = s.opcode;
@@ -241,7 +241,7 @@ ended_pushes {K} a a' h told s e m credits more reference code small new =
       new = new;
       counts = λ r.
           let old = counted_names r h in
-          let now = counted_names r (ended h e) in
+          let now = counted_names r (with_end h e) in
           let pushed = times_ends r h.untaken (e ∷ []) in
           let same : times r (e.reference ∷ []) ≡ times r (s.reference ∷ []) = ap (λ n. times r (n ∷ [])) reference in
           omega (arith, old, now, pushed, same);

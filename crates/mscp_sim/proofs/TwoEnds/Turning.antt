@@ -21,7 +21,7 @@ use Rattle.mscp_sim.specs.declared.conversing.Turn.TheVariants as turns
 use Rattle.mscp_sim.specs.declared.conversing.Heard.{Heard}
 use Rattle.mscp_sim.specs.declared.conversing.Heard.TheVariants as hears
 use Rattle.mscp_sim.specs.Matches.{Flight, Matches}
-use Rattle.mscp_sim.specs.Talks.{Talk, account_at, is_asked, asks_about, ended, hands_over, in_flight, is_outstanding, outstanding, reference, said, sends, submission_at, figure_told, trace_of}
+use Rattle.mscp_sim.specs.Talks.{Talk, account_at, is_asked, asks_about, handed_over, hands_over, in_flight, is_outstanding, outstanding, reference, said, sends, submission_at, figure_told, trace_of}
 use Rattle.mscp_sim.specs.Conversing.{IsSound, AnswersTurn, Says}
 use Rattle.mscp_sim.specs.TwoEnds.{IsHeard, IsKeptBack, IsSubmitted, Stands}
 use Rattle.mscp_sim.proofs.TwoEnds.Accounting.{NoEnd, account_quiet, account_submitted, none_handed}
@@ -52,7 +52,7 @@ pub record Tells (c : Settings) (talk : Talk) (j : ℕ) : Type 0 where
   -- no poll is sent where one is in flight
   pub idle : is_asked (said talk j).heard ≡ true → in_flight talk j ≡ None
   -- what is told of a command that stands is at least 1
-  pub some : (p i : ℕ) → ended talk j ≡ Some p → asks_about talk i p ≡ true → is_outstanding talk j i ≡ true
+  pub some : (p i : ℕ) → handed_over talk j ≡ Some p → asks_about talk i p ≡ true → is_outstanding talk j i ≡ true
       → 1 ≤ figure_told c talk p
 
 pub record Turns {K : Type 0} (c : Settings) (picks : List Choice → ℕ → Type 0) (picker : K) (talk : Talk) (j : ℕ)
@@ -113,7 +113,7 @@ pub never_idle : (talk : Talk) (j : ℕ) → is_asked (said talk j).heard ≡ fa
     → in_flight talk j ≡ None
 never_idle talk j q e = absurd (true≢false (sym e ∙ q))
 
-pub none_some : (c : Settings) (talk : Talk) (j : ℕ) → NoEnd talk j → (p i : ℕ) → ended talk j ≡ Some p
+pub none_some : (c : Settings) (talk : Talk) (j : ℕ) → NoEnd talk j → (p i : ℕ) → handed_over talk j ≡ Some p
     → asks_about talk i p ≡ true → is_outstanding talk j i ≡ true → 1 ≤ figure_told c talk p
 none_some c talk j n p i e a o = absurd (false≢true (ap is_some (sym (none_handed talk j n) ∙ e)))
 

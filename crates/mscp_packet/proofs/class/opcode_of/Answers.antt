@@ -4,7 +4,7 @@ use Rattle.std.specs.Option.{option_map}
 use Rattle.std.proofs.lemmas.Iterator.{YieldsList-from_slice}
 use Rattle.std.proofs.lemmas.Iterator.Consumers.{YieldsList-from_copied}
 use Rattle.std.proofs.lemmas.Iterator.Search.{find_from_yields_List}
-use Rattle.mscp_packet.specs.Opcodes.{line_of, opcodes}
+use Rattle.mscp_packet.specs.Opcodes.{row_of, opcodes}
 use Rattle.mscp_packet.proofs.class.opcode_of.Goals as goal
 
 option_map_same : {X : Type 0} (o : Option X) → option_map (λ x. x) o ≡ o
@@ -15,7 +15,7 @@ pub returns : goal.returns
 returns c =
     sym (option_map_same c.find.result)
     ∙ find_from_yields_List
-    (λ o. nat_eq (line_of o).byte c.args.byte) _ _
+    (λ o. nat_eq (row_of o).byte c.args.byte) _ _
     c.find.result
     c.find.ensures.ran
     (YieldsList-from_copied (YieldsList-from_slice opcodes cc))

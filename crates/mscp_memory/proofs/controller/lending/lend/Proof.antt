@@ -28,7 +28,7 @@ use denote.Struct.Owning.{shape, to}
 use denote.Struct.Struct.{Struct}
 use denote.Triple.Walked.{Stays, walk_of, says, stay_dropped, Goes-spent_ref, ends_at}
 use Rattle.mscp_memory.specs.ControllerHandles.{is_made, is_room, with_held}
-use Rattle.mscp_memory.specs.Rooms.{one_of}
+use Rattle.mscp_memory.specs.Rooms.{if_fml}
 use Rattle.mscp_memory.specs.ControllerRoom.{row as T}
 use Rattle.mscp_memory.specs.contracts.controller.lending.lend as f
 use Rattle.mscp_memory.proofs.controller.lending.lend.Statement.{statement}
@@ -42,7 +42,7 @@ stayed = (stay_dropped (mut_ref_to (0 ∷ []) tt (plain (λ _. R))) no, tt)
 
 -- what the memory is, by what its mark says
 abbrev memory : Handle → Bool → Fml
-memory h y = one_of y (lies_at T full_share h.at h.held) (one_of (is_room h) (room_at T h.at) ftrue)
+memory h y = if_fml y (lies_at T full_share h.at h.held) (if_fml (is_room h) (room_at T h.at) ftrue)
 
 -- all of the handle but the controller
 abbrev rest : Handle → List Val → ℕ → ℕ → Fml

@@ -32,7 +32,7 @@ use denote.Steps.{nothing, heard, opens, closes, peeks, facts}
 use denote.Triple.Walked.{Stays, walk_of, says, stay_dropped, stay_ref, Goes-ref, Goes-dropped, ends_at}
 use Rattle.mscp_memory.specs.ControllerHandles.{is_room, placed}
 use Rattle.mscp_memory.proofs.Placing.{one, big_lit, unmade}
-use Rattle.mscp_memory.specs.Rooms.{one_of, place_fault}
+use Rattle.mscp_memory.specs.Rooms.{if_fml, place_fault}
 use Rattle.mscp_memory.specs.ControllerRoom.{is_made_of, row as T', row_alignment, row_size}
 use Rattle.mscp_memory.specs.declared.controller.marks.TheConstants.{ROOM}
 use Rattle.mscp_memory.specs.declared.controller.handle.Handle.{Handle}
@@ -52,7 +52,7 @@ not_made h e = unmade (is_made_of h.mark) (nat_eq h.mark ROOM) (place_fault h.ad
 
 -- what the memory is, by what its mark says
 abbrev memory : Handle → Bool → Bool → Fml
-memory h y z = one_of y (lies_at T' full_share h.at h.held) (one_of z (room_at T' h.at) ftrue)
+memory h y z = if_fml y (lies_at T' full_share h.at h.held) (if_fml z (room_at T' h.at) ftrue)
 
 abbrev Words : RattleType
 Words = Struct (shape the_type)
