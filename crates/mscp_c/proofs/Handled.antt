@@ -1,6 +1,6 @@
 -- Calls on a handle are calls of the controller that its memory holds.
-use Rattle.std.proofs.Common.{◌≡◌, ℕ, List, [], ◌∷◌, ◌++◌, length, map, refl, ap, sym, ◌∙◌, subst, append_assoc, append-nil}
-use Rattle.std.specs.Prelude.{ℤ, pos, MatchOption, Option, Some, None, Result, Ok, Err}
+use Rattle.std.proofs.Common.{◌≡◌, ℕ, List, [], ◌∷◌, ◌++◌, length, refl, ap, sym, ◌∙◌, subst, append_assoc, append-nil}
+use Rattle.std.specs.Prelude.{ℤ, pos, MatchOption, Option, Some, None, Ok, Err}
 use Rattle.std.proofs.lemmas.List.{length-map}
 use Rattle.arrayvec.specs.ArrayVec.{ArrayVec}
 use Rattle.mscp_queue.specs.declared.block.Block.{Block}
@@ -8,18 +8,17 @@ use Rattle.mscp_queue.specs.declared.drive.Drive.{Drive}
 use Rattle.mscp_queue.specs.declared.view.Choice.{Choice}
 use Rattle.mscp_queue.specs.Drives.{is_online_in}
 use Rattle.mscp_queue.specs.Figures.{figure_of_reference}
-use Rattle.mscp_queue.specs.Kept.{names}
 use Rattle.mscp_queue.specs.Lines.{Line}
 use Rattle.mscp_queue.specs.Names.{name_of}
 use Rattle.mscp_queue.specs.Records.{Record}
 use Rattle.mscp_control.specs.declared.event.Event.TheVariants as events
 use Rattle.mscp_control.specs.declared.event.Entry.TheVariants as entries
 use Rattle.mscp_control.specs.Settings.{Settings, IsValid}
-use Rattle.mscp_control.specs.Holdings.{Holdings, after_message, after_take, answer_to_message, end_taken, fresh}
+use Rattle.mscp_control.specs.Holdings.{Holdings, answer_to_message, end_taken, fresh}
 use Rattle.mscp_control.specs.Commands.{name, waiting}
 use Rattle.mscp_control.specs.Calls as calls
 use Rattle.mscp_control.specs.Calls.{AnsweredCalls, AnswersCall, Call, history}
-use Rattle.mscp_control.specs.Controllers.{ControllersKeepThePromise, KeepsPromise}
+use Rattle.mscp_control.specs.Controllers.{ControllersKeepThePromise}
 use Rattle.mscp_control.proofs.Bridge.Keeping.{owner_kept}
 use Rattle.mscp_memory.specs.declared.controller.handle.Handle.{Handle}
 use Rattle.mscp_memory.specs.declared.policy.Policy.{Policy}
@@ -29,7 +28,7 @@ use Rattle.mscp_c.specs.declared.outs.ReportOut.{ReportOut}
 use Rattle.mscp_c.specs.Told.{block_told, figures_in, flag}
 use Rattle.mscp_c.specs.Served.{TellsFinish, TellsStep}
 use Rattle.mscp_c.specs.HandleCalls as made
-use Rattle.mscp_c.specs.HandleCalls.{AnsweredByHandle, AnswersHandle, HandleCall, HandlesKeepThePromise, KeepsHandlePromise, RefusesStatus, Tells, TellsAll, TellsFinished, TellsRefused, TellsStepped}
+use Rattle.mscp_c.specs.HandleCalls.{AnsweredByHandle, AnswersHandle, HandleCall, HandlesKeepThePromise, RefusesStatus, Tells, TellsAll, TellsFinished, TellsRefused, TellsStepped}
 
 -- ---- one more call of a controller
 

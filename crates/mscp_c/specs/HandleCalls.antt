@@ -13,9 +13,8 @@ use Rattle.mscp_control.specs.declared.event.Stale.{Stale}
 use Rattle.mscp_control.specs.Settings.{Settings, IsValid}
 use Rattle.mscp_control.specs.Holdings.{after_message, after_take, answer_to_message, balance_of, end_taken, fresh}
 use Rattle.mscp_control.specs.Commands.{waiting}
-use Rattle.mscp_control.specs.Ends.{untaken}
+use Rattle.mscp_control.specs.Account.{untaken, balance}
 use Rattle.mscp_control.specs.Figures.{figure_of}
-use Rattle.mscp_control.specs.Credits.{balance}
 use Rattle.mscp_control.specs.Calls as calls
 use Rattle.mscp_control.specs.Calls.{Call, history}
 use Rattle.mscp_control.specs.Controllers.{KeepsPromise, drive_after}

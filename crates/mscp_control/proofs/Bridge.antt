@@ -7,6 +7,7 @@ pub mod Drives
 pub mod Aborting
 pub mod Sending
 pub mod Viewed
+pub mod Servable
 pub mod Stepped
 pub mod Swept
 pub mod Following

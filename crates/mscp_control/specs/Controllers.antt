@@ -9,10 +9,9 @@ use Rattle.mscp_control.specs.Settings.{Settings, IsValid}
 use Rattle.mscp_control.specs.Holdings.{Holdings, balance_of, fresh}
 use Rattle.mscp_control.specs.History.{Trace}
 use Rattle.mscp_control.specs.Commands.{name, waiting}
-use Rattle.mscp_control.specs.Ends.{untaken}
+use Rattle.mscp_control.specs.Account.{untaken, balance}
 use Rattle.mscp_control.specs.Figures.{figure_of}
 use Rattle.mscp_control.specs.Units.{head, is_online}
-use Rattle.mscp_control.specs.Credits.{balance}
 use Rattle.mscp_control.specs.Legal.{IsLegal, IsPick}
 use Rattle.mscp_control.specs.Sweeping.{IsSwept, Sweeps}
 use Rattle.mscp_control.specs.Headline.{Promise}

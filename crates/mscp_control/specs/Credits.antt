@@ -1,24 +1,16 @@
--- Credits, and what becomes of a message.
-use Rattle.std.specs.Prelude.{ℕ, ◌-◌, if◌then◌else◌, List, ◌++◌, length, map, slice_get, Option, Some, None, option_map, Result, Ok, Err}
+-- What becomes of a message.
+use Rattle.std.specs.Prelude.{ℕ, if◌then◌else◌, List, slice_get, Option, Some, None, option_map, Result, Ok, Err}
 use Rattle.mscp_packet.specs.declared.command.Command.{Command}
 use Rattle.mscp_packet.specs.Commands.{command_of}
 use Rattle.mscp_control.specs.declared.event.SendFault.{SendFault}
 use Rattle.mscp_control.specs.declared.event.Sent.{Sent}
 use Rattle.mscp_control.specs.declared.event.Sent.TheVariants.{Queued, Answered}
-use Rattle.mscp_queue.specs.Names.{Name, end_name}
 use Rattle.mscp_control.specs.Settings.{Settings}
 use Rattle.mscp_control.specs.Arrival.{refusal, is_queued}
 use Rattle.mscp_control.specs.History.{Trace}
-use Rattle.mscp_control.specs.Commands.{reference, name, waiting}
-use Rattle.mscp_control.specs.Ends.{aborted, untaken}
-
--- the credits that are free (manual, "Flow Control")
-unfoldable pub balance : Settings → Trace → ℕ
-balance c t = c.credits - length (waiting t) - length (untaken c t)
-
--- the names of the commands that wait or whose ends weren't taken (manual)
-unfoldable pub outstanding : Settings → Trace → List Name
-outstanding c t = map (name t) (waiting t) ++ map end_name (untaken c t)
+use Rattle.mscp_control.specs.Commands.{reference}
+use Rattle.mscp_control.specs.Ends.{aborted}
+use Rattle.mscp_control.specs.Account.{balance, outstanding}
 
 -- the reference number of the waiting command that a message aborts, if it aborts one (manual)
 abbrev pub aborted_reference : Settings → Trace → Command → Option ℕ

@@ -1,5 +1,5 @@
 -- The ends that a run makes, with their contents.
-use Rattle.std.specs.Prelude.{ℕ, if◌then◌else◌, List, [], ◌∷◌, ◌++◌, drop, map, filter, count_by, Option, Some, None, option_to_list}
+use Rattle.std.specs.Prelude.{ℕ, if◌then◌else◌, List, [], ◌∷◌, ◌++◌, map, filter, Option, Some, None, option_to_list}
 use Rattle.mscp_packet.specs.declared.command.Order.{Order}
 use Rattle.mscp_packet.specs.declared.command.Order.TheVariants as orders
 use Rattle.mscp_packet.specs.declared.command.Command.{Command}
@@ -11,7 +11,7 @@ use Rattle.mscp_control.specs.Arrival.{fault_of}
 use Rattle.mscp_control.specs.Outcomes.{own_end, outcome_of}
 use Rattle.mscp_queue.specs.Outcomes.{aborted_end}
 use Rattle.mscp_queue.specs.Names.{same_name}
-use Rattle.mscp_control.specs.History.{Moment, Trace, collect, sent_bytes, answers, takes, Service, service_in}
+use Rattle.mscp_control.specs.History.{Moment, Trace, sent_bytes, answers, Service, service_in}
 use Rattle.mscp_control.specs.Commands.{command, name, unit, waiting, good}
 use Rattle.mscp_control.specs.Figures.{figure_of}
 use Rattle.mscp_control.specs.Units.{is_online}
@@ -63,11 +63,3 @@ ends_served (Some s) = option_to_list s.ended
 -- the ends that the moment m, which comes after t, makes (manual)
 abbrev pub ends_at : Settings → Trace → Moment → List End
 ends_at c t m = (if answers m.1 then answer c t (sent_bytes m.0) else []) ++ ends_served (service_in m.1)
-
--- all ends, in the order in which they were made (manual)
-unfoldable pub ends : Settings → Trace → List End
-ends c t = collect (ends_at c) t
-
--- the ends that weren't taken (manual, "Flow Control")
-unfoldable pub untaken : Settings → Trace → List End
-untaken c t = drop (count_by (λ m. takes m.1) t) (ends c t)

@@ -18,7 +18,7 @@ use Rattle.mscp_control.specs.History.{Moment, Trace, moment, answers, is_step, 
 use Rattle.mscp_control.specs.Commands.{in_service, is_idle, name, service_name, sent_command, waiting, steps_after}
 use Rattle.mscp_control.specs.Passing.{is_free, is_startable, passes}
 use Rattle.mscp_control.specs.Figures.{figure, figure_of}
-use Rattle.mscp_control.specs.Ends.{ends, untaken}
+use Rattle.mscp_control.specs.Account.{ends, untaken}
 use Rattle.mscp_control.specs.Legal.{IsLegal}
 
 -- ---- words

@@ -21,7 +21,8 @@ use Rattle.mscp_control.specs.Commands.{reference, name, service_name, unit, ord
 use Rattle.mscp_control.specs.Passing.{is_startable, startable}
 use Rattle.mscp_control.specs.Figures.{figure}
 use Rattle.mscp_control.specs.Units.{cost, is_online, head_cylinder}
-use Rattle.mscp_control.specs.Ends.{outcome, untaken}
+use Rattle.mscp_control.specs.Ends.{outcome}
+use Rattle.mscp_control.specs.Account.{untaken}
 use Rattle.mscp_control.specs.Credits.{arrival}
 
 -- ---- one step

@@ -9,6 +9,7 @@ pub mod Passing
 pub mod Figures
 pub mod Units
 pub mod Ends
+pub mod Account
 pub mod Credits
 pub mod Legal
 pub mod Sweeping

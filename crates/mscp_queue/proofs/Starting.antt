@@ -45,13 +45,14 @@ shown_more ds rs places place true = map-append (λ i. choice_of (drive_at ds rs
 shown_more ds rs places place false = ap (choices_at ds rs) (append-nil places)
     ∙ sym (append-nil (choices_at ds rs places))
 
-pub looks_more : (passing : ℕ) (ds : List Drive) (rs : List Record) (place : ℕ) (f f' : Front) (places places' : List ℕ)
-    (choices choices' : List Choice) (r : Record) (at : ℕ) → place < length rs → at < 16
+pub looks_more : {passing : ℕ} {ds : List Drive} {rs : List Record} {place : ℕ} {f f' : Front} {places places' : List ℕ}
+    {choices choices' : List Choice} (r : Record) (at : ℕ) → place < length rs → at < 16
     → at ≡ drive_place ds r.command.unit → r ≡ get_or rs place r → AllInside ds rs
     → f' ≡ with_record passing f r at → places' ≡ places ++ cond (is_let f r at) (place ∷ []) []
         → choices' ≡ choices ++ cond (is_let f r at) (choice_of (drive_at ds rs place) (record_at rs place) ∷ []) []
     → Looks passing ds rs place f places choices → Looks passing ds rs (place + 1) f' places' choices'
-looks_more passing ds rs place f f' places places' choices choices' r at l few e same inside added put shown h =
+looks_more {passing} {ds} {rs} {place} {f} {f'} {places} {places'} {choices} {choices'} r at l few e same inside added put
+    shown h =
     let is : r ≡ record_at rs place = same ∙ get_or_default rs place r no_record l in
     let known : All (λ z. is_known (units_of ds) z.command.unit ≡ true) rs = λ i other k. (inside i other k).0 in
     let own : is_known (units_of ds) r.command.unit ≡ true =

@@ -191,30 +191,41 @@ ended_if : (b : Bool) → not b ≡ false → b ≡ true
 ended_if true e = refl
 ended_if false e = absurd (true≢false e)
 
-pub held_served : (room passing longest place : ℕ) (rs new : List Record) (ds ds' : List Drive) (begun : Option Name)
-    (serving serves : Bool) (k : Block) (d d' : Drive) → IsHeld room passing longest rs ds begun serving
-    → IsServable passing rs place → d ≡ drive_of ds (record_at rs place).command.unit
-        → d' ≡ drive_after k d (record_at rs place) → IsOnUnit d'
-    → new ≡ map (passed_by (step_toll (record_at rs place))) (take place rs)
-        ++ (cond (is_some (end_given k d (record_at rs place))) [] (advanced (record_at rs place) ∷ [])
-        ++ drop (place + 1) rs)
-    → serves ≡ not (is_some (end_given k d (record_at rs place)))
-        → ds' ≡ replaced (record_at rs place).command.unit d' ds → IsHeld room passing longest new ds' None serves
-held_served room passing longest place rs new ds ds' begun serving serves k d d' h n e f on w more v =
+-- a step of the record at a place, with the drive of its unit before and after it: what it makes of records and drives
+pub record StepMade (k : Block) (place : ℕ) (rs new : List Record) (ds ds' : List Drive) (serves : Bool) : Type 0 where
+  pub d : Drive
+  pub d' : Drive
+  pub drive : d ≡ drive_of ds (record_at rs place).command.unit
+  pub drive_after : d' ≡ drive_after k d (record_at rs place)
+  pub on : IsOnUnit d'
+  pub records : new ≡ map (passed_by (step_toll (record_at rs place))) (take place rs)
+      ++ (cond (is_some (end_given k d (record_at rs place))) [] (advanced (record_at rs place) ∷ [])
+      ++ drop (place + 1) rs)
+  pub serves_on : serves ≡ not (is_some (end_given k d (record_at rs place)))
+  pub drives : ds' ≡ replaced (record_at rs place).command.unit d' ds
+
+held_served : {room passing longest place : ℕ} {rs new : List Record} {ds ds' : List Drive} {begun : Option Name}
+    {serving serves : Bool} {k : Block} → IsHeld room passing longest rs ds begun serving
+    → IsServable passing rs place → StepMade k place rs new ds ds' serves
+    → IsHeld room passing longest new ds' None serves
+held_served {room} {passing} {longest} {place} {rs} {new} {ds} {ds'} {begun} {serving} {serves} {k} h n m =
     let r = record_at rs place in
     let number = r.command.unit in
+    let d = m.d in
+    let d' = m.d' in
     let cut = cut_at no_record rs place n.inside in
-    let unit : d'.unit ≡ (drive_of ds number).unit = ap (λ (q : Drive). q.unit) f ∙ ap (λ (q : Drive). q.unit) e in
+    let unit : d'.unit ≡ (drive_of ds number).unit =
+        ap (λ (q : Drive). q.unit) m.drive_after ∙ ap (λ (q : Drive). q.unit) m.drive in
     let same = every_weaker (λ q. has_number number q ≡ true → q.unit ≡ (drive_of ds number).unit)
         (λ q. has_number number q ≡ true → q.unit ≡ d'.unit) (λ q g b. g b ∙ sym unit) ds
         (units_same number ds h.units) in
     let heads = All-from_recursion IsOnUnit (replaced number d' ds)
-        (heads_replaced number d' ds on (recursion_from_All IsOnUnit ds h.heads)) in
+        (heads_replaced number d' ds m.on (recursion_from_All IsOnUnit ds h.heads)) in
     let turn = next_turn room passing longest place rs ds begun serving k d h n in
     let ended : serves ≡ false → cond (is_some (end_given k d r)) [] (advanced r ∷ []) ≡ [] =
-    λ e. ap (λ b. cond b [] (advanced r ∷ [])) (ended_if (is_some (end_given k d r)) (sym more ∙ e)) in
-    subst (λ zs. IsHeld room passing longest new zs None serves) (sym v)
-    (subst (λ zs. IsHeld room passing longest zs (replaced number d' ds) None serves) (sym w)
+    λ e. ap (λ b. cond b [] (advanced r ∷ [])) (ended_if (is_some (end_given k d r)) (sym m.serves_on ∙ e)) in
+    subst (λ zs. IsHeld room passing longest new zs None serves) (sym m.drives)
+    (subst (λ zs. IsHeld room passing longest zs (replaced number d' ds) None serves) (sym m.records)
     (held_turn room passing longest (step_toll r) (take place rs) r (drop (place + 1) rs)
         (cond (is_some (end_given k d r)) [] (advanced r ∷ [])) ds (replaced number d' ds) begun serving serves
     (subst (λ zs. IsHeld room passing longest zs ds begun serving) cut h) turn ended (units_replaced number d' ds same)
@@ -233,35 +244,56 @@ pub head_kept : (room passing longest n : ℕ) (rs : List Record) (ds : List Dri
 head_kept room passing longest n rs ds begun serving h = head_found n ds (recursion_from_All IsOnUnit ds h.heads)
 
 -- the same as it is found out, step by step
-pub held_step : (room passing longest place : ℕ) (rs new : List Record) (ds ds' : List Drive) (begun : Option Name)
-    (serving serves : Bool) (k : Block) (r : Record) (command : Command) (d d' : Drive)
-    (e : Option End) (ends : Bool) (toll : ℕ) → IsHeld room passing longest rs ds begun serving
-        → IsServable passing rs place → r ≡ record_at rs place → command ≡ r.command → d ≡ drive_of ds command.unit
-    → e ≡ end_given k d r → ends ≡ is_some e → d' ≡ drive_after k d r → toll ≡ step_toll r
-    → (((lbn : ℕ) → touched d r ≡ Some lbn → lbn < d.unit.size) → IsOnUnit d → IsOnUnit d')
-    → new ≡ map (passed_by toll) (take place rs) ++ (cond ends [] (advanced (record_at rs place) ∷ [])
-        ++ drop (place + 1) rs)
-    → serves ≡ not ends → ds' ≡ replaced command.unit d' ds → IsHeld room passing longest new ds' None serves
-held_step room passing longest place rs new ds ds' begun serving serves k r command d d' e ends toll h n is of drive
-    ended some after cost on w more v =
+-- the same step as the code takes it: what it reads of the record and of the drive, and what it leaves
+pub record StepTaken (k : Block) (place : ℕ) (rs new : List Record) (ds ds' : List Drive) (serves : Bool) : Type 0 where
+  pub r : Record
+  pub command : Command
+  pub d : Drive
+  pub d' : Drive
+  pub e : Option End
+  pub ends : Bool
+  pub toll : ℕ
+  pub is : r ≡ record_at rs place
+  pub of : command ≡ r.command
+  pub drive : d ≡ drive_of ds command.unit
+  pub ended : e ≡ end_given k d r
+  pub some : ends ≡ is_some e
+  pub after : d' ≡ drive_after k d r
+  pub cost : toll ≡ step_toll r
+  pub on : ((lbn : ℕ) → touched d r ≡ Some lbn → lbn < d.unit.size) → IsOnUnit d → IsOnUnit d'
+  pub records : new ≡ map (passed_by toll) (take place rs) ++ (cond ends [] (advanced (record_at rs place) ∷ [])
+      ++ drop (place + 1) rs)
+  pub serves_on : serves ≡ not ends
+  pub drives : ds' ≡ replaced command.unit d' ds
+
+pub held_step : {room passing longest place : ℕ} {rs new : List Record} {ds ds' : List Drive} {begun : Option Name}
+    {serving serves : Bool} {k : Block} → IsHeld room passing longest rs ds begun serving
+    → IsServable passing rs place → StepTaken k place rs new ds ds' serves
+    → IsHeld room passing longest new ds' None serves
+held_step {room} {passing} {longest} {place} {rs} {new} {ds} {ds'} {begun} {serving} {serves} {k} h n t =
     let own = advanced (record_at rs place) ∷ [] in
-    let unit : command.unit ≡ (record_at rs place).command.unit =
-        ap (λ (c : Command). c.unit) of ∙ ap (λ (r : Record). r.command.unit) is in
-    let found = drive ∙ ap (drive_of ds) (ap (λ (c : Command). c.unit) of) in
-    let kept : IsKept passing longest (units_of ds) r =
-        subst (IsKept passing longest (units_of ds)) (sym is) (h.each place no_record n.inside) in
-    let head : IsOnUnit d = subst IsOnUnit (sym drive)
-        (head_kept room passing longest command.unit rs ds begun serving h) in
-    let same : ends ≡ is_some (end_given k d (record_at rs place)) =
-        some ∙ (ap is_some ended ∙ ap (λ r. is_some (end_given k d r)) is) in
-    held_served room passing longest place rs new ds ds' begun serving serves k d d' h n (drive ∙ ap (drive_of ds) unit)
-        (after ∙ ap (drive_after k d) is) (on (touched_inside passing longest ds r d found kept) head)
-    (w ∙ (ap (λ t. map (passed_by t) (take place rs) ++ (cond ends [] own ++ drop (place + 1) rs))
-        (cost ∙ ap step_toll is)
-    ∙ ap (λ b. map (passed_by (step_toll (record_at rs place))) (take place rs)
-        ++ (cond b [] own ++ drop (place + 1) rs)) same))
-    (more ∙ ap not same)
-    (v ∙ ap (λ u. replaced u d' ds) unit)
+    let unit : t.command.unit ≡ (record_at rs place).command.unit =
+        ap (λ (c : Command). c.unit) t.of ∙ ap (λ (r : Record). r.command.unit) t.is in
+    let found = t.drive ∙ ap (drive_of ds) (ap (λ (c : Command). c.unit) t.of) in
+    let kept : IsKept passing longest (units_of ds) t.r =
+        subst (IsKept passing longest (units_of ds)) (sym t.is) (h.each place no_record n.inside) in
+    let head : IsOnUnit t.d = subst IsOnUnit (sym t.drive)
+        (head_kept room passing longest t.command.unit rs ds begun serving h) in
+    let same : t.ends ≡ is_some (end_given k t.d (record_at rs place)) =
+        t.some ∙ (ap is_some t.ended ∙ ap (λ r. is_some (end_given k t.d r)) t.is) in
+    held_served {k = k} h n (record {
+      d = t.d;
+      d' = t.d';
+      drive = t.drive ∙ ap (drive_of ds) unit;
+      drive_after = t.after ∙ ap (drive_after k t.d) t.is;
+      on = t.on (touched_inside passing longest ds t.r t.d found kept) head;
+      records = t.records ∙ (ap (λ n. map (passed_by n) (take place rs) ++ (cond t.ends [] own ++ drop (place + 1) rs))
+          (t.cost ∙ ap step_toll t.is)
+          ∙ ap (λ b. map (passed_by (step_toll (record_at rs place))) (take place rs)
+              ++ (cond b [] own ++ drop (place + 1) rs)) same);
+      serves_on = t.serves_on ∙ ap not same;
+      drives = t.drives ∙ ap (λ u. replaced u t.d' ds) unit;
+    })
 
 -- a step changes no unit
 pub units_step : (number : ℕ) (d d' : Drive) (ds ds' : List Drive) (k : Block) (r : Record) → IsUnitList (units_of ds)

@@ -18,9 +18,9 @@ use Rattle.mscp_control.specs.declared.event.Entry.TheVariants as entries
 use Rattle.mscp_control.specs.Settings.{Settings, IsValid}
 use Rattle.mscp_control.specs.History.{Trace, Moment, collect}
 use Rattle.mscp_control.specs.Commands.{waiting}
-use Rattle.mscp_control.specs.Ends.{ends, untaken}
+use Rattle.mscp_control.specs.Account.{ends, untaken}
 use Rattle.mscp_control.specs.Legal.{IsLegal, IsPicked, IsRight}
-use Rattle.mscp_control.specs.Holdings.{Answered, Answers, Holdings, Steps, after_message, answer_to_message, end_taken, with_end, fresh}
+use Rattle.mscp_control.specs.Holdings.{Answered, Answers, Holdings, Steps, after_message, answer_to_message, end_taken, fresh}
 use Rattle.mscp_control.proofs.Promise.Known.{known_empty}
 use Rattle.mscp_control.proofs.Bridge.Keeping.{owner_kept, unbegun_kept}
 use Rattle.mscp_control.proofs.Bridge.Legals.{legal_more, picked_more}

@@ -10,9 +10,8 @@ use Rattle.mscp_control.specs.History.{Trace}
 use Rattle.mscp_control.specs.Commands.{command, reference, weight, waiting, done, good, left, in_service}
 use Rattle.mscp_control.specs.Passing.{passes}
 use Rattle.mscp_control.specs.Figures.{figure, figure_found, figure_of}
-use Rattle.mscp_control.specs.Ends.{untaken}
+use Rattle.mscp_control.specs.Account.{untaken}
 use Rattle.mscp_queue.specs.Figures.{figure_at, figure_between, figure_of_reference, figures, figures_from, figure_at_place}
-use Rattle.mscp_control.proofs.Promise.Falls.{figure_split}
 use Rattle.mscp_control.proofs.Promise.Falls as falls
 use Rattle.mscp_control.proofs.Promise.Known.{Known}
 use Rattle.mscp_queue.proofs.Placed.{at_place, find_cases, find_none, find_first, position_none, position_first, filter_map_of, sum_by_map}

@@ -13,7 +13,7 @@ use Rattle.mscp_queue.specs.declared.view.Choice.{Choice}
 use Rattle.mscp_queue.specs.Drives.{fresh_drive}
 use Rattle.mscp_queue.specs.Kept.{units_of}
 use Rattle.mscp_queue.specs.Lines as lines
-use Rattle.mscp_queue.specs.Lines.{Line, Serves, ServesAt}
+use Rattle.mscp_queue.specs.Lines.{Line, Serves}
 use Rattle.mscp_queue.specs.Records.{Record, drive_at, step_toll, passed_by, record_at, remains}
 use Rattle.mscp_queue.specs.Serving.{end_given, end_in}
 use Rattle.mscp_queue.proofs.Lists.{every_append}

@@ -12,7 +12,8 @@ use Rattle.mscp_queue.specs.Orders.{order_weight}
 use Rattle.mscp_control.specs.History.{Trace, Moment, queues, sent_bytes, is_good, takes, service_in}
 use Rattle.mscp_control.specs.Commands.{reference, waiting, done, good, service_is, service_starts, ends_in}
 use Rattle.mscp_control.specs.Passing.{passes}
-use Rattle.mscp_control.specs.Ends.{ends, ends_at, untaken}
+use Rattle.mscp_control.specs.Ends.{ends_at}
+use Rattle.mscp_control.specs.Account.{ends, untaken}
 use Rattle.mscp_control.specs.Legal.{IsRight}
 use Rattle.mscp_queue.proofs.Lists.{every_kept, every_weaker, every_from, filter_all}
 use Rattle.mscp_control.proofs.Promise.Grows.{command_before, command_last, done_last, good_before, good_last, waiting_more, taken_more, ends_more}

@@ -23,9 +23,10 @@ use Rattle.mscp_queue.specs.Outcomes.{end_with}
 use Rattle.mscp_control.specs.History.{Trace, Moment, queues, sent_bytes, service_in, takes}
 use Rattle.mscp_control.specs.Commands.{ends_in, reference, waiting}
 use Rattle.mscp_control.specs.Units.{is_online}
-use Rattle.mscp_control.specs.Ends.{answer, ends_at, untaken}
+use Rattle.mscp_control.specs.Ends.{answer, ends_at}
+use Rattle.mscp_control.specs.Account.{untaken, balance, outstanding}
 use Rattle.mscp_control.specs.Ends as history
-use Rattle.mscp_control.specs.Credits.{arrival, balance, taken_in, taken_unless, outstanding}
+use Rattle.mscp_control.specs.Credits.{arrival, taken_in, taken_unless}
 use Rattle.mscp_control.specs.Legal.{IsRight}
 use Rattle.mscp_control.specs.Holdings.{Holdings, record_aborted, aborting, after_message, answer_to_message, answered_end, balance_of, with_end, figure_polled, held_unless, outstanding_of, queued, sent_unless}
 use Rattle.mscp_queue.specs.Drives.{drive_of}

@@ -21,7 +21,7 @@ use Rattle.mscp_control.specs.Units.{cost}
 use Rattle.mscp_control.specs.Legal.{IsPick, IsPicked, choice}
 use Rattle.mscp_control.specs.Sweeping.{IsSwept, IsSweeping, Sweeps, goes_before, swept}
 use Rattle.mscp_control.proofs.Promise.Waits.{waiting_rises}
-use Rattle.mscp_control.proofs.Bridge.Stepped.{all_of}
+use Rattle.mscp_control.proofs.Bridge.Servable.{all_of}
 
 -- no other goes before what costs less, or as much and came earlier
 not_before : (c : Settings) (t : Trace) (x y : ℕ) → cost c t y ≤ cost c t x → y ≤ x → goes_before c t x y ≡ false

@@ -19,7 +19,7 @@ use Rattle.mscp_control.proofs.Bridge.Drives.{Driven, drive_by}
 use Rattle.mscp_control.proofs.Bridge.Following.{none_mapped}
 use Rattle.mscp_control.proofs.Bridge.Held.{held_of}
 use Rattle.mscp_control.proofs.Bridge.Sending.{Agrees}
-use Rattle.mscp_control.proofs.Bridge.Stepped.{next_held, reads, waits_at}
+use Rattle.mscp_control.proofs.Bridge.Servable.{next_held, reads, waits_at}
 use Rattle.mscp_control.proofs.Bridge.Viewed.{waiting_at}
 
 agrees_same : {K : Type 0} (c : Settings) (t : Trace) (h h' : Holdings K) → Agrees c t h

@@ -10,8 +10,7 @@ use Rattle.mscp_packet.specs.Commands.{command_of}
 use Rattle.mscp_control.specs.Arrival.{holds}
 use Rattle.mscp_control.specs.History.{Trace, Moment, queues, sent_bytes}
 use Rattle.mscp_control.specs.Commands.{reference, waiting, ends_in}
-use Rattle.mscp_control.specs.Ends.{untaken}
-use Rattle.mscp_control.specs.Credits.{outstanding}
+use Rattle.mscp_control.specs.Account.{untaken, outstanding}
 use Rattle.mscp_control.specs.Legal.{IsRight}
 use Rattle.mscp_queue.specs.Pairs.{Pairs}
 use Rattle.mscp_queue.proofs.Lists.{every_kept, pairs_filter, pairs_append}

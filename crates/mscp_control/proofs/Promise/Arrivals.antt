@@ -17,7 +17,8 @@ use Rattle.mscp_packet.specs.Opcodes.{class, is_immediate_class}
 use Rattle.mscp_packet.specs.Commands.{command_of}
 use Rattle.mscp_control.specs.Arrival.{is_queued, holds, refusal}
 use Rattle.mscp_control.specs.History.{Trace, queues, sent_bytes}
-use Rattle.mscp_control.specs.Credits.{balance, outstanding, aborted_reference, taken_in, taken_unless, arrival}
+use Rattle.mscp_control.specs.Credits.{aborted_reference, taken_in, taken_unless, arrival}
+use Rattle.mscp_control.specs.Account.{balance, outstanding}
 use Rattle.mscp_control.specs.Legal.{IsRight}
 
 -- no reason to refuse it

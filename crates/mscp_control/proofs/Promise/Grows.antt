@@ -15,7 +15,8 @@ use Rattle.mscp_control.specs.Settings.{Settings}
 use Rattle.mscp_control.specs.History.{Trace, Moment, moment, positions, collect, last_or, queues, sent_bytes, is_good, is_step, takes}
 use Rattle.mscp_control.specs.Commands.{command, reference, is_waiting, waiting, done, good, steps_after, serves_in, ends_in}
 use Rattle.mscp_control.specs.Passing.{passes_at, passes}
-use Rattle.mscp_control.specs.Ends.{ends_at, ends, untaken}
+use Rattle.mscp_control.specs.Ends.{ends_at}
+use Rattle.mscp_control.specs.Account.{ends, untaken}
 use Rattle.mscp_queue.proofs.Lists.{filter_on, filter_filter, sum_on, flat_on, every_weaker, range_more, range_below}
 
 pub moment_before : (t : Trace) (m : Moment) (x : ℕ) → x < length t → moment (t ++ m ∷ []) x ≡ moment t x

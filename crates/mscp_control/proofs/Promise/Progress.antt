@@ -19,7 +19,8 @@ use Rattle.mscp_control.specs.History.{Trace, Moment, answers, moment, positions
 use Rattle.mscp_control.specs.Commands.{reference, sent_command, weight, is_waiting, waiting, done, left, steps_after}
 use Rattle.mscp_control.specs.Passing.{passes, is_free}
 use Rattle.mscp_control.specs.Figures.{figure, figure_of}
-use Rattle.mscp_control.specs.Ends.{answer, answer_to, ends, ends_at}
+use Rattle.mscp_control.specs.Ends.{answer, answer_to, ends_at}
+use Rattle.mscp_control.specs.Account.{ends}
 use Rattle.mscp_control.specs.Legal.{IsRight, IsLegal}
 use Rattle.mscp_control.specs.Headline.{IsFreeStart, Promise, TellsFigure, poll_end}
 use Rattle.mscp_queue.proofs.Lists.{every_weaker, every_append, every_both}

@@ -19,7 +19,7 @@ use Rattle.mscp_control.specs.Arrival.{move_fault, order_fault, fault_of, is_imm
 use Rattle.mscp_queue.specs.Orders.{order_weight}
 use Rattle.mscp_control.specs.History.{Trace, Moment, queues, sent_bytes}
 use Rattle.mscp_control.specs.Commands.{command, reference, weight, waiting, ends_in}
-use Rattle.mscp_control.specs.Credits.{balance}
+use Rattle.mscp_control.specs.Account.{balance}
 use Rattle.mscp_control.specs.Legal.{IsRight}
 use Rattle.mscp_queue.proofs.Lists.{every_kept, every_append}
 use Rattle.mscp_control.proofs.Promise.Grows.{command_before, command_last, waiting_more}

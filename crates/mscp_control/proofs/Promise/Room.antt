@@ -20,8 +20,9 @@ use Rattle.mscp_control.specs.Arrival.{fault_of, is_queued}
 use Rattle.mscp_control.specs.History.{Trace, Moment, collect, queues, takes, Service, service_in}
 use Rattle.mscp_control.specs.Commands.{command, reference, waiting, good, ends_in, aborts}
 use Rattle.mscp_queue.specs.Outcomes.{aborted_end}
-use Rattle.mscp_control.specs.Ends.{aborted, aborted_unless, answer, ends_at, ends, untaken}
-use Rattle.mscp_control.specs.Credits.{balance, aborted_reference}
+use Rattle.mscp_control.specs.Ends.{aborted, aborted_unless, answer, ends_at}
+use Rattle.mscp_control.specs.Account.{ends, untaken, balance}
+use Rattle.mscp_control.specs.Credits.{aborted_reference}
 use Rattle.mscp_control.specs.Legal.{IsRight}
 use Rattle.mscp_queue.proofs.Lists.{fewer, every_weaker, every_filter, every_from}
 use Rattle.mscp_control.proofs.Promise.Grows.{waiting_more, ends_more, taken_more, untaken_more}

@@ -29,7 +29,8 @@ use Rattle.mscp_control.specs.Outcomes.{answer_body, own_end, own_end_with}
 use Rattle.mscp_control.specs.History.{Moment, Trace, moment, positions, collect, sent_bytes, answers}
 use Rattle.mscp_control.specs.Commands.{command, good, unit, order, left}
 use Rattle.mscp_control.specs.Units.{is_online}
-use Rattle.mscp_control.specs.Ends.{aborted, answer, ends, ends_at, outcome}
+use Rattle.mscp_control.specs.Ends.{aborted, answer, ends_at, outcome}
+use Rattle.mscp_control.specs.Account.{ends}
 use Rattle.mscp_control.specs.Legal.{IsLegal, IsRight, end_of}
 
 -- ---- what a message asks for has an endcode

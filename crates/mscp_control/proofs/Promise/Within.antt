@@ -9,7 +9,7 @@ use Rattle.mscp_control.specs.History.{Trace, Moment, queues, is_step, sent_byte
 use Rattle.mscp_control.specs.Commands.{reference, weight, waiting, done, left, steps_after, ends_in}
 use Rattle.mscp_control.specs.Passing.{passes}
 use Rattle.mscp_control.specs.Figures.{figure}
-use Rattle.mscp_control.specs.Credits.{balance}
+use Rattle.mscp_control.specs.Account.{balance}
 use Rattle.mscp_control.specs.Legal.{IsRight}
 use Rattle.mscp_queue.proofs.Lists.{fewer, every_weaker, every_kept, every_append, every_parts, every_both}
 use Rattle.mscp_control.proofs.Promise.Grows.{waiting_more, done_last, steps_more, steps_last}

@@ -9,8 +9,9 @@ use Rattle.mscp_control.specs.Commands.{command, is_waiting, waiting, done, good
 use Rattle.mscp_control.specs.Passing.{passes_at, passes, is_free, is_startable, startable}
 use Rattle.mscp_control.specs.Figures.{figure, figure_of}
 use Rattle.mscp_control.specs.Units.{is_online, head_cylinder, head_up}
-use Rattle.mscp_control.specs.Ends.{answer, outcome, ends, untaken}
-use Rattle.mscp_control.specs.Credits.{balance, outstanding, arrival}
+use Rattle.mscp_control.specs.Ends.{answer, outcome}
+use Rattle.mscp_control.specs.Account.{ends, untaken, balance, outstanding}
+use Rattle.mscp_control.specs.Credits.{arrival}
 use Rattle.mscp_control.specs.Legal.{IsLegal, block_of}
 use Rattle.mscp_control.proofs.Bridge.Legals.{legal_from}
 use Rattle.mscp_control.proofs.Worked.Literals.{settings, read, raw, queued, answered, took, looked}

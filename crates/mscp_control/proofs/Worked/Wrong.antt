@@ -18,8 +18,9 @@ use Rattle.mscp_control.specs.Commands.{command, is_waiting, waiting, done, good
 use Rattle.mscp_control.specs.Passing.{passes_at, passes, is_free, is_startable, startable}
 use Rattle.mscp_control.specs.Figures.{figure, figure_of}
 use Rattle.mscp_control.specs.Units.{is_online, head_cylinder, head_up}
-use Rattle.mscp_control.specs.Ends.{answer, outcome, ends, untaken}
-use Rattle.mscp_control.specs.Credits.{balance, outstanding, arrival}
+use Rattle.mscp_control.specs.Ends.{answer, outcome}
+use Rattle.mscp_control.specs.Account.{ends, untaken, balance, outstanding}
+use Rattle.mscp_control.specs.Credits.{arrival}
 use Rattle.mscp_control.specs.Legal.{IsRight, IsServed, block_of}
 use Rattle.mscp_control.proofs.Promise.Waits.{waits_below}
 use Rattle.mscp_control.proofs.Worked.Literals.{settings, came_online, read, queued, answered, refused, took, looked, served, moved, onlined}

@@ -9,7 +9,6 @@ use Rattle.mscp_packet.specs.declared.command.Order.TheVariants as orders
 use Rattle.mscp_packet.specs.Opcodes.{least, row_of, opcode_of, opcodes}
 use Rattle.mscp_packet.specs.Commands.{command_of, order_with, parameters}
 use Rattle.mscp_packet.specs.Statuses.{invalid_length}
-use Rattle.mscp_queue.specs.Orders.{endcode}
 use Rattle.mscp_queue.proofs.Placed.{found_is}
 use Rattle.mscp_sim.specs.Matches.{HasOwnEndcode}
 

@@ -37,9 +37,8 @@ more c =
         ++ cond b (choice_of (drive_at ds rs place) (record_at rs place) ∷ []) []) c.lets-may_start.ensures in
     let looks : Looks c.args.passing ds rs (place + 1) c.add.new.self
         (found ++ cond (is_let c.loop-place.front r at) (place ∷ []) []) c.show_if.new.view =
-    looks_more c.args.passing ds rs place c.loop-place.front _ found _ choices _ r at c.loop-place-test.true own.few
-        own.place
-    c.index-records-place.is c.requires.waiting.inside c.add.ensures.after refl shown c.loop-place.invariant.looks in
+    looks_more r at c.loop-place-test.true own.few own.place c.index-records-place.is c.requires.waiting.inside
+        c.add.ensures.after refl shown c.loop-place.invariant.looks in
     subst (λ places. Looks c.args.passing ds rs (place + 1) c.add.new.self places c.show_if.new.view) looks.opens looks
 
 pub loop-place-preserved : goal.loop-place-preserved

@@ -75,14 +75,26 @@ invariant_of-self g c =
         c.serve-service.ensures.drive now in
     record {
       held =
-          held_step q.room q.passing q.longest place rs c.leave.new.waiting.items ds ds' q.begun q.serving _
-              c.args.block.now item
-          c.command-command.result c.drive_of-drive.result c.serve-service.result.drive c.serve-service.result.ended
-              c.is_some-ends.result c.step_toll.result
-          c.self.invariant.held s.servable s.own c.command-command.ensures drive
-          c.serve-service.ensures.ended c.is_some-ends.ensures c.serve-service.ensures.drive c.step_toll.ensures.value
-              c.serve-service.ensures.on_unit
-          c.leave.ensures.left refl now;
+          held_step {k = c.args.block.now} c.self.invariant.held s.servable (record {
+            r = item;
+            command = c.command-command.result;
+            d = c.drive_of-drive.result;
+            d' = c.serve-service.result.drive;
+            e = c.serve-service.result.ended;
+            ends = c.is_some-ends.result;
+            toll = c.step_toll.result;
+            is = s.own;
+            of = c.command-command.ensures;
+            drive = drive;
+            ended = c.serve-service.ensures.ended;
+            some = c.is_some-ends.ensures;
+            after = c.serve-service.ensures.drive;
+            cost = c.step_toll.ensures.value;
+            on = c.serve-service.ensures.on_unit;
+            records = c.leave.ensures.left;
+            serves_on = refl;
+            drives = now;
+          });
       aimed = c.leave.ensures.aims (units_of ds) c.self.invariant.aimed
           ∙ ap (λ us. aims_of us c.leave.new.waiting.items) (sym units);
       counted = (out g c.before.before.before).counted;
