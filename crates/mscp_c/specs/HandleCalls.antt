@@ -17,7 +17,7 @@ use Rattle.mscp_control.specs.Account.{untaken, balance}
 use Rattle.mscp_control.specs.Figures.{figure_of}
 use Rattle.mscp_control.specs.Calls as calls
 use Rattle.mscp_control.specs.Calls.{Call, history}
-use Rattle.mscp_control.specs.Controllers.{KeepsPromise, drive_after}
+use Rattle.mscp_control.specs.Controllers.{KeepsPromise, drive_now}
 use Rattle.mscp_memory.specs.declared.controller.handle.Handle.{Handle}
 use Rattle.mscp_memory.specs.declared.policy.Policy.{Policy}
 use Rattle.mscp_memory.specs.ControllerHandles.{with_held}
@@ -131,7 +131,7 @@ Tells c so_far (Balance answer) next = (next ≡ []) × (answer ≡ pos (balance
 Tells c so_far (Waiting answer) next = (next ≡ []) × (answer ≡ pos (length (waiting (history so_far))))
 Tells c so_far (Untaken answer) next = (next ≡ []) × (answer ≡ pos (length (untaken c (history so_far))))
 Tells c so_far (Online unit answer) next =
-    (next ≡ []) × (answer ≡ pos (flag (is_online_in (map (drive_after c (history so_far)) c.units) unit)))
+    (next ≡ []) × (answer ≡ pos (flag (is_online_in (map (drive_now c (history so_far)) c.units) unit)))
 
 -- the same of calls, one after the other
 abbrev pub TellsAll : Settings → List Call → List HandleCall → List Call → Type 0

@@ -1,5 +1,5 @@
 -- The statuses of faults.
-use Rattle.std.specs.Prelude.{ℕ, ℤ, pos, negsuc}
+use Rattle.std.specs.Prelude.{ℕ, ◌-◌, ℤ, negsuc}
 use Rattle.mscp_drive.specs.declared.unit.UnitFault.{UnitFault}
 use Rattle.mscp_drive.specs.declared.unit.UnitFault.TheVariants as unit
 use Rattle.mscp_drive.specs.declared.units.UnitsFault.{UnitsFault}
@@ -14,10 +14,9 @@ use Rattle.mscp_memory.specs.declared.fault.RoomFault.{RoomFault}
 use Rattle.mscp_memory.specs.declared.fault.RoomFault.TheVariants as rooms
 use Rattle.mscp_c.specs.declared.status.TheConstants as status
 
--- the number -n
+-- the number -n, where n isn't 0
 abbrev pub minus : ℕ → ℤ
-minus 0 = pos 0
-minus (suc n) = negsuc n
+minus n = negsuc (n - 1)
 
 -- of memory that is no room
 abbrev pub room_code : RoomFault → ℤ

@@ -8,6 +8,7 @@ use Rattle.mscp_packet.specs.declared.command.MoveKind.TheVariants as moves
 use Rattle.mscp_queue.specs.declared.block.Block.TheVariants.{Good, Bad}
 use Rattle.mscp_control.specs.declared.event.Event.{Event}
 use Rattle.mscp_control.specs.declared.event.Event.TheVariants as events
+use Rattle.mscp_script.specs.Steps.{◌>>=◌}
 use Rattle.mscp_script.specs.Lexical.{wide, narrow, steps_in, message, status, bad_in}
 use Rattle.mscp_script.specs.declared.script.fault.Cause.{Cause}
 use Rattle.mscp_script.specs.declared.script.fault.Cause.TheVariants as causes
