@@ -145,7 +145,7 @@ goes c policy law valid so_far h h' (made.Look before status after) f r =
         follows_more c policy so_far h h' call f (refl, ap (λ (x : Handle). x.held) r.2) }
 goes c policy law valid so_far h h' (made.Figure reference answer) f r =
     let k = law c so_far h.held valid f.called in
-    let figure = (λ i. figure_of_reference (k.settings i).passing (k.settings i).longest h.held.waiting reference)
+    let figure = (λ i. figure_of_reference (k.settings i).budget (k.settings i).longest h.held.waiting reference)
         ∙ k.figure reference in
     record { next = []; tells = (refl, r.0 ∙ ap pos figure); follows = follows_same c policy so_far h h' f r.1 }
 goes c policy law valid so_far h h' (made.Balance answer) f r =

@@ -34,7 +34,7 @@ unit_given u = record {
 abbrev pub settings_given : Limits → List UnitIn → Settings
 settings_given l us = record {
   credits = l.credits;
-  passing = l.passing;
+  budget = l.budget;
   longest = l.longest;
   timeout = l.timeout;
   id = l.id;

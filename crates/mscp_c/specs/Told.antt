@@ -121,10 +121,10 @@ report_told (Served reference unit lbn started seek ended) out = record {
 
 -- the figures of the waiting commands, and that of the command of this reference number, 0 where none waits
 abbrev pub figures_in : Held → List (ℕ × ℕ)
-figures_in h = figures h.settings.passing h.settings.longest h.waiting
+figures_in h = figures h.settings.budget h.waiting
 
 abbrev pub figure_in : Held → ℕ → ℕ
-figure_in h reference = figure_of_reference h.settings.passing h.settings.longest h.waiting reference
+figure_in h reference = figure_of_reference h.settings.budget h.waiting reference
 
 -- a reference number and a figure
 abbrev pub figure_told : ℕ × ℕ → FigureOut

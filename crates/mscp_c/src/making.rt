@@ -55,7 +55,7 @@ fn init(
     let units = units_of(units)?;
     match Config::new(
         limits.credits,
-        limits.passing,
+        limits.budget,
         limits.longest,
         limits.timeout,
         limits.id,

@@ -14,7 +14,7 @@ use mscp_memory::{Policy, RoomFault};
 pub struct Limits {
     pub id: u64,
     pub credits: u32,
-    pub passing: u32,
+    pub budget: u32,
     pub longest: u32,
     pub timeout: u16,
 }

@@ -43,7 +43,7 @@ pub record KeepsPromise {K : Type 0} (picks : List Choice → ℕ → Type 0) (c
   pub waiting : names held.waiting ≡ map (name (history calls)) (waiting (history calls))
   pub untaken : held.untaken ≡ untaken c (history calls)
   -- the figure that it now tells of a reference number is that of the history (profile)
-  pub figure : (reference : ℕ) → figure_of_reference c.passing c.longest held.waiting reference
+  pub figure : (reference : ℕ) → figure_of_reference c.budget held.waiting reference
       ≡ figure_of c (history calls) reference
   -- its drives are the units with the states and heads of the history, the way that each head goes too (manual, heads
   -- are the profile's)

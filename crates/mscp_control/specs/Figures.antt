@@ -1,20 +1,19 @@
 -- The figure of a command: how many steps it may still wait, at most.
-use Rattle.std.specs.Prelude.{ℕ, ◌+◌, ◌-◌, ◌*◌, cond, filter, find, sum_by, Option, Some, None}
+use Rattle.std.specs.Prelude.{ℕ, ◌+◌, ◌-◌, cond, filter, find, sum_by, Option, Some, None}
 use Rattle.mscp_queue.specs.Names.{Name, same_name}
 use Rattle.mscp_control.specs.Settings.{Settings}
 use Rattle.mscp_control.specs.History.{Trace}
 use Rattle.mscp_control.specs.Commands.{name, is_waiting, waiting, left, in_service, earlier, later}
-use Rattle.mscp_control.specs.Passing.{passes}
+use Rattle.mscp_control.specs.Passing.{passed}
 
 -- 0 where x doesn't wait, and its own steps alone where it is in service. Else also what is left of all
--- before it and of a later one in service, and the longest transfer for each time that it may still be
--- passed (profile)
+-- before it and of a later one in service, and what is left of the budget (profile)
 unfoldable pub figure : Settings → Trace → ℕ → ℕ
 figure c t x =
     cond (is_waiting t x)
     (cond (in_service t x) (left t x)
     (sum_by (left t) (earlier t x) + sum_by (left t) (filter (in_service t) (later t x))
-    + (c.passing - passes t x) * c.longest + left t x))
+    + (c.budget - passed t x) + left t x))
     0
 
 -- the figure of a command, if there is one, else 0 (profile)

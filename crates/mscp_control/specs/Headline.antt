@@ -16,7 +16,7 @@ use Rattle.mscp_control.specs.Settings.{Settings, IsValid, bound}
 use Rattle.mscp_queue.specs.Outcomes.{end_with}
 use Rattle.mscp_control.specs.History.{Moment, Trace, moment, answers, is_step, Service, service_in, WhenStarted}
 use Rattle.mscp_control.specs.Commands.{in_service, is_idle, name, service_name, sent_command, waiting, steps_after}
-use Rattle.mscp_control.specs.Passing.{is_free, is_startable, passes}
+use Rattle.mscp_control.specs.Passing.{is_free, is_startable, passed}
 use Rattle.mscp_control.specs.Figures.{figure, figure_of}
 use Rattle.mscp_control.specs.Account.{ends, untaken}
 use Rattle.mscp_control.specs.Legal.{IsLegal}
@@ -68,7 +68,7 @@ pub record Promise (c : Settings) (t : Trace) : Type 0 where
   pub oldest_starts : Always t (λ p. (x : ℕ) → slice_get (waiting p) 0 ≡ Some x → is_idle p ≡ true
       → is_startable c p x ≡ true)
   -- none is passed more often than the passing limit (profile)
-  pub passing : Always t (λ p. EachWaiting p (λ x. passes p x ≤ c.passing))
+  pub budget : Always t (λ p. EachWaiting p (λ x. passed p x ≤ c.budget))
   -- every waiting command's status figure falls at each step (profile)
   pub falls : AtEach t (λ before m after. is_step m.0 ≡ true →
       EachWaiting before (λ x. figure c after x < figure c before x))

@@ -47,7 +47,7 @@ pub record Holdings (K : Type 0) : Type 0 where
 abbrev pub line_of : {K : Type 0} → Holdings K → Line K
 line_of h = record {
   room = room h.settings;
-  passing = h.settings.passing;
+  budget = h.settings.budget;
   longest = h.settings.longest;
   waiting = h.waiting;
   drives = h.drives;
@@ -79,7 +79,7 @@ outstanding_of h = names h.waiting ++ map end_name h.untaken
 
 -- the figure that an order asks for (manual)
 abbrev pub figure_polled : Settings → List Record → Order → ℕ
-figure_polled c rs (orders.Status other) = figure_of_reference c.passing c.longest rs other
+figure_polled c rs (orders.Status other) = figure_of_reference c.budget rs other
 figure_polled c rs order = 0
 
 -- the waiting command that an order names to be aborted, if there is one (manual)
@@ -205,7 +205,7 @@ Answers picks old (events.Send message) (entries.Sent sent) new =
 Answers picks old events.Take (entries.Taken end) new = (end ≡ end_taken old) × (new ≡ after_take old)
 Answers picks old (events.Step k) (entries.Stepped report) new = Steps picks k old report new
 Answers picks old events.Look (entries.Looked list) new =
-    (list.items ≡ figures old.settings.passing old.settings.longest old.waiting) × (new ≡ old)
+    (list.items ≡ figures old.settings.budget old.waiting) × (new ≡ old)
 Answers picks old event entry new = ⊥
 
 -- what may be answered to events, one after the other, and what is held after them

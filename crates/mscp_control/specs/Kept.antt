@@ -15,6 +15,6 @@ pub record IsHeld {K : Type 0} (c : Settings) (line : Line K) (untaken : List En
   pub shaped : AllByRecursion IsOfKind untaken
   pub fits : length line.waiting ≤ room c
   pub same_room : line.room ≡ room c
-  pub same_passing : line.passing ≡ c.passing
+  pub same_budget : line.budget ≡ c.budget
   pub same_longest : line.longest ≡ c.longest
   pub units : units_of line.drives ≡ c.units

@@ -9,7 +9,7 @@ use Rattle.mscp_control.specs.declared.config.ConfigFault.TheVariants.{Credits, 
 -- the limits of a controller, and its units (profile)
 pub record Settings : Type 0 where
   pub credits : ℕ
-  pub passing : ℕ
+  pub budget : ℕ
   pub longest : ℕ
   pub timeout : ℕ
   pub id : ℕ
@@ -19,10 +19,10 @@ pub record Settings : Type 0 where
 abbrev pub room : Settings → ℕ
 room c = c.credits - 1
 
--- no figure is greater: the longest transfer for each command that may wait, the one that is meant too, and for each
--- time that it may be passed (profile)
+-- no figure is greater: the longest transfer for each command that may wait, the one that is meant too, and the budget
+-- (profile)
 abbrev pub bound : Settings → ℕ
-bound c = (room c + c.passing) * c.longest
+bound c = room c * c.longest + c.budget
 
 -- what the limits of each controller meet (profile)
 pub record IsValid (c : Settings) : Type 0 where

@@ -25,7 +25,7 @@ pub enum ConfigFault {
 #[derive(Debug, Drop, PartialEq)]
 pub struct Config {
     credits: u32,
-    passing: u32,
+    budget: u32,
     longest: u32,
     timeout: u16,
     id: u64,
@@ -41,7 +41,7 @@ impl Model for Config {
     ghost view = { λ c.
         record {
           credits = c.credits;
-          passing = c.passing;
+          budget = c.budget;
           longest = c.longest;
           timeout = c.timeout;
           id = c.id;
@@ -51,7 +51,7 @@ impl Model for Config {
     ghost invariant = { λ c.
         IsValid (record {
           credits = c.credits;
-          passing = c.passing;
+          budget = c.budget;
           longest = c.longest;
           timeout = c.timeout;
           id = c.id;
@@ -61,7 +61,7 @@ impl Model for Config {
     ghost inverse = { λ s.
         record {
           credits = s.credits;
-          passing = s.passing;
+          budget = s.budget;
           longest = s.longest;
           timeout = s.timeout;
           id = s.id;
@@ -77,14 +77,14 @@ impl Config {
     /// timeout in seconds and a controller identifier, which the host is told.
     pub fn new(
         credits: u32,
-        passing: u32,
+        budget: u32,
         longest: u32,
         timeout: u16,
         id: u64,
         units: Units,
     ) -> Result<Config, ConfigFault>
         ensures { let s : Settings =
-            record { credits = credits; passing = passing; longest = longest; timeout = timeout; id = id; units = units } in
+            record { credits = credits; budget = budget; longest = longest; timeout = timeout; id = id; units = units } in
             result ≡ configured s }
     {
         // The list of the units tells that it is one.
@@ -98,13 +98,13 @@ impl Config {
         if !(1..=255).contains(&timeout) {
             return Err(ConfigFault::Timeout);
         }
-        let turns = u64::from(credits - 1) + u64::from(passing);
+        let turns = u64::from(credits - 1) + u64::from(budget);
         if turns * u64::from(longest) > u64::from(u32::MAX) {
             return Err(ConfigFault::Figure);
         }
         Ok(Config {
             credits,
-            passing,
+            budget,
             longest,
             timeout,
             id,
@@ -121,11 +121,11 @@ impl Config {
     }
 
     /// How often a waiting command may be passed.
-    pub fn passing(&self) -> u32
-        ensures value { result ≡ self.now.passing }
+    pub fn budget(&self) -> u32
+        ensures value { result ≡ self.now.budget }
         ensures valid { IsValid self.now }
     {
-        self.passing
+        self.budget
     }
 
     /// The longest transfer, in blocks.

@@ -88,7 +88,7 @@ impl<K: Picker> Controller<K> {
         let queue = Queue::new(
             units,
             config.credits() - 1,
-            config.passing(),
+            config.budget(),
             config.longest(),
             picker,
         );
@@ -155,7 +155,7 @@ impl<K: Picker> Controller<K> {
     /// may still wait, at most.
     pub fn figure(&self, reference: u32) -> u32
         ensures value { result
-            ≡ figure_of_reference self.now.settings.passing self.now.settings.longest self.now.waiting reference }
+            ≡ figure_of_reference self.now.settings.budget self.now.waiting reference }
         ensures account { IsBalanced self.now }
     {
         self.queue.figure(reference)
@@ -163,7 +163,7 @@ impl<K: Picker> Controller<K> {
 
     /// Reference number and figure of each waiting command, oldest first.
     pub fn look(&self) -> ArrayVec<(u32, u32), 64>
-        ensures value { result.items ≡ figures self.now.settings.passing self.now.settings.longest self.now.waiting }
+        ensures value { result.items ≡ figures self.now.settings.budget self.now.waiting }
         ensures account { IsBalanced self.now }
     {
         self.queue.look()

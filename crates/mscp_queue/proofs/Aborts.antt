@@ -39,10 +39,10 @@ cut_by : (reference : Name) (rs A : List Record) (r : Record) (B : List Record) 
 cut_by reference rs A r B apart f =
     let same : names rs ≡ names A ++ r.command.reference ∷ names B =
         ap names f.is ∙ map-append (λ (q : Record). q.command.reference) A (r ∷ B) in
-    let number : r.command.reference ≡ reference = eqb-true r.command.reference reference f.passes in
+    let number : r.command.reference ≡ reference = eqb-true r.command.reference reference f.passed in
     record {
       is = f.is;
-      own = f.passes;
+      own = f.passed;
       before = f.before;
       behind = others reference B (subst (λ n. AllByRecursion (λ y. y ≢ n) (names B)) number
           (apart_behind (names A) r.command.reference (names B) (subst AreApart same apart)));
@@ -81,13 +81,13 @@ aborts_at reference rs place apart h =
     let f = some.3 in
     let k = cut_by reference rs A r B apart f in
     let first : length A ≡ place = ap (λ o. unwrap_or o place)
-        (sym (position_first (has_reference reference) A r B f.before f.passes)
+        (sym (position_first (has_reference reference) A r B f.before f.passed)
         ∙ (ap (position (has_reference reference)) (sym f.is) ∙ h)) in
     let at : record_at rs place ≡ r = ap (λ zs. record_at zs place) f.is ∙ get_or_at A r B no_record place first in
     record {
       inside = omega (arith, first, ap length f.is, length-append A (r ∷ B));
       found = ap (find (has_reference reference)) f.is
-          ∙ (find_first (has_reference reference) A r B f.before f.passes ∙ ap Some (sym at));
+          ∙ (find_first (has_reference reference) A r B f.before f.passed ∙ ap Some (sym at));
       left = ap (λ zs. remove zs place) f.is ∙ (removed_at A r B place first ∙ sym (without_cut reference rs A r B k));
       count = omega (arith, ap length f.is, length-append A (r ∷ B), ap length (without_cut reference rs A r B k),
           length-append A B);
@@ -110,7 +110,7 @@ aborts_none reference rs h =
           (λ z e. ap not e) rs none);
     })
     (λ some. let f = some.3 in absurd (true≢false (ap is_some
-        (sym (position_first (has_reference reference) some.0 some.1 some.2 f.before f.passes)
+        (sym (position_first (has_reference reference) some.0 some.1 some.2 f.before f.passed)
         ∙ (ap (position (has_reference reference)) (sym f.is) ∙ h)))))
     (find_cases (has_reference reference) rs)
 
@@ -143,7 +143,7 @@ counted_without reference rs new r n k apart h is counted e =
     let B = some.2 in
     let f = some.3 in
     let own : some.1 ≡ r = ap (λ o. unwrap_or o r)
-        (sym (find_first p A some.1 B f.before f.passes) ∙ (ap (find p) (sym f.is) ∙ sym h)) in
+        (sym (find_first p A some.1 B f.before f.passed) ∙ (ap (find p) (sym f.is) ∙ sym h)) in
     let out = count_out A some.1 B in
     let all = ap sequential_count f.is in
     let left = ap sequential_count (is ∙ without_cut reference rs A some.1 B
@@ -159,7 +159,7 @@ missing : (p : Record → Bool) (rs : List Record) (place : ℕ) (d : Record) �
 missing p rs place d h l =
     ⊎_elim (λ none. All-from_recursion (λ r. p r ≡ false) rs none place d l)
     (λ some. let f = some.3 in absurd (true≢false (ap is_some
-        (sym (find_first p some.0 some.1 some.2 f.before f.passes) ∙ (ap (find p) (sym f.is) ∙ h))))) (find_cases p rs)
+        (sym (find_first p some.0 some.1 some.2 f.before f.passed) ∙ (ap (find p) (sym f.is) ∙ h))))) (find_cases p rs)
 
 -- ---- what is true of each queue stays true
 
@@ -196,16 +196,16 @@ fewer_of {X} p q (x ∷ xs) =
         [ true ↦ both true (p x) | false ↦ both false (p x) ] in
     split (q x)
 
-pub held_aborted : (room passing longest : ℕ) (reference : Name) (rs new : List Record) (ds : List Drive)
+pub held_aborted : (room budget longest : ℕ) (reference : Name) (rs new : List Record) (ds : List Drive)
     (begun : Option Name)
-    (serving b : Bool) → is_begun reference begun ≡ b → IsHeld room passing longest rs ds begun serving
+    (serving b : Bool) → is_begun reference begun ≡ b → IsHeld room budget longest rs ds begun serving
     → new ≡ without reference rs
-    → IsHeld room passing longest new ds (if b then None else begun) serving
-held_aborted room passing longest reference rs new ds begun serving b was h e =
+    → IsHeld room budget longest new ds (if b then None else begun) serving
+held_aborted room budget longest reference rs new ds begun serving b was h e =
     let keep : Record → Bool = λ z. not (has_reference reference z) in
-    let K = IsKept passing longest (units_of ds) in
+    let K = IsKept budget longest (units_of ds) in
     let left = begun_without reference begun in
-    let all : IsHeld room passing longest (without reference rs) ds left serving = record {
+    let all : IsHeld room budget longest (without reference rs) ds left serving = record {
       some_room = h.some_room;
       few = h.few;
       some_blocks = h.some_blocks;
@@ -220,17 +220,17 @@ held_aborted room passing longest reference rs new ds begun serving b was h e =
       units = h.units;
       heads = h.heads;
       still = λ name k. let s = still_begun reference begun name k in
-          still_aborted passing reference rs name s.1 (h.still name s.0);
+          still_aborted budget reference rs name s.1 (h.still name s.0);
     } in
-    subst (λ q. IsHeld room passing longest new ds (if q then None else begun) serving) was
-        (subst (λ zs. IsHeld room passing longest zs ds left serving) (sym e) all)
+    subst (λ q. IsHeld room budget longest new ds (if q then None else begun) serving) was
+        (subst (λ zs. IsHeld room budget longest zs ds left serving) (sym e) all)
 
 -- where nothing is aborted, what was begun stays
-pub none_aborted : (passing : ℕ) (reference : Name) (rs : List Record) (begun : Option Name)
-    → ((name : Name) → begun ≡ Some name → IsStillServable passing rs name) → find (has_reference reference) rs ≡ None
+pub none_aborted : (budget : ℕ) (reference : Name) (rs : List Record) (begun : Option Name)
+    → ((name : Name) → begun ≡ Some name → IsStillServable budget rs name) → find (has_reference reference) rs ≡ None
     → begun ≡ begun_without reference begun
-none_aborted passing reference rs None s h = refl
-none_aborted passing reference rs (Some name) s h =
+none_aborted budget reference rs None s h = refl
+none_aborted budget reference rs (Some name) s h =
     let w = s name refl in
     let both : (b : Bool) → nat_eq name reference ≡ b → Some name ≡ (if b then None else Some name) =
     λ b. elim b as (λ b. nat_eq name reference ≡ b → Some name ≡ (if b then None else Some name)) [

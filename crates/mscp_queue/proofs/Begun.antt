@@ -18,57 +18,57 @@ use Rattle.mscp_queue.proofs.Placed.{at_place, cut_at}
 
 -- ---- what may be picked may start
 
-opened : (passing : ℕ) (rs : List Record) → All (λ place. is_open_at passing rs place ≡ true) (open_places passing rs)
-opened passing rs =
-    All-from_recursion (λ place. is_open_at passing rs place ≡ true) (open_places passing rs)
-    (every_weaker (λ place. Unit {0} × (is_open_at passing rs place ≡ true))
-        (λ place. is_open_at passing rs place ≡ true) (λ place h. h.1) (open_places passing rs)
-    (every_filter (λ place. Unit {0}) (is_open_at passing rs) (range_with_len 0 (length rs))
+opened : (budget : ℕ) (rs : List Record) → All (λ place. is_open_at budget rs place ≡ true) (open_places budget rs)
+opened budget rs =
+    All-from_recursion (λ place. is_open_at budget rs place ≡ true) (open_places budget rs)
+    (every_weaker (λ place. Unit {0} × (is_open_at budget rs place ≡ true))
+        (λ place. is_open_at budget rs place ≡ true) (λ place h. h.1) (open_places budget rs)
+    (every_filter (λ place. Unit {0}) (is_open_at budget rs) (range_with_len 0 (length rs))
         (every_from (λ place. Unit {0}) (λ place. tt) (range_with_len 0 (length rs)))))
 
-pub picked_opens : (picks : List Choice → ℕ → Type 0) (passing : ℕ) (ds : List Drive) (rs : List Record) (place : ℕ)
-    → IsPick picks passing ds rs place → is_open_at passing rs place ≡ true
-picked_opens picks passing ds rs place h = subst (λ p. is_open_at passing rs p ≡ true) h.2 (opened passing rs h.0 0 h.1)
+pub picked_opens : (picks : List Choice → ℕ → Type 0) (budget : ℕ) (ds : List Drive) (rs : List Record) (place : ℕ)
+    → IsPick picks budget ds rs place → is_open_at budget rs place ≡ true
+picked_opens picks budget ds rs place h = subst (λ p. is_open_at budget rs p ≡ true) h.2 (opened budget rs h.0 0 h.1)
 
 -- ---- among others
 
 -- the record may be served among the others, those in front of it and those behind
-pub record Among (passing : ℕ) (rs front : List Record) (r : Record) (back : List Record) : Type 0 where
+pub record Among (budget : ℕ) (rs front : List Record) (r : Record) (back : List Record) : Type 0 where
   pub is : rs ≡ front ++ r ∷ back
   pub idle : is_unstarted r ≡ true → AllByRecursion (λ z. z.done ≡ 0) rs
-  pub opens : is_unstarted r ≡ true → is_open passing r front ≡ true
+  pub opens : is_unstarted r ≡ true → is_open budget r front ≡ true
 
 -- a record that may be served, wherever it stands
-servable : (passing : ℕ) (rs front : List Record) (r : Record) (back : List Record) (name : Name)
-    → has_reference name r ≡ true → Among passing rs front r back → IsStillServable passing rs name
-servable passing rs front r back name own m =
+servable : (budget : ℕ) (rs front : List Record) (r : Record) (back : List Record) (name : Name)
+    → has_reference name r ≡ true → Among budget rs front r back → IsStillServable budget rs name
+servable budget rs front r back name own m =
     let at = at_place rs front r back (length front) no_record m.is refl in
     let fresh : is_unstarted (record_at rs (length front)) ≡ true → is_unstarted r ≡ true =
         λ e. ap is_unstarted (sym at.item) ∙ e in
-    let all : IsServable passing rs (length front) = record {
+    let all : IsServable budget rs (length front) = record {
       inside = omega (arith, ap length m.is, length-append front (r ∷ back));
       idle = λ e. All-from_recursion (λ z. z.done ≡ 0) rs (m.idle (fresh e));
-      opens = λ e. (λ i. is_open passing (at.item i) (at.before i)) ∙ m.opens (fresh e);
+      opens = λ e. (λ i. is_open budget (at.item i) (at.before i)) ∙ m.opens (fresh e);
     } in
     (length front, all, ap (has_reference name) at.item ∙ own)
 
 -- and one that stands at a place
-among : (passing : ℕ) (rs : List Record) (place : ℕ) → IsServable passing rs place
-    → Among passing rs (take place rs) (record_at rs place) (drop (place + 1) rs)
-among passing rs place s = record { is = cut_at no_record rs place s.inside; idle =
+among : (budget : ℕ) (rs : List Record) (place : ℕ) → IsServable budget rs place
+    → Among budget rs (take place rs) (record_at rs place) (drop (place + 1) rs)
+among budget rs place s = record { is = cut_at no_record rs place s.inside; idle =
     λ e. recursion_from_All (λ z. z.done ≡ 0) rs (s.idle e); opens = s.opens }
 
 -- ---- a command comes
 
-pub still_pushed : (passing : ℕ) (rs : List Record) (name : Name) (new : Record) → new.done ≡ 0
-    → IsStillServable passing rs name → IsStillServable passing (rs ++ new ∷ []) name
-still_pushed passing rs name new n s =
+pub still_pushed : (budget : ℕ) (rs : List Record) (name : Name) (new : Record) → new.done ≡ 0
+    → IsStillServable budget rs name → IsStillServable budget (rs ++ new ∷ []) name
+still_pushed budget rs name new n s =
     let place = s.0 in
-    let m = among passing rs place s.1 in
+    let m = among budget rs place s.1 in
     let front = take place rs in
     let r = record_at rs place in
     let back = drop (place + 1) rs in
-    servable passing (rs ++ new ∷ []) front r (back ++ new ∷ []) name s.2
+    servable budget (rs ++ new ∷ []) front r (back ++ new ∷ []) name s.2
     (record {
       is = ap (λ zs. zs ++ new ∷ []) m.is ∙ append_assoc front (r ∷ back) (new ∷ []);
       idle = λ e. every_append (λ z. z.done ≡ 0) rs (new ∷ []) (m.idle e) (n, tt);
@@ -87,30 +87,30 @@ all_left p keep (r ∷ rs) h =
         [ true ↦ ap (λ q. q && list_all p (filter keep rs)) b.0 ∙ rest | false ↦ rest ]
 
 -- a record that may start may start where fewer are in front of it
-open_left : (passing : ℕ) (r : Record) (keep : Record → Bool) (front : List Record) → is_open passing r front ≡ true
-    → is_open passing r (filter keep front) ≡ true
-open_left passing r keep front h =
-    let b = and_parts (is_free r front) (is_affordable passing r front) h in
-    ap (λ q. q && is_affordable passing r (filter keep front)) (all_left (λ z. not (fences r z)) keep front b.0)
-        ∙ all_left (λ z. nat_le (z.passes + toll r) passing) keep front b.1
+open_left : (budget : ℕ) (r : Record) (keep : Record → Bool) (front : List Record) → is_open budget r front ≡ true
+    → is_open budget r (filter keep front) ≡ true
+open_left budget r keep front h =
+    let b = and_parts (is_free r front) (is_affordable budget r front) h in
+    ap (λ q. q && is_affordable budget r (filter keep front)) (all_left (λ z. not (fences r z)) keep front b.0)
+        ∙ all_left (λ z. nat_le (z.passed + toll r) budget) keep front b.1
 
-pub still_aborted : (passing : ℕ) (reference : Name) (rs : List Record) (name : Name) → nat_eq name reference ≡ false
-    → IsStillServable passing rs name → IsStillServable passing (without reference rs) name
-still_aborted passing reference rs name other s =
+pub still_aborted : (budget : ℕ) (reference : Name) (rs : List Record) (name : Name) → nat_eq name reference ≡ false
+    → IsStillServable budget rs name → IsStillServable budget (without reference rs) name
+still_aborted budget reference rs name other s =
     let place = s.0 in
-    let m = among passing rs place s.1 in
+    let m = among budget rs place s.1 in
     let keep : Record → Bool = λ z. not (has_reference reference z) in
     let front = take place rs in
     let r = record_at rs place in
     let back = drop (place + 1) rs in
     let number : r.command.reference ≡ name = eqb-true r.command.reference name s.2 in
     let stays : keep r ≡ true = ap (λ n. not (nat_eq n reference)) number ∙ ap not other in
-    servable passing (without reference rs) (filter keep front) r (filter keep back) name s.2
+    servable budget (without reference rs) (filter keep front) r (filter keep back) name s.2
     (record {
       is = ap (filter keep) m.is ∙ (filter-append keep front (r ∷ back)
           ∙ ap (λ b. filter keep front ++ cond b (r ∷ filter keep back) (filter keep back)) stays);
       idle = λ e. every_kept (λ z. z.done ≡ 0) keep rs (m.idle e);
-      opens = λ e. open_left passing r keep front (m.opens e);
+      opens = λ e. open_left budget r keep front (m.opens e);
     })
 
 -- what is begun after an abort was begun before, and isn't what was aborted

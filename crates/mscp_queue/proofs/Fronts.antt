@@ -1,11 +1,12 @@
 -- What is kept of the records in front says what may start.
-use Rattle.std.proofs.Common.{◌≡◌, ℕ, suc, ◌+◌, ◌<◌, Bool, true, false, cond, not, ◌&&◌, ◌||◌, List, [], ◌∷◌, ◌++◌, set, get_or, length, refl, ap, sym, ◌∙◌, ⊎_elim, subst, arith}
-use Rattle.std.specs.Prelude.{find, nat_eq, nat_le, nat_lt, if◌then◌else◌, is_some, replicate, unwrap_or, Some, None}
+use Rattle.std.proofs.Common.{◌≡◌, ℕ, suc, ◌+◌, ◌-◌, ◌^◌, ◌<◌, ◌≤◌, min, Bool, true, false, cond, not, ◌&&◌, ◌||◌, List, [], ◌∷◌, ◌++◌, set, get_or, length, refl, ap, sym, ◌∙◌, ⊎_elim, subst, arith}
+use Rattle.std.specs.Prelude.{find, nat_eq, nat_le, if◌then◌else◌, is_some, replicate, unwrap_or, Some, None}
 use Rattle.std.specs.List.{AllByRecursion, list_all, list_any, position, position_or_len}
 use Rattle.std.proofs.lemmas.Grind.{get_or-set_at}
 use Rattle.std.proofs.lemmas.List.{get_or-replicate, get_or-set_other, length-set, length-replicate}
 use Rattle.std.proofs.lemmas.List.Folds.{list_any-append, list_all-append}
-use Rattle.std.proofs.lemmas.Bool.{cases_lt, eq-eqb, eqb-true, le-leb, le-ltb, lt-leb, lt-ltb, ne_eqb, false≢true}
+use Rattle.std.proofs.lemmas.Bool.{cases_lt, eq-eqb, eqb-true, le-leb, lt-leb, lt-ltb, ne_eqb, false≢true}
+use Rattle.std.proofs.Math.Nat.{le-min, min-le_left, min-le_right}
 use Rattle.mscp_queue.proofs.Lists.{every_weaker}
 use Rattle.mscp_queue.specs.declared.drive.Drive.{Drive}
 use Rattle.mscp_queue.specs.declared.front.Front.{Front}
@@ -83,14 +84,14 @@ abbrev pub is_of : List Drive → ℕ → Record → Bool
 is_of ds place r = nat_eq (drive_place ds r.command.unit) place
 
 -- of each drive it is told whether one of the records in front is of its unit, and whether a sequential one is; and of
--- them all, whether each may be passed once more
-pub record IsFront (passing : ℕ) (ds : List Drive) (front : List Record) (f : Front) : Type 0 where
+-- them all, whether each keeps within the budget if a record of any weight passes it
+pub record IsFront (budget : ℕ) (ds : List Drive) (front : List Record) (f : Front) : Type 0 where
   pub many : length f.seen ≡ 16
   pub many_fenced : length f.fenced ≡ 16
   pub seen : (place : ℕ) → place < 16 → get_or f.seen place false ≡ list_any (is_of ds place) front
   pub fenced : (place : ℕ) → place < 16
       → get_or f.fenced place false ≡ list_any (λ z. is_of ds place z && is_sequential z.command.order) front
-  pub affordable : f.affordable ≡ list_all (λ z. nat_le (z.passes + 1) passing) front
+  pub unspent : (w : ℕ) → 1 ≤ w → w < 2 ^ 32 → nat_le w f.unspent ≡ list_all (λ z. nat_le (z.passed + w) budget) front
 
 any_of : {X : Type 0} (p q : X → Bool) (xs : List X) → AllByRecursion (λ x. p x ≡ q x) xs
     → list_any p xs ≡ list_any q xs
@@ -105,9 +106,9 @@ none_any p (x ∷ xs) = ap (λ b. not (p x) && b) (none_any p xs)
 no_one : (place : ℕ) → place < 16 → get_or (replicate 16 false) place false ≡ false
 no_one place h = get_or-replicate 16 place false false h
 
-pub front_none : (passing : ℕ) (ds : List Drive) → IsFront passing ds [] nobody
-front_none passing ds = record { many = length-replicate 16 false; many_fenced = length-replicate 16 false; seen =
-    no_one; fenced = no_one; affordable = refl }
+pub front_none : (budget : ℕ) (ds : List Drive) → IsFront budget ds [] nobody
+front_none budget ds = record { many = length-replicate 16 false; many_fenced = length-replicate 16 false; seen =
+    no_one; fenced = no_one; unspent = λ w l k. le-leb w (2 ^ 32 - 1) (omega (arith, k)) }
 
 or_false : (b : Bool) → (b || false) ≡ b
 or_false true = refl
@@ -139,24 +140,35 @@ and_true : (a : Bool) → (a && true) ≡ (a || false)
 and_true true = refl
 and_true false = refl
 
-lt_le : (p n : ℕ) → nat_lt p n ≡ nat_le (p + 1) n
-lt_le p n = ⊎_elim (λ h. lt-ltb p n h ∙ sym (le-leb (p + 1) n (omega (arith, h))))
-    (λ h. le-ltb p n h ∙ sym (lt-leb (p + 1) n (omega (arith, h)))) (cases_lt p n)
+-- a weight is within the less of two where it is within both
+within_both : (w a b : ℕ) → nat_le w (min a b) ≡ (nat_le w a && (nat_le w b && true))
+within_both w a b =
+    let in_a = min-le_left a b in
+    let in_b = min-le_right a b in
+    let first : w ≤ a → nat_le w (min a b) ≡ (nat_le w a && (nat_le w b && true)) = λ h. ⊎_elim
+        (λ k. lt-leb w (min a b) (omega (arith, in_b, k))
+            ∙ sym (ap (λ x. x && (nat_le w b && true)) (le-leb w a h) ∙ ap (λ x. x && true) (lt-leb w b k)))
+        (λ k. le-leb w (min a b) (le-min h k)
+            ∙ sym (ap (λ x. x && (nat_le w b && true)) (le-leb w a h) ∙ ap (λ x. x && true) (le-leb w b k)))
+        (cases_lt b w) in
+    ⊎_elim
+        (λ h. lt-leb w (min a b) (omega (arith, in_a, h))
+            ∙ sym (ap (λ x. x && (nat_le w b && true)) (lt-leb w a h)))
+        first (cases_lt a w)
 
-fewer : (b all : Bool) → (if b then all else false) ≡ (all && (b && true))
-fewer true true = refl
-fewer true false = refl
-fewer false true = refl
-fewer false false = refl
+-- and within what is left of a budget where it keeps within it
+within_left : (w p budget : ℕ) → 1 ≤ w → nat_le w (budget - p) ≡ nat_le (p + w) budget
+within_left w p budget l = ⊎_elim
+    (λ h. lt-leb w (budget - p) (omega (arith, h, l)) ∙ sym (lt-leb (p + w) budget h))
+    (λ h. le-leb w (budget - p) (omega (arith, h, l)) ∙ sym (le-leb (p + w) budget h)) (cases_lt budget (p + w))
 
 -- one more record is in front
-pub front_more : (passing : ℕ) (ds : List Drive) (front : List Record) (f : Front) (r : Record) (at : ℕ) → at < 16
-    → at ≡ drive_place ds r.command.unit → IsFront passing ds front f
-    → IsFront passing ds (front ++ r ∷ []) (with_record passing f r at)
-front_more passing ds front f r at l e h =
+pub front_more : (budget : ℕ) (ds : List Drive) (front : List Record) (f : Front) (r : Record) (at : ℕ) → at < 16
+    → at ≡ drive_place ds r.command.unit → IsFront budget ds front f
+    → IsFront budget ds (front ++ r ∷ []) (with_record budget f r at)
+front_more budget ds front f r at l e h =
     let of : (place : ℕ) → nat_eq at place ≡ is_of ds place r = λ place. ap (λ i. nat_eq i place) e in
     let sequential = is_sequential r.command.order in
-    let may : Record → Bool = λ z. nat_le (z.passes + 1) passing in
     record {
       many = length-set f.seen at true ∙ h.many;
       many_fenced = elim sequential as (λ b. length (if b then set f.fenced at true else f.fenced) ≡ 16)
@@ -171,22 +183,24 @@ front_more passing ds front f r at l e h =
           set_more f.fenced at place sequential (list_any p front) (omega (arith, h.many_fenced)) (h.fenced place k)
           ∙ (ap (λ b. list_any p front || (b && sequential)) (of place)
               ∙ (ap (λ b. list_any p front || b) (sym (or_false (p r))) ∙ sym (list_any-append p front (r ∷ []))));
-      affordable =
-          ap (λ b. if b then f.affordable else false) (lt_le r.passes passing)
-          ∙ (ap (λ a. if may r then a else false) h.affordable
-              ∙ (fewer (may r) (list_all may front) ∙ sym (list_all-append may front (r ∷ []))));
+      unspent = λ w some small.
+          let may : Record → Bool = λ z. nat_le (z.passed + w) budget in
+          within_both w f.unspent (budget - r.passed)
+          ∙ (ap (λ b. b && (nat_le w (budget - r.passed) && true)) (h.unspent w some small)
+          ∙ (ap (λ b. list_all may front && (b && true)) (within_left w r.passed budget some)
+              ∙ sym (list_all-append may front (r ∷ []))));
     }
 
 -- z keeps back what is of this unit, and may be sequential
 abbrev pub fences_of : ℕ → Bool → Record → Bool
 fences_of unit sequential z = nat_eq z.command.unit unit && (is_sequential z.command.order || sequential)
 
-free_by : (ds : List Drive) (front : List Record) (f : Front) (passing unit : ℕ) (other : Drive) (sequential : Bool)
-    → IsFront passing ds front f → drive_place ds unit < 16
+free_by : (ds : List Drive) (front : List Record) (f : Front) (budget unit : ℕ) (other : Drive) (sequential : Bool)
+    → IsFront budget ds front f → drive_place ds unit < 16
     → is_known (units_of ds) unit ≡ true → AllByRecursion (λ z. is_known (units_of ds) z.command.unit ≡ true) front
     → (if sequential then not (get_or f.seen (drive_place ds unit) false)
         else not (get_or f.fenced (drive_place ds unit) false)) ≡ not (list_any (fences_of unit sequential) front)
-free_by ds front f passing unit other true h l k each =
+free_by ds front f budget unit other true h l k each =
     ap not (h.seen (drive_place ds unit) l
     ∙ any_of (is_of ds (drive_place ds unit)) (fences_of unit true) front
     (every_weaker (λ z. is_known (units_of ds) z.command.unit ≡ true)
@@ -194,7 +208,7 @@ free_by ds front f passing unit other true h l k each =
     (λ z w. apart_by_place ds other z.command.unit unit w k
         ∙ (sym (and_all (nat_eq z.command.unit unit))
         ∙ ap (λ b. nat_eq z.command.unit unit && b) (sym (or_true (is_sequential z.command.order))))) front each))
-free_by ds front f passing unit other false h l k each =
+free_by ds front f budget unit other false h l k each =
     ap not (h.fenced (drive_place ds unit) l
     ∙ any_of (λ z. is_of ds (drive_place ds unit) z && is_sequential z.command.order) (fences_of unit false) front
     (every_weaker (λ z. is_known (units_of ds) z.command.unit ≡ true)
@@ -203,12 +217,12 @@ free_by ds front f passing unit other false h l k each =
         ∙ ap (λ b. nat_eq z.command.unit unit && b) (sym (or_false (is_sequential z.command.order)))) front each))
 
 -- What is kept of those in front lets a record start exactly where it may.
-pub let_is : (passing : ℕ) (ds : List Drive) (front : List Record) (f : Front) (r : Record) (other : Drive)
-    → IsFront passing ds front f → drive_place ds r.command.unit < 16
+pub let_is : (budget : ℕ) (ds : List Drive) (front : List Record) (f : Front) (r : Record) (other : Drive)
+    → IsFront budget ds front f → (1 ≤ r.weight) × (r.weight < 2 ^ 32) → drive_place ds r.command.unit < 16
     → is_known (units_of ds) r.command.unit ≡ true
         → AllByRecursion (λ z. is_known (units_of ds) z.command.unit ≡ true) front
-    → is_let f r (drive_place ds r.command.unit) ≡ is_open passing r front
-let_is passing ds front f r other h l k each =
-    ap (λ b. b && f.affordable) (free_by ds front f passing r.command.unit other (is_sequential r.command.order) h l k
+    → is_let f r (drive_place ds r.command.unit) ≡ is_open budget r front
+let_is budget ds front f r other h w l k each =
+    ap (λ b. b && nat_le r.weight f.unspent) (free_by ds front f budget r.command.unit other (is_sequential r.command.order) h l k
         each ∙ sym (none_any (fences r) front))
-    ∙ ap (λ b. is_free r front && b) h.affordable
+    ∙ ap (λ b. is_free r front && b) (h.unspent r.weight w.0 w.1)

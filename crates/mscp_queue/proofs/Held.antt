@@ -31,11 +31,11 @@ heads_fresh : (us : List Shape) → AllByRecursion IsOnUnit (map fresh_drive us)
 heads_fresh [] = tt
 heads_fresh (u ∷ us) = (omega arith, heads_fresh us)
 
-pub held_fresh : (room passing longest : ℕ) (us : List Shape) (rs : List Record) (ds : List Drive) → 1 ≤ room
+pub held_fresh : (room budget longest : ℕ) (us : List Shape) (rs : List Record) (ds : List Drive) → 1 ≤ room
     → room ≤ 63 → 1 ≤ longest → longest ≤ 8388608
-    → (room + passing) * longest ≤ 4294967295 → IsUnitList us → rs ≡ [] → ds ≡ map fresh_drive us
-        → IsHeld room passing longest rs ds None false
-held_fresh room passing longest us rs ds a b c d e u n f =
+    → room * longest + budget ≤ 4294967295 → IsUnitList us → rs ≡ [] → ds ≡ map fresh_drive us
+        → IsHeld room budget longest rs ds None false
+held_fresh room budget longest us rs ds a b c d e u n f =
     record {
       some_room = a;
       few = b;
@@ -43,8 +43,8 @@ held_fresh room passing longest us rs ds a b c d e u n f =
       short = d;
       small = omega arith;
       fits = omega (arith, ap length n);
-      each = subst (All (IsKept passing longest (units_of ds))) (sym n)
-          (All-nil (IsKept passing longest (units_of ds)));
+      each = subst (All (IsKept budget longest (units_of ds))) (sym n)
+          (All-nil (IsKept budget longest (units_of ds)));
       apart = subst (λ rs. AreApart (names rs)) (sym n) tt;
       one = subst (λ rs. length (filter is_in_service rs) ≤ 1) (sym n) (omega arith);
       idle = λ e. subst (All (λ r. r.done ≡ 0)) (sym n) (All-nil (λ (r : Record). r.done ≡ 0));
@@ -61,12 +61,12 @@ pub renewed : (ds ws : List Drive) → ws ≡ map (λ d. fresh_drive d.unit) ds
 renewed ds ws e = refilled ds ws (ap length e ∙ length-map ds (λ (d : Drive). fresh_drive d.unit))
     ∙ (e ∙ sym (map_map (λ (d : Drive). d.unit) fresh_drive ds))
 
-pub held_renewed : (room passing longest : ℕ) (rs new : List Record) (ds ds' : List Drive) (begun : Option Name)
-    (serving : Bool) → IsHeld room passing longest rs ds begun serving → new ≡ [] → ds' ≡ map fresh_drive (units_of ds)
-    → IsHeld room passing longest new ds' None false
-held_renewed room passing longest rs new ds ds' begun serving h n e =
+pub held_renewed : (room budget longest : ℕ) (rs new : List Record) (ds ds' : List Drive) (begun : Option Name)
+    (serving : Bool) → IsHeld room budget longest rs ds begun serving → new ≡ [] → ds' ≡ map fresh_drive (units_of ds)
+    → IsHeld room budget longest new ds' None false
+held_renewed room budget longest rs new ds ds' begun serving h n e =
     let s = h.small in
-    held_fresh room passing longest (units_of ds) new ds' h.some_room h.few h.some_blocks h.short (omega arith) h.units
+    held_fresh room budget longest (units_of ds) new ds' h.some_room h.few h.some_blocks h.short (omega arith) h.units
         n e
 
 -- ---- a command comes
@@ -83,10 +83,10 @@ some_steps orders.Online = omega arith
 some_steps orders.SetUnit = omega arith
 some_steps (orders.Invalid opcode status) = omega arith
 
-fresh_kept : (passing longest : ℕ) (us : List Shape) (c : Command) → IsWaitable longest us c
-    → IsKept passing longest us (fresh_record c)
-fresh_kept passing longest us c w = record { waitable = w; weight = refl; unfinished = some_steps c.order; good =
-    refl; passes = omega arith }
+fresh_kept : (budget longest : ℕ) (us : List Shape) (c : Command) → IsWaitable longest us c
+    → IsKept budget longest us (fresh_record c)
+fresh_kept budget longest us c w = record { waitable = w; weight = refl; unfinished = some_steps c.order; good =
+    refl; passed = omega arith }
 
 apart_more : (xs : List ℕ) (x : ℕ) → AreApart xs → AllByRecursion (λ y. x ≢ y) xs → AreApart (xs ++ x ∷ [])
 apart_more [] x a n = (tt, tt)
@@ -103,22 +103,22 @@ none_has reference (r ∷ rs) h =
     let p = or_parts (has_reference reference r) (list_any (has_reference reference) rs) h in
     ((λ e. eqb-false r.command.reference reference p.0 (sym e)), none_has reference rs p.1)
 
-pub held_pushed : (room passing longest : ℕ) (rs new : List Record) (ds : List Drive) (begun : Option Name)
-    (serving : Bool) (c : Command) → IsHeld room passing longest rs ds begun serving → length rs < room
+pub held_pushed : (room budget longest : ℕ) (rs new : List Record) (ds : List Drive) (begun : Option Name)
+    (serving : Bool) (c : Command) → IsHeld room budget longest rs ds begun serving → length rs < room
     → IsWaitable longest (units_of ds) c
     → list_any (has_reference c.reference) rs ≡ false → new ≡ rs ++ fresh_record c ∷ []
-        → IsHeld room passing longest new ds begun serving
-held_pushed room passing longest rs new ds begun serving c h l w n e =
-    let K = IsKept passing longest (units_of ds) in
+        → IsHeld room budget longest new ds begun serving
+held_pushed room budget longest rs new ds begun serving c h l w n e =
+    let K = IsKept budget longest (units_of ds) in
     let r = fresh_record c in
     let kept : All K (rs ++ r ∷ []) =
     All-from_recursion K (rs ++ r ∷ []) (every_append K rs (r ∷ []) (recursion_from_All K rs h.each)
-        (fresh_kept passing longest (units_of ds) c w, tt)) in
+        (fresh_kept budget longest (units_of ds) c w, tt)) in
     let numbers : names (rs ++ r ∷ []) ≡ names rs ++ c.reference ∷ [] =
         map-append (λ (q : Record). q.command.reference) rs (r ∷ []) in
     let served : filter is_in_service (rs ++ r ∷ []) ≡ filter is_in_service rs ++ [] =
         filter-append is_in_service rs (r ∷ []) in
-    let all : IsHeld room passing longest (rs ++ r ∷ []) ds begun serving =
+    let all : IsHeld room budget longest (rs ++ r ∷ []) ds begun serving =
     record {
       some_room = h.some_room;
       few = h.few;
@@ -133,28 +133,28 @@ held_pushed room passing longest rs new ds begun serving c h l w n e =
           (every_append (λ z. z.done ≡ 0) rs (r ∷ []) (recursion_from_All (λ z. z.done ≡ 0) rs (h.idle e)) (refl, tt));
       units = h.units;
       heads = h.heads;
-      still = λ name k. still_pushed passing rs name r refl (h.still name k);
+      still = λ name k. still_pushed budget rs name r refl (h.still name k);
     } in
-    subst (λ zs. IsHeld room passing longest zs ds begun serving) (sym e) all
+    subst (λ zs. IsHeld room budget longest zs ds begun serving) (sym e) all
 
 -- ---- a step
 
-kept_passed : (passing longest n : ℕ) (us : List Shape) (r : Record) → IsKept passing longest us r
-    → r.passes + n ≤ passing → IsKept passing longest us (passed_by n r)
-kept_passed passing longest n us r h l = record { waitable = h.waitable; weight = h.weight; unfinished =
-    h.unfinished; good = h.good; passes = l }
+kept_passed : (budget longest n : ℕ) (us : List Shape) (r : Record) → IsKept budget longest us r
+    → r.passed + n ≤ budget → IsKept budget longest us (passed_by n r)
+kept_passed budget longest n us r h l = record { waitable = h.waitable; weight = h.weight; unfinished =
+    h.unfinished; good = h.good; passed = l }
 
-front_kept : (passing longest n : ℕ) (us : List Shape) (A : List Record) → AllByRecursion (IsKept passing longest us) A
-    → AllByRecursion (λ r. r.passes + n ≤ passing) A
-    → AllByRecursion (IsKept passing longest us) (map (passed_by n) A)
-front_kept passing longest n us [] h l = tt
-front_kept passing longest n us (r ∷ rs) h l = (kept_passed passing longest n us r h.0 l.0, front_kept passing longest n
+front_kept : (budget longest n : ℕ) (us : List Shape) (A : List Record) → AllByRecursion (IsKept budget longest us) A
+    → AllByRecursion (λ r. r.passed + n ≤ budget) A
+    → AllByRecursion (IsKept budget longest us) (map (passed_by n) A)
+front_kept budget longest n us [] h l = tt
+front_kept budget longest n us (r ∷ rs) h l = (kept_passed budget longest n us r h.0 l.0, front_kept budget longest n
     us rs h.1 l.1)
 
-kept_advanced : (passing longest : ℕ) (us : List Shape) (r : Record) → IsKept passing longest us r
-    → r.done + 1 < r.weight → IsKept passing longest us (advanced r)
-kept_advanced passing longest us r h l = record { waitable = h.waitable; weight = h.weight; unfinished = l; good =
-    ap (λ n. n + 1) h.good; passes = h.passes }
+kept_advanced : (budget longest : ℕ) (us : List Shape) (r : Record) → IsKept budget longest us r
+    → r.done + 1 < r.weight → IsKept budget longest us (advanced r)
+kept_advanced budget longest us r h l = record { waitable = h.waitable; weight = h.weight; unfinished = l; good =
+    ap (λ n. n + 1) h.good; passed = h.passed }
 
 names_passed : (n : ℕ) (A : List Record) → names (map (passed_by n) A) ≡ names A
 names_passed n [] = refl
@@ -224,33 +224,33 @@ apart_left r own A B h a =
     (λ e. subst (λ xs. AreApart (names A ++ (names xs ++ names B))) (sym e.0) a)
     h.left
 
-kept_left : (passing longest : ℕ) (us : List Shape) (r : Record) (own : List Record) → IsLeft r own
-    → IsKept passing longest us r → AllByRecursion (IsKept passing longest us) own
-kept_left passing longest us r own h k =
+kept_left : (budget longest : ℕ) (us : List Shape) (r : Record) (own : List Record) → IsLeft r own
+    → IsKept budget longest us r → AllByRecursion (IsKept budget longest us) own
+kept_left budget longest us r own h k =
     ⊎_elim
-    (λ e. subst (AllByRecursion (IsKept passing longest us)) (sym e) tt)
-    (λ e. subst (AllByRecursion (IsKept passing longest us)) (sym e.0) (kept_advanced passing longest us r k e.1, tt))
+    (λ e. subst (AllByRecursion (IsKept budget longest us)) (sym e) tt)
+    (λ e. subst (AllByRecursion (IsKept budget longest us)) (sym e.0) (kept_advanced budget longest us r k e.1, tt))
     h.left
 
 -- what holds of a record among others
-pub record IsTurn (passing n : ℕ) (A : List Record) (r : Record) (B own : List Record) : Type 0 where
+pub record IsTurn (budget n : ℕ) (A : List Record) (r : Record) (B own : List Record) : Type 0 where
   pub before : AreIdle A
   pub behind : AreIdle B
-  pub affordable : AllByRecursion (λ z. z.passes + n ≤ passing) A
+  pub affordable : AllByRecursion (λ z. z.passed + n ≤ budget) A
   pub left : IsLeft r own
 
-pub held_turn : (room passing longest n : ℕ) (A : List Record) (r : Record) (B own : List Record) (ds ds' : List Drive)
-    (begun : Option Name) (serving serves : Bool) → IsHeld room passing longest (A ++ r ∷ B) ds begun serving
-    → IsTurn passing n A r B own
+pub held_turn : (room budget longest n : ℕ) (A : List Record) (r : Record) (B own : List Record) (ds ds' : List Drive)
+    (begun : Option Name) (serving serves : Bool) → IsHeld room budget longest (A ++ r ∷ B) ds begun serving
+    → IsTurn budget n A r B own
     → (serves ≡ false → own ≡ []) → units_of ds' ≡ units_of ds → All IsOnUnit ds'
-        → IsHeld room passing longest (map (passed_by n) A ++ (own ++ B)) ds' None serves
-held_turn room passing longest n A r B own ds ds' begun serving serves h t ended u heads =
-    let K = IsKept passing longest (units_of ds) in
+        → IsHeld room budget longest (map (passed_by n) A ++ (own ++ B)) ds' None serves
+held_turn room budget longest n A r B own ds ds' begun serving serves h t ended u heads =
+    let K = IsKept budget longest (units_of ds) in
     let new = map (passed_by n) A ++ (own ++ B) in
     let parts = every_parts K A (r ∷ B) (recursion_from_All K (A ++ r ∷ B) h.each) in
     let kept : AllByRecursion K new =
-    every_append K (map (passed_by n) A) (own ++ B) (front_kept passing longest n (units_of ds) A parts.0 t.affordable)
-    (every_append K own B (kept_left passing longest (units_of ds) r own t.left parts.1.0) parts.1.1) in
+    every_append K (map (passed_by n) A) (own ++ B) (front_kept budget longest n (units_of ds) A parts.0 t.affordable)
+    (every_append K own B (kept_left budget longest (units_of ds) r own t.left parts.1.0) parts.1.1) in
     let ref : Record → ℕ = λ q. q.command.reference in
     let old_numbers : names (A ++ r ∷ B) ≡ names A ++ (r.command.reference ∷ names B) = map-append ref A (r ∷ B) in
     let numbers : names new ≡ names A ++ (names own ++ names B) =
@@ -269,7 +269,7 @@ held_turn room passing longest n A r B own ds ds' begun serving serves h t ended
       small = h.small;
       fits = let f = h.fits in omega (arith, length-append A (r ∷ B), length-append (map (passed_by n) A) (own ++ B),
           length-map A (passed_by n), length-append own B);
-      each = subst (λ us. All (IsKept passing longest us) new) (sym u) (All-from_recursion K new kept);
+      each = subst (λ us. All (IsKept budget longest us) new) (sym u) (All-from_recursion K new kept);
       apart = subst AreApart (sym numbers) (apart_left r own A B t.left (subst AreApart old_numbers h.apart));
       one = omega (arith, ap length served, length-append (filter is_in_service (map (passed_by n) A))
           (filter is_in_service (own ++ B)), ap length served_own, length-append (filter is_in_service own)

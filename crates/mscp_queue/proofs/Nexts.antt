@@ -29,9 +29,9 @@ found_at p rs place h =
     let B = some.2 in
     let f = some.3 in
     let first : length A ≡ place = ap (λ o. unwrap_or o place)
-        (sym (position_first p A r B f.before f.passes) ∙ (ap (position p) (sym f.is) ∙ h)) in (
+        (sym (position_first p A r B f.before f.passed) ∙ (ap (position p) (sym f.is) ∙ h)) in (
       omega (arith, first, ap length f.is, length-append A (r ∷ B)),
-      ap p (ap (λ l. record_at l place) f.is ∙ get_or_at A r B no_record place first) ∙ f.passes,
+      ap p (ap (λ l. record_at l place) f.is ∙ get_or_at A r B no_record place first) ∙ f.passed,
     ))
     (find_cases p rs)
 
@@ -51,10 +51,10 @@ not_unstarted : (r : Record) → is_in_service r ≡ true → is_unstarted r ≡
 not_unstarted r h e = let a = ltb-true 0 r.done h in let b = eqb-true r.done 0 e in omega arith
 
 -- the record in service is next
-pub serving_next : (picks : List Choice → ℕ → Type 0) (passing : ℕ) (ds : List Drive) (rs : List Record)
+pub serving_next : (picks : List Choice → ℕ → Type 0) (budget : ℕ) (ds : List Drive) (rs : List Record)
     (begun : Option Name) (place : ℕ) → begun ≡ None → position is_in_service rs ≡ Some place
-    → IsNext picks passing ds rs begun place
-serving_next picks passing ds rs begun place n h =
+    → IsNext picks budget ds rs begun place
+serving_next picks budget ds rs begun place n h =
     let f = found_at is_in_service rs place h in
     record {
       servable = record {
@@ -75,7 +75,7 @@ none_serving rs h =
         (λ r e. let z = ltb-false 0 r.done e in omega arith) rs none))
     (λ some.
     let f = some.3 in
-    absurd (true≢false (ap is_some (sym (position_first is_in_service some.0 some.1 some.2 f.before f.passes)
+    absurd (true≢false (ap is_some (sym (position_first is_in_service some.0 some.1 some.2 f.before f.passed)
         ∙ (ap (position is_in_service) (sym f.is) ∙ h)))))
     (find_cases is_in_service rs)
 
@@ -86,13 +86,13 @@ idle_found rs h =
         (λ r e. ap (nat_lt 0) e) rs (recursion_from_All (λ r. r.done ≡ 0) rs h))
 
 -- where none is, the record that is picked is
-pub picked_next : (picks : List Choice → ℕ → Type 0) (passing : ℕ) (ds : List Drive) (rs : List Record)
+pub picked_next : (picks : List Choice → ℕ → Type 0) (budget : ℕ) (ds : List Drive) (rs : List Record)
     (begun : Option Name) (place : ℕ) → begun ≡ None → position is_in_service rs ≡ None → place < length rs
-    → IsPick picks passing ds rs place → IsNext picks passing ds rs begun place
-picked_next picks passing ds rs begun place n h l p =
+    → IsPick picks budget ds rs place → IsNext picks budget ds rs begun place
+picked_next picks budget ds rs begun place n h l p =
     record {
       servable = record { inside = l; idle = λ e. none_serving rs h; opens =
-          λ e. picked_opens picks passing ds rs place p };
+          λ e. picked_opens picks budget ds rs place p };
       same = λ name e. absurd (none_begun begun name n e);
       picked = λ b e. p;
     }
@@ -116,7 +116,7 @@ name_found rs name place None a l e h =
     (λ none. absurd (true≢false (sym (eq-eqb (record_at rs place).command.reference name e)
         ∙ All-from_recursion (λ r. has_reference name r ≡ false) rs none place no_record l)))
     (λ some. let f = some.3 in absurd (true≢false (ap is_some
-        (sym (position_first (has_reference name) some.0 some.1 some.2 f.before f.passes)
+        (sym (position_first (has_reference name) some.0 some.1 some.2 f.before f.passed)
         ∙ (ap (position (has_reference name)) (sym f.is) ∙ sym h)))))
     (find_cases (has_reference name) rs)
 name_found rs name place (Some other) a l e h =
@@ -124,55 +124,55 @@ name_found rs name place (Some other) a l e h =
     ap Some (once rs other place a f.0 l (eqb-true (record_at rs other).command.reference name f.1 ∙ sym e))
 
 -- and so is the record that a choice of a view is of
-pub shown_found : (passing : ℕ) (ds : List Drive) (rs : List Record) (view : List Choice) (i : ℕ) (other : Choice)
-    (o : Option ℕ) → AreApart (names rs) → view ≡ view_of passing ds rs → i < length view
-    → o ≡ position (has_reference (get_or view i other).reference) rs → o ≡ Some (get_or (open_places passing rs) i 0)
-shown_found passing ds rs view i other o a v l h =
+pub shown_found : (budget : ℕ) (ds : List Drive) (rs : List Record) (view : List Choice) (i : ℕ) (other : Choice)
+    (o : Option ℕ) → AreApart (names rs) → view ≡ view_of budget ds rs → i < length view
+    → o ≡ position (has_reference (get_or view i other).reference) rs → o ≡ Some (get_or (open_places budget rs) i 0)
+shown_found budget ds rs view i other o a v l h =
     let choice : ℕ → Choice = λ place. choice_of (drive_at ds rs place) (record_at rs place) in
-    let k : i < length (open_places passing rs) = omega
-        (arith, l, ap length v, length-map (open_places passing rs) choice) in
-    let is = ap (λ vs. get_or vs i other) v ∙ get_or-map choice (open_places passing rs) i 0 other k in
-    name_found rs (get_or view i other).reference (get_or (open_places passing rs) i 0) o a
-        (places_inside passing rs i 0 k) (sym (ap (λ (q : Choice). q.reference) is)) h
+    let k : i < length (open_places budget rs) = omega
+        (arith, l, ap length v, length-map (open_places budget rs) choice) in
+    let is = ap (λ vs. get_or vs i other) v ∙ get_or-map choice (open_places budget rs) i 0 other k in
+    name_found rs (get_or view i other).reference (get_or (open_places budget rs) i 0) o a
+        (places_inside budget rs i 0 k) (sym (ap (λ (q : Choice). q.reference) is)) h
 
 -- the record of what was begun is next
-begun_next : (picks : List Choice → ℕ → Type 0) (passing : ℕ) (ds : List Drive) (rs : List Record) (begun : Option Name)
-    (name : Name) (place : ℕ) → AreApart (names rs) → begun ≡ Some name → IsStillServable passing rs name
-    → position (has_reference name) rs ≡ Some place → IsNext picks passing ds rs begun place
-begun_next picks passing ds rs begun name place a b s h =
+begun_next : (picks : List Choice → ℕ → Type 0) (budget : ℕ) (ds : List Drive) (rs : List Record) (begun : Option Name)
+    (name : Name) (place : ℕ) → AreApart (names rs) → begun ≡ Some name → IsStillServable budget rs name
+    → position (has_reference name) rs ≡ Some place → IsNext picks budget ds rs begun place
+begun_next picks budget ds rs begun name place a b s h =
     let f = found_at (has_reference name) rs place h in
     let number : (i : ℕ) → has_reference name (record_at rs i) ≡ true → (record_at rs i).command.reference ≡ name =
         λ i. eqb-true (record_at rs i).command.reference name in
     let here : s.0 ≡ place = once rs s.0 place a s.1.inside f.0 (number s.0 s.2 ∙ sym (number place f.1)) in
     record {
-      servable = subst (IsServable passing rs) here s.1;
+      servable = subst (IsServable budget rs) here s.1;
       same = λ other e. subst (λ n. has_reference n (record_at rs place) ≡ true) (some_is name other (sym b ∙ e)) f.1;
       picked = λ n e. absurd (none_begun begun name n b);
     }
 
 -- and it is found
-begun_found : (passing : ℕ) (rs : List Record) (name : Name) → IsStillServable passing rs name
+begun_found : (budget : ℕ) (rs : List Record) (name : Name) → IsStillServable budget rs name
     → position (has_reference name) rs ≡ None → ⊥
-begun_found passing rs name s h =
+begun_found budget rs name s h =
     ⊎_elim
     (λ none. true≢false (sym s.2 ∙ All-from_recursion (λ r. has_reference name r ≡ false) rs none s.0 no_record
         s.1.inside))
     (λ some. let f = some.3 in true≢false (ap is_some
-        (sym (position_first (has_reference name) some.0 some.1 some.2 f.before f.passes)
+        (sym (position_first (has_reference name) some.0 some.1 some.2 f.before f.passed)
         ∙ (ap (position (has_reference name)) (sym f.is) ∙ h))))
     (find_cases (has_reference name) rs)
 
 -- what is found of what was begun
-pub record Finds (picks : List Choice → ℕ → Type 0) (passing : ℕ) (ds : List Drive) (rs : List Record)
+pub record Finds (picks : List Choice → ℕ → Type 0) (budget : ℕ) (ds : List Drive) (rs : List Record)
     (begun : Option Name) (o : Option ℕ) : Type 0 where
   pub none : IfNone o (rs ≡ [])
   pub unbegun : IfNone o (begun ≡ None)
-  pub some : IfSome o (λ place. IsNext picks passing ds rs begun place)
+  pub some : IfSome o (λ place. IsNext picks budget ds rs begun place)
 
-pub finds_begun : (picks : List Choice → ℕ → Type 0) (passing : ℕ) (ds : List Drive) (rs : List Record)
+pub finds_begun : (picks : List Choice → ℕ → Type 0) (budget : ℕ) (ds : List Drive) (rs : List Record)
     (begun : Option Name) (name : Name) (o : Option ℕ) → AreApart (names rs) → begun ≡ Some name
-    → IsStillServable passing rs name
-    → o ≡ position (has_reference name) rs → Finds picks passing ds rs begun o
-finds_begun picks passing ds rs begun name None a b s h = absurd (begun_found passing rs name s (sym h))
-finds_begun picks passing ds rs begun name (Some place) a b s h =
-    record { none = tt; unbegun = tt; some = begun_next picks passing ds rs begun name place a b s (sym h) }
+    → IsStillServable budget rs name
+    → o ≡ position (has_reference name) rs → Finds picks budget ds rs begun o
+finds_begun picks budget ds rs begun name None a b s h = absurd (begun_found budget rs name s (sym h))
+finds_begun picks budget ds rs begun name (Some place) a b s h =
+    record { none = tt; unbegun = tt; some = begun_next picks budget ds rs begun name place a b s (sym h) }

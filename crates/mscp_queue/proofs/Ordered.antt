@@ -69,13 +69,13 @@ counted_left rs new place toll n k ends l is counted e =
           sum_by-append one_if (own_left ends r) B, counted, e);
     }
 
-passed_below : (n top : ℕ) (A : List Record) → AllByRecursion (λ z. z.passes ≤ top) A
-    → AllByRecursion (λ z. z.passes ≤ top + n) (map (passed_by n) A)
+passed_below : (n top : ℕ) (A : List Record) → AllByRecursion (λ z. z.passed ≤ top) A
+    → AllByRecursion (λ z. z.passed ≤ top + n) (map (passed_by n) A)
 passed_below n top [] h = tt
 passed_below n top (r ∷ rs) h = (omega (arith, h.0), passed_below n top rs h.1)
 
-left_below : (ends : Bool) (top : ℕ) (r : Record) (B : List Record) → AllByRecursion (λ z. z.passes ≤ top) (r ∷ B)
-    → AllByRecursion (λ z. z.passes ≤ top) (own_left ends r ++ B)
+left_below : (ends : Bool) (top : ℕ) (r : Record) (B : List Record) → AllByRecursion (λ z. z.passed ≤ top) (r ∷ B)
+    → AllByRecursion (λ z. z.passed ≤ top) (own_left ends r ++ B)
 left_below true top r B h = h.1
 left_below false top r B h = h
 
@@ -84,16 +84,16 @@ order_left : (n : ℕ) (ends : Bool) (A : List Record) (r : Record) (B : List Re
 order_left n true [] r B h = h.1
 order_left n false [] r B h = h
 order_left n ends (q ∷ qs) r B h =
-    let low : Record → Type 0 = λ z. z.passes ≤ q.passes in
-    let high : Record → Type 0 = λ z. z.passes ≤ q.passes + n in
+    let low : Record → Type 0 = λ z. z.passed ≤ q.passed in
+    let high : Record → Type 0 = λ z. z.passed ≤ q.passed + n in
     let parts = every_parts low qs (r ∷ B) h.0 in
     let behind = every_weaker low high (λ z l. omega (arith, l)) (own_left ends r ++ B)
-        (left_below ends q.passes r B parts.1) in
-    (every_append high (map (passed_by n) qs) (own_left ends r ++ B) (passed_below n q.passes qs parts.0) behind,
+        (left_below ends q.passed r B parts.1) in
+    (every_append high (map (passed_by n) qs) (own_left ends r ++ B) (passed_below n q.passed qs parts.0) behind,
         order_left n ends qs r B h.1)
 
-pub passes_left : (rs new : List Record) (place toll : ℕ) (ends : Bool) → place < length rs
+pub passed_left : (rs new : List Record) (place toll : ℕ) (ends : Bool) → place < length rs
     → new ≡ all_left toll ends place rs → ArePassedInOrder rs → ArePassedInOrder new
-passes_left rs new place toll ends l is h =
+passed_left rs new place toll ends l is h =
     subst ArePassedInOrder (sym is) (order_left toll ends (take place rs) (record_at rs place) (drop (place + 1) rs)
         (subst ArePassedInOrder (cut_at no_record rs place l) h))

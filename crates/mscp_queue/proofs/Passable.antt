@@ -1,8 +1,8 @@
--- Where all are transfers that may be passed once more, each may start.
+-- Where all are transfers that the longest may still pass, each may start.
 use Rattle.std.proofs.Common.{◌≡◌, ℕ, ◌+◌, ◌<◌, ◌≤◌, Bool, true, false, cond, not, ◌&&◌, ◌||◌, List, [], ◌∷◌, ◌++◌, take, get_or, length, refl, ap, sym, ◌∙◌, arith}
-use Rattle.std.specs.Prelude.{All, nat_eq, nat_lt}
+use Rattle.std.specs.Prelude.{All, nat_eq, nat_le}
 use Rattle.std.specs.List.{AllByRecursion, list_all, range_with_len}
-use Rattle.std.proofs.lemmas.Bool.{and_parts, false≢true, le-leb, lt-ltb, ltb-true}
+use Rattle.std.proofs.lemmas.Bool.{and_parts, false≢true, le-leb, leb-true}
 use Rattle.std.proofs.lemmas.List.{map-append}
 use Rattle.std.proofs.lemmas.List.Sums.{sum_by-cons}
 use Rattle.std.proofs.lemmas.List.Elements.{All-from_recursion, All-take, recursion_from_All}
@@ -13,7 +13,7 @@ use Rattle.mscp_queue.specs.declared.view.Choice.{Choice}
 use Rattle.mscp_queue.specs.Kept.{ArePassedInOrder, sequential_count}
 use Rattle.mscp_queue.specs.Orders.{is_move, is_sequential}
 use Rattle.mscp_queue.specs.Records.{Record, drive_at, no_record, record_at}
-use Rattle.mscp_queue.specs.Views.{choice_of, choices_at, is_affordable, is_free, is_open_at, is_passable, open_places}
+use Rattle.mscp_queue.specs.Views.{AllMayStart, choice_of, choices_at, is_affordable, is_free, is_open_at, is_passable, open_places}
 use Rattle.mscp_queue.proofs.Ordered.{one_if}
 use Rattle.mscp_queue.proofs.Lists.{every_of, every_weaker, filter_all, range_below, range_more}
 
@@ -30,114 +30,130 @@ not_sequential orders.Online m = absurd (false≢true m)
 not_sequential orders.SetUnit m = absurd (false≢true m)
 not_sequential (orders.Invalid opcode status) m = absurd (false≢true m)
 
-abbrev ArePassable : ℕ → List Record → Type 0
-ArePassable passing rs = AllByRecursion (λ z. is_passable passing z ≡ true) rs
+abbrev ArePassable : ℕ → ℕ → List Record → Type 0
+ArePassable budget longest rs = AllByRecursion (λ z. is_passable budget longest z ≡ true) rs
 
 unfenced : (a : Bool) → (a && false) ≡ false
 unfenced true = refl
 unfenced false = refl
 
-all_free : (passing : ℕ) (r : Record) (front : List Record) → is_sequential r.command.order ≡ false
-    → ArePassable passing front → is_free r front ≡ true
-all_free passing r [] s h = refl
-all_free passing r (z ∷ zs) s h =
-    let own = not_sequential z.command.order (and_parts (is_move z.command.order) (nat_lt z.passes passing) h.0).0 in
+all_free : (budget longest : ℕ) (r : Record) (front : List Record) → is_sequential r.command.order ≡ false
+    → ArePassable budget longest front → is_free r front ≡ true
+all_free budget longest r [] s h = refl
+all_free budget longest r (z ∷ zs) s h =
+    let own = not_sequential z.command.order (and_parts (is_move z.command.order) (nat_le (z.passed + longest) budget) h.0).0 in
     let same = nat_eq z.command.unit r.command.unit in
     ap (λ b. not (same && (b || is_sequential r.command.order)) && is_free r zs) own
     ∙ (ap (λ b. not (same && b) && is_free r zs) s
-        ∙ (ap (λ b. not b && is_free r zs) (unfenced same) ∙ all_free passing r zs s h.1))
+        ∙ (ap (λ b. not b && is_free r zs) (unfenced same) ∙ all_free budget longest r zs s h.1))
 
-all_affordable : (passing : ℕ) (r : Record) (front : List Record) → ArePassable passing front
-    → is_affordable passing r front ≡ true
-all_affordable passing r [] h = refl
-all_affordable passing r (z ∷ zs) h =
-    let own = ltb-true z.passes passing (and_parts (is_move z.command.order) (nat_lt z.passes passing) h.0).1 in
-    ap (λ b. b && is_affordable passing r zs) (le-leb (z.passes + 1) passing (omega (arith, own)))
-        ∙ all_affordable passing r zs h.1
+all_affordable : (budget longest : ℕ) (r : Record) (front : List Record) → r.weight ≤ longest → ArePassable budget longest front
+    → is_affordable budget r front ≡ true
+all_affordable budget longest r [] l h = refl
+all_affordable budget longest r (z ∷ zs) l h =
+    let own = leb-true (z.passed + longest) budget
+        (and_parts (is_move z.command.order) (nat_le (z.passed + longest) budget) h.0).1 in
+    ap (λ b. b && is_affordable budget r zs) (le-leb (z.passed + r.weight) budget (omega (arith, own, l)))
+        ∙ all_affordable budget longest r zs l h.1
 
-opens_at : (passing : ℕ) (rs : List Record) (place : ℕ) → ArePassable passing rs → place < length rs
-    → is_open_at passing rs place ≡ true
-opens_at passing rs place h l =
+opens_at : (budget longest : ℕ) (rs : List Record) (place : ℕ) → ArePassable budget longest rs
+    → All (λ r. r.weight ≤ longest) rs → place < length rs
+    → is_open_at budget rs place ≡ true
+opens_at budget longest rs place h short l =
     let r = record_at rs place in
-    let P : Record → Type 0 = λ z. is_passable passing z ≡ true in
+    let P : Record → Type 0 = λ z. is_passable budget longest z ≡ true in
     let all = All-from_recursion P rs h in
-    let own = not_sequential r.command.order (and_parts (is_move r.command.order) (nat_lt r.passes passing)
+    let own = not_sequential r.command.order (and_parts (is_move r.command.order) (nat_le (r.passed + longest) budget)
         (all place no_record l)).0 in
     let front = recursion_from_All P (take place rs) (All-take P place rs all) in
-    ap (λ b. b && is_affordable passing r (take place rs)) (all_free passing r (take place rs) own front)
-        ∙ all_affordable passing r (take place rs) front
+    ap (λ b. b && is_affordable budget r (take place rs)) (all_free budget longest r (take place rs) own front)
+        ∙ all_affordable budget longest r (take place rs) (short place no_record l) front
 
-pub all_open : (passing : ℕ) (rs : List Record) → list_all (is_passable passing) rs ≡ true
-    → open_places passing rs ≡ range_with_len 0 (length rs)
-all_open passing rs h =
-    filter_all (is_open_at passing rs) (range_with_len 0 (length rs))
-    (every_weaker (λ k. (0 ≤ k) × (k < 0 + length rs)) (λ k. is_open_at passing rs k ≡ true)
-        (λ k b. opens_at passing rs k (every_of (is_passable passing) rs h) (omega arith))
+pub all_open : (budget longest : ℕ) (rs : List Record) → list_all (is_passable budget longest) rs ≡ true
+    → All (λ r. r.weight ≤ longest) rs
+    → open_places budget rs ≡ range_with_len 0 (length rs)
+all_open budget longest rs h short =
+    filter_all (is_open_at budget rs) (range_with_len 0 (length rs))
+    (every_weaker (λ k. (0 ≤ k) × (k < 0 + length rs)) (λ k. is_open_at budget rs k ≡ true)
+        (λ k b. opens_at budget longest rs k (every_of (is_passable budget longest) rs h) short (omega arith))
     (range_with_len 0 (length rs)) (range_below 0 (length rs)))
+
+-- so all may start
+pub all_may_start : (budget longest : ℕ) (rs : List Record) → All (λ r. r.weight ≤ longest) rs
+    → list_all (is_passable budget longest) rs ≡ true → AllMayStart budget rs
+all_may_start budget longest rs short h =
+    let P : Record → Type 0 = λ z. is_passable budget longest z ≡ true in
+    record {
+      transfers = All-from_recursion (λ z. is_move z.command.order ≡ true) rs
+          (every_weaker P (λ z. is_move z.command.order ≡ true)
+              (λ z e. (and_parts (is_move z.command.order) (nat_le (z.passed + longest) budget) e).0) rs
+              (every_of (is_passable budget longest) rs h));
+      places = all_open budget longest rs h short;
+    }
 
 -- ---- the oldest tells it for all
 
 -- of a sequential command one is no transfer
-sequential_not_passable : (passing : ℕ) (r : Record) → is_sequential r.command.order ≡ true
-    → is_passable passing r ≡ false
-sequential_not_passable passing r s =
-    let both : (b : Bool) → is_move r.command.order ≡ b → (b && nat_lt r.passes passing) ≡ false =
-    λ b. elim b as (λ b. is_move r.command.order ≡ b → (b && nat_lt r.passes passing) ≡ false)
+sequential_not_passable : (budget longest : ℕ) (r : Record) → is_sequential r.command.order ≡ true
+    → is_passable budget longest r ≡ false
+sequential_not_passable budget longest r s =
+    let both : (b : Bool) → is_move r.command.order ≡ b → (b && nat_le (r.passed + longest) budget) ≡ false =
+    λ b. elim b as (λ b. is_move r.command.order ≡ b → (b && nat_le (r.passed + longest) budget) ≡ false)
         [ true ↦ λ m. absurd (false≢true (sym (not_sequential r.command.order m) ∙ s)) | false ↦ λ m. refl ] in
     both (is_move r.command.order) refl
 
-pub some_sequential : (passing : ℕ) (rs : List Record) → 0 < sequential_count rs
-    → list_all (is_passable passing) rs ≡ false
-some_sequential passing [] h = absurd (omega (arith, h))
-some_sequential passing (r ∷ rs) h =
+pub some_sequential : (budget longest : ℕ) (rs : List Record) → 0 < sequential_count rs
+    → list_all (is_passable budget longest) rs ≡ false
+some_sequential budget longest [] h = absurd (omega (arith, h))
+some_sequential budget longest (r ∷ rs) h =
     let Goal : Bool → Type 0 = λ b. is_sequential r.command.order ≡ b
-        → (is_passable passing r && list_all (is_passable passing) rs) ≡ false in
+        → (is_passable budget longest r && list_all (is_passable budget longest) rs) ≡ false in
     let both : (b : Bool) → Goal b =
     λ b. elim b as Goal [
-      | true ↦ λ e. ap (λ b. b && list_all (is_passable passing) rs) (sequential_not_passable passing r e)
-      | false ↦ λ e. ap (λ b. is_passable passing r && b)
-          (some_sequential passing rs (omega (arith, h, sum_by-cons one_if r rs, ap {B = ℕ} (λ b. cond b 1 0) e)))
-          ∙ unfenced (is_passable passing r)
+      | true ↦ λ e. ap (λ b. b && list_all (is_passable budget longest) rs) (sequential_not_passable budget longest r e)
+      | false ↦ λ e. ap (λ b. is_passable budget longest r && b)
+          (some_sequential budget longest rs (omega (arith, h, sum_by-cons one_if r rs, ap {B = ℕ} (λ b. cond b 1 0) e)))
+          ∙ unfenced (is_passable budget longest r)
     ] in
     both (is_sequential r.command.order) refl
 
-no_sequential : (passing top : ℕ) (rs : List Record) → sequential_count rs ≡ 0
+no_sequential : (budget longest top : ℕ) (rs : List Record) → sequential_count rs ≡ 0
     → AllByRecursion (λ z. (is_sequential z.command.order || is_move z.command.order) ≡ true) rs
-    → AllByRecursion (λ z. z.passes ≤ top) rs → top < passing
-    → list_all (is_passable passing) rs ≡ true
-no_sequential passing top [] h w l m = refl
-no_sequential passing top (r ∷ rs) h w l m =
+    → AllByRecursion (λ z. z.passed ≤ top) rs → top + longest ≤ budget
+    → list_all (is_passable budget longest) rs ≡ true
+no_sequential budget longest top [] h w l m = refl
+no_sequential budget longest top (r ∷ rs) h w l m =
     let Goal : Bool → Type 0 = λ b. is_sequential r.command.order ≡ b
-        → (is_passable passing r && list_all (is_passable passing) rs) ≡ true in
+        → (is_passable budget longest r && list_all (is_passable budget longest) rs) ≡ true in
     let count = sum_by-cons one_if r rs in
     let both : (b : Bool) → Goal b =
     λ b. elim b as Goal [
       | true ↦ λ e. absurd (omega (arith, h, count, ap {B = ℕ} (λ b. cond b 1 0) e))
       | false ↦ λ e.
-          ap (λ b. (b && nat_lt r.passes passing) && list_all (is_passable passing) rs)
+          ap (λ b. (b && nat_le (r.passed + longest) budget) && list_all (is_passable budget longest) rs)
               (ap (λ b. b || is_move r.command.order) (sym e) ∙ w.0)
-          ∙ (ap (λ b. b && list_all (is_passable passing) rs) (lt-ltb r.passes passing (omega (arith, l.0, m)))
-              ∙ no_sequential passing top rs (omega (arith, h, count, ap {B = ℕ} (λ b. cond b 1 0) e)) w.1 l.1 m)
+          ∙ (ap (λ b. b && list_all (is_passable budget longest) rs) (le-leb (r.passed + longest) budget (omega (arith, l.0, m)))
+              ∙ no_sequential budget longest top rs (omega (arith, h, count, ap {B = ℕ} (λ b. cond b 1 0) e)) w.1 l.1 m)
     ] in
     both (is_sequential r.command.order) refl
 
 -- where none is sequential
-pub oldest_tells : (passing : ℕ) (rs : List Record) (r : Record) → 0 < length rs → r ≡ get_or rs 0 r
+pub oldest_tells : (budget longest : ℕ) (rs : List Record) (r : Record) → 0 < length rs → r ≡ get_or rs 0 r
     → sequential_count rs ≡ 0 → ArePassedInOrder rs
     → All (λ z. (is_sequential z.command.order || is_move z.command.order) ≡ true) rs
-        → nat_lt r.passes passing ≡ list_all (is_passable passing) rs
-oldest_tells passing [] r l e k o w = absurd (omega (arith, l))
-oldest_tells passing (q ∷ qs) r l e k o w =
+        → nat_le (r.passed + longest) budget ≡ list_all (is_passable budget longest) rs
+oldest_tells budget longest [] r l e k o w = absurd (omega (arith, l))
+oldest_tells budget longest (q ∷ qs) r l e k o w =
     let W : Record → Type 0 = λ z. (is_sequential z.command.order || is_move z.command.order) ≡ true in
-    let Goal : Bool → Type 0 = λ b. nat_lt q.passes passing ≡ b → b ≡ list_all (is_passable passing) (q ∷ qs) in
+    let Goal : Bool → Type 0 = λ b. nat_le (q.passed + longest) budget ≡ b → b ≡ list_all (is_passable budget longest) (q ∷ qs) in
     let both : (b : Bool) → Goal b =
     λ b. elim b as Goal [
-      | true ↦ λ m. sym (no_sequential passing q.passes (q ∷ qs) k (recursion_from_All W (q ∷ qs) w) (omega arith, o.0)
-          (ltb-true q.passes passing m))
-      | false ↦ λ m. sym (ap (λ b. (is_move q.command.order && b) && list_all (is_passable passing) qs) m
-          ∙ ap (λ b. b && list_all (is_passable passing) qs) (unfenced (is_move q.command.order)))
+      | true ↦ λ m. sym (no_sequential budget longest q.passed (q ∷ qs) k (recursion_from_All W (q ∷ qs) w) (omega arith, o.0)
+          (leb-true (q.passed + longest) budget m))
+      | false ↦ λ m. sym (ap (λ b. (is_move q.command.order && b) && list_all (is_passable budget longest) qs) m
+          ∙ ap (λ b. b && list_all (is_passable budget longest) qs) (unfenced (is_move q.command.order)))
     ] in
-    ap (λ (z : Record). nat_lt z.passes passing) e ∙ both (nat_lt q.passes passing) refl
+    ap (λ (z : Record). nat_le (z.passed + longest) budget) e ∙ both (nat_le (q.passed + longest) budget) refl
 
 -- ---- all are shown
 

@@ -71,7 +71,7 @@ each_push {X} d R xs x l r i h =
 pub record Found {X : Type 0} (p : X → Bool) (xs front : List X) (x : X) (back : List X) : Type 0 where
   pub is : xs ≡ front ++ x ∷ back
   pub before : AllByRecursion (λ y. p y ≡ false) front
-  pub passes : p x ≡ true
+  pub passed : p x ≡ true
 
 pub find_cases : {X : Type 0} (p : X → Bool) (xs : List X)
     → AllByRecursion (λ y. p y ≡ false) xs ⊎ ((front : List X) × (x : X) × (back : List X) × Found p xs front x back)
@@ -82,12 +82,12 @@ find_cases {X} p (y ∷ ys) =
         ⊎ ((front : List X) × (x : X) × (back : List X) × Found p (y ∷ ys) front x back) =
     λ b. elim b as (λ b. p y ≡ b → AllByRecursion (λ z. p z ≡ false) (y ∷ ys)
         ⊎ ((front : List X) × (x : X) × (back : List X) × Found p (y ∷ ys) front x back)) [
-      | true ↦ λ e. inr ([], y, ys, record { is = refl; before = tt; passes = e })
+      | true ↦ λ e. inr ([], y, ys, record { is = refl; before = tt; passed = e })
       | false ↦ λ e. elim rest as (λ r. AllByRecursion (λ z. p z ≡ false) (y ∷ ys)
           ⊎ ((front : List X) × (x : X) × (back : List X) × Found p (y ∷ ys) front x back)) [
         | inl h ↦ inl (e, h)
-        | inr h ↦ inr (y ∷ h.0, h.1, h.2, record { is = ap (λ zs. y ∷ zs) h.3.is; before = (e, h.3.before); passes =
-            h.3.passes })
+        | inr h ↦ inr (y ∷ h.0, h.1, h.2, record { is = ap (λ zs. y ∷ zs) h.3.is; before = (e, h.3.before); passed =
+            h.3.passed })
       ]
     ] in
     both (p y) refl

@@ -104,10 +104,10 @@ found_kind reference (r ∷ rs) h =
     ]
 
 -- an abort of what waits gives it an end of its kind
-pub aborts_kind : (passing longest : ℕ) (reference : Name) (units : List Shape) (rs : List Record)
-    → All (IsKept passing longest units) rs → IfSome (option_map aborted_record (find (has_reference reference) rs))
+pub aborts_kind : (budget longest : ℕ) (reference : Name) (units : List Shape) (rs : List Record)
+    → All (IsKept budget longest units) rs → IfSome (option_map aborted_record (find (has_reference reference) rs))
     IsOfKind
-aborts_kind passing longest reference units rs h =
+aborts_kind budget longest reference units rs h =
     found_kind reference rs
-    (every_weaker (IsKept passing longest units) (λ r. (is_sequential r.command.order || is_move r.command.order)
-        ≡ true) (λ r k. k.waitable.order) rs (recursion_from_All (IsKept passing longest units) rs h))
+    (every_weaker (IsKept budget longest units) (λ r. (is_sequential r.command.order || is_move r.command.order)
+        ≡ true) (λ r k. k.waitable.order) rs (recursion_from_All (IsKept budget longest units) rs h))

@@ -1,5 +1,5 @@
 -- The places that may start, found one after the other.
-use Rattle.std.proofs.Common.{append-nil, ◌≡◌, ℕ, ◌+◌, ◌<◌, ◌≤◌, Bool, true, false, cond, List, [], ◌∷◌, ◌++◌, take, get_or, length, ap, sym, ◌∙◌, subst, arith}
+use Rattle.std.proofs.Common.{append-nil, ◌≡◌, ℕ, ◌+◌, ◌^◌, ◌<◌, ◌≤◌, Bool, true, false, cond, List, [], ◌∷◌, ◌++◌, take, get_or, length, ap, sym, ◌∙◌, subst, arith}
 use Rattle.std.specs.Prelude.{All, filter, unwrap_or}
 use Rattle.std.specs.List.{range_with_len}
 use Rattle.std.proofs.lemmas.List.{get_or_default, length-append, map-append, take_more}
@@ -22,16 +22,20 @@ use Rattle.mscp_queue.proofs.Turns.{found_unit, inside_of}
 
 -- what is known of the records in front of a place, of the places among them that may start, and of what a picker sees
 -- of those
-pub record Looks (passing : ℕ) (ds : List Drive) (rs : List Record) (place : ℕ) (f : Front) (places : List ℕ)
+pub record Looks (budget : ℕ) (ds : List Drive) (rs : List Record) (place : ℕ) (f : Front) (places : List ℕ)
     (choices : List Choice) : Type 0 where
-  pub front : IsFront passing ds (take place rs) f
-  pub opens : places ≡ filter (is_open_at passing rs) (range_with_len 0 place)
+  pub front : IsFront budget ds (take place rs) f
+  pub opens : places ≡ filter (is_open_at budget rs) (range_with_len 0 place)
   pub shown : choices ≡ choices_at ds rs places
   pub few : length places ≤ place
 
 -- each unit has the blocks of its commands
 abbrev pub AllInside : List Drive → List Record → Type 0
 AllInside ds rs = All (λ r. HasBlocks (units_of ds) r.command) rs
+
+-- each record has steps, as many as fit 32 bits
+abbrev pub AllWeigh : List Record → Type 0
+AllWeigh rs = All (λ r. (1 ≤ r.weight) × (r.weight < 2 ^ 32)) rs
 
 -- one more place, if it is put there
 appended : (places : List ℕ) (place : ℕ) (b : Bool) → length (places ++ cond b (place ∷ []) []) ≤ length places + 1
@@ -45,13 +49,13 @@ shown_more ds rs places place true = map-append (λ i. choice_of (drive_at ds rs
 shown_more ds rs places place false = ap (choices_at ds rs) (append-nil places)
     ∙ sym (append-nil (choices_at ds rs places))
 
-pub looks_more : {passing : ℕ} {ds : List Drive} {rs : List Record} {place : ℕ} {f f' : Front} {places places' : List ℕ}
+pub looks_more : {budget : ℕ} {ds : List Drive} {rs : List Record} {place : ℕ} {f f' : Front} {places places' : List ℕ}
     {choices choices' : List Choice} (r : Record) (at : ℕ) → place < length rs → at < 16
-    → at ≡ drive_place ds r.command.unit → r ≡ get_or rs place r → AllInside ds rs
-    → f' ≡ with_record passing f r at → places' ≡ places ++ cond (is_let f r at) (place ∷ []) []
+    → at ≡ drive_place ds r.command.unit → r ≡ get_or rs place r → AllInside ds rs → AllWeigh rs
+    → f' ≡ with_record budget f r at → places' ≡ places ++ cond (is_let f r at) (place ∷ []) []
         → choices' ≡ choices ++ cond (is_let f r at) (choice_of (drive_at ds rs place) (record_at rs place) ∷ []) []
-    → Looks passing ds rs place f places choices → Looks passing ds rs (place + 1) f' places' choices'
-looks_more {passing} {ds} {rs} {place} {f} {f'} {places} {places'} {choices} {choices'} r at l few e same inside added put
+    → Looks budget ds rs place f places choices → Looks budget ds rs (place + 1) f' places' choices'
+looks_more {budget} {ds} {rs} {place} {f} {f'} {places} {places'} {choices} {choices'} r at l few e same inside weighs added put
     shown h =
     let is : r ≡ record_at rs place = same ∙ get_or_default rs place r no_record l in
     let known : All (λ z. is_known (units_of ds) z.command.unit ≡ true) rs = λ i other k. (inside i other k).0 in
@@ -62,28 +66,29 @@ looks_more {passing} {ds} {rs} {place} {f} {f'} {places} {places'} {choices} {ch
     let more : take (place + 1) rs ≡ take place rs ++ r ∷ [] =
         take_more rs place no_record l ∙ ap (λ q. take place rs ++ q ∷ []) (sym is) in
     let b = is_let f r at in
-    let opens : b ≡ is_open_at passing rs place =
-    ap (is_let f r) e ∙ (let_is passing ds (take place rs) f r (fresh_drive one_block) h.front
-        (subst (λ i. i < 16) e few) own front ∙ ap (λ (q : Record). is_open passing q (take place rs)) is) in
+    let opens : b ≡ is_open_at budget rs place =
+    ap (is_let f r) e ∙ (let_is budget ds (take place rs) f r (fresh_drive one_block) h.front
+        (subst (λ (q : Record). (1 ≤ q.weight) × (q.weight < 2 ^ 32)) (sym is) (weighs place no_record l))
+        (subst (λ i. i < 16) e few) own front ∙ ap (λ (q : Record). is_open budget q (take place rs)) is) in
     record {
-      front = subst (IsFront passing ds (take (place + 1) rs)) (sym added)
-          (subst (λ zs. IsFront passing ds zs (with_record passing f r at)) (sym more)
-          (front_more passing ds (take place rs) f r at few e h.front));
+      front = subst (IsFront budget ds (take (place + 1) rs)) (sym added)
+          (subst (λ zs. IsFront budget ds zs (with_record budget f r at)) (sym more)
+          (front_more budget ds (take place rs) f r at few e h.front));
       opens =
           put ∙ (ap (λ ps. ps ++ cond b (place ∷ []) []) h.opens
-          ∙ (ap (λ b. filter (is_open_at passing rs) (range_with_len 0 place) ++ cond b (place ∷ []) []) opens
-          ∙ (sym (filter-append (is_open_at passing rs) (range_with_len 0 place) (place ∷ []))
-              ∙ ap (filter (is_open_at passing rs)) (sym (range_more place)))));
+          ∙ (ap (λ b. filter (is_open_at budget rs) (range_with_len 0 place) ++ cond b (place ∷ []) []) opens
+          ∙ (sym (filter-append (is_open_at budget rs) (range_with_len 0 place) (place ∷ []))
+              ∙ ap (filter (is_open_at budget rs)) (sym (range_more place)))));
       shown =
           shown ∙ (ap (λ cs. cs ++ cond b (choice_of (drive_at ds rs place) (record_at rs place) ∷ []) []) h.shown
           ∙ (sym (shown_more ds rs places place b) ∙ ap (choices_at ds rs) (sym put)));
       few = let k = h.few in omega (arith, ap length put, appended places place b);
     }
 
-pub looks_none : (passing : ℕ) (ds : List Drive) (rs : List Record) (f : Front) (places : List ℕ)
-    (choices : List Choice) → f ≡ nobody → places ≡ [] → choices ≡ [] → Looks passing ds rs 0 f places choices
-looks_none passing ds rs f places choices e n s =
-    record { front = subst (IsFront passing ds []) (sym e) (front_none passing ds); opens = n; shown =
+pub looks_none : (budget : ℕ) (ds : List Drive) (rs : List Record) (f : Front) (places : List ℕ)
+    (choices : List Choice) → f ≡ nobody → places ≡ [] → choices ≡ [] → Looks budget ds rs 0 f places choices
+looks_none budget ds rs f places choices e n s =
+    record { front = subst (IsFront budget ds []) (sym e) (front_none budget ds); opens = n; shown =
         s ∙ ap (choices_at ds rs) (sym n); few = omega (arith, ap length n) }
 
 -- a unit that has the blocks of a transfer has the first of them
@@ -99,14 +104,14 @@ first_inside ds r at d e found h m =
     omega (arith, inside, unit, some_steps r.command.order)
 
 -- the places that may start are places
-pub places_inside : (passing : ℕ) (rs : List Record) → All (λ place. place < length rs) (open_places passing rs)
-places_inside passing rs =
-    All-from_recursion (λ k. k < length rs) (open_places passing rs)
-    (every_kept (λ k. k < length rs) (is_open_at passing rs) (range_with_len 0 (length rs))
+pub places_inside : (budget : ℕ) (rs : List Record) → All (λ place. place < length rs) (open_places budget rs)
+places_inside budget rs =
+    All-from_recursion (λ k. k < length rs) (open_places budget rs)
+    (every_kept (λ k. k < length rs) (is_open_at budget rs) (range_with_len 0 (length rs))
     (every_weaker (λ k. (0 ≤ k) × (k < 0 + length rs)) (λ k. k < length rs) (λ k h. omega arith)
         (range_with_len 0 (length rs)) (range_below 0 (length rs))))
 
 -- where something waits, something may start: the oldest may
-pub some_place : (passing : ℕ) (rs : List Record) → 0 < length rs → 0 < length (open_places passing rs)
-some_place passing [] h = absurd (omega arith)
-some_place passing (r ∷ rs) h = omega arith
+pub some_place : (budget : ℕ) (rs : List Record) → 0 < length rs → 0 < length (open_places budget rs)
+some_place budget [] h = absurd (omega arith)
+some_place budget (r ∷ rs) h = omega arith

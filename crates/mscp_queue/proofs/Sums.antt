@@ -1,13 +1,17 @@
 -- What is left of records, and that no figure is over the bound.
 use Rattle.std.proofs.Common.{◌≡◌, ℕ, ◌+◌, ◌-◌, ◌*◌, ◌^◌, ◌<◌, ◌≤◌, Bool, true, false, cond, List, [], ◌∷◌, ◌++◌, take, drop, length, ap, subst, sym, ◌∙◌, arith}
-use Rattle.std.specs.Prelude.{filter, sum_by, All}
+use Rattle.std.specs.Prelude.{filter, sum_by, All, Option}
 use Rattle.std.specs.List.{AllByRecursion, range_with_len}
 use Rattle.std.proofs.Math.Nat.{mul-le-mul_right}
-use Rattle.std.proofs.lemmas.List.{drop_more, length-take-le, length-drop, take_more, take_rest}
-use Rattle.std.proofs.lemmas.List.Elements.{recursion_from_All, All-take, All-drop}
+use Rattle.std.proofs.lemmas.List.{drop_more, take_more, take_rest}
+use Rattle.std.proofs.lemmas.List.Elements.{recursion_from_All}
 use Rattle.std.proofs.lemmas.List.FromFn.{map-range_with_len_more}
-use Rattle.std.proofs.lemmas.List.Sums.{sum_by-cons, sum_by_push}
+use Rattle.std.proofs.lemmas.List.Sums.{sum_by-append, sum_by-cons, sum_by_push}
+use Rattle.mscp_queue.specs.declared.drive.Drive.{Drive}
+use Rattle.mscp_queue.specs.Kept.{IsHeld}
+use Rattle.mscp_queue.specs.Names.{Name}
 use Rattle.mscp_queue.specs.Figures.{figure_at, figures_from}
+use Rattle.mscp_queue.proofs.Placed.{cut_at}
 use Rattle.mscp_queue.specs.Records.{Record, is_in_service, left_if_serving, left_of, no_record, record_at}
 
 -- no more is left than the longest
@@ -20,51 +24,51 @@ sum_small : (longest : ℕ) (rs : List Record) → AllByRecursion (IsShort longe
 sum_small longest [] h = omega arith
 sum_small longest (r ∷ rs) h = omega (arith, sum_by-cons left_of r rs, h.0, sum_small longest rs h.1)
 
-serving_when : (longest : ℕ) (r : Record) (rs : List Record) → IsShort longest r
-    → sum_by left_of (filter is_in_service rs) ≤ length rs * longest → (b : Bool)
-    → sum_by left_of (cond b (r ∷ filter is_in_service rs) (filter is_in_service rs)) ≤ length (r ∷ rs) * longest
-serving_when longest r rs h k true = omega (arith, sum_by-cons left_of r (filter is_in_service rs), h)
-serving_when longest r rs h k false = omega arith
+-- so little that it fits 32 bits, with the budget
+pub all_small : (room longest budget : ℕ) (rs : List Record) → All (IsShort longest) rs → length rs ≤ room
+    → room * longest + budget < 2 ^ 32 → sum_by left_of rs + budget < 2 ^ 32
+all_small room longest budget rs h few small =
+    omega (arith, sum_small longest rs (recursion_from_All (IsShort longest) rs h), mul-le-mul_right longest few)
 
--- and no more of those in service
-serving_small : (longest : ℕ) (rs : List Record) → AllByRecursion (IsShort longest) rs
-    → sum_by left_of (filter is_in_service rs) ≤ length rs * longest
-serving_small longest [] h = omega arith
-serving_small longest (r ∷ rs) h = serving_when longest r rs h.0 (serving_small longest rs h.1) (is_in_service r)
+-- none of a queue's commands weighs more than the longest
+pub held_short : {room budget longest : ℕ} {rs : List Record} {ds : List Drive} {begun : Option Name} {serving : Bool}
+    → IsHeld room budget longest rs ds begun serving → All (λ r. r.weight ≤ longest) rs
+held_short h = λ i other l. let k = h.each i other l in let short = k.waitable.short in omega (arith, k.weight, short)
 
-add_up : (P L k n before serving free left : ℕ) → k < n → before ≤ k * L → serving ≤ (n - (k + 1)) * L → free ≤ P
-    → left ≤ L
-    → before + serving + free * L + left ≤ (n + P) * L
-add_up P L k n before serving free left h b s f l =
-    let all : k + (n - (k + 1)) + 1 + P ≤ n + P = omega arith in
-    omega (arith, mul-le-mul_right L all, mul-le-mul_right L f)
+-- and what is left of them fits, too
+pub held_small : {room budget longest : ℕ} {rs : List Record} {ds : List Drive} {begun : Option Name} {serving : Bool}
+    → IsHeld room budget longest rs ds begun serving → sum_by left_of rs + budget < 2 ^ 32
+held_small {room} {budget} {longest} {rs} h = all_small room longest budget rs
+    (λ i other l. let short = held_short h i other l in omega (arith, short)) h.fits h.small
 
--- the figure of a command that isn't in service is at most the bound
-sum_bounded : (passing longest free : ℕ) (rs : List Record) (place : ℕ) → All (IsShort longest) rs → free ≤ passing
-    → place < length rs
-    → sum_by left_of (take place rs) + sum_by left_of (filter is_in_service (drop (place + 1) rs)) + free * longest
-        + left_of (record_at rs place) ≤ (length rs + passing) * longest
-sum_bounded passing longest free rs place h f l =
-    let n : length (take place rs) ≡ place = length-take-le place rs (omega arith) in
-    let m : length (drop (place + 1) rs) ≡ length rs - (place + 1) = length-drop (place + 1) rs in
-    let front = subst (λ (i : ℕ). sum_by left_of (take place rs) ≤ i * longest) n
-        (sum_small longest (take place rs) (recursion_from_All (IsShort longest) (take place rs)
-        (All-take (IsShort longest) place rs h))) in
-    let back = subst (λ (i : ℕ). sum_by left_of (filter is_in_service (drop (place + 1) rs)) ≤ i * longest) m
-        (serving_small longest (drop (place + 1) rs)
-        (recursion_from_All (IsShort longest) (drop (place + 1) rs) (All-drop (IsShort longest) (place + 1) rs h))) in
-    add_up passing longest place (length rs) _ _ free _ l front back f (h place no_record l)
+serving_when : (r : Record) (rs : List Record) → sum_by left_of (filter is_in_service rs) ≤ sum_by left_of rs → (b : Bool)
+    → sum_by left_of (cond b (r ∷ filter is_in_service rs) (filter is_in_service rs)) ≤ sum_by left_of (r ∷ rs)
+serving_when r rs h true = omega (arith, sum_by-cons left_of r (filter is_in_service rs), sum_by-cons left_of r rs, h)
+serving_when r rs h false = omega (arith, sum_by-cons left_of r rs, h)
+
+-- no more is left of those in service than of all
+serving_less : (rs : List Record) → sum_by left_of (filter is_in_service rs) ≤ sum_by left_of rs
+serving_less [] = omega arith
+serving_less (r ∷ rs) = serving_when r rs (serving_less rs) (is_in_service r)
+
+-- the figure of a command that isn't in service is at most what is left of all, and the budget
+sum_bounded : (rs : List Record) (place : ℕ) → place < length rs
+    → sum_by left_of (take place rs) + sum_by left_of (filter is_in_service (drop (place + 1) rs))
+        + left_of (record_at rs place) ≤ sum_by left_of rs
+sum_bounded rs place l =
+    let parts = ap (sum_by left_of) (cut_at no_record rs place l) in
+    let sums = sum_by-append left_of (take place rs) (record_at rs place ∷ drop (place + 1) rs) in
+    omega (arith, parts, sums, sum_by-cons left_of (record_at rs place) (drop (place + 1) rs),
+        serving_less (drop (place + 1) rs))
 
 -- so it fits 32 bits
-pub figure_fits : (passing longest : ℕ) (rs : List Record) (place before serving free longest' left : ℕ)
-    → All (IsShort longest) rs → (length rs + passing) * longest < 2 ^ 32 → place < length rs
+pub figure_fits : (budget : ℕ) (rs : List Record) (place before serving unspent left : ℕ)
+    → sum_by left_of rs + budget < 2 ^ 32 → place < length rs
     → before ≡ sum_by left_of (take place rs)
     → serving ≡ sum_by left_of (filter is_in_service (drop (place + 1) rs))
-    → free ≡ passing - (record_at rs place).passes → longest' ≡ longest → left ≡ left_of (record_at rs place)
-    → before + serving + free * longest' + left < 2 ^ 32
-figure_fits passing longest rs place before serving free longest' left h small l e f p q r =
-    let m : free * longest' ≡ free * longest = ap (λ n. free * n) q in
-    omega (arith, sum_bounded passing longest free rs place h (omega (arith, p)) l)
+    → unspent ≡ budget - (record_at rs place).passed → left ≡ left_of (record_at rs place)
+    → before + serving + unspent + left < 2 ^ 32
+figure_fits budget rs place before serving unspent left small l e f p r = omega (arith, sum_bounded rs place l)
 
 -- the records after a place, as a slice
 pub serving_after : (rs : List Record) (place serving : ℕ)
@@ -74,15 +78,15 @@ serving_after rs place serving f = f ∙ ap (λ xs. sum_by left_of (filter is_in
 
 -- ---- a look
 
-entry_at : ℕ → ℕ → List Record → ℕ → ℕ × ℕ
-entry_at passing longest rs place = ((record_at rs place).command.reference, figure_at passing longest rs place)
+entry_at : ℕ → List Record → ℕ → ℕ × ℕ
+entry_at budget rs place = ((record_at rs place).command.reference, figure_at budget rs place)
 
 -- the figures of one more place
-pub figures_more : (passing longest : ℕ) (rs : List Record) (n : ℕ)
-    → figures_from passing longest rs (range_with_len 0 (n + 1)) ≡ figures_from passing longest rs (range_with_len 0 n)
-        ++ ((record_at rs n).command.reference, figure_at passing longest rs n) ∷ []
+pub figures_more : (budget : ℕ) (rs : List Record) (n : ℕ)
+    → figures_from budget rs (range_with_len 0 (n + 1)) ≡ figures_from budget rs (range_with_len 0 n)
+        ++ ((record_at rs n).command.reference, figure_at budget rs n) ∷ []
 unfolding entry_at
-figures_more passing longest rs n = map-range_with_len_more {X = ℕ × ℕ} (entry_at passing longest rs) 0 n n
+figures_more budget rs n = map-range_with_len_more {X = ℕ × ℕ} (entry_at budget rs) 0 n n
     (omega arith)
 
 -- what is left before the next place

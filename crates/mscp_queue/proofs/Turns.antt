@@ -25,15 +25,15 @@ use Rattle.mscp_queue.proofs.Lists.{every_mapped, every_of, every_parts, every_w
 use Rattle.mscp_queue.proofs.Placed.{cut_at, find_first}
 use Rattle.mscp_queue.proofs.Held.{AreIdle, IsLeft, IsTurn, held_turn, heads_replaced, others_idle, units_replaced}
 
--- none of those in front is passed too often by a start that may be picked
-front_affordable : (passing : ℕ) (rs : List Record) (place : ℕ) → is_open_at passing rs place ≡ true
-    → AllByRecursion (λ z. z.passes + 1 ≤ passing) (take place rs)
-front_affordable passing rs place h =
+-- each of those in front keeps within the budget at a start that may be picked
+front_affordable : (budget : ℕ) (rs : List Record) (place : ℕ) → is_open_at budget rs place ≡ true
+    → AllByRecursion (λ z. z.passed + (record_at rs place).weight ≤ budget) (take place rs)
+front_affordable budget rs place h =
     let r = record_at rs place in
-    let p = and_parts (is_free r (take place rs)) (is_affordable passing r (take place rs)) h in
-    every_weaker (λ z. nat_le (z.passes + 1) passing ≡ true) (λ z. z.passes + 1 ≤ passing)
-        (λ z e. leb-true (z.passes + 1) passing e) (take place rs)
-    (every_of (λ z. nat_le (z.passes + 1) passing) (take place rs) p.1)
+    let p = and_parts (is_free r (take place rs)) (is_affordable budget r (take place rs)) h in
+    every_weaker (λ z. nat_le (z.passed + r.weight) budget ≡ true) (λ z. z.passed + r.weight ≤ budget)
+        (λ z e. leb-true (z.passed + r.weight) budget e) (take place rs)
+    (every_of (λ z. nat_le (z.passed + r.weight) budget) (take place rs) p.1)
 
 -- ---- the turn
 
@@ -60,28 +60,28 @@ more_left k d r None h =
         (nat_lt 1 (left_of r)) (when goes h)) in
     record { left = inr (refl, omega arith) }
 
-pub next_turn : (room passing longest place : ℕ) (rs : List Record) (ds : List Drive) (begun : Option Name)
-    (serving : Bool) (k : Block) (d : Drive) → IsHeld room passing longest rs ds begun serving
-    → IsServable passing rs place
-    → IsTurn passing (step_toll (record_at rs place)) (take place rs) (record_at rs place) (drop (place + 1) rs)
+pub next_turn : (room budget longest place : ℕ) (rs : List Record) (ds : List Drive) (begun : Option Name)
+    (serving : Bool) (k : Block) (d : Drive) → IsHeld room budget longest rs ds begun serving
+    → IsServable budget rs place
+    → IsTurn budget (step_toll (record_at rs place)) (take place rs) (record_at rs place) (drop (place + 1) rs)
         (cond (is_some (end_given k d (record_at rs place))) [] (advanced (record_at rs place) ∷ []))
-next_turn room passing longest place rs ds begun serving k d h n =
+next_turn room budget longest place rs ds begun serving k d h n =
     let r = record_at rs place in
     let A = take place rs in
     let B = drop (place + 1) rs in
     let cut = cut_at no_record rs place n.inside in
     let left = more_left k d r (end_given k d r) refl in
     let own = cond (is_some (end_given k d r)) [] (advanced r ∷ []) in
-    let kept = (every_parts (IsKept passing longest (units_of ds)) A (r ∷ B)
-        (subst (AllByRecursion (IsKept passing longest (units_of ds))) cut
-        (recursion_from_All (IsKept passing longest (units_of ds)) rs h.each))).0 in
-    let both : (b : Bool) → is_unstarted r ≡ b → IsTurn passing (cond b 1 0) A r B own =
-    λ b. elim b as (λ b. is_unstarted r ≡ b → IsTurn passing (cond b 1 0) A r B own) [
+    let kept = (every_parts (IsKept budget longest (units_of ds)) A (r ∷ B)
+        (subst (AllByRecursion (IsKept budget longest (units_of ds))) cut
+        (recursion_from_All (IsKept budget longest (units_of ds)) rs h.each))).0 in
+    let both : (b : Bool) → is_unstarted r ≡ b → IsTurn budget (cond b r.weight 0) A r B own =
+    λ b. elim b as (λ b. is_unstarted r ≡ b → IsTurn budget (cond b r.weight 0) A r B own) [
       | true ↦ λ e.
           let idle = every_parts (λ z. z.done ≡ 0) A (r ∷ B)
               (subst AreIdle cut (recursion_from_All (λ z. z.done ≡ 0) rs (n.idle e))) in
           record { before = idle.0; behind = idle.1.1; affordable =
-              front_affordable passing rs place (n.opens e); left = left }
+              front_affordable budget rs place (n.opens e); left = left }
       | false ↦ λ e.
           let some = eqb-false r.done 0 e in
           let one = h.one in
@@ -89,8 +89,8 @@ next_turn room passing longest place rs ds begun serving k d h n =
           record {
             before = idle.0;
             behind = idle.1;
-            affordable = every_weaker (IsKept passing longest (units_of ds)) (λ z. z.passes + 0 ≤ passing)
-                (λ z q. let p = q.passes in omega arith) A kept;
+            affordable = every_weaker (IsKept budget longest (units_of ds)) (λ z. z.passed + 0 ≤ budget)
+                (λ z q. let p = q.passed in omega arith) A kept;
             left = left;
           }
     ] in
@@ -172,10 +172,10 @@ inside_of us n orders.SetUnit m h = absurd (false≢true m)
 inside_of us n (orders.Invalid opcode status) m h = absurd (false≢true m)
 
 -- a block that is touched is one of the unit
-pub touched_inside : (passing longest : ℕ) (ds : List Drive) (r : Record) (d : Drive) → d ≡ drive_of ds r.command.unit
-    → IsKept passing longest (units_of ds) r
+pub touched_inside : (budget longest : ℕ) (ds : List Drive) (r : Record) (d : Drive) → d ≡ drive_of ds r.command.unit
+    → IsKept budget longest (units_of ds) r
     → (lbn : ℕ) → touched d r ≡ Some lbn → lbn < d.unit.size
-touched_inside passing longest ds r d e k lbn h =
+touched_inside budget longest ds r d e k lbn h =
     let t = when_some (touches d.online r.command.order) (first_block r.command.order + r.done) lbn h in
     let move = (and_parts (is_move r.command.order) d.online t.0).0 in
     let inside = inside_of (units_of ds) r.command.unit r.command.order move k.waitable.inside in
@@ -204,11 +204,11 @@ pub record StepMade (k : Block) (place : ℕ) (rs new : List Record) (ds ds' : L
   pub serves_on : serves ≡ not (is_some (end_given k d (record_at rs place)))
   pub drives : ds' ≡ replaced (record_at rs place).command.unit d' ds
 
-held_served : {room passing longest place : ℕ} {rs new : List Record} {ds ds' : List Drive} {begun : Option Name}
-    {serving serves : Bool} {k : Block} → IsHeld room passing longest rs ds begun serving
-    → IsServable passing rs place → StepMade k place rs new ds ds' serves
-    → IsHeld room passing longest new ds' None serves
-held_served {room} {passing} {longest} {place} {rs} {new} {ds} {ds'} {begun} {serving} {serves} {k} h n m =
+held_served : {room budget longest place : ℕ} {rs new : List Record} {ds ds' : List Drive} {begun : Option Name}
+    {serving serves : Bool} {k : Block} → IsHeld room budget longest rs ds begun serving
+    → IsServable budget rs place → StepMade k place rs new ds ds' serves
+    → IsHeld room budget longest new ds' None serves
+held_served {room} {budget} {longest} {place} {rs} {new} {ds} {ds'} {begun} {serving} {serves} {k} h n m =
     let r = record_at rs place in
     let number = r.command.unit in
     let d = m.d in
@@ -221,14 +221,14 @@ held_served {room} {passing} {longest} {place} {rs} {new} {ds} {ds'} {begun} {se
         (units_same number ds h.units) in
     let heads = All-from_recursion IsOnUnit (replaced number d' ds)
         (heads_replaced number d' ds m.on (recursion_from_All IsOnUnit ds h.heads)) in
-    let turn = next_turn room passing longest place rs ds begun serving k d h n in
+    let turn = next_turn room budget longest place rs ds begun serving k d h n in
     let ended : serves ≡ false → cond (is_some (end_given k d r)) [] (advanced r ∷ []) ≡ [] =
     λ e. ap (λ b. cond b [] (advanced r ∷ [])) (ended_if (is_some (end_given k d r)) (sym m.serves_on ∙ e)) in
-    subst (λ zs. IsHeld room passing longest new zs None serves) (sym m.drives)
-    (subst (λ zs. IsHeld room passing longest zs (replaced number d' ds) None serves) (sym m.records)
-    (held_turn room passing longest (step_toll r) (take place rs) r (drop (place + 1) rs)
+    subst (λ zs. IsHeld room budget longest new zs None serves) (sym m.drives)
+    (subst (λ zs. IsHeld room budget longest zs (replaced number d' ds) None serves) (sym m.records)
+    (held_turn room budget longest (step_toll r) (take place rs) r (drop (place + 1) rs)
         (cond (is_some (end_given k d r)) [] (advanced r ∷ [])) ds (replaced number d' ds) begun serving serves
-    (subst (λ zs. IsHeld room passing longest zs ds begun serving) cut h) turn ended (units_replaced number d' ds same)
+    (subst (λ zs. IsHeld room budget longest zs ds begun serving) cut h) turn ended (units_replaced number d' ds same)
         heads))
 
 head_found : (n : ℕ) (ds : List Drive) → AllByRecursion IsOnUnit ds → IsOnUnit (drive_of ds n)
@@ -239,9 +239,9 @@ head_found n (d ∷ ds) h =
         (fresh_drive one_block))) [ true ↦ h.0 | false ↦ rest ]
 
 -- the drive that is found has its head on its unit
-pub head_kept : (room passing longest n : ℕ) (rs : List Record) (ds : List Drive) (begun : Option Name) (serving : Bool)
-    → IsHeld room passing longest rs ds begun serving → IsOnUnit (drive_of ds n)
-head_kept room passing longest n rs ds begun serving h = head_found n ds (recursion_from_All IsOnUnit ds h.heads)
+pub head_kept : (room budget longest n : ℕ) (rs : List Record) (ds : List Drive) (begun : Option Name) (serving : Bool)
+    → IsHeld room budget longest rs ds begun serving → IsOnUnit (drive_of ds n)
+head_kept room budget longest n rs ds begun serving h = head_found n ds (recursion_from_All IsOnUnit ds h.heads)
 
 -- the same as it is found out, step by step
 -- the same step as the code takes it: what it reads of the record and of the drive, and what it leaves
@@ -266,19 +266,19 @@ pub record StepTaken (k : Block) (place : ℕ) (rs new : List Record) (ds ds' : 
   pub serves_on : serves ≡ not ends
   pub drives : ds' ≡ replaced command.unit d' ds
 
-pub held_step : {room passing longest place : ℕ} {rs new : List Record} {ds ds' : List Drive} {begun : Option Name}
-    {serving serves : Bool} {k : Block} → IsHeld room passing longest rs ds begun serving
-    → IsServable passing rs place → StepTaken k place rs new ds ds' serves
-    → IsHeld room passing longest new ds' None serves
-held_step {room} {passing} {longest} {place} {rs} {new} {ds} {ds'} {begun} {serving} {serves} {k} h n t =
+pub held_step : {room budget longest place : ℕ} {rs new : List Record} {ds ds' : List Drive} {begun : Option Name}
+    {serving serves : Bool} {k : Block} → IsHeld room budget longest rs ds begun serving
+    → IsServable budget rs place → StepTaken k place rs new ds ds' serves
+    → IsHeld room budget longest new ds' None serves
+held_step {room} {budget} {longest} {place} {rs} {new} {ds} {ds'} {begun} {serving} {serves} {k} h n t =
     let own = advanced (record_at rs place) ∷ [] in
     let unit : t.command.unit ≡ (record_at rs place).command.unit =
         ap (λ (c : Command). c.unit) t.of ∙ ap (λ (r : Record). r.command.unit) t.is in
     let found = t.drive ∙ ap (drive_of ds) (ap (λ (c : Command). c.unit) t.of) in
-    let kept : IsKept passing longest (units_of ds) t.r =
-        subst (IsKept passing longest (units_of ds)) (sym t.is) (h.each place no_record n.inside) in
+    let kept : IsKept budget longest (units_of ds) t.r =
+        subst (IsKept budget longest (units_of ds)) (sym t.is) (h.each place no_record n.inside) in
     let head : IsOnUnit t.d = subst IsOnUnit (sym t.drive)
-        (head_kept room passing longest t.command.unit rs ds begun serving h) in
+        (head_kept room budget longest t.command.unit rs ds begun serving h) in
     let same : t.ends ≡ is_some (end_given k t.d (record_at rs place)) =
         t.some ∙ (ap is_some t.ended ∙ ap (λ r. is_some (end_given k t.d r)) t.is) in
     held_served {k = k} h n (record {
@@ -286,7 +286,7 @@ held_step {room} {passing} {longest} {place} {rs} {new} {ds} {ds'} {begun} {serv
       d' = t.d';
       drive = t.drive ∙ ap (drive_of ds) unit;
       drive_after = t.after ∙ ap (drive_after k t.d) t.is;
-      on = t.on (touched_inside passing longest ds t.r t.d found kept) head;
+      on = t.on (touched_inside budget longest ds t.r t.d found kept) head;
       records = t.records ∙ (ap (λ n. map (passed_by n) (take place rs) ++ (cond t.ends [] own ++ drop (place + 1) rs))
           (t.cost ∙ ap step_toll t.is)
           ∙ ap (λ b. map (passed_by (step_toll (record_at rs place))) (take place rs)

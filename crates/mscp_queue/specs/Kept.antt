@@ -43,14 +43,14 @@ pub record IsWaitable (longest : ℕ) (units : List Shape) (command : Command) :
   -- its blocks have numbers of 32 bits
   pub small : first_block command.order + order_weight command.order ≤ 2 ^ 32
 
--- a command that waits has steps left, all that were served of it were good, and it was passed as often as may be at
--- the most
-pub record IsKept (passing longest : ℕ) (units : List Shape) (r : Record) : Type 0 where
+-- a command that waits has steps left, all that were served of it were good, and it was passed by no more than the
+-- budget
+pub record IsKept (budget longest : ℕ) (units : List Shape) (r : Record) : Type 0 where
   pub waitable : IsWaitable longest units r.command
   pub weight : r.weight ≡ order_weight r.command.order
   pub unfinished : r.done < r.weight
   pub good : r.good ≡ r.done
-  pub passes : r.passes ≤ passing
+  pub passed : r.passed ≤ budget
 
 -- the names of the commands of records
 abbrev pub names : List Record → List Name
@@ -63,20 +63,20 @@ AreApart (x ∷ xs) = AllByRecursion (λ y. y ≢ x) xs × AreApart xs
 
 -- the command of this name waits, and may be served
 abbrev pub IsStillServable : ℕ → List Record → Name → Type 0
-IsStillServable passing rs name =
-    (place : ℕ) × IsServable passing rs place × (has_reference name (record_at rs place) ≡ true)
+IsStillServable budget rs name =
+    (place : ℕ) × IsServable budget rs place × (has_reference name (record_at rs place) ≡ true)
 
 -- the limits, the waiting commands and the drives of a queue, what was begun, and whether one may be in service
-pub record IsHeld (room passing longest : ℕ) (rs : List Record) (ds : List Drive) (begun : Option Name)
+pub record IsHeld (room budget longest : ℕ) (rs : List Record) (ds : List Drive) (begun : Option Name)
     (serving : Bool) : Type 0 where
   pub some_room : 1 ≤ room
   pub few : room ≤ 63
   pub some_blocks : 1 ≤ longest
   pub short : longest ≤ 8388608
-  pub small : (room + passing) * longest < 2 ^ 32
+  pub small : room * longest + budget < 2 ^ 32
   -- there is room for those that wait
   pub fits : length rs ≤ room
-  pub each : All (IsKept passing longest (units_of ds)) rs
+  pub each : All (IsKept budget longest (units_of ds)) rs
   -- each command has a name of its own (manual)
   pub apart : AreApart (names rs)
   -- one is in service at the most
@@ -87,11 +87,11 @@ pub record IsHeld (room passing longest : ℕ) (rs : List Record) (ds : List Dri
   -- each head is on a cylinder of its unit
   pub heads : All IsOnUnit ds
   -- what was begun waits and may be served
-  pub still : (name : Name) → begun ≡ Some name → IsStillServable passing rs name
+  pub still : (name : Name) → begun ≡ Some name → IsStillServable budget rs name
 
 -- who came earlier was passed at least as often
 abbrev pub ArePassedInOrder : List Record → Type 0
-ArePassedInOrder rs = Pairs (λ r z. z.passes ≤ r.passes) rs
+ArePassedInOrder rs = Pairs (λ r z. z.passed ≤ r.passed) rs
 
 -- how many are records of sequential commands
 abbrev pub sequential_count : List Record → ℕ
@@ -99,9 +99,9 @@ sequential_count rs = count_by (λ r. is_sequential r.command.order) rs
 
 -- the same, and what a queue knows so that a start costs less: where each waiting command aims, how many are
 -- sequential, and in which order they were passed
-pub record IsReady (room passing longest : ℕ) (rs : List Record) (aims : List Aim) (ds : List Drive)
+pub record IsReady (room budget longest : ℕ) (rs : List Record) (aims : List Aim) (ds : List Drive)
     (begun : Option Name) (serving : Bool) (sequential : ℕ) : Type 0 where
-  pub held : IsHeld room passing longest rs ds begun serving
+  pub held : IsHeld room budget longest rs ds begun serving
   pub aimed : aims ≡ aims_of (units_of ds) rs
   pub counted : sequential ≡ sequential_count rs
   pub order : ArePassedInOrder rs
@@ -116,5 +116,6 @@ pub record CanBeShown (ds : List Drive) (rs : List Record) (aims : List Aim) : T
   -- each head is on a cylinder of its unit
   pub heads : All IsOnUnit ds
   pub waitable : All (λ r. (is_sequential r.command.order || is_move r.command.order) ≡ true) rs
+  pub weighs : All (λ r. (1 ≤ r.weight) × (r.weight < 2 ^ 32)) rs
   pub inside : All (λ r. HasBlocks (units_of ds) r.command) rs
   pub aimed : aims ≡ aims_of (units_of ds) rs

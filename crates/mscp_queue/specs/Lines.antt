@@ -18,7 +18,7 @@ use Rattle.mscp_queue.specs.Serving.{IsNext, begun_without, drives_after, report
 -- picks
 pub record Line (K : Type 0) : Type 0 where
   pub room : ℕ
-  pub passing : ℕ
+  pub budget : ℕ
   pub longest : ℕ
   pub waiting : List Record
   pub drives : List Drive
@@ -27,9 +27,9 @@ pub record Line (K : Type 0) : Type 0 where
 
 -- a queue to which nothing came so far
 abbrev pub fresh : {K : Type 0} → List Shape → ℕ → ℕ → ℕ → K → Line K
-fresh units room passing longest picker = record {
+fresh units room budget longest picker = record {
   room = room;
-  passing = passing;
+  budget = budget;
   longest = longest;
   waiting = [];
   drives = map fresh_drive units;
@@ -49,7 +49,7 @@ begun_at line place = record line { begun = Some (name_of (record_at line.waitin
 pub record BeginsAt {K : Type 0} (picks : List Choice → ℕ → Type 0)
     (old : Line K) (upcoming : Upcoming) (new : Line K) (place : ℕ) : Type 0 where
   -- it may be served next (profile)
-  pub next : IsNext picks old.passing old.drives old.waiting old.begun place
+  pub next : IsNext picks old.budget old.drives old.waiting old.begun place
   -- this is what is told of it (profile)
   pub told : upcoming ≡ upcoming_of (drive_at old.drives old.waiting place) (record_at old.waiting place)
   -- and it is kept that it was begun
@@ -79,7 +79,7 @@ served k line place = record line {
 pub record ServesAt {K : Type 0} (picks : List Choice → ℕ → Type 0)
     (k : Block) (old : Line K) (report : Report) (new : Line K) (place : ℕ) : Type 0 where
   -- it may be served next (profile)
-  pub next : IsNext picks old.passing old.drives old.waiting old.begun place
+  pub next : IsNext picks old.budget old.drives old.waiting old.begun place
   -- this is what is reported of it (manual, the seek is the profile's)
   pub told : report ≡ report_of k (drive_at old.drives old.waiting place) (record_at old.waiting place)
   -- and this is what it leaves

@@ -9,18 +9,18 @@ use Rattle.mscp_queue.specs.Names.{Name, name_of, same_name}
 use Rattle.mscp_queue.specs.Orders.{order_weight}
 use Rattle.mscp_queue.specs.Outcomes.{aborted_end}
 
--- a waiting command: how many steps it takes, how many it had, how many of its blocks were good, and how often
--- it was passed (profile)
+-- a waiting command: how many steps it takes, how many it had, how many of its blocks were good, and by how many
+-- blocks it was passed (profile)
 pub record Record : Type 0 where
   pub command : Command
   pub weight : ℕ
   pub done : ℕ
   pub good : ℕ
-  pub passes : ℕ
+  pub passed : ℕ
 
 -- the record of a command that begins to wait
 abbrev pub fresh_record : Command → Record
-fresh_record command = record { command = command; weight = order_weight command.order; done = 0; good = 0; passes = 0 }
+fresh_record command = record { command = command; weight = order_weight command.order; done = 0; good = 0; passed = 0 }
 
 -- a record of nothing, which stands past the end of a list
 abbrev pub no_record : Record
@@ -30,7 +30,7 @@ no_record =
       weight = 0;
       done = 0;
       good = 0;
-      passes = 0;
+      passed = 0;
     }
 
 -- the record at a place: past the end, one of nothing
@@ -69,9 +69,9 @@ left_if_serving r = if is_in_service r then left_of r else 0
 abbrev pub is_unstarted : Record → Bool
 is_unstarted r = nat_eq r.done 0
 
--- what the start of a record's command costs each earlier command that waits: one pass (profile)
+-- what the start of a record's command costs each earlier command that waits: all the steps that it takes (profile)
 abbrev pub toll : Record → ℕ
-toll r = 1
+toll r = r.weight
 
 -- what a step of a record costs each earlier command: the toll of a start (profile)
 abbrev pub step_toll : Record → ℕ
@@ -79,11 +79,11 @@ step_toll r = cond (is_unstarted r) (toll r) 0
 
 -- the record once its command was passed at this toll
 abbrev pub passed_by : ℕ → Record → Record
-passed_by n r = record { command = r.command; weight = r.weight; done = r.done; good = r.good; passes = r.passes + n }
+passed_by n r = record { command = r.command; weight = r.weight; done = r.done; good = r.good; passed = r.passed + n }
 
 -- the record after a step of its command that doesn't end it: the block was good
 abbrev pub advanced : Record → Record
-advanced r = record { command = r.command; weight = r.weight; done = r.done + 1; good = r.good + 1; passes = r.passes }
+advanced r = record { command = r.command; weight = r.weight; done = r.done + 1; good = r.good + 1; passed = r.passed }
 
 -- what a step leaves of the record, which ended its command or not
 abbrev pub remains : Record → Option End → List Record

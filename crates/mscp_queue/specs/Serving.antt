@@ -70,12 +70,12 @@ waiting_after k d rs place =
     map (passed_by (step_toll (record_at rs place))) (take place rs)
     ++ (remains (record_at rs place) (end_given k d (record_at rs place)) ++ drop (place + 1) rs)
 
--- the record at a place may be served: it is in service, or nothing is and it may start (manual, the passing limit is
+-- the record at a place may be served: it is in service, or nothing is and it may start (manual, the budget is
 -- the profile's)
-pub record IsServable (passing : ℕ) (rs : List Record) (place : ℕ) : Type 0 where
+pub record IsServable (budget : ℕ) (rs : List Record) (place : ℕ) : Type 0 where
   pub inside : place < length rs
   pub idle : is_unstarted (record_at rs place) ≡ true → All (λ r. r.done ≡ 0) rs
-  pub opens : is_unstarted (record_at rs place) ≡ true → is_open_at passing rs place ≡ true
+  pub opens : is_unstarted (record_at rs place) ≡ true → is_open_at budget rs place ≡ true
 
 -- the command of this reference number was begun (profile)
 abbrev pub is_begun : Name → Option Name → Bool
@@ -88,11 +88,11 @@ begun_without reference begun = if is_begun reference begun then None else begun
 
 -- the record at a place may be served next: it may be served, and it is what was begun, or where nothing was, it is in
 -- service or the picker may pick it (profile)
-pub record IsNext (picks : List Choice → ℕ → Type 0) (passing : ℕ)
+pub record IsNext (picks : List Choice → ℕ → Type 0) (budget : ℕ)
     (ds : List Drive) (rs : List Record) (begun : Option Name) (place : ℕ) : Type 0 where
-  pub servable : IsServable passing rs place
+  pub servable : IsServable budget rs place
   pub same : (name : Name) → begun ≡ Some name → has_reference name (record_at rs place) ≡ true
-  pub picked : begun ≡ None → is_unstarted (record_at rs place) ≡ true → IsPick picks passing ds rs place
+  pub picked : begun ≡ None → is_unstarted (record_at rs place) ≡ true → IsPick picks budget ds rs place
 
 -- the drives after a step of the record at a place: that of its unit has changed
 abbrev pub drives_after : Block → List Drive → List Record → ℕ → List Drive

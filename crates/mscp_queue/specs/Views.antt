@@ -1,5 +1,5 @@
 -- What may start, and what a picker sees of it.
-use Rattle.std.specs.Prelude.{◌≡◌, ℕ, ◌+◌, ◌<◌, Bool, not, ◌&&◌, ◌||◌, nat_eq, nat_le, nat_lt, List, length, map, take, filter, slice_index_or}
+use Rattle.std.specs.Prelude.{All, ◌≡◌, ℕ, ◌+◌, ◌<◌, Bool, true, not, ◌&&◌, ◌||◌, nat_eq, nat_le, nat_lt, List, length, map, take, filter, slice_index_or}
 use Rattle.std.specs.List.{list_all, range_with_len}
 use Rattle.mscp_queue.specs.declared.drive.Drive.{Drive}
 use Rattle.mscp_queue.specs.declared.view.Choice.{Choice}
@@ -15,26 +15,30 @@ fences r z = nat_eq z.command.unit r.command.unit && (is_sequential z.command.or
 abbrev pub is_free : Record → List Record → Bool
 is_free r front = list_all (λ z. not (fences r z)) front
 
--- none of those in front of the record is passed too often where it starts (profile)
+-- each of those in front of the record keeps within the budget if it starts (profile)
 abbrev pub is_affordable : ℕ → Record → List Record → Bool
-is_affordable passing r front = list_all (λ z. nat_le (z.passes + toll r) passing) front
+is_affordable budget r front = list_all (λ z. nat_le (z.passed + toll r) budget) front
 
--- where nothing is in service, the record behind those in front of it may start (manual, the passing limit is the
--- profile's)
+-- where nothing is in service, the record behind those in front of it may start (manual, the budget is the profile's)
 abbrev pub is_open : ℕ → Record → List Record → Bool
-is_open passing r front = is_free r front && is_affordable passing r front
+is_open budget r front = is_free r front && is_affordable budget r front
 
--- a transfer that may be passed once more: where all are such, each may start
-abbrev pub is_passable : ℕ → Record → Bool
-is_passable passing r = is_move r.command.order && nat_lt r.passes passing
+-- a transfer that the longest may still pass: where all are such, each may start
+abbrev pub is_passable : ℕ → ℕ → Record → Bool
+is_passable budget longest r = is_move r.command.order && nat_le (r.passed + longest) budget
 
 -- the record at a place may start, where nothing is in service
 abbrev pub is_open_at : ℕ → List Record → ℕ → Bool
-is_open_at passing rs place = is_open passing (record_at rs place) (take place rs)
+is_open_at budget rs place = is_open budget (record_at rs place) (take place rs)
 
 -- the places that may start, where nothing is in service, in order of arrival (profile)
 abbrev pub open_places : ℕ → List Record → List ℕ
-open_places passing rs = filter (is_open_at passing rs) (range_with_len 0 (length rs))
+open_places budget rs = filter (is_open_at budget rs) (range_with_len 0 (length rs))
+
+-- each is a transfer, and may start where nothing is in service
+pub record AllMayStart (budget : ℕ) (rs : List Record) : Type 0 where
+  pub transfers : All (λ r. is_move r.command.order ≡ true) rs
+  pub places : open_places budget rs ≡ range_with_len 0 (length rs)
 
 -- what a picker sees of a record whose unit's drive is this (profile)
 abbrev pub choice_of : Drive → Record → Choice
@@ -51,10 +55,10 @@ choices_at ds rs places = map (λ place. choice_of (drive_at ds rs place) (recor
 
 -- what a picker sees where nothing is in service: exactly the records that may start, in order of arrival (profile)
 abbrev pub view_of : ℕ → List Drive → List Record → List Choice
-view_of passing ds rs = choices_at ds rs (open_places passing rs)
+view_of budget ds rs = choices_at ds rs (open_places budget rs)
 
 -- the record at a place may be picked: it stands in the view, at a place that the picker's relation allows (profile)
 abbrev pub IsPick : (List Choice → ℕ → Type 0) → ℕ → List Drive → List Record → ℕ → Type 0
-IsPick picks passing ds rs place =
-    (i : ℕ) × (i < length (open_places passing rs)) × (slice_index_or (open_places passing rs) i 0 ≡ place)
-    × picks (view_of passing ds rs) i
+IsPick picks budget ds rs place =
+    (i : ℕ) × (i < length (open_places budget rs)) × (slice_index_or (open_places budget rs) i 0 ≡ place)
+    × picks (view_of budget ds rs) i

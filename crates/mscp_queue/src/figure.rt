@@ -44,40 +44,37 @@ fn left_if_serving(record: &Record) -> u64
 /// The figure of the record at the place, where so many steps are left of the records before it, and of those after it
 /// that are in service.
 fn figure_from(
-    passing: u32,
-    longest: u32,
+    budget: u32,
     records: &[Record],
     place: usize,
     before: u64,
     serving: u64,
 ) -> u32
     requires place { place < length records.now }
-    requires short { All (λ r. left_of r ≤ longest) records.now }
-    requires small { (length records.now + passing) * longest < 2 ^ 32 }
+    requires small { sum_by left_of records.now + budget < 2 ^ 32 }
     requires before { before ≡ sum_by left_of (take place records.now) }
     requires serving { serving ≡ sum_by left_of (filter is_in_service (drop (place + 1) records.now)) }
-    ensures { result ≡ figure_at passing longest records.now place }
+    ensures { result ≡ figure_at budget records.now place }
 {
     let record = records[place];
     let left = record.left();
     if !record.is_unstarted() {
         return left;
     }
-    let passed = u64::from(passing.saturating_sub(record.passes())) * u64::from(longest);
-    (before + serving + passed + u64::from(left)) as u32
+    let unspent = u64::from(budget.saturating_sub(record.passed()));
+    (before + serving + unspent + u64::from(left)) as u32
 }
 
-/// The figure of the record at the place, under this passing limit and this longest transfer.
-pub(crate) fn figure_at(passing: u32, longest: u32, records: &[Record], place: usize) -> u32
+/// The figure of the record at the place, under this budget.
+pub(crate) fn figure_at(budget: u32, records: &[Record], place: usize) -> u32
     requires place { place < length records.now }
     requires few { length records.now ≤ 64 }
-    requires short { All (λ r. left_of r ≤ longest) records.now }
-    requires small { (length records.now + passing) * longest < 2 ^ 32 }
-    ensures { result ≡ figure_at passing longest records.now place }
+    requires small { sum_by left_of records.now + budget < 2 ^ 32 }
+    ensures { result ≡ figure_at budget records.now place }
 {
     let before = left_of_all(&records[..place]);
     let serving = left_in_service(&records[place + 1..]);
-    figure_from(passing, longest, records, place, before, serving)
+    figure_from(budget, records, place, before, serving)
 }
 
 /// The place of the record with the reference number, if there is one.
@@ -102,18 +99,16 @@ pub(crate) fn has_any(records: &[Record], reference: u32) -> bool
 
 /// The figure of the waiting command with the reference number, 0 if there is none.
 pub(crate) fn figure_of_reference(
-    passing: u32,
-    longest: u32,
+    budget: u32,
     records: &[Record],
     reference: u32,
 ) -> u32
     requires few { length records.now ≤ 64 }
-    requires short { All (λ r. left_of r ≤ longest) records.now }
-    requires small { (length records.now + passing) * longest < 2 ^ 32 }
-    ensures { result ≡ figure_of_reference passing longest records.now reference }
+    requires small { sum_by left_of records.now + budget < 2 ^ 32 }
+    ensures { result ≡ figure_of_reference budget records.now reference }
 {
     match place_of(records, reference) {
-        Some(place) => figure_at(passing, longest, records, place),
+        Some(place) => figure_at(budget, records, place),
         None => 0,
     }
 }
@@ -123,11 +118,10 @@ pub(crate) fn figure_of_reference(
 /// would then have room for a list more than once on its stack.
 #[tactic(auto, using(crate::proofs::Sums::figures_more))]
 #[inline(never)]
-pub(crate) fn figures(passing: u32, longest: u32, records: &[Record]) -> ArrayVec<(u32, u32), 64>
+pub(crate) fn figures(budget: u32, records: &[Record]) -> ArrayVec<(u32, u32), 64>
     requires few { length records.now ≤ 64 }
-    requires short { All (λ r. left_of r ≤ longest) records.now }
-    requires small { (length records.now + passing) * longest < 2 ^ 32 }
-    ensures { result.items ≡ figures passing longest records.now }
+    requires small { sum_by left_of records.now + budget < 2 ^ 32 }
+    ensures { result.items ≡ figures budget records.now }
 {
     let mut list = ArrayVec::new();
     let mut before = 0;
@@ -135,7 +129,7 @@ pub(crate) fn figures(passing: u32, longest: u32, records: &[Record]) -> ArrayVe
     for place in 0..records.len() {
         let record = records[place];
         serving -= left_if_serving(&record);
-        let figure = figure_from(passing, longest, records, place, before, serving);
+        let figure = figure_from(budget, records, place, before, serving);
         list.push((record.command().reference, figure));
         before += u64::from(record.left());
     }

@@ -7,12 +7,12 @@ ghost use Rattle.mscp_queue.specs.Fronts.{is_closed, is_let, nobody, with_record
 use crate::record::Record;
 
 /// What is known of the records in front of a place: of each drive, by its place, whether one of them is of its unit,
-/// and whether a sequential one is; and whether each of them may be passed once more.
+/// and whether a sequential one is; and the least that they have left of the budget, `u32::MAX` where nobody is in front.
 #[derive(Clone, Copy, Debug, PartialEq, Eq)]
 pub struct Front {
     pub seen: [bool; 16],
     pub fenced: [bool; 16],
-    pub affordable: bool,
+    pub unspent: u32,
 }
 
 /// Whether each of the flags is set.
@@ -30,31 +30,31 @@ impl Front {
         Front {
             seen: [false; 16],
             fenced: [false; 16],
-            affordable: true,
+            unspent: u32::MAX,
         }
     }
 
-    /// Whether those in front let the record start, whose drive stands at this place. Each of them may be passed once more.
+    /// Whether those in front let the record start, whose drive stands at this place.
     pub fn lets(&self, behind: &Record, drive: usize) -> bool
         requires drive { drive < 16 }
-        requires affordable { self.now.affordable ≡ true }
         ensures { result ≡ is_let self.now behind.now drive }
     {
-        if behind.is_sequential() {
-            !self.seen[drive]
+        let keeps_back = if behind.is_sequential() {
+            self.seen[drive]
         } else {
-            !self.fenced[drive]
-        }
+            self.fenced[drive]
+        };
+        !keeps_back && behind.weight() <= self.unspent
     }
 
     /// Takes the record, whose drive stands at this place, among those in front, who leave one of so many drives open so
-    /// far. Tells whether nobody behind may start then, whatever it is: one in front may be passed no more, or of each
-    /// drive one is sequential.
-    pub fn add(&mut self, behind: &Record, drive: usize, passing: u32, drives: usize) -> bool
+    /// far. Tells whether nobody behind may start then, whatever it is: one in front has nothing left of the budget, or of
+    /// each drive one is sequential.
+    pub fn add(&mut self, behind: &Record, drive: usize, budget: u32, drives: usize) -> bool
         requires drive { drive < 16 }
         requires few { drives ≤ 16 }
         requires open { is_closed self.old drives ≡ false }
-        ensures after { self.new ≡ with_record passing self.old behind.now drive }
+        ensures after { self.new ≡ with_record budget self.old behind.now drive }
         ensures closed { result ≡ is_closed self.new drives }
     {
         let fences = behind.is_sequential();
@@ -62,8 +62,7 @@ impl Front {
         if fences {
             self.fenced[drive] = true;
         }
-        // Those in front are all affordable, or they would be closed.
-        self.affordable = behind.passes() < passing;
-        !self.affordable || (fences && are_set(&self.fenced[..drives]))
+        self.unspent = self.unspent.min(budget.saturating_sub(behind.passed()));
+        self.unspent == 0 || (fences && are_set(&self.fenced[..drives]))
     }
 }

@@ -10,7 +10,7 @@ ghost use Rattle.mscp_queue.specs.Lines.{Begins, BeginsAt, Line, Serves, ServesA
 ghost use Rattle.mscp_queue.specs.Orders.{order_weight};
 ghost use Rattle.mscp_queue.specs.Records.{aborted_record, has_reference, is_in_service};
 ghost use Rattle.mscp_queue.specs.Serving.{IsNext, end_in, is_begun};
-ghost use Rattle.mscp_queue.specs.Views.{is_passable};
+ghost use Rattle.mscp_queue.specs.Views.{AllMayStart, is_passable};
 
 use crate::aim::Aim;
 use crate::block::Block;
@@ -47,7 +47,7 @@ pub struct Waiting {
 #[derive(Drop)]
 pub struct Queue<K> {
     room: u32,
-    passing: u32,
+    budget: u32,
     longest: u32,
     waiting: ArrayVec<Record, 64>,
     // Of each waiting command, in the same order.
@@ -74,7 +74,7 @@ impl<K> Model for Queue<K> {
     ghost view = { λ q.
         record {
           room = q.room;
-          passing = q.passing;
+          budget = q.budget;
           longest = q.longest;
           waiting = q.waiting.items;
           drives = q.drives.items;
@@ -82,24 +82,24 @@ impl<K> Model for Queue<K> {
           picker = q.picker;
         } };
 
-    ghost invariant = { λ q. IsReady q.room q.passing q.longest q.waiting.items q.aims.items q.drives.items q.begun q.serving q.sequential };
+    ghost invariant = { λ q. IsReady q.room q.budget q.longest q.waiting.items q.aims.items q.drives.items q.begun q.serving q.sequential };
 }
 
 impl<K: Picker> Queue<K> {
-    /// A queue to which nothing came so far: `room` commands may wait, each may be passed `passing` times, and no
+    /// A queue to which nothing came so far: `room` commands may wait, each may be passed by `budget` blocks, and no
     /// transfer is longer than `longest` blocks.
-    pub fn new(units: Units, room: u32, passing: u32, longest: u32, picker: K) -> Queue<K>
+    pub fn new(units: Units, room: u32, budget: u32, longest: u32, picker: K) -> Queue<K>
         requires some_room { 1 ≤ room }
         requires few { room ≤ 63 }
         requires some_blocks { 1 ≤ longest }
         requires short { longest ≤ 8388608 }
-        requires small { (room + passing) * longest ≤ 4294967295 }
-        ensures { result ≡ fresh units room passing longest picker }
+        requires small { room * longest + budget ≤ 4294967295 }
+        ensures { result ≡ fresh units room budget longest picker }
     {
         let drives = drives_of(units.list());
         Queue {
             room,
-            passing,
+            budget,
             longest,
             waiting: ArrayVec::new(),
             aims: ArrayVec::new(),
@@ -115,7 +115,7 @@ impl<K: Picker> Queue<K> {
     /// Forgets all that came to it: it is as new, with the same units, limits and picker.
     pub fn reset(&mut self)
         ensures { self.new
-            ≡ fresh (units_of self.old.drives) self.old.room self.old.passing self.old.longest self.old.picker }
+            ≡ fresh (units_of self.old.drives) self.old.room self.old.budget self.old.longest self.old.picker }
     {
         self.waiting.clear();
         self.aims.clear();
@@ -170,11 +170,10 @@ impl<K: Picker> Queue<K> {
     /// The figure of the waiting command with the reference number, 0 if there is none: how many steps it may still
     /// wait, at most.
     pub fn figure(&self, reference: u32) -> u32
-        ensures { result ≡ figure_of_reference self.now.passing self.now.longest self.now.waiting reference }
+        ensures { result ≡ figure_of_reference self.now.budget self.now.waiting reference }
     {
         figure_of_reference(
-            self.passing,
-            self.longest,
+            self.budget,
             self.waiting.as_slice(),
             reference,
         )
@@ -182,13 +181,13 @@ impl<K: Picker> Queue<K> {
 
     /// Reference number and figure of each waiting command, in order of arrival.
     pub fn look(&self) -> ArrayVec<(u32, u32), 64>
-        ensures { result.items ≡ figures self.now.passing self.now.longest self.now.waiting }
+        ensures { result.items ≡ figures self.now.budget self.now.waiting }
     {
-        figures(self.passing, self.longest, self.waiting.as_slice())
+        figures(self.budget, self.waiting.as_slice())
     }
 
     /// Ends the waiting command with the reference number, in service or not, and gives its end, whose body is that of its
-    /// endcode. A pass that its start made isn't given back to the commands that it passed.
+    /// endcode. What its start cost the commands that it passed isn't given back to them.
     pub fn abort(&mut self, reference: u32) -> Option<End>
         ensures end { result ≡ option_map aborted_record (find (has_reference reference) self.old.waiting) }
         ensures shaped { IfSome result IsOfKind }
@@ -226,20 +225,22 @@ impl<K: Picker> Queue<K> {
         }
     }
 
-    /// Whether each that waits is a transfer that may be passed once more. Who came earlier was passed at least as often,
-    /// so that the oldest tells it for all.
+    /// Whether each that waits is a transfer that the longest may still pass. Who came earlier was passed by at least as
+    /// many blocks, so that the oldest tells it for all. Then each may start.
     fn may_all_start(&self) -> bool
         requires { 0 < length self.now.waiting }
-        ensures { result ≡ list_all (is_passable self.now.passing) self.now.waiting }
+        ensures passable { result ≡ list_all (is_passable self.now.budget self.now.longest) self.now.waiting }
+        ensures open { result ≡ true → AllMayStart self.now.budget self.now.waiting }
     {
-        self.sequential == 0 && self.waiting[0].passes() < self.passing
+        let passed = u64::from(self.waiting[0].passed());
+        self.sequential == 0 && passed + u64::from(self.longest) <= u64::from(self.budget)
     }
 
     /// The place of the command in service, or, where none is, of one that the picker picks.
     fn place_to_begin(&mut self) -> usize
         requires nothing { self.old.begun ≡ None }
         requires some { 0 < length self.old.waiting }
-        ensures next { IsNext (K.picks self.old.picker) self.old.passing self.old.drives self.old.waiting self.old.begun result }
+        ensures next { IsNext (K.picks self.old.picker) self.old.budget self.old.drives self.old.waiting self.old.begun result }
         ensures same { self.new ≡ self.old }
     {
         match self.serving_place() {
@@ -249,7 +250,7 @@ impl<K: Picker> Queue<K> {
                 self.waiting.as_slice(),
                 self.aims.as_slice(),
                 self.drives.as_slice(),
-                self.passing,
+                self.budget,
                 &self.picker,
                 &mut self.view,
             ),
@@ -262,7 +263,7 @@ impl<K: Picker> Queue<K> {
         ensures none { IfNone result (self.old.waiting ≡ []) }
         ensures unbegun { IfNone result (self.old.begun ≡ None) }
         ensures some { IfSome result (λ place.
-            IsNext (K.picks self.old.picker) self.old.passing self.old.drives self.old.waiting self.old.begun place) }
+            IsNext (K.picks self.old.picker) self.old.budget self.old.drives self.old.waiting self.old.begun place) }
         ensures same { self.new ≡ self.old }
     {
         match self.begun {
@@ -274,7 +275,7 @@ impl<K: Picker> Queue<K> {
 
     /// Begins the record at the place.
     fn begin_at(&mut self, place: usize) -> Upcoming
-        requires { IsNext (K.picks self.old.picker) self.old.passing self.old.drives self.old.waiting self.old.begun place }
+        requires { IsNext (K.picks self.old.picker) self.old.budget self.old.drives self.old.waiting self.old.begun place }
         ensures { BeginsAt (K.picks self.old.picker) self.old result self.new place }
     {
         let record = self.waiting[place];
@@ -294,7 +295,7 @@ impl<K: Picker> Queue<K> {
 
     /// Serves a block, with this outcome, to the record at the place.
     fn serve_at(&mut self, place: usize, block: &Block) -> Report
-        requires { IsNext (K.picks self.old.picker) self.old.passing self.old.drives self.old.waiting self.old.begun place }
+        requires { IsNext (K.picks self.old.picker) self.old.budget self.old.drives self.old.waiting self.old.begun place }
         ensures served { ServesAt (K.picks self.old.picker) block.now self.old result self.new place }
         ensures shaped { IfSome (end_in result) IsOfKind }
         ensures units { units_of self.new.drives ≡ units_of self.old.drives }

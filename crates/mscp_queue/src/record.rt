@@ -7,13 +7,14 @@ ghost use Rattle.mscp_queue.specs.Records.{advanced, step_toll, fresh_record, le
 use mscp_packet::{Command, Order};
 use std::marker::Model;
 
-/// A waiting command: what it asks for, how many steps it takes, how many it had, and how often it was passed.
+/// A waiting command: what it asks for, how many steps it takes, how many it had, and by how many blocks
+/// it was passed.
 #[derive(Clone, Copy, Debug, PartialEq, Eq)]
 pub struct Record {
     command: Command,
     weight: u32,
     done: u32,
-    passes: u32,
+    passed: u32,
 }
 
 // A clause sees how many of its blocks were good, too. A bad block ends its command, so all that were served of one
@@ -24,11 +25,11 @@ impl Model for Record {
     ghost Value = { Told };
 
     ghost view = { λ r.
-        record { command = r.command; weight = r.weight; done = r.done; good = r.done; passes = r.passes } };
+        record { command = r.command; weight = r.weight; done = r.done; good = r.done; passed = r.passed } };
 
     ghost invariant = { λ r. Unit {0} };
 
-    ghost inverse = { λ t. record { command = t.command; weight = t.weight; done = t.done; passes = t.passes } };
+    ghost inverse = { λ t. record { command = t.command; weight = t.weight; done = t.done; passed = t.passed } };
 }
 
 impl Record {
@@ -41,7 +42,7 @@ impl Record {
             command,
             weight,
             done: 0,
-            passes: 0,
+            passed: 0,
         }
     }
 
@@ -90,11 +91,11 @@ impl Record {
         self.weight.saturating_sub(self.done)
     }
 
-    /// How often the command was passed.
-    pub fn passes(&self) -> u32
-        ensures { result ≡ self.now.passes }
+    /// By how many blocks the command was passed: the steps that the later commands take which started before it.
+    pub fn passed(&self) -> u32
+        ensures { result ≡ self.now.passed }
     {
-        self.passes
+        self.passed
     }
 
     /// Whether the command was never served.
@@ -117,21 +118,25 @@ impl Record {
 
     /// The record once its command was passed at this toll.
     pub fn passed_by(&self, toll: u32) -> Record
-        requires { self.now.passes + toll < 2 ^ 32 }
+        requires { self.now.passed + toll < 2 ^ 32 }
         ensures { result ≡ passed_by toll self.now }
     {
         Record {
-            passes: self.passes + toll,
+            passed: self.passed + toll,
             ..*self
         }
     }
 
-    /// How many passes a step of the command costs each earlier one: one where it starts.
+    /// How many blocks of its budget a step of the command costs each earlier one: all of its own where it starts.
     pub fn step_toll(&self) -> u32
         ensures value { result ≡ step_toll self.now }
-        ensures small { result ≤ 1 }
+        ensures small { result < 2 ^ 32 }
     {
-        u32::from(self.is_unstarted())
+        if self.is_unstarted() {
+            self.weight()
+        } else {
+            0
+        }
     }
 }
 
@@ -148,7 +153,7 @@ impl Default for Record {
             },
             weight: 0,
             done: 0,
-            passes: 0,
+            passed: 0,
         }
     }
 }

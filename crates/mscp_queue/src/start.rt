@@ -6,7 +6,7 @@ ghost use Rattle.mscp_queue.specs.Aims.{IsAimed};
 ghost use Rattle.mscp_queue.specs.Kept.{AreApart, CanBeShown, names};
 ghost use Rattle.mscp_queue.specs.Orders.{is_move, is_sequential};
 ghost use Rattle.mscp_queue.specs.Records.{drive_at, record_at};
-ghost use Rattle.mscp_queue.specs.Views.{IsPick, choice_of, choices_at, is_passable, view_of};
+ghost use Rattle.mscp_queue.specs.Views.{AllMayStart, IsPick, choice_of, choices_at, view_of};
 
 use crate::aim::Aim;
 use crate::drive::Drive;
@@ -116,11 +116,11 @@ fn show_if(
 }
 
 /// Shows the records that may start. It looks at each record once: what is fenced is known from what was seen of each
-/// unit, and whether one in front may be passed no more is one flag. Where nobody behind may start it ends.
-fn show_each(view: &mut View, records: &[Record], aims: &[Aim], drives: &[Drive], passing: u32)
+/// unit, and what those in front have left of the budget is one number. Where nobody behind may start it ends.
+fn show_each(view: &mut View, records: &[Record], aims: &[Aim], drives: &[Drive], budget: u32)
     requires view { view.old ≡ [] }
     requires waiting { CanBeShown drives.now records.now aims.now }
-    ensures { view.new ≡ view_of passing drives.now records.now }
+    ensures { view.new ≡ view_of budget drives.now records.now }
 {
     let mut front = Front::new();
     for place in 0..records.len() {
@@ -128,37 +128,37 @@ fn show_each(view: &mut View, records: &[Record], aims: &[Aim], drives: &[Drive]
         let drive = usize::from(aims[place].drive);
         let may_start = front.lets(record, drive);
         show_if(may_start, view, records, aims, drives, place);
-        if front.add(record, drive, passing, drives.len()) {
+        if front.add(record, drive, budget, drives.len()) {
             return;
         }
     }
 }
 
 /// The place of the record that the picker picks, of those that may start: the view is made anew, and shows these. `all`
-/// tells whether each is of a transfer that may be passed once more. Then all may start, and a record has its place in the
-/// view. Else it is found by the reference number that the picker saw, since only one has it.
+/// tells that each is of a transfer and may start. Then a record has its place in the view. Else it is found by the
+/// reference number that the picker saw, since only one has it.
 pub(crate) fn picked_place<K: Picker>(
     all: bool,
     records: &[Record],
     aims: &[Aim],
     drives: &[Drive],
-    passing: u32,
+    budget: u32,
     picker: &K,
     view: &mut View,
 ) -> usize
-    requires all { all ≡ list_all (is_passable passing) records.now }
+    requires all { all ≡ true → AllMayStart budget records.now }
     requires some { 0 < length records.now }
     requires waiting { CanBeShown drives.now records.now aims.now }
     requires apart { AreApart (names records.now) }
     ensures inside { result < length records.now }
-    ensures picked { IsPick (K.picks picker.now) passing drives.now records.now result }
+    ensures picked { IsPick (K.picks picker.now) budget drives.now records.now result }
 {
     if all {
         show_all(view, records, aims, drives);
         return picker.pick(view);
     }
     view.clear();
-    show_each(view, records, aims, drives, passing);
+    show_each(view, records, aims, drives, budget);
     let picked = picker.pick(view);
     place_of(records, view.choices()[picked].reference).unwrap()
 }

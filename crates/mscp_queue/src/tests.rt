@@ -25,8 +25,8 @@ impl Picker for Newest {
 }
 
 /// A queue of unit 0, which has 1000 blocks, 20 blocks a cylinder. Each command may be passed so often.
-fn queue(rt: &impl Abort, passing: u32) -> Queue<Newest>
-    requires { passing < 4 }
+fn queue(rt: &impl Abort, budget: u32) -> Queue<Newest>
+    requires { budget < 4 }
     ensures room { result.room ≡ 4 }
     ensures longest { result.longest ≡ 8 }
     ensures waiting { result.waiting ≡ [] }
@@ -36,7 +36,7 @@ fn queue(rt: &impl Abort, passing: u32) -> Queue<Newest>
         .ok()
         .expect(rt, "no size is zero");
     let units = Units::new(&[unit]).ok().expect(rt, "a list of units");
-    Queue::new(units, 4, passing, 8, Newest)
+    Queue::new(units, 4, budget, 8, Newest)
 }
 
 /// A transfer of block 0.
@@ -73,15 +73,15 @@ fn a_start_passes_every_earlier_command(rt: HostRuntime) {
         (2, [4, 3, 1, 2]),
         (3, [4, 3, 2, 1]),
     ];
-    for (passing, order) in table {
-        assert!(rt; passing < 4);
-        let mut queue = queue(&rt, passing);
+    for (budget, order) in table {
+        assert!(rt; budget < 4);
+        let mut queue = queue(&rt, budget);
         queue.push(read(1));
         queue.push(read(2));
         queue.push(read(3));
         queue.push(read(4));
         for wanted in order {
-            assert_eq!(rt; served(&mut queue), Some(wanted), "passed {passing} times");
+            assert_eq!(rt; served(&mut queue), Some(wanted), "passed {budget} times");
         }
         assert_eq!(rt; served(&mut queue), None);
     }

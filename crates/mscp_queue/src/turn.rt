@@ -23,7 +23,7 @@ pub(crate) fn place_in_service(records: &[Record]) -> Option<usize>
 /// Each record in front of the place was passed at this toll.
 fn pass_each(records: &mut [Record], place: usize, toll: u32)
     requires place { place ≤ length records.old }
-    requires small { All (λ r. r.passes + toll < 2 ^ 32) (take place records.old) }
+    requires small { All (λ r. r.passed + toll < 2 ^ 32) (take place records.old) }
     ensures passed { records.new ≡ map (passed_by toll) (take place records.old) ++ drop place records.old }
     ensures long { length records.new ≡ length records.old }
 {
@@ -35,7 +35,7 @@ fn pass_each(records: &mut [Record], place: usize, toll: u32)
 /// The same, and nobody is looked at where the toll is 0, as in all steps of a command but its first.
 fn pass_front(records: &mut [Record], place: usize, toll: u32)
     requires place { place ≤ length records.old }
-    requires small { All (λ r. r.passes + toll < 2 ^ 32) (take place records.old) }
+    requires small { All (λ r. r.passed + toll < 2 ^ 32) (take place records.old) }
     ensures passed { records.new ≡ map (passed_by toll) (take place records.old) ++ drop place records.old }
     ensures long { length records.new ≡ length records.old }
 {
@@ -47,7 +47,7 @@ fn pass_front(records: &mut [Record], place: usize, toll: u32)
 /// The record at the place had a step, and each in front of it was passed at this toll.
 fn serve_front(records: &mut [Record], place: usize, toll: u32)
     requires place { place < length records.old }
-    requires small { All (λ r. r.passes + toll < 2 ^ 32) (take place records.old) }
+    requires small { All (λ r. r.passed + toll < 2 ^ 32) (take place records.old) }
     requires unfinished { (record_at records.old place).done + 1 < 2 ^ 32 }
     ensures served { records.new
         ≡ map (passed_by toll) (take place records.old) ++ (advanced (record_at records.old place) ∷ drop (place + 1) records.old) }
@@ -68,7 +68,7 @@ pub(crate) fn leave(
 )
     requires place { place < length waiting.old.items }
     requires aimed { length aims.old.items ≡ length waiting.old.items }
-    requires small { All (λ r. r.passes + toll < 2 ^ 32) (take place waiting.old.items) }
+    requires small { All (λ r. r.passed + toll < 2 ^ 32) (take place waiting.old.items) }
     requires unfinished { (record_at waiting.old.items place).done + 1 < 2 ^ 32 }
     ensures left { waiting.new.items
         ≡ map (passed_by toll) (take place waiting.old.items)

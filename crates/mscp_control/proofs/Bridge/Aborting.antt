@@ -148,11 +148,11 @@ left_by q other ws =
     let y = some.1 in
     let B = some.2 in
     let f = some.3 in
-    let number : other ≡ y.command.reference = sym (eqb-true y.command.reference other f.passes) in
+    let number : other ≡ y.command.reference = sym (eqb-true y.command.reference other f.passed) in
     filter_on (λ r. not (p r)) (λ r. not (ends (Some y) r)) ws
         (every_from (λ r. not (p r) ≡ not (ends (Some y) r))
         (λ r. ap not (either_way r.command.reference other ∙ ap (λ n. nat_eq n r.command.reference) number)) ws)
-    ∙ ap (λ o. filter (λ r. not (ends o r)) ws) (sym (ap (find p) f.is ∙ find_first p A y B f.before f.passes)))
+    ∙ ap (λ o. filter (λ r. not (ends o r)) ws) (sym (ap (find p) f.is ∙ find_first p A y B f.before f.passed)))
     (find_cases p ws)
 
 none_left : (q : ℕ) (ws : List Record) → ws ≡ filter (λ r. not (ends_in (name_of r.command) (Answer q None))) ws
@@ -208,8 +208,8 @@ abort_left q other t ws n y e w own =
     let B = some.2 in
     let f = some.3 in
     with_other n other ∙ (ap (λ k. if not (nat_eq k n) then Some n else None)
-        (sym (eqb-true r.command.reference other f.passes))
-        ∙ ap left (sym (ap (find p) f.is ∙ find_first p A r B f.before f.passes))))
+        (sym (eqb-true r.command.reference other f.passed))
+        ∙ ap left (sym (ap (find p) f.is ∙ find_first p A r B f.before f.passed))))
     (find_cases p ws)
 
 pub begun_left : (q : ℕ) (t : Trace) (ws : List Record) (n : Name) (y : ℕ) (o : Order)

@@ -73,7 +73,7 @@ keeps_promise c picks picker calls h v r =
       settings = k.settings;
       waiting = ap names f.waits ∙ map_map (held_of t) (λ r. name_of r.command) (waiting t);
       untaken = f.ends;
-      figure = λ reference. ap (λ ws. figure_of_reference c.passing c.longest ws reference) f.waits
+      figure = λ reference. ap (λ ws. figure_of_reference c.budget ws reference) f.waits
           ∙ figure_of_held c t reference;
       drives = k.agrees.driven.drives;
       balance = ap (λ (s : Settings). s.credits - (length h.waiting + length h.untaken)) k.settings

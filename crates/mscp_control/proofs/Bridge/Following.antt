@@ -33,12 +33,12 @@ use Rattle.mscp_control.proofs.Bridge.Stepped.{Turns, turns_at}
 -- ---- a look
 
 looks : {K : Type 0} (h : Holdings K) (t : Trace) (list : ArrayVec (ℕ × ℕ)) → 1 ≤ h.settings.longest
-    → Agrees h.settings t h → list.items ≡ figures h.settings.passing h.settings.longest h.waiting
+    → Agrees h.settings t h → list.items ≡ figures h.settings.budget h.waiting
     → Sends h.settings t (events.Look, entries.Looked list) h
 looks h t list l a e =
     let c = h.settings in
     let m : Moment = (events.Look, entries.Looked list) in
-    let r = e ∙ (ap (figures c.passing c.longest) a.follows.waits ∙ figures_held c t) in
+    let r = e ∙ (ap (figures c.budget) a.follows.waits ∙ figures_held c t) in
     quiet h h t m l (record { unserved = refl; kept = λ r. refl }) refl refl refl (ends_stay h t m refl a refl) a r
 
 -- ---- a take

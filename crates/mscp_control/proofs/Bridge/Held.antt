@@ -8,7 +8,7 @@ use Rattle.mscp_queue.specs.Records.{Record, has_reference, is_in_service, left_
 use Rattle.mscp_control.specs.Settings.{Settings}
 use Rattle.mscp_control.specs.History.{Trace}
 use Rattle.mscp_control.specs.Commands.{command, reference, weight, waiting, done, good, left, in_service}
-use Rattle.mscp_control.specs.Passing.{passes}
+use Rattle.mscp_control.specs.Passing.{passed}
 use Rattle.mscp_control.specs.Figures.{figure, figure_found, figure_of}
 use Rattle.mscp_control.specs.Account.{untaken}
 use Rattle.mscp_queue.specs.Figures.{figure_at, figure_between, figure_of_reference, figures, figures_from, figure_at_place}
@@ -18,8 +18,8 @@ use Rattle.mscp_queue.proofs.Placed.{at_place, find_cases, find_none, find_first
 
 -- the record of a command
 abbrev pub held_of : Trace → ℕ → Record
-held_of t x = record { command = command t x; weight = weight t x; done = done t x; good = good t x; passes =
-    passes t x }
+held_of t x = record { command = command t x; weight = weight t x; done = done t x; good = good t x; passed =
+    passed t x }
 
 -- The records are those of the waiting commands, and the ends those that weren't taken.
 pub record Follows (c : Settings) (t : Trace) (ws : List Record) (us : List End) : Type 0 where
@@ -36,10 +36,10 @@ working_held t B = ap (sum_by left_of) (filter_map_of (held_of t) is_in_service 
 
 -- the figure of a record is that of its command
 figure_held : (c : Settings) (t : Trace) (A : List ℕ) (x : ℕ) (B : List ℕ) → waiting t ≡ A ++ x ∷ B
-    → figure_between c.passing c.longest (map (held_of t) A) (held_of t x) (map (held_of t) B) ≡ figure c t x
+    → figure_between c.budget (map (held_of t) A) (held_of t x) (map (held_of t) B) ≡ figure c t x
 figure_held c t A x B e =
     let sum : ℕ → ℕ → ℕ = λ a b. cond (in_service t x) (left t x)
-        (a + b + (c.passing - passes t x) * c.longest + left t x) in
+        (a + b + (c.budget - passed t x) * c.longest + left t x) in
     ap (λ a. sum a (sum_by left_of (filter is_in_service (map (held_of t) B)))) (sum_by_map (held_of t) left_of A)
     ∙ (ap (λ b. sum (sum_by (left t) A) b) (working_held t B)
     ∙ sym (falls.figure_at c t A x B e))
@@ -50,33 +50,33 @@ shown c t x = (reference t x, figure c t x)
 
 shown_at : (c : Settings) (t : Trace) (A : List ℕ) (x : ℕ) (B : List ℕ) (k : ℕ) → waiting t ≡ A ++ x ∷ B → length A ≡ k
     → ((record_at (map (held_of t) (waiting t)) k).command.reference ≡ reference t x)
-        × (figure_at c.passing c.longest (map (held_of t) (waiting t)) k ≡ figure c t x)
+        × (figure_at c.budget (map (held_of t) (waiting t)) k ≡ figure c t x)
 shown_at c t A x B k e l =
     let h = held_of t in
     let rs = map h (waiting t) in
     let cut : rs ≡ map h A ++ h x ∷ map h B = ap (map h) e ∙ map-append h A (x ∷ B) in
     let at = at_place rs (map h A) (h x) (map h B) k no_record cut (length-map A h ∙ l) in (
       ap (λ (r : Record). r.command.reference) at.item,
-      ap (λ r. figure_between c.passing c.longest (take k rs) r (drop (k + 1) rs)) at.item
-          ∙ (ap (λ a. figure_between c.passing c.longest a (h x) (drop (k + 1) rs)) at.before
-              ∙ (ap (figure_between c.passing c.longest (map h A) (h x)) at.behind ∙ figure_held c t A x B e)),
+      ap (λ r. figure_between c.budget (take k rs) r (drop (k + 1) rs)) at.item
+          ∙ (ap (λ a. figure_between c.budget a (h x) (drop (k + 1) rs)) at.before
+              ∙ (ap (figure_between c.budget (map h A) (h x)) at.behind ∙ figure_held c t A x B e)),
     )
 
 figures_part : (c : Settings) (t : Trace) (A B : List ℕ) (k : ℕ) → waiting t ≡ A ++ B → length A ≡ k
-    → figures_from c.passing c.longest (map (held_of t) (waiting t)) (range_with_len k (length B)) ≡ map (shown c t) B
+    → figures_from c.budget (map (held_of t) (waiting t)) (range_with_len k (length B)) ≡ map (shown c t) B
 figures_part c t A [] k e l = refl
 figures_part c t A (x ∷ B) k e l =
     let s = shown_at c t A x B k e l in
     let rest = figures_part c t (A ++ x ∷ []) B (k + 1) (e ∙ sym (append_assoc A (x ∷ []) B))
         (omega (arith, length-append A (x ∷ []), l)) in
-    (λ i. (s.0 i, s.1 i) ∷ figures_from c.passing c.longest (map (held_of t) (waiting t))
+    (λ i. (s.0 i, s.1 i) ∷ figures_from c.budget (map (held_of t) (waiting t))
         (range_with_len (k + 1) (length B))) ∙ ap (λ ys. shown c t x ∷ ys) rest
 
 -- The records' figures are those of the waiting commands.
 pub figures_held : (c : Settings) (t : Trace)
-    → figures c.passing c.longest (map (held_of t) (waiting t)) ≡ map (λ x. (reference t x, figure c t x)) (waiting t)
+    → figures c.budget (map (held_of t) (waiting t)) ≡ map (λ x. (reference t x, figure c t x)) (waiting t)
 figures_held c t =
-    ap (λ n. figures_from c.passing c.longest (map (held_of t) (waiting t)) (range_with_len 0 n))
+    ap (λ n. figures_from c.budget (map (held_of t) (waiting t)) (range_with_len 0 n))
         (length-map (waiting t) (held_of t)) ∙ figures_part c t [] (waiting t) 0 refl refl
 
 has_held : (t : Trace) (r : ℕ) (xs : List ℕ) → AllByRecursion (λ x. nat_eq (reference t x) r ≡ false) xs
@@ -86,7 +86,7 @@ has_held t r (x ∷ xs) h = (h.0, has_held t r xs h.1)
 
 -- The figure of a reference number is the same in both.
 pub figure_of_held : (c : Settings) (t : Trace) (r : ℕ)
-    → figure_of_reference c.passing c.longest (map (held_of t) (waiting t)) r ≡ figure_of c t r
+    → figure_of_reference c.budget (map (held_of t) (waiting t)) r ≡ figure_of c t r
 unfolding figure_of
 figure_of_held c t r =
     let h = held_of t in
@@ -94,7 +94,7 @@ figure_of_held c t r =
     let q : ℕ → Bool = λ x. nat_eq (reference t x) r in
     ⊎_elim
     (λ none.
-    ap (figure_at_place c.passing c.longest rs) (position_none (has_reference r) rs (has_held t r (waiting t) none))
+    ap (figure_at_place c.budget rs) (position_none (has_reference r) rs (has_held t r (waiting t) none))
         ∙ sym (ap (figure_found c t) (find_none q (waiting t) none)))
     (λ some.
     let A = some.0 in
@@ -102,8 +102,8 @@ figure_of_held c t r =
     let B = some.2 in
     let f = some.3 in
     let cut : rs ≡ map h A ++ h x ∷ map h B = ap (map h) f.is ∙ map-append h A (x ∷ B) in
-    ap (figure_at_place c.passing c.longest rs) (ap (position (has_reference r)) cut
-        ∙ position_first (has_reference r) (map h A) (h x) (map h B) (has_held t r A f.before) f.passes)
+    ap (figure_at_place c.budget rs) (ap (position (has_reference r)) cut
+        ∙ position_first (has_reference r) (map h A) (h x) (map h B) (has_held t r A f.before) f.passed)
     ∙ ((shown_at c t A x B (length (map h A)) f.is (sym (length-map A h))).1
-    ∙ sym (ap (figure_found c t) (ap (find q) f.is ∙ find_first q A x B f.before f.passes))))
+    ∙ sym (ap (figure_found c t) (ap (find q) f.is ∙ find_first q A x B f.before f.passed))))
     (find_cases q (waiting t))

@@ -37,18 +37,18 @@ units_fresh : (us : List Shape) → units_of (map fresh_drive us) ≡ us
 units_fresh [] = refl
 units_fresh (u ∷ us) = ap (λ vs. u ∷ vs) (units_fresh us)
 
-pub held_fresh : {K : Type 0} (c : Settings) (units : List Shape) (room' passing longest : ℕ) (picker : K)
-    (line : Line K) (us : List End) → IsValid c → units ≡ c.units → room' ≡ room c → passing ≡ c.passing
-    → longest ≡ c.longest → line ≡ lines.fresh units room' passing longest picker → us ≡ [] → IsHeld c line us
-held_fresh {K} c units room' passing longest picker line us v u r p l e n =
+pub held_fresh : {K : Type 0} (c : Settings) (units : List Shape) (room' budget longest : ℕ) (picker : K)
+    (line : Line K) (us : List End) → IsValid c → units ≡ c.units → room' ≡ room c → budget ≡ c.budget
+    → longest ≡ c.longest → line ≡ lines.fresh units room' budget longest picker → us ≡ [] → IsHeld c line us
+held_fresh {K} c units room' budget longest picker line us v u r p l e n =
     let some = v.some_credits in
-    let all : IsHeld c (lines.fresh units room' passing longest picker) us = record {
+    let all : IsHeld c (lines.fresh units room' budget longest picker) us = record {
       valid = v;
       covered = omega (arith, ap length n);
       shaped = subst (AllByRecursion IsOfKind) (sym n) tt;
       fits = omega arith;
       same_room = r;
-      same_passing = p;
+      same_budget = p;
       same_longest = l;
       units = units_fresh units ∙ u;
     } in
@@ -89,13 +89,13 @@ count_stepped {K} picks k old (reports.Served reference unit lbn started seek en
 -- and the limits and the picker stay
 pub stays : {K : Type 0} (picks : List Choice → ℕ → Type 0) (k : Block) (old : Line K) (report : Report) (new : Line K)
     → Serves picks k old report new
-    → (new.room ≡ old.room) × (new.passing ≡ old.passing) × (new.longest ≡ old.longest) × (new.picker ≡ old.picker)
+    → (new.room ≡ old.room) × (new.budget ≡ old.budget) × (new.longest ≡ old.longest) × (new.picker ≡ old.picker)
 stays {K} picks k old reports.Idle new h =
-    (ap (λ (l : Line K). l.room) h.2, ap (λ (l : Line K). l.passing) h.2, ap (λ (l : Line K). l.longest) h.2, ap
+    (ap (λ (l : Line K). l.room) h.2, ap (λ (l : Line K). l.budget) h.2, ap (λ (l : Line K). l.longest) h.2, ap
         (λ (l : Line K). l.picker) h.2)
 stays {K} picks k old (reports.Served reference unit lbn started seek ended) new h =
     let e = h.1.left in
-    (ap (λ (l : Line K). l.room) e, ap (λ (l : Line K). l.passing) e, ap (λ (l : Line K). l.longest) e, ap
+    (ap (λ (l : Line K). l.room) e, ap (λ (l : Line K). l.budget) e, ap (λ (l : Line K). l.longest) e, ap
         (λ (l : Line K). l.picker) e)
 
 -- the ends that a step brings are of their kind
@@ -120,7 +120,7 @@ held_stepped {K} c picks k old report new us us' h s u kind e =
           (every_append IsOfKind us (ends_reported report) h.shaped (reported_kinds report kind));
       fits = omega (arith, count);
       same_room = same.0 ∙ h.same_room;
-      same_passing = same.1 ∙ h.same_passing;
+      same_budget = same.1 ∙ h.same_budget;
       same_longest = same.2 ∙ h.same_longest;
       units = u ∙ h.units;
     }

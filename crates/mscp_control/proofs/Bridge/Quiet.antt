@@ -11,13 +11,13 @@ use Rattle.mscp_control.specs.Settings.{Settings}
 use Rattle.mscp_queue.specs.Orders.{order_weight}
 use Rattle.mscp_control.specs.History.{Trace, Moment, queues, sent_bytes, is_good, takes, service_in}
 use Rattle.mscp_control.specs.Commands.{reference, waiting, done, good, service_is, service_starts, ends_in}
-use Rattle.mscp_control.specs.Passing.{passes}
+use Rattle.mscp_control.specs.Passing.{passed}
 use Rattle.mscp_control.specs.Ends.{ends_at}
 use Rattle.mscp_control.specs.Account.{ends, untaken}
 use Rattle.mscp_control.specs.Legal.{IsRight}
 use Rattle.mscp_queue.proofs.Lists.{every_kept, every_weaker, every_from, filter_all}
 use Rattle.mscp_control.proofs.Promise.Grows.{command_before, command_last, done_last, good_before, good_last, waiting_more, taken_more, ends_more}
-use Rattle.mscp_control.proofs.Promise.Waits.{waiting_below, passes_last}
+use Rattle.mscp_control.proofs.Promise.Waits.{waiting_below, passed_last}
 use Rattle.mscp_control.proofs.Promise.Steady.{done_kept}
 use Rattle.mscp_control.proofs.Promise.Passed.{none_starts}
 use Rattle.mscp_control.proofs.Promise.Known.{known_more}
@@ -33,18 +33,18 @@ pub record IsQuiet (m : Moment) : Type 0 where
 
 -- a record of which nothing changes
 pub held_same : (t : Trace) (m : Moment) (x : ℕ) → x < length t → done (t ++ m ∷ []) x ≡ done t x
-    → good (t ++ m ∷ []) x ≡ good t x → passes (t ++ m ∷ []) x ≡ passes t x
+    → good (t ++ m ∷ []) x ≡ good t x → passed (t ++ m ∷ []) x ≡ passed t x
     → held_of (t ++ m ∷ []) x ≡ held_of t x
 held_same t m x l d g p = λ i.
     let k = command_before t m x l in
-    record { command = k i; weight = order_weight (k i).order; done = d i; good = g i; passes = p i }
+    record { command = k i; weight = order_weight (k i).order; done = d i; good = g i; passed = p i }
 
 good_kept : (t : Trace) (m : Moment) (x : ℕ) → service_in m.1 ≡ None → x < length t → good (t ++ m ∷ []) x ≡ good t x
 good_kept t m x e l = good_before t m x l ∙ (ap (λ o. good t x + cond (service_is (reference t x) o && is_good m.0) 1 0)
     e ∙ omega arith)
 
-passes_kept : (t : Trace) (m : Moment) (x : ℕ) → service_in m.1 ≡ None → passes (t ++ m ∷ []) x ≡ passes t x
-passes_kept t m x e = none_starts t m x (λ r. ap (service_starts r) e)
+passed_kept : (t : Trace) (m : Moment) (x : ℕ) → service_in m.1 ≡ None → passed (t ++ m ∷ []) x ≡ passed t x
+passed_kept t m x e = none_starts t m x (λ r. ap (service_starts r) e)
 
 -- the record of each that waits stays
 abbrev pub Keeps : Trace → Trace → ℕ → Type 0
@@ -53,7 +53,7 @@ Keeps t t' x = held_of t' x ≡ held_of t x
 keeps : (t : Trace) (m : Moment) → service_in m.1 ≡ None → AllByRecursion (Keeps t (t ++ m ∷ [])) (waiting t)
 keeps t m e =
     every_weaker (λ x. x < length t) (Keeps t (t ++ m ∷ []))
-    (λ x l. held_same t m x l (done_kept t m x e l) (good_kept t m x e l) (passes_kept t m x e))
+    (λ x l. held_same t m x l (done_kept t m x e l) (good_kept t m x e l) (passed_kept t m x e))
     (waiting t) (waiting_below t)
 
 waiting_kept : (t : Trace) (m : Moment) → IsQuiet m
@@ -96,8 +96,8 @@ record_new t m = λ i.
     let k = command_last t m in
     let d = done_last t m in
     let g = good_last t m in
-    let p = passes_last t m in
-    record { command = k i; weight = order_weight (k i).order; done = d i; good = g i; passes = p i }
+    let p = passed_last t m in
+    record { command = k i; weight = order_weight (k i).order; done = d i; good = g i; passed = p i }
 
 -- What is held after a command was queued: its record comes last.
 pub follows_queued : (c : Settings) (t : Trace) (m : Moment) (ws : List Record) (us us' : List End) → 1 ≤ c.longest

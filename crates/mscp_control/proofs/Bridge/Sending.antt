@@ -74,7 +74,7 @@ refusal_held h t b f = λ i. refusal (balance_held h.settings t h.waiting h.unta
 
 asked_held : (c : Settings) (t : Trace) (ws : List Record) (us : List End) (o : Order) → Follows c t ws us
     → figure_polled c ws o ≡ history.figure_asked c t o
-asked_held c t ws us (orders.Status other) f = ap (λ xs. figure_of_reference c.passing c.longest xs other) f.waits
+asked_held c t ws us (orders.Status other) f = ap (λ xs. figure_of_reference c.budget xs other) f.waits
     ∙ figure_of_held c t other
 asked_held c t ws us (orders.Abort other) f = refl
 asked_held c t ws us orders.UnitStatus f = refl

@@ -17,7 +17,7 @@ use Rattle.mscp_control.specs.Settings.{Settings, unit_found}
 use Rattle.mscp_control.specs.History.{Trace}
 use Rattle.mscp_control.specs.Commands.{reference, unit, is_idle, is_waiting, waiting, done, in_service}
 use Rattle.mscp_control.specs.Passing.{is_startable, startable}
-use Rattle.mscp_control.specs.Passing as passing
+use Rattle.mscp_control.specs.Passing as passings
 use Rattle.mscp_control.specs.Legal.{view}
 use Rattle.mscp_queue.proofs.Lists.{every_mapped, every_weaker, every_parts}
 use Rattle.mscp_control.proofs.Promise.Waits.{waiting_waits}
@@ -54,7 +54,7 @@ pub record Chosen (c : Settings) (picks : List Choice → ℕ → Type 0) (t : T
       → (i : ℕ) × (i < length (startable c t)) × (get_or (startable c t) i 0 ≡ waiting_at t place) × picks (view c t) i
 
 pub next_held : (c : Settings) (picks : List Choice → ℕ → Type 0) (t : Trace) (ds : List Drive) (begun : Option Name)
-    (place : ℕ) → Driven c t ds → IsNext picks c.passing ds (map (held_of t) (waiting t)) begun place
+    (place : ℕ) → Driven c t ds → IsNext picks c.budget ds (map (held_of t) (waiting t)) begun place
     → Next c t place × Chosen c picks t begun place
 next_held c picks t ds begun place d n =
     let rs = map (held_of t) (waiting t) in
@@ -63,7 +63,7 @@ next_held c picks t ds begun place d n =
         omega (arith, length-map (waiting t) (held_of t)) in
     let same : recorded.is_unstarted (record_at rs place) ≡ nat_eq (done t y) 0 =
         ap recorded.is_unstarted (record_held t place inside) in
-    let places = open_places c.passing rs in
+    let places = open_places c.budget rs in
     let both : (b : Bool) → nat_eq (done t y) 0 ≡ b → (in_service t y || is_startable c t y) ≡ true =
     λ b. elim b as (λ b. nat_eq (done t y) 0 ≡ b → (in_service t y || is_startable c t y) ≡ true) [
       | true ↦ λ e.

@@ -27,8 +27,8 @@ use Rattle.mscp_control.specs.declared.event.Entry.TheVariants as entries
 use Rattle.mscp_control.specs.Settings.{Settings, IsValid}
 use Rattle.mscp_control.specs.History.{Trace, Moment, is_good, service_in, WhenStarted}
 use Rattle.mscp_control.specs.Commands.{reference, service_name, unit, order, is_waiting, waiting, done, good, left, serves_in}
-use Rattle.mscp_control.specs.Passing.{passes}
-use Rattle.mscp_control.specs.Passing as passing
+use Rattle.mscp_control.specs.Passing.{passed}
+use Rattle.mscp_control.specs.Passing as passings
 use Rattle.mscp_control.specs.Units.{is_online}
 use Rattle.mscp_control.specs.Ends.{outcome}
 use Rattle.mscp_control.specs.Account.{untaken}
@@ -130,31 +130,31 @@ behind_kept c t k y A B st =
 
 -- a record that was passed
 held_passed : (t : Trace) (m : Moment) (x n : ℕ) → x < length t → done (t ++ m ∷ []) x ≡ done t x
-    → good (t ++ m ∷ []) x ≡ good t x → passes (t ++ m ∷ []) x ≡ passes t x + n
+    → good (t ++ m ∷ []) x ≡ good t x → passed (t ++ m ∷ []) x ≡ passed t x + n
     → held_of (t ++ m ∷ []) x ≡ passed_by n (held_of t x)
 held_passed t m x n l d g p = λ i.
     let k = command_before t m x l in
-    record { command = k i; weight = order_weight (k i).order; done = d i; good = g i; passes = p i }
+    record { command = k i; weight = order_weight (k i).order; done = d i; good = g i; passed = p i }
 
 cost_held : (t : Trace) (y : ℕ) (b : Bool) → nat_eq (done t y) 0 ≡ b → step_toll (held_of t y) ≡ cond b 1 0
 cost_held t y b e = ap (λ b. cond b 1 0) e
 
 -- how often a command in front was passed then
-passes_front : (c : Settings) (t : Trace) (k : Block) (y : ℕ) (A B : List ℕ)
+passed_front : (c : Settings) (t : Trace) (k : Block) (y : ℕ) (A B : List ℕ)
     → Step c t (serving c t k y) (service_by c t k y) k y A B
-    → (nat_eq (done t y) 0 ≡ true → AllByRecursion (λ x. passing.is_unstarted t x ≡ true) A)
-    → AllByRecursion (λ x. passes (t ++ serving c t k y ∷ []) x ≡ passes t x + step_toll (held_of t y)) A
-passes_front c t k y A B st idle =
+    → (nat_eq (done t y) 0 ≡ true → AllByRecursion (λ x. passings.is_unstarted t x ≡ true) A)
+    → AllByRecursion (λ x. passed (t ++ serving c t k y ∷ []) x ≡ passed t x + step_toll (held_of t y)) A
+passed_front c t k y A B st idle =
     let m = serving c t k y in
     let s = service_by c t k y in
     let at = st.serves.among.at in
-    let Q : ℕ → ℕ → Type 0 = λ n x. passes (t ++ m ∷ []) x ≡ passes t x + n in
+    let Q : ℕ → ℕ → Type 0 = λ n x. passed (t ++ m ∷ []) x ≡ passed t x + n in
     let both : (b : Bool) → nat_eq (done t y) 0 ≡ b → AllByRecursion (Q (step_toll (held_of t y))) A =
     λ b. elim b as (λ b. nat_eq (done t y) 0 ≡ b → AllByRecursion (Q (step_toll (held_of t y))) A) [
       | true ↦ λ e. subst (λ n. AllByRecursion (Q n) A) (sym (cost_held t y true e))
-          (every_weaker (λ x. (x < y) × (passing.is_unstarted t x ≡ true)) (Q 1)
+          (every_weaker (λ x. (x < y) × (passings.is_unstarted t x ≡ true)) (Q 1)
               (λ x h. passed_front c t m s k y A B st e x h.0 h.1) A
-              (every_both (λ x. x < y) (λ x. passing.is_unstarted t x ≡ true) A at.before (idle e)))
+              (every_both (λ x. x < y) (λ x. passings.is_unstarted t x ≡ true) A at.before (idle e)))
       | false ↦ λ e. subst (λ n. AllByRecursion (Q n) A) (sym (cost_held t y false e))
           (every_from (Q 0) (λ x. none_starts t m x
               (λ r. ap (λ b. nat_eq (reference t y) r && b) e ∙ and-false (nat_eq (reference t y) r)) ∙ omega arith) A)
@@ -164,7 +164,7 @@ passes_front c t k y A B st idle =
 -- the commands in front of it were passed
 front_passed : (c : Settings) (t : Trace) (k : Block) (y : ℕ) (A B : List ℕ)
     → Step c t (serving c t k y) (service_by c t k y) k y A B
-    → (nat_eq (done t y) 0 ≡ true → AllByRecursion (λ x. passing.is_unstarted t x ≡ true) A)
+    → (nat_eq (done t y) 0 ≡ true → AllByRecursion (λ x. passings.is_unstarted t x ≡ true) A)
     → map (passed_by (step_toll (held_of t y))) (map (held_of t) A) ≡ map (held_of (t ++ serving c t k y ∷ [])) A
 front_passed c t k y A B st idle =
     let m = serving c t k y in
@@ -172,13 +172,13 @@ front_passed c t k y A B st idle =
     let n = step_toll (held_of t y) in
     let at = st.serves.among.at in
     let D : ℕ → Type 0 = λ x. (x < length t) × (done t' x ≡ done t x) in
-    let P : ℕ → Type 0 = λ x. passes t' x ≡ passes t x + n in
+    let P : ℕ → Type 0 = λ x. passed t' x ≡ passed t x + n in
     map_map (held_of t) (passed_by n) A
     ∙ map_on (λ x. passed_by n (held_of t x)) (held_of t') A
     (every_weaker (λ x. D x × P x) (λ x. passed_by n (held_of t x) ≡ held_of t' x)
     (λ x h. sym (held_passed t m x n h.0.0 h.0.1 (good_same t m x h.0.0 h.0.1) h.1)) A
     (every_both D P A (every_both (λ x. x < length t) (λ x. done t' x ≡ done t x) A (below_parts t y A B at).0
-        st.changes.front_done) (passes_front c t k y A B st idle)))
+        st.changes.front_done) (passed_front c t k y A B st idle)))
 
 -- ---- the command itself, where it goes on
 
@@ -218,7 +218,7 @@ held_own c t k y A B st e =
     let d = st.changes.own_done in
     let g = good_own c t k y l e in
     let p = passed_behind c t m (service_by c t k y) k y A B st y (omega arith) in
-    λ i. record { command = q i; weight = order_weight (q i).order; done = d i; good = g i; passes = p i }
+    λ i. record { command = q i; weight = order_weight (q i).order; done = d i; good = g i; passed = p i }
 
 own_remains : (c : Settings) (t : Trace) (k : Block) (y : ℕ) (A B : List ℕ)
     → Step c t (serving c t k y) (service_by c t k y) k y A B → (o : Option End) → end_of c t k y ≡ o
@@ -232,7 +232,7 @@ own_remains c t k y A B st (Some end) e = refl
 waiting_served : (c : Settings) (t : Trace) (k : Block) (place : ℕ) (d : Drive) → Apart t (waiting t) → Next c t place
     → d ≡ drive_by c t (unit t (waiting_at t place))
     → (nat_eq (done t (waiting_at t place)) 0 ≡ true
-        → AllByRecursion (λ x. passing.is_unstarted t x ≡ true) (take place (waiting t)))
+        → AllByRecursion (λ x. passings.is_unstarted t x ≡ true) (take place (waiting t)))
     → waiting_after k d (map (held_of t) (waiting t)) place
         ≡ map (held_of (t ++ serving c t k (waiting_at t place) ∷ []))
         (waiting (t ++ serving c t k (waiting_at t place) ∷ []))
@@ -273,7 +273,7 @@ pub record Turns {K : Type 0} (c : Settings) (picks : List Choice → ℕ → Ty
   pub picked : begun ≡ None → WhenStarted (λ s. IsPick c picks t (service_name s)) (service_in m.1)
 
 unstarted_by : (t : Trace) (x : ℕ) → x < length t → is_waiting t x ≡ true → done t x ≡ 0
-    → passing.is_unstarted t x ≡ true
+    → passings.is_unstarted t x ≡ true
 unstarted_by t x l w d =
     ap (λ b. b && is_waiting t x && nat_eq (done t x) 0) (lt-ltb x (length t) l)
     ∙ (ap (λ b. b && nat_eq (done t x) 0) w ∙ eq-eqb (done t x) 0 d)
@@ -281,9 +281,9 @@ unstarted_by t x l w d =
 -- where one starts, each that waits was never served
 unstarted_front : (c : Settings) (picks : List Choice → ℕ → Type 0) (t : Trace) (place : ℕ) (ds : List Drive)
     (rs : List Record) (begun : Option Name) → rs ≡ map (held_of t) (waiting t)
-    → IsNext picks c.passing ds rs begun place → Next c t place
+    → IsNext picks c.budget ds rs begun place → Next c t place
     → nat_eq (done t (waiting_at t place)) 0 ≡ true
-        → AllByRecursion (λ x. passing.is_unstarted t x ≡ true) (take place (waiting t))
+        → AllByRecursion (λ x. passings.is_unstarted t x ≡ true) (take place (waiting t))
 unstarted_front c picks t place ds rs begun e n held u =
     let W = waiting t in
     let here : recorded.is_unstarted (record_at rs place) ≡ true =
@@ -295,11 +295,11 @@ unstarted_front c picks t place ds rs begun e n held u =
     let W' : AllByRecursion (λ x. (x < length t) × (is_waiting t x ≡ true)) W =
         every_both (λ x. x < length t) (λ x. is_waiting t x ≡ true) W (waiting_below t) (waiting_waits t) in
     let all = every_weaker (λ x. ((x < length t) × (is_waiting t x ≡ true)) × (done t x ≡ 0))
-        (λ x. passing.is_unstarted t x ≡ true)
+        (λ x. passings.is_unstarted t x ≡ true)
     (λ x q. unstarted_by t x q.0.0 q.0.1 q.1) W (every_both (λ x. (x < length t) × (is_waiting t x ≡ true))
         (λ x. done t x ≡ 0) W W' done_all) in
-    (every_parts (λ x. passing.is_unstarted t x ≡ true) (take place W) (waiting_at t place ∷ drop (place + 1) W)
-        (subst (AllByRecursion (λ x. passing.is_unstarted t x ≡ true)) (cut_at t place held.inside) all)).0
+    (every_parts (λ x. passings.is_unstarted t x ≡ true) (take place W) (waiting_at t place ∷ drop (place + 1) W)
+        (subst (AllByRecursion (λ x. passings.is_unstarted t x ≡ true)) (cut_at t place held.inside) all)).0
 
 -- A step of the record at a place.
 pub turns_at : {K : Type 0} (picks : List Choice → ℕ → Type 0) (h h' : Holdings K) (t : Trace) (k : Block)
@@ -311,8 +311,8 @@ turns_at {K} picks h h' t k report place v a s u =
     let W = waiting t in
     let rs = map (held_of t) W in
     let f = a.follows in
-    let next : IsNext picks c.passing h.drives rs h.begun place =
-        subst (λ ws. IsNext picks c.passing h.drives ws h.begun place) f.waits s.next in
+    let next : IsNext picks c.budget h.drives rs h.begun place =
+        subst (λ ws. IsNext picks c.budget h.drives ws h.begun place) f.waits s.next in
     let both = next_held c picks t h.drives h.begun place a.driven next in
     let n = both.0 in
     let y = waiting_at t place in

@@ -73,14 +73,14 @@ swept_at c t place h l =
     (ap not (not_before c t y y (omega arith) (omega arith)), every_weaker (λ x. (f y ≤ f x) × (y < x))
         (λ x. stays y x ≡ true) (λ x q. ap not (not_before c t x y q.0 (omega (arith, q.1)))) B
         (every_both (λ x. f y ≤ f x) (λ x. y < x) B back later)) in
-    let passes : list_all (stays y) S ≡ true = ap (list_all (stays y)) cut ∙ all_of (stays y) (A ++ y ∷ B) none in
+    let passed : list_all (stays y) S ≡ true = ap (list_all (stays y)) cut ∙ all_of (stays y) (A ++ y ∷ B) none in
     let fails : (z : ℕ) → f y < f z → list_all (stays z) S ≡ false =
     λ z q.
     ap (list_all (stays z)) cut
     ∙ (list_all-append (stays z) A (y ∷ B) ∙ (ap (λ b. list_all (stays z) A && (not b && list_all (stays z) B))
         (is_before c t y z q) ∙ and-false (list_all (stays z) A))) in
     let p : ℕ → Bool = λ z. list_all (stays z) S in
-    ap (find p) cut ∙ find_first p A y B (every_weaker (λ x. f y < f x) (λ x. p x ≡ false) fails A front) passes
+    ap (find p) cut ∙ find_first p A y B (every_weaker (λ x. f y < f x) (λ x. p x ≡ false) fails A front) passed
 
 -- a start that a sweeping picker may pick is the sweep's
 pub swept_pick : (c : Settings) (picks : List Choice → ℕ → Type 0) (t : Trace) (n : Name) → Sweeps picks

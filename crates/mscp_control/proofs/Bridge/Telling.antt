@@ -97,8 +97,8 @@ begin_at {K} picks calls up h h' place a legal b s u =
     let c = h.settings in
     let t = history calls in
     let y = waiting_at t place in
-    let next : IsNext picks c.passing h.drives (map (held_of t) (waiting t)) h.begun place =
-        subst (λ ws. IsNext picks c.passing h.drives ws h.begun place) a.follows.waits s.next in
+    let next : IsNext picks c.budget h.drives (map (held_of t) (waiting t)) h.begun place =
+        subst (λ ws. IsNext picks c.budget h.drives ws h.begun place) a.follows.waits s.next in
     let both = next_held c picks t h.drives h.begun place a.driven next in
     let inside = both.0.inside in
     let read = reads c t h.drives h.waiting place a.driven a.follows.waits inside in

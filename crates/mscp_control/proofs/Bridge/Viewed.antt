@@ -13,7 +13,7 @@ use Rattle.mscp_queue.specs.Views as records
 use Rattle.mscp_control.specs.Settings.{Settings}
 use Rattle.mscp_control.specs.History.{Trace}
 use Rattle.mscp_control.specs.Commands.{command, unit, waiting, earlier, is_idle}
-use Rattle.mscp_control.specs.Passing.{fences, is_affordable, is_free, is_startable, passes, startable}
+use Rattle.mscp_control.specs.Passing.{fences, is_affordable, is_free, is_startable, passed, startable}
 use Rattle.mscp_control.specs.Units.{cost}
 use Rattle.mscp_control.specs.Legal.{choice, view}
 use Rattle.mscp_queue.proofs.Lists.{every_kept, every_weaker, range_below}
@@ -77,17 +77,17 @@ free_held t place l =
         ∙ ap (list_all keeps) (sym (take-map (held_of t) place (waiting t))))
 
 affordable_held : (c : Settings) (t : Trace) (place : ℕ) → place < length (waiting t)
-    → is_affordable c t (waiting_at t place) ≡ records.is_affordable c.passing (held_of t (waiting_at t place))
+    → is_affordable c t (waiting_at t place) ≡ records.is_affordable c.budget (held_of t (waiting_at t place))
         (take place (map (held_of t) (waiting t)))
 affordable_held c t place l =
-    let may : Record → Bool = λ z. nat_le (z.passes + 1) c.passing in
-    ap (list_all (λ x. nat_le (passes t x + 1) c.passing)) (front_held t place l)
+    let may : Record → Bool = λ z. nat_le (z.passed + 1) c.budget in
+    ap (list_all (λ x. nat_le (passed t x + 1) c.budget)) (front_held t place l)
     ∙ (sym (list_all-map may (held_of t) (take place (waiting t)))
         ∙ ap (list_all may) (sym (take-map (held_of t) place (waiting t))))
 
 -- where nothing is in service, what may start is what the records say
 pub startable_held : (c : Settings) (t : Trace) (place : ℕ) → place < length (waiting t) → is_idle t ≡ true
-    → is_startable c t (waiting_at t place) ≡ is_open_at c.passing (map (held_of t) (waiting t)) place
+    → is_startable c t (waiting_at t place) ≡ is_open_at c.budget (map (held_of t) (waiting t)) place
 unfolding is_startable
 startable_held c t place l idle =
     let y = waiting_at t place in
@@ -95,16 +95,16 @@ startable_held c t place l idle =
     ap (λ b. b && is_free t y && is_affordable c t y) idle
     ∙ (ap (λ b. b && is_affordable c t y) (free_held t place l)
     ∙ (ap (λ b. records.is_free (held_of t y) (take place rs) && b) (affordable_held c t place l)
-    ∙ ap (λ r. records.is_open c.passing r (take place rs)) (sym (record_held t place l))))
+    ∙ ap (λ r. records.is_open c.budget r (take place rs)) (sym (record_held t place l))))
 
 -- the commands that may start are those at the places that may
 pub startable_places : (c : Settings) (t : Trace) → is_idle t ≡ true
-    → startable c t ≡ map (waiting_at t) (open_places c.passing (map (held_of t) (waiting t)))
+    → startable c t ≡ map (waiting_at t) (open_places c.budget (map (held_of t) (waiting t)))
 unfolding startable
 startable_places c t idle =
     let W = waiting t in
     let rs = map (held_of t) W in
-    let q = is_open_at c.passing rs in
+    let q = is_open_at c.budget rs in
     filter_places (is_startable c t) q (waiting_at t) 0 W
         (λ i l. let z : 0 + i ≡ i = omega arith in (ap (waiting_at t) z, startable_held c t i l idle ∙ ap q (sym z)))
     ∙ ap (λ n. map (waiting_at t) (filter q (range_with_len 0 n))) (sym (length-map W (held_of t)))
@@ -125,17 +125,17 @@ choice_at c t ds place d l =
 
 -- and so the view is the same
 pub view_held : (c : Settings) (t : Trace) (ds : List Drive) → Driven c t ds → is_idle t ≡ true
-    → view c t ≡ view_of c.passing ds (map (held_of t) (waiting t))
+    → view c t ≡ view_of c.budget ds (map (held_of t) (waiting t))
 view_held c t ds d idle =
     let rs = map (held_of t) (waiting t) in
-    let places = open_places c.passing rs in
+    let places = open_places c.budget rs in
     let same : ℕ → Type 0 = λ place. choice c t (waiting_at t place)
         ≡ choice_of (drive_at ds rs place) (record_at rs place) in
     ap (map (choice c t)) (startable_places c t idle)
     ∙ (map_map (waiting_at t) (choice c t) places
     ∙ map_on (λ place. choice c t (waiting_at t place)) (λ place. choice_of (drive_at ds rs place) (record_at rs place))
         places
-    (every_kept same (is_open_at c.passing rs) (range_with_len 0 (length rs))
+    (every_kept same (is_open_at c.budget rs) (range_with_len 0 (length rs))
     (every_weaker (λ place. (0 ≤ place) × (place < 0 + length rs)) same
     (λ place b. sym (choice_at c t ds place d (omega (arith, b, length-map (waiting t) (held_of t)))))
         (range_with_len 0 (length rs)) (range_below 0 (length rs)))))

@@ -9,7 +9,7 @@ use Rattle.std.proofs.lemmas.Bool.{lt-ltb, le-ltb, and_right, eqb-true, eqb-fals
 use Rattle.mscp_control.specs.Settings.{Settings}
 use Rattle.mscp_control.specs.History.{Trace, Moment, Service, service_in}
 use Rattle.mscp_control.specs.Commands.{reference, weight, is_waiting, waiting, done, left, in_service, earlier, later, ends_in}
-use Rattle.mscp_control.specs.Passing.{toll, passes}
+use Rattle.mscp_control.specs.Passing.{toll, passed}
 use Rattle.mscp_control.specs.Figures.{figure}
 use Rattle.mscp_queue.proofs.Lists.{every_weaker, every_append, every_parts, filter_none, sum_on}
 use Rattle.mscp_control.proofs.Promise.Grows.{is_waiting_before}
@@ -24,7 +24,7 @@ working t xs = sum_by (left t) (filter (in_service t) xs)
 -- a figure by the commands before it and behind it
 abbrev pub figure_split : Settings → Trace → List ℕ → ℕ → List ℕ → ℕ
 figure_split c t A x B = cond (in_service t x) (left t x)
-    (sum_by (left t) A + working t B + (c.passing - passes t x) * c.longest + left t x)
+    (sum_by (left t) A + working t B + (c.budget - passed t x) * c.longest + left t x)
 
 pub figure_at : (c : Settings) (t : Trace) (A : List ℕ) (x : ℕ) (B : List ℕ) → waiting t ≡ A ++ x ∷ B
     → figure c t x ≡ figure_split c t A x B
@@ -34,7 +34,7 @@ figure_at c t A x B e =
     let w = (every_parts (λ z. is_waiting t z ≡ true) A (x ∷ B)
         (subst (λ l. AllByRecursion (λ z. is_waiting t z ≡ true) l) e (waiting_waits t))).1.0 in
     let F : List ℕ → List ℕ → ℕ = λ P Q. cond (in_service t x) (left t x)
-        (sum_by (left t) P + working t Q + (c.passing - passes t x) * c.longest + left t x) in
+        (sum_by (left t) P + working t Q + (c.budget - passed t x) * c.longest + left t x) in
     ap (λ b. cond b (F (earlier t x) (later t x)) 0) w
         ∙ (ap (λ l. F l (later t x)) (earlier_is t x A B k) ∙ ap (λ l. F A l) (later_is t x A B k))
 
@@ -48,22 +48,22 @@ working_idle t A h = ap (sum_by (left t)) (filter_none (in_service t) A
 
 -- of a command that is not in service
 pub figure_idle : (c : Settings) (t : Trace) (A : List ℕ) (x : ℕ) (B : List ℕ) → waiting t ≡ A ++ x ∷ B → done t x ≡ 0
-    → figure c t x ≡ sum_by (left t) A + working t B + (c.passing - passes t x) * c.longest + left t x
+    → figure c t x ≡ sum_by (left t) A + working t B + (c.budget - passed t x) * c.longest + left t x
 figure_idle c t A x B e d = figure_at c t A x B e ∙ ap
-    (λ b. cond b (left t x) (sum_by (left t) A + working t B + (c.passing - passes t x) * c.longest + left t x))
+    (λ b. cond b (left t x) (sum_by (left t) A + working t B + (c.budget - passed t x) * c.longest + left t x))
     (le-ltb 0 (done t x) (omega arith))
 
 -- of one in service
 figure_working : (c : Settings) (t : Trace) (A : List ℕ) (x : ℕ) (B : List ℕ) → waiting t ≡ A ++ x ∷ B → 0 < done t x
     → figure c t x ≡ left t x
 figure_working c t A x B e d = figure_at c t A x B e
-    ∙ ap (λ b. cond b (left t x) (sum_by (left t) A + working t B + (c.passing - passes t x) * c.longest + left t x))
+    ∙ ap (λ b. cond b (left t x) (sum_by (left t) A + working t B + (c.budget - passed t x) * c.longest + left t x))
     (lt-ltb 0 (done t x) d)
 
 pub figure_gone : (c : Settings) (t : Trace) (x : ℕ) → is_waiting t x ≡ false → figure c t x ≡ 0
 unfolding figure
 figure_gone c t x e = ap (λ b. cond b (cond (in_service t x) (left t x)
-    (sum_by (left t) (earlier t x) + working t (later t x) + (c.passing - passes t x) * c.longest + left t x)) 0) e
+    (sum_by (left t) (earlier t x) + working t (later t x) + (c.budget - passed t x) * c.longest + left t x)) 0) e
 
 -- a pass is worth the longest weight
 pass_pays : (a l q L P p : ℕ) → p + 1 ≤ P → q < L → a + q + (P - (p + 1)) * L + l < a + 0 + (P - p) * L + l
@@ -86,7 +86,7 @@ pub record Fit (c : Settings) (t : Trace) (m : Moment) (s : Service) (front : Li
   pub short : weight t y ≤ c.longest
   pub idle_front : AllByRecursion (λ x. done t x ≡ 0) front
   pub idle_back : AllByRecursion (λ x. done t x ≡ 0) back
-  pub affordable : s.started ≡ true → AllByRecursion (λ x. passes t x + toll t y ≤ c.passing) front
+  pub affordable : s.started ≡ true → AllByRecursion (λ x. passed t x + toll t y ≤ c.budget) front
 
 left_own : (t t' : Trace) (y : ℕ) → record_of t' y ≡ served (record_of t y) → left t' y ≡ left t y - 1
 left_own t t' y e = ap record_left e ∙ omega arith
@@ -201,11 +201,11 @@ falls_front c t m s front y back f A x B q =
         (idle_same t t' back ch.at_back f.idle_back) in
     let o = own_left t t' s y ch.at_own f.more f.unfinished in
     let small = f.short in
-    let affordable : s.started ≡ true → passes t x + toll t y ≤ c.passing =
-        λ h. (every_parts (λ z. passes t z + toll t y ≤ c.passing) A (x ∷ B)
-        (subst (λ l. AllByRecursion (λ z. passes t z + toll t y ≤ c.passing) l) q (f.affordable h))).1.0 in
-    let pays = front_pays s.started (sum_by (left t) A) (left t x) (left t y) (sum_by (left t') own) c.longest c.passing
-        (passes t x) (passes t' x) (ap (λ (r : Figured). r.passes) new.1.0) affordable o (omega arith) in
+    let affordable : s.started ≡ true → passed t x + toll t y ≤ c.budget =
+        λ h. (every_parts (λ z. passed t z + toll t y ≤ c.budget) A (x ∷ B)
+        (subst (λ l. AllByRecursion (λ z. passed t z + toll t y ≤ c.budget) l) q (f.affordable h))).1.0 in
+    let pays = front_pays s.started (sum_by (left t) A) (left t x) (left t y) (sum_by (left t') own) c.longest c.budget
+        (passed t x) (passed t' x) (ap (λ (r : Figured). r.passed) new.1.0) affordable o (omega arith) in
     omega (arith, old, now, sA, lx, w, w', pays)
 
 pub falls_back : (c : Settings) (t : Trace) (m : Moment) (s : Service) (front : List ℕ) (y : ℕ) (back : List ℕ)
@@ -233,8 +233,8 @@ falls_back c t m s front y back f A x B q =
     let s3 = sum_by-append (left t') front (own ++ A) in
     let s4 = sum_by-append (left t') own A in
     let lx : left t' x ≡ left t x = ap record_left new.1.0 in
-    let px : (c.passing - passes t' x) * c.longest ≡ (c.passing - passes t x) * c.longest =
-        ap (λ (r : Figured). (c.passing - r.passes) * c.longest) new.1.0 in
+    let px : (c.budget - passed t' x) * c.longest ≡ (c.budget - passed t x) * c.longest =
+        ap (λ (r : Figured). (c.budget - r.passed) * c.longest) new.1.0 in
     let w = working_idle t B idle.1.1 in
     let w' = working_idle t' B (idle_same t t' B new.1.1 idle.1.1) in
     let o = own_left t t' s y ch.at_own f.more f.unfinished in
@@ -245,7 +245,7 @@ pub figure_left : (c : Settings) (t : Trace) (A : List ℕ) (x : ℕ) (B : List 
     → left t x ≤ figure c t x
 figure_left c t A x B e =
     let h = figure_at c t A x B e in
-    let sum = sum_by (left t) A + working t B + (c.passing - passes t x) * c.longest + left t x in
+    let sum = sum_by (left t) A + working t B + (c.budget - passed t x) * c.longest + left t x in
     let both : (b : Bool) → left t x ≤ cond b (left t x) sum =
         λ b. elim b as (λ b. left t x ≤ cond b (left t x) sum) [ true ↦ omega arith | false ↦ omega arith ] in
     subst (λ n. left t x ≤ n) (sym h) (both (in_service t x))

@@ -7,7 +7,7 @@ use Rattle.mscp_queue.specs.declared.block.Block.{Block}
 use Rattle.mscp_control.specs.Settings.{Settings}
 use Rattle.mscp_control.specs.History.{Trace, Moment, Service}
 use Rattle.mscp_control.specs.Commands.{weight, is_waiting, done, service_starts}
-use Rattle.mscp_control.specs.Passing.{toll, passes}
+use Rattle.mscp_control.specs.Passing.{toll, passed}
 use Rattle.mscp_queue.proofs.Lists.{every_weaker, every_both, every_parts}
 use Rattle.mscp_control.proofs.Promise.Waits.{waiting_waits}
 use Rattle.mscp_control.proofs.Promise.Served.{Step, below_parts}
@@ -18,17 +18,17 @@ use Rattle.mscp_control.proofs.Promise.Passed.{none_starts, passed_front, passed
 pub record Figured : Type 0 where
   pub weight : ℕ
   pub done : ℕ
-  pub passes : ℕ
+  pub passed : ℕ
 
 abbrev pub record_of : Trace → ℕ → Figured
-record_of t x = record { weight = weight t x; done = done t x; passes = passes t x }
+record_of t x = record { weight = weight t x; done = done t x; passed = passed t x }
 
 -- passed, at this toll
 abbrev pub tolled : ℕ → Figured → Figured
-tolled n r = record { weight = r.weight; done = r.done; passes = r.passes + n }
+tolled n r = record { weight = r.weight; done = r.done; passed = r.passed + n }
 
 abbrev pub served : Figured → Figured
-served r = record { weight = r.weight; done = r.done + 1; passes = r.passes }
+served r = record { weight = r.weight; done = r.done + 1; passed = r.passed }
 
 abbrev pub record_left : Figured → ℕ
 record_left r = r.weight - r.done
@@ -38,7 +38,7 @@ abbrev pub step_toll : Trace → Service → ℕ → ℕ
 step_toll t s y = cond s.started (toll t y) 0
 
 abbrev pub made : ℕ → ℕ → ℕ → Figured
-made w d p = record { weight = w; done = d; passes = p }
+made w d p = record { weight = w; done = d; passed = p }
 
 pub made_is : (w d p w' d' p' : ℕ) → w ≡ w' → d ≡ d' → p ≡ p' → made w d p ≡ made w' d' p'
 made_is w d p w' d' p' e f g = ap (λ w. made w d p) e ∙ (ap (λ d. made w' d p) f ∙ ap (λ p. made w' d' p) g)
@@ -49,13 +49,13 @@ pub record Marks (t t' : Trace) (s : Service) (front : List ℕ) (y : ℕ) (back
   pub at_own : record_of t' y ≡ served (record_of t y)
   pub at_back : AllByRecursion (λ x. record_of t' x ≡ record_of t x) back
 
-front_passes : (c : Settings) (t : Trace) (m : Moment) (s : Service) (k : Block) (y : ℕ) (front back : List ℕ)
+front_passed : (c : Settings) (t : Trace) (m : Moment) (s : Service) (k : Block) (y : ℕ) (front back : List ℕ)
     → Step c t m s k y front back → (x : ℕ) → x < length t → is_waiting t x ≡ true → done t x ≡ 0 → x < y
-    → passes (t ++ m ∷ []) x ≡ passes t x + step_toll t s y
-front_passes c t m s k y front back st x l w d h =
+    → passed (t ++ m ∷ []) x ≡ passed t x + step_toll t s y
+front_passed c t m s k y front back st x l w d h =
     let t' = t ++ m ∷ [] in
-    let both : (b : Bool) → s.started ≡ b → passes t' x ≡ passes t x + cond b (toll t y) 0 =
-    λ b. elim b as (λ b. s.started ≡ b → passes t' x ≡ passes t x + cond b (toll t y) 0) [
+    let both : (b : Bool) → s.started ≡ b → passed t' x ≡ passed t x + cond b (toll t y) 0 =
+    λ b. elim b as (λ b. s.started ≡ b → passed t' x ≡ passed t x + cond b (toll t y) 0) [
       | true ↦ λ e.
           passed_front c t m s k y front back st e x h
           (ap (λ b. b && is_waiting t x && nat_eq (done t x) 0) (lt-ltb x (length t) l)
@@ -79,17 +79,17 @@ marks c t m s k y front back st idle =
     let D : ℕ → Type 0 = λ x. done t' x ≡ done t x in
     record {
       at_front = every_weaker (λ x. C x × D x) (λ x. record_of t' x ≡ tolled (step_toll t s y) (record_of t x))
-          (λ x h. made_is (weight t' x) (done t' x) (passes t' x) (weight t x) (done t x) (passes t x + step_toll t s y)
-              (weight_before t m x h.0.0.0.0) h.1 (front_passes c t m s k y front back st x h.0.0.0.0 h.0.0.0.1 h.0.0.1
+          (λ x h. made_is (weight t' x) (done t' x) (passed t' x) (weight t x) (done t x) (passed t x + step_toll t s y)
+              (weight_before t m x h.0.0.0.0) h.1 (front_passed c t m s k y front back st x h.0.0.0.0 h.0.0.0.1 h.0.0.1
               h.0.1)) front
           (every_both C D front (every_both B (λ x. x < y) front
               (every_both A (λ x. done t x ≡ 0) front
               (every_both (λ x. x < length t) (λ x. is_waiting t x ≡ true) front below.0 waits.0) idle) at.before)
               st.changes.front_done);
-      at_own = made_is (weight t' y) (done t' y) (passes t' y) (weight t y) (done t y + 1) (passes t y)
+      at_own = made_is (weight t' y) (done t' y) (passed t' y) (weight t y) (done t y + 1) (passed t y)
           (weight_before t m y below.1.0) st.changes.own_done (passed_behind c t m s k y front back st y (omega arith));
       at_back = every_weaker (λ x. ((x < length t) × (y < x)) × D x) (λ x. record_of t' x ≡ record_of t x)
-          (λ x h. made_is (weight t' x) (done t' x) (passes t' x) (weight t x) (done t x) (passes t x)
+          (λ x h. made_is (weight t' x) (done t' x) (passed t' x) (weight t x) (done t x) (passed t x)
               (weight_before t m x h.0.0) h.1 (passed_behind c t m s k y front back st x (omega (arith, h.0.1)))) back
           (every_both (λ x. (x < length t) × (y < x)) D back
               (every_both (λ x. x < length t) (λ x. y < x) back below.1.1 at.behind) st.changes.back_done);

@@ -14,7 +14,7 @@ use Rattle.mscp_packet.specs.Commands.{command_of}
 use Rattle.mscp_control.specs.Settings.{Settings}
 use Rattle.mscp_control.specs.History.{Trace, Moment, moment, positions, collect, last_or, queues, sent_bytes, is_good, is_step, takes}
 use Rattle.mscp_control.specs.Commands.{command, reference, is_waiting, waiting, done, good, steps_after, serves_in, ends_in}
-use Rattle.mscp_control.specs.Passing.{passes_at, passes}
+use Rattle.mscp_control.specs.Passing.{passed_at, passed}
 use Rattle.mscp_control.specs.Ends.{ends_at}
 use Rattle.mscp_control.specs.Account.{ends, untaken}
 use Rattle.mscp_queue.proofs.Lists.{filter_on, filter_filter, sum_on, flat_on, every_weaker, range_more, range_below}
@@ -156,18 +156,18 @@ good_last t m = ap (count_by (λ (n : Moment). serves_in (reference (t ++ m ∷ 
     (drop_last t m)
 
 -- How often a command was passed after one more moment.
-pub passes_more : (t : Trace) (m : Moment) (x : ℕ) → passes (t ++ m ∷ []) x ≡ passes t x + passes_at t m x
-unfolding passes
-passes_more t m x =
-    let P : Trace → ℕ → ℕ = λ u i. passes_at (take i u) (moment u i) x in
+pub passed_more : (t : Trace) (m : Moment) (x : ℕ) → passed (t ++ m ∷ []) x ≡ passed t x + passed_at t m x
+unfolding passed
+passed_more t m x =
+    let P : Trace → ℕ → ℕ = λ u i. passed_at (take i u) (moment u i) x in
     let before = sum_on (P (t ++ m ∷ [])) (P t) (positions t)
     (every_weaker (λ i. (0 ≤ i) × (i < 0 + length t)) (λ i. P (t ++ m ∷ []) i ≡ P t i)
-    (λ i h. ap (λ u. passes_at u (moment (t ++ m ∷ []) i) x) (take-append-le i t (m ∷ []) (omega arith))
-        ∙ ap (λ n. passes_at (take i t) n x) (moment_before t m i (omega arith)))
+    (λ i h. ap (λ u. passed_at u (moment (t ++ m ∷ []) i) x) (take-append-le i t (m ∷ []) (omega arith))
+        ∙ ap (λ n. passed_at (take i t) n x) (moment_before t m i (omega arith)))
     (positions t) (range_below 0 (length t))) in
-    let last : P (t ++ m ∷ []) (length t) ≡ passes_at t m x =
-    ap (λ u. passes_at u (moment (t ++ m ∷ []) (length t)) x) (take_at t (m ∷ []) (length t) refl)
-        ∙ ap (λ n. passes_at t n x) (moment_last t m) in
+    let last : P (t ++ m ∷ []) (length t) ≡ passed_at t m x =
+    ap (λ u. passed_at u (moment (t ++ m ∷ []) (length t)) x) (take_at t (m ∷ []) (length t) refl)
+        ∙ ap (λ n. passed_at t n x) (moment_last t m) in
     ap (sum_by (P (t ++ m ∷ []))) (positions_more t m)
     ∙ (sum_by_push (P (t ++ m ∷ [])) (positions t) (length t)
     ∙ (ap (λ k. k + P (t ++ m ∷ []) (length t)) before ∙ ap (λ k. sum_by (P t) (positions t) + k) last))

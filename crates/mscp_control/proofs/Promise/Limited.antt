@@ -5,11 +5,11 @@ use Rattle.std.specs.List.{AllByRecursion}
 use Rattle.mscp_control.specs.Settings.{Settings}
 use Rattle.mscp_control.specs.History.{Trace, Moment, queues, Service, service_in}
 use Rattle.mscp_control.specs.Commands.{reference, waiting, ends_in}
-use Rattle.mscp_control.specs.Passing.{toll, passes}
+use Rattle.mscp_control.specs.Passing.{toll, passed}
 use Rattle.mscp_control.specs.Legal.{IsRight}
 use Rattle.mscp_queue.proofs.Lists.{every_weaker, every_kept, every_append, every_parts, every_both}
 use Rattle.mscp_control.proofs.Promise.Grows.{waiting_more}
-use Rattle.mscp_control.proofs.Promise.Waits.{passes_last}
+use Rattle.mscp_control.proofs.Promise.Waits.{passed_last}
 use Rattle.mscp_control.proofs.Promise.Served.{step_right}
 use Rattle.mscp_control.proofs.Promise.Steady.{Steady}
 use Rattle.mscp_control.proofs.Promise.Queued.{Short}
@@ -18,17 +18,17 @@ use Rattle.mscp_control.proofs.Promise.Falls.{Fit}
 use Rattle.mscp_control.proofs.Promise.Fitted.{fit_of, leaves_of}
 
 abbrev pub Limited : Settings → Trace → List ℕ → Type 0
-Limited c t xs = AllByRecursion (λ x. passes t x ≤ c.passing) xs
+Limited c t xs = AllByRecursion (λ x. passed t x ≤ c.budget) xs
 
 -- what a step costs those in front is there
 paid : (c : Settings) (t : Trace) (m : Moment) (s : Service) (front : List ℕ) (y : ℕ) (back : List ℕ)
     → Fit c t m s front y back → Limited c t front
-    → AllByRecursion (λ x. passes t x + step_toll t s y ≤ c.passing) front
+    → AllByRecursion (λ x. passed t x + step_toll t s y ≤ c.budget) front
 paid c t m s front y back f h =
-    let both : (b : Bool) → s.started ≡ b → AllByRecursion (λ x. passes t x + cond b (toll t y) 0 ≤ c.passing) front =
-    λ b. elim b as (λ b. s.started ≡ b → AllByRecursion (λ x. passes t x + cond b (toll t y) 0 ≤ c.passing) front) [
+    let both : (b : Bool) → s.started ≡ b → AllByRecursion (λ x. passed t x + cond b (toll t y) 0 ≤ c.budget) front =
+    λ b. elim b as (λ b. s.started ≡ b → AllByRecursion (λ x. passed t x + cond b (toll t y) 0 ≤ c.budget) front) [
       | true ↦ λ e. f.affordable e
-      | false ↦ λ e. every_weaker (λ x. passes t x ≤ c.passing) (λ x. passes t x + 0 ≤ c.passing)
+      | false ↦ λ e. every_weaker (λ x. passed t x ≤ c.budget) (λ x. passed t x + 0 ≤ c.budget)
           (λ x p. omega (arith, p)) front h
     ] in
     both s.started refl
@@ -38,18 +38,18 @@ limited_step : (c : Settings) (t : Trace) (m : Moment) (s : Service) (front : Li
 limited_step c t m s front y back f h =
     let t' = t ++ m ∷ [] in
     let n = step_toll t s y in
-    let Old : ℕ → Type 0 = λ x. passes t x ≤ c.passing in
-    let New : ℕ → Type 0 = λ x. passes t' x ≤ c.passing in
+    let Old : ℕ → Type 0 = λ x. passed t x ≤ c.budget in
+    let New : ℕ → Type 0 = λ x. passed t' x ≤ c.budget in
     let parts = every_parts Old front (y ∷ back) (subst (AllByRecursion Old) f.is h) in
     let fronts : AllByRecursion New front =
-    every_weaker (λ x. (record_of t' x ≡ tolled n (record_of t x)) × (passes t x + n ≤ c.passing)) New
-        (λ x p. let e = ap (λ (r : Figured). r.passes) p.0 in omega (arith, e, p.1)) front
-    (every_both (λ x. record_of t' x ≡ tolled n (record_of t x)) (λ x. passes t x + n ≤ c.passing) front
+    every_weaker (λ x. (record_of t' x ≡ tolled n (record_of t x)) × (passed t x + n ≤ c.budget)) New
+        (λ x p. let e = ap (λ (r : Figured). r.passed) p.0 in omega (arith, e, p.1)) front
+    (every_both (λ x. record_of t' x ≡ tolled n (record_of t x)) (λ x. passed t x + n ≤ c.budget) front
         f.marks.at_front (paid c t m s front y back f parts.0)) in
-    let own : New y = let e = ap (λ (r : Figured). r.passes) f.marks.at_own in omega (arith, e, parts.1.0) in
+    let own : New y = let e = ap (λ (r : Figured). r.passed) f.marks.at_own in omega (arith, e, parts.1.0) in
     let backs : AllByRecursion New back =
     every_weaker (λ x. (record_of t' x ≡ record_of t x) × Old x) New
-        (λ x p. let e = ap (λ (r : Figured). r.passes) p.0 in omega (arith, e, p.1)) back
+        (λ x p. let e = ap (λ (r : Figured). r.passed) p.0 in omega (arith, e, p.1)) back
     (every_both (λ x. record_of t' x ≡ record_of t x) Old back f.marks.at_back parts.1.1) in
     subst (AllByRecursion New) (sym f.after)
     (every_append New front (cond (is_some s.ended) [] (y ∷ []) ++ back) fronts
@@ -62,12 +62,12 @@ limited_quiet : (c : Settings) (t : Trace) (m : Moment) → service_in m.1 ≡ N
 limited_quiet c t m e h =
     let t' = t ++ m ∷ [] in
     let keep : ℕ → Bool = λ x. not (ends_in (reference t x) m.1) in
-    let New : ℕ → Type 0 = λ x. passes t' x ≤ c.passing in
+    let New : ℕ → Type 0 = λ x. passed t' x ≤ c.budget in
     let old : AllByRecursion New (waiting t) =
-    every_weaker (λ x. (record_of t' x ≡ record_of t x) × (passes t x ≤ c.passing)) New
-        (λ x p. let e = ap (λ (r : Figured). r.passes) p.0 in omega (arith, e, p.1)) (waiting t)
-    (every_both (λ x. record_of t' x ≡ record_of t x) (λ x. passes t x ≤ c.passing) (waiting t) (leaves_of t m e) h) in
-    let new : New (length t) = omega (arith, passes_last t m) in
+    every_weaker (λ x. (record_of t' x ≡ record_of t x) × (passed t x ≤ c.budget)) New
+        (λ x p. let e = ap (λ (r : Figured). r.passed) p.0 in omega (arith, e, p.1)) (waiting t)
+    (every_both (λ x. record_of t' x ≡ record_of t x) (λ x. passed t x ≤ c.budget) (waiting t) (leaves_of t m e) h) in
+    let new : New (length t) = omega (arith, passed_last t m) in
     subst (AllByRecursion New) (sym (waiting_more t m))
     (every_append New (filter keep (waiting t)) (cond (queues m.1) (length t ∷ []) [])
         (every_kept New keep (waiting t) old)

@@ -8,9 +8,9 @@ use Rattle.mscp_queue.specs.declared.block.Block.{Block}
 use Rattle.mscp_control.specs.Settings.{Settings}
 use Rattle.mscp_control.specs.History.{Trace, Moment, Service, service_in}
 use Rattle.mscp_control.specs.Commands.{reference, waiting, later, starts_in, service_starts}
-use Rattle.mscp_control.specs.Passing.{toll, is_unstarted, passes_at, passes}
+use Rattle.mscp_control.specs.Passing.{toll, is_unstarted, passed_at, passed}
 use Rattle.mscp_queue.proofs.Lists.{every_weaker, every_append, every_from, filter_filter, filter_none, filter_one}
-use Rattle.mscp_control.proofs.Promise.Grows.{passes_more}
+use Rattle.mscp_control.proofs.Promise.Grows.{passed_more}
 use Rattle.mscp_control.proofs.Promise.Served.{Step}
 
 -- the commands behind x that start
@@ -23,21 +23,21 @@ starts_behind t m x z = nat_lt x z && starts_in (reference t z) m.1
 starters_at : (t : Trace) (m : Moment) (x : ℕ) → starters t m x ≡ filter (starts_behind t m x) (waiting t)
 starters_at t m x = filter_filter (λ z. starts_in (reference t z) m.1) (λ z. nat_lt x z) (waiting t)
 
-passed_more : (t : Trace) (m : Moment) (x : ℕ) (ys : List ℕ) → starters t m x ≡ ys
-    → passes (t ++ m ∷ []) x ≡ passes t x + cond (is_unstarted t x) (sum_by (toll t) ys) 0
-unfolding passes_at
-passed_more t m x ys e = passes_more t m x ∙ ap (λ l. passes t x + cond (is_unstarted t x) (sum_by (toll t) l) 0) e
+passed_by_starters : (t : Trace) (m : Moment) (x : ℕ) (ys : List ℕ) → starters t m x ≡ ys
+    → passed (t ++ m ∷ []) x ≡ passed t x + cond (is_unstarted t x) (sum_by (toll t) ys) 0
+unfolding passed_at
+passed_by_starters t m x ys e = passed_more t m x ∙ ap (λ l. passed t x + cond (is_unstarted t x) (sum_by (toll t) l) 0) e
 
-unpassed : (t : Trace) (m : Moment) (x : ℕ) → starters t m x ≡ [] → passes (t ++ m ∷ []) x ≡ passes t x
+unpassed : (t : Trace) (m : Moment) (x : ℕ) → starters t m x ≡ [] → passed (t ++ m ∷ []) x ≡ passed t x
 unpassed t m x e =
     let z : ℕ = 0 in
     let none : cond (is_unstarted t x) z z ≡ z = elim (is_unstarted t x) as (λ b. cond b z z ≡ z)
         [ true ↦ refl | false ↦ refl ] in
-    passed_more t m x [] e ∙ (ap (λ n. passes t x + n) none ∙ omega arith)
+    passed_by_starters t m x [] e ∙ (ap (λ n. passed t x + n) none ∙ omega arith)
 
 -- Where nobody starts, nobody is passed.
 pub none_starts : (t : Trace) (m : Moment) (x : ℕ) → ((r : ℕ) → starts_in r m.1 ≡ false)
-    → passes (t ++ m ∷ []) x ≡ passes t x
+    → passed (t ++ m ∷ []) x ≡ passed t x
 none_starts t m x f = unpassed t m x (filter_none (λ z. starts_in (reference t z) m.1) (later t x)
     (every_from (λ z. starts_in (reference t z) m.1 ≡ false) (λ z. f (reference t z)) (later t x)))
 
@@ -60,7 +60,7 @@ behind_other t m s x y e r xs h =
 
 -- A command that isn't earlier than y isn't passed by a step of y.
 pub passed_behind : (c : Settings) (t : Trace) (m : Moment) (s : Service) (k : Block) (y : ℕ) (front back : List ℕ)
-    → Step c t m s k y front back → (x : ℕ) → y ≤ x → passes (t ++ m ∷ []) x ≡ passes t x
+    → Step c t m s k y front back → (x : ℕ) → y ≤ x → passed (t ++ m ∷ []) x ≡ passed t x
 passed_behind c t m s k y front back st x h =
     let a = st.serves.among in
     let P : ℕ → Type 0 = λ z. starts_behind t m x z ≡ false in
@@ -74,7 +74,7 @@ passed_behind c t m s k y front back st x h =
 -- An earlier one that was never served is passed by a start of y, at its toll.
 pub passed_front : (c : Settings) (t : Trace) (m : Moment) (s : Service) (k : Block) (y : ℕ) (front back : List ℕ)
     → Step c t m s k y front back → s.started ≡ true → (x : ℕ) → x < y → is_unstarted t x ≡ true
-    → passes (t ++ m ∷ []) x ≡ passes t x + toll t y
+    → passed (t ++ m ∷ []) x ≡ passed t x + toll t y
 passed_front c t m s k y front back st e x h u =
     let a = st.serves.among in
     let own : starts_behind t m x y ≡ true = ap (λ b. b && starts_in (reference t y) m.1) (lt-ltb x y h)
@@ -83,6 +83,6 @@ passed_front c t m s k y front back st e x h u =
     starters_at t m x ∙ (ap (filter (starts_behind t m x)) a.at.is
     ∙ filter_one (starts_behind t m x) front y back (behind_other t m s x y st.serves.is st.serves.same front a.before)
         own (behind_other t m s x y st.serves.is st.serves.same back a.behind)) in
-    passed_more t m x (y ∷ []) one
-    ∙ (ap (λ b. passes t x + cond b (sum_by (toll t) (y ∷ [])) 0) u
-    ∙ ap (λ n. passes t x + n) (sum_by-cons (toll t) y [] ∙ omega arith))
+    passed_by_starters t m x (y ∷ []) one
+    ∙ (ap (λ b. passed t x + cond b (sum_by (toll t) (y ∷ [])) 0) u
+    ∙ ap (λ n. passed t x + n) (sum_by-cons (toll t) y [] ∙ omega arith))

@@ -17,7 +17,7 @@ use Rattle.mscp_control.specs.declared.event.Sent.TheVariants as sents
 use Rattle.mscp_control.specs.Settings.{Settings, IsValid, bound}
 use Rattle.mscp_control.specs.History.{Trace, Moment, answers, moment, positions, sent_bytes, Service, service_in, WhenStarted}
 use Rattle.mscp_control.specs.Commands.{reference, sent_command, weight, is_waiting, waiting, done, left, steps_after}
-use Rattle.mscp_control.specs.Passing.{passes, is_free}
+use Rattle.mscp_control.specs.Passing.{passed, is_free}
 use Rattle.mscp_control.specs.Figures.{figure, figure_of}
 use Rattle.mscp_control.specs.Ends.{answer, answer_to, ends_at}
 use Rattle.mscp_control.specs.Account.{ends}
@@ -166,7 +166,7 @@ progress c t valid legal =
       fences = λ i h. free_starts c (take i t) (moment t i) (legal i h) (before i h).steady;
       one_served = λ i h. one_served (take i t) (waiting (take i t)) (at i h).steady.single;
       oldest_starts = λ i h x. oldest_starts c (take i t) x;
-      passing = λ i h x w. one_of (λ x. passes (take i t) x ≤ c.passing) (waiting (take i t)) (at i h).limited x w;
+      budget = λ i h x w. one_of (λ x. passed (take i t) x ≤ c.budget) (waiting (take i t)) (at i h).limited x w;
       falls = λ i h s x w. subst (λ u. figure c u x < figure c (take i t) x) (sym (more_at t i h))
           ((fall i h).step s x w);
       never_rises = λ i h x w. subst (λ u. figure c u x ≤ figure c (take i t) x) (sym (more_at t i h))

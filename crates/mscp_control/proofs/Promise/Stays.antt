@@ -8,7 +8,7 @@ use Rattle.std.proofs.lemmas.List.Sums.{sum_by-cons}
 use Rattle.mscp_control.specs.Settings.{Settings}
 use Rattle.mscp_control.specs.History.{Trace, Moment, queues}
 use Rattle.mscp_control.specs.Commands.{reference, is_waiting, waiting, done, left, in_service, ends_in}
-use Rattle.mscp_control.specs.Passing.{passes}
+use Rattle.mscp_control.specs.Passing.{passed}
 use Rattle.mscp_control.specs.Figures.{figure}
 use Rattle.mscp_queue.proofs.Lists.{every_weaker, every_parts, every_kept, filter_on}
 use Rattle.mscp_control.proofs.Promise.Grows.{is_waiting_before, waiting_more}
@@ -88,12 +88,12 @@ rises_not c t m h d A x B q true k =
         ∙ (ap (λ l. l ++ new) (filter-append keep A (x ∷ B)
         ∙ ap (λ b. filter keep A ++ cond b (x ∷ filter keep B) (filter keep B)) k)
         ∙ append_assoc (filter keep A) (x ∷ filter keep B) new)) in
-    let S = sum_by (left t) A + working t B + (c.passing - passes t x) * c.longest + left t x in
-    let S' = sum_by (left t') (filter keep A) + working t' (filter keep B ++ new) + (c.passing - passes t' x)
+    let S = sum_by (left t) A + working t B + (c.budget - passed t x) * c.longest + left t x in
+    let S' = sum_by (left t') (filter keep A) + working t' (filter keep B ++ new) + (c.budget - passed t' x)
         * c.longest + left t' x in
     let lx : left t' x ≡ left t x = ap record_left same.1.0 in
-    let px : (c.passing - passes t' x) * c.longest ≡ (c.passing - passes t x) * c.longest =
-        ap (λ (r : Figured). (c.passing - r.passes) * c.longest) same.1.0 in
+    let px : (c.budget - passed t' x) * c.longest ≡ (c.budget - passed t x) * c.longest =
+        ap (λ (r : Figured). (c.budget - r.passed) * c.longest) same.1.0 in
     let a1 = left_same t t' (filter keep A) (every_kept (λ z. record_of t' z ≡ record_of t z) keep A same.0) in
     let a2 = sum_kept (left t) keep A in
     let b1 = working_append t' (filter keep B) new in

@@ -9,10 +9,10 @@ use Rattle.mscp_control.specs.declared.event.Event.TheVariants as events
 use Rattle.mscp_control.specs.declared.event.Entry.TheVariants as entries
 use Rattle.mscp_control.specs.History.{Trace, Moment, moment, positions, queues}
 use Rattle.mscp_control.specs.Commands.{reference, is_waiting, waiting, done, starts_in, ends_in, earlier, later}
-use Rattle.mscp_control.specs.Passing.{toll, passes_at, passes}
+use Rattle.mscp_control.specs.Passing.{toll, passed_at, passed}
 use Rattle.mscp_queue.specs.Pairs.{Pairs}
 use Rattle.mscp_queue.proofs.Lists.{filter_all, filter_none, pairs_middle, sum_none, every_weaker, every_kept, every_filter, range_below, pairs_range, pairs_filter}
-use Rattle.mscp_control.proofs.Promise.Grows.{passes_more}
+use Rattle.mscp_control.proofs.Promise.Grows.{passed_more}
 
 pub waiting_below : (t : Trace) → AllByRecursion (λ x. x < length t) (waiting t)
 unfolding waiting
@@ -30,22 +30,22 @@ pub waiting_rises : (t : Trace) → Pairs ◌<◌ (waiting t)
 unfolding waiting
 waiting_rises t = pairs_filter ◌<◌ (is_waiting t) (positions t) (pairs_range 0 (length t))
 
-passes_at_past : (t : Trace) (m : Moment) (x : ℕ) → length t ≤ x → passes_at t m x ≡ 0
-unfolding passes_at
-passes_at_past t m x h = ap (λ b. cond (b && is_waiting t x && nat_eq (done t x) 0)
+passed_at_past : (t : Trace) (m : Moment) (x : ℕ) → length t ≤ x → passed_at t m x ≡ 0
+unfolding passed_at
+passed_at_past t m x h = ap (λ b. cond (b && is_waiting t x && nat_eq (done t x) 0)
     (sum_by (toll t) (filter (λ y. starts_in (reference t y) m.1) (later t x))) 0) (le-ltb x (length t) h)
 
-pub passes_past : (t : Trace) (x : ℕ) → length t ≤ x → passes t x ≡ 0
-unfolding passes
-passes_past t x h =
-    sum_none (λ i. passes_at (take i t) (moment t i) x) (positions t)
-    (every_weaker (λ i. (0 ≤ i) × (i < 0 + length t)) (λ i. passes_at (take i t) (moment t i) x ≡ 0)
-    (λ i k. passes_at_past (take i t) (moment t i) x (omega (arith, length-take i t))) (positions t)
+pub passed_past : (t : Trace) (x : ℕ) → length t ≤ x → passed t x ≡ 0
+unfolding passed
+passed_past t x h =
+    sum_none (λ i. passed_at (take i t) (moment t i) x) (positions t)
+    (every_weaker (λ i. (0 ≤ i) × (i < 0 + length t)) (λ i. passed_at (take i t) (moment t i) x ≡ 0)
+    (λ i k. passed_at_past (take i t) (moment t i) x (omega (arith, length-take i t))) (positions t)
         (range_below 0 (length t)))
 
-pub passes_last : (t : Trace) (m : Moment) → passes (t ++ m ∷ []) (length t) ≡ 0
-passes_last t m = passes_more t m (length t) ∙ (ap (λ n. n + passes_at t m (length t))
-    (passes_past t (length t) (omega arith)) ∙ ap (λ n. 0 + n) (passes_at_past t m (length t) (omega arith)))
+pub passed_last : (t : Trace) (m : Moment) → passed (t ++ m ∷ []) (length t) ≡ 0
+passed_last t m = passed_more t m (length t) ∙ (ap (λ n. n + passed_at t m (length t))
+    (passed_past t (length t) (omega arith)) ∙ ap (λ n. 0 + n) (passed_at_past t m (length t) (omega arith)))
 
 -- a waiting command cuts the list of those that wait
 pub record Cut (t : Trace) (y : ℕ) (front back : List ℕ) : Type 0 where

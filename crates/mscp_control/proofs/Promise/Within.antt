@@ -7,13 +7,13 @@ use Rattle.std.proofs.lemmas.List.Sums.{sum_by-le}
 use Rattle.mscp_control.specs.Settings.{Settings, bound}
 use Rattle.mscp_control.specs.History.{Trace, Moment, queues, is_step, sent_bytes}
 use Rattle.mscp_control.specs.Commands.{reference, weight, waiting, done, left, steps_after, ends_in}
-use Rattle.mscp_control.specs.Passing.{passes}
+use Rattle.mscp_control.specs.Passing.{passed}
 use Rattle.mscp_control.specs.Figures.{figure}
 use Rattle.mscp_control.specs.Account.{balance}
 use Rattle.mscp_control.specs.Legal.{IsRight}
 use Rattle.mscp_queue.proofs.Lists.{fewer, every_weaker, every_kept, every_append, every_parts, every_both}
 use Rattle.mscp_control.proofs.Promise.Grows.{waiting_more, done_last, steps_more, steps_last}
-use Rattle.mscp_control.proofs.Promise.Waits.{waiting_below, passes_last}
+use Rattle.mscp_control.proofs.Promise.Waits.{waiting_below, passed_last}
 use Rattle.mscp_control.proofs.Promise.Arrivals.{queued_right}
 use Rattle.mscp_control.proofs.Promise.Queued.{Short, two_free}
 use Rattle.mscp_control.proofs.Promise.Falls.{figure_idle}
@@ -35,7 +35,7 @@ bound_of C P L n l s h k m =
     let big : (n + 1 + P) * L ≤ (C - 1 + P) * L = times_more (n + 1 + P) (C - 1 + P) L (omega arith) in
     omega arith
 
-new_figure : (c : Settings) (t : Trace) (W : List ℕ) (x : ℕ) → waiting t ≡ W ++ x ∷ [] → done t x ≡ 0 → passes t x ≡ 0
+new_figure : (c : Settings) (t : Trace) (W : List ℕ) (x : ℕ) → waiting t ≡ W ++ x ∷ [] → done t x ≡ 0 → passed t x ≡ 0
     → Short c t (W ++ x ∷ []) → length W + 2 ≤ c.credits → figure c t x ≤ bound c
 new_figure c t W x e d p h n =
     let f = figure_idle c t W x [] e d in
@@ -44,9 +44,9 @@ new_figure c t W x e d p h n =
     let each = every_weaker (λ z. weight t z ≤ c.longest) (λ z. left t z ≤ c.longest) (λ z w. omega (arith, w)) W
         parts.0 in
     let s = sum_by-le (left t) c.longest W (All-from_recursion (λ z. left t z ≤ c.longest) W each) in
-    let q : (c.passing - passes t x) * c.longest ≡ c.passing * c.longest =
-        ap (λ n. (c.passing - n) * c.longest) p ∙ ap (λ n. n * c.longest) (omega arith) in
-    let b = bound_of c.credits c.passing c.longest (length W) (left t x) (sum_by (left t) W) n s (omega (arith, l)) in
+    let q : (c.budget - passed t x) * c.longest ≡ c.budget * c.longest =
+        ap (λ n. (c.budget - n) * c.longest) p ∙ ap (λ n. n * c.longest) (omega arith) in
+    let b = bound_of c.credits c.budget c.longest (length W) (left t x) (sum_by (left t) W) n s (omega (arith, l)) in
     omega (arith, f, q, b)
 
 room_for_two : (c : Settings) (t : Trace) → 2 ≤ balance c t → length (waiting t) + 2 ≤ c.credits
@@ -89,7 +89,7 @@ within_more c t m r f short w =
           let is : waiting t' ≡ kept ++ n ∷ [] = waiting_more t m ∙ ap (λ b. kept ++ cond b (n ∷ []) []) e in
           let room = room_for_two c t (two_free c t (sent_bytes m.0) (queued_right c t m.0 m.1 e r)) in
           let few : length kept + 2 ≤ c.credits = omega (arith, room, fewer keep (waiting t)) in
-          let new = new_figure c t' kept n is (done_last t m) (passes_last t m) (subst (Short c t') is short) few in
+          let new = new_figure c t' kept n is (done_last t m) (passed_last t m) (subst (Short c t') is short) few in
           subst (AllByRecursion New) (sym is) (every_append New kept (n ∷ []) front
               (omega (arith, new, steps_last t m), tt))
       | false ↦ λ e. subst (AllByRecursion New) (sym

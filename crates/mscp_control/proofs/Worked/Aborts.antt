@@ -6,7 +6,7 @@ use Rattle.mscp_packet.specs.Commands.{command_of}
 use Rattle.mscp_queue.specs.declared.block.Block.TheVariants.{Good}
 use Rattle.mscp_control.specs.History.{Trace, moment, collect}
 use Rattle.mscp_control.specs.Commands.{command, is_waiting, waiting, done, good}
-use Rattle.mscp_control.specs.Passing.{passes_at, passes, is_free, is_startable, startable}
+use Rattle.mscp_control.specs.Passing.{passed_at, passed, is_free, is_startable, startable}
 use Rattle.mscp_control.specs.Figures.{figure, figure_of}
 use Rattle.mscp_control.specs.Units.{is_online, head_cylinder, head_up}
 use Rattle.mscp_control.specs.Ends.{answer, outcome}
@@ -29,7 +29,7 @@ in_service =
     ∷ []
 
 pub in_service_legal : IsLegal (settings 5 2) in_service
-unfolding moment collect command_of command is_waiting waiting done good passes_at passes is_free is_startable startable
+unfolding moment collect command_of command is_waiting waiting done good passed_at passed is_free is_startable startable
     figure figure_of is_online head_cylinder head_up answer outcome ends untaken balance outstanding arrival block_of
 in_service_legal = legal_from (settings 5 2) in_service
     (refl, (by_serving 0 refl refl refl, (refl, (refl,
@@ -50,15 +50,15 @@ passer =
     ∷ []
 
 pub passer_legal : IsLegal (settings 5 1) passer
-unfolding moment collect command_of command is_waiting waiting done good passes_at passes is_free is_startable startable
+unfolding moment collect command_of command is_waiting waiting done good passed_at passed is_free is_startable startable
     figure figure_of is_online head_cylinder head_up answer outcome ends untaken balance outstanding arrival block_of
 passer_legal = legal_from (settings 5 1) passer (refl,
     (by_serving 0 refl refl refl, (refl, (refl, (refl,
     (refl, (by_serving 4 refl refl refl, (refl, (refl, (refl, tt))))))))))
 
 -- It was passed all the same.
-passer_passed : passes passer 3 ≡ 1
-unfolding moment collect command_of command is_waiting waiting done good passes_at passes is_free is_startable startable
+passer_passed : passed passer 3 ≡ 1
+unfolding moment collect command_of command is_waiting waiting done good passed_at passed is_free is_startable startable
     figure figure_of is_online head_cylinder head_up answer outcome ends untaken balance outstanding arrival block_of
 passer_passed = refl
 
@@ -76,7 +76,7 @@ passed =
     ∷ []
 
 pub passed_legal : IsLegal (settings 5 1) passed
-unfolding moment collect command_of command is_waiting waiting done good passes_at passes is_free is_startable startable
+unfolding moment collect command_of command is_waiting waiting done good passed_at passed is_free is_startable startable
     figure figure_of is_online head_cylinder head_up answer outcome ends untaken balance outstanding arrival block_of
 passed_legal = legal_from (settings 5 1) passed (refl,
     (by_serving 0 refl refl refl, (refl, (refl, (refl,
@@ -92,7 +92,7 @@ nobody =
     ∷ []
 
 pub nobody_legal : IsLegal (settings 4 2) nobody
-unfolding moment collect command_of command is_waiting waiting done good passes_at passes is_free is_startable startable
+unfolding moment collect command_of command is_waiting waiting done good passed_at passed is_free is_startable startable
     figure figure_of is_online head_cylinder head_up answer outcome ends untaken balance outstanding arrival block_of
 nobody_legal = legal_from (settings 4 2) nobody (refl, (refl, (refl, (refl, tt))))
 
@@ -111,7 +111,7 @@ fence =
     ∷ []
 
 pub fence_legal : IsLegal (settings 5 2) fence
-unfolding moment collect command_of command is_waiting waiting done good passes_at passes is_free is_startable startable
+unfolding moment collect command_of command is_waiting waiting done good passed_at passed is_free is_startable startable
     figure figure_of is_online head_cylinder head_up answer outcome ends untaken balance outstanding arrival block_of
 fence_legal = legal_from (settings 5 2) fence (refl,
     (by_serving 0 refl refl refl, (refl, (refl, (refl, (refl, (refl, (refl, (refl, (refl, tt))))))))))

@@ -9,7 +9,7 @@ use Rattle.mscp_queue.specs.declared.upcoming.Upcoming.{Upcoming}
 use Rattle.mscp_control.specs.declared.event.Stale.{Stale}
 use Rattle.mscp_control.specs.History.{Moment, moment, collect}
 use Rattle.mscp_control.specs.Commands.{command, is_waiting, waiting, done, good}
-use Rattle.mscp_control.specs.Passing.{passes_at, passes, is_free, is_startable, startable}
+use Rattle.mscp_control.specs.Passing.{passed_at, passed, is_free, is_startable, startable}
 use Rattle.mscp_control.specs.Figures.{figure, figure_of}
 use Rattle.mscp_control.specs.Units.{cost, is_online, head_cylinder, head_up}
 use Rattle.mscp_control.specs.Ends.{answer, outcome}
@@ -48,7 +48,7 @@ begun_and_aborted =
     ∷ []
 
 begun_legal : IsLegal (settings 8 8) (history begun_and_aborted)
-unfolding moment collect command_of command is_waiting waiting done good passes_at passes is_free is_startable startable
+unfolding moment collect command_of command is_waiting waiting done good passed_at passed is_free is_startable startable
     figure figure_of is_online head_cylinder head_up cost swept answer outcome ends untaken balance outstanding arrival
     block_of
 begun_legal = legal_from (settings 8 8) (history begun_and_aborted)
@@ -56,20 +56,20 @@ begun_legal = legal_from (settings 8 8) (history begun_and_aborted)
 
 -- It is told of the far one,
 far_told : IsForetold (settings 8 8) (history (take 4 begun_and_aborted)) (Some (one_block 1 60))
-unfolding moment collect command_of command is_waiting waiting done good passes_at passes is_free is_startable startable
+unfolding moment collect command_of command is_waiting waiting done good passed_at passed is_free is_startable startable
     figure figure_of is_online head_cylinder head_up cost swept answer outcome ends untaken balance outstanding arrival
     block_of
 far_told = (3, refl, refl, refl)
 
 -- which is begun when the near one has come, though the sweep would start that one.
 far_begun : IsBegunSince (take 6 begun_and_aborted) (one_block 1 60) 3 4
-unfolding moment collect command_of command is_waiting waiting done good passes_at passes is_free is_startable startable
+unfolding moment collect command_of command is_waiting waiting done good passed_at passed is_free is_startable startable
     figure figure_of is_online head_cylinder head_up cost swept answer outcome ends untaken balance outstanding arrival
     block_of
 far_begun = record { inside = omega arith; told = refl; own = refl; waited = refl; unstepped = refl; waits = refl }
 
 near_swept : swept (settings 8 8) (history (take 6 begun_and_aborted)) ≡ Some 4
-unfolding moment collect command_of command is_waiting waiting done good passes_at passes is_free is_startable startable
+unfolding moment collect command_of command is_waiting waiting done good passed_at passed is_free is_startable startable
     figure figure_of is_online head_cylinder head_up cost swept answer outcome ends untaken balance outstanding arrival
     block_of
 near_swept = refl
@@ -99,21 +99,21 @@ far_not_stale h = h (one_block 1 60) 3 4 far_begun refl
 
 -- Once it is aborted it is begun no more,
 far_aborted : is_waiting (history (take 8 begun_and_aborted)) 3 ≡ false
-unfolding moment collect command_of command is_waiting waiting done good passes_at passes is_free is_startable startable
+unfolding moment collect command_of command is_waiting waiting done good passed_at passed is_free is_startable startable
     figure figure_of is_online head_cylinder head_up cost swept answer outcome ends untaken balance outstanding arrival
     block_of
 far_aborted = refl
 
 -- the near one is told then,
 near_told : IsForetold (settings 8 8) (history (take 9 begun_and_aborted)) (Some (one_block 2 0))
-unfolding moment collect command_of command is_waiting waiting done good passes_at passes is_free is_startable startable
+unfolding moment collect command_of command is_waiting waiting done good passed_at passed is_free is_startable startable
     figure figure_of is_online head_cylinder head_up cost swept answer outcome ends untaken balance outstanding arrival
     block_of
 near_told = (4, refl, refl, refl)
 
 -- and what is finished is that one.
 near_finished : IsBegun (take 10 begun_and_aborted) 2
-unfolding moment collect command_of command is_waiting waiting done good passes_at passes is_free is_startable startable
+unfolding moment collect command_of command is_waiting waiting done good passed_at passed is_free is_startable startable
     figure figure_of is_online head_cylinder head_up cost swept answer outcome ends untaken balance outstanding arrival
     block_of
 near_finished = (one_block 2 0, 4, 9, record { inside = omega arith; told = refl; own = refl; waited = refl; unstepped =
@@ -134,7 +134,7 @@ number_again =
     ∷ []
 
 again_legal : IsLegal (settings 8 8) (history number_again)
-unfolding moment collect command_of command is_waiting waiting done good passes_at passes is_free is_startable startable
+unfolding moment collect command_of command is_waiting waiting done good passed_at passed is_free is_startable startable
     figure figure_of is_online head_cylinder head_up cost swept answer outcome ends untaken balance outstanding arrival
     block_of
 again_legal = legal_from (settings 8 8) (history number_again)
@@ -143,21 +143,21 @@ again_legal = legal_from (settings 8 8) (history number_again)
 
 -- The old one waits no more,
 old_left : IsBegunSince (take 10 number_again) (one_block 1 60) 3 4 → ⊥
-unfolding moment collect command_of command is_waiting waiting done good passes_at passes is_free is_startable startable
+unfolding moment collect command_of command is_waiting waiting done good passed_at passed is_free is_startable startable
     figure figure_of is_online head_cylinder head_up cost swept answer outcome ends untaken balance outstanding arrival
     block_of
 old_left b = false≢true b.waits
 
 -- the new one hadn't come when the old one was begun,
 new_unbegun : (upcoming : Upcoming) → IsBegunSince (take 10 number_again) upcoming 7 4 → ⊥
-unfolding moment collect command_of command is_waiting waiting done good passes_at passes is_free is_startable startable
+unfolding moment collect command_of command is_waiting waiting done good passed_at passed is_free is_startable startable
     figure figure_of is_online head_cylinder head_up cost swept answer outcome ends untaken balance outstanding arrival
     block_of
 new_unbegun upcoming b = false≢true b.waited
 
 -- and what is finished in the end is the new one.
 new_finished : IsBegun (take 12 number_again) 1
-unfolding moment collect command_of command is_waiting waiting done good passes_at passes is_free is_startable startable
+unfolding moment collect command_of command is_waiting waiting done good passed_at passed is_free is_startable startable
     figure figure_of is_online head_cylinder head_up cost swept answer outcome ends untaken balance outstanding arrival
     block_of
 new_finished = (one_block 1 80, 7, 11, record { inside = omega arith; told = refl; own = refl; waited =

@@ -7,7 +7,7 @@ use Rattle.mscp_packet.specs.Commands.{command_of}
 use Rattle.mscp_queue.specs.declared.block.Block.TheVariants.{Good, Bad}
 use Rattle.mscp_control.specs.History.{Trace, moment, collect}
 use Rattle.mscp_control.specs.Commands.{command, is_waiting, waiting, done, good}
-use Rattle.mscp_control.specs.Passing.{passes_at, passes, is_free, is_startable, startable}
+use Rattle.mscp_control.specs.Passing.{passed_at, passed, is_free, is_startable, startable}
 use Rattle.mscp_control.specs.Figures.{figure, figure_of}
 use Rattle.mscp_control.specs.Units.{is_online, head_cylinder, head_up}
 use Rattle.mscp_control.specs.Ends.{answer, outcome}
@@ -28,7 +28,7 @@ empty =
     ∷ []
 
 pub empty_legal : IsLegal (settings 4 2) empty
-unfolding moment collect command_of command is_waiting waiting done good passes_at passes is_free is_startable startable
+unfolding moment collect command_of command is_waiting waiting done good passed_at passed is_free is_startable startable
     figure figure_of is_online head_cylinder head_up answer outcome ends untaken balance outstanding arrival block_of
 empty_legal = legal_from (settings 4 2) empty (refl,
     (by_serving 0 refl refl refl, (refl, (refl, (refl, (by_serving 3 refl refl refl, (refl, tt)))))))
@@ -44,7 +44,7 @@ partial =
     ∷ []
 
 pub partial_legal : IsLegal (settings 4 2) partial
-unfolding moment collect command_of command is_waiting waiting done good passes_at passes is_free is_startable startable
+unfolding moment collect command_of command is_waiting waiting done good passed_at passed is_free is_startable startable
     figure figure_of is_online head_cylinder head_up answer outcome ends untaken balance outstanding arrival block_of
 partial_legal = legal_from (settings 4 2) partial (refl,
     (by_serving 0 refl refl refl, (refl, (refl, (by_serving 3 refl refl refl,
@@ -61,7 +61,7 @@ last_block =
     ∷ []
 
 pub last_block_legal : IsLegal (settings 4 2) last_block
-unfolding moment collect command_of command is_waiting waiting done good passes_at passes is_free is_startable startable
+unfolding moment collect command_of command is_waiting waiting done good passed_at passed is_free is_startable startable
     figure figure_of is_online head_cylinder head_up answer outcome ends untaken balance outstanding arrival block_of
 last_block_legal = legal_from (settings 4 2) last_block (refl, (refl, (refl, (refl, (refl, tt)))))
 
@@ -74,7 +74,7 @@ longest =
     ∷ []
 
 pub longest_legal : IsLegal (settings 4 2) longest
-unfolding moment collect command_of command is_waiting waiting done good passes_at passes is_free is_startable startable
+unfolding moment collect command_of command is_waiting waiting done good passed_at passed is_free is_startable startable
     figure figure_of is_online head_cylinder head_up answer outcome ends untaken balance outstanding arrival block_of
 longest_legal = legal_from (settings 4 2) longest (refl, (refl, (refl, tt)))
 
@@ -89,7 +89,7 @@ bad_block =
     ∷ []
 
 pub bad_block_legal : IsLegal (settings 4 2) bad_block
-unfolding moment collect command_of command is_waiting waiting done good passes_at passes is_free is_startable startable
+unfolding moment collect command_of command is_waiting waiting done good passed_at passed is_free is_startable startable
     figure figure_of is_online head_cylinder head_up answer outcome ends untaken balance outstanding arrival block_of
 bad_block_legal = legal_from (settings 4 2) bad_block
     (refl, (by_serving 0 refl refl refl, (refl, (refl,
@@ -114,7 +114,7 @@ each_transfer =
     ∷ []
 
 pub each_transfer_legal : IsLegal (settings 4 2) each_transfer
-unfolding moment collect command_of command is_waiting waiting done good passes_at passes is_free is_startable startable
+unfolding moment collect command_of command is_waiting waiting done good passed_at passed is_free is_startable startable
     figure figure_of is_online head_cylinder head_up answer outcome ends untaken balance outstanding arrival block_of
 each_transfer_legal = legal_from (settings 4 2) each_transfer
     (refl, (by_serving 0 refl refl refl, (refl, (refl,

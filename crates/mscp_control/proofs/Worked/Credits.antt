@@ -7,7 +7,7 @@ use Rattle.mscp_control.specs.declared.event.SendFault.TheVariants as faults
 use Rattle.mscp_control.specs.declared.event.Sent.TheVariants as sents
 use Rattle.mscp_control.specs.History.{Trace, moment, collect}
 use Rattle.mscp_control.specs.Commands.{command, is_waiting, waiting, done, good}
-use Rattle.mscp_control.specs.Passing.{passes_at, passes, is_free, is_startable, startable}
+use Rattle.mscp_control.specs.Passing.{passed_at, passed, is_free, is_startable, startable}
 use Rattle.mscp_control.specs.Figures.{figure, figure_of}
 use Rattle.mscp_control.specs.Units.{is_online, head_cylinder, head_up}
 use Rattle.mscp_control.specs.Ends.{answer, outcome}
@@ -29,13 +29,13 @@ last_credit =
     ∷ []
 
 pub last_credit_legal : IsLegal (settings 2 2) last_credit
-unfolding moment collect command_of command is_waiting waiting done good passes_at passes is_free is_startable startable
+unfolding moment collect command_of command is_waiting waiting done good passed_at passed is_free is_startable startable
     figure figure_of is_online head_cylinder head_up answer outcome ends untaken balance outstanding arrival block_of
 last_credit_legal = legal_from (settings 2 2) last_credit (refl, (refl, (refl, (refl, (refl, (refl, tt))))))
 
 -- One end is left.
 last_credit_balance : balance (settings 2 2) last_credit ≡ 0
-unfolding moment collect command_of command is_waiting waiting done good passes_at passes is_free is_startable startable
+unfolding moment collect command_of command is_waiting waiting done good passed_at passed is_free is_startable startable
     figure figure_of is_online head_cylinder head_up answer outcome ends untaken balance outstanding arrival block_of
 last_credit_balance = refl
 
@@ -52,7 +52,7 @@ doubled =
     ∷ []
 
 pub doubled_legal : IsLegal (settings 4 2) doubled
-unfolding moment collect command_of command is_waiting waiting done good passes_at passes is_free is_startable startable
+unfolding moment collect command_of command is_waiting waiting done good passed_at passed is_free is_startable startable
     figure figure_of is_online head_cylinder head_up answer outcome ends untaken balance outstanding arrival block_of
 doubled_legal = legal_from (settings 4 2) doubled (refl, (refl, (refl, (refl, (refl, tt)))))
 
@@ -64,13 +64,13 @@ lengths =
     ∷ []
 
 pub lengths_legal : IsLegal (settings 4 2) lengths
-unfolding moment collect command_of command is_waiting waiting done good passes_at passes is_free is_startable startable
+unfolding moment collect command_of command is_waiting waiting done good passed_at passed is_free is_startable startable
     figure figure_of is_online head_cylinder head_up answer outcome ends untaken balance outstanding arrival block_of
 lengths_legal = legal_from (settings 4 2) lengths (refl, (refl, tt))
 
 -- All credits are there.
 lengths_balance : balance (settings 4 2) lengths ≡ 4
-unfolding moment collect command_of command is_waiting waiting done good passes_at passes is_free is_startable startable
+unfolding moment collect command_of command is_waiting waiting done good passed_at passed is_free is_startable startable
     figure figure_of is_online head_cylinder head_up answer outcome ends untaken balance outstanding arrival block_of
 lengths_balance = refl
 
@@ -83,7 +83,7 @@ nothing =
     ∷ []
 
 pub nothing_legal : IsLegal (settings 4 2) nothing
-unfolding moment collect command_of command is_waiting waiting done good passes_at passes is_free is_startable startable
+unfolding moment collect command_of command is_waiting waiting done good passed_at passed is_free is_startable startable
     figure figure_of is_online head_cylinder head_up answer outcome ends untaken balance outstanding arrival block_of
 nothing_legal = legal_from (settings 4 2) nothing (refl, (refl, (refl, tt)))
 
@@ -98,6 +98,6 @@ by_opcode =
     ∷ []
 
 pub by_opcode_legal : IsLegal (settings 2 2) by_opcode
-unfolding moment collect command_of command is_waiting waiting done good passes_at passes is_free is_startable startable
+unfolding moment collect command_of command is_waiting waiting done good passed_at passed is_free is_startable startable
     figure figure_of is_online head_cylinder head_up answer outcome ends untaken balance outstanding arrival block_of
 by_opcode_legal = legal_from (settings 2 2) by_opcode (refl, (refl, (refl, (refl, tt))))

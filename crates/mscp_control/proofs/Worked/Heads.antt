@@ -7,7 +7,7 @@ use Rattle.mscp_packet.specs.Commands.{command_of}
 use Rattle.mscp_queue.specs.declared.block.Block.TheVariants.{Good, Bad}
 use Rattle.mscp_control.specs.History.{Trace, moment, collect}
 use Rattle.mscp_control.specs.Commands.{command, is_waiting, waiting, done, good}
-use Rattle.mscp_control.specs.Passing.{passes_at, passes, is_free, is_startable, startable}
+use Rattle.mscp_control.specs.Passing.{passed_at, passed, is_free, is_startable, startable}
 use Rattle.mscp_control.specs.Figures.{figure, figure_of}
 use Rattle.mscp_control.specs.Units.{is_online, head_cylinder, head_up, head}
 use Rattle.mscp_control.specs.Ends.{answer, outcome}
@@ -32,7 +32,7 @@ up_and_down =
     ∷ []
 
 pub up_and_down_legal : IsLegal (settings 8 8) up_and_down
-unfolding moment collect command_of command is_waiting waiting done good passes_at passes is_free is_startable startable
+unfolding moment collect command_of command is_waiting waiting done good passed_at passed is_free is_startable startable
     figure figure_of is_online head_cylinder head_up answer outcome ends untaken balance outstanding arrival block_of
 up_and_down_legal = legal_from (settings 8 8) up_and_down
     (refl, (by_serving 0 refl refl refl, (refl, (refl,
@@ -41,19 +41,19 @@ up_and_down_legal = legal_from (settings 8 8) up_and_down
 
 -- At first it goes up.
 up_and_down_up : head (settings 8 8) (take 5 up_and_down) 0 ≡ record { cylinder = 10; up = true }
-unfolding moment collect command_of command is_waiting waiting done good passes_at passes is_free is_startable startable
+unfolding moment collect command_of command is_waiting waiting done good passed_at passed is_free is_startable startable
     figure figure_of is_online head_cylinder head_up answer outcome ends untaken balance outstanding arrival block_of
 up_and_down_up = refl
 
 -- It goes on up.
 up_and_down_on : head (settings 8 8) (take 9 up_and_down) 0 ≡ record { cylinder = 30; up = true }
-unfolding moment collect command_of command is_waiting waiting done good passes_at passes is_free is_startable startable
+unfolding moment collect command_of command is_waiting waiting done good passed_at passed is_free is_startable startable
     figure figure_of is_online head_cylinder head_up answer outcome ends untaken balance outstanding arrival block_of
 up_and_down_on = refl
 
 -- Then it goes down.
 up_and_down_down : head (settings 8 8) (take 10 up_and_down) 0 ≡ record { cylinder = 8; up = false }
-unfolding moment collect command_of command is_waiting waiting done good passes_at passes is_free is_startable startable
+unfolding moment collect command_of command is_waiting waiting done good passed_at passed is_free is_startable startable
     figure figure_of is_online head_cylinder head_up answer outcome ends untaken balance outstanding arrival block_of
 up_and_down_down = refl
 
@@ -69,7 +69,7 @@ carried =
     ∷ []
 
 pub carried_legal : IsLegal (settings 8 8) carried
-unfolding moment collect command_of command is_waiting waiting done good passes_at passes is_free is_startable startable
+unfolding moment collect command_of command is_waiting waiting done good passed_at passed is_free is_startable startable
     figure figure_of is_online head_cylinder head_up answer outcome ends untaken balance outstanding arrival block_of
 carried_legal = legal_from (settings 8 8) carried (refl,
     (by_serving 0 refl refl refl, (refl, (refl, (by_serving 3 refl refl refl,
@@ -77,13 +77,13 @@ carried_legal = legal_from (settings 8 8) carried (refl,
 
 -- The transfer began on the way down.
 carried_started : head (settings 8 8) (take 7 carried) 0 ≡ record { cylinder = 1; up = false }
-unfolding moment collect command_of command is_waiting waiting done good passes_at passes is_free is_startable startable
+unfolding moment collect command_of command is_waiting waiting done good passed_at passed is_free is_startable startable
     figure figure_of is_online head_cylinder head_up answer outcome ends untaken balance outstanding arrival block_of
 carried_started = refl
 
 -- Its later block does not turn the head.
 carried_keeps : head (settings 8 8) carried 0 ≡ record { cylinder = 2; up = false }
-unfolding moment collect command_of command is_waiting waiting done good passes_at passes is_free is_startable startable
+unfolding moment collect command_of command is_waiting waiting done good passed_at passed is_free is_startable startable
     figure figure_of is_online head_cylinder head_up answer outcome ends untaken balance outstanding arrival block_of
 carried_keeps = refl
 
@@ -96,14 +96,14 @@ bad_touched =
     ∷ []
 
 pub bad_touched_legal : IsLegal (settings 4 2) bad_touched
-unfolding moment collect command_of command is_waiting waiting done good passes_at passes is_free is_startable startable
+unfolding moment collect command_of command is_waiting waiting done good passed_at passed is_free is_startable startable
     figure figure_of is_online head_cylinder head_up answer outcome ends untaken balance outstanding arrival block_of
 bad_touched_legal = legal_from (settings 4 2) bad_touched
     (refl, (by_serving 0 refl refl refl, (refl, (refl, (by_serving 3 refl refl refl, tt)))))
 
 -- The head is there.
 bad_touched_head : head (settings 4 2) bad_touched 0 ≡ record { cylinder = 40; up = true }
-unfolding moment collect command_of command is_waiting waiting done good passes_at passes is_free is_startable startable
+unfolding moment collect command_of command is_waiting waiting done good passed_at passed is_free is_startable startable
     figure figure_of is_online head_cylinder head_up answer outcome ends untaken balance outstanding arrival block_of
 bad_touched_head = refl
 
@@ -132,7 +132,7 @@ two_heads =
     ∷ []
 
 pub two_heads_legal : IsLegal (two_units 8 2) two_heads
-unfolding moment collect command_of command is_waiting waiting done good passes_at passes is_free is_startable startable
+unfolding moment collect command_of command is_waiting waiting done good passed_at passed is_free is_startable startable
     figure figure_of is_online head_cylinder head_up answer outcome ends untaken balance outstanding arrival block_of
 two_heads_legal = legal_from (two_units 8 2) two_heads
     (refl, (refl, (by_serving 0 refl refl refl, (by_serving 1 refl refl refl,
@@ -141,18 +141,18 @@ two_heads_legal = legal_from (two_units 8 2) two_heads
 
 -- The first read of each unit may start.
 two_heads_startable : startable (two_units 8 2) (take 10 two_heads) ≡ 6 ∷ 9 ∷ []
-unfolding moment collect command_of command is_waiting waiting done good passes_at passes is_free is_startable startable
+unfolding moment collect command_of command is_waiting waiting done good passed_at passed is_free is_startable startable
     figure figure_of is_online head_cylinder head_up answer outcome ends untaken balance outstanding arrival block_of
 two_heads_startable = refl
 
 -- The head of the first unit went up and down.
 two_heads_first : head (two_units 8 2) two_heads 0 ≡ record { cylinder = 0; up = false }
-unfolding moment collect command_of command is_waiting waiting done good passes_at passes is_free is_startable startable
+unfolding moment collect command_of command is_waiting waiting done good passed_at passed is_free is_startable startable
     figure figure_of is_online head_cylinder head_up answer outcome ends untaken balance outstanding arrival block_of
 two_heads_first = refl
 
 -- That of the second never moved.
 two_heads_second : head (two_units 8 2) two_heads 1 ≡ record { cylinder = 0; up = true }
-unfolding moment collect command_of command is_waiting waiting done good passes_at passes is_free is_startable startable
+unfolding moment collect command_of command is_waiting waiting done good passed_at passed is_free is_startable startable
     figure figure_of is_online head_cylinder head_up answer outcome ends untaken balance outstanding arrival block_of
 two_heads_second = refl

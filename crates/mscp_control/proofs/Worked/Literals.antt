@@ -27,16 +27,16 @@ shape number = record { number = number; track = 10; group = 2; cylinder = 1; si
 
 -- so many credits and passes, transfers of at most 8 blocks, and these units
 abbrev pub settings_of : List Shape → ℕ → ℕ → Settings
-settings_of units credits passing = record { credits = credits; passing = passing; longest = 8; timeout = 60; id =
+settings_of units credits budget = record { credits = credits; budget = budget; longest = 8; timeout = 60; id =
     1; units = units }
 
 -- the same with unit 0 alone
 abbrev pub settings : ℕ → ℕ → Settings
-settings credits passing = settings_of (shape 0 ∷ []) credits passing
+settings credits budget = settings_of (shape 0 ∷ []) credits budget
 
 -- and with units 0 and 1
 abbrev pub two_units : ℕ → ℕ → Settings
-two_units credits passing = settings_of (shape 0 ∷ shape 1 ∷ []) credits passing
+two_units credits budget = settings_of (shape 0 ∷ shape 1 ∷ []) credits budget
 
 -- a read of so many bytes from this block on
 abbrev pub read : ℕ → ℕ → Order

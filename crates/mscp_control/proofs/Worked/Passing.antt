@@ -5,7 +5,7 @@ use Rattle.mscp_packet.specs.Commands.{command_of}
 use Rattle.mscp_queue.specs.declared.block.Block.TheVariants.{Good}
 use Rattle.mscp_control.specs.History.{Trace, moment, collect}
 use Rattle.mscp_control.specs.Commands.{command, is_waiting, waiting, done, good}
-use Rattle.mscp_control.specs.Passing.{passes_at, passes, is_free, is_startable, startable}
+use Rattle.mscp_control.specs.Passing.{passed_at, passed, is_free, is_startable, startable}
 use Rattle.mscp_control.specs.Figures.{figure, figure_of}
 use Rattle.mscp_control.specs.Units.{is_online, head_cylinder, head_up}
 use Rattle.mscp_control.specs.Ends.{answer, outcome}
@@ -28,7 +28,7 @@ in_order =
     ∷ []
 
 pub in_order_legal : IsLegal (settings 5 0) in_order
-unfolding moment collect command_of command is_waiting waiting done good passes_at passes is_free is_startable startable
+unfolding moment collect command_of command is_waiting waiting done good passed_at passed is_free is_startable startable
     figure figure_of is_online head_cylinder head_up answer outcome ends untaken balance outstanding arrival block_of
 in_order_legal = legal_from (settings 5 0) in_order
     (refl, (by_serving 0 refl refl refl, (refl, (refl,
@@ -36,13 +36,13 @@ in_order_legal = legal_from (settings 5 0) in_order
 
 -- Each time the first alone may start.
 in_order_startable : startable (settings 5 0) (take 6 in_order) ≡ 3 ∷ []
-unfolding moment collect command_of command is_waiting waiting done good passes_at passes is_free is_startable startable
+unfolding moment collect command_of command is_waiting waiting done good passed_at passed is_free is_startable startable
     figure figure_of is_online head_cylinder head_up answer outcome ends untaken balance outstanding arrival block_of
 in_order_startable = refl
 
 -- Then the second.
 in_order_startable_then : startable (settings 5 0) (take 7 in_order) ≡ 4 ∷ []
-unfolding moment collect command_of command is_waiting waiting done good passes_at passes is_free is_startable startable
+unfolding moment collect command_of command is_waiting waiting done good passed_at passed is_free is_startable startable
     figure figure_of is_online head_cylinder head_up answer outcome ends untaken balance outstanding arrival block_of
 in_order_startable_then = refl
 
@@ -63,7 +63,7 @@ passed_once =
     ∷ []
 
 pub passed_once_legal : IsLegal (settings 5 1) passed_once
-unfolding moment collect command_of command is_waiting waiting done good passes_at passes is_free is_startable startable
+unfolding moment collect command_of command is_waiting waiting done good passed_at passed is_free is_startable startable
     figure figure_of is_online head_cylinder head_up answer outcome ends untaken balance outstanding arrival block_of
 passed_once_legal = legal_from (settings 5 1) passed_once
     (refl, (by_serving 0 refl refl refl, (refl, (refl,
@@ -72,19 +72,19 @@ passed_once_legal = legal_from (settings 5 1) passed_once
 
 -- At first any may start.
 passed_once_startable : startable (settings 5 1) (take 7 passed_once) ≡ 3 ∷ 4 ∷ 5 ∷ []
-unfolding moment collect command_of command is_waiting waiting done good passes_at passes is_free is_startable startable
+unfolding moment collect command_of command is_waiting waiting done good passed_at passed is_free is_startable startable
     figure figure_of is_online head_cylinder head_up answer outcome ends untaken balance outstanding arrival block_of
 passed_once_startable = refl
 
 -- Then the first was passed as often as may be.
 passed_once_startable_then : startable (settings 5 1) (take 9 passed_once) ≡ 3 ∷ []
-unfolding moment collect command_of command is_waiting waiting done good passes_at passes is_free is_startable startable
+unfolding moment collect command_of command is_waiting waiting done good passed_at passed is_free is_startable startable
     figure figure_of is_online head_cylinder head_up answer outcome ends untaken balance outstanding arrival block_of
 passed_once_startable_then = refl
 
 -- It was passed once.
-passed_once_passes : passes (take 9 passed_once) 3 ≡ 1
-unfolding moment collect command_of command is_waiting waiting done good passes_at passes is_free is_startable startable
+passed_once_passes : passed (take 9 passed_once) 3 ≡ 1
+unfolding moment collect command_of command is_waiting waiting done good passed_at passed is_free is_startable startable
     figure figure_of is_online head_cylinder head_up answer outcome ends untaken balance outstanding arrival block_of
 passed_once_passes = refl
 
@@ -101,21 +101,21 @@ passed_twice =
     ∷ []
 
 pub passed_twice_legal : IsLegal (settings 5 2) passed_twice
-unfolding moment collect command_of command is_waiting waiting done good passes_at passes is_free is_startable startable
+unfolding moment collect command_of command is_waiting waiting done good passed_at passed is_free is_startable startable
     figure figure_of is_online head_cylinder head_up answer outcome ends untaken balance outstanding arrival block_of
 passed_twice_legal = legal_from (settings 5 2) passed_twice
     (refl, (by_serving 0 refl refl refl, (refl, (refl,
     (refl, (refl, (by_serving 4 refl refl refl, (by_serving 5 refl refl refl, (by_serving 3 refl refl refl, tt)))))))))
 
 -- The first was passed twice.
-passed_twice_passes : passes (take 8 passed_twice) 3 ≡ 2
-unfolding moment collect command_of command is_waiting waiting done good passes_at passes is_free is_startable startable
+passed_twice_passes : passed (take 8 passed_twice) 3 ≡ 2
+unfolding moment collect command_of command is_waiting waiting done good passed_at passed is_free is_startable startable
     figure figure_of is_online head_cylinder head_up answer outcome ends untaken balance outstanding arrival block_of
 passed_twice_passes = refl
 
 -- The second, which started first, was never passed.
-passed_twice_second : passes (take 8 passed_twice) 4 ≡ 0
-unfolding moment collect command_of command is_waiting waiting done good passes_at passes is_free is_startable startable
+passed_twice_second : passed (take 8 passed_twice) 4 ≡ 0
+unfolding moment collect command_of command is_waiting waiting done good passed_at passed is_free is_startable startable
     figure figure_of is_online head_cylinder head_up answer outcome ends untaken balance outstanding arrival block_of
 passed_twice_second = refl
 
@@ -132,21 +132,21 @@ passed_each =
     ∷ []
 
 pub passed_each_legal : IsLegal (settings 8 1) passed_each
-unfolding moment collect command_of command is_waiting waiting done good passes_at passes is_free is_startable startable
+unfolding moment collect command_of command is_waiting waiting done good passed_at passed is_free is_startable startable
     figure figure_of is_online head_cylinder head_up answer outcome ends untaken balance outstanding arrival block_of
 passed_each_legal = legal_from (settings 8 1) passed_each
     (refl, (by_serving 0 refl refl refl, (refl, (refl,
     (refl, (refl, (refl, (by_serving 6 refl refl refl, (by_serving 3 refl refl refl, tt)))))))))
 
 -- The second was passed by the fourth, as the first was.
-passed_each_passes : passes (take 8 passed_each) 4 ≡ 1
-unfolding moment collect command_of command is_waiting waiting done good passes_at passes is_free is_startable startable
+passed_each_passes : passed (take 8 passed_each) 4 ≡ 1
+unfolding moment collect command_of command is_waiting waiting done good passed_at passed is_free is_startable startable
     figure figure_of is_online head_cylinder head_up answer outcome ends untaken balance outstanding arrival block_of
 passed_each_passes = refl
 
 -- So the third may not start before the second.
 passed_each_startable : startable (settings 8 1) (take 9 passed_each) ≡ 4 ∷ []
-unfolding moment collect command_of command is_waiting waiting done good passes_at passes is_free is_startable startable
+unfolding moment collect command_of command is_waiting waiting done good passed_at passed is_free is_startable startable
     figure figure_of is_online head_cylinder head_up answer outcome ends untaken balance outstanding arrival block_of
 passed_each_startable = refl
 
@@ -162,13 +162,13 @@ overtaken =
     ∷ []
 
 pub overtaken_legal : IsLegal (settings 5 1) overtaken
-unfolding moment collect command_of command is_waiting waiting done good passes_at passes is_free is_startable startable
+unfolding moment collect command_of command is_waiting waiting done good passed_at passed is_free is_startable startable
     figure figure_of is_online head_cylinder head_up answer outcome ends untaken balance outstanding arrival block_of
 overtaken_legal = legal_from (settings 5 1) overtaken
     (refl, (by_serving 0 refl refl refl, (refl, (refl, (refl, (refl, (by_serving 4 refl refl refl, (refl, tt))))))))
 
 -- Where a command is in service, none may start.
 overtaken_startable : startable (settings 5 1) (take 7 overtaken) ≡ []
-unfolding moment collect command_of command is_waiting waiting done good passes_at passes is_free is_startable startable
+unfolding moment collect command_of command is_waiting waiting done good passed_at passed is_free is_startable startable
     figure figure_of is_online head_cylinder head_up answer outcome ends untaken balance outstanding arrival block_of
 overtaken_startable = refl

@@ -6,7 +6,7 @@ use Rattle.mscp_packet.specs.Commands.{command_of}
 use Rattle.mscp_queue.specs.declared.block.Block.TheVariants.{Good}
 use Rattle.mscp_control.specs.History.{Trace, moment, collect}
 use Rattle.mscp_control.specs.Commands.{command, is_waiting, waiting, done, good}
-use Rattle.mscp_control.specs.Passing.{passes_at, passes, is_free, is_startable, startable}
+use Rattle.mscp_control.specs.Passing.{passed_at, passed, is_free, is_startable, startable}
 use Rattle.mscp_control.specs.Figures.{figure, figure_of}
 use Rattle.mscp_control.specs.Units.{is_online, head_cylinder, head_up}
 use Rattle.mscp_control.specs.Ends.{answer, outcome}
@@ -31,7 +31,7 @@ polled =
     ∷ []
 
 pub polled_legal : IsLegal (settings 4 0) polled
-unfolding moment collect command_of command is_waiting waiting done good passes_at passes is_free is_startable startable
+unfolding moment collect command_of command is_waiting waiting done good passed_at passed is_free is_startable startable
     figure figure_of is_online head_cylinder head_up answer outcome ends untaken balance outstanding arrival block_of
 polled_legal = legal_from (settings 4 0) polled (refl,
     (by_serving 0 refl refl refl, (refl, (refl, (refl,
@@ -39,7 +39,7 @@ polled_legal = legal_from (settings 4 0) polled (refl,
 
 -- Before its first step two steps are left.
 polled_figure : figure (settings 4 0) (take 4 polled) 3 ≡ 2
-unfolding moment collect command_of command is_waiting waiting done good passes_at passes is_free is_startable startable
+unfolding moment collect command_of command is_waiting waiting done good passed_at passed is_free is_startable startable
     figure figure_of is_online head_cylinder head_up answer outcome ends untaken balance outstanding arrival block_of
 polled_figure = refl
 
@@ -58,7 +58,7 @@ watched =
     ∷ []
 
 pub watched_legal : IsLegal (settings 4 2) watched
-unfolding moment collect command_of command is_waiting waiting done good passes_at passes is_free is_startable startable
+unfolding moment collect command_of command is_waiting waiting done good passed_at passed is_free is_startable startable
     figure figure_of is_online head_cylinder head_up answer outcome ends untaken balance outstanding arrival block_of
 watched_legal = legal_from (settings 4 2) watched (refl,
     (by_serving 0 refl refl refl, (refl, (refl, (refl,
@@ -66,13 +66,13 @@ watched_legal = legal_from (settings 4 2) watched (refl,
 
 -- At first it is 2 * 8 + 2.
 watched_figure : figure (settings 4 2) (take 4 watched) 3 ≡ 18
-unfolding moment collect command_of command is_waiting waiting done good passes_at passes is_free is_startable startable
+unfolding moment collect command_of command is_waiting waiting done good passed_at passed is_free is_startable startable
     figure figure_of is_online head_cylinder head_up answer outcome ends untaken balance outstanding arrival block_of
 watched_figure = refl
 
 -- Where everything was taken all credits are back.
 watched_balance : balance (settings 4 2) watched ≡ 4
-unfolding moment collect command_of command is_waiting waiting done good passes_at passes is_free is_startable startable
+unfolding moment collect command_of command is_waiting waiting done good passed_at passed is_free is_startable startable
     figure figure_of is_online head_cylinder head_up answer outcome ends untaken balance outstanding arrival block_of
 watched_balance = refl
 
@@ -84,7 +84,7 @@ unknown_polled =
     ∷ []
 
 pub unknown_polled_legal : IsLegal (settings 4 2) unknown_polled
-unfolding moment collect command_of command is_waiting waiting done good passes_at passes is_free is_startable startable
+unfolding moment collect command_of command is_waiting waiting done good passed_at passed is_free is_startable startable
     figure figure_of is_online head_cylinder head_up answer outcome ends untaken balance outstanding arrival block_of
 unknown_polled_legal = legal_from (settings 4 2) unknown_polled (refl, (refl, tt))
 
@@ -103,7 +103,7 @@ used_again =
     ∷ []
 
 pub used_again_legal : IsLegal (settings 4 2) used_again
-unfolding moment collect command_of command is_waiting waiting done good passes_at passes is_free is_startable startable
+unfolding moment collect command_of command is_waiting waiting done good passed_at passed is_free is_startable startable
     figure figure_of is_online head_cylinder head_up answer outcome ends untaken balance outstanding arrival block_of
 used_again_legal = legal_from (settings 4 2) used_again
     (refl, (by_serving 0 refl refl refl, (refl, (refl,

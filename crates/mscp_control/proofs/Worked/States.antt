@@ -7,7 +7,7 @@ use Rattle.mscp_packet.specs.Commands.{command_of}
 use Rattle.mscp_queue.specs.declared.block.Block.TheVariants.{Good, Bad}
 use Rattle.mscp_control.specs.History.{Trace, moment, collect}
 use Rattle.mscp_control.specs.Commands.{command, is_waiting, waiting, done, good}
-use Rattle.mscp_control.specs.Passing.{passes_at, passes, is_free, is_startable, startable}
+use Rattle.mscp_control.specs.Passing.{passed_at, passed, is_free, is_startable, startable}
 use Rattle.mscp_control.specs.Figures.{figure, figure_of}
 use Rattle.mscp_control.specs.Units.{is_online, head_cylinder, head_up, head}
 use Rattle.mscp_control.specs.Ends.{answer, outcome}
@@ -29,14 +29,14 @@ twice_online =
     ∷ []
 
 pub twice_online_legal : IsLegal (settings 4 2) twice_online
-unfolding moment collect command_of command is_waiting waiting done good passes_at passes is_free is_startable startable
+unfolding moment collect command_of command is_waiting waiting done good passed_at passed is_free is_startable startable
     figure figure_of is_online head_cylinder head_up answer outcome ends untaken balance outstanding arrival block_of
 twice_online_legal = legal_from (settings 4 2) twice_online
     (refl, (by_serving 0 refl refl refl, (refl, (refl, (by_serving 3 refl refl refl, (refl, tt))))))
 
 -- The unit stays online.
 twice_online_stays : is_online twice_online 0 ≡ true
-unfolding moment collect command_of command is_waiting waiting done good passes_at passes is_free is_startable startable
+unfolding moment collect command_of command is_waiting waiting done good passed_at passed is_free is_startable startable
     figure figure_of is_online head_cylinder head_up answer outcome ends untaken balance outstanding arrival block_of
 twice_online_stays = refl
 
@@ -61,7 +61,7 @@ made_available =
     ∷ []
 
 pub made_available_legal : IsLegal (settings 5 2) made_available
-unfolding moment collect command_of command is_waiting waiting done good passes_at passes is_free is_startable startable
+unfolding moment collect command_of command is_waiting waiting done good passed_at passed is_free is_startable startable
     figure figure_of is_online head_cylinder head_up answer outcome ends untaken balance outstanding arrival block_of
 made_available_legal = legal_from (settings 5 2) made_available
     (refl, (refl, (refl, (refl, (by_serving 0 refl refl refl,
@@ -70,19 +70,19 @@ made_available_legal = legal_from (settings 5 2) made_available
 
 -- At first the ONLINE alone may start.
 made_available_startable : startable (settings 5 2) (take 4 made_available) ≡ 0 ∷ []
-unfolding moment collect command_of command is_waiting waiting done good passes_at passes is_free is_startable startable
+unfolding moment collect command_of command is_waiting waiting done good passed_at passed is_free is_startable startable
     figure figure_of is_online head_cylinder head_up answer outcome ends untaken balance outstanding arrival block_of
 made_available_startable = refl
 
 -- After two steps the unit is online.
 made_available_online : is_online (take 6 made_available) 0 ≡ true
-unfolding moment collect command_of command is_waiting waiting done good passes_at passes is_free is_startable startable
+unfolding moment collect command_of command is_waiting waiting done good passed_at passed is_free is_startable startable
     figure figure_of is_online head_cylinder head_up answer outcome ends untaken balance outstanding arrival block_of
 made_available_online = refl
 
 -- At last it is available.
 made_available_then : is_online made_available 0 ≡ false
-unfolding moment collect command_of command is_waiting waiting done good passes_at passes is_free is_startable startable
+unfolding moment collect command_of command is_waiting waiting done good passed_at passed is_free is_startable startable
     figure figure_of is_online head_cylinder head_up answer outcome ends untaken balance outstanding arrival block_of
 made_available_then = refl
 
@@ -106,7 +106,7 @@ available_before_bad =
     ∷ []
 
 pub available_before_bad_legal : IsLegal (settings 5 2) available_before_bad
-unfolding moment collect command_of command is_waiting waiting done good passes_at passes is_free is_startable startable
+unfolding moment collect command_of command is_waiting waiting done good passed_at passed is_free is_startable startable
     figure figure_of is_online head_cylinder head_up answer outcome ends untaken balance outstanding arrival block_of
 available_before_bad_legal = legal_from (settings 5 2) available_before_bad
     (refl, (refl, (refl, (refl, (by_serving 0 refl refl refl,
@@ -115,7 +115,7 @@ available_before_bad_legal = legal_from (settings 5 2) available_before_bad
 
 -- The head is where it was.
 available_before_bad_head : head (settings 5 2) available_before_bad 0 ≡ record { cylinder = 0; up = true }
-unfolding moment collect command_of command is_waiting waiting done good passes_at passes is_free is_startable startable
+unfolding moment collect command_of command is_waiting waiting done good passed_at passed is_free is_startable startable
     figure figure_of is_online head_cylinder head_up answer outcome ends untaken balance outstanding arrival block_of
 available_before_bad_head = refl
 
@@ -133,14 +133,14 @@ bad_online =
     ∷ []
 
 pub bad_online_legal : IsLegal (settings 4 2) bad_online
-unfolding moment collect command_of command is_waiting waiting done good passes_at passes is_free is_startable startable
+unfolding moment collect command_of command is_waiting waiting done good passed_at passed is_free is_startable startable
     figure figure_of is_online head_cylinder head_up answer outcome ends untaken balance outstanding arrival block_of
 bad_online_legal = legal_from (settings 4 2) bad_online
     (refl, (by_serving 0 refl refl refl, (refl, (refl, (refl, tt)))))
 
 -- The unit is available.
 bad_online_state : is_online bad_online 0 ≡ false
-unfolding moment collect command_of command is_waiting waiting done good passes_at passes is_free is_startable startable
+unfolding moment collect command_of command is_waiting waiting done good passed_at passed is_free is_startable startable
     figure figure_of is_online head_cylinder head_up answer outcome ends untaken balance outstanding arrival block_of
 bad_online_state = refl
 
@@ -158,14 +158,14 @@ bad_available =
     ∷ []
 
 pub bad_available_legal : IsLegal (settings 4 2) bad_available
-unfolding moment collect command_of command is_waiting waiting done good passes_at passes is_free is_startable startable
+unfolding moment collect command_of command is_waiting waiting done good passed_at passed is_free is_startable startable
     figure figure_of is_online head_cylinder head_up answer outcome ends untaken balance outstanding arrival block_of
 bad_available_legal = legal_from (settings 4 2) bad_available
     (refl, (by_serving 0 refl refl refl, (refl, (refl, (by_serving 3 refl refl refl, (refl, (refl, (refl, tt))))))))
 
 -- The unit is online.
 bad_available_state : is_online bad_available 0 ≡ true
-unfolding moment collect command_of command is_waiting waiting done good passes_at passes is_free is_startable startable
+unfolding moment collect command_of command is_waiting waiting done good passed_at passed is_free is_startable startable
     figure figure_of is_online head_cylinder head_up answer outcome ends untaken balance outstanding arrival block_of
 bad_available_state = refl
 
@@ -179,7 +179,7 @@ unit_asked =
     ∷ []
 
 pub unit_asked_legal : IsLegal (settings 4 2) unit_asked
-unfolding moment collect command_of command is_waiting waiting done good passes_at passes is_free is_startable startable
+unfolding moment collect command_of command is_waiting waiting done good passed_at passed is_free is_startable startable
     figure figure_of is_online head_cylinder head_up answer outcome ends untaken balance outstanding arrival block_of
 unit_asked_legal = legal_from (settings 4 2) unit_asked (refl, (refl, tt))
 
@@ -194,7 +194,7 @@ unit_asked_online =
     ∷ []
 
 pub unit_asked_online_legal : IsLegal (settings 4 2) unit_asked_online
-unfolding moment collect command_of command is_waiting waiting done good passes_at passes is_free is_startable startable
+unfolding moment collect command_of command is_waiting waiting done good passed_at passed is_free is_startable startable
     figure figure_of is_online head_cylinder head_up answer outcome ends untaken balance outstanding arrival block_of
 unit_asked_online_legal = legal_from (settings 4 2) unit_asked_online
     (refl, (by_serving 0 refl refl refl, (refl, (refl, (refl, tt)))))
@@ -211,12 +211,12 @@ unit_set =
     ∷ []
 
 pub unit_set_legal : IsLegal (settings 4 2) unit_set
-unfolding moment collect command_of command is_waiting waiting done good passes_at passes is_free is_startable startable
+unfolding moment collect command_of command is_waiting waiting done good passed_at passed is_free is_startable startable
     figure figure_of is_online head_cylinder head_up answer outcome ends untaken balance outstanding arrival block_of
 unit_set_legal = legal_from (settings 4 2) unit_set (refl, (by_serving 0 refl refl refl, (refl, tt)))
 
 -- The unit is available.
 unit_set_state : is_online unit_set 0 ≡ false
-unfolding moment collect command_of command is_waiting waiting done good passes_at passes is_free is_startable startable
+unfolding moment collect command_of command is_waiting waiting done good passed_at passed is_free is_startable startable
     figure figure_of is_online head_cylinder head_up answer outcome ends untaken balance outstanding arrival block_of
 unit_set_state = refl

@@ -5,7 +5,7 @@ use Rattle.mscp_packet.specs.Commands.{command_of}
 use Rattle.mscp_queue.specs.declared.block.Block.TheVariants.{Good}
 use Rattle.mscp_control.specs.History.{Trace, moment, collect}
 use Rattle.mscp_control.specs.Commands.{command, is_waiting, waiting, done, good}
-use Rattle.mscp_control.specs.Passing.{passes_at, passes, is_free, is_startable, startable}
+use Rattle.mscp_control.specs.Passing.{passed_at, passed, is_free, is_startable, startable}
 use Rattle.mscp_control.specs.Figures.{figure, figure_of}
 use Rattle.mscp_control.specs.Units.{cost, is_online, head_cylinder, head_up}
 use Rattle.mscp_control.specs.Ends.{answer, outcome}
@@ -23,14 +23,14 @@ use Rattle.mscp_control.proofs.Worked.Passing.{in_order, passed_once, passed_twi
 -- From cylinder 10 on the way up, to cylinders 5, 30 and 8.
 from_ten : map (cost (settings 8 8) (take 8 up_and_down)) (startable (settings 8 8) (take 8 up_and_down)) ≡ 83 ∷ 20 ∷ 80
     ∷ []
-unfolding moment collect command_of command is_waiting waiting done good passes_at passes is_free is_startable startable
+unfolding moment collect command_of command is_waiting waiting done good passed_at passed is_free is_startable startable
     figure figure_of is_online head_cylinder head_up cost swept answer outcome ends untaken balance outstanding arrival
     block_of
 from_ten = refl
 
 -- So the third of the four comes first,
 third_first : swept (settings 8 8) (take 8 up_and_down) ≡ Some 6
-unfolding moment collect command_of command is_waiting waiting done good passes_at passes is_free is_startable startable
+unfolding moment collect command_of command is_waiting waiting done good passed_at passed is_free is_startable startable
     figure figure_of is_online head_cylinder head_up cost swept answer outcome ends untaken balance outstanding arrival
     block_of
 third_first = refl
@@ -38,35 +38,35 @@ third_first = refl
 -- from cylinder 30 the others are as far as the end of the unit and back,
 from_thirty : map (cost (settings 8 8) (take 9 up_and_down)) (startable (settings 8 8) (take 9 up_and_down)) ≡ 63 ∷ 60
     ∷ []
-unfolding moment collect command_of command is_waiting waiting done good passes_at passes is_free is_startable startable
+unfolding moment collect command_of command is_waiting waiting done good passed_at passed is_free is_startable startable
     figure figure_of is_online head_cylinder head_up cost swept answer outcome ends untaken balance outstanding arrival
     block_of
 from_thirty = refl
 
 -- the fourth comes then,
 fourth_then : swept (settings 8 8) (take 9 up_and_down) ≡ Some 7
-unfolding moment collect command_of command is_waiting waiting done good passes_at passes is_free is_startable startable
+unfolding moment collect command_of command is_waiting waiting done good passed_at passed is_free is_startable startable
     figure figure_of is_online head_cylinder head_up cost swept answer outcome ends untaken balance outstanding arrival
     block_of
 fourth_then = refl
 
 -- and from cylinder 8 on the way down it is no way to cylinder 5.
 down_to_five : map (cost (settings 8 8) (take 10 up_and_down)) (startable (settings 8 8) (take 10 up_and_down)) ≡ 3 ∷ []
-unfolding moment collect command_of command is_waiting waiting done good passes_at passes is_free is_startable startable
+unfolding moment collect command_of command is_waiting waiting done good passed_at passed is_free is_startable startable
     figure figure_of is_online head_cylinder head_up cost swept answer outcome ends untaken balance outstanding arrival
     block_of
 down_to_five = refl
 
 -- So the second comes last.
 second_last : swept (settings 8 8) (take 10 up_and_down) ≡ Some 5
-unfolding moment collect command_of command is_waiting waiting done good passes_at passes is_free is_startable startable
+unfolding moment collect command_of command is_waiting waiting done good passed_at passed is_free is_startable startable
     figure figure_of is_online head_cylinder head_up cost swept answer outcome ends untaken balance outstanding arrival
     block_of
 second_last = refl
 
 -- Where nothing waits, nothing is swept.
 none_left : swept (settings 8 8) up_and_down ≡ None
-unfolding moment collect command_of command is_waiting waiting done good passes_at passes is_free is_startable startable
+unfolding moment collect command_of command is_waiting waiting done good passed_at passed is_free is_startable startable
     figure figure_of is_online head_cylinder head_up cost swept answer outcome ends untaken balance outstanding arrival
     block_of
 none_left = refl
@@ -75,42 +75,42 @@ none_left = refl
 
 -- None may be passed: the first is taken, though both others are nearer.
 kept_in_order : swept (settings 5 0) (take 6 in_order) ≡ Some 3
-unfolding moment collect command_of command is_waiting waiting done good passes_at passes is_free is_startable startable
+unfolding moment collect command_of command is_waiting waiting done good passed_at passed is_free is_startable startable
     figure figure_of is_online head_cylinder head_up cost swept answer outcome ends untaken balance outstanding arrival
     block_of
 kept_in_order = refl
 
 -- Each may be passed once: the nearest is taken,
 nearest_first : swept (settings 5 1) (take 7 passed_once) ≡ Some 4
-unfolding moment collect command_of command is_waiting waiting done good passes_at passes is_free is_startable startable
+unfolding moment collect command_of command is_waiting waiting done good passed_at passed is_free is_startable startable
     figure figure_of is_online head_cylinder head_up cost swept answer outcome ends untaken balance outstanding arrival
     block_of
 nearest_first = refl
 
 -- and then the one that was passed.
 passed_then : swept (settings 5 1) (take 9 passed_once) ≡ Some 3
-unfolding moment collect command_of command is_waiting waiting done good passes_at passes is_free is_startable startable
+unfolding moment collect command_of command is_waiting waiting done good passed_at passed is_free is_startable startable
     figure figure_of is_online head_cylinder head_up cost swept answer outcome ends untaken balance outstanding arrival
     block_of
 passed_then = refl
 
 -- Each may be passed twice: the nearest is taken,
 nearest_twice : swept (settings 5 2) (take 6 passed_twice) ≡ Some 4
-unfolding moment collect command_of command is_waiting waiting done good passes_at passes is_free is_startable startable
+unfolding moment collect command_of command is_waiting waiting done good passed_at passed is_free is_startable startable
     figure figure_of is_online head_cylinder head_up cost swept answer outcome ends untaken balance outstanding arrival
     block_of
 nearest_twice = refl
 
 -- and then the next,
 next_nearest : swept (settings 5 2) (take 7 passed_twice) ≡ Some 5
-unfolding moment collect command_of command is_waiting waiting done good passes_at passes is_free is_startable startable
+unfolding moment collect command_of command is_waiting waiting done good passed_at passed is_free is_startable startable
     figure figure_of is_online head_cylinder head_up cost swept answer outcome ends untaken balance outstanding arrival
     block_of
 next_nearest = refl
 
 -- and then the one that was passed twice.
 passed_last : swept (settings 5 2) (take 8 passed_twice) ≡ Some 3
-unfolding moment collect command_of command is_waiting waiting done good passes_at passes is_free is_startable startable
+unfolding moment collect command_of command is_waiting waiting done good passed_at passed is_free is_startable startable
     figure figure_of is_online head_cylinder head_up cost swept answer outcome ends untaken balance outstanding arrival
     block_of
 passed_last = refl
@@ -119,14 +119,14 @@ passed_last = refl
 
 -- The second unit's head is on the cylinder of its read.
 other_unit : swept (two_units 8 2) (take 10 two_heads) ≡ Some 9
-unfolding moment collect command_of command is_waiting waiting done good passes_at passes is_free is_startable startable
+unfolding moment collect command_of command is_waiting waiting done good passed_at passed is_free is_startable startable
     figure figure_of is_online head_cylinder head_up cost swept answer outcome ends untaken balance outstanding arrival
     block_of
 other_unit = refl
 
 -- The first unit's head is 20 cylinders away from its read, and what stands behind the read has to wait.
 own_unit : swept (two_units 8 2) (take 11 two_heads) ≡ Some 6
-unfolding moment collect command_of command is_waiting waiting done good passes_at passes is_free is_startable startable
+unfolding moment collect command_of command is_waiting waiting done good passed_at passed is_free is_startable startable
     figure figure_of is_online head_cylinder head_up cost swept answer outcome ends untaken balance outstanding arrival
     block_of
 own_unit = refl
@@ -134,7 +134,7 @@ own_unit = refl
 -- A sequential command costs nothing.
 sequential_is_free : map (cost (two_units 8 2) (take 12 two_heads)) (startable (two_units 8 2) (take 12 two_heads)) ≡ 0
     ∷ []
-unfolding moment collect command_of command is_waiting waiting done good passes_at passes is_free is_startable startable
+unfolding moment collect command_of command is_waiting waiting done good passed_at passed is_free is_startable startable
     figure figure_of is_online head_cylinder head_up cost swept answer outcome ends untaken balance outstanding arrival
     block_of
 sequential_is_free = refl
@@ -154,7 +154,7 @@ as_far =
     ∷ []
 
 pub as_far_legal : IsLegal (settings 8 8) as_far
-unfolding moment collect command_of command is_waiting waiting done good passes_at passes is_free is_startable startable
+unfolding moment collect command_of command is_waiting waiting done good passed_at passed is_free is_startable startable
     figure figure_of is_online head_cylinder head_up cost swept answer outcome ends untaken balance outstanding arrival
     block_of
 as_far_legal = legal_from (settings 8 8) as_far (refl,
@@ -166,21 +166,21 @@ as_far_legal = legal_from (settings 8 8) as_far (refl,
 -- A transfer that began on the way down went up to cylinder 2 with its later block, and its head still goes down.
 on_the_way_down : map (cost (settings 8 8) (take 11 as_far)) (startable (settings 8 8) (take 11 as_far)) ≡ 5 ∷ 2 ∷ 2
     ∷ []
-unfolding moment collect command_of command is_waiting waiting done good passes_at passes is_free is_startable startable
+unfolding moment collect command_of command is_waiting waiting done good passed_at passed is_free is_startable startable
     figure figure_of is_online head_cylinder head_up cost swept answer outcome ends untaken balance outstanding arrival
     block_of
 on_the_way_down = refl
 
 -- So the two reads of cylinder 0 come before that of cylinder 3, the older one first,
 oldest_of_two : swept (settings 8 8) (take 11 as_far) ≡ Some 9
-unfolding moment collect command_of command is_waiting waiting done good passes_at passes is_free is_startable startable
+unfolding moment collect command_of command is_waiting waiting done good passed_at passed is_free is_startable startable
     figure figure_of is_online head_cylinder head_up cost swept answer outcome ends untaken balance outstanding arrival
     block_of
 oldest_of_two = refl
 
 -- and then the other one.
 then_the_other : swept (settings 8 8) (take 12 as_far) ≡ Some 10
-unfolding moment collect command_of command is_waiting waiting done good passes_at passes is_free is_startable startable
+unfolding moment collect command_of command is_waiting waiting done good passed_at passed is_free is_startable startable
     figure figure_of is_online head_cylinder head_up cost swept answer outcome ends untaken balance outstanding arrival
     block_of
 then_the_other = refl

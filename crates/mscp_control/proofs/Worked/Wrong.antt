@@ -15,7 +15,7 @@ use Rattle.mscp_control.specs.declared.event.SendFault.TheVariants as faults
 use Rattle.mscp_control.specs.Settings.{Settings}
 use Rattle.mscp_control.specs.History.{Trace, Moment, moment, collect, Service}
 use Rattle.mscp_control.specs.Commands.{command, is_waiting, waiting, done, good}
-use Rattle.mscp_control.specs.Passing.{passes_at, passes, is_free, is_startable, startable}
+use Rattle.mscp_control.specs.Passing.{passed_at, passed, is_free, is_startable, startable}
 use Rattle.mscp_control.specs.Figures.{figure, figure_of}
 use Rattle.mscp_control.specs.Units.{is_online, head_cylinder, head_up}
 use Rattle.mscp_control.specs.Ends.{answer, outcome}
@@ -35,13 +35,13 @@ IsWrong c t m = IsRight c t m.0 m.1 → ⊥
 
 -- The last credit isn't for a read.
 last_credit_taken : IsWrong (settings 2 2) (take 1 last_credit) (queued 2 0 (read 512 0))
-unfolding moment collect command_of command is_waiting waiting done good passes_at passes is_free is_startable startable
+unfolding moment collect command_of command is_waiting waiting done good passed_at passed is_free is_startable startable
     figure figure_of is_online head_cylinder head_up answer outcome ends untaken balance outstanding arrival block_of
 last_credit_taken h = true≢false (ap is_ok h)
 
 -- Where a credit is free a poll isn't refused.
 refused_always : IsWrong (settings 2 2) [] (refused 1 0 (orders.Status 1) faults.NoCredit)
-unfolding moment collect command_of command is_waiting waiting done good passes_at passes is_free is_startable startable
+unfolding moment collect command_of command is_waiting waiting done good passed_at passed is_free is_startable startable
     figure figure_of is_online head_cylinder head_up answer outcome ends untaken balance outstanding arrival block_of
 refused_always h = false≢true (ap is_ok h)
 
@@ -54,7 +54,7 @@ then_queued order = came_online ++ queued 1 0 order ∷ []
 -- a step there serves that command
 sole : (c : Settings) (order : Order) (k : Block) (s : Service) (y : ℕ) → IsServed c (then_queued order) k s y
     → IsServed c (then_queued order) k s 3
-unfolding moment collect command_of command is_waiting waiting done good passes_at passes is_free is_startable startable
+unfolding moment collect command_of command is_waiting waiting done good passed_at passed is_free is_startable startable
     figure figure_of is_online head_cylinder head_up answer outcome ends untaken balance outstanding arrival block_of
 sole c order k s zero v = absurd (false≢true v.waits)
 sole c order k s (suc zero) v = absurd (false≢true v.waits)
@@ -77,7 +77,7 @@ status_of (Some end) = end.status
 
 -- A read that ends well has moved all of its bytes.
 short_count : IsWrong (settings 4 2) (then_queued (read 512 0)) (served Good 1 0 (Some 0) true 0 (moved 1 0 0 100))
-unfolding moment collect command_of command is_waiting waiting done good passes_at passes is_free is_startable startable
+unfolding moment collect command_of command is_waiting waiting done good passed_at passed is_free is_startable startable
     figure figure_of is_online head_cylinder head_up answer outcome ends untaken balance outstanding arrival block_of
     count_of count_in
 short_count h =
@@ -87,7 +87,7 @@ short_count h =
 
 -- A read of two blocks doesn't end after the first.
 early_end : IsWrong (settings 4 2) (then_queued (read 1024 0)) (served Good 1 0 (Some 0) true 0 (moved 1 0 0 1024))
-unfolding moment collect command_of command is_waiting waiting done good passes_at passes is_free is_startable startable
+unfolding moment collect command_of command is_waiting waiting done good passed_at passed is_free is_startable startable
     figure figure_of is_online head_cylinder head_up answer outcome ends untaken balance outstanding arrival block_of
 early_end h =
     let v = sole (settings 4 2) (read 1024 0) Good _ h.0 h.1 in
@@ -95,7 +95,7 @@ early_end h =
 
 -- A head doesn't get to another cylinder by no way.
 no_way : IsWrong (settings 4 2) (then_queued (read 512 800)) (served Good 1 0 (Some 800) true 0 (moved 1 0 0 512))
-unfolding moment collect command_of command is_waiting waiting done good passes_at passes is_free is_startable startable
+unfolding moment collect command_of command is_waiting waiting done good passed_at passed is_free is_startable startable
     figure figure_of is_online head_cylinder head_up answer outcome ends untaken balance outstanding arrival block_of
 no_way h =
     let v = sole (settings 4 2) (read 512 800) Good _ h.0 h.1 in
@@ -106,7 +106,7 @@ no_way h =
 
 -- The ONLINE of a unit that is online says so.
 online_anew : IsWrong (settings 4 2) (then_queued orders.Online) (served Good 1 0 None true 0 (onlined 1 0 0))
-unfolding moment collect command_of command is_waiting waiting done good passes_at passes is_free is_startable startable
+unfolding moment collect command_of command is_waiting waiting done good passed_at passed is_free is_startable startable
     figure figure_of is_online head_cylinder head_up answer outcome ends untaken balance outstanding arrival block_of
     status_of
 online_anew h =
@@ -123,7 +123,7 @@ first c t k s (suc y) one v = let below = waits_below t (suc y) v.waits in absur
 -- A transfer touches no block of a unit that is available.
 touched_available : IsWrong (settings 4 2) (queued 1 0 (read 512 0) ∷ [])
     (served Good 1 0 (Some 0) true 0 (moved 1 0 0 512))
-unfolding moment collect command_of command is_waiting waiting done good passes_at passes is_free is_startable startable
+unfolding moment collect command_of command is_waiting waiting done good passed_at passed is_free is_startable startable
     figure figure_of is_online head_cylinder head_up answer outcome ends untaken balance outstanding arrival block_of
 touched_available h =
     let v = first (settings 4 2) (queued 1 0 (read 512 0) ∷ []) Good _ h.0 refl h.1 in
@@ -132,7 +132,7 @@ touched_available h =
 -- Nor does it end with the status of a bad block there.
 bad_available : IsWrong (settings 4 2) (queued 1 0 (read 512 0) ∷ [])
     (served (Bad 0x000B) 1 0 None true 0 (moved 1 0 0x000B 0))
-unfolding moment collect command_of command is_waiting waiting done good passes_at passes is_free is_startable startable
+unfolding moment collect command_of command is_waiting waiting done good passed_at passed is_free is_startable startable
     figure figure_of is_online head_cylinder head_up answer outcome ends untaken balance outstanding arrival block_of
     status_of
 bad_available h =
@@ -146,7 +146,7 @@ third : Service
 third = record { reference = 3; unit = 0; lbn = Some 60; started = true; seek = 1; ended = moved 3 0 0 512 }
 
 not_third : (y : ℕ) → IsServed (settings 5 1) (take 9 passed_once) Good third y → ⊥
-unfolding third moment collect command_of command is_waiting waiting done good passes_at passes is_free is_startable
+unfolding third moment collect command_of command is_waiting waiting done good passed_at passed is_free is_startable
     startable figure figure_of is_online head_cylinder head_up answer outcome ends untaken balance outstanding arrival
     block_of
 not_third zero v = false≢true v.waits
@@ -175,7 +175,7 @@ taken_byte (Some b) = slice_index b.items 0
 -- Ends aren't taken newest first.
 newest_first : IsWrong (settings 4 2) (answered 2 0 (orders.Status 77) ∷ answered 3 0 (orders.Status 77) ∷ [])
     (took (3 ∷ 0 ∷ 0 ∷ 0 ∷ 0 ∷ 0 ∷ 0 ∷ 0 ∷ 0x82 ∷ 0 ∷ 0 ∷ 0 ∷ 77 ∷ 0 ∷ 0 ∷ 0 ∷ 0 ∷ 0 ∷ 0 ∷ 0 ∷ []))
-unfolding moment collect command_of command is_waiting waiting done good passes_at passes is_free is_startable startable
+unfolding moment collect command_of command is_waiting waiting done good passed_at passed is_free is_startable startable
     figure figure_of is_online head_cylinder head_up answer outcome ends untaken balance outstanding arrival block_of
     taken_byte
 newest_first h = let e : 3 ≡ 2 = ap taken_byte h in omega (arith, e)
@@ -186,7 +186,7 @@ first_figure (p ∷ ps) = p.1
 
 -- A figure isn't the command's own blocks alone.
 own_blocks : IsWrong (settings 5 1) (take 6 passed_once) (looked ((1, 1) ∷ (2, 1) ∷ (3, 1) ∷ []))
-unfolding moment collect command_of command is_waiting waiting done good passes_at passes is_free is_startable startable
+unfolding moment collect command_of command is_waiting waiting done good passed_at passed is_free is_startable startable
     figure figure_of is_online head_cylinder head_up answer outcome ends untaken balance outstanding arrival block_of
     first_figure
 own_blocks h = let e : 1 ≡ 9 = ap first_figure h in omega (arith, e)

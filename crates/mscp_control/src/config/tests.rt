@@ -15,8 +15,8 @@ pub(crate) fn units(rt: &impl Abort) -> Units {
 }
 
 /// The configuration of these credits and this passing limit, of that unit, and with the longest transfer of 8 blocks.
-pub(crate) fn config(rt: &impl Abort, credits: u32, passing: u32) -> Config {
-    Config::new(credits, passing, 8, 60, 1, units(rt))
+pub(crate) fn config(rt: &impl Abort, credits: u32, budget: u32) -> Config {
+    Config::new(credits, budget, 8, 60, 1, units(rt))
         .ok()
         .expect(rt, "limits")
 }

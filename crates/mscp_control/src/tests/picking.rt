@@ -16,11 +16,11 @@ fn unit(rt: &impl Abort, number: u16) -> Unit {
 }
 
 /// A controller of two units with 8 credits, which may pass each command so many times.
-fn controller<K: Picker>(rt: &impl Abort, passing: u32, picker: K) -> Controller<K> {
+fn controller<K: Picker>(rt: &impl Abort, budget: u32, picker: K) -> Controller<K> {
     let units = Units::new(&[unit(rt, 0), unit(rt, 1)])
         .ok()
         .expect(rt, "numbers that rise");
-    let config = Config::new(8, passing, 8, 60, 1, units)
+    let config = Config::new(8, budget, 8, 60, 1, units)
         .ok()
         .expect(rt, "limits");
     let mut controller = Controller::new(config, picker);

@@ -36,7 +36,7 @@ use Rattle.mscp_sim.proofs.TwoEnds.Turning.{At, Turns, fresh_number, heard_at, i
 figure_now : {K : Type 0} (c : Settings) (picks : List Choice → ℕ → Type 0) (t : Trace) (h : Holdings K)
     (s : Submission) → KeepsPromise picks c (calls_of t) h → (told_now h s).figure ≡ figure_of c t s.reference
 figure_now c picks t h s k =
-    ap (λ (d : Settings). figure_of_reference d.passing d.longest h.waiting s.reference) k.settings
+    ap (λ (d : Settings). figure_of_reference d.budget h.waiting s.reference) k.settings
         ∙ (k.figure s.reference ∙ ap (λ u. figure_of c u s.reference) (history_of t))
 
 some_now : {K : Type 0} (c : Settings) (picks : List Choice → ℕ → Type 0) (t : Trace) (h : Holdings K) (s : Submission)

@@ -27,12 +27,12 @@ and_true : (b : Bool) → (b && true) ≡ b
 and_true true = refl
 and_true false = refl
 
-passing : {X : Type 0} (p : X → Bool) (xs : List X) → AllByRecursion (λ x. p x ≡ true) (filter p xs)
-passing p [] = tt
-passing p (x ∷ xs) =
+budget : {X : Type 0} (p : X → Bool) (xs : List X) → AllByRecursion (λ x. p x ≡ true) (filter p xs)
+budget p [] = tt
+budget p (x ∷ xs) =
     let out : (b : Bool) → p x ≡ b → AllByRecursion (λ y. p y ≡ true) (cond b (x ∷ filter p xs) (filter p xs)) =
     λ b. elim b as (λ b. p x ≡ b → AllByRecursion (λ y. p y ≡ true) (cond b (x ∷ filter p xs) (filter p xs)))
-        [ true ↦ λ e. (e, passing p xs) | false ↦ λ e. passing p xs ] in
+        [ true ↦ λ e. (e, budget p xs) | false ↦ λ e. budget p xs ] in
     out (p x) refl
 
 -- turn j hands over the end of the command i
@@ -84,7 +84,7 @@ outstanding_below talk j = every_kept (λ i. i < j) (is_outstanding talk j) (bef
 
 pub outstanding_are : (talk : Talk) (j : ℕ) → AllByRecursion (λ i. is_outstanding talk j i ≡ true) (outstanding talk j)
 unfolding outstanding
-outstanding_are talk j = passing (is_outstanding talk j) (before j)
+outstanding_are talk j = budget (is_outstanding talk j) (before j)
 
 pub outstanding_more : (talk : Talk) (j : ℕ) → outstanding talk (j + 1)
     ≡ filter (λ i. not (ends_now talk j i)) (outstanding talk j) ++ cond (sends (said talk j).heard) (j ∷ []) []

@@ -248,7 +248,7 @@ second_of false q h e = h
 -- what the poll of this submission is told
 abbrev pub told_now : {K : Type 0} → Holdings K → Submission → Flight
 told_now h s = record {
-  figure = figure_of_reference h.settings.passing h.settings.longest h.waiting s.reference;
+  figure = figure_of_reference h.settings.budget h.waiting s.reference;
   waited = list_any (λ x. nat_eq x s.reference) (names h.waiting);
 }
 

@@ -137,7 +137,7 @@ aborts_found {K} a h told n front x back f m =
     let command = x.command in
     let cut : commands h.waiting ≡ commands front ++ command ∷ commands back =
         ap commands f.is ∙ map-append (λ (r : Record). r.command) front (x ∷ back) in
-    let named : command.reference ≡ n = eqb-true command.reference n f.passes in
+    let named : command.reference ≡ n = eqb-true command.reference n f.passed in
     let one = m.once n in
     let counts = counted_names n h in
     let parts : times n (map (λ (c : Command). c.reference) (commands h.waiting))
@@ -147,12 +147,12 @@ aborts_found {K} a h told n front x back f m =
         ∙ (times_called n (commands front) (command ∷ commands back)
         ∙ ap (λ b. times n (map (λ (c : Command). c.reference) (commands front))
         + cond b (1 + times n (map (λ (c : Command). c.reference) (commands back)))
-        (times n (map (λ (c : Command). c.reference) (commands back)))) f.passes) in
+        (times n (map (λ (c : Command). c.reference) (commands back)))) f.passed) in
     let none : times n (map (λ (c : Command). c.reference) (commands back)) ≡ 0 = omega (arith, one, counts, parts) in
     let out : without n h.waiting ≡ front ++ back =
-        ap (without n) f.is ∙ front_kept n front x back f.before f.passes (none_out n back none) in
+        ap (without n) f.is ∙ front_kept n front x back f.before f.passed (none_out n back none) in
     let found : find (has_reference n) h.waiting ≡ Some x =
-        ap (find (has_reference n)) f.is ∙ find_first (has_reference n) front x back f.before f.passes in
+        ap (find (has_reference n)) f.is ∙ find_first (has_reference n) front x back f.before f.passed in
     let ends : Ends h (aborting h (orders.Abort n)) = record {
       front = commands front;
       own = command;

@@ -13,7 +13,7 @@ use Rattle.mscp_queue.specs.declared.report.Report.TheVariants as reports
 use Rattle.mscp_control.specs.declared.event.Sent.TheVariants as sents
 use Rattle.mscp_control.specs.History.{moment}
 use Rattle.mscp_control.specs.Commands.{command, is_waiting, waiting, done}
-use Rattle.mscp_control.specs.Passing.{passes_at, passes}
+use Rattle.mscp_control.specs.Passing.{passed_at, passed}
 use Rattle.mscp_control.specs.Figures.{figure, figure_of}
 use Rattle.mscp_control.proofs.Worked.Literals.{answered, moved, onlined, queued, read, served, settings, took}
 use Rattle.mscp_host.specs.declared.news.News.TheVariants as news
@@ -74,11 +74,11 @@ abbrev standing : Talk
 standing = opening ++ asks 11 ∷ hands (answer 11 18) news.Reset ∷ []
 
 first_told : figure_told (settings 4 2) standing 4 ≡ 18
-unfolding moment command_of command is_waiting waiting done passes_at passes figure figure_of outstanding
+unfolding moment command_of command is_waiting waiting done passed_at passed figure figure_of outstanding
 first_told = refl
 
 it_stands : Stands (settings 4 2) standing 7
-unfolding moment command_of command is_waiting waiting done passes_at passes figure figure_of outstanding
+unfolding moment command_of command is_waiting waiting done passed_at passed figure figure_of outstanding
 it_stands = record { poll = 6; command = 3; last = 18; handed = refl; about = refl; outstanding = refl; told =
     refl; not_less = omega arith }
 
@@ -89,7 +89,7 @@ kept : account_at (settings 4 2) standing 7 ≡ record {
       ∷ record { reference = 11; unit = 0; opcode = 0x02; told = None } ∷ [];
   watch = Some (record { reference = 11; polled = 1; is_outstanding = true });
 }
-unfolding moment command_of command is_waiting waiting done passes_at passes figure figure_of outstanding
+unfolding moment command_of command is_waiting waiting done passed_at passed figure figure_of outstanding
 kept = refl
 
 -- ---- a step between the polls, and one that ends the command
@@ -107,20 +107,20 @@ moving =
     ∷ []
 
 second_told : figure_told (settings 4 2) moving 7 ≡ 1
-unfolding moment command_of command is_waiting waiting done passes_at passes figure figure_of outstanding
+unfolding moment command_of command is_waiting waiting done passed_at passed figure figure_of outstanding
 second_told = refl
 
 third_told : figure_told (settings 4 2) moving 10 ≡ 0
-unfolding moment command_of command is_waiting waiting done passes_at passes figure figure_of outstanding
+unfolding moment command_of command is_waiting waiting done passed_at passed figure figure_of outstanding
 third_told = refl
 
 last_before : last_answer (settings 4 2) moving 8 3 ≡ Some 18
-unfolding moment command_of command is_waiting waiting done passes_at passes figure figure_of outstanding
+unfolding moment command_of command is_waiting waiting done passed_at passed figure figure_of outstanding
 last_before = refl
 
 -- the second answer doesn't stand: 1 is less than 18
 falls : Stands (settings 4 2) moving 8 → ⊥
-unfolding moment command_of command is_waiting waiting done passes_at passes figure figure_of outstanding
+unfolding moment command_of command is_waiting waiting done passed_at passed figure figure_of outstanding
 falls st =
     let poll : st.poll ≡ 7 = sym (ap (λ o. unwrap_or o 0) st.handed) in
     let command : st.command ≡ 3 = sym (eqb-true 3 st.command
@@ -132,7 +132,7 @@ falls st =
 
 -- and the third neither, which comes after the command's end
 late : Stands (settings 4 2) moving 12 → ⊥
-unfolding moment command_of command is_waiting waiting done passes_at passes figure figure_of outstanding
+unfolding moment command_of command is_waiting waiting done passed_at passed figure figure_of outstanding
 late st =
     let poll : st.poll ≡ 10 = sym (ap (λ o. unwrap_or o 0) st.handed) in
     let command : st.command ≡ 3 = sym (eqb-true 3 st.command
@@ -145,13 +145,13 @@ kept_late : account_at (settings 4 2) moving 12 ≡ record {
   outstanding = record { reference = 12; unit = 0; opcode = 0x02; told = None } ∷ [];
   watch = Some (record { reference = 12; polled = 1; is_outstanding = false });
 }
-unfolding moment command_of command is_waiting waiting done passes_at passes figure figure_of outstanding
+unfolding moment command_of command is_waiting waiting done passed_at passed figure figure_of outstanding
 kept_late = refl
 
 -- what is heard there is what the rules of a host say
 heard_late : IsHeard (account_at (settings 4 2) moving 12) turns.Take (said moving 12)
     (account_at (settings 4 2) moving 13)
-unfolding moment command_of command is_waiting waiting done passes_at passes figure figure_of outstanding
+unfolding moment command_of command is_waiting waiting done passed_at passed figure figure_of outstanding
 heard_late = (Some (record { items = end_bytes (answer 12 0) }), refl, (news.Late, refl, refl))
 
 -- ---- a number that is used again
@@ -172,7 +172,7 @@ again =
 
 -- of the second nothing was told yet
 untold : last_answer (settings 4 2) again 13 10 ≡ None
-unfolding moment command_of command is_waiting waiting done passes_at passes figure figure_of outstanding
+unfolding moment command_of command is_waiting waiting done passed_at passed figure figure_of outstanding
 untold = refl
 
 -- though the figure is the one that was last told of the first
@@ -182,5 +182,5 @@ kept_again : account_at (settings 4 2) again 13 ≡ record {
       ∷ record { reference = 12; unit = 0; opcode = 0x02; told = None } ∷ [];
   watch = Some (record { reference = 12; polled = 1; is_outstanding = true });
 }
-unfolding moment command_of command is_waiting waiting done passes_at passes figure figure_of outstanding
+unfolding moment command_of command is_waiting waiting done passed_at passed figure figure_of outstanding
 kept_again = refl

@@ -32,9 +32,9 @@ loop-place-preserved c =
         c.from-before.ensures ∙ (c.left.ensures.value ∙ ap left_of is) in
     let reference : c.command.result.reference ≡ (record_at rs c.loop-place.place).command.reference =
         ap (λ (k : Command). k.reference) c.command.ensures ∙ ap (λ (r : Record). r.command.reference) is in
-    let figure : c.figure_from-figure.result ≡ figure_at c.args.passing c.args.longest rs c.loop-place.place =
+    let figure : c.figure_from-figure.result ≡ figure_at c.args.budget rs c.loop-place.place =
         c.figure_from-figure.ensures in
-    let more = figures_more c.args.passing c.args.longest rs c.loop-place.place in
+    let more = figures_more c.args.budget rs c.loop-place.place in
     let items = c.push.ensures.items in
     let figures = inv.figures in
     record {

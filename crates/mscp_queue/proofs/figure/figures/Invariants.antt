@@ -8,7 +8,7 @@ use Rattle.mscp_queue.proofs.figure.figures.Given as goal
 abbrev pub invariant-loop-place : goal.invariant-loop-place
 invariant-loop-place l =
     record {
-      figures : l.list.items ≡ figures_from l.passing l.longest l.records (range_with_len 0 l.place);
+      figures : l.list.items ≡ figures_from l.budget l.records (range_with_len 0 l.place);
       same : length l.list.items ≡ l.place;
       before : l.before ≡ sum_by left_of (take l.place l.records);
       few : l.before ≤ l.place * 4294967295;

@@ -8,7 +8,7 @@ use Rattle.mscp_queue.proofs.start.show_each.Given as goal
 
 abbrev pub invariant-loop-place : goal.invariant-loop-place
 invariant-loop-place l = record {
-  looks : Looks l.passing l.drives l.records l.place l.front
-      (filter (is_open_at l.passing l.records) (range_with_len 0 l.place)) l.view;
+  looks : Looks l.budget l.drives l.records l.place l.front
+      (filter (is_open_at l.budget l.records) (range_with_len 0 l.place)) l.view;
   opens : is_closed l.front (length l.drives) ≡ false;
 }

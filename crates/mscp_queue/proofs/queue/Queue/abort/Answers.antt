@@ -16,9 +16,9 @@ pub returns-in_err-aborted-clause-after : goal.returns-in_err-aborted-clause-aft
 returns-in_err-aborted-clause-after g c =
     let K = g.row.K.Denot in
     let q = c.self.inside in
-    let stays = none_aborted q.passing c.args.reference q.waiting.items q.begun c.self.invariant.held.still
+    let stays = none_aborted q.budget c.args.reference q.waiting.items q.begun c.self.invariant.held.still
         (sym c.take_out.ensures.found ∙ c.in_err-aborted.was) in
-    (λ i. record { room = q.room; passing = q.passing; longest = q.longest; waiting =
+    (λ i. record { room = q.room; budget = q.budget; longest = q.longest; waiting =
         c.take_out.ensures.left i; drives = q.drives.items; begun = stays i; picker = q.picker })
     ∙ ap (λ (l : Line K). aborting c.args.reference l) c.self.view_is
 
@@ -41,7 +41,7 @@ invariant_of-self-then-was_begun g c =
     let q = c.self.inside in
     record {
       held =
-          held_aborted q.room q.passing q.longest c.args.reference q.waiting.items c.take_out.new.waiting.items
+          held_aborted q.room q.budget q.longest c.args.reference q.waiting.items c.take_out.new.waiting.items
               q.drives.items q.begun q.serving _
           (ap (λ (l : Line K). is_begun c.args.reference l.begun) c.self.view_is ∙ sym c.if-was_begun.ensures)
               c.self.invariant.held c.take_out.ensures.left;
@@ -57,7 +57,7 @@ invariant_of-self-else-was_begun g c =
     let q = c.self.inside in
     record {
       held =
-          held_aborted q.room q.passing q.longest c.args.reference q.waiting.items c.take_out.new.waiting.items
+          held_aborted q.room q.budget q.longest c.args.reference q.waiting.items c.take_out.new.waiting.items
               q.drives.items q.begun q.serving _
           (ap (λ (l : Line K). is_begun c.args.reference l.begun) c.self.view_is ∙ sym c.if-was_begun.ensures)
               c.self.invariant.held c.take_out.ensures.left;
@@ -75,5 +75,5 @@ returns-clause-shaped g c =
     c.aborted_end.ensures ∙ (λ i. aborted_end (c.command.ensures i) (c.done.ensures.good i)) in
     subst IsOfKind (sym end)
     (subst (λ o. IfSome (option_map aborted_record o) IsOfKind) (sym c.take_out.ensures.found ∙ c.in_ok-aborted.was)
-    (aborts_kind q.passing q.longest c.args.reference (units_of q.drives.items) q.waiting.items
+    (aborts_kind q.budget q.longest c.args.reference (units_of q.drives.items) q.waiting.items
         c.self.invariant.held.each))

@@ -28,7 +28,7 @@ invariant_of-self g c =
     let waits = c.push-2.ensures.items ∙ ap (λ r. q.waiting.items ++ r ∷ []) c.new-record.ensures in
     record {
       held =
-          held_pushed q.room q.passing q.longest q.waiting.items c.push-2.new.self.items q.drives.items q.begun
+          held_pushed q.room q.budget q.longest q.waiting.items c.push-2.new.self.items q.drives.items q.begun
               q.serving command c.self.invariant.held
           (subst (λ (l : Line K). length l.waiting < l.room) seen c.requires.room)
           (subst (λ (l : Line K). IsWaitable l.longest (units_of l.drives) command) seen c.requires.waitable)
@@ -43,6 +43,6 @@ invariant_of-self g c =
       order =
           subst ArePassedInOrder (sym c.push-2.ensures.items)
           (pairs_append _ q.waiting.items c.new-record.result c.self.invariant.order
-          (every_from (λ r. c.new-record.result.passes ≤ r.passes)
-              (λ r. omega (arith, ap (λ (r : Record). r.passes) c.new-record.ensures)) q.waiting.items));
+          (every_from (λ r. c.new-record.result.passed ≤ r.passed)
+              (λ r. omega (arith, ap (λ (r : Record). r.passed) c.new-record.ensures)) q.waiting.items));
     }

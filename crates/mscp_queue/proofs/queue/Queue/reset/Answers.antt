@@ -13,7 +13,7 @@ invariant_of-self g c =
     let q = c.self.inside in
     record {
       held =
-          held_renewed q.room q.passing q.longest q.waiting.items c.clear.new.self.items q.drives.items _ q.begun
+          held_renewed q.room q.budget q.longest q.waiting.items c.clear.new.self.items q.drives.items _ q.begun
               q.serving c.self.invariant.held c.clear.ensures
           (renewed q.drives.items c.renew_drives.new.drives
               (c.renew_drives.ensures ∙ ap (map (λ (d : Drive). fresh_drive d.unit)) c.as_mut_slice.ensures.value));
@@ -28,6 +28,6 @@ returns g c =
     let K = g.row.K.Denot in
     let drives = renewed q.drives.items c.renew_drives.new.drives
         (c.renew_drives.ensures ∙ ap (map (λ (d : Drive). fresh_drive d.unit)) c.as_mut_slice.ensures.value) in
-    (λ i. record { room = q.room; passing = q.passing; longest = q.longest; waiting = c.clear.ensures i; drives =
+    (λ i. record { room = q.room; budget = q.budget; longest = q.longest; waiting = c.clear.ensures i; drives =
         drives i; begun = None; picker = q.picker })
-    ∙ ap (λ (l : Line K). fresh (units_of l.drives) l.room l.passing l.longest l.picker) c.self.view_is
+    ∙ ap (λ (l : Line K). fresh (units_of l.drives) l.room l.budget l.longest l.picker) c.self.view_is

@@ -12,25 +12,25 @@ use Rattle.mscp_queue.specs.Records.{Record, no_record, record_at}
 use Rattle.mscp_queue.specs.Serving.{IsNext, IsServable}
 use Rattle.mscp_queue.specs.Orders.{is_move, is_sequential}
 use Rattle.mscp_queue.proofs.Mapped.{refilled}
-use Rattle.mscp_queue.proofs.Ordered.{IsCountedOut, counted_left, passes_left}
+use Rattle.mscp_queue.proofs.Ordered.{IsCountedOut, counted_left, passed_left}
 use Rattle.mscp_queue.proofs.Shaped.{given_kind}
 use Rattle.mscp_queue.proofs.Turns.{held_step, units_step}
 use Rattle.mscp_queue.proofs.queue.Queue.serve_at.Goals as goal
 
 -- the record that is served
-record IsServed (passing place : ℕ) (rs : List Record) (r : Record) : Type 0 where
-  pub servable : IsServable passing rs place
+record IsServed (budget place : ℕ) (rs : List Record) (r : Record) : Type 0 where
+  pub servable : IsServable budget rs place
   pub own : r ≡ record_at rs place
 
 served : (g : Rattle.mscp_queue.proofs.queue.Queue.serve_at.Given.Over) (c : goal.After-sequential_ended g)
-    → IsServed c.self.inside.passing c.args.place c.self.inside.waiting.items c.index-deref-place.result
+    → IsServed c.self.inside.budget c.args.place c.self.inside.waiting.items c.index-deref-place.result
 served g c =
     let q = c.self.inside in
     let rs = q.waiting.items in
     let place = c.args.place in
     let K = g.row.K.Denot in
-    let next : IsNext (g.K.Picker.picks q.picker) q.passing q.drives.items rs q.begun place =
-    subst (λ (l : Line K). IsNext (g.K.Picker.picks l.picker) l.passing l.drives l.waiting l.begun place)
+    let next : IsNext (g.K.Picker.picks q.picker) q.budget q.drives.items rs q.begun place =
+    subst (λ (l : Line K). IsNext (g.K.Picker.picks l.picker) l.budget l.drives l.waiting l.begun place)
         (sym c.self.view_is) c.requires in
     let item = c.index-deref-place.result in
     record {
@@ -98,7 +98,7 @@ invariant_of-self g c =
       aimed = c.leave.ensures.aims (units_of ds) c.self.invariant.aimed
           ∙ ap (λ us. aims_of us c.leave.new.waiting.items) (sym units);
       counted = (out g c.before.before.before).counted;
-      order = passes_left rs c.leave.new.waiting.items place c.step_toll.result c.is_some-ends.result s.servable.inside
+      order = passed_left rs c.leave.new.waiting.items place c.step_toll.result c.is_some-ends.result s.servable.inside
           c.leave.ensures.left c.self.invariant.order;
     }
 
