@@ -67,8 +67,8 @@ pub record Promise (c : Settings) (t : Trace) : Type 0 where
   -- if something waits and nothing is in service, the oldest that waits may start: so something always may (profile)
   pub oldest_starts : Always t (λ p. (x : ℕ) → slice_get (waiting p) 0 ≡ Some x → is_idle p ≡ true
       → is_startable c p x ≡ true)
-  -- none is passed more often than the passing limit (profile)
-  pub budget : Always t (λ p. EachWaiting p (λ x. passed p x ≤ c.budget))
+  -- none is passed by more than the budget, in blocks (profile)
+  pub passed : Always t (λ p. EachWaiting p (λ x. passed p x ≤ c.budget))
   -- every waiting command's status figure falls at each step (profile)
   pub falls : AtEach t (λ before m after. is_step m.0 ≡ true →
       EachWaiting before (λ x. figure c after x < figure c before x))

@@ -73,11 +73,12 @@ impl Config {
     ghost use Rattle.mscp_control.specs.Settings.{configured, IsValid, Settings};
 
     /// The limits, if a controller can keep them: `credits` commands and untaken ends at most, each waiting
-    /// command passed at most `passing` times, transfers of at most `longest` blocks, and a controller
-    /// timeout in seconds and a controller identifier, which the host is told.
+    /// command passed by at most `budget` blocks, transfers of at most `longest` blocks, and a controller
+    /// timeout in seconds and a controller identifier, which the host is told. A limit of so many passes is a
+    /// budget of `passes * longest`.
     pub fn new(
         credits: u32,
-        budget: u32,
+        budget: u64,
         longest: u32,
         timeout: u16,
         id: u64,
@@ -98,8 +99,11 @@ impl Config {
         if !(1..=255).contains(&timeout) {
             return Err(ConfigFault::Timeout);
         }
-        let turns = u64::from(credits - 1) + u64::from(budget);
-        if turns * u64::from(longest) > u64::from(u32::MAX) {
+        let Ok(budget) = u32::try_from(budget) else {
+            return Err(ConfigFault::Figure);
+        };
+        let bound = u64::from(credits - 1) * u64::from(longest) + u64::from(budget);
+        if bound > u64::from(u32::MAX) {
             return Err(ConfigFault::Figure);
         }
         Ok(Config {
@@ -120,7 +124,7 @@ impl Config {
         self.credits
     }
 
-    /// How often a waiting command may be passed.
+    /// By how many blocks a waiting command may be passed.
     pub fn budget(&self) -> u32
         ensures value { result ≡ self.now.budget }
         ensures valid { IsValid self.now }

@@ -39,7 +39,7 @@ figure_held : (c : Settings) (t : Trace) (A : List ℕ) (x : ℕ) (B : List ℕ)
     → figure_between c.budget (map (held_of t) A) (held_of t x) (map (held_of t) B) ≡ figure c t x
 figure_held c t A x B e =
     let sum : ℕ → ℕ → ℕ = λ a b. cond (in_service t x) (left t x)
-        (a + b + (c.budget - passed t x) * c.longest + left t x) in
+        (a + b + (c.budget - passed t x) + left t x) in
     ap (λ a. sum a (sum_by left_of (filter is_in_service (map (held_of t) B)))) (sum_by_map (held_of t) left_of A)
     ∙ (ap (λ b. sum (sum_by (left t) A) b) (working_held t B)
     ∙ sym (falls.figure_at c t A x B e))

@@ -26,7 +26,7 @@ use Rattle.mscp_control.specs.declared.event.Event.TheVariants as events
 use Rattle.mscp_control.specs.declared.event.Entry.TheVariants as entries
 use Rattle.mscp_control.specs.Settings.{Settings, IsValid}
 use Rattle.mscp_control.specs.History.{Trace, Moment, is_good, service_in, WhenStarted}
-use Rattle.mscp_control.specs.Commands.{reference, service_name, unit, order, is_waiting, waiting, done, good, left, serves_in}
+use Rattle.mscp_control.specs.Commands.{reference, service_name, unit, order, is_waiting, waiting, weight, done, good, left, serves_in}
 use Rattle.mscp_control.specs.Passing.{passed}
 use Rattle.mscp_control.specs.Passing as passings
 use Rattle.mscp_control.specs.Units.{is_online}
@@ -136,15 +136,16 @@ held_passed t m x n l d g p = λ i.
     let k = command_before t m x l in
     record { command = k i; weight = order_weight (k i).order; done = d i; good = g i; passed = p i }
 
-cost_held : (t : Trace) (y : ℕ) (b : Bool) → nat_eq (done t y) 0 ≡ b → step_toll (held_of t y) ≡ cond b 1 0
-cost_held t y b e = ap (λ b. cond b 1 0) e
+cost_held : (t : Trace) (y : ℕ) (b : Bool) → nat_eq (done t y) 0 ≡ b
+    → step_toll (held_of t y) ≡ cond b (weight t y) 0
+cost_held t y b e = ap (λ b. cond b (weight t y) 0) e
 
--- how often a command in front was passed then
-passed_front : (c : Settings) (t : Trace) (k : Block) (y : ℕ) (A B : List ℕ)
+-- by how much a command in front was passed then
+front_tolled : (c : Settings) (t : Trace) (k : Block) (y : ℕ) (A B : List ℕ)
     → Step c t (serving c t k y) (service_by c t k y) k y A B
     → (nat_eq (done t y) 0 ≡ true → AllByRecursion (λ x. passings.is_unstarted t x ≡ true) A)
     → AllByRecursion (λ x. passed (t ++ serving c t k y ∷ []) x ≡ passed t x + step_toll (held_of t y)) A
-passed_front c t k y A B st idle =
+front_tolled c t k y A B st idle =
     let m = serving c t k y in
     let s = service_by c t k y in
     let at = st.serves.among.at in
@@ -152,7 +153,7 @@ passed_front c t k y A B st idle =
     let both : (b : Bool) → nat_eq (done t y) 0 ≡ b → AllByRecursion (Q (step_toll (held_of t y))) A =
     λ b. elim b as (λ b. nat_eq (done t y) 0 ≡ b → AllByRecursion (Q (step_toll (held_of t y))) A) [
       | true ↦ λ e. subst (λ n. AllByRecursion (Q n) A) (sym (cost_held t y true e))
-          (every_weaker (λ x. (x < y) × (passings.is_unstarted t x ≡ true)) (Q 1)
+          (every_weaker (λ x. (x < y) × (passings.is_unstarted t x ≡ true)) (Q (weight t y))
               (λ x h. passed_front c t m s k y A B st e x h.0 h.1) A
               (every_both (λ x. x < y) (λ x. passings.is_unstarted t x ≡ true) A at.before (idle e)))
       | false ↦ λ e. subst (λ n. AllByRecursion (Q n) A) (sym (cost_held t y false e))
@@ -178,7 +179,7 @@ front_passed c t k y A B st idle =
     (every_weaker (λ x. D x × P x) (λ x. passed_by n (held_of t x) ≡ held_of t' x)
     (λ x h. sym (held_passed t m x n h.0.0 h.0.1 (good_same t m x h.0.0 h.0.1) h.1)) A
     (every_both D P A (every_both (λ x. x < length t) (λ x. done t' x ≡ done t x) A (below_parts t y A B at).0
-        st.changes.front_done) (passed_front c t k y A B st idle)))
+        st.changes.front_done) (front_tolled c t k y A B st idle)))
 
 -- ---- the command itself, where it goes on
 

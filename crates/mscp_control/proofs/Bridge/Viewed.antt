@@ -12,7 +12,7 @@ use Rattle.mscp_queue.specs.Views.{choice_of, is_open_at, open_places, view_of}
 use Rattle.mscp_queue.specs.Views as records
 use Rattle.mscp_control.specs.Settings.{Settings}
 use Rattle.mscp_control.specs.History.{Trace}
-use Rattle.mscp_control.specs.Commands.{command, unit, waiting, earlier, is_idle}
+use Rattle.mscp_control.specs.Commands.{command, unit, waiting, weight, earlier, is_idle}
 use Rattle.mscp_control.specs.Passing.{fences, is_affordable, is_free, is_startable, passed, startable}
 use Rattle.mscp_control.specs.Units.{cost}
 use Rattle.mscp_control.specs.Legal.{choice, view}
@@ -80,8 +80,9 @@ affordable_held : (c : Settings) (t : Trace) (place : ℕ) → place < length (w
     → is_affordable c t (waiting_at t place) ≡ records.is_affordable c.budget (held_of t (waiting_at t place))
         (take place (map (held_of t) (waiting t)))
 affordable_held c t place l =
-    let may : Record → Bool = λ z. nat_le (z.passed + 1) c.budget in
-    ap (list_all (λ x. nat_le (passed t x + 1) c.budget)) (front_held t place l)
+    let w = weight t (waiting_at t place) in
+    let may : Record → Bool = λ z. nat_le (z.passed + w) c.budget in
+    ap (list_all (λ x. nat_le (passed t x + w) c.budget)) (front_held t place l)
     ∙ (sym (list_all-map may (held_of t) (take place (waiting t)))
         ∙ ap (list_all may) (sym (take-map (held_of t) place (waiting t))))
 

@@ -24,7 +24,7 @@ working t xs = sum_by (left t) (filter (in_service t) xs)
 -- a figure by the commands before it and behind it
 abbrev pub figure_split : Settings → Trace → List ℕ → ℕ → List ℕ → ℕ
 figure_split c t A x B = cond (in_service t x) (left t x)
-    (sum_by (left t) A + working t B + (c.budget - passed t x) * c.longest + left t x)
+    (sum_by (left t) A + working t B + (c.budget - passed t x) + left t x)
 
 pub figure_at : (c : Settings) (t : Trace) (A : List ℕ) (x : ℕ) (B : List ℕ) → waiting t ≡ A ++ x ∷ B
     → figure c t x ≡ figure_split c t A x B
@@ -34,7 +34,7 @@ figure_at c t A x B e =
     let w = (every_parts (λ z. is_waiting t z ≡ true) A (x ∷ B)
         (subst (λ l. AllByRecursion (λ z. is_waiting t z ≡ true) l) e (waiting_waits t))).1.0 in
     let F : List ℕ → List ℕ → ℕ = λ P Q. cond (in_service t x) (left t x)
-        (sum_by (left t) P + working t Q + (c.budget - passed t x) * c.longest + left t x) in
+        (sum_by (left t) P + working t Q + (c.budget - passed t x) + left t x) in
     ap (λ b. cond b (F (earlier t x) (later t x)) 0) w
         ∙ (ap (λ l. F l (later t x)) (earlier_is t x A B k) ∙ ap (λ l. F A l) (later_is t x A B k))
 
@@ -48,29 +48,22 @@ working_idle t A h = ap (sum_by (left t)) (filter_none (in_service t) A
 
 -- of a command that is not in service
 pub figure_idle : (c : Settings) (t : Trace) (A : List ℕ) (x : ℕ) (B : List ℕ) → waiting t ≡ A ++ x ∷ B → done t x ≡ 0
-    → figure c t x ≡ sum_by (left t) A + working t B + (c.budget - passed t x) * c.longest + left t x
+    → figure c t x ≡ sum_by (left t) A + working t B + (c.budget - passed t x) + left t x
 figure_idle c t A x B e d = figure_at c t A x B e ∙ ap
-    (λ b. cond b (left t x) (sum_by (left t) A + working t B + (c.budget - passed t x) * c.longest + left t x))
+    (λ b. cond b (left t x) (sum_by (left t) A + working t B + (c.budget - passed t x) + left t x))
     (le-ltb 0 (done t x) (omega arith))
 
 -- of one in service
 figure_working : (c : Settings) (t : Trace) (A : List ℕ) (x : ℕ) (B : List ℕ) → waiting t ≡ A ++ x ∷ B → 0 < done t x
     → figure c t x ≡ left t x
 figure_working c t A x B e d = figure_at c t A x B e
-    ∙ ap (λ b. cond b (left t x) (sum_by (left t) A + working t B + (c.budget - passed t x) * c.longest + left t x))
+    ∙ ap (λ b. cond b (left t x) (sum_by (left t) A + working t B + (c.budget - passed t x) + left t x))
     (lt-ltb 0 (done t x) d)
 
 pub figure_gone : (c : Settings) (t : Trace) (x : ℕ) → is_waiting t x ≡ false → figure c t x ≡ 0
 unfolding figure
 figure_gone c t x e = ap (λ b. cond b (cond (in_service t x) (left t x)
-    (sum_by (left t) (earlier t x) + working t (later t x) + (c.budget - passed t x) * c.longest + left t x)) 0) e
-
--- a pass is worth the longest weight
-pass_pays : (a l q L P p : ℕ) → p + 1 ≤ P → q < L → a + q + (P - (p + 1)) * L + l < a + 0 + (P - p) * L + l
-pass_pays a l q L P p h k =
-    let e : P - p ≡ P - (p + 1) + 1 = omega arith in
-    let z : (P - p) * L ≡ (P - (p + 1) + 1) * L = ap (λ n. n * L) e in
-    omega arith
+    (sum_by (left t) (earlier t x) + working t (later t x) + (c.budget - passed t x) + left t x)) 0) e
 
 -- a step of y, with what is known of those that wait
 pub record Fit (c : Settings) (t : Trace) (m : Moment) (s : Service) (front : List ℕ) (y : ℕ) (back : List ℕ) :
@@ -83,7 +76,6 @@ pub record Fit (c : Settings) (t : Trace) (m : Moment) (s : Service) (front : Li
   pub started : s.started ≡ nat_eq (done t y) 0
   pub more : is_some s.ended ≡ false → 1 < left t y
   pub unfinished : done t y < weight t y
-  pub short : weight t y ≤ c.longest
   pub idle_front : AllByRecursion (λ x. done t x ≡ 0) front
   pub idle_back : AllByRecursion (λ x. done t x ≡ 0) back
   pub affordable : s.started ≡ true → AllByRecursion (λ x. passed t x + toll t y ≤ c.budget) front
@@ -167,15 +159,10 @@ left_same t t' xs h = sum_on (left t') (left t) xs
     (every_weaker (λ x. record_of t' x ≡ record_of t x) (λ x. left t' x ≡ left t x) (λ x e. ap record_left e) xs h)
 
 -- the numbers before and after, for a command in front
-front_pays : (b : Bool) (a l q o L P p p' : ℕ) → p' ≡ p + cond b 1 0 → (b ≡ true → p + 1 ≤ P) → o + 1 ≤ q → q ≤ L
-    → a + o + (P - p') * L + l < a + cond b 0 q + (P - p) * L + l
-front_pays true a l q o L P p p' e h n k =
-    let z = pass_pays a l o L P p (h refl) (omega arith) in
-    let w : (P - p') * L ≡ (P - (p + 1)) * L = ap (λ n. (P - n) * L) e in
-    omega arith
-front_pays false a l q o L P p p' e h n k =
-    let w : (P - p') * L ≡ (P - p) * L = ap (λ n. (P - n) * L) (omega arith) in
-    omega arith
+front_pays : (b : Bool) (a l q o w Q p p' : ℕ) → p' ≡ p + cond b w 0 → (b ≡ true → p + w ≤ Q) → o + 1 ≤ q → q ≤ w
+    → a + o + (Q - p') + l < a + cond b 0 q + (Q - p) + l
+front_pays true a l q o w Q p p' e h n k = omega (arith, e, h refl, n, k)
+front_pays false a l q o w Q p p' e h n k = omega (arith, e, n)
 
 pub falls_front : (c : Settings) (t : Trace) (m : Moment) (s : Service) (front : List ℕ) (y : ℕ) (back : List ℕ)
     → Fit c t m s front y back → (A : List ℕ) (x : ℕ) (B : List ℕ) → front ≡ A ++ x ∷ B
@@ -200,11 +187,10 @@ falls_front c t m s front y back f A x B q =
     let w' = working_after t t' s y back B ch.at_own (idle_stays t t' (step_toll t s y) B new.1.1 idle.1.1)
         (idle_same t t' back ch.at_back f.idle_back) in
     let o = own_left t t' s y ch.at_own f.more f.unfinished in
-    let small = f.short in
     let affordable : s.started ≡ true → passed t x + toll t y ≤ c.budget =
         λ h. (every_parts (λ z. passed t z + toll t y ≤ c.budget) A (x ∷ B)
         (subst (λ l. AllByRecursion (λ z. passed t z + toll t y ≤ c.budget) l) q (f.affordable h))).1.0 in
-    let pays = front_pays s.started (sum_by (left t) A) (left t x) (left t y) (sum_by (left t') own) c.longest c.budget
+    let pays = front_pays s.started (sum_by (left t) A) (left t x) (left t y) (sum_by (left t') own) (toll t y) c.budget
         (passed t x) (passed t' x) (ap (λ (r : Figured). r.passed) new.1.0) affordable o (omega arith) in
     omega (arith, old, now, sA, lx, w, w', pays)
 
@@ -233,8 +219,8 @@ falls_back c t m s front y back f A x B q =
     let s3 = sum_by-append (left t') front (own ++ A) in
     let s4 = sum_by-append (left t') own A in
     let lx : left t' x ≡ left t x = ap record_left new.1.0 in
-    let px : (c.budget - passed t' x) * c.longest ≡ (c.budget - passed t x) * c.longest =
-        ap (λ (r : Figured). (c.budget - r.passed) * c.longest) new.1.0 in
+    let px : c.budget - passed t' x ≡ c.budget - passed t x =
+        ap (λ (r : Figured). c.budget - r.passed) new.1.0 in
     let w = working_idle t B idle.1.1 in
     let w' = working_idle t' B (idle_same t t' B new.1.1 idle.1.1) in
     let o = own_left t t' s y ch.at_own f.more f.unfinished in
@@ -245,7 +231,7 @@ pub figure_left : (c : Settings) (t : Trace) (A : List ℕ) (x : ℕ) (B : List 
     → left t x ≤ figure c t x
 figure_left c t A x B e =
     let h = figure_at c t A x B e in
-    let sum = sum_by (left t) A + working t B + (c.budget - passed t x) * c.longest + left t x in
+    let sum = sum_by (left t) A + working t B + (c.budget - passed t x) + left t x in
     let both : (b : Bool) → left t x ≤ cond b (left t x) sum =
         λ b. elim b as (λ b. left t x ≤ cond b (left t x) sum) [ true ↦ omega arith | false ↦ omega arith ] in
     subst (λ n. left t x ≤ n) (sym h) (both (in_service t x))

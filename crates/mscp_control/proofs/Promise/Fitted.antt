@@ -19,14 +19,12 @@ use Rattle.mscp_control.proofs.Promise.Falls.{Fit}
 use Rattle.mscp_control.proofs.Promise.Stays.{Leaves}
 
 pub fit_of : (c : Settings) (t : Trace) (m : Moment) (s : Service) (k : Block) (y : ℕ) (front back : List ℕ)
-    → Step c t m s k y front back → Steady c t → Short c t (waiting t) → Fit c t m s front y back
-fit_of c t m s k y front back st steady short =
+    → Step c t m s k y front back → Steady c t → Fit c t m s front y back
+fit_of c t m s k y front back st steady =
     let w = st.serves.among.at.is in
     let idle = idle_others c t y front back w steady.single st.served.next in
     let unfinished = every_parts (λ x. done t x < weight t x) front (y ∷ back)
         (subst (AllByRecursion (λ x. done t x < weight t x)) w steady.unfinished) in
-    let shorts = every_parts (λ x. weight t x ≤ c.longest) front (y ∷ back)
-        (subst (AllByRecursion (λ x. weight t x ≤ c.longest)) w short) in
     record {
       is = w;
       after = st.changes.waits;
@@ -36,7 +34,6 @@ fit_of c t m s k y front back st steady short =
       started = st.served.started;
       more = λ b. more_left c t k y (sym (ap is_some st.served.ended) ∙ b);
       unfinished = unfinished.1.0;
-      short = shorts.1.0;
       idle_front = idle.0;
       idle_back = idle.1;
       affordable = λ b. subst (AllByRecursion (λ x. passed t x + toll t y ≤ c.budget))

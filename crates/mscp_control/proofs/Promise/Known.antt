@@ -49,8 +49,8 @@ known_more c l t m r k =
       steady = steady_more c t m r k.steady;
       room = room_more c t m r k.steady k.room;
       short = short;
-      limited = limited_more c t m r k.steady k.short k.limited;
-      within = within_more c t m r (falling c t m r k.steady k.short) short k.within;
+      limited = limited_more c t m r k.steady k.limited;
+      within = within_more c t m r (falling c t m r k.steady) short k.within;
     }
 
 pub known : (c : Settings) → 1 ≤ c.longest → (t : Trace) → IsLegal c t → (i : ℕ) → i ≤ length t → Known c (take i t)

@@ -74,13 +74,13 @@ limited_quiet c t m e h =
     (elim (queues m.1) as (λ b. AllByRecursion New (cond b (length t ∷ []) [])) [ true ↦ (new, tt) | false ↦ tt ]))
 
 -- Each right moment keeps it.
-pub limited_more : (c : Settings) (t : Trace) (m : Moment) → IsRight c t m.0 m.1 → Steady c t → Short c t (waiting t)
+pub limited_more : (c : Settings) (t : Trace) (m : Moment) → IsRight c t m.0 m.1 → Steady c t
     → Limited c t (waiting t) → Limited c (t ++ m ∷ []) (waiting (t ++ m ∷ []))
-limited_more c t m r steady short h =
+limited_more c t m r steady h =
     let both : (o : Option Service) → service_in m.1 ≡ o → Limited c (t ++ m ∷ []) (waiting (t ++ m ∷ [])) =
     λ o. elim o as (λ o. service_in m.1 ≡ o → Limited c (t ++ m ∷ []) (waiting (t ++ m ∷ []))) [
       | None ↦ λ e. limited_quiet c t m e h
       | Some s ↦ λ e. let z = step_right c t m s steady.apart e r in
-          limited_step c t m s z.2 z.1 z.3 (fit_of c t m s z.0 z.1 z.2 z.3 z.4 steady short) h
+          limited_step c t m s z.2 z.1 z.3 (fit_of c t m s z.0 z.1 z.2 z.3 z.4 steady) h
     ] in
     both (service_in m.1) refl

@@ -159,14 +159,13 @@ pub progress : (c : Settings) (t : Trace) → IsValid c → IsLegal c t → Prom
 progress c t valid legal =
     let at : (i : ℕ) → i ≤ length t → Known c (take i t) = known c valid.some_blocks t legal in
     let before : (i : ℕ) → i < length t → Known c (take i t) = λ i h. at i (omega (arith, h)) in
-    let fall = λ (i : ℕ) (h : i < length t). falling c (take i t) (moment t i) (legal i h) (before i h).steady
-        (before i h).short in
+    let fall = λ (i : ℕ) (h : i < length t). falling c (take i t) (moment t i) (legal i h) (before i h).steady in
     record {
       credits = λ i h. (at i h).room.room;
       fences = λ i h. free_starts c (take i t) (moment t i) (legal i h) (before i h).steady;
       one_served = λ i h. one_served (take i t) (waiting (take i t)) (at i h).steady.single;
       oldest_starts = λ i h x. oldest_starts c (take i t) x;
-      budget = λ i h x w. one_of (λ x. passed (take i t) x ≤ c.budget) (waiting (take i t)) (at i h).limited x w;
+      passed = λ i h x w. one_of (λ x. passed (take i t) x ≤ c.budget) (waiting (take i t)) (at i h).limited x w;
       falls = λ i h s x w. subst (λ u. figure c u x < figure c (take i t) x) (sym (more_at t i h))
           ((fall i h).step s x w);
       never_rises = λ i h x w. subst (λ u. figure c u x ≤ figure c (take i t) x) (sym (more_at t i h))

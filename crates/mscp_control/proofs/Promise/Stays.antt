@@ -88,12 +88,11 @@ rises_not c t m h d A x B q true k =
         ∙ (ap (λ l. l ++ new) (filter-append keep A (x ∷ B)
         ∙ ap (λ b. filter keep A ++ cond b (x ∷ filter keep B) (filter keep B)) k)
         ∙ append_assoc (filter keep A) (x ∷ filter keep B) new)) in
-    let S = sum_by (left t) A + working t B + (c.budget - passed t x) * c.longest + left t x in
-    let S' = sum_by (left t') (filter keep A) + working t' (filter keep B ++ new) + (c.budget - passed t' x)
-        * c.longest + left t' x in
+    let S = sum_by (left t) A + working t B + (c.budget - passed t x) + left t x in
+    let S' = sum_by (left t') (filter keep A) + working t' (filter keep B ++ new) + (c.budget - passed t' x) + left t' x in
     let lx : left t' x ≡ left t x = ap record_left same.1.0 in
-    let px : (c.budget - passed t' x) * c.longest ≡ (c.budget - passed t x) * c.longest =
-        ap (λ (r : Figured). (c.budget - r.passed) * c.longest) same.1.0 in
+    let px : c.budget - passed t' x ≡ c.budget - passed t x =
+        ap (λ (r : Figured). c.budget - r.passed) same.1.0 in
     let a1 = left_same t t' (filter keep A) (every_kept (λ z. record_of t' z ≡ record_of t z) keep A same.0) in
     let a2 = sum_kept (left t) keep A in
     let b1 = working_append t' (filter keep B) new in

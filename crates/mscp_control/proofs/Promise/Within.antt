@@ -30,9 +30,9 @@ every_contained P xs h = recursion_from_All P xs (λ k d l. h (get_or xs k d) (C
 times_more : (a b k : ℕ) → a ≤ b → a * k ≤ b * k
 times_more a b k h = grind arith
 
-bound_of : (C P L n l s : ℕ) → n + 2 ≤ C → s ≤ n * L → l ≤ L → s + P * L + l ≤ (C - 1 + P) * L
-bound_of C P L n l s h k m =
-    let big : (n + 1 + P) * L ≤ (C - 1 + P) * L = times_more (n + 1 + P) (C - 1 + P) L (omega arith) in
+bound_of : (C Q L n l s : ℕ) → n + 2 ≤ C → s ≤ n * L → l ≤ L → s + Q + l ≤ (C - 1) * L + Q
+bound_of C Q L n l s h k m =
+    let big : (n + 1) * L ≤ (C - 1) * L = times_more (n + 1) (C - 1) L (omega arith) in
     omega arith
 
 new_figure : (c : Settings) (t : Trace) (W : List ℕ) (x : ℕ) → waiting t ≡ W ++ x ∷ [] → done t x ≡ 0 → passed t x ≡ 0
@@ -44,10 +44,8 @@ new_figure c t W x e d p h n =
     let each = every_weaker (λ z. weight t z ≤ c.longest) (λ z. left t z ≤ c.longest) (λ z w. omega (arith, w)) W
         parts.0 in
     let s = sum_by-le (left t) c.longest W (All-from_recursion (λ z. left t z ≤ c.longest) W each) in
-    let q : (c.budget - passed t x) * c.longest ≡ c.budget * c.longest =
-        ap (λ n. (c.budget - n) * c.longest) p ∙ ap (λ n. n * c.longest) (omega arith) in
     let b = bound_of c.credits c.budget c.longest (length W) (left t x) (sum_by (left t) W) n s (omega (arith, l)) in
-    omega (arith, f, q, b)
+    omega (arith, f, p, b)
 
 room_for_two : (c : Settings) (t : Trace) → 2 ≤ balance c t → length (waiting t) + 2 ≤ c.credits
 unfolding balance

@@ -1,5 +1,5 @@
 -- Commands that are aborted, in service and before, and what that leaves of the figures of others.
-use Rattle.std.proofs.Common.{◌≡◌, true, [], ◌∷◌, ◌++◌, refl}
+use Rattle.std.proofs.Common.{◌≡◌, true, [], ◌∷◌, ◌++◌, take, refl}
 use Rattle.std.specs.Prelude.{replicate, Some, None}
 use Rattle.mscp_packet.specs.declared.command.Order.TheVariants as orders
 use Rattle.mscp_packet.specs.Commands.{command_of}
@@ -14,7 +14,7 @@ use Rattle.mscp_control.specs.Account.{ends, untaken, balance, outstanding}
 use Rattle.mscp_control.specs.Credits.{arrival}
 use Rattle.mscp_control.specs.Legal.{IsLegal, block_of}
 use Rattle.mscp_control.proofs.Bridge.Legals.{legal_from, by_serving}
-use Rattle.mscp_control.proofs.Worked.Literals.{settings, came_online, read, queued, answered, aborted, aborted_from, looked, took, took_none, served}
+use Rattle.mscp_control.proofs.Worked.Literals.{settings, came_online, read, queued, answered, aborted, aborted_from, looked, took, took_none, served, with_budget}
 
 -- A read of three blocks is aborted after one. Its end stands before that of the ABORT, and counts the block.
 abbrev pub in_service : Trace
@@ -35,8 +35,8 @@ in_service_legal = legal_from (settings 5 2) in_service
     (refl, (by_serving 0 refl refl refl, (refl, (refl,
     (by_serving 3 refl refl refl, (refl, (refl, (refl, (refl, tt)))))))))
 
--- Of two reads the second starts first, and is aborted in service. The pass that it made isn't given back: one step is
--- left for the first, which nobody may pass any more.
+-- Of two reads the second starts first, and is aborted in service. The four blocks that its start cost the first aren't
+-- given back: of the budget of eight, four are left.
 abbrev pub passer : Trace
 passer =
     came_online
@@ -44,9 +44,9 @@ passer =
     ∷ queued 2 0 (read 2048 0)
     ∷ looked ((1, 9) ∷ (2, 13) ∷ [])
     ∷ served Good 2 0 (Some 0) true 0 None
-    ∷ looked ((1, 4) ∷ (2, 3) ∷ [])
+    ∷ looked ((1, 8) ∷ (2, 3) ∷ [])
     ∷ aborted 3 2
-    ∷ looked ((1, 1) ∷ [])
+    ∷ looked ((1, 5) ∷ [])
     ∷ []
 
 pub passer_legal : IsLegal (settings 5 1) passer
@@ -56,29 +56,55 @@ passer_legal = legal_from (settings 5 1) passer (refl,
     (by_serving 0 refl refl refl, (refl, (refl, (refl,
     (refl, (by_serving 4 refl refl refl, (refl, (refl, (refl, tt))))))))))
 
--- It was passed all the same.
-passer_passed : passed passer 3 ≡ 1
+-- It was passed by all four all the same.
+passer_passed : passed passer 3 ≡ 4
 unfolding moment collect command_of command is_waiting waiting done good passed_at passed is_free is_startable startable
     figure figure_of is_online head_cylinder head_up answer outcome ends untaken balance outstanding arrival block_of
 passer_passed = refl
 
+-- The same with a budget of four: one step is left for the first, which nobody may pass any more.
+abbrev pub spent : Trace
+spent =
+    came_online
+    ++ queued 1 0 (read 512 800)
+    ∷ queued 2 0 (read 2048 0)
+    ∷ looked ((1, 5) ∷ (2, 9) ∷ [])
+    ∷ served Good 2 0 (Some 0) true 0 None
+    ∷ looked ((1, 4) ∷ (2, 3) ∷ [])
+    ∷ aborted 3 2
+    ∷ looked ((1, 1) ∷ [])
+    ∷ []
+
+pub spent_legal : IsLegal (with_budget 5 4) spent
+unfolding moment collect command_of command is_waiting waiting done good passed_at passed is_free is_startable startable
+    figure figure_of is_online head_cylinder head_up answer outcome ends untaken balance outstanding arrival block_of
+spent_legal = legal_from (with_budget 5 4) spent (refl,
+    (by_serving 0 refl refl refl, (refl, (refl, (refl,
+    (refl, (by_serving 4 refl refl refl, (refl, (refl, (refl, tt))))))))))
+
+-- With a budget of three the second, which weighs four, may not start before the first.
+too_heavy : startable (with_budget 5 3) (take 5 spent) ≡ 3 ∷ []
+unfolding moment collect command_of command is_waiting waiting done good passed_at passed is_free is_startable startable
+    figure figure_of is_online head_cylinder head_up answer outcome ends untaken balance outstanding arrival block_of
+too_heavy = refl
+
 -- The same where the first, which waits, is aborted: the figure of that in service stays.
-abbrev pub passed : Trace
-passed =
+abbrev pub overtaken : Trace
+overtaken =
     came_online
     ++ queued 1 0 (read 512 800)
     ∷ queued 2 0 (read 2048 0)
     ∷ served Good 2 0 (Some 0) true 0 None
-    ∷ looked ((1, 4) ∷ (2, 3) ∷ [])
+    ∷ looked ((1, 8) ∷ (2, 3) ∷ [])
     ∷ aborted 3 1
     ∷ looked ((2, 3) ∷ [])
     ∷ took ((1 ∷ 0 ∷ 0 ∷ 0 ∷ 0 ∷ 0 ∷ 0 ∷ 0 ∷ 0xA1 ∷ 0 ∷ 2 ∷ 0 ∷ []) ++ replicate 20 0)
     ∷ []
 
-pub passed_legal : IsLegal (settings 5 1) passed
+pub overtaken_legal : IsLegal (settings 5 1) overtaken
 unfolding moment collect command_of command is_waiting waiting done good passed_at passed is_free is_startable startable
     figure figure_of is_online head_cylinder head_up answer outcome ends untaken balance outstanding arrival block_of
-passed_legal = legal_from (settings 5 1) passed (refl,
+overtaken_legal = legal_from (settings 5 1) overtaken (refl,
     (by_serving 0 refl refl refl, (refl, (refl, (refl,
     (by_serving 4 refl refl refl, (refl, (refl, (refl, (refl, tt))))))))))
 

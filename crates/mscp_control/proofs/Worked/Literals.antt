@@ -1,5 +1,5 @@
 -- Short words for literal runs.
-use Rattle.std.proofs.Common.{ℕ, ◌+◌, Bool, true, List, [], ◌∷◌, ◌++◌}
+use Rattle.std.proofs.Common.{ℕ, ◌+◌, ◌*◌, Bool, true, List, [], ◌∷◌, ◌++◌}
 use Rattle.std.specs.Prelude.{replicate, Option, Some, None, Result, Ok, Err}
 use Rattle.mscp_packet.specs.declared.command.Order.{Order}
 use Rattle.mscp_packet.specs.declared.command.Order.TheVariants as orders
@@ -25,18 +25,22 @@ abbrev pub shape : ℕ → Shape
 shape number = record { number = number; track = 10; group = 2; cylinder = 1; size = 1000; id = number + 1; media =
     0; serial = number + 1 }
 
--- so many credits and passes, transfers of at most 8 blocks, and these units
+-- so many credits, a budget of so many blocks, transfers of at most 8 blocks, and these units
 abbrev pub settings_of : List Shape → ℕ → ℕ → Settings
 settings_of units credits budget = record { credits = credits; budget = budget; longest = 8; timeout = 60; id =
     1; units = units }
 
 -- the same with unit 0 alone
+abbrev pub with_budget : ℕ → ℕ → Settings
+with_budget credits budget = settings_of (shape 0 ∷ []) credits budget
+
+-- with a budget of so many passes by the longest transfer
 abbrev pub settings : ℕ → ℕ → Settings
-settings credits budget = settings_of (shape 0 ∷ []) credits budget
+settings credits passes = settings_of (shape 0 ∷ []) credits (passes * 8)
 
 -- and with units 0 and 1
 abbrev pub two_units : ℕ → ℕ → Settings
-two_units credits budget = settings_of (shape 0 ∷ shape 1 ∷ []) credits budget
+two_units credits passes = settings_of (shape 0 ∷ shape 1 ∷ []) credits (passes * 8)
 
 -- a read of so many bytes from this block on
 abbrev pub read : ℕ → ℕ → Order

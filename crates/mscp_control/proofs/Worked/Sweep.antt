@@ -14,7 +14,7 @@ use Rattle.mscp_control.specs.Credits.{arrival}
 use Rattle.mscp_control.specs.Legal.{IsLegal, block_of}
 use Rattle.mscp_control.specs.Sweeping.{swept}
 use Rattle.mscp_control.proofs.Bridge.Legals.{legal_from, by_serving}
-use Rattle.mscp_control.proofs.Worked.Literals.{settings, two_units, read, queued, served, moved}
+use Rattle.mscp_control.proofs.Worked.Literals.{settings, two_units, read, queued, served, moved, with_budget}
 use Rattle.mscp_control.proofs.Worked.Heads.{carried, two_heads, up_and_down}
 use Rattle.mscp_control.proofs.Worked.Passing.{in_order, passed_once, passed_twice}
 
@@ -71,7 +71,7 @@ unfolding moment collect command_of command is_waiting waiting done good passed_
     block_of
 none_left = refl
 
--- ---- the passing limit comes first: of those that may start the sweep takes the cheapest
+-- ---- the budget comes first: of those that may start the sweep takes the cheapest
 
 -- None may be passed: the first is taken, though both others are nearer.
 kept_in_order : swept (settings 5 0) (take 6 in_order) ≡ Some 3
@@ -80,36 +80,36 @@ unfolding moment collect command_of command is_waiting waiting done good passed_
     block_of
 kept_in_order = refl
 
--- Each may be passed once: the nearest is taken,
-nearest_first : swept (settings 5 1) (take 7 passed_once) ≡ Some 4
+-- Each may be passed by one block: the nearest is taken,
+nearest_first : swept (with_budget 5 1) (take 7 passed_once) ≡ Some 4
 unfolding moment collect command_of command is_waiting waiting done good passed_at passed is_free is_startable startable
     figure figure_of is_online head_cylinder head_up cost swept answer outcome ends untaken balance outstanding arrival
     block_of
 nearest_first = refl
 
 -- and then the one that was passed.
-passed_then : swept (settings 5 1) (take 9 passed_once) ≡ Some 3
+passed_then : swept (with_budget 5 1) (take 9 passed_once) ≡ Some 3
 unfolding moment collect command_of command is_waiting waiting done good passed_at passed is_free is_startable startable
     figure figure_of is_online head_cylinder head_up cost swept answer outcome ends untaken balance outstanding arrival
     block_of
 passed_then = refl
 
--- Each may be passed twice: the nearest is taken,
-nearest_twice : swept (settings 5 2) (take 6 passed_twice) ≡ Some 4
+-- Each may be passed by two blocks: the nearest is taken,
+nearest_twice : swept (with_budget 5 2) (take 6 passed_twice) ≡ Some 4
 unfolding moment collect command_of command is_waiting waiting done good passed_at passed is_free is_startable startable
     figure figure_of is_online head_cylinder head_up cost swept answer outcome ends untaken balance outstanding arrival
     block_of
 nearest_twice = refl
 
 -- and then the next,
-next_nearest : swept (settings 5 2) (take 7 passed_twice) ≡ Some 5
+next_nearest : swept (with_budget 5 2) (take 7 passed_twice) ≡ Some 5
 unfolding moment collect command_of command is_waiting waiting done good passed_at passed is_free is_startable startable
     figure figure_of is_online head_cylinder head_up cost swept answer outcome ends untaken balance outstanding arrival
     block_of
 next_nearest = refl
 
 -- and then the one that was passed twice.
-passed_last : swept (settings 5 2) (take 8 passed_twice) ≡ Some 3
+passed_last : swept (with_budget 5 2) (take 8 passed_twice) ≡ Some 3
 unfolding moment collect command_of command is_waiting waiting done good passed_at passed is_free is_startable startable
     figure figure_of is_online head_cylinder head_up cost swept answer outcome ends untaken balance outstanding arrival
     block_of

@@ -23,7 +23,7 @@ use Rattle.mscp_control.specs.Account.{ends, untaken, balance, outstanding}
 use Rattle.mscp_control.specs.Credits.{arrival}
 use Rattle.mscp_control.specs.Legal.{IsRight, IsServed, block_of}
 use Rattle.mscp_control.proofs.Promise.Waits.{waits_below}
-use Rattle.mscp_control.proofs.Worked.Literals.{settings, came_online, read, queued, answered, refused, took, looked, served, moved, onlined}
+use Rattle.mscp_control.proofs.Worked.Literals.{settings, came_online, read, queued, answered, refused, took, looked, served, moved, onlined, with_budget}
 use Rattle.mscp_control.proofs.Worked.Credits.{last_credit}
 use Rattle.mscp_control.proofs.Worked.Passing.{passed_once}
 
@@ -145,7 +145,7 @@ bad_available h =
 third : Service
 third = record { reference = 3; unit = 0; lbn = Some 60; started = true; seek = 1; ended = moved 3 0 0 512 }
 
-not_third : (y : ℕ) → IsServed (settings 5 1) (take 9 passed_once) Good third y → ⊥
+not_third : (y : ℕ) → IsServed (with_budget 5 1) (take 9 passed_once) Good third y → ⊥
 unfolding third moment collect command_of command is_waiting waiting done good passed_at passed is_free is_startable
     startable figure figure_of is_online head_cylinder head_up answer outcome ends untaken balance outstanding arrival
     block_of
@@ -161,8 +161,8 @@ not_third (suc (suc (suc (suc (suc (suc (suc (suc zero)))))))) v = false≢true 
 not_third (suc (suc (suc (suc (suc (suc (suc (suc (suc y))))))))) v = let l =
     waits_below (take 9 passed_once) (suc (suc (suc (suc (suc (suc (suc (suc (suc y))))))))) v.waits in omega (arith, l)
 
--- Where the first read was passed as often as may be, the third may not start.
-passed_again : IsWrong (settings 5 1) (take 9 passed_once) (served Good 3 0 (Some 60) true 1 (moved 3 0 0 512))
+-- Where the first read has nothing left of its budget, the third may not start.
+passed_again : IsWrong (with_budget 5 1) (take 9 passed_once) (served Good 3 0 (Some 60) true 1 (moved 3 0 0 512))
 unfolding third
 passed_again h = not_third h.0 h.1
 
@@ -185,8 +185,8 @@ first_figure [] = 0
 first_figure (p ∷ ps) = p.1
 
 -- A figure isn't the command's own blocks alone.
-own_blocks : IsWrong (settings 5 1) (take 6 passed_once) (looked ((1, 1) ∷ (2, 1) ∷ (3, 1) ∷ []))
+own_blocks : IsWrong (with_budget 5 1) (take 6 passed_once) (looked ((1, 1) ∷ (2, 1) ∷ (3, 1) ∷ []))
 unfolding moment collect command_of command is_waiting waiting done good passed_at passed is_free is_startable startable
     figure figure_of is_online head_cylinder head_up answer outcome ends untaken balance outstanding arrival block_of
     first_figure
-own_blocks h = let e : 1 ≡ 9 = ap first_figure h in omega (arith, e)
+own_blocks h = let e : 1 ≡ 2 = ap first_figure h in omega (arith, e)
