@@ -24,7 +24,7 @@ impl Picker for Newest {
     }
 }
 
-/// A queue of unit 0, which has 1000 blocks, 20 blocks a cylinder. Each command may be passed so often.
+/// A queue of unit 0, which has 1000 blocks, 20 blocks a cylinder. Each command may be passed by so many blocks.
 fn queue(rt: &impl Abort, budget: u32) -> Queue<Newest>
     requires { budget < 4 }
     ensures room { result.room ≡ 4 }
@@ -62,8 +62,8 @@ fn served(queue: &mut Queue<Newest>) -> Option<u32> {
     }
 }
 
-// Where each may be passed once, the start of 4 passes 1, 2 and 3, and then none of them may be passed once more. So
-// from then on the oldest alone may start: 1, and then 2, since 3 would pass it a second time. The unit is available,
+// Where each may be passed by one block, the start of 4 passes 1, 2 and 3, and then none of them may be passed any more.
+// So from then on the oldest alone may start: 1, and then 2, since 3 would pass it by a second block. The unit is available,
 // and each transfer ends in its first step.
 #[test]
 fn a_start_passes_every_earlier_command(rt: HostRuntime) {
@@ -81,7 +81,7 @@ fn a_start_passes_every_earlier_command(rt: HostRuntime) {
         queue.push(read(3));
         queue.push(read(4));
         for wanted in order {
-            assert_eq!(rt; served(&mut queue), Some(wanted), "passed {budget} times");
+            assert_eq!(rt; served(&mut queue), Some(wanted), "passed by {budget}");
         }
         assert_eq!(rt; served(&mut queue), None);
     }

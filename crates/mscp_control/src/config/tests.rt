@@ -14,17 +14,19 @@ pub(crate) fn units(rt: &impl Abort) -> Units {
     Units::new(&[unit(rt)]).ok().expect(rt, "a list of units")
 }
 
-/// The configuration of these credits and this passing limit, of that unit, and with the longest transfer of 8 blocks.
-pub(crate) fn config(rt: &impl Abort, credits: u32, budget: u32) -> Config {
-    Config::new(credits, budget, 8, 60, 1, units(rt))
+/// The configuration of these credits, of that unit, with the longest transfer of 8 blocks and a budget of so many of it.
+pub(crate) fn config(rt: &impl Abort, credits: u32, passes: u32) -> Config {
+    Config::new(credits, u64::from(passes) * 8, 8, 60, 1, units(rt))
         .ok()
         .expect(rt, "limits")
 }
 
 #[test]
 fn the_largest_figures_fit(rt: HostRuntime) {
-    let largest = Config::new(64, 448, 8_388_608, 60, 1, units(&rt));
+    let largest = Config::new(64, 3_766_484_991, 8_388_608, 60, 1, units(&rt));
     assert!(rt; largest.is_ok());
-    let larger = Config::new(64, 449, 8_388_608, 60, 1, units(&rt));
-    assert_eq!(rt; larger.err(), Some(ConfigFault::Figure));
+    for budget in [3_766_484_992, 4_294_967_296, 18_446_744_073_709_551_615] {
+        let larger = Config::new(64, budget, 8_388_608, 60, 1, units(&rt));
+        assert_eq!(rt; larger.err(), Some(ConfigFault::Figure));
+    }
 }

@@ -153,7 +153,7 @@ fn is_stale(
     }
 }
 
-// The passing limit is 2 and the longest transfer 8. So the first READ, of one block, has the figure 2 * 8 + 1 = 17,
+// The budget is 16 blocks. So the first READ, of one block, has the figure 16 + 1 = 17,
 // and the second that and the block before it, 18.
 #[test]
 fn a_stale_finish_changes_nothing(rt: HostRuntime) {

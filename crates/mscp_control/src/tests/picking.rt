@@ -16,7 +16,7 @@ fn unit(rt: &impl Abort, number: u16) -> Unit {
 }
 
 /// A controller of two units with 8 credits, which may pass each command so many times.
-fn controller<K: Picker>(rt: &impl Abort, budget: u32, picker: K) -> Controller<K> {
+fn controller<K: Picker>(rt: &impl Abort, budget: u64, picker: K) -> Controller<K> {
     let units = Units::new(&[unit(rt, 0), unit(rt, 1)])
         .ok()
         .expect(rt, "numbers that rise");
@@ -96,7 +96,7 @@ fn a_fence_is_one_units(rt: HostRuntime) {
 }
 
 #[test]
-fn a_command_is_passed_as_often_as_may_be(rt: HostRuntime) {
+fn a_command_is_passed_by_the_budget_at_most(rt: HostRuntime) {
     let mut oldest = controller(&rt, 2, Oldest);
     send(&rt, &mut oldest, &reads());
     assert_eq!(rt; four(&mut oldest), [1, 2, 3, 4]);
@@ -105,7 +105,7 @@ fn a_command_is_passed_as_often_as_may_be(rt: HostRuntime) {
     assert_eq!(rt; four(&mut newest), [4, 3, 1, 2]);
 }
 
-// The start of 3 passes 1 and 2, each as often as it may be passed. So 4, which comes then, passes neither.
+// The start of 3 passes 1 and 2, each by all of its budget. So 4, which comes then, passes neither.
 #[test]
 fn a_start_passes_every_earlier_command(rt: HostRuntime) {
     let mut newest = controller(&rt, 1, Newest);
