@@ -153,7 +153,7 @@ arrives_ended {K} a a' h told told' s c x m f =
         ap (is_code_of e.code) x.opcode ∙ (ap (λ q. is_code_of q (opcode_byte c.order))
         (own_code_of h.settings _ _ c (fault_of h.settings c)) ∙ x.coded) in
     let own : e.reference ≡ s.reference = own_reference_of h.settings _ _ c (fault_of h.settings c) ∙ sym x.reference in
-    pushes_match a a' h1 (ended h1 e) s told told'
+    pushes_match a a' h1 (with_end h1 e) s told told'
         (ended_pushes a a' h1 told s e m1 x.credits x.outstanding own code x.small
         (new_still a h h1 told s.reference m m1 x.new)) m1 f
 
@@ -168,7 +168,7 @@ arrives_match : {K : Type 0} (a a' : Account) (h : Holdings K) (told : Flight) (
 arrives_match {K} a a' h told s c x m w =
     let h1 : Holdings K = aborting h c.order in
     let flight = flight_on h1.untaken a.watch told (answered_end h c) (aborting_matches a h told c.order m).flight in
-    elim (is_queued h.settings c) as (λ b. Matches a' (if b then queued h c else ended h1 (answered_end h c)) told) [
+    elim (is_queued h.settings c) as (λ b. Matches a' (if b then queued h c else with_end h1 (answered_end h c)) told) [
       | true ↦ arrives_queued a a' h told s c x m w
       | false ↦ arrives_ended a a' h told told s c x m
           (subst (λ (o : Option Watch). HasFlight (h1.untaken ++ answered_end h c ∷ []) o told) (sym w) flight)
