@@ -18,9 +18,16 @@ returns-clause-talk g c =
         (c.hear_each.new.talk.heard.items, c.hear_each.new.talk.trace.items) c.hear_each.new.host
         c.hear_each.new.controller) picker c.hear_each.ensures in
     two_ends c.args.config (g.K.Picker.picks c.args.picker) c.args.picker c.args.turns.now
-        (c.in_ok-with_capacity.field-0.items, c.in_ok-with_capacity-2.field-0.items)
-        (c.hear_each.new.talk.heard.items, c.hear_each.new.talk.trace.items) c.in-Ok.host c.hear_each.new.host
-        c.new-controller.result c.hear_each.new.controller
-    c.new-controller.ensures.valid c.runs_keep_the_promise.ensures c.controllers_keep_the_promise.ensures
-        c.in_ok-with_capacity.ensures.items c.in_ok-with_capacity-2.ensures.items host c.new-controller.ensures.fresh
-        goes
+        (c.hear_each.new.talk.heard.items, c.hear_each.new.talk.trace.items) c.new-controller.ensures.valid
+        c.runs_keep_the_promise.ensures c.controllers_keep_the_promise.ensures (record {
+      old = (c.in_ok-with_capacity.field-0.items, c.in_ok-with_capacity-2.field-0.items);
+      host = c.in-Ok.host;
+      controller = c.new-controller.result;
+      last_host = c.hear_each.new.host;
+      last_controller = c.hear_each.new.controller;
+      none_heard = c.in_ok-with_capacity.ensures.items;
+      no_trace = c.in_ok-with_capacity-2.ensures.items;
+      new_host = host;
+      new_controller = c.new-controller.ensures.fresh;
+      goes = goes;
+    })
