@@ -1,16 +1,16 @@
 -- A turn in which the host polls.
-use Rattle.std.proofs.Common.{◌≡◌, ℕ, ◌+◌, ◌<◌, ◌≤◌, true, false, List, map, take, refl, ap, sym, ◌∙◌, subst}
-use Rattle.std.specs.Prelude.{◌≢◌, nat_eq, Some, None, is_some, unwrap_or, Result, Ok, Err}
+use Rattle.std.proofs.Common.{◌≡◌, ℕ, ◌+◌, ◌≤◌, true, false, List, map, take, refl, ap, sym, ◌∙◌, subst}
+use Rattle.std.specs.Prelude.{nat_eq, Some, None, is_some, unwrap_or, Result, Ok, Err}
 use Rattle.std.specs.List.{list_any}
 use Rattle.mscp_queue.specs.declared.view.Choice.{Choice}
 use Rattle.mscp_queue.specs.Figures.{figure_of_reference}
 use Rattle.mscp_queue.specs.Kept.{names}
 use Rattle.mscp_control.specs.Settings.{Settings}
-use Rattle.mscp_control.specs.Commands.{name, sent_command, waiting}
+use Rattle.mscp_control.specs.Commands.{name, waiting}
 use Rattle.mscp_control.specs.Controllers.{KeepsPromise}
 use Rattle.mscp_control.specs.Figures.{figure_of}
 use Rattle.mscp_control.specs.Headline.{Promise}
-use Rattle.mscp_control.specs.History.{Moment, Trace, queues}
+use Rattle.mscp_control.specs.History.{Trace}
 use Rattle.mscp_control.specs.Holdings.{Holdings}
 use Rattle.mscp_host.specs.declared.news.HostFault.{HostFault}
 use Rattle.mscp_host.specs.declared.news.Poll.{Poll}
@@ -19,7 +19,7 @@ use Rattle.mscp_host.specs.declared.submission.Submission.{Submission}
 use Rattle.mscp_host.specs.Accounts.{Account, has_reference, oldest, polls_oldest, watching}
 use Rattle.mscp_sim.specs.declared.conversing.Turn.TheVariants as turns
 use Rattle.mscp_sim.specs.Matches.{Matches}
-use Rattle.mscp_sim.specs.Talks.{Talk, account_at, hands_over, is_asked, in_flight, is_outstanding, asked_for, reference, reference_found, said, sends, figure_told, trace_of}
+use Rattle.mscp_sim.specs.Talks.{Talk, account_at, hands_over, is_asked, in_flight, asked_for, reference_found, said, sends, figure_told, trace_of}
 use Rattle.mscp_sim.specs.Conversing.{IsSound, AnswersTurn}
 use Rattle.mscp_sim.specs.TwoEnds.{IsPolled}
 use Rattle.mscp_sim.proofs.TwoEnds.Accounting.{NoEnd, account_asked, no_flight, polls_of}
@@ -27,7 +27,7 @@ use Rattle.mscp_sim.proofs.TwoEnds.Polling.{flight_asked, one_asked}
 use Rattle.mscp_sim.proofs.TwoEnds.Sending.{told_now}
 use Rattle.mscp_sim.proofs.TwoEnds.Submitting.{asks_match, polled_kept}
 use Rattle.mscp_sim.proofs.TwoEnds.Tracing.{calls_of, history_of, some_figure}
-use Rattle.mscp_sim.proofs.TwoEnds.Turning.{Comes, Turns, fresh_number, heard_at, is_news, kept_back, named_in, no_news, none_some, not_lost, reached_next}
+use Rattle.mscp_sim.proofs.TwoEnds.Turning.{Comes, Turns, heard_at, is_news, kept_back, named_in, new_number, no_news, none_some, not_lost, reached_next}
 
 -- what the controller tells now of a number
 figure_now : {K : Type 0} (c : Settings) (picks : List Choice → ℕ → Type 0) (t : Trace) (h : Holdings K)
@@ -72,15 +72,13 @@ poll_turn {K} {c} {picks} {picker} {talk} {j} {a'} {h'} x r t (Ok (polls.Ask b))
         ∙ (ap (λ z. watching z r y.about) x.at.account
         ∙ sym (account_asked c talk j r y.about n t k.1 idle first)) in
     let fresh = subst (λ (z : Account). list_any (has_reference r) z.outstanding ≡ false) x.at.account y.fresh in
-    let sent_new : (m : Moment) → (said talk j).moment ≡ Some m → queues m.1 ≡ true → (i : ℕ) → i < j
-        → is_outstanding talk j i ≡ true → (sent_command m).reference ≢ reference talk i = λ m f q i l o e.
-    fresh_number c talk j r i fresh l o ((sym y.named ∙ ap named_in (sym k.2 ∙ f)) ∙ e) in
     let so_far = trace_of (take j talk) in
     let now : (told_now x.controller y.about).figure ≡ figure_told c talk j =
         figure_now c picks so_far x.controller y.about x.keeps ∙ ap (figure_of c so_far) number in
     record {
       tells = record { says = heard_at x same; resets = no_news c talk j n (ap is_news k.1); no_lost =
-          not_lost talk j (ap is_news k.1); new = sent_new; idle = λ q. none; some = none_some c talk j n };
+          not_lost talk j (ap is_news k.1); new = new_number c talk j r (ap named_in k.2 ∙ y.named) fresh; idle =
+          λ q. none; some = none_some c talk j n };
       next = record {
         account = same;
         told = told_now x.controller y.about;

@@ -48,12 +48,12 @@ found_poll c talk j e k h (Some p) f q =
     (p, ap (λ (t : ℕ → Bool). find t (outstanding talk j))
         (λ n i. (h (reference talk i) ∙ flip e.reference (reference talk i)) n) ∙ f)
 
--- where it had not waited, something would stand in an empty list
-waited_if : (told : Flight) → (told.waited ≡ false → false ≡ true) → told.waited ≡ true
-waited_if told none =
+-- it waited, where it can't be otherwise
+waited_if : (told : Flight) → (told.waited ≡ false → ⊥) → told.waited ≡ true
+waited_if told never =
     let out : (b : Bool) → told.waited ≡ b → told.waited ≡ true =
     λ b. elim b as (λ b. told.waited ≡ b → told.waited ≡ true)
-        [ true ↦ λ q. q | false ↦ λ q. absurd (false≢true (none q)) ] in
+        [ true ↦ λ q. q | false ↦ λ q. absurd (never q) ] in
     out told.waited refl
 
 -- what is known of the turn
@@ -93,8 +93,8 @@ gives {K} {c} {picks} {picker} {talk} {j} {a} {h} s out hands silent =
             code = ap (λ (x : End). x.code) (sym first.1) ∙ flight.code;
             body = ap (λ (x : End). x.body) (sym first.1)
                 ∙ (flight.body ∙ ap (λ k. bodies.Status w.polled k) told.0);
-            some = λ st. subst (λ k. 1 ≤ k) told.0 (told.1 (waited_if s.told
-                (λ q. ap (list_any (λ (x : End). nat_eq x.reference w.polled)) (sym first.0) ∙ flight.ended st q)));
+            some = λ st. subst (λ k. 1 ≤ k) told.0 (told.1 (waited_if s.told (λ q. false≢true
+                (ap (list_any (λ (x : End). nat_eq x.reference w.polled)) (sym first.0) ∙ flight.ended st q))));
           };
     }
 

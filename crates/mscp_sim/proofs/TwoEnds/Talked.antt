@@ -73,9 +73,7 @@ record Rest {K : Type 0} (c : Settings) (picks : List Choice → ℕ → Type 0)
   pub host : Account
   pub controller : Holdings K
   pub at : At c picks picker talk j host controller
-  pub last_host : Account
-  pub last_controller : Holdings K
-  pub says : Converses picks host controller rest last_host last_controller
+  pub goes : (a' : Account) × (h' : Holdings K) × Converses picks host controller rest a' h'
 
 turns_from : {K : Type 0} (c : Settings) (picks : List Choice → ℕ → Type 0) (picker : K) (talk : Talk) (j : ℕ)
     (rest : Talk) → Keeps c picks picker → Rest c picks picker talk j rest → (i : ℕ) → j ≤ i → i < length talk
@@ -84,7 +82,7 @@ turns_from c picks picker talk j [] keeps x i l k = let none = length-drop j tal
     absurd (omega (arith, l, k, none, empty))
 turns_from {K} c picks picker talk j (s ∷ rest) keeps x i l k =
     let d = drop_more talk j s rest x.is in
-    let r = x.says in
+    let r = x.goes.2 in
     let comes : Comes c picks picker talk j r.0 r.1 = record {
       host = x.host;
       controller = x.controller;
@@ -98,15 +96,8 @@ turns_from {K} c picks picker talk j (s ∷ rest) keeps x i l k =
     let promise = subst (Promise c) (history_of t) (keeps t r.1 turn.next.reached).promise in
     ⊎_elim
     (λ same. subst (Known c talk) same (record { tells = turn.tells; promise = promise }))
-    (λ other. turns_from c picks picker talk (j + 1) rest keeps (record {
-      is = d.2;
-      host = r.0;
-      controller = r.1;
-      at = turn.next;
-      last_host = x.last_host;
-      last_controller = x.last_controller;
-      says = r.3;
-    }) i (omega (arith, l, other)) k)
+    (λ other. turns_from c picks picker talk (j + 1) rest keeps (record { is = d.2; host = r.0; controller = r.1; at =
+        turn.next; goes = (x.goes.0, x.goes.1, r.3) }) i (omega (arith, l, other)) k)
     (cases_eq j i)
 
 -- ---- the start
@@ -185,15 +176,8 @@ two_ends {K} c picks picker ts new v runs law x =
     let run = runs c (events_of t) (entries_of t) h' v answered in
     let trace : trace_of talk ≡ new.1 = ap (λ xs. xs ++ t) (sym x.no_trace) ∙ sym g.trace in
     let whole : zip (events_of t) (entries_of t) ≡ new.1 = zipped t ∙ trace in
-    let rest : Rest c picks picker talk 0 talk = record {
-      is = refl;
-      host = fresh c.credits;
-      controller = h;
-      at = at_start c picks picker talk;
-      last_host = x.last_host;
-      last_controller = h';
-      says = says;
-    } in
+    let rest : Rest c picks picker talk 0 talk = record { is = refl; host = fresh c.credits; controller = h; at =
+        at_start c picks picker talk; goes = (x.last_host, h', says) } in
     let known : (i : ℕ) → i < length talk → Known c talk i = λ i l.
         turns_from c picks picker talk 0 talk (λ t k r. law c (calls_of t) k v r) rest i (omega arith) l in
     record {

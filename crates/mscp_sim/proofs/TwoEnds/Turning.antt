@@ -151,14 +151,16 @@ any_map : (c : Settings) (talk : Talk) (j r : ℕ) (xs : List ℕ)
 any_map c talk j r [] = refl
 any_map c talk j r (x ∷ xs) = ap (λ b. nat_eq (reference talk x) r || b) (any_map c talk j r xs)
 
-pub fresh_number : (c : Settings) (talk : Talk) (j r i : ℕ)
-    → list_any (has_reference r) (account_at c talk j).outstanding ≡ false → i < j → is_outstanding talk j i ≡ true
-    → r ≢ reference talk i
-fresh_number c talk j r i n l o e =
-    let there = outstanding_found talk j i o l in
+-- what is queued in the turn has a number that no outstanding command has
+pub new_number : (c : Settings) (talk : Talk) (j r : ℕ) → named_in (said talk j).moment ≡ r
+    → list_any (has_reference r) (account_at c talk j).outstanding ≡ false → (m : Moment)
+    → (said talk j).moment ≡ Some m → queues m.1 ≡ true → (i : ℕ) → i < j → is_outstanding talk j i ≡ true
+    → (sent_command m).reference ≢ reference talk i
+new_number c talk j r named n m f q i l o e =
+    let same : reference talk i ≡ r = sym e ∙ (ap named_in (sym f) ∙ named) in
     true≢false (sym (any_map c talk j r (outstanding talk j)
-        ∙ any_found _ (λ x. nat_eq (reference talk x) r) (outstanding talk j) i there
-        (eq-eqb (reference talk i) r (sym e))) ∙ n)
+        ∙ any_found _ (λ x. nat_eq (reference talk x) r) (outstanding talk j) i (outstanding_found talk j i o l)
+        (eq-eqb (reference talk i) r same)) ∙ n)
 
 -- nothing is sent or queued, no end is handed over, and no news is heard
 pub record IsQuiet (s : Said) : Type 0 where
@@ -228,15 +230,12 @@ submit_turn {K} {c} {picks} {picker} {talk} {j} {a'} {h'} x command t (Ok b) e k
     let silent : is_asked (said talk j).heard ≡ false = ap is_asked k.1 in
     let fresh = subst (λ (z : Account). list_any (has_reference command.reference) z.outstanding ≡ false) x.at.account
         y.fresh in
-    let sent_new : (m : Moment) → (said talk j).moment ≡ Some m → queues m.1 ≡ true → (i : ℕ) → i < j
-        → is_outstanding talk j i ≡ true → (sent_command m).reference ≢ reference talk i = λ m f q i l o e.
-    fresh_number c talk j command.reference i fresh l o ((sym y.named ∙ ap named_in (sym k.2 ∙ f)) ∙ e) in
     let same : a' ≡ account_at c talk (j + 1) = y.left
         ∙ (ap (λ z. submitted z command) x.at.account ∙ sym (account_submitted c talk j command k.0 n t k.1)) in
     record {
       tells = record { says = heard_at x same; resets = no_news c talk j n (ap is_news k.1); no_lost =
-          not_lost talk j (ap is_news k.1); new = sent_new; idle = never_idle talk j silent; some =
-          none_some c talk j n };
+          not_lost talk j (ap is_news k.1); new = new_number c talk j command.reference (ap named_in k.2 ∙ y.named)
+          fresh; idle = never_idle talk j silent; some = none_some c talk j n };
       next = record {
         account = same;
         told = x.at.told;
