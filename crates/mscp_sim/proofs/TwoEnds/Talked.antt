@@ -17,16 +17,16 @@ use Rattle.mscp_control.specs.Runs.{RunsKeepThePromise}
 use Rattle.mscp_host.specs.Accounts.{Account, fresh, polls_oldest, submits}
 use Rattle.mscp_sim.specs.declared.conversing.Turn.{Turn}
 use Rattle.mscp_sim.specs.declared.conversing.Turn.TheVariants as turns
-use Rattle.mscp_sim.specs.declared.conversing.Heard.{Heard}
 use Rattle.mscp_sim.specs.declared.conversing.Heard.TheVariants as hears
 use Rattle.mscp_sim.specs.Matches.{Flight, Matches}
 use Rattle.mscp_sim.specs.Talks.{Said, Talk, outstanding, said, trace_of}
-use Rattle.mscp_sim.specs.Conversing.{Converses, GoesOn, AnswersTurn, Says}
+use Rattle.mscp_sim.specs.Conversing.{Converses, AnswersTurn, Says}
 use Rattle.mscp_sim.specs.TwoEnds.{AreTwoEnds, IsHeard}
 use Rattle.mscp_sim.proofs.TwoEnds.Asking.{poll_turn}
 use Rattle.mscp_sim.proofs.TwoEnds.Between.{Known, never_reset, never_stands}
 use Rattle.mscp_sim.proofs.TwoEnds.News.{take_turn}
 use Rattle.mscp_sim.proofs.TwoEnds.Outstanding.{found_below}
+use Rattle.mscp_sim.proofs.TwoEnds.Talking.{GoesTo, Kept}
 use Rattle.mscp_sim.proofs.TwoEnds.Tracing.{answered_calls, calls_of, entries_of, events_of, history_of, zipped}
 use Rattle.mscp_sim.proofs.TwoEnds.Turning.{At, Comes, Turns, step_turn, submit_turn}
 
@@ -146,44 +146,36 @@ whole_calls picks a a' h h' (s ∷ talk) r = calls_front picks h r.1 h' s.moment
 
 -- ---- two ends
 
--- these turns are talked by a new host and a new controller, and this is heard and is the trace then
-pub record Talked {K : Type 0} (c : Settings) (picks : List Choice → ℕ → Type 0) (picker : K) (ts : List Turn)
-    (new : List Heard × Trace) : Type 0 where
-  pub old : List Heard × Trace
-  pub host : Account
-  pub controller : Holdings K
-  pub last_host : Account
-  pub last_controller : Holdings K
-  pub none_heard : old.0 ≡ []
-  pub no_trace : old.1 ≡ []
-  pub new_host : host ≡ fresh c.credits
-  pub new_controller : controller ≡ holdings.fresh c picker
-  pub goes : GoesOn picks host controller ts old new last_host last_controller
+-- host and controller are new, and nothing was heard yet
+pub record AreNew {K : Type 0} (c : Settings) (picker : K) (old : Kept K) : Type 0 where
+  pub host : old.host ≡ fresh c.credits
+  pub controller : old.controller ≡ holdings.fresh c picker
+  pub heard : old.lists.0 ≡ []
+  pub trace : old.lists.1 ≡ []
 
-pub two_ends : {K : Type 0} (c : Settings) (picks : List Choice → ℕ → Type 0) (picker : K) (ts : List Turn)
-    (new : List Heard × Trace) → IsValid c → RunsKeepThePromise picks picker → ControllersKeepThePromise picks picker
-    → Talked c picks picker ts new → AreTwoEnds picks c ts new.0 new.1
-two_ends {K} c picks picker ts new v runs law x =
-    let g = x.goes in
+pub two_ends : {K : Type 0} (c : Settings) (picks : List Choice → ℕ → Type 0) (picker : K) (old new : Kept K)
+    (ts : List Turn) → IsValid c → RunsKeepThePromise picks picker → ControllersKeepThePromise picks picker
+    → AreNew c picker old → GoesTo picks old ts new → AreTwoEnds picks c ts new.lists.0 new.lists.1
+two_ends {K} c picks picker old new ts v runs law n g =
     let talk = g.talk in
     let t = trace_of talk in
     let h : Holdings K = holdings.fresh c picker in
-    let h' = x.last_controller in
-    let says : Converses picks (fresh c.credits) h talk x.last_host h' =
-        subst (λ (x' : Account). Converses picks x' h talk x.last_host h') x.new_host
-        (subst (λ (y : Holdings K). Converses picks x.host y talk x.last_host h') x.new_controller g.says) in
-    let answered = answered_calls picks h h' t (whole_calls picks (fresh c.credits) x.last_host h h' talk says) in
-    let run = runs c (events_of t) (entries_of t) h' v answered in
-    let trace : trace_of talk ≡ new.1 = ap (λ xs. xs ++ t) (sym x.no_trace) ∙ sym g.trace in
-    let whole : zip (events_of t) (entries_of t) ≡ new.1 = zipped t ∙ trace in
+    let says : Converses picks (fresh c.credits) h talk new.host new.controller =
+        subst (λ (x : Account). Converses picks x h talk new.host new.controller) n.host
+        (subst (λ (y : Holdings K). Converses picks old.host y talk new.host new.controller) n.controller g.says) in
+    let answered = answered_calls picks h new.controller t
+        (whole_calls picks (fresh c.credits) new.host h new.controller talk says) in
+    let run = runs c (events_of t) (entries_of t) new.controller v answered in
+    let trace : trace_of talk ≡ new.lists.1 = ap (λ xs. xs ++ t) (sym n.trace) ∙ sym g.trace in
+    let whole : zip (events_of t) (entries_of t) ≡ new.lists.1 = zipped t ∙ trace in
     let rest : Rest c picks picker talk 0 talk = record { is = refl; host = fresh c.credits; controller = h; at =
-        at_start c picks picker talk; goes = (x.last_host, h', says) } in
+        at_start c picks picker talk; goes = (new.host, new.controller, says) } in
     let known : (i : ℕ) → i < length talk → Known c talk i = λ i l.
         turns_from c picks picker talk 0 talk (λ t k r. law c (calls_of t) k v r) rest i (omega arith) l in
     record {
       talk = talk;
       turns = g.turns;
-      heard = ap (λ xs. xs ++ map (λ (s : Said). s.heard) talk) (sym x.none_heard) ∙ sym g.heard;
+      heard = ap (λ xs. xs ++ map (λ (s : Said). s.heard) talk) (sym n.heard) ∙ sym g.heard;
       trace = trace;
       legal = subst (IsLegal c) whole run.headline.legal;
       promise = subst (Promise c) whole run.headline.promise;

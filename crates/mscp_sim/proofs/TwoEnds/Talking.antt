@@ -40,7 +40,7 @@ kept host controller talk =
     record { host = host; controller = controller; lists = (talk.heard.items, talk.trace.items) }
 
 -- these turns go on so from the one to the other
-abbrev GoesTo : {K : Type 0} → (List Choice → ℕ → Type 0) → Kept K → List Turn → Kept K → Type 0
+abbrev pub GoesTo : {K : Type 0} → (List Choice → ℕ → Type 0) → Kept K → List Turn → Kept K → Type 0
 GoesTo picks old ts new =
     GoesOn picks old.host old.controller ts old.lists new.lists new.host new.controller
 
