@@ -2,6 +2,7 @@
 use Rattle.std.proofs.Common.{◌≡◌, ◌⊎◌, inl, inr, ⊎_elim, ℕ, zero, suc, ◌+◌, ◌-◌, ◌<◌, ◌≤◌, Bool, true, false, cond, List, [], ◌∷◌, ◌++◌, take, length, refl, ap, sym, ◌∙◌, subst, arith, append-nil}
 use Rattle.std.specs.Prelude.{find, flat_map, nat_eq, nat_lt, not, ◌&&◌, ◌||◌, Contains, Option, Some, None, is_some, option_to_list, unwrap_or}
 use Rattle.std.specs.List.{AllByRecursion, list_any}
+use Rattle.std.proofs.Math.Bool.{and-false, or-true}
 use Rattle.std.proofs.lemmas.Bool.{cases_eq, cases_lt, eqb-true, false≢true, true≢false}
 use Rattle.std.proofs.lemmas.Bool.Decides.{nat_tests}
 use Rattle.std.proofs.lemmas.List.{length-append, take_all}
@@ -23,7 +24,7 @@ use Rattle.mscp_sim.specs.declared.conversing.Turn.TheVariants as turns
 use Rattle.mscp_sim.specs.Talks as talks
 use Rattle.mscp_sim.specs.Talks.{Talk, account_at, answers_of, is_asked, asks_about, before, handed_over, hands_over, is_ended, is_it, is_outstanding, last_of, outstanding, asked_for, reference_found, said, sends, figure_told, trace_of}
 use Rattle.mscp_sim.specs.TwoEnds.{IsHeard, IsStepTurn, Stands, StepsSincePolls}
-use Rattle.mscp_sim.proofs.TwoEnds.Outstanding.{any_more, before_below, found_below, found_stands}
+use Rattle.mscp_sim.proofs.TwoEnds.Outstanding.{any_more, before_below, both_true, found_below, found_stands}
 use Rattle.mscp_sim.proofs.TwoEnds.Receiving.{found_all, outstanding_found}
 use Rattle.mscp_sim.proofs.TwoEnds.Singled.{any_before, none_found}
 use Rattle.mscp_sim.proofs.TwoEnds.Tracing.{trace_more}
@@ -38,10 +39,6 @@ abbrev AllKnown : Settings → Talk → Type 0
 AllKnown c talk = (i : ℕ) → i < length talk → Known c talk i
 
 -- ---- where the last answer came from
-
-both_true : (b d : Bool) → (b && d) ≡ true → (b ≡ true) × (d ≡ true)
-both_true true d e = (refl, e)
-both_true false d e = absurd (false≢true e)
 
 -- the turn k handed over the end of the poll p about the command i, which was told l
 record Came (c : Settings) (talk : Talk) (j i l : ℕ) : Type 0 where
@@ -103,14 +100,6 @@ stood : (talk : Talk) (m j i : ℕ) → m ≤ j → is_outstanding talk j i ≡ 
 stood talk m j i l e = let same : j ≡ m + (j - m) = omega (arith, l) in
     stood_by talk m i (j - m) (subst (λ k. is_outstanding talk k i ≡ true) same e)
 
-or_yes : (p q : Bool) → q ≡ true → (p || q) ≡ true
-or_yes true q e = refl
-or_yes false q e = e
-
-never : (b : Bool) → (b && not true) ≡ false
-never true = refl
-never false = refl
-
 any_there : (q : ℕ → Bool) (xs : List ℕ) (k : ℕ) → q k ≡ true → list_any (λ x. nat_eq x k) xs ≡ true
     → list_any q xs ≡ true
 any_there q [] k e h = absurd (false≢true h)
@@ -119,7 +108,7 @@ any_there q (x ∷ xs) k e h =
         → (q x || list_any q xs) ≡ true =
     λ b. elim b as (λ b. nat_eq x k ≡ b → (b || list_any (λ y. nat_eq y k) xs) ≡ true → (q x || list_any q xs) ≡ true) [
       | true ↦ λ n g. ap (λ b. b || list_any q xs) (ap q (eqb-true x k n) ∙ e)
-      | false ↦ λ n g. or_yes (q x) (list_any q xs) (any_there q xs k e g)
+      | false ↦ λ n g. ap (λ b. q x || b) (any_there q xs k e g) ∙ or-true (q x)
     ] in
     out (nat_eq x k) refl h
 
@@ -132,7 +121,7 @@ gone talk j k p l e =
         found_is (λ i. hands_over (talks.reference talk i) (said talk k).moment) (outstanding talk k) p e in
     let own : is_ended talk p k ≡ true = (λ i. after i && handed i) in
     ap (λ b. sends (said talk p).heard && not b) (any_there (is_ended talk p) (before j) k own (any_before k j l))
-        ∙ never (sends (said talk p).heard)
+        ∙ and-false (sends (said talk p).heard)
 
 -- ---- the first poll came first
 
@@ -296,7 +285,8 @@ most_step c talk m i g s b w most =
         (λ q. k.tells.new n.0 n.1 q i b s.stands) (inr (n.2, refl)) most)
 
 most_by : (c : Settings) (talk : Talk) (m q i g d : ℕ) → Standing c talk q i → m + d ≤ q → i < m
-    → AtMost c (trace_at talk m) (talks.reference talk i) g → AtMost c (trace_at talk (m + d)) (talks.reference talk i) g
+    → AtMost c (trace_at talk m) (talks.reference talk i) g
+    → AtMost c (trace_at talk (m + d)) (talks.reference talk i) g
 most_by c talk m q i g zero s e b most = let same : m ≡ m + 0 = omega arith in
     subst (λ k. AtMost c (trace_at talk k) (talks.reference talk i) g) same most
 most_by c talk m q i g (suc d) s e b most =

@@ -2,7 +2,7 @@
 use Rattle.std.proofs.Common.{◌≡◌, ◌↔◌, ℕ, ◌+◌, ◌<◌, ◌≤◌, Bool, true, false, List, ◌∷◌, refl, ap, sym, ◌∙◌, subst, arith}
 use Rattle.std.specs.Prelude.{find, nat_eq, nat_lt, ◌&&◌, if◌then◌else◌, slice_get, Option, Some, None, is_some, option_map, unwrap_or, Result, Ok, Err}
 use Rattle.std.specs.List.{AllByRecursion, list_any}
-use Rattle.std.proofs.lemmas.Bool.{eqb-true, eq-eqb, false≢true, true≢false}
+use Rattle.std.proofs.lemmas.Bool.{eqb-true, eq-eqb, false≢true, true_from_ne_false, true≢false}
 use Rattle.std.proofs.lemmas.Bool.Decides.{nat_tests}
 use Rattle.arrayvec.specs.ArrayVec.{ArrayVec}
 use Rattle.mscp_packet.specs.declared.end.End.{End}
@@ -23,13 +23,13 @@ use Rattle.mscp_queue.proofs.Placed.{found_is}
 use Rattle.mscp_sim.specs.declared.conversing.Turn.TheVariants as turns
 use Rattle.mscp_sim.specs.declared.conversing.Heard.{Heard}
 use Rattle.mscp_sim.specs.declared.conversing.Heard.TheVariants as hears
-use Rattle.mscp_sim.specs.Matches.{Flight, HasFlight, IsAwaited, IsFlight, Matches}
+use Rattle.mscp_sim.specs.Matches.{HasFlight, IsAwaited, IsFlight, Matches}
 use Rattle.mscp_sim.specs.Talks.{Talk, account_at, asks_about, is_asked, handed_over, hands_over, in_flight, is_it, is_outstanding, last_answer, outstanding, asked_for, reference, reference_found, said, sends, polled_is_outstanding, submission_at, figure_told, watch_at}
 use Rattle.mscp_sim.specs.Conversing.{IsSound, AnswersTurn}
 use Rattle.mscp_sim.specs.TwoEnds.{IsHanded, Stands}
 use Rattle.mscp_sim.proofs.TwoEnds.Accounting.{find_map}
 use Rattle.mscp_sim.proofs.TwoEnds.Handing.{alone, first_is}
-use Rattle.mscp_sim.proofs.TwoEnds.Outstanding.{found_below}
+use Rattle.mscp_sim.proofs.TwoEnds.Outstanding.{both_true, found_below}
 use Rattle.mscp_sim.proofs.TwoEnds.Received.{account_received, flight_back, one_received}
 use Rattle.mscp_sim.proofs.TwoEnds.Receiving.{Gives, once_at, outstanding_found, own_flight, poll_asks}
 use Rattle.mscp_sim.proofs.TwoEnds.Singled.{flip, only_one}
@@ -47,14 +47,6 @@ found_poll c talk j e k h None f q = absurd (false≢true (ap is_some q))
 found_poll c talk j e k h (Some p) f q =
     (p, ap (λ (t : ℕ → Bool). find t (outstanding talk j))
         (λ n i. (h (reference talk i) ∙ flip e.reference (reference talk i)) n) ∙ f)
-
--- it waited, where it can't be otherwise
-waited_if : (told : Flight) → (told.waited ≡ false → ⊥) → told.waited ≡ true
-waited_if told never =
-    let out : (b : Bool) → told.waited ≡ b → told.waited ≡ true =
-    λ b. elim b as (λ b. told.waited ≡ b → told.waited ≡ true)
-        [ true ↦ λ q. q | false ↦ λ q. absurd (never q) ] in
-    out told.waited refl
 
 -- what is known of the turn
 gives : {K : Type 0} {c : Settings} {picks : List Choice → ℕ → Type 0} {picker : K} {talk : Talk} {j : ℕ}
@@ -93,7 +85,7 @@ gives {K} {c} {picks} {picker} {talk} {j} {a} {h} s out hands silent =
             code = ap (λ (x : End). x.code) (sym first.1) ∙ flight.code;
             body = ap (λ (x : End). x.body) (sym first.1)
                 ∙ (flight.body ∙ ap (λ k. bodies.Status w.polled k) told.0);
-            some = λ st. subst (λ k. 1 ≤ k) told.0 (told.1 (waited_if s.told (λ q. false≢true
+            some = λ st. subst (λ k. 1 ≤ k) told.0 (told.1 (true_from_ne_false s.told.waited (λ q. false≢true
                 (ap (list_any (λ (x : End). nat_eq x.reference w.polled)) (sym first.0) ∙ flight.ended st q))));
           };
     }
@@ -136,10 +128,6 @@ record IsSaid (c : Settings) (talk : Talk) (j : ℕ) (n : News) : Type 0 where
   pub resets : (is_reset n ≡ true) ↔ Stands c talk j
 
 -- where the answer stands, the end is that of the poll in flight
-asked_of : (b d : Bool) → (b && d) ≡ true → (b ≡ true) × (d ≡ true)
-asked_of true d e = (refl, e)
-asked_of false d e = absurd (false≢true e)
-
 its_poll : (c : Settings) (talk : Talk) (j : ℕ) (e : End) (g : Gives c talk j e) → (st : Stands c talk j)
     → st.poll ≡ g.poll
 its_poll c talk j e g st = ap (λ o. unwrap_or o st.poll) (sym st.handed ∙ g.found)
@@ -147,7 +135,7 @@ its_poll c talk j e g st = ap (λ o. unwrap_or o st.poll) (sym st.handed ∙ g.f
 in_flight_then : (c : Settings) (talk : Talk) (j : ℕ) (e : End) (g : Gives c talk j e) → Stands c talk j
     → in_flight talk j ≡ Some g.poll
 in_flight_then c talk j e g st =
-    let asked = (asked_of (is_asked (said talk st.poll).heard) (is_it st.command (asked_for talk st.poll))
+    let asked = (both_true (is_asked (said talk st.poll).heard) (is_it st.command (asked_for talk st.poll))
         st.about).0 in
     poll_asks c talk j e g (ap (λ p. is_asked (said talk p).heard) (sym (its_poll c talk j e g st)) ∙ asked)
 
@@ -216,7 +204,7 @@ said_answer c talk j e g q (Some i) r true t some =
     let last = told_last c talk j i e g there in
     rw last (said_figure c talk j (figure_told c talk p) (last_answer c talk j i) (some refl)
     (λ st.
-    let about = (asked_of (is_asked (said talk st.poll).heard) (is_it st.command (asked_for talk st.poll))
+    let about = (both_true (is_asked (said talk st.poll).heard) (is_it st.command (asked_for talk st.poll))
         st.about).1 in
     let poll : st.poll ≡ p = its_poll c talk j e g st in
     let same : i ≡ st.command = eqb-true i st.command
@@ -237,7 +225,7 @@ said_answer c talk j e g q (Some i) r true t some =
     }))
 said_answer c talk j e g q o r false t some =
     said_late c talk j (λ st.
-    let about = (asked_of (is_asked (said talk st.poll).heard) (is_it st.command (asked_for talk st.poll))
+    let about = (both_true (is_asked (said talk st.poll).heard) (is_it st.command (asked_for talk st.poll))
         st.about).1 in
     let poll : st.poll ≡ g.poll = its_poll c talk j e g st in
     true≢false (sym (stands_it talk j st.command o (ap (is_it st.command) (sym (ap (asked_for talk) poll ∙ r)) ∙ about)
@@ -311,7 +299,7 @@ take_some {K} {c} {picks} {picker} {talk} {j} {a'} {h'} x b t m k =
         idle = never_idle talk j (ap is_asked k.1);
         some = λ p i f about st.
             let this : p ≡ g.poll = ap (λ o. unwrap_or o p) (sym f ∙ g.found) in
-            let parts = asked_of (is_asked (said talk g.poll).heard) (is_it i (asked_for talk g.poll))
+            let parts = both_true (is_asked (said talk g.poll).heard) (is_it i (asked_for talk g.poll))
                 (subst (λ q. asks_about talk i q ≡ true) this about) in
             subst (λ q. 1 ≤ figure_told c talk q) (sym this) ((g.tells (poll_asks c talk j e g parts.0)).some
                 (stands_it talk j i (asked_for talk g.poll) parts.1 st));

@@ -2,7 +2,7 @@
 use Rattle.std.proofs.Common.{◌≡◌, ℕ, ◌+◌, ◌<◌, ◌≤◌, Bool, true, false, cond, List, [], ◌∷◌, ◌++◌, map, refl, ap, sym, ◌∙◌, subst, arith, append-nil}
 use Rattle.std.specs.Prelude.{filter, find, nat_eq, not, ◌&&◌, if◌then◌else◌, Option, Some, None, is_some, option_map, unwrap_or}
 use Rattle.std.specs.List.{AllByRecursion}
-use Rattle.std.proofs.lemmas.Bool.{eqb-true, eq-eqb, false≢true, true≢false}
+use Rattle.std.proofs.lemmas.Bool.{eqb-true, eq-eqb, false_from_ne_true, false≢true, true≢false}
 use Rattle.mscp_packet.specs.declared.end.End.{End}
 use Rattle.mscp_packet.specs.declared.end.EndBody.TheVariants as bodies
 use Rattle.mscp_queue.proofs.Lists.{every_weaker, filter_on, every_from}
@@ -71,28 +71,21 @@ found_all P q (y ∷ ys) x h e =
     ] in
     out (q y) e
 
-found_self : (xs : List ℕ) (P : ℕ → Type 0) → ((x : ℕ) → find (λ y. nat_eq y x) xs ≡ Some x → P x) → AllByRecursion P xs
-found_self [] P h = tt
-found_self (x ∷ xs) P h = (
+-- each that is found by itself
+every_members : (P : ℕ → Type 0) (xs : List ℕ) → ((x : ℕ) → find (λ y. nat_eq y x) xs ≡ Some x → P x)
+    → AllByRecursion P xs
+every_members P [] h = tt
+every_members P (x ∷ xs) h = (
   h x (ap (λ b. cond b (Some x) (find (λ y. nat_eq y x) xs)) (eq-eqb x x refl)),
-  found_self xs P (λ y m. h y (
+  every_members P xs (λ y m. h y (
       let out : (b : Bool) → nat_eq x y ≡ b → cond b (Some x) (find (λ z. nat_eq z y) xs) ≡ Some y =
       λ b. elim b as (λ b. nat_eq x y ≡ b → cond b (Some x) (find (λ z. nat_eq z y) xs) ≡ Some y)
           [ true ↦ λ e. ap Some (eqb-true x y e) | false ↦ λ e. m ] in
       out (nat_eq x y) refl)),
 )
 
--- each that is found by itself
-every_members : (P : ℕ → Type 0) (xs : List ℕ) → ((x : ℕ) → find (λ y. nat_eq y x) xs ≡ Some x → P x)
-    → AllByRecursion P xs
-every_members P xs h = found_self xs P h
-
 pub differs : (a b : ℕ) → (a ≡ b → ⊥) → nat_eq a b ≡ false
-differs a b n =
-    let out : (x : Bool) → nat_eq a b ≡ x → nat_eq a b ≡ false =
-    λ x. elim x as (λ x. nat_eq a b ≡ x → nat_eq a b ≡ false)
-        [ true ↦ λ e. absurd (n (eqb-true a b e)) | false ↦ λ e. e ] in
-    out (nat_eq a b) refl
+differs a b n = false_from_ne_true (nat_eq a b) (λ e. n (eqb-true a b e))
 
 pub outstanding_found : (talk : Talk) (j i : ℕ) → is_outstanding talk j i ≡ true → i < j
     → find (λ x. nat_eq x i) (outstanding talk j) ≡ Some i
@@ -199,14 +192,6 @@ subs_told c talk j n f (x ∷ xs) h l =
     ] in
     out (nat_eq (reference talk x) n) refl l
 
-not_asks : (c : Settings) (talk : Talk) (j : ℕ) (e : End) (g : Gives c talk j e)
-    → (is_asked (said talk g.poll).heard ≡ true → ⊥) → is_asked (said talk g.poll).heard ≡ false
-not_asks c talk j e g n =
-    let out : (b : Bool) → is_asked (said talk g.poll).heard ≡ b → is_asked (said talk g.poll).heard ≡ false =
-    λ b. elim b as (λ b. is_asked (said talk g.poll).heard ≡ b → is_asked (said talk g.poll).heard ≡ false)
-        [ true ↦ λ a. absurd (n a) | false ↦ λ a. a ] in
-    out (is_asked (said talk g.poll).heard) refl
-
 -- the poll in flight tells of its command, where that still stands
 told_of_stands : (c : Settings) (talk : Talk) (j : ℕ) (e : End) (g : Gives c talk j e) (o : Option ℕ)
     → in_flight talk j ≡ Some g.poll → asked_for talk g.poll ≡ o → (b : Bool) → polled_is_outstanding talk j o ≡ b
@@ -256,7 +241,7 @@ told_when c talk j e g p q true n =
     rw (eq-eqb e.code 0x82 tells.code, tells.body, watch)
         (told_of_stands c talk j e g asked own refl (polled_is_outstanding talk j asked) refl)
 told_when c talk j e g p q false n =
-    let other : is_asked (said talk g.poll).heard ≡ false = not_asks c talk j e g (λ a.
+    let other = false_from_ne_true (is_asked (said talk g.poll).heard) (λ a.
     let same : p ≡ g.poll = ap (λ o. unwrap_or o p) (sym q ∙ poll_asks c talk j e g a) in
     true≢false (sym (eq-eqb (reference talk p) e.reference (ap (reference talk) same ∙ g.named)) ∙ n)) in
     sym (subs_kept c talk j (outstanding talk j) (every_from (TellsNothing c talk j)
@@ -269,8 +254,8 @@ pub all_told : (c : Settings) (talk : Talk) (j : ℕ) (e : End) (g : Gives c tal
     → outstanding_with (account_at c talk j) (answered (option_map (watch_at talk j) o) e)
         ≡ map (submission_at c talk (j + 1)) (outstanding talk j)
 all_told c talk j e g None q =
-    let quiet : is_asked (said talk g.poll).heard ≡ false =
-        not_asks c talk j e g (λ a. true≢false (ap is_some (sym (poll_asks c talk j e g a) ∙ q))) in
+    let quiet = false_from_ne_true (is_asked (said talk g.poll).heard)
+        (λ a. true≢false (ap is_some (sym (poll_asks c talk j e g a) ∙ q))) in
     sym (subs_kept c talk j (outstanding talk j) (every_from (TellsNothing c talk j)
         (λ i. nothing_asked c talk j i e g quiet) (outstanding talk j)))
 all_told c talk j e g (Some p) q = told_when c talk j e g p q (nat_eq (reference talk p) e.reference) refl

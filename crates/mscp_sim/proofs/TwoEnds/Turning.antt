@@ -2,6 +2,7 @@
 use Rattle.std.proofs.Common.{◌≡◌, ◌↔◌, ℕ, ◌+◌, ◌<◌, ◌≤◌, Bool, true, false, List, [], ◌∷◌, map, take, length, refl, ap, sym, ◌∙◌, subst}
 use Rattle.std.specs.Prelude.{◌≢◌, ◌||◌, cond, find, nat_eq, Option, Some, None, is_some, unwrap_or, Result, Ok, Err}
 use Rattle.std.specs.List.{list_any}
+use Rattle.std.proofs.Math.Bool.{or-true}
 use Rattle.std.proofs.lemmas.Bool.{eq-eqb, false≢true, true≢false}
 use Rattle.arrayvec.specs.ArrayVec.{ArrayVec}
 use Rattle.mscp_packet.specs.declared.command.Command.{Command}
@@ -112,10 +113,6 @@ heard_at {K} {c} {picks} {picker} {talk} {j} x same =
     subst (λ y. IsHeard y (said talk j).turn (said talk j) (account_at c talk (j + 1))) x.at.account
         (subst (λ y. IsHeard x.host (said talk j).turn (said talk j) y) same x.says.0)
 
-or_true : (p q : Bool) → q ≡ true → (p || q) ≡ true
-or_true true q e = refl
-or_true false q e = e
-
 -- what asks also sends
 pub asks_sends : (heard : Heard) → sends heard ≡ false → is_asked heard ≡ false
 asks_sends hears.Asked e = e
@@ -142,7 +139,7 @@ any_found p q (y ∷ ys) x e k =
     let out : (b : Bool) → cond b (Some y) (find p ys) ≡ Some x → (q y || list_any q ys) ≡ true =
     λ b. elim b as (λ b. cond b (Some y) (find p ys) ≡ Some x → (q y || list_any q ys) ≡ true) [
       | true ↦ λ f. ap (λ b. b || list_any q ys) (ap q (ap (λ o. unwrap_or o y) f) ∙ k)
-      | false ↦ λ f. or_true (q y) (list_any q ys) (any_found p q ys x f k)
+      | false ↦ λ f. ap (λ b. q y || b) (any_found p q ys x f k) ∙ or-true (q y)
     ] in
     out (p y) e
 
