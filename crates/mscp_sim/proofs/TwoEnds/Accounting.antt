@@ -3,6 +3,7 @@ use Rattle.std.proofs.Common.{◌≡◌, ℕ, ◌+◌, Bool, true, false, cond, 
 use Rattle.std.specs.Prelude.{filter, find, nat_lt, not, ◌&&◌, ◌||◌, Option, Some, None, is_some, option_map, unwrap_or}
 use Rattle.std.specs.Option.{option_or}
 use Rattle.std.specs.List.{list_any}
+use Rattle.std.proofs.Math.Bool.{and-false, or-false}
 use Rattle.std.proofs.lemmas.Bool.{false≢true, true≢false}
 use Rattle.std.proofs.lemmas.List.{map-append}
 use Rattle.std.proofs.lemmas.List.Folds.{find-append}
@@ -33,20 +34,12 @@ pub none_handed : (talk : Talk) (j : ℕ) → NoEnd talk j → handed_over talk 
 none_handed talk j n = find_false (λ i. hands_over (reference talk i) (said talk j).moment) (outstanding talk j)
     (λ i. n (reference talk i))
 
-and_false : (b : Bool) → (b && false) ≡ false
-and_false true = refl
-and_false false = refl
-
-or_none : (b : Bool) → (b || false) ≡ b
-or_none true = refl
-or_none false = refl
-
 outstanding_same : (talk : Talk) (j i : ℕ) → NoEnd talk j → is_outstanding talk (j + 1) i ≡ is_outstanding talk j i
 outstanding_same talk j i n =
     let no : (nat_lt i j && hands_over (reference talk i) (said talk j).moment) ≡ false =
-        ap (λ b. nat_lt i j && b) (n (reference talk i)) ∙ and_false (nat_lt i j) in
+        ap (λ b. nat_lt i j && b) (n (reference talk i)) ∙ and-false (nat_lt i j) in
     ap (λ b. sends (said talk i).heard && not b) (any_more talk j i
-        ∙ (ap (λ b. list_any (is_ended talk i) (before j) || b) no ∙ or_none (list_any (is_ended talk i) (before j))))
+        ∙ (ap (λ b. list_any (is_ended talk i) (before j) || b) no ∙ or-false (list_any (is_ended talk i) (before j))))
 
 pub all_stay : (talk : Talk) (j : ℕ) → NoEnd talk j
     → filter (λ i. not (ends_now talk j i)) (outstanding talk j) ≡ outstanding talk j

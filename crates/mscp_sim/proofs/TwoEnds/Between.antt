@@ -2,6 +2,7 @@
 use Rattle.std.proofs.Common.{◌≡◌, ◌⊎◌, inl, inr, ⊎_elim, ℕ, zero, suc, ◌+◌, ◌-◌, ◌<◌, ◌≤◌, Bool, true, false, cond, List, [], ◌∷◌, ◌++◌, take, length, refl, ap, sym, ◌∙◌, subst, arith, append-nil}
 use Rattle.std.specs.Prelude.{find, flat_map, nat_eq, nat_lt, not, ◌&&◌, ◌||◌, Contains, Option, Some, None, is_some, option_to_list, unwrap_or}
 use Rattle.std.specs.List.{AllByRecursion, list_any}
+use Rattle.std.proofs.Math.Bool.{and-false, or-true}
 use Rattle.std.proofs.lemmas.Bool.{cases_eq, cases_lt, eqb-true, false≢true, true≢false}
 use Rattle.std.proofs.lemmas.Bool.Decides.{nat_tests}
 use Rattle.std.proofs.lemmas.List.{length-append, take_all}
@@ -23,7 +24,7 @@ use Rattle.mscp_sim.specs.declared.conversing.Turn.TheVariants as turns
 use Rattle.mscp_sim.specs.Talks as talks
 use Rattle.mscp_sim.specs.Talks.{Talk, account_at, answers_of, is_asked, asks_about, before, handed_over, hands_over, is_ended, is_it, is_outstanding, last_of, outstanding, asked_for, reference_found, said, sends, figure_told, trace_of}
 use Rattle.mscp_sim.specs.TwoEnds.{IsHeard, IsStepTurn, Stands, StepsSincePolls}
-use Rattle.mscp_sim.proofs.TwoEnds.Outstanding.{any_more, before_below, found_below, found_stands}
+use Rattle.mscp_sim.proofs.TwoEnds.Outstanding.{any_more, before_below, both_true, found_below, found_stands}
 use Rattle.mscp_sim.proofs.TwoEnds.Receiving.{found_all, outstanding_found}
 use Rattle.mscp_sim.proofs.TwoEnds.Singled.{any_before, none_found}
 use Rattle.mscp_sim.proofs.TwoEnds.Tracing.{trace_more}
@@ -38,10 +39,6 @@ abbrev AllKnown : Settings → Talk → Type 0
 AllKnown c talk = (i : ℕ) → i < length talk → Known c talk i
 
 -- ---- where the last answer came from
-
-both_true : (b d : Bool) → (b && d) ≡ true → (b ≡ true) × (d ≡ true)
-both_true true d e = (refl, e)
-both_true false d e = absurd (false≢true e)
 
 -- the turn k handed over the end of the poll p about the command i, which was told l
 record Came (c : Settings) (talk : Talk) (j i l : ℕ) : Type 0 where
@@ -103,14 +100,6 @@ stood : (talk : Talk) (m j i : ℕ) → m ≤ j → is_outstanding talk j i ≡ 
 stood talk m j i l e = let same : j ≡ m + (j - m) = omega (arith, l) in
     stood_by talk m i (j - m) (subst (λ k. is_outstanding talk k i ≡ true) same e)
 
-or_yes : (p q : Bool) → q ≡ true → (p || q) ≡ true
-or_yes true q e = refl
-or_yes false q e = e
-
-never : (b : Bool) → (b && not true) ≡ false
-never true = refl
-never false = refl
-
 any_there : (q : ℕ → Bool) (xs : List ℕ) (k : ℕ) → q k ≡ true → list_any (λ x. nat_eq x k) xs ≡ true
     → list_any q xs ≡ true
 any_there q [] k e h = absurd (false≢true h)
@@ -119,7 +108,7 @@ any_there q (x ∷ xs) k e h =
         → (q x || list_any q xs) ≡ true =
     λ b. elim b as (λ b. nat_eq x k ≡ b → (b || list_any (λ y. nat_eq y k) xs) ≡ true → (q x || list_any q xs) ≡ true) [
       | true ↦ λ n g. ap (λ b. b || list_any q xs) (ap q (eqb-true x k n) ∙ e)
-      | false ↦ λ n g. or_yes (q x) (list_any q xs) (any_there q xs k e g)
+      | false ↦ λ n g. ap (λ b. q x || b) (any_there q xs k e g) ∙ or-true (q x)
     ] in
     out (nat_eq x k) refl h
 
@@ -132,28 +121,33 @@ gone talk j k p l e =
         found_is (λ i. hands_over (talks.reference talk i) (said talk k).moment) (outstanding talk k) p e in
     let own : is_ended talk p k ≡ true = (λ i. after i && handed i) in
     ap (λ b. sends (said talk p).heard && not b) (any_there (is_ended talk p) (before j) k own (any_before k j l))
-        ∙ never (sends (said talk p).heard)
+        ∙ and-false (sends (said talk p).heard)
 
 -- ---- the first poll came first
 
+-- turn k hands over the end of the poll p
+record EndsPoll (talk : Talk) (k p : ℕ) : Type 0 where
+  pub handed : handed_over talk k ≡ Some p
+  pub asked : is_asked (said talk p).heard ≡ true
+
 order_of : (c : Settings) (talk : Talk) (j k p q : ℕ) → AllKnown c talk → j < length talk → k < j
-    → handed_over talk k ≡ Some p → handed_over talk j ≡ Some q → is_asked (said talk p).heard ≡ true
-    → is_asked (said talk q).heard ≡ true → p < q
-order_of c talk j k p q known l m e f a b =
-    let pk : p < k = found_below talk k p _ e in
-    let qj : q < j = found_below talk j q _ f in
-    let stands = found_stands talk j q _ f in
+    → EndsPoll talk k p → EndsPoll talk j q → p < q
+order_of c talk j k p q known l m first second =
+    let pk : p < k = found_below talk k p _ first.handed in
+    let qj : q < j = found_below talk j q _ second.handed in
+    let stands = found_stands talk j q _ second.handed in
     ⊎_elim
     (λ less. less)
     (λ more. ⊎_elim
-    (λ same. absurd (true≢false (sym stands ∙ (ap (is_outstanding talk j) (sym same) ∙ gone talk j k p m e))))
+    (λ same. absurd (true≢false (sym stands ∙ (ap (is_outstanding talk j) (sym same)
+        ∙ gone talk j k p m first.handed))))
     (λ other.
     let less : q < p = omega (arith, more, other) in
     let there = outstanding_found talk p q (stood talk p j q (omega (arith, pk, m)) stands) less in
-    let idle = (known p (omega (arith, pk, m, l))).tells.idle a in
+    let idle = (known p (omega (arith, pk, m, l))).tells.idle first.asked in
     let silent = found_all (λ x. is_asked (said talk x).heard ≡ false) _ (outstanding talk p) q
         (none_found (λ x. is_asked (said talk x).heard) (outstanding talk p) idle) there in
-    absurd (true≢false (sym b ∙ silent)))
+    absurd (true≢false (sym second.asked ∙ silent)))
     (cases_eq p q))
     (cases_lt p q)
 
@@ -167,9 +161,9 @@ contains_waiting : (t : Trace) (x : ℕ) → is_waiting t x ≡ true → Contain
 contains_waiting t x w = let k = cut t x (waits_below t x w) w in
     subst (λ xs. Contains xs x) (sym k.2.is) (contains_in k.0 x k.1)
 
--- no figure of a waiting command of this number is over g, less s
-abbrev AtMost : Settings → Trace → ℕ → ℕ → ℕ → Type 0
-AtMost c t n g s = (x : ℕ) → is_waiting t x ≡ true → reference t x ≡ n → figure c t x + s ≤ g
+-- no figure of a waiting command of this number is over g
+abbrev AtMost : Settings → Trace → ℕ → ℕ → Type 0
+AtMost c t n g = (x : ℕ) → is_waiting t x ≡ true → reference t x ≡ n → figure c t x ≤ g
 
 abbrev trace_at : Talk → ℕ → Trace
 trace_at talk m = trace_of (take m talk)
@@ -183,7 +177,7 @@ part_of c t u p x w =
         (p.own (length t) inside) x w
 
 first_most : (c : Settings) (talk : Talk) (p n : ℕ) → AllKnown c talk → p < length talk
-    → AtMost c (trace_at talk p) n (figure_of c (trace_at talk p) n) 0
+    → AtMost c (trace_at talk p) n (figure_of c (trace_at talk p) n)
 first_most c talk p n known l x w r =
     let t = trace_at talk p in
     let promise = subst (Promise c) (trace_more talk p l) (known p l).promise in
@@ -215,10 +209,10 @@ falls_at c t m p s x w =
         (take-append_seam t (m ∷ [])) (p.falls (length t) (omega (arith, size)) step) x w)
 
 -- a moment raises no figure, and a step lowers each
-most_moment : (c : Settings) (t : Trace) (m : Moment) (n g s s' : ℕ) → Promise c (t ++ m ∷ [])
-    → (queues m.1 ≡ true → (sent_command m).reference ≡ n → ⊥) → (s' ≡ s) ⊎ ((is_step m.0 ≡ true) × (s ≡ 0) × (s' ≡ 1))
-    → AtMost c t n g s → AtMost c (t ++ m ∷ []) n g s'
-most_moment c t m n g s s' p new way most x w r =
+most_moment : (c : Settings) (t : Trace) (m : Moment) (n g g' : ℕ) → Promise c (t ++ m ∷ [])
+    → (queues m.1 ≡ true → (sent_command m).reference ≡ n → ⊥) → (g' ≡ g) ⊎ ((is_step m.0 ≡ true) × (g' ≡ g - 1))
+    → AtMost c t n g → AtMost c (t ++ m ∷ []) n g'
+most_moment c t m n g g' p new way most x w r =
     let t' = t ++ m ∷ [] in
     let size : length t' ≡ length t + 1 = length-append t (m ∷ []) in
     let inside : x < length t' = waits_below t' x w in
@@ -231,8 +225,8 @@ most_moment c t m n g s s' p new way most x w r =
     let there = contains_waiting t x waits in
     let rises = never_rises_at c t m p x there in
     ⊎_elim (λ same. omega (arith, old, rises, same))
-        (λ step. let falls = falls_at c t m p step.0 x there in let a = step.1 in let b = step.2 in
-        omega (arith, old, falls, a, b)) way)
+        (λ step. let falls = falls_at c t m p step.0 x there in let less = step.1 in
+        omega (arith, old, falls, less)) way)
     (λ beyond.
     let last : x ≡ length t = omega (arith, beyond, inside, size) in
     let queued : queues m.1 ≡ true = sym (is_waiting_last t m) ∙ (ap (is_waiting t') (sym last) ∙ w) in
@@ -241,25 +235,34 @@ most_moment c t m n g s s' p new way most x w r =
 
 -- ---- from poll to poll
 
-most_same_with : (c : Settings) (talk : Talk) (m i g s : ℕ) (o : Option Moment) → AllKnown c talk → m < length talk
-    → i < m → is_outstanding talk m i ≡ true → (said talk m).moment ≡ o
-    → AtMost c (trace_at talk m) (talks.reference talk i) g s
-    → AtMost c (trace_at talk m ++ option_to_list o) (talks.reference talk i) g s
-most_same_with c talk m i g s None known l b st e most =
-    subst (λ t. AtMost c t (talks.reference talk i) g s) (sym (append-nil (trace_at talk m))) most
-most_same_with c talk m i g s (Some n) known l b st e most =
-    let k = known m l in
+-- the command i is outstanding before turn m, and each turn is known
+record Standing (c : Settings) (talk : Talk) (m i : ℕ) : Type 0 where
+  pub known : AllKnown c talk
+  pub inside : m < length talk
+  pub stands : is_outstanding talk m i ≡ true
+
+sooner : (c : Settings) (talk : Talk) (m q i : ℕ) → m ≤ q → Standing c talk q i → Standing c talk m i
+sooner c talk m q i l s = let inside = s.inside in
+    record { known = s.known; inside = omega (arith, l, inside); stands = stood talk m q i l s.stands }
+
+most_same_with : (c : Settings) (talk : Talk) (m i g : ℕ) (o : Option Moment) → Standing c talk m i → i < m
+    → (said talk m).moment ≡ o → AtMost c (trace_at talk m) (talks.reference talk i) g
+    → AtMost c (trace_at talk m ++ option_to_list o) (talks.reference talk i) g
+most_same_with c talk m i g None s b e most =
+    subst (λ t. AtMost c t (talks.reference talk i) g) (sym (append-nil (trace_at talk m))) most
+most_same_with c talk m i g (Some n) s b e most =
+    let k = s.known m s.inside in
     let promise = subst (λ o. Promise c (trace_at talk m ++ option_to_list o)) e
-        (subst (Promise c) (trace_more talk m l) k.promise) in
-    most_moment c (trace_at talk m) n (talks.reference talk i) g s s promise (λ q. k.tells.new n e q i b st) (inl refl)
-        most
+        (subst (Promise c) (trace_more talk m s.inside) k.promise) in
+    most_moment c (trace_at talk m) n (talks.reference talk i) g g promise (λ q. k.tells.new n e q i b s.stands)
+        (inl refl) most
 
 -- a turn raises no figure of a command that is outstanding
-most_same : (c : Settings) (talk : Talk) (m i g s : ℕ) → AllKnown c talk → m < length talk → i < m
-    → is_outstanding talk m i ≡ true → AtMost c (trace_at talk m) (talks.reference talk i) g s
-    → AtMost c (trace_at talk (m + 1)) (talks.reference talk i) g s
-most_same c talk m i g s known l b st most = subst (λ t. AtMost c t (talks.reference talk i) g s)
-    (sym (trace_more talk m l)) (most_same_with c talk m i g s (said talk m).moment known l b st refl most)
+most_same : (c : Settings) (talk : Talk) (m i g : ℕ) → Standing c talk m i → i < m
+    → AtMost c (trace_at talk m) (talks.reference talk i) g
+    → AtMost c (trace_at talk (m + 1)) (talks.reference talk i) g
+most_same c talk m i g s b most = subst (λ t. AtMost c t (talks.reference talk i) g)
+    (sym (trace_more talk m s.inside)) (most_same_with c talk m i g (said talk m).moment s b refl most)
 
 step_moment : (talk : Talk) (m : ℕ) (a a' : Account) (t : Turn) → IsStepTurn t → IsHeard a t (said talk m) a'
     → (n : Moment) × ((said talk m).moment ≡ Some n) × (is_step n.0 ≡ true)
@@ -269,38 +272,35 @@ step_moment talk m a a' (turns.Poll n) w r = absurd w
 step_moment talk m a a' turns.Take w r = absurd w
 
 -- a step lowers it
-most_step : (c : Settings) (talk : Talk) (m i g : ℕ) → AllKnown c talk → m < length talk → i < m
-    → is_outstanding talk m i ≡ true → IsStepTurn (said talk m).turn
-    → AtMost c (trace_at talk m) (talks.reference talk i) g 0
-    → AtMost c (trace_at talk (m + 1)) (talks.reference talk i) g 1
-most_step c talk m i g known l b st w most =
-    let k = known m l in
+most_step : (c : Settings) (talk : Talk) (m i g : ℕ) → Standing c talk m i → i < m → IsStepTurn (said talk m).turn
+    → AtMost c (trace_at talk m) (talks.reference talk i) g
+    → AtMost c (trace_at talk (m + 1)) (talks.reference talk i) (g - 1)
+most_step c talk m i g s b w most =
+    let k = s.known m s.inside in
     let n = step_moment talk m (account_at c talk m) (account_at c talk (m + 1)) (said talk m).turn w k.tells.says in
     let more : trace_at talk (m + 1) ≡ trace_at talk m ++ n.0 ∷ [] =
-        trace_more talk m l ∙ ap (λ o. trace_at talk m ++ option_to_list o) n.1 in
-    subst (λ t. AtMost c t (talks.reference talk i) g 1) (sym more)
-    (most_moment c (trace_at talk m) n.0 (talks.reference talk i) g 0 1 (subst (Promise c) more k.promise)
-        (λ q. k.tells.new n.0 n.1 q i b st) (inr (n.2, refl, refl)) most)
+        trace_more talk m s.inside ∙ ap (λ o. trace_at talk m ++ option_to_list o) n.1 in
+    subst (λ t. AtMost c t (talks.reference talk i) (g - 1)) (sym more)
+    (most_moment c (trace_at talk m) n.0 (talks.reference talk i) g (g - 1) (subst (Promise c) more k.promise)
+        (λ q. k.tells.new n.0 n.1 q i b s.stands) (inr (n.2, refl)) most)
 
-most_by : (c : Settings) (talk : Talk) (m q i g s d : ℕ) → AllKnown c talk → q < length talk → m + d ≤ q → i < m
-    → is_outstanding talk q i ≡ true → AtMost c (trace_at talk m) (talks.reference talk i) g s
-    → AtMost c (trace_at talk (m + d)) (talks.reference talk i) g s
-most_by c talk m q i g s zero known l e b st most = let same : m ≡ m + 0 = omega arith in
-    subst (λ k. AtMost c (trace_at talk k) (talks.reference talk i) g s) same most
-most_by c talk m q i g s (suc d) known l e b st most =
+most_by : (c : Settings) (talk : Talk) (m q i g d : ℕ) → Standing c talk q i → m + d ≤ q → i < m
+    → AtMost c (trace_at talk m) (talks.reference talk i) g
+    → AtMost c (trace_at talk (m + d)) (talks.reference talk i) g
+most_by c talk m q i g zero s e b most = let same : m ≡ m + 0 = omega arith in
+    subst (λ k. AtMost c (trace_at talk k) (talks.reference talk i) g) same most
+most_by c talk m q i g (suc d) s e b most =
     let same : m + d + 1 ≡ m + suc d = omega arith in
-    subst (λ k. AtMost c (trace_at talk k) (talks.reference talk i) g s) same
-    (most_same c talk (m + d) i g s known (omega (arith, l, e)) (omega (arith, b))
-        (stood talk (m + d) q i (omega (arith, e)) st)
-        (most_by c talk m q i g s d known l (omega (arith, e)) b st most))
+    subst (λ k. AtMost c (trace_at talk k) (talks.reference talk i) g) same
+    (most_same c talk (m + d) i g (sooner c talk (m + d) q i (omega (arith, e)) s) (omega (arith, b))
+        (most_by c talk m q i g d s (omega (arith, e)) b most))
 
-most_until : (c : Settings) (talk : Talk) (m n q i g s : ℕ) → AllKnown c talk → q < length talk → m ≤ n → n ≤ q → i < m
-    → is_outstanding talk q i ≡ true → AtMost c (trace_at talk m) (talks.reference talk i) g s
-    → AtMost c (trace_at talk n) (talks.reference talk i) g s
-most_until c talk m n q i g s known l a e b st most =
+most_until : (c : Settings) (talk : Talk) (m n q i g : ℕ) → Standing c talk q i → m ≤ n → n ≤ q → i < m
+    → AtMost c (trace_at talk m) (talks.reference talk i) g → AtMost c (trace_at talk n) (talks.reference talk i) g
+most_until c talk m n q i g s a e b most =
     let same : m + (n - m) ≡ n = omega (arith, a) in
-    subst (λ k. AtMost c (trace_at talk k) (talks.reference talk i) g s) same
-        (most_by c talk m q i g s (n - m) known l (omega (arith, a, e)) b st most)
+    subst (λ k. AtMost c (trace_at talk k) (talks.reference talk i) g) same
+        (most_by c talk m q i g (n - m) s (omega (arith, a, e)) b most)
 
 it_is : (i : ℕ) (o : Option ℕ) → is_it i o ≡ true → o ≡ Some i
 it_is i None e = absurd (false≢true e)
@@ -339,12 +339,14 @@ never_reset c talk known j l st steps =
     let aq = both_true (is_asked (said talk q).heard) (is_it i (asked_for talk q)) st.about in
     let pp : asked_for talk p ≡ Some i = it_is i (asked_for talk p) ap_.1 in
     let pq : asked_for talk q ≡ Some i = it_is i (asked_for talk q) aq.1 in
-    let less = order_of c talk j came.turn p q known l came.early came.handed st.handed ap_.0 aq.0 in
+    let less = order_of c talk j came.turn p q known l came.early
+        (record { handed = came.handed; asked = ap_.0 }) (record { handed = st.handed; asked = aq.0 }) in
     let qj : q < j = found_below talk j q _ st.handed in
     let ql : q < length talk = omega (arith, qj, l) in
     let ip : i < p = found_below talk p i _ pp in
     let step = steps p less came.about in
-    let stands : is_outstanding talk q i ≡ true = stood talk q j i (omega (arith, qj)) st.outstanding in
+    let s : Standing c talk q i =
+        sooner c talk q j i (omega (arith, qj)) (record { known = known; inside = l; stands = st.outstanding }) in
     let g = figure_of c (trace_at talk p) n in
     let first : st.last ≡ g = sym came.told ∙ ap (λ o. figure_of c (trace_at talk p) (reference_found talk o)) pp in
     let second : figure_told c talk q ≡ figure_of c (trace_at talk q) n =
@@ -352,17 +354,17 @@ never_reset c talk known j l st steps =
     let at_p = first_most c talk p n known (omega (arith, less, ql)) in
     let pk = step.1 in
     let kq = step.2 in
-    let at_k = most_until c talk p step.0 q i g 0 known ql (omega (arith, pk)) (omega (arith, kq)) ip stands at_p in
-    let after = most_step c talk step.0 i g known (omega (arith, kq, ql)) (omega (arith, ip, pk))
-        (stood talk step.0 q i (omega (arith, kq)) stands) step.3 at_k in
-    let at_q = most_until c talk (step.0 + 1) q q i g 1 known ql (omega (arith, kq)) (omega arith)
-        (omega (arith, ip, pk)) stands after in
+    let at_k = most_until c talk p step.0 q i g s (omega (arith, pk)) (omega (arith, kq)) ip at_p in
+    let after = most_step c talk step.0 i g (sooner c talk step.0 q i (omega (arith, kq)) s) (omega (arith, ip, pk))
+        step.3 at_k in
+    let at_q = most_until c talk (step.0 + 1) q q i (g - 1) s (omega (arith, kq)) (omega arith)
+        (omega (arith, ip, pk)) after in
     let some : 1 ≤ figure_told c talk q = (known j l).tells.some q i st.handed st.about st.outstanding in
     let x = waits_at c (trace_at talk q) n (subst (λ k. 1 ≤ k) second some) in
     let low = at_q x.command x.waits x.named in
     let fig = x.figure in
     let high = st.not_less in
-    omega (arith, low, fig, high, first, second)
+    omega (arith, low, fig, high, first, second, some)
 
 -- the answer of the poll q about the command i doesn't stand where a step lies between it and each one before
 pub never_stands : (c : Settings) (talk : Talk) → AllKnown c talk → (j : ℕ) → j < length talk → (i q : ℕ)

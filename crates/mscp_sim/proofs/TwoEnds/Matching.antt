@@ -164,12 +164,17 @@ awaited_more xs s us h =
         (λ e k. record { opcode = k.opcode; found = opcode_pushed e.reference k.opcode xs s k.found; code = k.code }) us
         h
 
--- what is known where a submission is pushed: its number is new, and the controller has it once more
-pub record Pushes {K : Type 0} (a a' : Account) (h h' : Holdings K) (s : Submission) : Type 0 where
+-- the host keeps one more submission, whose number is new to the controller
+pub record Adds {K : Type 0} (a a' : Account) (h : Holdings K) (s : Submission) : Type 0 where
   pub credits : a'.credits ≡ a.credits
   pub outstanding : a'.outstanding ≡ a.outstanding ++ s ∷ []
   pub small : IsSmall s
   pub new : times s.reference (outstanding_of h) ≡ 0
+
+-- what is known where a submission is pushed: the controller has its number once more
+pub record Pushes {K : Type 0} (a a' : Account) (h h' : Holdings K) (s : Submission) : Type 0 where
+  pub adds : Adds a a' h s
+  pub open adds use *
   pub counts : (r : ℕ) → times r (outstanding_of h') ≡ times r (outstanding_of h) + times r (s.reference ∷ [])
   pub more : length h'.waiting + length h'.untaken ≡ length h.waiting + length h.untaken + 1
   pub settings : h'.settings ≡ h.settings

@@ -1,8 +1,8 @@
 -- A turn in which an end is handed over: what the host says of it.
-use Rattle.std.proofs.Common.{◌≡◌, ◌↔◌, ℕ, ◌+◌, ◌<◌, ◌≤◌, Bool, true, false, List, ◌∷◌, length, refl, ap, sym, ◌∙◌, subst, arith}
+use Rattle.std.proofs.Common.{◌≡◌, ◌↔◌, ℕ, ◌+◌, ◌<◌, ◌≤◌, Bool, true, false, List, ◌∷◌, refl, ap, sym, ◌∙◌, subst, arith}
 use Rattle.std.specs.Prelude.{find, nat_eq, nat_lt, ◌&&◌, if◌then◌else◌, slice_get, Option, Some, None, is_some, option_map, unwrap_or, Result, Ok, Err}
 use Rattle.std.specs.List.{AllByRecursion, list_any}
-use Rattle.std.proofs.lemmas.Bool.{eqb-true, eq-eqb, false≢true, true≢false}
+use Rattle.std.proofs.lemmas.Bool.{eqb-true, eq-eqb, false≢true, true_from_ne_false, true≢false}
 use Rattle.std.proofs.lemmas.Bool.Decides.{nat_tests}
 use Rattle.arrayvec.specs.ArrayVec.{ArrayVec}
 use Rattle.mscp_packet.specs.declared.end.End.{End}
@@ -23,18 +23,18 @@ use Rattle.mscp_queue.proofs.Placed.{found_is}
 use Rattle.mscp_sim.specs.declared.conversing.Turn.TheVariants as turns
 use Rattle.mscp_sim.specs.declared.conversing.Heard.{Heard}
 use Rattle.mscp_sim.specs.declared.conversing.Heard.TheVariants as hears
-use Rattle.mscp_sim.specs.Matches.{Flight, HasFlight, IsAwaited, IsFlight, Matches}
-use Rattle.mscp_sim.specs.Talks.{Talk, account_at, is_asked, handed_over, hands_over, in_flight, is_it, is_outstanding, last_answer, outstanding, asked_for, reference, reference_found, said, sends, polled_is_outstanding, submission_at, figure_told, watch_at}
-use Rattle.mscp_sim.specs.Conversing.{IsSound, AnswersTurn, Says}
+use Rattle.mscp_sim.specs.Matches.{HasFlight, IsAwaited, IsFlight, Matches}
+use Rattle.mscp_sim.specs.Talks.{Talk, account_at, asks_about, is_asked, handed_over, hands_over, in_flight, is_it, is_outstanding, last_answer, outstanding, asked_for, reference, reference_found, said, sends, polled_is_outstanding, submission_at, figure_told, watch_at}
+use Rattle.mscp_sim.specs.Conversing.{IsSound, AnswersTurn}
 use Rattle.mscp_sim.specs.TwoEnds.{IsHanded, Stands}
 use Rattle.mscp_sim.proofs.TwoEnds.Accounting.{find_map}
 use Rattle.mscp_sim.proofs.TwoEnds.Handing.{alone, first_is}
-use Rattle.mscp_sim.proofs.TwoEnds.Outstanding.{found_below}
+use Rattle.mscp_sim.proofs.TwoEnds.Outstanding.{both_true, found_below}
 use Rattle.mscp_sim.proofs.TwoEnds.Received.{account_received, flight_back, one_received}
-use Rattle.mscp_sim.proofs.TwoEnds.Receiving.{Gives, once_at, outstanding_found, poll_asks, poll_named, same_poll}
+use Rattle.mscp_sim.proofs.TwoEnds.Receiving.{Gives, once_at, outstanding_found, own_flight, poll_asks}
 use Rattle.mscp_sim.proofs.TwoEnds.Singled.{flip, only_one}
-use Rattle.mscp_sim.proofs.TwoEnds.Taking.{taken_none, taken_some}
-use Rattle.mscp_sim.proofs.TwoEnds.Turning.{At, Turns, heard_at, is_news, never_idle, no_end, quiet, reached_next, unqueued}
+use Rattle.mscp_sim.proofs.TwoEnds.Taking.{Handed, taken_none, taken_some}
+use Rattle.mscp_sim.proofs.TwoEnds.Turning.{At, Comes, Turns, heard_at, is_news, never_idle, queues_in, quiet, reached_next, unqueued}
 
 -- ---- which command was it
 
@@ -49,55 +49,46 @@ found_poll c talk j e k h (Some p) f q =
         (λ n i. (h (reference talk i) ∙ flip e.reference (reference talk i)) n) ∙ f)
 
 -- what is known of the turn
-gives : {K : Type 0} (c : Settings) (picks : List Choice → ℕ → Type 0) (picker : K) (talk : Talk) (j : ℕ) (a : Account)
-    (h : Holdings K) (told : Flight) (e : End) (us : List End) → At c picks picker talk j a h told → h.untaken ≡ e ∷ us
-    → ((r : ℕ) → hands_over r (said talk j).moment ≡ nat_eq e.reference r) → sends (said talk j).heard ≡ false
-        → Gives c talk j e
-gives {K} c picks picker talk j a h told e us s u hands silent =
-    let m = subst (λ (x : Account). Matches x h told) s.account s.match in
-    let own = (subst (AllByRecursion (IsAwaited (account_at c talk j).outstanding)) u m.ends).0 in
+gives : {K : Type 0} {c : Settings} {picks : List Choice → ℕ → Type 0} {picker : K} {talk : Talk} {j : ℕ}
+    {a : Account} {h : Holdings K} {b : List ℕ} → (s : At c picks picker talk j a h) → (out : Handed a h s.told b)
+    → ((r : ℕ) → hands_over r (said talk j).moment ≡ nat_eq out.end.reference r) → sends (said talk j).heard ≡ false
+    → Gives c talk j out.end
+gives {K} {c} {picks} {picker} {talk} {j} {a} {h} s out hands silent =
+    let e = out.end in
+    let es = e ∷ out.rest in
+    let m = subst (λ (x : Account). Matches x h s.told) s.account s.match in
+    let own = (subst (AllByRecursion (IsAwaited (account_at c talk j).outstanding)) out.untaken m.ends).0 in
     let poll = found_poll c talk j e own.opcode hands
         (find (λ i. nat_eq (reference talk i) e.reference) (outstanding talk j)) refl
         (ap (option_map (λ (s : Submission). s.opcode))
         (sym (find_map (submission_at c talk j) (has_reference e.reference) (outstanding talk j))) ∙ own.found) in
+    let p = poll.0 in
+    let found = found_is (λ i. hands_over (reference talk i) (said talk j).moment) (outstanding talk j) p poll.1 in
+    let named : reference talk p ≡ e.reference =
+        sym (eqb-true e.reference (reference talk p) (sym (hands (reference talk p)) ∙ found)) in
     record {
       hands = hands;
       silent = silent;
       once = λ r. subst (λ n. n ≤ 1) (sym (m.same r)) (m.once r);
       one = s.one;
-      poll = poll.0;
+      poll = p;
       found = poll.1;
-      tells = λ p f n.
-          let watch : (account_at c talk j).watch ≡ Some (watch_at talk j p) = ap (option_map (watch_at talk j)) f in
-          let flight : IsFlight (e ∷ us) (watch_at talk j p) told =
-              subst (λ w. HasFlight (e ∷ us) w told) watch
-              (subst (λ xs. HasFlight xs (account_at c talk j).watch told) u m.flight) in
-          let first = first_is e us (watch_at talk j p) told flight (alone (account_at c talk j) h told e us m u).1 n in
-          (ap (λ (x : End). x.code) (sym first.1) ∙ flight.code, ap (λ (x : End). x.body) (sym first.1)
-              ∙ (flight.body ∙ ap (λ k. bodies.Status (reference_found talk (asked_for talk p)) k) (s.flight p f).0));
+      named = named;
+      tells = λ f.
+          let w = watch_at talk j p in
+          let flight : IsFlight es w s.told = subst (λ w. HasFlight es w s.told) (ap (option_map (watch_at talk j)) f)
+              (subst (λ xs. HasFlight xs (account_at c talk j).watch s.told) out.untaken m.flight) in
+          let first = first_is e out.rest w s.told flight
+              (alone (account_at c talk j) h s.told e out.rest m out.untaken).1 named in
+          let told = s.flight p f in
+          record {
+            code = ap (λ (x : End). x.code) (sym first.1) ∙ flight.code;
+            body = ap (λ (x : End). x.body) (sym first.1)
+                ∙ (flight.body ∙ ap (λ k. bodies.Status w.polled k) told.0);
+            some = λ st. subst (λ k. 1 ≤ k) told.0 (told.1 (true_from_ne_false s.told.waited (λ q. false≢true
+                (ap (list_any (λ (x : End). nat_eq x.reference w.polled)) (sym first.0) ∙ flight.ended st q))));
+          };
     }
-
--- a poll's answer is at least 1 where its command still stands
-answer_some : {K : Type 0} (c : Settings) (picks : List Choice → ℕ → Type 0) (picker : K) (talk : Talk) (j : ℕ)
-    (a : Account) (h : Holdings K) (told : Flight) (e : End) (us : List End) (p : ℕ) → At c picks picker talk j a h told
-    → h.untaken ≡ e ∷ us → in_flight talk j ≡ Some p
-    → reference talk p ≡ e.reference → polled_is_outstanding talk j (asked_for talk p) ≡ true → 1 ≤ figure_told c talk p
-answer_some {K} c picks picker talk j a h told e us p s u f n st =
-    let m = subst (λ (x : Account). Matches x h told) s.account s.match in
-    let watch : (account_at c talk j).watch ≡ Some (watch_at talk j p) = ap (option_map (watch_at talk j)) f in
-    let flight : IsFlight (e ∷ us) (watch_at talk j p) told =
-        subst (λ w. HasFlight (e ∷ us) w told) watch
-        (subst (λ xs. HasFlight xs (account_at c talk j).watch told) u m.flight) in
-    let first = first_is e us (watch_at talk j p) told flight (alone (account_at c talk j) h told e us m u).1 n in
-    let waits : told.waited ≡ true =
-    let out : (b : Bool) → told.waited ≡ b → told.waited ≡ true =
-    λ b. elim b as (λ b. told.waited ≡ b → told.waited ≡ true)
-        [ true ↦ λ q. q | false ↦ λ q. absurd (false≢true
-        (ap (list_any (λ (x : End). nat_eq x.reference (reference_found talk (asked_for talk p)))) (sym first.0)
-        ∙ flight.ended st q)) ] in
-    out told.waited refl in
-    let both = s.flight p f in
-    subst (λ k. 1 ≤ k) both.0 (both.1 waits)
 
 -- ---- the news
 
@@ -137,10 +128,6 @@ record IsSaid (c : Settings) (talk : Talk) (j : ℕ) (n : News) : Type 0 where
   pub resets : (is_reset n ≡ true) ↔ Stands c talk j
 
 -- where the answer stands, the end is that of the poll in flight
-asked_of : (b d : Bool) → (b && d) ≡ true → (b ≡ true) × (d ≡ true)
-asked_of true d e = (refl, e)
-asked_of false d e = absurd (false≢true e)
-
 its_poll : (c : Settings) (talk : Talk) (j : ℕ) (e : End) (g : Gives c talk j e) → (st : Stands c talk j)
     → st.poll ≡ g.poll
 its_poll c talk j e g st = ap (λ o. unwrap_or o st.poll) (sym st.handed ∙ g.found)
@@ -148,7 +135,7 @@ its_poll c talk j e g st = ap (λ o. unwrap_or o st.poll) (sym st.handed ∙ g.f
 in_flight_then : (c : Settings) (talk : Talk) (j : ℕ) (e : End) (g : Gives c talk j e) → Stands c talk j
     → in_flight talk j ≡ Some g.poll
 in_flight_then c talk j e g st =
-    let asked = (asked_of (is_asked (said talk st.poll).heard) (is_it st.command (asked_for talk st.poll))
+    let asked = (both_true (is_asked (said talk st.poll).heard) (is_it st.command (asked_for talk st.poll))
         st.about).0 in
     poll_asks c talk j e g (ap (λ p. is_asked (said talk p).heard) (sym (its_poll c talk j e g st)) ∙ asked)
 
@@ -201,14 +188,15 @@ told_last c talk j i e g f =
     ap told_of (find_map (submission_at c talk j) (has_reference (reference talk i)) (outstanding talk j))
         ∙ ap (λ o. told_of (option_map (submission_at c talk j) o)) found
 
--- what is said of the answer of the poll p, whose command is o
-said_answer : (c : Settings) (talk : Talk) (j p : ℕ) (e : End) (g : Gives c talk j e) → in_flight talk j ≡ Some p
-    → p ≡ g.poll → (o : Option ℕ) → asked_for talk p ≡ o → (b : Bool) → polled_is_outstanding talk j o ≡ b
-    → (b ≡ true → 1 ≤ figure_told c talk p)
+-- what is said of the answer of the poll in flight, whose command is o
+said_answer : (c : Settings) (talk : Talk) (j : ℕ) (e : End) (g : Gives c talk j e) → in_flight talk j ≡ Some g.poll
+    → (o : Option ℕ) → asked_for talk g.poll ≡ o → (b : Bool) → polled_is_outstanding talk j o ≡ b
+    → (b ≡ true → 1 ≤ figure_told c talk g.poll)
     → IsSaid c talk j (if b then news_of_figure (last_told (account_at c talk j).outstanding (reference_found talk o))
-        (figure_told c talk p) else news.Late)
-said_answer c talk j p e g q s None r true t some = absurd (false≢true t)
-said_answer c talk j p e g q s (Some i) r true t some =
+        (figure_told c talk g.poll) else news.Late)
+said_answer c talk j e g q None r true t some = absurd (false≢true t)
+said_answer c talk j e g q (Some i) r true t some =
+    let p = g.poll in
     let below : i < p = found_below talk p i _ r in
     let before : p < j = found_below talk j p _ q in
     let there : find (λ x. nat_eq x i) (outstanding talk j) ≡ Some i =
@@ -216,9 +204,9 @@ said_answer c talk j p e g q s (Some i) r true t some =
     let last = told_last c talk j i e g there in
     rw last (said_figure c talk j (figure_told c talk p) (last_answer c talk j i) (some refl)
     (λ st.
-    let about = (asked_of (is_asked (said talk st.poll).heard) (is_it st.command (asked_for talk st.poll))
+    let about = (both_true (is_asked (said talk st.poll).heard) (is_it st.command (asked_for talk st.poll))
         st.about).1 in
-    let poll : st.poll ≡ p = its_poll c talk j e g st ∙ sym s in
+    let poll : st.poll ≡ p = its_poll c talk j e g st in
     let same : i ≡ st.command = eqb-true i st.command
         (ap (is_it st.command) (sym (ap (asked_for talk) poll ∙ r)) ∙ about) in
     (st.last, ap (last_answer c talk j) same ∙ st.told, subst (λ k. st.last ≤ figure_told c talk k) poll st.not_less))
@@ -229,121 +217,108 @@ said_answer c talk j p e g q s (Some i) r true t some =
       poll = p;
       command = i;
       last = l;
-      handed = g.found ∙ ap Some (sym s);
+      handed = g.found;
       about = (λ n. asked n && is_it i (r n)) ∙ eq-eqb i i refl;
       outstanding = t;
       told = k;
       not_less = m;
     }))
-said_answer c talk j p e g q s o r false t some =
+said_answer c talk j e g q o r false t some =
     said_late c talk j (λ st.
-    let about = (asked_of (is_asked (said talk st.poll).heard) (is_it st.command (asked_for talk st.poll))
+    let about = (both_true (is_asked (said talk st.poll).heard) (is_it st.command (asked_for talk st.poll))
         st.about).1 in
-    let poll : st.poll ≡ p = its_poll c talk j e g st ∙ sym s in
+    let poll : st.poll ≡ g.poll = its_poll c talk j e g st in
     true≢false (sym (stands_it talk j st.command o (ap (is_it st.command) (sym (ap (asked_for talk) poll ∙ r)) ∙ about)
         st.outstanding) ∙ t))
 
 said_flight : (c : Settings) (talk : Talk) (j p : ℕ) (e : End) (g : Gives c talk j e) → in_flight talk j ≡ Some p
     → (b : Bool) → nat_eq (reference talk p) e.reference ≡ b
-    → (b ≡ true → polled_is_outstanding talk j (asked_for talk p) ≡ true → 1 ≤ figure_told c talk p)
     → IsSaid c talk j (news_with (account_at c talk j) e
         (if b && nat_eq e.code 0x82 then host.told_in e.body else None))
-said_flight c talk j p e g q true n some =
-    let named = eqb-true (reference talk p) e.reference n in
-    let tells = g.tells p q named in
-    let same : p ≡ g.poll = same_poll c talk j e _ p g q named in
-    let watch : (account_at c talk j).watch ≡ Some (watch_at talk j p) = ap (option_map (watch_at talk j)) q in
-    rw (eq-eqb e.code 0x82 tells.0, tells.1, watch)
-        (said_answer c talk j p e g q same (asked_for talk p) refl (polled_is_outstanding talk j (asked_for talk p))
-            refl
-        (some refl))
-said_flight c talk j p e g q false n some =
+said_flight c talk j p e g q true n =
+    let own = own_flight c talk j e p g q (eqb-true (reference talk p) e.reference n) in
+    let tells = g.tells own in
+    let asked = asked_for talk g.poll in
+    let watch : (account_at c talk j).watch ≡ Some (watch_at talk j g.poll) =
+        ap (option_map (watch_at talk j)) own in
+    rw (eq-eqb e.code 0x82 tells.code, tells.body, watch)
+        (said_answer c talk j e g own asked refl (polled_is_outstanding talk j asked) refl tells.some)
+said_flight c talk j p e g q false n =
     said_ended c talk j e (λ st.
     let same : p ≡ g.poll = ap (λ o. unwrap_or o p) (sym q ∙ in_flight_then c talk j e g st) in
-    true≢false (sym (eq-eqb (reference talk p) e.reference (ap (reference talk) same ∙ poll_named c talk j e g)) ∙ n))
+    true≢false (sym (eq-eqb (reference talk p) e.reference (ap (reference talk) same ∙ g.named)) ∙ n))
 
 said_with : (c : Settings) (talk : Talk) (j : ℕ) (e : End) (g : Gives c talk j e) (o : Option ℕ) → in_flight talk j ≡ o
-    → ((p : ℕ) → in_flight talk j ≡ Some p → reference talk p ≡ e.reference
-    → polled_is_outstanding talk j (asked_for talk p) ≡ true → 1 ≤ figure_told c talk p)
     → IsSaid c talk j (news_with (account_at c talk j) e (answered (option_map (watch_at talk j) o) e))
-said_with c talk j e g None q some = said_ended c talk j e
+said_with c talk j e g None q = said_ended c talk j e
     (λ st. true≢false (ap is_some (sym (in_flight_then c talk j e g st) ∙ q)))
-said_with c talk j e g (Some p) q some = said_flight c talk j p e g q (nat_eq (reference talk p) e.reference) refl
-    (λ b. some p q (eqb-true (reference talk p) e.reference b))
+said_with c talk j e g (Some p) q = said_flight c talk j p e g q (nat_eq (reference talk p) e.reference) refl
 
 -- ---- the turn
 
-take_none : {K : Type 0} (c : Settings) (picks : List Choice → ℕ → Type 0) (picker : K) (talk : Talk) (j : ℕ)
-    (a a' : Account) (h h' : Holdings K) (told : Flight) → j < length talk → At c picks picker talk j a h told
-    → Says picks a h (said talk j) a' h'
-    → (said talk j).moment ≡ Some (events.Take, entries.Taken None) → IsHanded a None (said talk j).heard a'
-        → Turns c picks picker talk j a' h'
-take_none {K} c picks picker talk j a a' h h' told l s r m k =
-    let n = no_end talk j (Some (events.Take, entries.Taken None)) m (λ r. refl) in
-    let answers = subst (λ o. AnswersTurn picks h o h') m r.1 in
-    quiet c picks picker talk j a a' h h' told l s r (Some (events.Take, entries.Taken None)) m refl n (ap sends k.0)
-        (ap is_news k.0) k.1 (subst (λ (y : Holdings K). Matches a y told) (sym answers.1)
-        (taken_none a h told (sym answers.0) s.match))
+take_none : {K : Type 0} {c : Settings} {picks : List Choice → ℕ → Type 0} {picker : K} {talk : Talk} {j : ℕ}
+    {a' : Account} {h' : Holdings K} → (x : Comes c picks picker talk j a' h')
+    → (said talk j).moment ≡ Some (events.Take, entries.Taken None) → IsHanded x.host None (said talk j).heard a'
+    → Turns c picks picker talk j a' h'
+take_none {K} {c} {picks} {picker} {talk} {j} {a'} {h'} x m k =
+    let answers = subst (λ o. AnswersTurn picks x.controller o h') m x.says.1 in
+    quiet x (record { unqueued = ap queues_in m; no_end = λ r. ap (hands_over r) m; unsent = ap sends k.0; no_news =
+        ap is_news k.0 }) k.1 (subst (λ (y : Holdings K). Matches x.host y x.at.told) (sym answers.1)
+        (taken_none x.host x.controller x.at.told (sym answers.0) x.at.match))
 
-take_some : {K : Type 0} (c : Settings) (picks : List Choice → ℕ → Type 0) (picker : K) (talk : Talk) (j : ℕ)
-    (a a' : Account) (h h' : Holdings K) (told : Flight) (b : ArrayVec ℕ) → j < length talk
-    → At c picks picker talk j a h told → Says picks a h (said talk j) a' h'
+take_some : {K : Type 0} {c : Settings} {picks : List Choice → ℕ → Type 0} {picker : K} {talk : Talk} {j : ℕ}
+    {a' : Account} {h' : Holdings K} → (x : Comes c picks picker talk j a' h') → (b : ArrayVec ℕ)
     → (said talk j).turn ≡ turns.Take → (said talk j).moment ≡ Some (events.Take, entries.Taken (Some b))
-        → IsHanded a (Some b) (said talk j).heard a' → Turns c picks picker talk j a' h'
-take_some {K} c picks picker talk j a a' h h' told b l s r t m k =
+    → IsHanded x.host (Some b) (said talk j).heard a' → Turns c picks picker talk j a' h'
+take_some {K} {c} {picks} {picker} {talk} {j} {a'} {h'} x b t m k =
     let n = k.0 in
-    let sound = subst (λ u. IsSound h u (said talk j).moment) t r.2 in
-    let answers = subst (λ o. AnswersTurn picks h o h') m r.1 in
-    let x = taken_some a h told b (sym answers.0) (λ e f. sound b e m f) s.match in
-    let e = x.end in
-    let message : IsEnd b.items e = sound b e m (ap (λ xs. slice_get xs 0) x.untaken) in
+    let sound = subst (λ u. IsSound x.controller u (said talk j).moment) t x.says.2 in
+    let answers = subst (λ o. AnswersTurn picks x.controller o h') m x.says.1 in
+    let out = taken_some x.host x.controller x.at.told b (sym answers.0) (λ e f. sound b e m f) x.at.match in
+    let e = out.end in
+    let message : IsEnd b.items e = sound b e m (ap (λ xs. slice_get xs 0) out.untaken) in
     let hands : (r : ℕ) → hands_over r (said talk j).moment ≡ nat_eq e.reference r =
         λ r. ap (hands_over r) m ∙ ap (λ q. nat_eq q r) (sym message.reference) in
-    let g = gives c picks picker talk j a h told e x.rest s x.untaken hands (ap sends k.1) in
-    let both = sym k.2 ∙ x.heard in
-    let left : a' ≡ received a e = ap (λ p. p.1) both in
+    let g = gives x.at out hands (ap sends k.1) in
+    let both = sym k.2 ∙ out.heard in
+    let left : a' ≡ received x.host e = ap (λ p. p.1) both in
     let same : a' ≡ account_at c talk (j + 1) = left
-        ∙ (ap (λ y. received y e) s.account ∙ sym (account_received c talk j e g)) in
+        ∙ (ap (λ y. received y e) x.at.account ∙ sym (account_received c talk j e g)) in
     let news : n ≡ news_with (account_at c talk j) e (answered (account_at c talk j).watch e) =
-        ap (λ p. news_or p.0 n) both ∙ ap (λ (y : Account). news_with y e (answered y.watch e)) s.account in
-    let said_so = said_with c talk j e g (in_flight talk j) refl
-        (λ p f q st. answer_some c picks picker talk j a h told e x.rest p s x.untaken f q st) in
-    let known : IsSaid c talk j n = subst (IsSaid c talk j) (sym news) said_so in
+        ap (λ p. news_or p.0 n) both
+        ∙ ap (λ (y : Account). news_with y e (answered y.watch e)) x.at.account in
+    let known : IsSaid c talk j n =
+        subst (IsSaid c talk j) (sym news) (said_with c talk j e g (in_flight talk j) refl) in
     record {
       tells = record {
-        says = heard_at c talk j a a' s.account same r.0;
+        says = heard_at x same;
         resets = (λ q. known.resets.0 (ap (λ o. is_reset (news_in o)) (sym k.1 ∙ q)), λ st. k.1
             ∙ ap hears.News (reset_is n (known.resets.1 st)));
         no_lost = λ q. true≢false (sym (ap (λ o. is_lost (news_in o)) (sym k.1 ∙ q)) ∙ known.not_lost);
-        new = unqueued talk j (Some (events.Take, entries.Taken (Some b))) m refl;
+        new = unqueued talk j (ap queues_in m);
         idle = never_idle talk j (ap is_asked k.1);
         some = λ p i f about st.
             let this : p ≡ g.poll = ap (λ o. unwrap_or o p) (sym f ∙ g.found) in
-            let parts = asked_of (is_asked (said talk p).heard) (is_it i (asked_for talk p)) about in
-            let flight : in_flight talk j ≡ Some p =
-                poll_asks c talk j e g (ap (λ q. is_asked (said talk q).heard) (sym this) ∙ parts.0)
-                ∙ ap Some (sym this) in
-            answer_some c picks picker talk j a h told e x.rest p s x.untaken flight
-                (ap (reference talk) this ∙ poll_named c talk j e g) (stands_it talk j i (asked_for talk p) parts.1 st);
+            let parts = both_true (is_asked (said talk g.poll).heard) (is_it i (asked_for talk g.poll))
+                (subst (λ q. asks_about talk i q ≡ true) this about) in
+            subst (λ q. 1 ≤ figure_told c talk q) (sym this) ((g.tells (poll_asks c talk j e g parts.0)).some
+                (stands_it talk j i (asked_for talk g.poll) parts.1 st));
       };
-      told = told;
       next = record {
         account = same;
-        match = subst (λ (y : Account). Matches y h' told) (sym left)
-            (subst (λ (y : Holdings K). Matches (received a e) y told) (sym answers.1) x.match);
-        reached = reached_next c picks picker talk j a h h' told l s r.1;
+        told = x.at.told;
+        match = subst (λ (y : Account). Matches y h' x.at.told) (sym left)
+            (subst (λ (y : Holdings K). Matches (received x.host e) y x.at.told) (sym answers.1) out.match);
+        reached = reached_next x;
         one = one_received c talk j e g;
-        flight = λ p f. s.flight p (flight_back c talk j e p g f);
+        flight = λ p f. x.at.flight p (flight_back c talk j e p g f);
       };
     }
 
-pub take_turn : {K : Type 0} (c : Settings) (picks : List Choice → ℕ → Type 0) (picker : K) (talk : Talk) (j : ℕ)
-    (a a' : Account) (h h' : Holdings K) (told : Flight) → j < length talk → At c picks picker talk j a h told
-    → Says picks a h (said talk j) a' h'
+pub take_turn : {K : Type 0} {c : Settings} {picks : List Choice → ℕ → Type 0} {picker : K} {talk : Talk} {j : ℕ}
+    {a' : Account} {h' : Holdings K} → (x : Comes c picks picker talk j a' h')
     → (said talk j).turn ≡ turns.Take → (end : Option (ArrayVec ℕ))
-        → (said talk j).moment ≡ Some (events.Take, entries.Taken end) → IsHanded a end (said talk j).heard a'
-        → Turns c picks picker talk j a' h'
-take_turn c picks picker talk j a a' h h' told l s r t None m k =
-    take_none c picks picker talk j a a' h h' told l s r m k
-take_turn c picks picker talk j a a' h h' told l s r t (Some b) m k =
-    take_some c picks picker talk j a a' h h' told b l s r t m k
+    → (said talk j).moment ≡ Some (events.Take, entries.Taken end) → IsHanded x.host end (said talk j).heard a'
+    → Turns c picks picker talk j a' h'
+take_turn x t None m k = take_none x m k
+take_turn x t (Some b) m k = take_some x b t m k

@@ -2,6 +2,7 @@
 use Rattle.std.proofs.Common.{◌≡◌, ℕ, ◌+◌, ◌<◌, ◌≤◌, Bool, true, false, cond, List, [], ◌∷◌, ◌++◌, refl, ap, sym, ◌∙◌, subst, arith, append-nil}
 use Rattle.std.specs.Prelude.{filter, find, flat_map, nat_lt, not, ◌&&◌, ◌||◌, Option, Some, None, is_some, unwrap_or}
 use Rattle.std.specs.List.{AllByRecursion, list_any}
+use Rattle.std.proofs.Math.Bool.{and-true, or-false}
 use Rattle.std.proofs.lemmas.Bool.{false≢true}
 use Rattle.std.proofs.lemmas.Bool.Decides.{nat_tests}
 use Rattle.std.proofs.lemmas.Grind.{flat_map-append}
@@ -19,13 +20,9 @@ filter_append p (x ∷ xs) ys = elim (p x) as (λ b. cond b (x ∷ filter p (xs 
     ≡ cond b (x ∷ filter p xs) (filter p xs) ++ filter p ys)
     [ true ↦ ap (λ zs. x ∷ zs) (filter_append p xs ys) | false ↦ filter_append p xs ys ]
 
-or_false : (b : Bool) → (b || false) ≡ b
-or_false true = refl
-or_false false = refl
-
-and_true : (b : Bool) → (b && true) ≡ b
-and_true true = refl
-and_true false = refl
+pub both_true : (b d : Bool) → (b && d) ≡ true → (b ≡ true) × (d ≡ true)
+both_true true d e = (refl, e)
+both_true false d e = absurd (false≢true e)
 
 budget : {X : Type 0} (p : X → Bool) (xs : List X) → AllByRecursion (λ x. p x ≡ true) (filter p xs)
 budget p [] = tt
@@ -44,7 +41,7 @@ pub any_more : (talk : Talk) (j i : ℕ) → list_any (is_ended talk i) (before 
 any_more talk j i =
     ap (list_any (is_ended talk i)) (range_more j)
         ∙ (list_any-append (is_ended talk i) (before j) (j ∷ [])
-        ∙ ap (λ b. list_any (is_ended talk i) (before j) || b) (or_false (is_ended talk i j)))
+        ∙ ap (λ b. list_any (is_ended talk i) (before j) || b) (or-false (is_ended talk i j)))
 
 split_not : (s p q : Bool) → (s && not (p || q)) ≡ ((s && not p) && not q)
 split_not true true q = refl
@@ -72,7 +69,7 @@ new_if talk j =
     let below = every_weaker (λ k. (0 ≤ k) × (k < 0 + (j + 1))) (λ k. k < j + 1)
         (λ k h. let l = h.1 in omega (arith, l)) (before (j + 1)) (range_below 0 (j + 1)) in
     ap (λ b. sends (said talk j).heard && not b) (none_ended talk j (before (j + 1)) below)
-        ∙ and_true (sends (said talk j).heard)
+        ∙ and-true (sends (said talk j).heard)
 
 pub before_below : (j : ℕ) → AllByRecursion (λ k. k < j) (before j)
 before_below j = every_weaker (λ k. (0 ≤ k) × (k < 0 + j)) (λ k. k < j) (λ k h. let l = h.1 in omega (arith, l))
@@ -102,16 +99,12 @@ outstanding_more talk j =
 
 -- ---- answers
 
-flat_more : (c : Settings) (talk : Talk) (j i : ℕ)
+pub answers_more : (c : Settings) (talk : Talk) (j i : ℕ)
     → answers_about c talk (j + 1) i ≡ answers_about c talk j i ++ answers_of c talk i (handed_over talk j)
-flat_more c talk j i =
+answers_more c talk j i =
     let f : ℕ → List ℕ = λ k. answers_of c talk i (handed_over talk k) in
     ap (flat_map f) (range_more j) ∙ (flat_map-append f (before j) (j ∷ [])
         ∙ ap (λ xs. answers_about c talk j i ++ xs) (append-nil (f j)))
-
-pub answers_more : (c : Settings) (talk : Talk) (j i : ℕ)
-    → answers_about c talk (j + 1) i ≡ answers_about c talk j i ++ answers_of c talk i (handed_over talk j)
-answers_more c talk j i = flat_more c talk j i
 
 -- the last answer stays where this turn brings none
 pub last_same : (c : Settings) (talk : Talk) (j i : ℕ) → answers_of c talk i (handed_over talk j) ≡ []

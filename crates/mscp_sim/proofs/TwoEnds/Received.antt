@@ -2,6 +2,7 @@
 use Rattle.std.proofs.Common.{◌≡◌, ℕ, ◌+◌, ◌<◌, ◌≤◌, Bool, true, false, map, refl, ap, sym, ◌∙◌, subst, arith}
 use Rattle.std.specs.Prelude.{filter, find, nat_eq, not, ◌&&◌, if◌then◌else◌, Option, Some, None, is_some, option_map, unwrap_or}
 use Rattle.std.specs.List.{AllByRecursion}
+use Rattle.std.proofs.Math.Bool.{and-false, and-true}
 use Rattle.std.proofs.lemmas.Bool.{false≢true, true≢false}
 use Rattle.mscp_packet.specs.declared.end.End.{End}
 use Rattle.mscp_queue.proofs.Lists.{every_filter, every_weaker}
@@ -14,14 +15,6 @@ use Rattle.mscp_sim.specs.Talks.{Talk, account_at, is_asked, in_flight, is_outst
 use Rattle.mscp_sim.proofs.TwoEnds.Outstanding.{found_below, stays_if}
 use Rattle.mscp_sim.proofs.TwoEnds.Receiving.{Gives, OnePoll, all_told, keep, once_at, outs_after, references_at}
 use Rattle.mscp_sim.proofs.TwoEnds.Singled.{find_kept, find_none_kept, flip, none_found, without_kept}
-
-and_no : (b : Bool) → (b && false) ≡ false
-and_no true = refl
-and_no false = refl
-
-and_yes : (b : Bool) → (b && true) ≡ b
-and_yes true = refl
-and_yes false = refl
 
 other_number : (a b : ℕ) → not (nat_eq a b) ≡ true → nat_eq b a ≡ false
 other_number a b h =
@@ -99,8 +92,8 @@ stands_after c talk j e p (Some i) g l b =
     ∙ elim (nat_eq (reference talk i) e.reference) as
         (λ d. Some (w (is_outstanding talk j i && not d))
         ≡ (if d then Some (w false) else Some (w (is_outstanding talk j i)))) [
-      | true ↦ ap (λ s. Some (w s)) (and_no (is_outstanding talk j i))
-      | false ↦ ap (λ s. Some (w s)) (and_yes (is_outstanding talk j i))
+      | true ↦ ap (λ s. Some (w s)) (and-false (is_outstanding talk j i))
+      | false ↦ ap (λ s. Some (w s)) (and-true (is_outstanding talk j i))
     ]
 
 watch_left : (c : Settings) (talk : Talk) (j : ℕ) (e : End) (o : Option ℕ) → Gives c talk j e → in_flight talk j ≡ o

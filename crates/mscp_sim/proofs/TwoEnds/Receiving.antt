@@ -2,7 +2,7 @@
 use Rattle.std.proofs.Common.{◌≡◌, ℕ, ◌+◌, ◌<◌, ◌≤◌, Bool, true, false, cond, List, [], ◌∷◌, ◌++◌, map, refl, ap, sym, ◌∙◌, subst, arith, append-nil}
 use Rattle.std.specs.Prelude.{filter, find, nat_eq, not, ◌&&◌, if◌then◌else◌, Option, Some, None, is_some, option_map, unwrap_or}
 use Rattle.std.specs.List.{AllByRecursion}
-use Rattle.std.proofs.lemmas.Bool.{eqb-true, eq-eqb, false≢true, true≢false}
+use Rattle.std.proofs.lemmas.Bool.{eqb-true, eq-eqb, false_from_ne_true, false≢true, true≢false}
 use Rattle.mscp_packet.specs.declared.end.End.{End}
 use Rattle.mscp_packet.specs.declared.end.EndBody.TheVariants as bodies
 use Rattle.mscp_queue.proofs.Lists.{every_weaker, filter_on, every_from}
@@ -20,6 +20,13 @@ abbrev pub OnePoll : Talk → ℕ → Type 0
 OnePoll talk j = AllByRecursion (λ p. is_asked (said talk p).heard ≡ true → in_flight talk j ≡ Some p)
     (outstanding talk j)
 
+-- the end e is that of the poll p: what it tells
+pub record IsAnswer (c : Settings) (talk : Talk) (j p : ℕ) (e : End) : Type 0 where
+  pub code : e.code ≡ 0x82
+  pub body : e.body ≡ bodies.Status (reference_found talk (asked_for talk p)) (figure_told c talk p)
+  -- the figure of a command that still stands is at least 1
+  pub some : polled_is_outstanding talk j (asked_for talk p) ≡ true → 1 ≤ figure_told c talk p
+
 -- what is known of a turn that hands over the end e
 pub record Gives (c : Settings) (talk : Talk) (j : ℕ) (e : End) : Type 0 where
   pub hands : (r : ℕ) → hands_over r (said talk j).moment ≡ nat_eq e.reference r
@@ -28,9 +35,9 @@ pub record Gives (c : Settings) (talk : Talk) (j : ℕ) (e : End) : Type 0 where
   pub one : OnePoll talk j
   pub poll : ℕ
   pub found : handed_over talk j ≡ Some poll
+  pub named : reference talk poll ≡ e.reference
   -- the end of the poll in flight tells of its command
-  pub tells : (p : ℕ) → in_flight talk j ≡ Some p → reference talk p ≡ e.reference
-      → (e.code ≡ 0x82) × (e.body ≡ bodies.Status (reference_found talk (asked_for talk p)) (figure_told c talk p))
+  pub tells : in_flight talk j ≡ Some poll → IsAnswer c talk j poll e
 
 abbrev pub keep : Talk → End → ℕ → Bool
 keep talk e i = not (nat_eq e.reference (reference talk i))
@@ -64,28 +71,21 @@ found_all P q (y ∷ ys) x h e =
     ] in
     out (q y) e
 
-found_self : (xs : List ℕ) (P : ℕ → Type 0) → ((x : ℕ) → find (λ y. nat_eq y x) xs ≡ Some x → P x) → AllByRecursion P xs
-found_self [] P h = tt
-found_self (x ∷ xs) P h = (
+-- each that is found by itself
+every_members : (P : ℕ → Type 0) (xs : List ℕ) → ((x : ℕ) → find (λ y. nat_eq y x) xs ≡ Some x → P x)
+    → AllByRecursion P xs
+every_members P [] h = tt
+every_members P (x ∷ xs) h = (
   h x (ap (λ b. cond b (Some x) (find (λ y. nat_eq y x) xs)) (eq-eqb x x refl)),
-  found_self xs P (λ y m. h y (
+  every_members P xs (λ y m. h y (
       let out : (b : Bool) → nat_eq x y ≡ b → cond b (Some x) (find (λ z. nat_eq z y) xs) ≡ Some y =
       λ b. elim b as (λ b. nat_eq x y ≡ b → cond b (Some x) (find (λ z. nat_eq z y) xs) ≡ Some y)
           [ true ↦ λ e. ap Some (eqb-true x y e) | false ↦ λ e. m ] in
       out (nat_eq x y) refl)),
 )
 
--- each that is found by itself
-every_members : (P : ℕ → Type 0) (xs : List ℕ) → ((x : ℕ) → find (λ y. nat_eq y x) xs ≡ Some x → P x)
-    → AllByRecursion P xs
-every_members P xs h = found_self xs P h
-
 pub differs : (a b : ℕ) → (a ≡ b → ⊥) → nat_eq a b ≡ false
-differs a b n =
-    let out : (x : Bool) → nat_eq a b ≡ x → nat_eq a b ≡ false =
-    λ x. elim x as (λ x. nat_eq a b ≡ x → nat_eq a b ≡ false)
-        [ true ↦ λ e. absurd (n (eqb-true a b e)) | false ↦ λ e. e ] in
-    out (nat_eq a b) refl
+differs a b n = false_from_ne_true (nat_eq a b) (λ e. n (eqb-true a b e))
 
 pub outstanding_found : (talk : Talk) (j i : ℕ) → is_outstanding talk j i ≡ true → i < j
     → find (λ x. nat_eq x i) (outstanding talk j) ≡ Some i
@@ -100,7 +100,7 @@ gone_is talk j x (Some i) t m = differs i x (λ z. true≢false (sym m ∙ (ap (
 -- ---- whose end it is
 
 -- the command that a test finds, and that has the number of the end, is the one whose end it is
-pub same_poll : (c : Settings) (talk : Talk) (j : ℕ) (e : End) (q : ℕ → Bool) (x : ℕ) → (g : Gives c talk j e)
+same_poll : (c : Settings) (talk : Talk) (j : ℕ) (e : End) (q : ℕ → Bool) (x : ℕ) → (g : Gives c talk j e)
     → find q (outstanding talk j) ≡ Some x → reference talk x ≡ e.reference → x ≡ g.poll
 same_poll c talk j e q x g f r =
     let only = only_one (reference talk) q (outstanding talk j) x (once_at c talk j (reference talk x) e g) f in
@@ -118,11 +118,10 @@ same_command c talk j e p q x y g f h r =
     let two = only_one (reference talk) q (outstanding talk j) y (once_at c talk j (reference talk y) e g) h in
     ap (λ o. unwrap_or o x) (sym one ∙ (ap (λ n. find (λ i. nat_eq n (reference talk i)) (outstanding talk j)) r ∙ two))
 
-pub poll_named : (c : Settings) (talk : Talk) (j : ℕ) (e : End) → (g : Gives c talk j e)
-    → reference talk g.poll ≡ e.reference
-poll_named c talk j e g =
-    let h = found_is (λ i. hands_over (reference talk i) (said talk j).moment) (outstanding talk j) g.poll g.found in
-    sym (eqb-true e.reference (reference talk g.poll) (sym (g.hands (reference talk g.poll)) ∙ h))
+-- the poll in flight is that one, where it has the number of the end
+pub own_flight : (c : Settings) (talk : Talk) (j : ℕ) (e : End) (p : ℕ) → (g : Gives c talk j e)
+    → in_flight talk j ≡ Some p → reference talk p ≡ e.reference → in_flight talk j ≡ Some g.poll
+own_flight c talk j e p g q n = q ∙ ap Some (same_poll c talk j e _ p g q n)
 
 pub poll_asks : (c : Settings) (talk : Talk) (j : ℕ) (e : End) → (g : Gives c talk j e)
     → is_asked (said talk g.poll).heard ≡ true → in_flight talk j ≡ Some g.poll
@@ -193,22 +192,15 @@ subs_told c talk j n f (x ∷ xs) h l =
     ] in
     out (nat_eq (reference talk x) n) refl l
 
-not_asks : (c : Settings) (talk : Talk) (j : ℕ) (e : End) (g : Gives c talk j e)
-    → (is_asked (said talk g.poll).heard ≡ true → ⊥) → is_asked (said talk g.poll).heard ≡ false
-not_asks c talk j e g n =
-    let out : (b : Bool) → is_asked (said talk g.poll).heard ≡ b → is_asked (said talk g.poll).heard ≡ false =
-    λ b. elim b as (λ b. is_asked (said talk g.poll).heard ≡ b → is_asked (said talk g.poll).heard ≡ false)
-        [ true ↦ λ a. absurd (n a) | false ↦ λ a. a ] in
-    out (is_asked (said talk g.poll).heard) refl
-
--- the poll p tells of its command, where that still stands
-told_of_stands : (c : Settings) (talk : Talk) (j : ℕ) (e : End) (g : Gives c talk j e) (p : ℕ) (o : Option ℕ)
-    → in_flight talk j ≡ Some p → p ≡ g.poll → asked_for talk p ≡ o → (b : Bool) → polled_is_outstanding talk j o ≡ b
-    → (if b then with_told (reference_found talk o) (figure_told c talk p) (account_at c talk j).outstanding
+-- the poll in flight tells of its command, where that still stands
+told_of_stands : (c : Settings) (talk : Talk) (j : ℕ) (e : End) (g : Gives c talk j e) (o : Option ℕ)
+    → in_flight talk j ≡ Some g.poll → asked_for talk g.poll ≡ o → (b : Bool) → polled_is_outstanding talk j o ≡ b
+    → (if b then with_told (reference_found talk o) (figure_told c talk g.poll) (account_at c talk j).outstanding
         else (account_at c talk j).outstanding) ≡ map (submission_at c talk (j + 1)) (outstanding talk j)
-told_of_stands c talk j e g p None q s r true t = absurd (false≢true t)
-told_of_stands c talk j e g p (Some i) q s r true t =
+told_of_stands c talk j e g None q r true t = absurd (false≢true t)
+told_of_stands c talk j e g (Some i) q r true t =
     let n = reference talk i in
+    let p = g.poll in
     let f = figure_told c talk p in
     let asked : is_asked (said talk p).heard ≡ true =
         found_is (λ x. is_asked (said talk x).heard) (outstanding talk j) p q in
@@ -217,7 +209,7 @@ told_of_stands c talk j e g p (Some i) q s r true t =
     let there : find (λ x. nat_eq x i) (outstanding talk j) ≡ Some i =
         outstanding_found talk j i t (omega (arith, below, before)) in
     let own : (x : ℕ) → answers_of c talk x (handed_over talk j) ≡ cond (nat_eq i x) (f ∷ []) [] = λ x.
-    ap (answers_of c talk x) (g.found ∙ ap Some (sym s)) ∙ ((λ k. cond (asked k && is_it x (r k)) (f ∷ []) [])) in
+    ap (answers_of c talk x) g.found ∙ ((λ k. cond (asked k && is_it x (r k)) (f ∷ []) [])) in
     subs_told c talk j n f (outstanding talk j)
     (every_members (λ x. IsTold c talk j n f x) (outstanding talk j) (λ x m. (
       λ y. own x ∙ ap (λ b. cond b (f ∷ []) []) (eq-eqb i x
@@ -225,13 +217,14 @@ told_of_stands c talk j e g p (Some i) q s r true t =
       λ y. own x ∙ ap (λ b. cond b (f ∷ []) []) (differs i x
           (λ z. true≢false (sym (eq-eqb (reference talk x) n (ap (reference talk) (sym z))) ∙ y))),
     ))) (once_at c talk j n e g)
-told_of_stands c talk j e g p o q s r false t =
+told_of_stands c talk j e g o q r false t =
+    let p = g.poll in
     let f = figure_told c talk p in
     let asked : is_asked (said talk p).heard ≡ true =
         found_is (λ x. is_asked (said talk x).heard) (outstanding talk j) p q in
     sym (subs_kept c talk j (outstanding talk j) (every_weaker (λ x. is_outstanding talk j x ≡ true)
         (TellsNothing c talk j) (λ x m.
-    ap (answers_of c talk x) (g.found ∙ ap Some (sym s))
+    ap (answers_of c talk x) g.found
         ∙ ((λ k. cond (asked k && is_it x (r k)) (f ∷ []) []) ∙ ap (λ b. cond b (f ∷ []) []) (gone_is talk j x o t m)))
         (outstanding talk j) (outstanding_are talk j)))
 
@@ -240,18 +233,17 @@ told_when : (c : Settings) (talk : Talk) (j : ℕ) (e : End) (g : Gives c talk j
     → outstanding_with (account_at c talk j) (if b && nat_eq e.code 0x82 then told_in e.body else None)
         ≡ map (submission_at c talk (j + 1)) (outstanding talk j)
 told_when c talk j e g p q true n =
-    let named = eqb-true (reference talk p) e.reference n in
-    let tells = g.tells p q named in
-    let same : p ≡ g.poll = same_poll c talk j e _ p g q named in
-    let watch : (account_at c talk j).watch ≡ Some (watch_at talk j p) = ap (option_map (watch_at talk j)) q in
-    rw (eq-eqb e.code 0x82 tells.0, tells.1, watch)
-        (told_of_stands c talk j e g p (asked_for talk p) q same refl (polled_is_outstanding talk j (asked_for talk p))
-            refl)
+    let own = own_flight c talk j e p g q (eqb-true (reference talk p) e.reference n) in
+    let tells = g.tells own in
+    let asked = asked_for talk g.poll in
+    let watch : (account_at c talk j).watch ≡ Some (watch_at talk j g.poll) =
+        ap (option_map (watch_at talk j)) own in
+    rw (eq-eqb e.code 0x82 tells.code, tells.body, watch)
+        (told_of_stands c talk j e g asked own refl (polled_is_outstanding talk j asked) refl)
 told_when c talk j e g p q false n =
-    let other : is_asked (said talk g.poll).heard ≡ false = not_asks c talk j e g (λ a.
+    let other = false_from_ne_true (is_asked (said talk g.poll).heard) (λ a.
     let same : p ≡ g.poll = ap (λ o. unwrap_or o p) (sym q ∙ poll_asks c talk j e g a) in
-    true≢false (sym (eq-eqb (reference talk p) e.reference (ap (reference talk) same ∙ poll_named c talk j e g))
-        ∙ n)) in
+    true≢false (sym (eq-eqb (reference talk p) e.reference (ap (reference talk) same ∙ g.named)) ∙ n)) in
     sym (subs_kept c talk j (outstanding talk j) (every_from (TellsNothing c talk j)
         (λ i. nothing_asked c talk j i e g other) (outstanding talk j)))
 
@@ -262,8 +254,8 @@ pub all_told : (c : Settings) (talk : Talk) (j : ℕ) (e : End) (g : Gives c tal
     → outstanding_with (account_at c talk j) (answered (option_map (watch_at talk j) o) e)
         ≡ map (submission_at c talk (j + 1)) (outstanding talk j)
 all_told c talk j e g None q =
-    let quiet : is_asked (said talk g.poll).heard ≡ false =
-        not_asks c talk j e g (λ a. true≢false (ap is_some (sym (poll_asks c talk j e g a) ∙ q))) in
+    let quiet = false_from_ne_true (is_asked (said talk g.poll).heard)
+        (λ a. true≢false (ap is_some (sym (poll_asks c talk j e g a) ∙ q))) in
     sym (subs_kept c talk j (outstanding talk j) (every_from (TellsNothing c talk j)
         (λ i. nothing_asked c talk j i e g quiet) (outstanding talk j)))
 all_told c talk j e g (Some p) q = told_when c talk j e g p q (nat_eq (reference talk p) e.reference) refl

@@ -29,8 +29,8 @@ use Rattle.mscp_host.specs.Accounts.{Account, balance, has_reference, is_code_of
 use Rattle.mscp_sim.specs.Matches.{Flight, HasFlight, HasOwnEndcode, IsSmall, Matches, references, times}
 use Rattle.mscp_sim.proofs.TwoEnds.Codes.{coded}
 use Rattle.mscp_sim.proofs.TwoEnds.Counting.{any_alike, has_any}
-use Rattle.mscp_sim.proofs.TwoEnds.Matching.{flight_on, pushes_match}
-use Rattle.mscp_sim.proofs.TwoEnds.Serving.{aborting_matches, ended_pushes, queued_pushes}
+use Rattle.mscp_sim.proofs.TwoEnds.Matching.{Adds, flight_on, pushes_match}
+use Rattle.mscp_sim.proofs.TwoEnds.Serving.{Arrives, aborting_matches, ended_pushes, queued_pushes}
 
 -- ---- the message of a command
 
@@ -120,21 +120,11 @@ own_code_of : (c : Settings) (online : Bool) (figure : ℕ) (command : Command) 
 own_code_of c online figure command None = refl
 own_code_of c online figure command (Some status) = refl
 
--- the command of a submission arrives: what it needs to know, and what the host keeps then
-pub record Arrives {K : Type 0} (a a' : Account) (h : Holdings K) (s : Submission) (c : Command) : Type 0 where
-  pub credits : a'.credits ≡ a.credits
-  pub outstanding : a'.outstanding ≡ a.outstanding ++ s ∷ []
-  pub reference : s.reference ≡ c.reference
-  pub opcode : s.opcode ≡ opcode_byte c.order
-  pub coded : HasOwnEndcode c.order
-  pub small : IsSmall s
-  pub new : times s.reference (outstanding_of h) ≡ 0
-
 arrives_queued : {K : Type 0} (a a' : Account) (h : Holdings K) (told : Flight) (s : Submission) (c : Command)
     → Arrives a a' h s c → Matches a h told → a'.watch ≡ a.watch → Matches a' (queued h c) told
 arrives_queued a a' h told s c x m w =
-    pushes_match a a' h (queued h c) s told told (queued_pushes a a' h told s c m x.credits x.outstanding x.reference
-        x.opcode x.coded x.small x.new) m (subst (λ (o : Option Watch). HasFlight h.untaken o told) (sym w) m.flight)
+    pushes_match a a' h (queued h c) s told told (queued_pushes a a' h told s c x m) m
+        (subst (λ (o : Option Watch). HasFlight h.untaken o told) (sym w) m.flight)
 
 -- the same number is as new where another command was aborted
 new_still : {K : Type 0} (a : Account) (h h' : Holdings K) (told : Flight) (n : ℕ) → Matches a h told
@@ -153,9 +143,9 @@ arrives_ended {K} a a' h told told' s c x m f =
         ap (is_code_of e.code) x.opcode ∙ (ap (λ q. is_code_of q (opcode_byte c.order))
         (own_code_of h.settings _ _ c (fault_of h.settings c)) ∙ x.coded) in
     let own : e.reference ≡ s.reference = own_reference_of h.settings _ _ c (fault_of h.settings c) ∙ sym x.reference in
-    pushes_match a a' h1 (ended h1 e) s told told'
-        (ended_pushes a a' h1 told s e m1 x.credits x.outstanding own code x.small
-        (new_still a h h1 told s.reference m m1 x.new)) m1 f
+    let adds : Adds a a' h1 s = record { credits = x.adds.credits; outstanding = x.adds.outstanding; small =
+        x.adds.small; new = new_still a h h1 told s.reference m m1 x.adds.new } in
+    pushes_match a a' h1 (with_end h1 e) s told told' (ended_pushes a a' h1 told s e adds own code m1) m1 f
 
 -- ---- a command that is submitted
 
@@ -168,7 +158,7 @@ arrives_match : {K : Type 0} (a a' : Account) (h : Holdings K) (told : Flight) (
 arrives_match {K} a a' h told s c x m w =
     let h1 : Holdings K = aborting h c.order in
     let flight = flight_on h1.untaken a.watch told (answered_end h c) (aborting_matches a h told c.order m).flight in
-    elim (is_queued h.settings c) as (λ b. Matches a' (if b then queued h c else ended h1 (answered_end h c)) told) [
+    elim (is_queued h.settings c) as (λ b. Matches a' (if b then queued h c else with_end h1 (answered_end h c)) told) [
       | true ↦ arrives_queued a a' h told s c x m w
       | false ↦ arrives_ended a a' h told told s c x m
           (subst (λ (o : Option Watch). HasFlight (h1.untaken ++ answered_end h c ∷ []) o told) (sym w) flight)
@@ -188,13 +178,11 @@ submitted_match {K} a h told c small unit m e =
     let b = command_bytes c in
     let both = message_taken h b (taken_in a h told c m k f) in
     let x : Arrives a (submitted a c) h (submission_of c) (command_of b) = record {
-      credits = refl;
-      outstanding = refl;
+      adds = record { credits = refl; outstanding = refl; small = (small, unit); new =
+          nobody_named a h told c.reference m f.new };
       reference = sym (same_reference c k);
       opcode = sym (same_opcode c k);
       coded = coded b;
-      small = (small, unit);
-      new = nobody_named a h told c.reference m f.new;
     } in
     record { taken = both.0; match = subst (λ (q : Holdings K). Matches (submitted a c) q told) (sym both.1)
         (arrives_match a (submitted a c) h told (submission_of c) (command_of b) x m refl) }
@@ -288,13 +276,11 @@ polled_match {K} a h told r s small m found e =
     let f = free a (opcode_byte c.order) r e in
     let both = message_taken h b (taken_in a h told c m k f) in
     let x : Arrives a (watching a r s) h (submission_of c) c = record {
-      credits = refl;
-      outstanding = refl;
+      adds = record { credits = refl; outstanding = refl; small = (small, fits.1); new =
+          nobody_named a h told r m f.new };
       reference = refl;
       opcode = refl;
       coded = subst (λ (q : Command). HasOwnEndcode q.order) same (coded b);
-      small = (small, fits.1);
-      new = nobody_named a h told r m f.new;
     } in
     let match : Matches (watching a r s) (arrives h c) (told_now h s) =
         arrives_ended a (watching a r s) h told (told_now h s) (submission_of c) c x m

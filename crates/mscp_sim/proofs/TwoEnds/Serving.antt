@@ -23,9 +23,9 @@ use Rattle.mscp_queue.proofs.Placed.{Found, cut_at, find_cases, find_none, find_
 use Rattle.mscp_control.specs.Holdings.{Holdings, Steps, aborting, with_end, ends_reported, outstanding_of, queued}
 use Rattle.mscp_host.specs.declared.submission.Submission.{Submission}
 use Rattle.mscp_host.specs.Accounts.{Account, is_code_of}
-use Rattle.mscp_sim.specs.Matches.{Flight, HasOwnEndcode, IsAwaited, IsKnown, IsSmall, Matches, commands, opcode_found, references, times}
+use Rattle.mscp_sim.specs.Matches.{Flight, HasOwnEndcode, IsAwaited, IsKnown, Matches, commands, opcode_found, references, times}
 use Rattle.mscp_sim.proofs.TwoEnds.Counting.{opcode_new}
-use Rattle.mscp_sim.proofs.TwoEnds.Matching.{Ends, Pushes, awaited_more, counted_names, ends_match, known_more, stays, times_called, times_ends}
+use Rattle.mscp_sim.proofs.TwoEnds.Matching.{Adds, Ends, Pushes, awaited_more, counted_names, ends_match, known_more, stays, times_called, times_ends}
 
 -- ---- a step
 
@@ -50,30 +50,34 @@ commands_after k d rs place =
     ∙ ((λ i. commands_passed (step_toll r) (take place rs) i
         ++ map-append (λ (q : Record). q.command) (remains r (end_given k d r)) (drop (place + 1) rs) i))
 
+-- a step serves the record at a place, which had this end, if it had one: what is left, and the ends then
+record Leaves {K : Type 0} (h h' : Holdings K) (k : Block) (d : Drive) (place : ℕ) (o : Option End) : Type 0 where
+  pub inside : place < length h.waiting
+  pub waiting : commands h'.waiting ≡ commands (take place h.waiting)
+      ++ (commands (remains (record_at h.waiting place) o) ++ commands (drop (place + 1) h.waiting))
+  pub ends : h'.untaken ≡ h.untaken ++ option_to_list o
+  pub settings : h'.settings ≡ h.settings
+  pub given : (e : End) → o ≡ Some e → let r = record_at h.waiting place in
+      e ≡ outcome_at d.unit d.online r.command r.good k
+
 served_with : {K : Type 0} (a : Account) (h h' : Holdings K) (told : Flight) (k : Block) (d : Drive) (place : ℕ)
-    (o : Option End) → place < length h.waiting
-    → let r = record_at h.waiting place in
-    commands h'.waiting ≡ commands (take place h.waiting)
-        ++ (commands (remains r o) ++ commands (drop (place + 1) h.waiting))
-    → h'.untaken ≡ h.untaken ++ option_to_list o → h'.settings ≡ h.settings
-    → ((e : End) → o ≡ Some e → e ≡ outcome_at d.unit d.online r.command r.good k) → Matches a h told
-        → Matches a h' told
-served_with a h h' told k d place None l w u s g m =
-    stays a h h' told (w ∙ sym (commands_cut h.waiting place l)) (u ∙ append-nil h.untaken) s m
-served_with {K} a h h' told k d place (Some e) l w u s g m =
-    let r = record_at h.waiting place in
-    let is = g e refl in
+    (o : Option End) → Leaves h h' k d place o → Matches a h told → Matches a h' told
+served_with a h h' told k d place None x m =
+    stays a h h' told (x.waiting ∙ sym (commands_cut h.waiting place x.inside)) (x.ends ∙ append-nil h.untaken)
+        x.settings m
+served_with {K} a h h' told k d place (Some e) x m =
+    let is = x.given e refl in
     let ends : Ends h h' = record {
       front = commands (take place h.waiting);
-      own = r.command;
+      own = (record_at h.waiting place).command;
       back = commands (drop (place + 1) h.waiting);
       end = e;
-      waited = commands_cut h.waiting place l;
-      left = w;
-      ends = u;
+      waited = commands_cut h.waiting place x.inside;
+      left = x.waiting;
+      ends = x.ends;
       reference = ap (λ (x : End). x.reference) is;
       code = ap (λ (x : End). x.code) is;
-      settings = s;
+      settings = x.settings;
     } in
     ends_match a h h' told ends m
 
@@ -99,9 +103,14 @@ steps_match {K} picks a h h' told k (reports.Served reference unit lbn started s
     let d = drive_at h.drives h.waiting place in
     let r = record_at h.waiting place in
     let brings : option_to_list end ≡ option_to_list (end_given k d r) = ap ends_reported at.told in
-    served_with a h h' told k d place (end_given k d r) at.next.servable.inside
-    (ap (λ (l : Line K). commands l.waiting) at.left ∙ commands_after k d h.waiting place)
-    (s.ends ∙ ap (λ es. h.untaken ++ es) brings) s.settings (given_is k d r) m
+    let leaves : Leaves h h' k d place (end_given k d r) = record {
+      inside = at.next.servable.inside;
+      waiting = ap (λ (l : Line K). commands l.waiting) at.left ∙ commands_after k d h.waiting place;
+      ends = s.ends ∙ ap (λ es. h.untaken ++ es) brings;
+      settings = s.settings;
+      given = given_is k d r;
+    } in
+    served_with a h h' told k d place (end_given k d r) leaves m
 
 -- ---- an abort
 
@@ -191,28 +200,30 @@ new_to_host : {K : Type 0} (a : Account) (h : Holdings K) (told : Flight) (n : �
     → times n (outstanding_of h) ≡ 0 → times n (references a.outstanding) ≡ 0
 new_to_host a h told n m z = m.same n ∙ z
 
+-- the command of a submission arrives: what it needs to know, and what the host keeps then
+pub record Arrives {K : Type 0} (a a' : Account) (h : Holdings K) (s : Submission) (c : Command) : Type 0 where
+  pub adds : Adds a a' h s
+  pub reference : s.reference ≡ c.reference
+  pub opcode : s.opcode ≡ opcode_byte c.order
+  pub coded : HasOwnEndcode c.order
+
 -- it waits
 pub queued_pushes : {K : Type 0} (a a' : Account) (h : Holdings K) (told : Flight) (s : Submission) (c : Command)
-    → Matches a h told → a'.credits ≡ a.credits → a'.outstanding ≡ a.outstanding ++ s ∷ []
-    → s.reference ≡ c.reference → s.opcode ≡ opcode_byte c.order → HasOwnEndcode c.order → IsSmall s
-        → times s.reference (outstanding_of h) ≡ 0 → Pushes a a' h (queued h c) s
-queued_pushes {K} a a' h told s c m credits more reference opcode coded small new =
+    → Arrives a a' h s c → Matches a h told → Pushes a a' h (queued h c) s
+queued_pushes {K} a a' h told s c x m =
     let cs : commands (queued h c).waiting ≡ commands h.waiting ++ c ∷ [] = more_called 0 h.waiting c in
     let own : IsKnown (a.outstanding ++ s ∷ []) c =
-        (subst (λ n. opcode_found (a.outstanding ++ s ∷ []) n ≡ Some (opcode_byte c.order)) reference
-        (opcode_new a.outstanding s (new_to_host a h told s.reference m new) ∙ ap Some opcode), coded) in
+        (subst (λ n. opcode_found (a.outstanding ++ s ∷ []) n ≡ Some (opcode_byte c.order)) x.reference
+        (opcode_new a.outstanding s (new_to_host a h told s.reference m x.adds.new) ∙ ap Some x.opcode), x.coded) in
     record {
-      credits = credits;
-      outstanding = more;
-      small = small;
-      new = new;
+      adds = x.adds;
       counts = λ r.
           let old = counted_names r h in
           let now = counted_names r (queued h c) in
           let pushed = ap (λ ds. times r (map (λ (d : Command). d.reference) ds)) cs
               ∙ times_called r (commands h.waiting) (c ∷ []) in
           let same : times r (c.reference ∷ []) ≡ times r (s.reference ∷ []) =
-              ap (λ n. times r (n ∷ [])) (sym reference) in
+              ap (λ n. times r (n ∷ [])) (sym x.reference) in
           omega (arith, old, now, pushed, same);
       more = let l = length-append h.waiting (fresh_record c ∷ []) in omega (arith, l);
       settings = refl;
@@ -224,21 +235,17 @@ queued_pushes {K} a a' h told s c m credits more reference opcode coded small ne
 
 -- it has its end at once
 pub ended_pushes : {K : Type 0} (a a' : Account) (h : Holdings K) (told : Flight) (s : Submission) (e : End)
-    → Matches a h told → a'.credits ≡ a.credits → a'.outstanding ≡ a.outstanding ++ s ∷ []
-    → e.reference ≡ s.reference → is_code_of e.code s.opcode ≡ true → IsSmall s
-        → times s.reference (outstanding_of h) ≡ 0 → Pushes a a' h (with_end h e) s
-ended_pushes {K} a a' h told s e m credits more reference code small new =
+    → Adds a a' h s → e.reference ≡ s.reference → is_code_of e.code s.opcode ≡ true → Matches a h told
+    → Pushes a a' h (with_end h e) s
+ended_pushes {K} a a' h told s e adds reference code m =
     let own : IsAwaited (a.outstanding ++ s ∷ []) e = record {
       opcode = s.opcode;
       found = subst (λ n. opcode_found (a.outstanding ++ s ∷ []) n ≡ Some s.opcode) (sym reference)
-          (opcode_new a.outstanding s (new_to_host a h told s.reference m new));
+          (opcode_new a.outstanding s (new_to_host a h told s.reference m adds.new));
       code = code;
     } in
     record {
-      credits = credits;
-      outstanding = more;
-      small = small;
-      new = new;
+      adds = adds;
       counts = λ r.
           let old = counted_names r h in
           let now = counted_names r (with_end h e) in

@@ -91,35 +91,41 @@ pub record Asks {K : Type 0} (a : Account) (h : Holdings K) (r : ℕ) (sent : Li
   pub taken : answer_to_message h sent ≡ Ok (taken_as h (command_of sent))
   pub match : Matches a' (after_message h sent) (told_now h about)
 
+-- a host that may ask about s under the number r: no poll is in flight, and s is the oldest that it may ask about
+record MayAsk {K : Type 0} (a : Account) (h : Holdings K) (r : ℕ) (s : Submission) : Type 0 where
+  pub small : r < 2 ^ 32
+  pub match : Match a h
+  pub idle : is_some a.watch ≡ false
+  pub oldest : oldest a ≡ Some s
+
 asks_when : {K : Type 0} (a : Account) (h : Holdings K) (r : ℕ) (s : Submission) (o : Option HostFault) (b : ArrayVec ℕ)
-    (a' : Account) → r < 2 ^ 32 → Match a h → is_some a.watch ≡ false → oldest a ≡ Some s
-    → refusal a (opcode_byte (poll_of r s).order) r ≡ o → asks_unless a r s o ≡ (Ok (polls.Ask b), a')
-        → Asks a h r b.items a'
-asks_when a h r s (Some fault) b a' l m w f o e = absurd (false≢true (ap (λ p. is_ok p.0) e))
-asks_when {K} a h r s None b a' l m w f o e =
+    (a' : Account) → MayAsk a h r s → refusal a (opcode_byte (poll_of r s).order) r ≡ o
+    → asks_unless a r s o ≡ (Ok (polls.Ask b), a') → Asks a h r b.items a'
+asks_when a h r s (Some fault) b a' x o e = absurd (false≢true (ap (λ p. is_ok p.0) e))
+asks_when {K} a h r s None b a' x o e =
     let c = poll_of r s in
     let message : b.items ≡ command_bytes c = ap (λ p. asked_or p.0 b) (sym e) in
     let left : a' ≡ watching a r s = ap (λ p. p.1) (sym e) in
-    let x = polled_match a h m.0 r s l m.1 f o in
+    let y = polled_match a h x.match.0 r s x.small x.match.1 x.oldest o in
     record {
       about = s;
-      oldest = f;
-      idle = w;
+      oldest = x.oldest;
+      idle = x.idle;
       message = message;
       left = left;
       fresh = (free a (opcode_byte c.order) r o).new;
-      named = ap (λ q. (command_of q).reference) message ∙ same_reference c (carries c l);
-      taken = subst (λ q. answer_to_message h q ≡ Ok (taken_as h (command_of q))) (sym message) x.taken;
+      named = ap (λ q. (command_of q).reference) message ∙ same_reference c (carries c x.small);
+      taken = subst (λ q. answer_to_message h q ≡ Ok (taken_as h (command_of q))) (sym message) y.taken;
       match = subst (λ (y : Account). Matches y (after_message h b.items) (told_now h s)) (sym left)
-          (subst (λ q. Matches (watching a r s) (after_message h q) (told_now h s)) (sym message) x.match);
+          (subst (λ q. Matches (watching a r s) (after_message h q) (told_now h s)) (sym message) y.match);
     }
 
 asks_of : {K : Type 0} (a : Account) (h : Holdings K) (r : ℕ) (s : Option Submission) (b : ArrayVec ℕ) (a' : Account)
     → r < 2 ^ 32 → Match a h → is_some a.watch ≡ false → oldest a ≡ s → asks a r s ≡ (Ok (polls.Ask b), a')
     → Asks a h r b.items a'
 asks_of a h r None b a' l m w f e = absurd (false≢true (ap (λ p. is_ask p.0) e))
-asks_of a h r (Some s) b a' l m w f e = asks_when a h r s (refusal a (opcode_byte (poll_of r s).order) r) b a' l m w f
-    refl e
+asks_of a h r (Some s) b a' l m w f e = asks_when a h r s (refusal a (opcode_byte (poll_of r s).order) r) b a'
+    (record { small = l; match = m; idle = w; oldest = f }) refl e
 
 asks_idle : {K : Type 0} (a : Account) (h : Holdings K) (r : ℕ) (q : Bool) (b : ArrayVec ℕ) (a' : Account) → r < 2 ^ 32
     → Match a h → is_some a.watch ≡ q → (if q then (Ok polls.Busy, a) else asks a r (oldest a)) ≡ (Ok (polls.Ask b), a')

@@ -8,28 +8,27 @@ use Rattle.mscp_control.specs.Legal.{IsLegal, IsPicked}
 use Rattle.mscp_control.specs.Sweeping.{IsSweeping}
 use Rattle.mscp_control.specs.Settings.{Settings, IsValid}
 use Rattle.mscp_control.specs.Calls.{AnsweredCalls}
-use Rattle.mscp_control.specs.Controllers.{ControllersKeepThePromise}
+use Rattle.mscp_control.specs.Controllers.{ControllersKeepThePromise, KeepsPromise}
 use Rattle.mscp_control.specs.Headline.{Promise}
 use Rattle.mscp_control.specs.History.{Moment, Trace}
 use Rattle.mscp_control.specs.Holdings.{Holdings}
 use Rattle.mscp_control.specs.Holdings as holdings
 use Rattle.mscp_control.specs.Runs.{RunsKeepThePromise}
-use Rattle.mscp_host.specs.Accounts.{Account, polls_oldest, submits}
-use Rattle.mscp_host.specs.Accounts as host
+use Rattle.mscp_host.specs.Accounts.{Account, fresh, polls_oldest, submits}
 use Rattle.mscp_sim.specs.declared.conversing.Turn.{Turn}
 use Rattle.mscp_sim.specs.declared.conversing.Turn.TheVariants as turns
-use Rattle.mscp_sim.specs.declared.conversing.Heard.{Heard}
 use Rattle.mscp_sim.specs.declared.conversing.Heard.TheVariants as hears
 use Rattle.mscp_sim.specs.Matches.{Flight, Matches}
 use Rattle.mscp_sim.specs.Talks.{Said, Talk, outstanding, said, trace_of}
-use Rattle.mscp_sim.specs.Conversing.{Converses, GoesOn, AnswersTurn, Says}
+use Rattle.mscp_sim.specs.Conversing.{Converses, AnswersTurn, Says}
 use Rattle.mscp_sim.specs.TwoEnds.{AreTwoEnds, IsHeard}
 use Rattle.mscp_sim.proofs.TwoEnds.Asking.{poll_turn}
 use Rattle.mscp_sim.proofs.TwoEnds.Between.{Known, never_reset, never_stands}
 use Rattle.mscp_sim.proofs.TwoEnds.News.{take_turn}
 use Rattle.mscp_sim.proofs.TwoEnds.Outstanding.{found_below}
+use Rattle.mscp_sim.proofs.TwoEnds.Talking.{GoesTo, Kept}
 use Rattle.mscp_sim.proofs.TwoEnds.Tracing.{answered_calls, calls_of, entries_of, events_of, history_of, zipped}
-use Rattle.mscp_sim.proofs.TwoEnds.Turning.{At, Turns, step_turn, submit_turn}
+use Rattle.mscp_sim.proofs.TwoEnds.Turning.{At, Comes, Turns, step_turn, submit_turn}
 
 -- ---- lists
 
@@ -41,26 +40,15 @@ drop_next j xs = sym (drop-drop 1 j xs)
 
 -- ---- one turn
 
-turn_of : {K : Type 0} (c : Settings) (picks : List Choice → ℕ → Type 0) (picker : K) (talk : Talk) (j : ℕ)
-    (a a' : Account) (h h' : Holdings K) (told : Flight) → IsValid c → ControllersKeepThePromise picks picker
-    → j < length talk → At c picks picker talk j a h told → Says picks a h (said talk j) a' h'
-    → (t : Turn) → (said talk j).turn ≡ t → IsHeard a t (said talk j) a' → Turns c picks picker talk j a' h'
-turn_of c picks picker talk j a a' h h' told v law l s r (turns.Step k) t one =
-    step_turn c picks picker talk j a a' h h' told k l s r t
-turn_of c picks picker talk j a a' h h' told v law l s r (turns.Submit command) t one =
-    submit_turn c picks picker talk j a a' h h' told command l s r t (submits a command).0
-    (λ i. ((submits a command).0, sym one.1 i)) one.0
-turn_of c picks picker talk j a a' h h' told v law l s r (turns.Poll n) t one =
-    poll_turn c picks picker talk j a a' h h' told n v law l s r t (polls_oldest a n).0
-    (λ i. ((polls_oldest a n).0, sym one.1 i)) one.0
-turn_of c picks picker talk j a a' h h' told v law l s r turns.Take t one =
-    take_turn c picks picker talk j a a' h h' told l s r t one.0 one.1 one.2
-
-kept : {K : Type 0} (c : Settings) (picks : List Choice → ℕ → Type 0) (picker : K) (talk : Talk) (j : ℕ) (a : Account)
-    (h : Holdings K) (told : Flight) → IsValid c → ControllersKeepThePromise picks picker
-    → At c picks picker talk j a h told → Promise c (trace_of (take j talk))
-kept c picks picker talk j a h told v law s = subst (Promise c) (history_of (trace_of (take j talk)))
-    (law c (calls_of (trace_of (take j talk))) h v s.reached).promise
+turn_of : {K : Type 0} {c : Settings} {picks : List Choice → ℕ → Type 0} {picker : K} {talk : Talk} {j : ℕ}
+    {a' : Account} {h' : Holdings K} → (x : Comes c picks picker talk j a' h') → (t : Turn) → (said talk j).turn ≡ t
+    → IsHeard x.host t (said talk j) a' → Turns c picks picker talk j a' h'
+turn_of x (turns.Step k) t one = step_turn x k t
+turn_of x (turns.Submit command) t one =
+    submit_turn x command t (submits x.host command).0 (λ i. ((submits x.host command).0, sym one.1 i)) one.0
+turn_of x (turns.Poll n) t one =
+    poll_turn x n t (polls_oldest x.host n).0 (λ i. ((polls_oldest x.host n).0, sym one.1 i)) one.0
+turn_of x turns.Take t one = take_turn x t one.0 one.1 one.2
 
 -- ---- all turns
 
@@ -73,21 +61,43 @@ drop_more talk j s rest e =
         (sym (get_or-drop j talk 0 nothing) ∙ ap (λ xs. get_or xs 0 nothing) e) in
     (omega (arith, some), first, drop_next j talk ∙ ap (drop 1) e)
 
-turns_from : {K : Type 0} (c : Settings) (picks : List Choice → ℕ → Type 0) (picker : K) (talk rest : Talk) (j : ℕ)
-    (a a' : Account) (h h' : Holdings K) (told : Flight) → IsValid c → ControllersKeepThePromise picks picker
-    → drop j talk ≡ rest → At c picks picker talk j a h told
-    → Converses picks a h rest a' h' → (i : ℕ) → j ≤ i → i < length talk → Known c talk i
-turns_from c picks picker talk [] j a a' h h' told v law e s r i l k = let none = length-drop j talk in let empty =
-    ap length e in absurd (omega (arith, l, k, none, empty))
-turns_from {K} c picks picker talk (t ∷ rest) j a a' h h' told v law e s r i l k =
-    let d = drop_more talk j t rest e in
-    let says : Says picks a h (said talk j) r.0 r.1 = subst (λ x. Says picks a h x r.0 r.1) (sym d.1) r.2 in
-    let turn = turn_of c picks picker talk j a r.0 h r.1 told v law d.0 s says (said talk j).turn refl says.0 in
+-- what is promised of a controller with these settings and this picker, whatever it answered
+abbrev Keeps : {K : Type 0} → Settings → (List Choice → ℕ → Type 0) → K → Type 0
+Keeps {K} c picks picker = (t : Trace) (h : Holdings K) → AnsweredCalls picks (holdings.fresh c picker) (calls_of t) h
+    → KeepsPromise picks c (calls_of t) h
+
+-- the rest of a talk from turn j on: what host and controller keep before it is what the talk says, and it goes on so
+record Rest {K : Type 0} (c : Settings) (picks : List Choice → ℕ → Type 0) (picker : K) (talk : Talk) (j : ℕ)
+    (rest : Talk) : Type 0 where
+  pub is : drop j talk ≡ rest
+  pub host : Account
+  pub controller : Holdings K
+  pub at : At c picks picker talk j host controller
+  pub goes : (a' : Account) × (h' : Holdings K) × Converses picks host controller rest a' h'
+
+turns_from : {K : Type 0} (c : Settings) (picks : List Choice → ℕ → Type 0) (picker : K) (talk : Talk) (j : ℕ)
+    (rest : Talk) → Keeps c picks picker → Rest c picks picker talk j rest → (i : ℕ) → j ≤ i → i < length talk
+    → Known c talk i
+turns_from c picks picker talk j [] keeps x i l k = let none = length-drop j talk in let empty = ap length x.is in
+    absurd (omega (arith, l, k, none, empty))
+turns_from {K} c picks picker talk j (s ∷ rest) keeps x i l k =
+    let d = drop_more talk j s rest x.is in
+    let r = x.goes.2 in
+    let comes : Comes c picks picker talk j r.0 r.1 = record {
+      host = x.host;
+      controller = x.controller;
+      inside = d.0;
+      at = x.at;
+      keeps = keeps (trace_of (take j talk)) x.controller x.at.reached;
+      says = subst (λ q. Says picks x.host x.controller q r.0 r.1) (sym d.1) r.2;
+    } in
+    let turn = turn_of comes (said talk j).turn refl comes.says.0 in
+    let t = trace_of (take (j + 1) talk) in
+    let promise = subst (Promise c) (history_of t) (keeps t r.1 turn.next.reached).promise in
     ⊎_elim
-    (λ same. subst (Known c talk) same (record { tells = turn.tells; promise =
-        kept c picks picker talk (j + 1) r.0 r.1 turn.told v law turn.next }))
-    (λ other. turns_from c picks picker talk rest (j + 1) r.0 a' r.1 h' turn.told v law d.2 turn.next r.3 i
-        (omega (arith, l, other)) k)
+    (λ same. subst (Known c talk) same (record { tells = turn.tells; promise = promise }))
+    (λ other. turns_from c picks picker talk (j + 1) rest keeps (record { is = d.2; host = r.0; controller = r.1; at =
+        turn.next; goes = (x.goes.0, x.goes.1, r.3) }) i (omega (arith, l, other)) k)
     (cases_eq j i)
 
 -- ---- the start
@@ -96,7 +106,7 @@ abbrev pub no_flight_yet : Flight
 no_flight_yet = record { figure = 0; waited = false }
 
 pub match_new : {K : Type 0} (c : Settings) (picker : K)
-    → Matches (host.fresh c.credits) (holdings.fresh c picker) no_flight_yet
+    → Matches (fresh c.credits) (holdings.fresh c picker) no_flight_yet
 match_new c picker = record {
   credits = refl;
   many = refl;
@@ -109,10 +119,11 @@ match_new c picker = record {
 }
 
 at_start : {K : Type 0} (c : Settings) (picks : List Choice → ℕ → Type 0) (picker : K) (talk : Talk)
-    → At c picks picker talk 0 (host.fresh c.credits) (holdings.fresh c picker) no_flight_yet
+    → At c picks picker talk 0 (fresh c.credits) (holdings.fresh c picker)
 unfolding outstanding
 at_start c picks picker talk = record {
   account = refl;
+  told = no_flight_yet;
   match = match_new c picker;
   reached = refl;
   one = tt;
@@ -135,29 +146,36 @@ whole_calls picks a a' h h' (s ∷ talk) r = calls_front picks h r.1 h' s.moment
 
 -- ---- two ends
 
-pub two_ends : {K : Type 0} (c : Settings) (picks : List Choice → ℕ → Type 0) (picker : K) (ts : List Turn)
-    (old new : List Heard × Trace) (a a' : Account) (h h' : Holdings K) → IsValid c → RunsKeepThePromise picks picker
-    → ControllersKeepThePromise picks picker
-    → old.0 ≡ [] → old.1 ≡ [] → a ≡ host.fresh c.credits → h ≡ holdings.fresh c picker
-        → GoesOn picks a h ts old new a' h' → AreTwoEnds picks c ts new.0 new.1
-two_ends {K} c picks picker ts old new a a' h h' v runs law oh ot ea eh g =
+-- host and controller are new, and nothing was heard yet
+pub record AreNew {K : Type 0} (c : Settings) (picker : K) (old : Kept K) : Type 0 where
+  pub host : old.host ≡ fresh c.credits
+  pub controller : old.controller ≡ holdings.fresh c picker
+  pub heard : old.lists.0 ≡ []
+  pub trace : old.lists.1 ≡ []
+
+pub two_ends : {K : Type 0} (c : Settings) (picks : List Choice → ℕ → Type 0) (picker : K) (old new : Kept K)
+    (ts : List Turn) → IsValid c → RunsKeepThePromise picks picker → ControllersKeepThePromise picks picker
+    → AreNew c picker old → GoesTo picks old ts new → AreTwoEnds picks c ts new.lists.0 new.lists.1
+two_ends {K} c picks picker old new ts v runs law n g =
     let talk = g.talk in
     let t = trace_of talk in
-    let says : Converses picks (host.fresh c.credits) (holdings.fresh c picker) talk a' h' =
-        subst (λ (x : Account). Converses picks x (holdings.fresh c picker) talk a' h') ea
-        (subst (λ (y : Holdings K). Converses picks a y talk a' h') eh g.says) in
-    let answered = answered_calls picks (holdings.fresh c picker) h' t
-        (whole_calls picks (host.fresh c.credits) a' (holdings.fresh c picker) h' talk says) in
-    let run = runs c (events_of t) (entries_of t) h' v answered in
-    let trace : trace_of talk ≡ new.1 = ap (λ xs. xs ++ t) (sym ot) ∙ sym g.trace in
-    let whole : zip (events_of t) (entries_of t) ≡ new.1 = zipped t ∙ trace in
-    let known : (i : ℕ) → i < length talk → Known c talk i =
-        λ i l. turns_from c picks picker talk talk 0 (host.fresh c.credits) a' (holdings.fresh c picker) h'
-        no_flight_yet v law refl (at_start c picks picker talk) says i (omega arith) l in
+    let h : Holdings K = holdings.fresh c picker in
+    let says : Converses picks (fresh c.credits) h talk new.host new.controller =
+        subst (λ (x : Account). Converses picks x h talk new.host new.controller) n.host
+        (subst (λ (y : Holdings K). Converses picks old.host y talk new.host new.controller) n.controller g.says) in
+    let answered = answered_calls picks h new.controller t
+        (whole_calls picks (fresh c.credits) new.host h new.controller talk says) in
+    let run = runs c (events_of t) (entries_of t) new.controller v answered in
+    let trace : trace_of talk ≡ new.lists.1 = ap (λ xs. xs ++ t) (sym n.trace) ∙ sym g.trace in
+    let whole : zip (events_of t) (entries_of t) ≡ new.lists.1 = zipped t ∙ trace in
+    let rest : Rest c picks picker talk 0 talk = record { is = refl; host = fresh c.credits; controller = h; at =
+        at_start c picks picker talk; goes = (new.host, new.controller, says) } in
+    let known : (i : ℕ) → i < length talk → Known c talk i = λ i l.
+        turns_from c picks picker talk 0 talk (λ t k r. law c (calls_of t) k v r) rest i (omega arith) l in
     record {
       talk = talk;
       turns = g.turns;
-      heard = ap (λ xs. xs ++ map (λ (s : Said). s.heard) talk) (sym oh) ∙ sym g.heard;
+      heard = ap (λ xs. xs ++ map (λ (s : Said). s.heard) talk) (sym n.heard) ∙ sym g.heard;
       trace = trace;
       legal = subst (IsLegal c) whole run.headline.legal;
       promise = subst (Promise c) whole run.headline.promise;

@@ -8,6 +8,7 @@ use Rattle.mscp_control.specs.History.{Moment, Trace}
 use Rattle.mscp_control.specs.Holdings.{Holdings}
 use Rattle.mscp_control.proofs.Bridge.Keeping.{owner_kept}
 use Rattle.mscp_host.specs.Accounts.{Account}
+use Rattle.mscp_sim.specs.declared.conversing.Talk.{Talk as Lists}
 use Rattle.mscp_sim.specs.declared.conversing.Turn.{Turn}
 use Rattle.mscp_sim.specs.declared.conversing.Heard.{Heard}
 use Rattle.mscp_sim.specs.Matches.{Match}
@@ -28,53 +29,73 @@ same_picker : {K : Type 0} (picks : List Choice → ℕ → Type 0) (h h' : Hold
 same_picker {K} picks h h' None r = ap (λ (x : Holdings K). x.picker) r
 same_picker picks h h' (Some m) r = (owner_kept picks h h' m.0 m.1 r).1
 
--- what was said so far
-pub record Talks {K : Type 0} (picks : K → List Choice → ℕ → Type 0) (a a' : Account) (h h' : Holdings K)
-    (ts : List Turn) (old new : List Heard × Trace) : Type 0 where
-  pub goes : GoesOn (picks h.picker) a h ts old new a' h'
-  pub picker : h'.picker ≡ h.picker
+-- what host and controller keep, and what was heard and the trace so far
+pub record Kept (K : Type 0) : Type 0 where
+  pub host : Account
+  pub controller : Holdings K
+  pub lists : List Heard × Trace
 
-pub talks_none : {K : Type 0} (picks : K → List Choice → ℕ → Type 0) (a : Account) (h : Holdings K)
-    (old : List Heard × Trace) → Match a h → Talks picks a a h h [] old old
-talks_none picks a h old m = record {
-  goes = record { talk = []; turns = refl; heard = sym (append-nil old.0); trace = sym (append-nil old.1); says =
-      (refl, refl); match = m };
+abbrev pub kept : {K : Type 0} → Account → Holdings K → Lists → Kept K
+kept host controller talk =
+    record { host = host; controller = controller; lists = (talk.heard.items, talk.trace.items) }
+
+-- these turns go on so from the one to the other
+abbrev pub GoesTo : {K : Type 0} → (List Choice → ℕ → Type 0) → Kept K → List Turn → Kept K → Type 0
+GoesTo picks old ts new =
+    GoesOn picks old.host old.controller ts old.lists new.lists new.host new.controller
+
+-- what was said so far
+pub record Talks {K : Type 0} (picks : K → List Choice → ℕ → Type 0) (old new : Kept K) (ts : List Turn) : Type 0 where
+  pub goes : GoesTo (picks old.controller.picker) old ts new
+  pub picker : new.controller.picker ≡ old.controller.picker
+
+pub talks_none : {K : Type 0} (picks : K → List Choice → ℕ → Type 0) (old : Kept K) → Match old.host old.controller
+    → Talks picks old old []
+talks_none picks old m = record {
+  goes = record { talk = []; turns = refl; heard = sym (append-nil old.lists.0); trace =
+      sym (append-nil old.lists.1); says = (refl, refl); match = m };
   picker = refl;
 }
 
-goes_more : {K : Type 0} (picks : List Choice → ℕ → Type 0) (a m a' : Account) (h n h' : Holdings K) (ts : List Turn)
-    (turn : Turn) (old now new : List Heard × Trace) (heard : Heard) (moment : Option Moment)
-    → GoesOn picks a h ts old now m n → Goes picks m n turn (heard, moment) a' h' → new.0 ≡ now.0 ++ heard ∷ []
-        → new.1 ≡ now.1 ++ option_to_list moment → GoesOn picks a h (ts ++ turn ∷ []) old new a' h'
-goes_more picks a m a' h n h' ts turn old now new heard moment g one p q =
+-- one more turn, of which this was returned: the lists grow by it
+pub record Grows {K : Type 0} (picks : List Choice → ℕ → Type 0) (old new : Kept K) (turn : Turn) : Type 0 where
+  pub told : Heard × Option Moment
+  pub goes : Goes picks old.host old.controller turn told new.host new.controller
+  pub heard : new.lists.0 ≡ old.lists.0 ++ told.0 ∷ []
+  pub trace : new.lists.1 ≡ old.lists.1 ++ option_to_list told.1
+
+goes_more : {K : Type 0} (picks : List Choice → ℕ → Type 0) (old now new : Kept K) (ts : List Turn) (turn : Turn)
+    → GoesTo picks old ts now → Grows picks now new turn → GoesTo picks old (ts ++ turn ∷ []) new
+goes_more picks old now new ts turn g x =
+    let heard = x.told.0 in
+    let moment = x.told.1 in
     let s : Said = record { turn = turn; heard = heard; moment = moment } in
     record {
       talk = g.talk ++ s ∷ [];
       turns = map-append (λ (x : Said). x.turn) g.talk (s ∷ []) ∙ ap (λ xs. xs ++ turn ∷ []) g.turns;
-      heard = p ∙ (ap (λ xs. xs ++ heard ∷ []) g.heard
-          ∙ (append_assoc old.0 (map (λ (x : Said). x.heard) g.talk) (heard ∷ [])
-          ∙ ap (λ xs. old.0 ++ xs) (sym (map-append (λ (x : Said). x.heard) g.talk (s ∷ [])))));
-      trace = q ∙ (ap (λ xs. xs ++ option_to_list moment) g.trace
-          ∙ (append_assoc old.1 (trace_of g.talk) (option_to_list moment)
-          ∙ ap (λ xs. old.1 ++ xs) (sym (flat_map-append (λ (x : Said). option_to_list x.moment) g.talk (s ∷ [])
+      heard = x.heard ∙ (ap (λ xs. xs ++ heard ∷ []) g.heard
+          ∙ (append_assoc old.lists.0 (map (λ (x : Said). x.heard) g.talk) (heard ∷ [])
+          ∙ ap (λ xs. old.lists.0 ++ xs) (sym (map-append (λ (x : Said). x.heard) g.talk (s ∷ [])))));
+      trace = x.trace ∙ (ap (λ xs. xs ++ option_to_list moment) g.trace
+          ∙ (append_assoc old.lists.1 (trace_of g.talk) (option_to_list moment)
+          ∙ ap (λ xs. old.lists.1 ++ xs) (sym (flat_map-append (λ (x : Said). option_to_list x.moment) g.talk (s ∷ [])
           ∙ ap (λ xs. trace_of g.talk ++ xs) (append-nil (option_to_list moment))))));
-      says = converses_push picks a m a' h n h' g.talk s g.says one.0;
-      match = one.1;
+      says = converses_push picks old.host now.host new.host old.controller now.controller new.controller g.talk s
+          g.says x.goes.0;
+      match = x.goes.1;
     }
 
-pub talks_more : {K : Type 0} (picks : K → List Choice → ℕ → Type 0) (a m a' : Account) (h n h' : Holdings K)
-    (all : List Turn) (i : ℕ) (turn : Turn) (old now new : List Heard × Trace) (told : Heard × Option Moment)
-    → i < length all
-    → turn ≡ get_or all i turn → Talks picks a m h n (take i all) old now → Goes (picks n.picker) m n turn told a' h'
-        → new.0 ≡ now.0 ++ told.0 ∷ [] → new.1 ≡ now.1 ++ option_to_list told.1
-    → Talks picks a a' h h' (take (i + 1) all) old new
-talks_more {K} picks a m a' h n h' all i turn old now new told l e g one p q =
-    let same : Goes (picks h.picker) m n turn told a' h' =
-        subst (λ (k : K). Goes (picks k) m n turn told a' h') g.picker one in
+pub talks_more : {K : Type 0} (picks : K → List Choice → ℕ → Type 0) (old now new : Kept K) (all : List Turn) (i : ℕ)
+    (turn : Turn) → i < length all → turn ≡ get_or all i turn → Talks picks old now (take i all)
+    → Grows (picks now.controller.picker) now new turn → Talks picks old new (take (i + 1) all)
+talks_more {K} picks old now new all i turn l e t x =
+    let same : Grows (picks old.controller.picker) now new turn =
+        subst (λ (k : K). Grows (picks k) now new turn) t.picker x in
     let more : take (i + 1) all ≡ take i all ++ turn ∷ [] =
         take_more all i turn l ∙ ap (λ x. take i all ++ x ∷ []) (sym e) in
     record {
-      goes = subst (λ ts. GoesOn (picks h.picker) a h ts old new a' h') (sym more)
-          (goes_more (picks h.picker) a m a' h n h' (take i all) turn old now new told.0 told.1 g.goes same p q);
-      picker = same_picker (picks h.picker) n h' told.1 same.0.1 ∙ g.picker;
+      goes = subst (λ ts. GoesTo (picks old.controller.picker) old ts new) (sym more)
+          (goes_more (picks old.controller.picker) old now new (take i all) turn t.goes same);
+      picker = same_picker (picks old.controller.picker) now.controller new.controller same.told.1 same.goes.0.1
+          ∙ t.picker;
     }

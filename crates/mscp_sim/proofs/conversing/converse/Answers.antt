@@ -1,6 +1,6 @@
 use Rattle.std.proofs.Common.{ap, ◌∙◌, subst}
 use Rattle.mscp_host.specs.Accounts.{fresh}
-use Rattle.mscp_sim.specs.Conversing.{GoesOn}
+use Rattle.mscp_sim.proofs.TwoEnds.Talking.{GoesTo, kept}
 use Rattle.mscp_sim.proofs.TwoEnds.Talked.{match_new, no_flight_yet, two_ends}
 use Rattle.mscp_sim.proofs.conversing.converse.Goals as goal
 
@@ -13,14 +13,13 @@ pub returns-clause-talk : goal.returns-clause-talk
 returns-clause-talk g c =
     let host = c.in-Ok.ensures.new ∙ ap fresh c.credits.ensures.value in
     let picker = ap (λ h. h.picker) c.new-controller.ensures.fresh in
-    let goes = subst (λ k. GoesOn (g.K.Picker.picks k) c.in-Ok.host c.new-controller.result c.args.turns.now
-        (c.in_ok-with_capacity.field-0.items, c.in_ok-with_capacity-2.field-0.items)
-        (c.hear_each.new.talk.heard.items, c.hear_each.new.talk.trace.items) c.hear_each.new.host
-        c.hear_each.new.controller) picker c.hear_each.ensures in
-    two_ends c.args.config (g.K.Picker.picks c.args.picker) c.args.picker c.args.turns.now
-        (c.in_ok-with_capacity.field-0.items, c.in_ok-with_capacity-2.field-0.items)
-        (c.hear_each.new.talk.heard.items, c.hear_each.new.talk.trace.items) c.in-Ok.host c.hear_each.new.host
-        c.new-controller.result c.hear_each.new.controller
-    c.new-controller.ensures.valid c.runs_keep_the_promise.ensures c.controllers_keep_the_promise.ensures
-        c.in_ok-with_capacity.ensures.items c.in_ok-with_capacity-2.ensures.items host c.new-controller.ensures.fresh
-        goes
+    let old = kept c.in-Ok.host c.new-controller.result
+        (record { heard = c.in_ok-with_capacity.field-0; trace = c.in_ok-with_capacity-2.field-0 }) in
+    let new = kept c.hear_each.new.host c.hear_each.new.controller c.hear_each.new.talk in
+    two_ends c.args.config (g.K.Picker.picks c.args.picker) c.args.picker old new c.args.turns.now
+        c.new-controller.ensures.valid c.runs_keep_the_promise.ensures c.controllers_keep_the_promise.ensures (record {
+      host = host;
+      controller = c.new-controller.ensures.fresh;
+      heard = c.in_ok-with_capacity.ensures.items;
+      trace = c.in_ok-with_capacity-2.ensures.items;
+    }) (subst (λ k. GoesTo (g.K.Picker.picks k) old c.args.turns.now new) picker c.hear_each.ensures)

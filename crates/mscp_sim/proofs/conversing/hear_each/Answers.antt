@@ -1,14 +1,13 @@
 use Rattle.std.proofs.Common.{◌≡◌, ◌+◌, ◌-◌, length, arith, subst}
 use Rattle.std.proofs.lemmas.List.{take_all}
 use Rattle.mscp_sim.specs.Rooms.{HasRoom}
-use Rattle.mscp_sim.proofs.TwoEnds.Talking.{talks_none, talks_more}
+use Rattle.mscp_sim.proofs.TwoEnds.Talking.{kept, talks_none, talks_more}
 use Rattle.mscp_sim.proofs.conversing.hear_each.Goals as goal
 
 pub loop-turn-init : goal.loop-turn-init
 loop-turn-init g c =
     record {
-      talks = talks_none g.K.Picker.picks c.args.host.now c.args.controller.now
-          (c.args.talk.now.heard.items, c.args.talk.now.trace.items) c.requires.both;
+      talks = talks_none g.K.Picker.picks (kept c.args.host.now c.args.controller.now c.args.talk.now) c.requires.both;
       room = let room = c.requires.room in (omega (arith, room.0), omega (arith, room.1));
     }
 
@@ -28,14 +27,12 @@ loop-turn-preserved g c =
         ≡ (length c.args.turns.now - (c.loop-turn.turn-index + 1)) + 1 = omega (arith, left) in
     record {
       talks =
-          talks_more g.K.Picker.picks c.args.host.now c.loop-turn.host c.hear-heard.new.host c.args.controller.now
-              c.loop-turn.controller c.hear-heard.new.controller c.args.turns.now c.loop-turn.turn-index
-              c.turn-item.result
-          (c.args.talk.now.heard.items, c.args.talk.now.trace.items)
-              (c.loop-turn.talk.heard.items, c.loop-turn.talk.trace.items)
-              (c.keep.new.self.heard.items, c.keep.new.self.trace.items) c.hear-heard.result
-          left c.turn-item.is c.loop-turn.invariant.talks c.hear-heard.ensures c.keep.ensures.heard
-              c.keep.ensures.trace;
+          talks_more g.K.Picker.picks (kept c.args.host.now c.args.controller.now c.args.talk.now)
+              (kept c.loop-turn.host c.loop-turn.controller c.loop-turn.talk)
+              (kept c.hear-heard.new.host c.hear-heard.new.controller c.keep.new.self) c.args.turns.now
+              c.loop-turn.turn-index c.turn-item.result left c.turn-item.is c.loop-turn.invariant.talks
+              (record { told = c.hear-heard.result; goes = c.hear-heard.ensures; heard = c.keep.ensures.heard; trace =
+                  c.keep.ensures.trace });
       room = c.keep.ensures.room (length c.args.turns.now - (c.loop-turn.turn-index + 1))
           (subst (HasRoom c.loop-turn.talk) more c.loop-turn.invariant.room);
     }
