@@ -10,8 +10,10 @@ use Rattle.mscp_script.specs.declared.script.fault.ReadFault.{ReadFault}
 use Rattle.mscp_script.specs.declared.script.fault.ReadFault.TheVariants as faults
 use Rattle.mscp_control.specs.Settings.{Settings}
 use Rattle.mscp_control.specs.declared.event.Event.{Event}
-use Rattle.mscp_script.specs.Grammar.{Place, next_unless_skipped, Begins, HasCredits, HasPassing, HasLongest, HasTimeout, HasUnits, HasGone, IsInHeader, said_at, next, after_line, limits, first_units, unit_or_go}
-use Rattle.mscp_script.specs.Outcome.{Fails, Sets, Leads, in_line, lines_outcome, onward, all_read}
+use Rattle.mscp_script.specs.Grammar.{Place, next_unless_skipped, Begins, HasBudget, HasCredits, HasPassing, HasLongest, HasTimeout, HasUnits, HasGone, IsInHeader, said_at, next, after_line, limit, limits, first_units, unit_or_go}
+use Rattle.mscp_script.specs.Outcome.{Fails, Sets, Leads, budget_of, in_line, limited, lines_outcome, onward, all_read}
+use Rattle.mscp_script.specs.declared.script.header.Limit.{Limit}
+use Rattle.mscp_script.specs.declared.script.header.Limit.TheVariants as ways
 
 from_ok : {A : Type 0} (n : ℕ) (r : Result A Cause) (x : A) → in_line n r ≡ Ok x → r ≡ Ok x
 from_ok n (Ok y) x e = cc
@@ -53,8 +55,9 @@ pub ended_early : (n : ℕ) (p : Place) → IsInHeader p
     → all_read n p ≡ Err (record { line = n + 1; cause = causes.Header })
 ended_early n Begins h = refl
 ended_early n (HasCredits credits) h = refl
+ended_early n (HasBudget credits budget) h = refl
 ended_early n (HasPassing credits passing) h = refl
-ended_early n (HasLongest credits passing longest) h = refl
+ended_early n (HasLongest credits budget longest) h = refl
 ended_early n (HasTimeout settings) h = refl
 ended_early n (HasUnits settings) h = refl
 ended_early n (HasGone settings events) h = absurd h
@@ -105,17 +108,19 @@ pub sets_credits : Sets Begins (codes "credits") 4294967295 HasCredits
 unfolding next
 sets_credits = (tt, λ words. refl)
 
-pub sets_passing : (c : ℕ) → Sets (HasCredits c) (codes "passing") 4294967295 (HasPassing c)
+pub next_limit : (c : ℕ) (words : List (List ℕ)) → next (HasCredits c) words ≡ limit c words
 unfolding next
-sets_passing c = (tt, λ words. refl)
+next_limit c words = refl
 
-pub sets_longest : (c p : ℕ) → Sets (HasPassing c p) (codes "longest") 4294967295 (HasLongest c p)
+pub sets_longest : (c : ℕ) (l : Limit)
+    → Sets (limited c l) (codes "longest") 4294967295 (λ n. HasLongest c (budget_of l n) n)
 unfolding next
-sets_longest c p = (tt, λ words. refl)
+sets_longest c (ways.Budget blocks) = (tt, λ words. refl)
+sets_longest c (ways.Passing passes) = (tt, λ words. refl)
 
-pub sets_timeout : (c p l : ℕ) → Sets (HasLongest c p l) (codes "timeout") 65535 (λ t. HasTimeout (limits c p l t))
+pub sets_timeout : (c q l : ℕ) → Sets (HasLongest c q l) (codes "timeout") 65535 (λ t. HasTimeout (limits c q l t))
 unfolding next
-sets_timeout c p l = (tt, λ words. refl)
+sets_timeout c q l = (tt, λ words. refl)
 
 pub next_timeout : (s : Settings) (words : List (List ℕ))
     → next (HasTimeout s) words ≡ (first_units words >>= λ units. Ok (HasUnits (record s { units = units })))

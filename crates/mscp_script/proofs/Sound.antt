@@ -8,7 +8,7 @@ use Rattle.mscp_script.specs.Lexical.{lines}
 use Rattle.mscp_script.specs.declared.script.fault.Cause.{Cause}
 use Rattle.mscp_script.specs.declared.script.fault.Cause.TheVariants as causes
 use Rattle.mscp_script.specs.declared.script.fault.ScriptFault.{ScriptFault}
-use Rattle.mscp_script.specs.Grammar.{Place, Begins, HasCredits, HasPassing, HasLongest, HasTimeout, HasUnits, HasGone, IsInHeader, after_line, after_lines, Reads, IsFault}
+use Rattle.mscp_script.specs.Grammar.{Place, Begins, HasCredits, HasBudget, HasPassing, HasLongest, HasTimeout, HasUnits, HasGone, IsInHeader, after_line, after_lines, Reads, IsFault}
 use Rattle.mscp_script.specs.Outcome.{in_line, lines_outcome, all_read}
 
 -- ---- read
@@ -16,8 +16,9 @@ use Rattle.mscp_script.specs.Outcome.{in_line, lines_outcome, all_read}
 ended_ok : (n : ℕ) (p : Place) (s : Settings) (es : List Event) → all_read n p ≡ Ok (s, es) → p ≡ HasGone s es
 ended_ok n Begins s es e = cc
 ended_ok n (HasCredits credits) s es e = cc
+ended_ok n (HasBudget credits budget) s es e = cc
 ended_ok n (HasPassing credits passing) s es e = cc
-ended_ok n (HasLongest credits passing longest) s es e = cc
+ended_ok n (HasLongest credits budget longest) s es e = cc
 ended_ok n (HasTimeout settings) s es e = cc
 ended_ok n (HasUnits settings) s es e = cc
 ended_ok n (HasGone settings events) s es e = let pair : (settings, events) ≡ (s, es) = cc in
@@ -69,8 +70,9 @@ early n p fault h e = let q = made n fault e in record { place = p; right = refl
 ended_err : (n : ℕ) (p : Place) (fault : ScriptFault) → all_read n p ≡ Err fault → NoGoFrom n p [] fault
 ended_err n Begins fault e = early n Begins fault tt cc
 ended_err n (HasCredits credits) fault e = early n _ fault tt cc
+ended_err n (HasBudget credits budget) fault e = early n _ fault tt cc
 ended_err n (HasPassing credits passing) fault e = early n _ fault tt cc
-ended_err n (HasLongest credits passing longest) fault e = early n _ fault tt cc
+ended_err n (HasLongest credits budget longest) fault e = early n _ fault tt cc
 ended_err n (HasTimeout settings) fault e = early n _ fault tt cc
 ended_err n (HasUnits settings) fault e = early n _ fault tt cc
 ended_err n (HasGone settings events) fault e = cc

@@ -1,5 +1,5 @@
 -- What the bytes of a script mean: the settings of a controller and a list of events, or the first fault.
-use Rattle.std.specs.Prelude.{◌≡◌, ℕ, ◌+◌, ◌<◌, ◌≤◌, ◌⊎◌, ◌&&◌, nat_lt, nat_le, Bool, if◌then◌else◌, List, [], ◌∷◌, ◌++◌, length, codes, Result, Ok, Err}
+use Rattle.std.specs.Prelude.{◌≡◌, ℕ, ◌+◌, ◌*◌, ◌<◌, ◌≤◌, ◌⊎◌, ◌&&◌, nat_lt, nat_le, Bool, if◌then◌else◌, List, [], ◌∷◌, ◌++◌, length, codes, Result, Ok, Err}
 use Rattle.std.specs.List.{list_all}
 use Rattle.std.specs.Str.{bytes_eq}
 use Rattle.mscp_drive.specs.Shape.{Shape}
@@ -69,16 +69,17 @@ valid (Err fault) = Err causes.Config
 pub data Place : Type 0 where
   Begins : Place
   HasCredits : (credits : ℕ) → Place
+  HasBudget : (credits budget : ℕ) → Place
   HasPassing : (credits passing : ℕ) → Place
-  HasLongest : (credits passing longest : ℕ) → Place
+  HasLongest : (credits budget longest : ℕ) → Place
   HasTimeout : (settings : Settings) → Place
   HasUnits : (settings : Settings) → Place
   HasGone : (settings : Settings) (events : List Event) → Place
 
 -- settings of no unit yet, of a controller with identifier 1 (profile)
 abbrev pub limits : ℕ → ℕ → ℕ → ℕ → Settings
-limits credits passing longest timeout =
-    record { credits = credits; passing = passing; longest = longest; timeout = timeout; id = 1; units = [] }
+limits credits budget longest timeout =
+    record { credits = credits; budget = budget; longest = longest; timeout = timeout; id = 1; units = [] }
 
 -- units with the one of these fields
 unfoldable pub more_units : List Shape → List (List ℕ) → Result (List Shape) Cause
@@ -115,20 +116,35 @@ unit_or_go settings (word ∷ fields) =
 abbrev pub more_events : List Event → List Event → Result (List Event) Cause
 more_events before new = if nat_le (length before + length new) 1000000 then Ok (before ++ new) else Err causes.Events
 
+-- where the one number of these fields, of 32 bits, leads
+abbrev pub by_number : (ℕ → Place) → List (List ℕ) → Result Place Cause
+by_number made fields = do
+  text ← one fields
+  value ← number 4294967295 text
+  Ok (made value)
+
+-- the line of the budget, in blocks or in passes by the longest transfer (profile)
+unfoldable pub limit : ℕ → List (List ℕ) → Result Place Cause
+limit credits [] = Err causes.Word
+limit credits (word ∷ fields) =
+    if bytes_eq word (codes "budget") then by_number (HasBudget credits) fields else (
+    if bytes_eq word (codes "passing") then by_number (HasPassing credits) fields else Err causes.Word)
+
 -- where a line of these words leads (profile)
 unfoldable pub next : Place → List (List ℕ) → Result Place Cause
 next Begins words = do
   credits ← setting (codes "credits") 4294967295 words
   Ok (HasCredits credits)
-next (HasCredits credits) words = do
-  passing ← setting (codes "passing") 4294967295 words
-  Ok (HasPassing credits passing)
+next (HasCredits credits) words = limit credits words
+next (HasBudget credits budget) words = do
+  longest ← setting (codes "longest") 4294967295 words
+  Ok (HasLongest credits budget longest)
 next (HasPassing credits passing) words = do
   longest ← setting (codes "longest") 4294967295 words
-  Ok (HasLongest credits passing longest)
-next (HasLongest credits passing longest) words = do
+  Ok (HasLongest credits (passing * longest) longest)
+next (HasLongest credits budget longest) words = do
   timeout ← setting (codes "timeout") 65535 words
-  Ok (HasTimeout (limits credits passing longest timeout))
+  Ok (HasTimeout (limits credits budget longest timeout))
 next (HasTimeout settings) words = do
   units ← first_units words
   Ok (HasUnits (record settings { units = units }))

@@ -1,13 +1,15 @@
 -- The meaning of a script as one function, for the loops of its reader.
-use Rattle.std.specs.Prelude.{◌≡◌, ℕ, ◌+◌, nat_lt, if◌then◌else◌, List, [], ◌∷◌, length, Option, Some, None, Result, Ok, Err}
+use Rattle.std.specs.Prelude.{◌≡◌, ℕ, ◌+◌, ◌*◌, nat_lt, if◌then◌else◌, List, [], ◌∷◌, length, Option, Some, None, Result, Ok, Err}
 use Rattle.mscp_drive.specs.Shape.{Shape}
 use Rattle.mscp_control.specs.Settings.{Settings}
 use Rattle.mscp_control.specs.declared.event.Event.{Event}
 use Rattle.mscp_script.specs.Steps.{◌>>=◌}
 use Rattle.mscp_script.specs.Lexical.{lines}
-use Rattle.mscp_script.specs.Grammar.{Place, Begins, HasUnits, HasGone, IsInHeader, setting, next, after_line}
+use Rattle.mscp_script.specs.Grammar.{Place, Begins, HasBudget, HasPassing, HasUnits, HasGone, IsInHeader, setting, next, after_line}
 use Rattle.mscp_script.specs.declared.script.Script.{Script}
 use Rattle.mscp_script.specs.declared.script.header.Limits.{Limits}
+use Rattle.mscp_script.specs.declared.script.header.Limit.{Limit}
+use Rattle.mscp_script.specs.declared.script.header.Limit.TheVariants as limits
 use Rattle.mscp_script.specs.declared.script.fault.Cause.{Cause}
 use Rattle.mscp_script.specs.declared.script.fault.Cause.TheVariants as causes
 use Rattle.mscp_script.specs.declared.script.fault.ScriptFault.{ScriptFault}
@@ -63,10 +65,26 @@ Leads view before number rest (Err fault) = before ≡ Err fault
 
 -- ---- the header
 
+-- the budget that a limit gives, of transfers of so many blocks
+abbrev pub budget_of : Limit → ℕ → ℕ
+budget_of (limits.Budget blocks) longest = blocks
+budget_of (limits.Passing passes) longest = passes * longest
+
+-- where the line of a limit leads
+abbrev pub limited : ℕ → Limit → Place
+limited credits (limits.Budget blocks) = HasBudget credits blocks
+limited credits (limits.Passing passes) = HasPassing credits passes
+
 -- the settings of limits and of units
 abbrev pub settled : Limits → List Shape → Settings
-settled l units =
-    record { credits = l.credits; passing = l.passing; longest = l.longest; timeout = l.timeout; id = 1; units = units }
+settled l units = record {
+  credits = l.credits;
+  budget = budget_of l.limit l.longest;
+  longest = l.longest;
+  timeout = l.timeout;
+  id = 1;
+  units = units;
+}
 
 -- where a line after a unit leads: to settings with one more unit, or to these
 abbrev pub place_after : Settings → Option Settings → Place

@@ -7,8 +7,8 @@ ghost use Rattle.mscp_drive.specs.UnitList.{IsUnitList, NumbersRise};
 ghost use Rattle.mscp_script.specs.Steps.{Gives};
 ghost use Rattle.mscp_script.specs.Lexical as lexical;
 ghost use Rattle.mscp_script.specs.Grammar as grammar;
-ghost use Rattle.mscp_script.specs.Grammar.{Place, Begins, HasTimeout, HasUnits, HasGone};
-ghost use Rattle.mscp_script.specs.Outcome.{Sets, Leads, in_line, rest_outcome, settled, place_after};
+ghost use Rattle.mscp_script.specs.Grammar.{Place, Begins, HasCredits, HasTimeout, HasUnits, HasGone};
+ghost use Rattle.mscp_script.specs.Outcome.{Sets, Leads, budget_of, in_line, limited, rest_outcome, settled, place_after};
 
 use crate::script::fault::{Cause, ScriptFault};
 use crate::script::lines::Lines;
@@ -24,11 +24,20 @@ const IDENTIFIER: u64 = 1;
 /// The most units that a controller may have.
 const MOST_UNITS: usize = 16;
 
+/// How far a command may be passed.
+#[derive(Clone, Copy, Debug)]
+enum Limit {
+    /// By so many blocks.
+    Budget(u32),
+    /// As often, each time by the longest transfer.
+    Passing(u32),
+}
+
 /// The limits of a header.
 #[derive(Clone, Copy, Debug)]
 struct Limits {
     credits: u32,
-    passing: u32,
+    limit: Limit,
     longest: u32,
     timeout: u16,
 }
@@ -56,12 +65,12 @@ fn read_limits(lines: &mut Lines<'_>) -> Result<Limits, ScriptFault>
         lines.old.rest.now) lines.new.number lines.new.rest.now result }
 {
     let credits = read_setting(lines, b"credits", 4_294_967_295)?;
-    let passing = read_setting(lines, b"passing", 4_294_967_295)?;
+    let limit = read_limit(lines)?;
     let longest = read_setting(lines, b"longest", 4_294_967_295)?;
     let timeout = read_setting(lines, b"timeout", 65_535)?;
     Ok(Limits {
         credits,
-        passing,
+        limit,
         longest,
         timeout: timeout as u16,
     })
@@ -76,6 +85,16 @@ fn read_setting(lines: &mut Lines<'_>, name: &[u8], most: u32) -> Result<u32, Sc
 {
     let line = lines.header_line()?;
     ScriptFault::at(line.number, setting(line.words, name, most))
+}
+
+/// Reads the line of the budget.
+fn read_limit(lines: &mut Lines<'_>) -> Result<Limit, ScriptFault>
+    ensures fault { IfErr result (λ fault. 1 ≤ fault.line) }
+    ensures leads { (credits : ℕ) → Leads (limited credits) (rest_outcome lines.old.number (HasCredits credits)
+        lines.old.rest.now) lines.new.number lines.new.rest.now result }
+{
+    let line = lines.header_line()?;
+    ScriptFault::at(line.number, limit_of(line.words))
 }
 
 /// Reads the line of the first unit.
@@ -124,6 +143,18 @@ fn setting(mut words: Words<'_>, name: &[u8], most: u32) -> Result<u32, Cause>
         return Err(Cause::Word);
     }
     number(most, words.one()?)
+}
+
+/// The limit of a line, whose first word is `budget` or `passing`.
+#[tactic(auto, unfolding(crate::specs::Grammar::limit))]
+fn limit_of(mut words: Words<'_>) -> Result<Limit, Cause>
+    ensures { (credits : ℕ) → Gives (limited credits) result (grammar.limit credits (lexical.words words.entry.rest.now)) }
+{
+    match words.next_word() {
+        Some(b"budget") => Ok(Limit::Budget(number(4_294_967_295, words.one()?)?)),
+        Some(b"passing") => Ok(Limit::Passing(number(4_294_967_295, words.one()?)?)),
+        _ => Err(Cause::Word),
+    }
 }
 
 /// The unit of a line, whose first word is `unit`.
@@ -213,6 +244,16 @@ fn unit_of(words: Words<'_>) -> Result<Unit, Cause>
     }
 }
 
+/// The budget that a limit gives, of transfers of so many blocks.
+fn budget_of(limit: Limit, longest: u32) -> u64
+    ensures { result ≡ budget_of limit longest }
+{
+    match limit {
+        Limit::Budget(blocks) => u64::from(blocks),
+        Limit::Passing(passes) => u64::from(passes) * u64::from(longest),
+    }
+}
+
 /// The configuration of these settings.
 fn configured(limits: Limits, units: &ArrayVec<Unit, 16>) -> Result<Config, Cause>
     requires { IsUnitList units.now.items }
@@ -223,7 +264,7 @@ fn configured(limits: Limits, units: &ArrayVec<Unit, 16>) -> Result<Config, Caus
     };
     match Config::new(
         limits.credits,
-        limits.passing,
+        budget_of(limits.limit, limits.longest),
         limits.longest,
         limits.timeout,
         IDENTIFIER,

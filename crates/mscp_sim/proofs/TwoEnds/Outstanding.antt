@@ -24,12 +24,12 @@ pub both_true : (b d : Bool) → (b && d) ≡ true → (b ≡ true) × (d ≡ tr
 both_true true d e = (refl, e)
 both_true false d e = absurd (false≢true e)
 
-budget : {X : Type 0} (p : X → Bool) (xs : List X) → AllByRecursion (λ x. p x ≡ true) (filter p xs)
-budget p [] = tt
-budget p (x ∷ xs) =
+passes_test : {X : Type 0} (p : X → Bool) (xs : List X) → AllByRecursion (λ x. p x ≡ true) (filter p xs)
+passes_test p [] = tt
+passes_test p (x ∷ xs) =
     let out : (b : Bool) → p x ≡ b → AllByRecursion (λ y. p y ≡ true) (cond b (x ∷ filter p xs) (filter p xs)) =
     λ b. elim b as (λ b. p x ≡ b → AllByRecursion (λ y. p y ≡ true) (cond b (x ∷ filter p xs) (filter p xs)))
-        [ true ↦ λ e. (e, budget p xs) | false ↦ λ e. budget p xs ] in
+        [ true ↦ λ e. (e, passes_test p xs) | false ↦ λ e. passes_test p xs ] in
     out (p x) refl
 
 -- turn j hands over the end of the command i
@@ -81,7 +81,7 @@ outstanding_below talk j = every_kept (λ i. i < j) (is_outstanding talk j) (bef
 
 pub outstanding_are : (talk : Talk) (j : ℕ) → AllByRecursion (λ i. is_outstanding talk j i ≡ true) (outstanding talk j)
 unfolding outstanding
-outstanding_are talk j = budget (is_outstanding talk j) (before j)
+outstanding_are talk j = passes_test (is_outstanding talk j) (before j)
 
 pub outstanding_more : (talk : Talk) (j : ℕ) → outstanding talk (j + 1)
     ≡ filter (λ i. not (ends_now talk j i)) (outstanding talk j) ++ cond (sends (said talk j).heard) (j ∷ []) []

@@ -11,11 +11,11 @@ fn unit(rt: &impl Abort, number: u16) -> Unit {
         .expect(rt, "sizes")
 }
 
-/// A controller of 4 credits, passing limit 2, and transfers of at most 8 blocks, with units 0 and 300.
+/// A controller of 4 credits, a budget of 16 blocks, and transfers of at most 8 blocks, with units 0 and 300.
 fn config(rt: &impl Abort) -> Config {
     let units = [unit(rt, 0), unit(rt, 300)];
     let units = Units::new(&units).ok().expect(rt, "two units");
-    Config::new(4, 2, 8, 60, 1, units).ok().expect(rt, "limits")
+    Config::new(4, 16, 8, 60, 1, units).ok().expect(rt, "limits")
 }
 
 /// The talk of these turns.
