@@ -49,7 +49,7 @@ static uint32_t from_rattle(const struct load *load)
 /* A controller of these units, each online. */
 static struct mscp *fresh(const struct load *load)
 {
-    static const struct mscp_limits limits = {.id = 1, .credits = 64, .passing = 2, .longest = 8, .timeout = 60};
+    static const struct mscp_limits limits = {.id = 1, .credits = 64, .budget = 16, .longest = 8, .timeout = 60};
     struct mscp_unit units[MSCP_UNITS_MAX];
     struct mscp *mscp = mscp_in_memory(&room, sizeof room);
     struct mscp_sent sent;

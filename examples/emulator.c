@@ -41,7 +41,7 @@ static uint32_t blocks_of(FILE *image)
 static struct mscp *make_controller(uint32_t blocks)
 {
     const struct mscp_unit unit = {.id = 1, .size = blocks, .serial = 1, .track = 4, .group = 2, .cylinder = 1};
-    const struct mscp_limits limits = {.id = 1, .credits = EMULATOR_CREDITS, .passing = 4, .longest = 128, .timeout = 60};
+    const struct mscp_limits limits = {.id = 1, .credits = EMULATOR_CREDITS, .budget = 512, .longest = 128, .timeout = 60};
     size_t length = MSCP_HEAD + mscp_size();
     void *memory = malloc(length);
     if (mscp_init(mscp_in_memory(memory, length), &limits, &unit, 1, MSCP_SWEEP) == MSCP_DONE)

@@ -89,7 +89,7 @@ enum mscp_status {
     MSCP_BAD_CREDITS = -28,   /* the credits aren't 2 to 64 */
     MSCP_BAD_LONGEST = -29,   /* the longest transfer isn't 1 to 8388608 blocks */
     MSCP_BAD_TIMEOUT = -30,   /* the timeout isn't 1 to 255 seconds */
-    MSCP_BAD_BOUND = -31      /* (credits - 1 + passing) * longest doesn't fit 32 bits */
+    MSCP_BAD_BOUND = -31      /* (credits - 1) * longest + budget doesn't fit 32 bits */
 };
 
 /* Which of the commands that may start is started. */
@@ -126,11 +126,12 @@ struct mscp_unit {
     uint16_t cylinder; /* in groups */
 };
 
-/* The limits of a controller: no command waits for more than (credits - 1 + passing) * longest steps. */
+/* The limits of a controller: no command waits for more than (credits - 1) * longest + budget steps. A limit of so many
+ * passes is a budget of (uint64_t)passes * longest. */
 struct mscp_limits {
     uint64_t id;      /* of the controller, which the host is told */
+    uint64_t budget;  /* by how many blocks a waiting command may be passed by later ones */
     uint32_t credits; /* commands that wait and ends that weren't taken, together: 2 to 64 */
-    uint32_t passing; /* how often a waiting command may be passed by a later one */
     uint32_t longest; /* the longest transfer in blocks: 1 to 8388608 */
     uint16_t timeout; /* in seconds, which the host is told: 1 to 255 */
 };
@@ -439,7 +440,7 @@ static inline const char *mscp_status_text(int64_t status)
     case MSCP_BAD_CREDITS: return "credits that aren't 2 to 64";
     case MSCP_BAD_LONGEST: return "a longest transfer that isn't 1 to 8388608 blocks";
     case MSCP_BAD_TIMEOUT: return "a timeout that isn't 1 to 255 seconds";
-    case MSCP_BAD_BOUND: return "(credits - 1 + passing) * longest doesn't fit 32 bits";
+    case MSCP_BAD_BOUND: return "(credits - 1) * longest + budget doesn't fit 32 bits";
     default: return "unknown status";
     }
 }

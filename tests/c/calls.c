@@ -3,7 +3,7 @@
 #include "trying.h"
 
 static const struct mscp_unit UNIT = {1, 1000, 0, 1, 0, 10, 2, 1};
-static const struct mscp_limits LIMITS = {1, 4, 2, 8, 60};
+static const struct mscp_limits LIMITS = {1, 16, 4, 8, 60};
 
 /* ---- inits */
 
@@ -32,13 +32,18 @@ static void inits_of_wrong_numbers(void)
         struct mscp_limits limits;
         int32_t status;
     } cases[] = {
-        {{1, 1, 2, 8, 60}, MSCP_BAD_CREDITS},         {{1, 65, 2, 8, 60}, MSCP_BAD_CREDITS},
-        {{1, 4, 2, 0, 60}, MSCP_BAD_LONGEST},         {{1, 4, 2, 8388609, 60}, MSCP_BAD_LONGEST},
-        {{1, 4, 2, 8, 0}, MSCP_BAD_TIMEOUT},          {{1, 4, 2, 8, 256}, MSCP_BAD_TIMEOUT},
-        {{1, 4, 4294967295u, 8, 60}, MSCP_BAD_BOUND}, {{1, 0, 0, 0, 0}, MSCP_BAD_CREDITS},
+        {{1, 16, 1, 8, 60}, MSCP_BAD_CREDITS},         {{1, 16, 65, 8, 60}, MSCP_BAD_CREDITS},
+        {{1, 16, 4, 0, 60}, MSCP_BAD_LONGEST},         {{1, 16, 4, 8388609, 60}, MSCP_BAD_LONGEST},
+        {{1, 16, 4, 8, 0}, MSCP_BAD_TIMEOUT},          {{1, 16, 4, 8, 256}, MSCP_BAD_TIMEOUT},
+        {{1, 4294967272u, 4, 8, 60}, MSCP_BAD_BOUND},  {{1, UINT64_MAX, 4, 8, 60}, MSCP_BAD_BOUND},
+        {{1, 4294967296u, 4, 8, 60}, MSCP_BAD_BOUND},  {{1, 0, 0, 0, 0}, MSCP_BAD_CREDITS},
     };
     for (size_t i = 0; i < COUNT(cases); i++)
         is("limits", mscp_init(mscp, &cases[i].limits, &UNIT, 1, MSCP_SWEEP), cases[i].status);
+    struct mscp_limits largest = LIMITS;
+    largest.budget = 4294967271u; /* 3 * 8 less than 2^32 - 1 */
+    is("the largest bound", mscp_init(mscp, &largest, &UNIT, 1, MSCP_SWEEP), MSCP_DONE);
+    mscp = mscp_in_memory(memory, size);
     is("after all of them", mscp_init(mscp, &LIMITS, &UNIT, 1, MSCP_SWEEP), MSCP_DONE);
     is("twice", mscp_init(mscp, &LIMITS, &UNIT, 1, MSCP_SWEEP), MSCP_MADE);
     free(memory);

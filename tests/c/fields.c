@@ -8,11 +8,11 @@ static const struct mscp_unit UNITS[2] = {
     {.id = UINT64_C(0x1112131415161718), .size = 90000, .media = 0x21222324, .serial = 0x31323334, .number = 0x4142,
      .track = 53, .group = 7, .cylinder = 3},
 };
-/* What waits may be passed by 400 transfers of 8388608 blocks each. */
+/* What waits may be passed by 3355443200 blocks. */
 static const struct mscp_limits LIMITS = {
-    .id = UINT64_C(0x8182838485868788), .credits = 64, .passing = 400, .longest = 8388608, .timeout = 161,
+    .id = UINT64_C(0x8182838485868788), .budget = 3355443200u, .credits = 64, .longest = 8388608, .timeout = 161,
 };
-static const uint32_t FIGURE = 3355443202u; /* 400 * 8388608, and the two blocks of the command's own */
+static const uint32_t FIGURE = 3355443202u; /* the budget, and the two blocks of the command's own */
 
 static uint64_t memory[(MSCP_HEAD + MSCP_SIZE) / sizeof(uint64_t)];
 static uint64_t host_memory[(MSCP_HEAD + MSCP_HOST_SIZE) / sizeof(uint64_t)];

@@ -4,7 +4,7 @@
 #include <stdbool.h>
 
 static const struct mscp_unit UNIT = {1, 1000, 0, 1, 0, 10, 2, 1};
-static const struct mscp_limits LIMITS = {1, 4, 2, 8, 60};
+static const struct mscp_limits LIMITS = {1, 16, 4, 8, 60};
 
 static int32_t init(struct mscp *mscp)
 {

@@ -21,7 +21,7 @@ static unsigned char stack[1 << 16];
 static ucontext_t home, there;
 static struct mscp *mscp;
 static struct mscp_host *host;
-static const struct mscp_limits LIMITS = {1, 64, 2, 8, 60};
+static const struct mscp_limits LIMITS = {1, 16, 64, 8, 60};
 static struct mscp_unit units[16];
 static volatile int64_t answered; /* by the last call */
 

@@ -13,8 +13,8 @@ use mscp_memory::{Policy, RoomFault};
 #[derive(Clone, Copy)]
 pub struct Limits {
     pub id: u64,
+    pub budget: u64,
     pub credits: u32,
-    pub budget: u32,
     pub longest: u32,
     pub timeout: u16,
 }

@@ -23,7 +23,7 @@ fn controller<K: Picker>(rt: &impl Abort, picker: K) -> Controller<K> {
     let units = Units::new(&[unit])
         .ok()
         .expect(rt, "1 to 16 units, numbers that rise");
-    let config = Config::new(4, 2, 8, 60, 1, units)
+    let config = Config::new(4, 16, 8, 60, 1, units)
         .ok()
         .expect(rt, "limits that a controller can keep");
     Controller::new(config, picker)

@@ -18,7 +18,7 @@ fn controller(rt: &impl Abort) -> Controller<Newest> {
     let units = Units::new(&[unit(rt, 0), unit(rt, 1), unit(rt, 2), unit(rt, 3)])
         .ok()
         .expect(rt, "numbers that rise");
-    let config = Config::new(64, 3, 8, 60, 1, units)
+    let config = Config::new(64, 24, 8, 60, 1, units)
         .ok()
         .expect(rt, "limits");
     Controller::new(config, Newest)

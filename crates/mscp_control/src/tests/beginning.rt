@@ -282,7 +282,7 @@ fn full<K: Picker>(rt: &impl Abort, picker: K) -> Controller<K> {
     let units = Units::new(&[zero, one, two, three])
         .ok()
         .expect(rt, "numbers that rise");
-    let config = Config::new(64, 3, 8, 60, 1, units)
+    let config = Config::new(64, 24, 8, 60, 1, units)
         .ok()
         .expect(rt, "limits");
     let mut controller = Controller::new(config, picker);
