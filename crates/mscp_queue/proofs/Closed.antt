@@ -50,23 +50,23 @@ closed_lets true seen fenced false f s = rw (f refl) refl
 closed_open : (passing : ℕ) (ds : List Drive) (front : List Record) (f : Front) (r : Record) → length ds ≤ 16
     → IsFront passing ds front f → is_closed f (length ds) ≡ true
     → is_known (units_of ds) r.command.unit ≡ true
-        → AllByRecursion (λ z. is_known (units_of ds) z.command.unit ≡ true) front → is_open passing r front ≡ false
+    → AllByRecursion (λ z. is_known (units_of ds) z.command.unit ≡ true) front → is_open passing r front ≡ false
 closed_open passing ds front f r few h closed known each =
     let at = drive_place ds r.command.unit in
     let inside : at < length ds = known_inside ds r.command.unit known in
     let all : (b : Bool) → f.affordable ≡ b → (not b || list_all (λ x. x) (take (length ds) f.fenced)) ≡ true → b ≡ true
-        → get_or f.fenced at false ≡ true =
+    → get_or f.fenced at false ≡ true =
     λ b. elim b as (λ b. f.affordable ≡ b → (not b || list_all (λ x. x) (take (length ds) f.fenced)) ≡ true → b ≡ true
-        → get_or f.fenced at false ≡ true) [
+    → get_or f.fenced at false ≡ true) [
       | true ↦ λ e k t. set_at f.fenced (length ds) at inside (omega (arith, h.many_fenced)) k
       | false ↦ λ e k t. absurd (false≢true t)
     ] in
     let seen : get_or f.fenced at false ≡ true → get_or f.seen at false ≡ true =
     λ e. h.seen at (omega arith) ∙ any_weaker (is_of ds at) (λ z. is_sequential z.command.order) front
-        (sym (h.fenced at (omega arith)) ∙ e) in
+    (sym (h.fenced at (omega arith)) ∙ e) in
     sym (let_is passing ds front f r (fresh_drive one_block) h (omega arith) known each)
     ∙ closed_lets f.affordable (get_or f.seen at false) (get_or f.fenced at false) (is_sequential r.command.order)
-        (all f.affordable refl closed) seen
+    (all f.affordable refl closed) seen
 
 -- ---- nor do more of them
 
@@ -79,7 +79,7 @@ open_kept : (passing : ℕ) (r : Record) (rs : List Record) (place : ℕ) → is
     → is_open passing r (take (place + 1) rs) ≡ false
 open_kept passing r rs place h =
     both_kept (is_free r (take place rs)) (is_affordable passing r (take place rs)) (is_free r (take (place + 1) rs))
-        (is_affordable passing r (take (place + 1) rs))
+    (is_affordable passing r (take (place + 1) rs))
     (list_all_kept _ rs place) (list_all_kept _ rs place) h
 
 -- the places found are all that there are up to a place, and nobody from there on may start
@@ -91,13 +91,13 @@ shut_more : (passing : ℕ) (ds : List Drive) (rs : List Record) (place : ℕ) (
     → AllInside ds rs → Shut passing ds rs place places → Shut passing ds rs (place + 1) places
 shut_more passing ds rs place places l inside h =
     let one : filter (is_open_at passing rs) (place ∷ []) ≡ [] =
-        rw (h.shut (record_at rs place) (inside place no_record l).0) refl in
+    rw (h.shut (record_at rs place) (inside place no_record l).0) refl in
     record {
       opens =
           h.opens ∙ (sym (append-nil (filter (is_open_at passing rs) (range_with_len 0 place)))
           ∙ (ap (λ ps. filter (is_open_at passing rs) (range_with_len 0 place) ++ ps) (sym one)
           ∙ (sym (filter-append (is_open_at passing rs) (range_with_len 0 place) (place ∷ []))
-              ∙ ap (filter (is_open_at passing rs)) (sym (range_more place)))));
+          ∙ ap (filter (is_open_at passing rs)) (sym (range_more place)))));
       shut = λ r k. open_kept passing r rs place (h.shut r k);
     }
 
@@ -107,7 +107,7 @@ shut_on passing ds rs place zero places e inside h =
     h.opens ∙ ap (λ n. filter (is_open_at passing rs) (range_with_len 0 n)) (omega (arith, e))
 shut_on passing ds rs place (suc k) places e inside h =
     shut_on passing ds rs (place + 1) k places (omega (arith, e)) inside
-        (shut_more passing ds rs place places (omega (arith, e)) inside h)
+    (shut_more passing ds rs place places (omega (arith, e)) inside h)
 
 -- so where they let nobody start, all that may start were found
 pub found_closed : (passing : ℕ) (ds : List Drive) (rs : List Record) (place : ℕ) (f : Front) (places : List ℕ)
@@ -116,7 +116,7 @@ pub found_closed : (passing : ℕ) (ds : List Drive) (rs : List Record) (place :
 found_closed passing ds rs place f places choices few l inside closed h =
     let known : All (λ z. is_known (units_of ds) z.command.unit ≡ true) rs = λ i other k. (inside i other k).0 in
     let each = recursion_from_All (λ z. is_known (units_of ds) z.command.unit ≡ true) (take place rs)
-        (All-take (λ z. is_known (units_of ds) z.command.unit ≡ true) place rs known) in
+    (All-take (λ z. is_known (units_of ds) z.command.unit ≡ true) place rs known) in
     shut_on passing ds rs place (length rs - place) places (omega arith) inside
     (record { opens = h.opens; shut = λ r k. closed_open passing ds (take place rs) f r few h.front closed k each })
 

@@ -45,7 +45,7 @@ all_free passing r (z ∷ zs) s h =
     let same = nat_eq z.command.unit r.command.unit in
     ap (λ b. not (same && (b || is_sequential r.command.order)) && is_free r zs) own
     ∙ (ap (λ b. not (same && b) && is_free r zs) s
-        ∙ (ap (λ b. not b && is_free r zs) (unfenced same) ∙ all_free passing r zs s h.1))
+    ∙ (ap (λ b. not b && is_free r zs) (unfenced same) ∙ all_free passing r zs s h.1))
 
 all_affordable : (passing : ℕ) (r : Record) (front : List Record) → ArePassable passing front
     → is_affordable passing r front ≡ true
@@ -53,7 +53,7 @@ all_affordable passing r [] h = refl
 all_affordable passing r (z ∷ zs) h =
     let own = ltb-true z.passes passing (and_parts (is_move z.command.order) (nat_lt z.passes passing) h.0).1 in
     ap (λ b. b && is_affordable passing r zs) (le-leb (z.passes + 1) passing (omega (arith, own)))
-        ∙ all_affordable passing r zs h.1
+    ∙ all_affordable passing r zs h.1
 
 opens_at : (passing : ℕ) (rs : List Record) (place : ℕ) → ArePassable passing rs → place < length rs
     → is_open_at passing rs place ≡ true
@@ -62,17 +62,17 @@ opens_at passing rs place h l =
     let P : Record → Type 0 = λ z. is_passable passing z ≡ true in
     let all = All-from_recursion P rs h in
     let own = not_sequential r.command.order (and_parts (is_move r.command.order) (nat_lt r.passes passing)
-        (all place no_record l)).0 in
+    (all place no_record l)).0 in
     let front = recursion_from_All P (take place rs) (All-take P place rs all) in
     ap (λ b. b && is_affordable passing r (take place rs)) (all_free passing r (take place rs) own front)
-        ∙ all_affordable passing r (take place rs) front
+    ∙ all_affordable passing r (take place rs) front
 
 pub all_open : (passing : ℕ) (rs : List Record) → list_all (is_passable passing) rs ≡ true
     → open_places passing rs ≡ range_with_len 0 (length rs)
 all_open passing rs h =
     filter_all (is_open_at passing rs) (range_with_len 0 (length rs))
     (every_weaker (λ k. (0 ≤ k) × (k < 0 + length rs)) (λ k. is_open_at passing rs k ≡ true)
-        (λ k b. opens_at passing rs k (every_of (is_passable passing) rs h) (omega arith))
+    (λ k b. opens_at passing rs k (every_of (is_passable passing) rs h) (omega arith))
     (range_with_len 0 (length rs)) (range_below 0 (length rs)))
 
 -- ---- the oldest tells it for all
@@ -83,7 +83,7 @@ sequential_not_passable : (passing : ℕ) (r : Record) → is_sequential r.comma
 sequential_not_passable passing r s =
     let both : (b : Bool) → is_move r.command.order ≡ b → (b && nat_lt r.passes passing) ≡ false =
     λ b. elim b as (λ b. is_move r.command.order ≡ b → (b && nat_lt r.passes passing) ≡ false)
-        [ true ↦ λ m. absurd (false≢true (sym (not_sequential r.command.order m) ∙ s)) | false ↦ λ m. refl ] in
+    [ true ↦ λ m. absurd (false≢true (sym (not_sequential r.command.order m) ∙ s)) | false ↦ λ m. refl ] in
     both (is_move r.command.order) refl
 
 pub some_sequential : (passing : ℕ) (rs : List Record) → 0 < sequential_count rs
@@ -91,7 +91,7 @@ pub some_sequential : (passing : ℕ) (rs : List Record) → 0 < sequential_coun
 some_sequential passing [] h = absurd (omega (arith, h))
 some_sequential passing (r ∷ rs) h =
     let Goal : Bool → Type 0 = λ b. is_sequential r.command.order ≡ b
-        → (is_passable passing r && list_all (is_passable passing) rs) ≡ false in
+    → (is_passable passing r && list_all (is_passable passing) rs) ≡ false in
     let both : (b : Bool) → Goal b =
     λ b. elim b as Goal [
       | true ↦ λ e. ap (λ b. b && list_all (is_passable passing) rs) (sequential_not_passable passing r e)
@@ -108,16 +108,16 @@ no_sequential : (passing top : ℕ) (rs : List Record) → sequential_count rs �
 no_sequential passing top [] h w l m = refl
 no_sequential passing top (r ∷ rs) h w l m =
     let Goal : Bool → Type 0 = λ b. is_sequential r.command.order ≡ b
-        → (is_passable passing r && list_all (is_passable passing) rs) ≡ true in
+    → (is_passable passing r && list_all (is_passable passing) rs) ≡ true in
     let count = sum_by-cons one_if r rs in
     let both : (b : Bool) → Goal b =
     λ b. elim b as Goal [
       | true ↦ λ e. absurd (omega (arith, h, count, ap {B = ℕ} (λ b. cond b 1 0) e))
       | false ↦ λ e.
           ap (λ b. (b && nat_lt r.passes passing) && list_all (is_passable passing) rs)
-              (ap (λ b. b || is_move r.command.order) (sym e) ∙ w.0)
+          (ap (λ b. b || is_move r.command.order) (sym e) ∙ w.0)
           ∙ (ap (λ b. b && list_all (is_passable passing) rs) (lt-ltb r.passes passing (omega (arith, l.0, m)))
-              ∙ no_sequential passing top rs (omega (arith, h, count, ap {B = ℕ} (λ b. cond b 1 0) e)) w.1 l.1 m)
+          ∙ no_sequential passing top rs (omega (arith, h, count, ap {B = ℕ} (λ b. cond b 1 0) e)) w.1 l.1 m)
     ] in
     both (is_sequential r.command.order) refl
 
@@ -125,7 +125,7 @@ no_sequential passing top (r ∷ rs) h w l m =
 pub oldest_tells : (passing : ℕ) (rs : List Record) (r : Record) → 0 < length rs → r ≡ get_or rs 0 r
     → sequential_count rs ≡ 0 → ArePassedInOrder rs
     → All (λ z. (is_sequential z.command.order || is_move z.command.order) ≡ true) rs
-        → nat_lt r.passes passing ≡ list_all (is_passable passing) rs
+    → nat_lt r.passes passing ≡ list_all (is_passable passing) rs
 oldest_tells passing [] r l e k o w = absurd (omega (arith, l))
 oldest_tells passing (q ∷ qs) r l e k o w =
     let W : Record → Type 0 = λ z. (is_sequential z.command.order || is_move z.command.order) ≡ true in
@@ -144,8 +144,8 @@ oldest_tells passing (q ∷ qs) r l e k o w =
 pub shown_next : (ds : List Drive) (rs : List Record) (place : ℕ) (choices choices' : List Choice) (choice : Choice)
     → choice ≡ choice_of (drive_at ds rs place) (record_at rs place)
     → choices ≡ choices_at ds rs (range_with_len 0 place) → choices' ≡ choices ++ choice ∷ []
-        → choices' ≡ choices_at ds rs (range_with_len 0 (place + 1))
+    → choices' ≡ choices_at ds rs (range_with_len 0 (place + 1))
 shown_next ds rs place choices choices' choice is shown more =
     let of : ℕ → Choice = λ i. choice_of (drive_at ds rs i) (record_at rs i) in
     more ∙ ((λ i. shown i ++ is i ∷ []) ∙ (sym (map-append of (range_with_len 0 place) (place ∷ []))
-        ∙ ap (choices_at ds rs) (sym (range_more place))))
+    ∙ ap (choices_at ds rs) (sym (range_more place))))

@@ -43,16 +43,16 @@ add_up P L k n before serving free left h b s f l =
 sum_bounded : (passing longest free : ℕ) (rs : List Record) (place : ℕ) → All (IsShort longest) rs → free ≤ passing
     → place < length rs
     → sum_by left_of (take place rs) + sum_by left_of (filter is_in_service (drop (place + 1) rs)) + free * longest
-        + left_of (record_at rs place) ≤ (length rs + passing) * longest
+    + left_of (record_at rs place) ≤ (length rs + passing) * longest
 sum_bounded passing longest free rs place h f l =
     let n : length (take place rs) ≡ place = length-take-le place rs (omega arith) in
     let m : length (drop (place + 1) rs) ≡ length rs - (place + 1) = length-drop (place + 1) rs in
     let front = subst (λ (i : ℕ). sum_by left_of (take place rs) ≤ i * longest) n
-        (sum_small longest (take place rs) (recursion_from_All (IsShort longest) (take place rs)
-        (All-take (IsShort longest) place rs h))) in
+    (sum_small longest (take place rs) (recursion_from_All (IsShort longest) (take place rs)
+    (All-take (IsShort longest) place rs h))) in
     let back = subst (λ (i : ℕ). sum_by left_of (filter is_in_service (drop (place + 1) rs)) ≤ i * longest) m
-        (serving_small longest (drop (place + 1) rs)
-        (recursion_from_All (IsShort longest) (drop (place + 1) rs) (All-drop (IsShort longest) (place + 1) rs h))) in
+    (serving_small longest (drop (place + 1) rs)
+    (recursion_from_All (IsShort longest) (drop (place + 1) rs) (All-drop (IsShort longest) (place + 1) rs h))) in
     add_up passing longest place (length rs) _ _ free _ l front back f (h place no_record l)
 
 -- so it fits 32 bits
@@ -80,7 +80,7 @@ entry_at passing longest rs place = ((record_at rs place).command.reference, fig
 -- the figures of one more place
 pub figures_more : (passing longest : ℕ) (rs : List Record) (n : ℕ)
     → figures_from passing longest rs (range_with_len 0 (n + 1)) ≡ figures_from passing longest rs (range_with_len 0 n)
-        ++ ((record_at rs n).command.reference, figure_at passing longest rs n) ∷ []
+    ++ ((record_at rs n).command.reference, figure_at passing longest rs n) ∷ []
 unfolding entry_at
 figures_more passing longest rs n = map-range_with_len_more {X = ℕ × ℕ} (entry_at passing longest rs) 0 n n
     (omega arith)
@@ -96,7 +96,7 @@ before_more rs place before left h f g =
 
 front_when : (r : Record) (rs : List Record) (b : Bool)
     → sum_by left_of (cond b (r ∷ filter is_in_service rs) (filter is_in_service rs)) ≡ cond b (left_of r) 0
-        + sum_by left_of (filter is_in_service rs)
+    + sum_by left_of (filter is_in_service rs)
 front_when r rs true = sum_by-cons left_of r (filter is_in_service rs)
 front_when r rs false = omega arith
 
@@ -104,17 +104,17 @@ front_when r rs false = omega arith
 pub serving_here : (rs : List Record) (place serving own : ℕ) → place < length rs
     → serving ≡ sum_by left_of (filter is_in_service (drop place rs))
     → own ≡ left_if_serving (record_at rs place) → serving ≡ own
-        + sum_by left_of (filter is_in_service (drop (place + 1) rs))
+    + sum_by left_of (filter is_in_service (drop (place + 1) rs))
 serving_here rs place serving own h f g =
     let here : drop place rs ≡ record_at rs place ∷ drop (place + 1) rs = drop_more rs place no_record h in
     let all : serving ≡ sum_by left_of (filter is_in_service (record_at rs place ∷ drop (place + 1) rs)) =
-        f ∙ ap (λ xs. sum_by left_of (filter is_in_service xs)) here in
+    f ∙ ap (λ xs. sum_by left_of (filter is_in_service xs)) here in
     all ∙ front_when (record_at rs place) (drop (place + 1) rs) (is_in_service (record_at rs place))
-        ∙ ap (λ (k : ℕ). k + sum_by left_of (filter is_in_service (drop (place + 1) rs))) (sym g)
+    ∙ ap (λ (k : ℕ). k + sum_by left_of (filter is_in_service (drop (place + 1) rs))) (sym g)
 
 -- so without that record's there is left what there is after it
 pub serving_more : (rs : List Record) (place serving own : ℕ) → place < length rs
     → serving ≡ sum_by left_of (filter is_in_service (drop place rs))
     → own ≡ left_if_serving (record_at rs place) → serving - own
-        ≡ sum_by left_of (filter is_in_service (drop (place + 1) rs))
+    ≡ sum_by left_of (filter is_in_service (drop (place + 1) rs))
 serving_more rs place serving own h f g = omega (arith, serving_here rs place serving own h f g)

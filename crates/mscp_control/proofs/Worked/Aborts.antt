@@ -31,9 +31,19 @@ in_service =
 pub in_service_legal : IsLegal (settings 5 2) in_service
 unfolding moment collect command_of command is_waiting waiting done good passes_at passes is_free is_startable startable
     figure figure_of is_online head_cylinder head_up answer outcome ends untaken balance outstanding arrival block_of
-in_service_legal = legal_from (settings 5 2) in_service
-    (refl, (by_serving 0 refl refl refl, (refl, (refl,
-    (by_serving 3 refl refl refl, (refl, (refl, (refl, (refl, tt)))))))))
+in_service_legal = legal_from (settings 5 2) in_service (
+  refl,
+  (
+    by_serving 0 refl refl refl,
+    (
+      refl,
+      (
+        refl,
+        (by_serving 3 refl refl refl, (refl, (refl, (refl, (refl, tt))))),
+      ),
+    ),
+  ),
+)
 
 -- Of two reads the second starts first, and is aborted in service. The pass that it made isn't given back: one step is
 -- left for the first, which nobody may pass any more.
@@ -52,9 +62,22 @@ passer =
 pub passer_legal : IsLegal (settings 5 1) passer
 unfolding moment collect command_of command is_waiting waiting done good passes_at passes is_free is_startable startable
     figure figure_of is_online head_cylinder head_up answer outcome ends untaken balance outstanding arrival block_of
-passer_legal = legal_from (settings 5 1) passer (refl,
-    (by_serving 0 refl refl refl, (refl, (refl, (refl,
-    (refl, (by_serving 4 refl refl refl, (refl, (refl, (refl, tt))))))))))
+passer_legal = legal_from (settings 5 1) passer (
+  refl,
+  (
+    by_serving 0 refl refl refl,
+    (
+      refl,
+      (
+        refl,
+        (
+          refl,
+          (refl, (by_serving 4 refl refl refl, (refl, (refl, (refl, tt))))),
+        ),
+      ),
+    ),
+  ),
+)
 
 -- It was passed all the same.
 passer_passed : passes passer 3 ≡ 1
@@ -78,9 +101,22 @@ passed =
 pub passed_legal : IsLegal (settings 5 1) passed
 unfolding moment collect command_of command is_waiting waiting done good passes_at passes is_free is_startable startable
     figure figure_of is_online head_cylinder head_up answer outcome ends untaken balance outstanding arrival block_of
-passed_legal = legal_from (settings 5 1) passed (refl,
-    (by_serving 0 refl refl refl, (refl, (refl, (refl,
-    (by_serving 4 refl refl refl, (refl, (refl, (refl, (refl, tt))))))))))
+passed_legal = legal_from (settings 5 1) passed (
+  refl,
+  (
+    by_serving 0 refl refl refl,
+    (
+      refl,
+      (
+        refl,
+        (
+          refl,
+          (by_serving 4 refl refl refl, (refl, (refl, (refl, (refl, tt))))),
+        ),
+      ),
+    ),
+  ),
+)
 
 -- An ABORT and a poll of a number of which nothing waits.
 abbrev pub nobody : Trace
@@ -113,5 +149,7 @@ fence =
 pub fence_legal : IsLegal (settings 5 2) fence
 unfolding moment collect command_of command is_waiting waiting done good passes_at passes is_free is_startable startable
     figure figure_of is_online head_cylinder head_up answer outcome ends untaken balance outstanding arrival block_of
-fence_legal = legal_from (settings 5 2) fence (refl,
-    (by_serving 0 refl refl refl, (refl, (refl, (refl, (refl, (refl, (refl, (refl, (refl, tt))))))))))
+fence_legal = legal_from (settings 5 2) fence (
+  refl,
+  (by_serving 0 refl refl refl, (refl, (refl, (refl, (refl, (refl, (refl, (refl, (refl, tt))))))))),
+)

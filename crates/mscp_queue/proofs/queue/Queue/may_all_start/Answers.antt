@@ -14,9 +14,9 @@ returns-then-self-eq0 g c =
     let r = c.index-deref-0.result in
     ap (λ n. nat_lt n q.passing) c.passes.ensures
     ∙ (oldest_tells q.passing rs r (subst (λ (l : Line K). 0 < length l.waiting) (sym c.self.view_is) c.requires)
-        (c.index-deref-0.is ∙ ap (λ zs. get_or zs 0 r) c.deref.ensures.0)
+    (c.index-deref-0.is ∙ ap (λ zs. get_or zs 0 r) c.deref.ensures.0)
     (sym c.self.invariant.counted ∙ c.if-self-eq0.true) c.self.invariant.order
-        (λ i other l. (c.self.invariant.held.each i other l).waitable.order)
+    (λ i other l. (c.self.invariant.held.each i other l).waitable.order)
     ∙ ap (λ (l : Line K). list_all (is_passable l.passing) l.waiting) c.self.view_is)
 
 pub returns-else-self-eq0 : goal.returns-else-self-eq0

@@ -13,23 +13,23 @@ pub returns-in_err-passing-clause-leads : goal.returns-in_err-passing-clause-lea
 returns-in_err-passing-clause-leads c =
     let p = err_from_is_err_and c.from_residual-in_err-passing.result c.from_residual-in_err-passing.ensures.1 in
     rw (p.1, p.2) (c.in_ok-credits.ensures.leads Begins HasCredits sets_credits
-        ∙ c.in_err-passing.ensures.leads _ _ (sets_passing c.in_ok-credits.credits))
+    ∙ c.in_err-passing.ensures.leads _ _ (sets_passing c.in_ok-credits.credits))
 
 pub returns-in_err-longest-clause-leads : goal.returns-in_err-longest-clause-leads
 returns-in_err-longest-clause-leads c =
     let p = err_from_is_err_and c.from_residual-in_err-longest.result c.from_residual-in_err-longest.ensures.1 in
     rw (p.1, p.2) (c.in_ok-credits.ensures.leads Begins HasCredits sets_credits
-        ∙ c.in_ok-passing.ensures.leads _ _ (sets_passing c.in_ok-credits.credits)
-        ∙ c.in_err-longest.ensures.leads _ _ (sets_longest c.in_ok-credits.credits c.in_ok-passing.passing))
+    ∙ c.in_ok-passing.ensures.leads _ _ (sets_passing c.in_ok-credits.credits)
+    ∙ c.in_err-longest.ensures.leads _ _ (sets_longest c.in_ok-credits.credits c.in_ok-passing.passing))
 
 pub returns-in_err-timeout-clause-leads : goal.returns-in_err-timeout-clause-leads
 returns-in_err-timeout-clause-leads c =
     let p = err_from_is_err_and c.from_residual-in_err-timeout.result c.from_residual-in_err-timeout.ensures.1 in
     rw (p.1, p.2) (c.in_ok-credits.ensures.leads Begins HasCredits sets_credits
-        ∙ c.in_ok-passing.ensures.leads _ _ (sets_passing c.in_ok-credits.credits)
-        ∙ c.in_ok-longest.ensures.leads _ _ (sets_longest c.in_ok-credits.credits c.in_ok-passing.passing)
-        ∙ c.in_err-timeout.ensures.leads _ _ (sets_timeout c.in_ok-credits.credits c.in_ok-passing.passing
-        c.in_ok-longest.longest))
+    ∙ c.in_ok-passing.ensures.leads _ _ (sets_passing c.in_ok-credits.credits)
+    ∙ c.in_ok-longest.ensures.leads _ _ (sets_longest c.in_ok-credits.credits c.in_ok-passing.passing)
+    ∙ c.in_err-timeout.ensures.leads _ _ (sets_timeout c.in_ok-credits.credits c.in_ok-passing.passing
+    c.in_ok-longest.longest))
 
 pub returns-clause-leads : goal.returns-clause-leads
 returns-clause-leads c =
@@ -37,4 +37,4 @@ returns-clause-leads c =
     ∙ c.in_ok-passing.ensures.leads _ _ (sets_passing c.in_ok-credits.credits)
     ∙ c.in_ok-longest.ensures.leads _ _ (sets_longest c.in_ok-credits.credits c.in_ok-passing.passing)
     ∙ c.in_ok-timeout.ensures.leads _ _ (sets_timeout c.in_ok-credits.credits c.in_ok-passing.passing
-        c.in_ok-longest.longest)
+    c.in_ok-longest.longest)
