@@ -39,7 +39,7 @@ parts false y e = (e, absurd (false≢true e))
 step : (v : UnitIn) (us : List UnitIn) → rises_above v.number us ≡ true → (i : ℕ) (u : Shape)
     → i + 1 < length (map unit_given (v ∷ us))
     → (slice_index_or (map unit_given (v ∷ us)) i u).number
-        < (slice_index_or (map unit_given (v ∷ us)) (i + 1) u).number
+    < (slice_index_or (map unit_given (v ∷ us)) (i + 1) u).number
 step v [] t i u l = absurd (omega arith)
 step v (w ∷ us) t zero u l = let p = (parts (nat_lt v.number w.number) (rises_above w.number us) t).0 in grind arith
 step v (w ∷ us) t (suc i) u l =

@@ -102,7 +102,7 @@ abbrev pub taken_as : {K : Type 0} → Holdings K → Command → Sent
 taken_as h command =
     if is_queued h.settings command then sents.Queued command.reference
     else sents.Answered command.reference (option_map (λ r. r.command.reference)
-        (record_aborted h.waiting command.order))
+    (record_aborted h.waiting command.order))
 
 -- what is held once this command waits
 abbrev pub queued : {K : Type 0} → Holdings K → Command → Holdings K
@@ -125,7 +125,7 @@ aborting h order = record h {
 abbrev pub answered_end : {K : Type 0} → Holdings K → Command → End
 answered_end h command =
     own_end h.settings (drive_of h.drives command.unit).online (figure_polled h.settings h.waiting command.order)
-        command
+    command
 
 -- what is held after the command: the end of one that it aborts stands before its own (manual)
 abbrev pub arrives : {K : Type 0} → Holdings K → Command → Holdings K

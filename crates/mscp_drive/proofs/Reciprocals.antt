@@ -29,7 +29,7 @@ high_small : (n b m q : ℕ) → n < 4294967296 → b ≤ 4294967296 → n < q *
     → n * m < q * whole + whole
 high_small n b m q few small over k =
     let spare : n * (b - 1) ≤ 4294967295 * 4294967295 =
-        mul-le n (b - 1) 4294967295 4294967295 (omega arith) (omega arith) in
+    mul-le n (b - 1) 4294967295 4294967295 (omega arith) (omega arith) in
     let product : n * (m * b) ≤ n * (whole + (b - 1)) = mul-le-mul_left n k in
     let next : (n + 1) * whole ≤ (q * b + b) * whole = mul-le-mul_right whole (omega arith) in
     let all : b * (n * m) < b * (q * whole + whole) = grind (arith, spare, product, next) in
@@ -41,9 +41,9 @@ high_large : (n b r q : ℕ) → n < 4294967296 → 4294967296 < b → r * b ≤
 high_large n b r q few large k =
     let tiny : r < 4294967296 =
     ⊎_elim (λ below. below) (λ above. let all : 4294967296 * 4294967297 ≤ r * b =
-        mul-le 4294967296 4294967297 r b above (omega arith) in absurd (omega (arith, all))) (cases_lt r 4294967296) in
+    mul-le 4294967296 4294967297 r b above (omega arith) in absurd (omega (arith, all))) (cases_lt r 4294967296) in
     let product : n * (r + 1) ≤ 4294967295 * 4294967296 =
-        mul-le n (r + 1) 4294967295 4294967296 (omega arith) (omega arith) in
+    mul-le n (r + 1) 4294967295 4294967296 (omega arith) (omega arith) in
     omega (arith, product)
 
 high : (n b q : ℕ) → n < 4294967296 → 0 < b → n < q * b + b → n * (reciprocal_of b + 1) < q * whole + whole
@@ -55,7 +55,7 @@ pub divides : (n b : ℕ) → n < 4294967296 → 0 < b → n * (reciprocal_of b 
 divides n b few some =
     let q = n / b in
     let from : q * whole ≤ n * (reciprocal_of b + 1) =
-        low n b (reciprocal_of b + 1) q (div-mul-le_self n b) (covers b some) in
+    low n b (reciprocal_of b + 1) q (div-mul-le_self n b) (covers b some) in
     let to : n * (reciprocal_of b + 1) < q * whole + whole = high n b q few some (lt-div-mul-add some) in
     let rest = n * (reciprocal_of b + 1) - q * whole in
     let sum : n * (reciprocal_of b + 1) ≡ q * whole + rest = omega (arith, from) in

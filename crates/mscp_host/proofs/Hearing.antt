@@ -13,5 +13,5 @@ readable (Err fault) e h = cc
 pub heard_ok : (a : Account) (b : List ℕ) (e : End) (s : Submission) → end_in b ≡ Ok e
     → find (has_reference e.reference) a.outstanding ≡ Some s
     → is_code_of e.code s.opcode ≡ true → is_about_polled a.watch (answered a.watch e) ≡ true
-        → heard a b ≡ (Ok (news_with a e (answered a.watch e)), received a e)
+    → heard a b ≡ (Ok (news_with a e (answered a.watch e)), received a e)
 heard_ok a b e s read found code about = rw (read, found, code, about) refl

@@ -16,23 +16,23 @@ told_now figure s = record s { told = Some figure }
 
 told_cons : (r f : ℕ) (s : Submission) (rest : List Submission) (b : Bool) → has_reference r s ≡ b
     → (position_or_len (has_reference r) rest < length rest
-        → slice_set rest (position_or_len (has_reference r) rest)
-        (told_now f (slice_index_or rest (position_or_len (has_reference r) rest) no_submission)) ≡ with_told r f rest)
+    → slice_set rest (position_or_len (has_reference r) rest)
+    (told_now f (slice_index_or rest (position_or_len (has_reference r) rest) no_submission)) ≡ with_told r f rest)
     → position_or_len (has_reference r) (s ∷ rest) < length (s ∷ rest)
     → slice_set (s ∷ rest) (position_or_len (has_reference r) (s ∷ rest))
-        (told_now f (slice_index_or (s ∷ rest) (position_or_len (has_reference r) (s ∷ rest)) no_submission))
-        ≡ with_told r f (s ∷ rest)
+    (told_now f (slice_index_or (s ∷ rest) (position_or_len (has_reference r) (s ∷ rest)) no_submission))
+    ≡ with_told r f (s ∷ rest)
 told_cons r f s rest true e h l = rw e refl
 told_cons r f s rest false e h l =
     let n = position_or_len (has_reference r) rest in
     let one : suc n ≡ 1 + n = omega arith in
     let less : n < length rest = let k = rw e at l in omega (arith, k) in
     rw e (subst (λ i. slice_set (s ∷ rest) i (told_now f (slice_index_or (s ∷ rest) i no_submission)) ≡ s
-        ∷ with_told r f rest) one (ap (λ xs. s ∷ xs) (h less)))
+    ∷ with_told r f rest) one (ap (λ xs. s ∷ xs) (h less)))
 
 removed_cons : (r : ℕ) (s : Submission) (rest : List Submission) (b : Bool) → has_reference r s ≡ b
     → (position_or_len (has_reference r) rest < length rest
-        → remove rest (position_or_len (has_reference r) rest) ≡ without r rest)
+    → remove rest (position_or_len (has_reference r) rest) ≡ without r rest)
     → position_or_len (has_reference r) (s ∷ rest) < length (s ∷ rest)
     → remove (s ∷ rest) (position_or_len (has_reference r) (s ∷ rest)) ≡ without r (s ∷ rest)
 removed_cons r s rest true e h l = rw e refl
@@ -44,7 +44,7 @@ removed_cons r s rest false e h l =
 
 told_len : (r f : ℕ) (xs : List Submission) → position_or_len (has_reference r) xs < length xs
     → slice_set xs (position_or_len (has_reference r) xs)
-        (told_now f (slice_index_or xs (position_or_len (has_reference r) xs) no_submission)) ≡ with_told r f xs
+    (told_now f (slice_index_or xs (position_or_len (has_reference r) xs) no_submission)) ≡ with_told r f xs
 told_len r f [] l = absurd (omega (arith, l))
 told_len r f (s ∷ rest) l = told_cons r f s rest (has_reference r s) refl (told_len r f rest) l
 
@@ -58,7 +58,7 @@ removed_len r (s ∷ rest) l = removed_cons r s rest (has_reference r s) refl (r
 nowhere_cons : (r f : ℕ) (s : Submission) (rest : List Submission) (b : Bool) → has_reference r s ≡ b
     → (length rest ≤ position_or_len (has_reference r) rest → (with_told r f rest ≡ rest) × (without r rest ≡ rest))
     → length (s ∷ rest) ≤ position_or_len (has_reference r) (s ∷ rest)
-        → (with_told r f (s ∷ rest) ≡ s ∷ rest) × (without r (s ∷ rest) ≡ s ∷ rest)
+    → (with_told r f (s ∷ rest) ≡ s ∷ rest) × (without r (s ∷ rest) ≡ s ∷ rest)
 nowhere_cons r f s rest true e h l = let k = rw e at l in absurd (omega (arith, k))
 nowhere_cons r f s rest false e h l =
     let k = rw e at l in

@@ -101,8 +101,10 @@ poll_of reference s = record { reference = reference; unit = s.unit; order = ord
 -- what is kept once the poll of a submission was sent: it is outstanding too, and in flight
 abbrev pub watching : Account → ℕ → Submission → Account
 watching a reference s =
-    record (submitted a (poll_of reference s)) { watch =
-        Some (record { reference = reference; polled = s.reference; is_outstanding = true }) }
+    record (submitted a (poll_of reference s)) {
+      watch =
+          Some (record { reference = reference; polled = s.reference; is_outstanding = true });
+    }
 
 -- what is answered to a poll of a submission, and what is kept then: its message, or why it may not be sent, and then
 -- nothing changes

@@ -20,8 +20,10 @@ abbrev pub Fits : Head → Type 0
 Fits w = (w.address < 2 ^ 64) × (w.length < 2 ^ 64) × (w.mark < 2 ^ 64)
 
 pub head_is : (w : Head) → Fits w → Is the_row w (head_val w ∷ [])
-head_is w f = ((vint w64 w.address ∷ [], (vint w64 w.length ∷ [], (vint w64 w.mark ∷ [], tt))),
-    (refl, ((refl, f.0), ((refl, f.1), ((refl, f.2), tt)))))
+head_is w f = (
+  (vint w64 w.address ∷ [], (vint w64 w.length ∷ [], (vint w64 w.mark ∷ [], tt))),
+  (refl, ((refl, f.0), ((refl, f.1), ((refl, f.2), tt)))),
+)
 
 -- it is a value of the type
 pub good : {M : Type 1} {𝓤 : Ura M} (𝓛 : Logic 𝓤) (w : Head) → Fits w

@@ -33,8 +33,8 @@ order_byte None b h = refl
 order_byte (Some o) b h =
     let long = parameter_byte o b ∙ h o refl in
     elim (nat_lt (length b) (least o)) as (λ s. opcode_byte
-        (if s then orders.Invalid (slice_index b 8) invalid_length else parameters o b) ≡ slice_index b 8)
-        [ true ↦ refl | false ↦ long ]
+    (if s then orders.Invalid (slice_index b 8) invalid_length else parameters o b) ≡ slice_index b 8)
+    [ true ↦ refl | false ↦ long ]
 
 pub opcode_kept : (b : List ℕ) (o : Order) → o ≡ order_with (opcode_of (slice_index b 8)) b
     → opcode_byte o ≡ slice_index b 8

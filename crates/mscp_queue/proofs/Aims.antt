@@ -49,14 +49,14 @@ cylinder_within u block h = less_div _ _ (cylinder_blocks u) (omega arith)
 pub aim_made : (ds : List Drive) (command : Command) (place block cylinder : ℕ) (d : Drive)
     → is_known (units_of ds) command.unit ≡ true → place ≡ unit_place (units_of ds) command.unit
     → block ≡ first_block command.order → cylinder ≡ cylinder_of (get_or ds place d).unit block
-        → record { drive = place; cylinder = cylinder } ≡ aim_of (units_of ds) command
+    → record { drive = place; cylinder = cylinder } ≡ aim_of (units_of ds) command
 aim_made ds command place block cylinder d known at first is =
     let drive : get_or ds place d ≡ drive_of ds command.unit =
-        ap (λ i. get_or ds i d) (at ∙ sym (place_same ds command.unit)) ∙ (known_at ds command.unit d known).drive in
+    ap (λ i. get_or ds i d) (at ∙ sym (place_same ds command.unit)) ∙ (known_at ds command.unit d known).drive in
     let unit : (get_or ds place d).unit ≡ unwrap_or (unit_found (units_of ds) command.unit) one_block =
-        ap (λ (q : Drive). q.unit) drive ∙ sym (found_unit command.unit ds) in
+    ap (λ (q : Drive). q.unit) drive ∙ sym (found_unit command.unit ds) in
     let whole : cylinder ≡ cylinder_of (unwrap_or (unit_found (units_of ds) command.unit) one_block)
-        (first_block command.order) =
+    (first_block command.order) =
     is ∙ (λ i. cylinder_of (unit i) (first i)) in
     λ i. record { drive = at i; cylinder = whole i }
 
@@ -89,9 +89,9 @@ pub has_drive : (ds : List Drive) (rs : List Record) (aims : List Aim) (place : 
     → HasDrive ds r at
 has_drive ds rs aims place r at other h l own is =
     let there = is ∙ (ap (λ (a : Aim). a.drive) (own_aim ds rs aims place r other h l own)
-        ∙ sym (place_same ds r.command.unit)) in
+    ∙ sym (place_same ds r.command.unit)) in
     let below = subst (λ k. k < length ds) (sym there)
-        (known_inside ds r.command.unit (own_blocks ds rs aims place r h l own).0) in
+    (known_inside ds r.command.unit (own_blocks ds rs aims place r h l own).0) in
     record { below = below; few = omega (arith, below, h.drives); place = there }
 
 -- its drive, and the cylinder of its first block there
@@ -108,7 +108,7 @@ leads_to ds rs aims place r at other d h l own is found =
     let blocks = own_blocks ds rs aims place r h l own in
     let has = has_drive ds rs aims place r at other h l own is in
     let drive : d ≡ drive_of ds r.command.unit = found
-        ∙ (ap (λ i. get_or ds i d) has.place ∙ (known_at ds r.command.unit d blocks.0).drive) in
+    ∙ (ap (λ i. get_or ds i d) has.place ∙ (known_at ds r.command.unit d blocks.0).drive) in
     record {
       drive = drive ∙ ap (λ (q : Record). drive_of ds q.command.unit) (own ∙ get_or_default rs place r no_record l);
       aimed = record {
@@ -117,7 +117,7 @@ leads_to ds rs aims place r at other d h l own is found =
         cylinder_is =
             ap (λ (a : Aim). a.cylinder) (own_aim ds rs aims place r other h l own)
             ∙ ap (λ (u : Shape). cylinder_of u (first_block r.command.order))
-                (found_unit r.command.unit ds ∙ ap (λ (q : Drive). q.unit) (sym drive));
+            (found_unit r.command.unit ds ∙ ap (λ (q : Drive). q.unit) (sym drive));
       };
     }
 
@@ -130,7 +130,7 @@ aim_removed us rs place =
     let of : Record → Aim = λ q. aim_of us q.command in
     ap (λ zs. zs ++ drop (suc place) (map of rs)) (take-map of place rs)
     ∙ (ap (λ zs. map of (take place rs) ++ zs) (drop-map of (suc place) rs)
-        ∙ sym (map-append of (take place rs) (drop (suc place) rs)))
+    ∙ sym (map-append of (take place rs) (drop (suc place) rs)))
 
 -- a step that ends the command of a record takes its aim out
 pub aims_ended : (us : List Shape) (rs new : List Record) (place toll : ℕ)
@@ -143,7 +143,7 @@ aims_ended us rs new place toll e =
     ∙ (map-append of A (drop (suc place) rs)
     ∙ (ap (λ zs. zs ++ map of (drop (suc place) rs)) (sym (map_map (passed_by toll) of A))
     ∙ (ap (λ k. map of (map (passed_by toll) A) ++ map of (drop k rs)) next
-        ∙ (sym (map-append of (map (passed_by toll) A) (drop (place + 1) rs)) ∙ ap (aims_of us) (sym e)))))
+    ∙ (sym (map-append of (map (passed_by toll) A) (drop (place + 1) rs)) ∙ ap (aims_of us) (sym e)))))
 
 -- and another leaves each aim as it is
 pub aims_kept : (us : List Shape) (rs new : List Record) (place toll : ℕ) → place < length rs
@@ -156,7 +156,7 @@ aims_kept us rs new place toll l e =
     let B = drop (place + 1) rs in
     ap (aims_of us) (cut_at no_record rs place l)
     ∙ (map-append of A (r ∷ B) ∙ (ap (λ zs. zs ++ map of (r ∷ B)) (sym (map_map (passed_by toll) of A))
-        ∙ (sym (map-append of (map (passed_by toll) A) (advanced r ∷ B)) ∙ ap (aims_of us) (sym e))))
+    ∙ (sym (map-append of (map (passed_by toll) A) (advanced r ∷ B)) ∙ ap (aims_of us) (sym e))))
 
 -- a command comes
 pub aims_pushed : (us : List Shape) (rs new : List Record) (aims aims' : List Aim) (command : Command) (aim : Aim)

@@ -14,8 +14,12 @@ All_one P n h = All-from_recursion P (n ∷ []) (h, tt)
 -- the first number alone
 pub least_one : (ns : List ℕ) → 1 ≤ length ns → IsFirstLeast (take 1 ns) 0
 least_one [] l = absurd (omega arith)
-least_one (n ∷ ns) l = record { inside = omega arith; least = All_one (λ m. n ≤ m) n (omega arith); first =
-    All-from_recursion (λ m. n < m) [] tt }
+least_one (n ∷ ns) l = record {
+  inside = omega arith;
+  least = All_one (λ m. n ≤ m) n (omega arith);
+  first =
+      All-from_recursion (λ m. n < m) [] tt;
+}
 
 -- one more number that isn't less
 least_stays : (ns : List ℕ) (n best : ℕ) → get_or ns best 0 ≤ n → IsFirstLeast ns best
@@ -60,8 +64,12 @@ pub record IsBest (view : List Choice) (place best : ℕ) : Type 0 where
   pub none : view ≡ [] → best ≡ 0
 
 pub best_one : (view : List Choice) → IsBest view 1 0
-best_one view = record { below = omega arith; least =
-    λ l. least_one (costs view) (omega (arith, l, length-map view (λ (q : Choice). q.cost))); none = λ e. refl }
+best_one view = record {
+  below = omega arith;
+  least =
+      λ l. least_one (costs view) (omega (arith, l, length-map view (λ (q : Choice). q.cost)));
+  none = λ e. refl;
+}
 
 -- the costs in front, and at the two places
 record Costs (view : List Choice) (place best new kept : ℕ) : Type 0 where

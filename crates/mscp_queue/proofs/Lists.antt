@@ -45,9 +45,9 @@ every_filter P p [] h = tt
 every_filter {X} P p (x ∷ xs) h =
     let rest = every_filter P p xs h.1 in
     let both : (b : Bool) → p x ≡ b → AllByRecursion (λ (y : X). P y × (p y ≡ true))
-        (cond b (x ∷ filter p xs) (filter p xs)) =
+    (cond b (x ∷ filter p xs) (filter p xs)) =
     λ b e. elim b as (λ b. p x ≡ b → AllByRecursion (λ (y : X). P y × (p y ≡ true))
-        (cond b (x ∷ filter p xs) (filter p xs))) [ true ↦ λ e. ((h.0, e), rest) | false ↦ λ e. rest ] e in
+    (cond b (x ∷ filter p xs) (filter p xs))) [ true ↦ λ e. ((h.0, e), rest) | false ↦ λ e. rest ] e in
     both (p x) refl
 
 pub every_mapped : {X Y : Type 0} (f : X → Y) (P : Y → Type 0) (xs : List X) → AllByRecursion P (map f xs)
@@ -61,7 +61,7 @@ fewer p [] = omega arith
 fewer p (x ∷ xs) =
     let rest = fewer p xs in
     elim (p x) as (λ b. length (cond b (x ∷ filter p xs) (filter p xs)) ≤ length (x ∷ xs))
-        [ true ↦ omega arith | false ↦ omega arith ]
+    [ true ↦ omega arith | false ↦ omega arith ]
 
 pub filter_on : {X : Type 0} (p q : X → Bool) (xs : List X) → AllByRecursion (λ x. p x ≡ q x) xs
     → filter p xs ≡ filter q xs
@@ -82,7 +82,7 @@ pub filter_filter : {X : Type 0} (p q : X → Bool) (xs : List X) → filter p (
 filter_filter p q [] = refl
 filter_filter p q (x ∷ xs) =
     elim (q x) as (λ b. filter p (cond b (x ∷ filter q xs) (filter q xs))
-        ≡ cond (b && p x) (x ∷ filter (λ x. q x && p x) xs) (filter (λ x. q x && p x) xs))
+    ≡ cond (b && p x) (x ∷ filter (λ x. q x && p x) xs) (filter (λ x. q x && p x) xs))
     [ true ↦ ap (λ ys. cond (p x) (x ∷ ys) ys) (filter_filter p q xs) | false ↦ filter_filter p q xs ]
 
 pub filter_all : {X : Type 0} (p : X → Bool) (xs : List X) → AllByRecursion (λ x. p x ≡ true) xs → filter p xs ≡ xs
@@ -112,14 +112,20 @@ range_more n = sym (map-id _) ∙ (map-range_with_len_more (λ (x : ℕ). x) 0 n
 
 pub range_below : (a n : ℕ) → AllByRecursion (λ x. (a ≤ x) × (x < a + n)) (range_with_len a n)
 range_below a zero = tt
-range_below a (suc n) = ((omega arith, omega arith), every_weaker (λ x. (a + 1 ≤ x) × (x < a + 1 + n))
-    (λ x. (a ≤ x) × (x < a + suc n)) (λ x h. (omega arith, omega arith)) (range_with_len (a + 1) n)
-    (range_below (a + 1) n))
+range_below a (suc n) = (
+  (omega arith, omega arith),
+  every_weaker (λ x. (a + 1 ≤ x) × (x < a + 1 + n))
+      (λ x. (a ≤ x) × (x < a + suc n)) (λ x h. (omega arith, omega arith)) (range_with_len (a + 1) n)
+      (range_below (a + 1) n),
+)
 
 pub pairs_range : (a n : ℕ) → Pairs ◌<◌ (range_with_len a n)
 pairs_range a zero = tt
-pairs_range a (suc n) = (every_weaker (λ x. (a + 1 ≤ x) × (x < a + 1 + n)) (λ x. a < x) (λ x h. omega arith)
-    (range_with_len (a + 1) n) (range_below (a + 1) n), pairs_range (a + 1) n)
+pairs_range a (suc n) = (
+  every_weaker (λ x. (a + 1 ≤ x) × (x < a + 1 + n)) (λ x. a < x) (λ x h. omega arith)
+      (range_with_len (a + 1) n) (range_below (a + 1) n),
+  pairs_range (a + 1) n,
+)
 
 pub every_kept : {X : Type 0} (P : X → Type 0) (p : X → Bool) → (xs : List X) → AllByRecursion P xs
     → AllByRecursion P (filter p xs)
@@ -129,7 +135,7 @@ pub pairs_filter : {X : Type 0} (R : X → X → Type 0) (p : X → Bool) (xs : 
 pairs_filter R p [] h = tt
 pairs_filter R p (x ∷ xs) h =
     elim (p x) as (λ b. Pairs R (cond b (x ∷ filter p xs) (filter p xs)))
-        [ true ↦ (every_kept (R x) p xs h.0, pairs_filter R p xs h.1) | false ↦ pairs_filter R p xs h.1 ]
+    [ true ↦ (every_kept (R x) p xs h.0, pairs_filter R p xs h.1) | false ↦ pairs_filter R p xs h.1 ]
 
 pub pairs_append : {X : Type 0} (R : X → X → Type 0) (xs : List X) (y : X) → Pairs R xs → AllByRecursion (λ x. R x y) xs
     → Pairs R (xs ++ y ∷ [])

@@ -20,7 +20,7 @@ mapped_more {X} f xs ys i item x e l h k =
     ∙ (ap (λ z. A ++ z ∷ drop (i + 1) xs) (k ∙ ap f same)
     ∙ (sym (append_assoc A (f y ∷ []) (drop (i + 1) xs))
     ∙ ap (λ zs. zs ++ drop (i + 1) xs) (sym (map-append f (take i xs) (y ∷ []))
-        ∙ ap (map f) (sym (take_more xs i item below))))))
+    ∙ ap (map f) (sym (take_more xs i item below))))))
 
 front_length : {X : Type 0} (f : X → X) (i : ℕ) (xs : List X) → i ≤ length xs → length (map f (take i xs)) ≡ i
 front_length f i xs h = length-map (take i xs) f ∙ length-take-le i xs h
@@ -43,7 +43,7 @@ pub removed_at : {X : Type 0} (A : List X) (x : X) (B : List X) (i : ℕ) → le
 removed_at A x B i l =
     ap (λ ys. ys ++ drop (suc i) (A ++ x ∷ B)) (take_at A (x ∷ B) i l)
     ∙ ap (λ ys. A ++ ys) (ap (drop (suc i)) (sym (append_assoc A (x ∷ []) B))
-        ∙ drop_at (A ++ x ∷ []) B (suc i) (omega (arith, length-append A (x ∷ []))))
+    ∙ drop_at (A ++ x ∷ []) B (suc i) (omega (arith, length-append A (x ∷ []))))
 
 -- and it is taken out
 pub behind_removed : {X : Type 0} (f : X → X) (i : ℕ) (xs ys : List X) (x : X) → i < length xs

@@ -37,7 +37,7 @@ none_left (Some xs) (Some ys) (Some zs) all n e h g end = end_list xs all n e (h
 -- a read gave no byte
 pub front_end : (old mid new : Option (List ℕ)) (all buf : List ℕ) (k n : ℕ) → length all ≤ n → Consumes old mid all
     → Consumes mid new (take k buf) → (k ≡ 0 → 0 < length buf → IsAtEnd new) → k ≡ 0 → 0 < length buf
-        → IsFront n old all
+    → IsFront n old all
 front_end old mid new all buf k n e h g end z room =
     none_left old mid new all n e h (subst (λ (j : ℕ). Consumes mid new (take j buf)) z g) (end z room)
 

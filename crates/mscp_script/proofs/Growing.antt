@@ -20,7 +20,7 @@ use Rattle.mscp_script.specs.Text.{Reported, ended_count, entry_lines, queued_co
 pub reported_more : (all : List Entry) (entry : Entry) → with_entry (reported all) entry ≡ reported (all ++ entry ∷ [])
 reported_more all entry =
     let lines : flat_map entry_lines all ++ entry_lines entry ≡ flat_map entry_lines (all ++ entry ∷ []) =
-        flat_map_more entry_lines [] all entry in
+    flat_map_more entry_lines [] all entry in
     let steps = sum_by_push step_count all entry in
     let seeks = sum_by_push seek_of all entry in
     let queued = sum_by_push queued_count all entry in
@@ -88,7 +88,7 @@ pub meets_more : (a b d : Run) (n : ℕ) (e : Event) → Meets a b (replicate n 
 meets_more a b d n e m ran = λ c es runs.
     let more : Runs c ((es ++ replicate n e) ++ e ∷ []) d = runs_more c (es ++ replicate n e) b d e (m c es runs) ran in
     subst (λ all. Runs c all d) (append_assoc es (replicate n e) (e ∷ []) ∙ ap (λ all. es ++ all) (replicate_more n e))
-        more
+    more
 
 -- so far these events came of lines of which this was to become, and so many bytes of them are left
 abbrev pub Going : Settings → Result (Settings × List Event) ScriptFault → Run → ℕ → List ℕ → Type 0

@@ -35,7 +35,7 @@ undecoded : (word bytes : List ℕ) → decode_of word ≡ Ok bytes
 undecoded word bytes e =
     let ok = decode_of-ok word bytes e in
     let digits : list_all is_ascii_hexdigit word ≡ true =
-        same_digits word ∙ list_all-from_AllPass is_hex_digit word ok.1 in
+    same_digits word ∙ list_all-from_AllPass is_hex_digit word ok.1 in
     rw (ok.0, digits) refl
 
 -- a message of over 64 bytes

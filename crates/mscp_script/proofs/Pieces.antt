@@ -20,7 +20,7 @@ parts_after p (x ∷ xs) = slice_split p xs
 split_step : (p : ℕ → Bool) (x : ℕ) (xs : List ℕ) (b : Bool) → p x ≡ b
     → slice_split p xs ≡ take (front_len p xs) xs ∷ parts_after p (drop (front_len p xs) xs)
     → slice_split p (x ∷ xs) ≡ take (front_len p (x ∷ xs)) (x ∷ xs)
-        ∷ parts_after p (drop (front_len p (x ∷ xs)) (x ∷ xs))
+    ∷ parts_after p (drop (front_len p (x ∷ xs)) (x ∷ xs))
 split_step p x xs true e h = rw e refl
 split_step p x xs false e h = rw (e, h) refl
 
@@ -57,9 +57,9 @@ front_len_is p xs = rw (first_is p xs) (index_or (front_len p xs) (length xs) (n
 -- where the part ends, nothing is left or one that passes
 rest_step : (p : ℕ → Bool) (x : ℕ) (xs : List ℕ) (b : Bool) → p x ≡ b
     → filter is_some_word (slice_split p (drop (front_len p xs) xs))
-        ≡ filter is_some_word (parts_after p (drop (front_len p xs) xs))
+    ≡ filter is_some_word (parts_after p (drop (front_len p xs) xs))
     → filter is_some_word (slice_split p (drop (front_len p (x ∷ xs)) (x ∷ xs)))
-        ≡ filter is_some_word (parts_after p (drop (front_len p (x ∷ xs)) (x ∷ xs)))
+    ≡ filter is_some_word (parts_after p (drop (front_len p (x ∷ xs)) (x ∷ xs)))
 rest_step p x xs true e h = rw (e, e) refl
 rest_step p x xs false e h = rw e h
 
@@ -77,7 +77,7 @@ ahead b xs e = ap (filter is_some_word) (split_first (λ b. b == 32) (b ∷ xs))
 
 pub word_ahead : (xs : List ℕ) → 0 < length xs → get_or xs 0 0 ≢ 32
     → words xs ≡ take (unwrap_or (position (λ b. b == 32) xs) (length xs)) xs
-        ∷ words (drop (unwrap_or (position (λ b. b == 32) xs) (length xs)) xs)
+    ∷ words (drop (unwrap_or (position (λ b. b == 32) xs) (length xs)) xs)
 word_ahead [] some other = absurd (omega arith)
 word_ahead (b ∷ xs) some other = rw (front_len_is (λ b. b == 32) (b ∷ xs)) (ahead b xs (grind (arith, nat_tests)))
 
@@ -98,7 +98,7 @@ split_parts p xs (b ∷ line) = refl
 
 lines_after : (line rest : List ℕ) → 0 < length line + length rest
     → without_empty_last (line ∷ parts_after (λ b. b == 10) rest) ≡ line
-        ∷ without_empty_last (slice_split (λ b. b == 10) (drop 1 rest))
+    ∷ without_empty_last (slice_split (λ b. b == 10) (drop 1 rest))
 lines_after [] [] some = absurd (omega arith)
 lines_after (b ∷ line) [] some = refl
 lines_after line (feed ∷ rest) some = split_parts (λ b. b == 10) rest line
@@ -112,7 +112,7 @@ line_cut xs n e some =
 
 pub line_ahead : (xs : List ℕ) → 0 < length xs
     → lines xs ≡ strip_carriage_return (take (unwrap_or (position (λ b. b == 10) xs) (length xs)) xs)
-        ∷ lines (drop 1 (drop (unwrap_or (position (λ b. b == 10) xs) (length xs)) xs))
+    ∷ lines (drop 1 (drop (unwrap_or (position (λ b. b == 10) xs) (length xs)) xs))
 line_ahead xs some = rw (front_len_is (λ b. b == 10) xs) (line_cut xs (front_len (λ b. b == 10) xs) refl some)
 
 pub lines_none : (xs : List ℕ) → length xs ≡ 0 → lines xs ≡ []

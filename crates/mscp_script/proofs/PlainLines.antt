@@ -155,7 +155,7 @@ number_word most w digits some few small = rw digits (grind (arith, nat_tests))
 pub cut_number : (old : List ℕ) (value digits : ℕ) → 0 < length old → get_or old 0 0 ≡ 32
     → IsNumeral value digits (take (length old - 1) (drop 1 old)) → ¬ (digits ≡ 0) → value ≤ 4294967295
     → CutsWord wide value old (take (length (take (length old - 1) (drop 1 old)) - digits)
-        (drop digits (take (length old - 1) (drop 1 old))))
+    (drop digits (take (length old - 1) (drop 1 old))))
 cut_number old value digits some space numeral least small =
     let bytes : List ℕ = take (length old - 1) (drop 1 old) in
     let word : List ℕ = take digits bytes in
@@ -163,11 +163,11 @@ cut_number old value digits some space numeral least small =
     let new : List ℕ = take (length bytes - digits) rest in
     let size : length word ≡ digits = length-take-le digits bytes numeral.within in
     let whole : 32 ∷ (word ++ new) ≡ old = ap (λ xs. 32 ∷ (word ++ xs))
-        (take_all (length bytes - digits) rest (omega (arith, length-drop digits bytes)))
-        ∙ ap (λ xs. 32 ∷ xs) (take-append-drop digits bytes) ∙ sym (seen old 32 some space) in
+    (take_all (length bytes - digits) rest (omega (arith, length-drop digits bytes)))
+    ∙ ap (λ xs. 32 ∷ xs) (take-append-drop digits bytes) ∙ sym (seen old 32 some space) in
     let long : 0 < length word = omega (arith, size, least) in
     let means : wide word ≡ Ok value = number_word 4294967295 word numeral.all long (omega (arith, size, numeral.few))
-        (omega (arith, numeral.value, small)) ∙ ap Ok (sym numeral.value) in
+    (omega (arith, numeral.value, small)) ∙ ap Ok (sym numeral.value) in
     (word, means, subst (λ xs. Cuts xs (word ∷ []) new) whole (cut_word word new long (solid_digits word numeral.all)))
 
 narrow_step : (d v : ℕ) (b : Bool) → nat_le d 4294967295 ≡ b
@@ -202,8 +202,12 @@ transfer_asks kind xs ys zs us vs r u c b p q s t = (
 pub other_asks : (order : Order) (xs ys zs : List ℕ) (r u : ℕ) → CutsWord wide r xs ys → CutsWord narrow u ys zs
     → Asks (forms.Plain order) (sent r u order) xs zs
 unfolding asked
-other_asks order xs ys zs r u p q = (p.0 ∷ q.0 ∷ [], rw (p.1, q.1) refl, λ more behind e.
-    p.2 _ behind (q.2 more behind e))
+other_asks order xs ys zs r u p q = (
+  p.0 ∷ q.0 ∷ [],
+  rw (p.1, q.1) refl,
+  λ more behind e.
+      p.2 _ behind (q.2 more behind e),
+)
 
 pub poll_asks : (xs ys zs : List ℕ) (r o : ℕ) → CutsWord wide r xs ys → CutsWord wide o ys zs
     → Asks forms.Status (sent r 0 (orders.Status o)) xs zs
@@ -271,7 +275,7 @@ plain_lines line behind h =
     ap (λ parts. map strip_carriage_return (without_empty_last parts)) (feed_split line behind h)
     ∙ ap (map strip_carriage_return) (split_parts (λ b. b == 10) behind line)
     ∙ ap (λ l. l ∷ map strip_carriage_return (without_empty_last (slice_split (λ b. b == 10) behind)))
-        (strip_printed line h)
+    (strip_printed line h)
 
 some_words : (ws : List (List ℕ)) (what : Request) → request ws ≡ Ok what → ¬ (ws ≡ [])
 unfolding request
@@ -290,7 +294,7 @@ plain_onward n bytes behind what r few short p =
     ap (λ xs. rest_outcome n p xs) r.whole
     ∙ ap (lines_outcome n p) (plain_lines r.line behind r.printed)
     ∙ speaks n r.line (lines behind) (words r.line) (said_by n r.line few (said_plain r.line short r.said r.printed))
-        (some_words _ what r.asks) p
+    (some_words _ what r.asks) p
 
 -- its length, and the line itself
 pub line_length : (bytes behind : List ℕ) (what : Request) (r : IsPlain bytes what behind)
@@ -310,5 +314,5 @@ pub plain_next : (s : Settings) (es : List Event) (said : List (List ℕ)) (plai
 unfolding next
 plain_next s es said plain n asks few =
     let fits : nat_le (length es + length (events_of (plain_request plain))) 1000000 ≡ true =
-        grind (arith, nat_tests) in
+    grind (arith, nat_tests) in
     rw (asks, fits) refl

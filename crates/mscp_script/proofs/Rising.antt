@@ -45,9 +45,9 @@ rises_more units unit rise few all = record {
       let bound : i + 1 < length units + 1 = grind (arith, common_steps) in
       ⊎_elim
       (λ b. let e : get_or (units ++ unit ∷ []) (i + 1) other ≡ get_or units (i + 1) other =
-          at_front units unit (i + 1) other b in rw (at_front units unit i other (omega arith), e) (rise i other b))
+      at_front units unit (i + 1) other b in rw (at_front units unit i other (omega arith), e) (rise i other b))
       (λ b. let e : get_or (units ++ unit ∷ []) (i + 1) other ≡ unit = at_end units unit (i + 1) other (omega arith) in
-          rw (at_front units unit i other (omega arith), e) (all_below units unit.number i other all (omega arith)))
+      rw (at_front units unit i other (omega arith), e) (all_below units unit.number i other all (omega arith)))
       (cases_lt (i + 1) (length units));
 }
 

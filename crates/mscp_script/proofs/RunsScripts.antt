@@ -82,7 +82,7 @@ number_past = refl
 abbrev shown : List (List ℕ)
 shown =
     header ++ codes "# a comment" ∷ [] ∷ codes "read 1 0 1024 5" ∷ codes " step  2 " ∷ codes "bad 00E8"
-        ∷ codes "packet 0aFF" ∷ codes "abort 2 1" ∷ codes "take" ∷ codes "look" ∷ []
+    ∷ codes "packet 0aFF" ∷ codes "abort 2 1" ∷ codes "take" ∷ codes "look" ∷ []
 
 abbrev sent : ℕ → ℕ → orders.the_data → Event
 sent r u o = events.Send (record { items = command_bytes (record { reference = r; unit = u; order = o }) })

@@ -27,7 +27,7 @@ ended_ok n (HasGone settings events) s es e = let pair : (settings, events) ≡ 
 ok_step : (n : ℕ) (rest : List (List ℕ)) (s : Settings) (es : List Event) (r : Result Place Cause)
     → ((q : Place) → lines_outcome (n + 1) q rest ≡ Ok (s, es) → after_lines (n + 1) q rest ≡ Ok (HasGone s es))
     → (in_line (n + 1) r >>= λ after. lines_outcome (n + 1) after rest) ≡ Ok (s, es)
-        → (r >>= λ after. after_lines (n + 1) after rest) ≡ Ok (HasGone s es)
+    → (r >>= λ after. after_lines (n + 1) after rest) ≡ Ok (HasGone s es)
 ok_step n rest s es (Ok q) ih e = ih q e
 ok_step n rest s es (Err cause) ih e = cc
 
@@ -59,8 +59,11 @@ record NoGoFrom (n : ℕ) (p : Place) (all : List (List ℕ)) (fault : ScriptFau
 
 made : (n : ℕ) (fault : ScriptFault) → (let m : ScriptFault = record { line = n + 1; cause = causes.Header } in
     m ≡ fault) → (fault.cause ≡ causes.Header) × (fault.line ≡ n + 0 + 1)
-made n fault e = (sym (ap (λ (f : ScriptFault). f.cause) e), let q : n + 1 ≡ fault.line =
-    ap (λ (f : ScriptFault). f.line) e in omega arith)
+made n fault e = (
+  sym (ap (λ (f : ScriptFault). f.cause) e),
+  let q : n + 1 ≡ fault.line =
+      ap (λ (f : ScriptFault). f.line) e in omega arith,
+)
 
 early : (n : ℕ) (p : Place) (fault : ScriptFault) → IsInHeader p
     → (let m : ScriptFault = record { line = n + 1; cause = causes.Header } in m ≡ fault) → NoGoFrom n p [] fault
@@ -122,9 +125,9 @@ here n p line rest cause fault e f = record {
 err_step : (n : ℕ) (p : Place) (line : List ℕ) (rest : List (List ℕ)) (fault : ScriptFault) (r : Result Place Cause)
     → after_line n p line ≡ r
     → ((q : Place) → lines_outcome (n + 1) q rest ≡ Err fault
-        → FaultFrom (n + 1) q rest fault ⊎ NoGoFrom (n + 1) q rest fault)
+    → FaultFrom (n + 1) q rest fault ⊎ NoGoFrom (n + 1) q rest fault)
     → (in_line (n + 1) r >>= λ after. lines_outcome (n + 1) after rest) ≡ Err fault
-        → FaultFrom n p (line ∷ rest) fault ⊎ NoGoFrom n p (line ∷ rest) fault
+    → FaultFrom n p (line ∷ rest) fault ⊎ NoGoFrom n p (line ∷ rest) fault
 err_step n p line rest fault (Ok q) e ih h = ⊎_elim (λ a. inl (later n p q line rest fault e a))
     (λ b. inr (no_go_later n p q line rest fault e b)) (ih q h)
 err_step n p line rest fault (Err cause) e ih h = inl (here n p line rest cause fault e cc)

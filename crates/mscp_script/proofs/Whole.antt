@@ -20,7 +20,7 @@ use Rattle.mscp_script.proofs.Sound.{is_read, is_fault}
 
 right_step : (n : ℕ) (place : Place) (bs more : List (List ℕ)) (k : ℕ) (r : Result Place Cause)
     → ((q : Place) → after_lines (n + 1) q bs ≡ Ok place
-        → lines_outcome (n + 1) q (bs ++ more) ≡ lines_outcome k place more)
+    → lines_outcome (n + 1) q (bs ++ more) ≡ lines_outcome k place more)
     → (r >>= λ after. after_lines (n + 1) after bs) ≡ Ok place
     → (in_line (n + 1) r >>= λ after. lines_outcome (n + 1) after (bs ++ more)) ≡ lines_outcome k place more
 right_step n place bs more k (Ok q) ih e = ih q e
@@ -91,7 +91,7 @@ outcome_of_fault bytes fault h = ⊎_elim
 
 read_cases : (bytes : List ℕ) (s : Settings) (es : List Event) (b : Bool) → nat_lt 16777216 (length bytes) ≡ b
     → cond b (Err (record { line = 0; cause = causes.Size })) (lines_outcome 0 Begins (lines bytes)) ≡ Ok (s, es)
-        → Reads bytes s es
+    → Reads bytes s es
 read_cases bytes s es true t e = cc
 read_cases bytes s es false t e = is_read bytes s es (grind (arith, nat_tests)) e
 
@@ -101,7 +101,7 @@ read_of_outcome bytes s es e = read_cases bytes s es (nat_lt 16777216 (length by
 
 fault_cases : (bytes : List ℕ) (fault : ScriptFault) (b : Bool) → nat_lt 16777216 (length bytes) ≡ b
     → cond b (Err (record { line = 0; cause = causes.Size })) (lines_outcome 0 Begins (lines bytes)) ≡ Err fault
-        → IsFault bytes fault
+    → IsFault bytes fault
 fault_cases bytes fault true t e = inl (grind (arith, nat_tests), cc)
 fault_cases bytes fault false t e = is_fault bytes fault (grind (arith, nat_tests)) e
 

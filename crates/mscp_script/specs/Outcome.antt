@@ -97,7 +97,7 @@ place_after settings (Some config) = HasGone config []
 abbrev pub script_outcome : List ℕ → Result (Settings × List Event) ScriptFault
 script_outcome bytes =
     if nat_lt 16777216 (length bytes) then Err (record { line = 0; cause = causes.Size })
-        else rest_outcome 0 Begins bytes
+    else rest_outcome 0 Begins bytes
 
 -- what is read of it
 abbrev pub meaning_of : Script → Settings × List Event

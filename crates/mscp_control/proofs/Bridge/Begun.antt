@@ -42,7 +42,7 @@ call_last calls call = get_or_at calls call [] (Begin None) (length calls) refl
 shorter : (calls : List Call) (j : ℕ) → length (history (take j calls)) ≤ length (history calls)
 shorter calls j =
     let cut : history calls ≡ history (take j calls) ++ history (drop j calls) =
-        ap history (sym (take-append-drop j calls)) ∙ flat_map-append moments_of (take j calls) (drop j calls) in
+    ap history (sym (take-append-drop j calls)) ∙ flat_map-append moments_of (take j calls) (drop j calls) in
     omega (arith, ap length cut, length-append (history (take j calls)) (history (drop j calls)))
 
 -- what waits waited before, if it had come
@@ -50,7 +50,7 @@ waits_before : (t ms : Trace) (y : ℕ) → y < length t → is_waiting (t ++ ms
 waits_before t [] y l w = subst (λ u. is_waiting u y ≡ true) (append-nil t) w
 waits_before t (m ∷ ms) y l w =
     let one = waits_before (t ++ m ∷ []) ms y (omega (arith, l, length_push t m))
-        (subst (λ u. is_waiting u y ≡ true) (sym (append_assoc t (m ∷ []) ms)) w) in
+    (subst (λ u. is_waiting u y ≡ true) (sym (append_assoc t (m ∷ []) ms)) w) in
     (and_parts (is_waiting t y) (not (ends_in (reference t y) m.1)) (sym (is_waiting_before t m y l) ∙ one)).0
 
 -- what was begun before the last call, and that the last was no step
@@ -60,12 +60,12 @@ begun_before calls call up y j l b =
     let same = front_same calls call j l in
     let waited = subst (λ cs. is_waiting (history cs) y ≡ true) same b.waited in
     let behind : drop (j + 1) (calls ++ call ∷ []) ≡ drop (j + 1) calls ++ call ∷ [] =
-        drop-append-le (j + 1) calls (call ∷ []) (omega (arith, l)) in
+    drop-append-le (j + 1) calls (call ∷ []) (omega (arith, l)) in
     let none = or_parts (list_any steps (drop (j + 1) calls)) (list_any steps (call ∷ []))
-        (sym (list_any-append steps (drop (j + 1) calls) (call ∷ []))
-        ∙ (ap (list_any steps) (sym behind) ∙ b.unstepped)) in
+    (sym (list_any-append steps (drop (j + 1) calls) (call ∷ []))
+    ∙ (ap (list_any steps) (sym behind) ∙ b.unstepped)) in
     let below : y < length (history calls) = omega
-        (arith, waits_below (history (take j calls)) y waited, shorter calls j) in
+    (arith, waits_below (history (take j calls)) y waited, shorter calls j) in
     let before : IsBegunSince calls up y j = record {
       inside = l;
       told = ap upcoming_in (sym (call_before calls call j l)) ∙ b.told;
@@ -87,7 +87,7 @@ begun_last : (calls : List Call) (call : Call) (up : Upcoming) (y j : ℕ) → l
     → IsBegunSince (calls ++ call ∷ []) up y j → Last calls call up y
 begun_last calls call up y j e b =
     let front : take j (calls ++ call ∷ []) ≡ calls =
-        ap (λ i. take i (calls ++ call ∷ [])) (sym e) ∙ take_at calls (call ∷ []) (length calls) refl in
+    ap (λ i. take i (calls ++ call ∷ [])) (sym e) ∙ take_at calls (call ∷ []) (length calls) refl in
     record {
       told = ap upcoming_in (sym (call_last calls call))
           ∙ (ap (λ i. upcoming_in (call_at (calls ++ call ∷ []) i)) e ∙ b.told);
@@ -101,8 +101,8 @@ pub either : (X : Type 0) (calls : List Call) (call : Call) (up : Upcoming) (y j
     → IsBegunSince (calls ++ call ∷ []) up y j → X
 either X calls call up y j before last b =
     ⊎_elim (λ l. let k = begun_before calls call up y j l b in before k.0 k.1)
-        (λ l. last (begun_last calls call up y j (let i = b.inside in
-        omega (arith, l, i, length-append calls (call ∷ []))) b)) (cases_lt j (length calls))
+    (λ l. last (begun_last calls call up y j (let i = b.inside in
+    omega (arith, l, i, length-append calls (call ∷ []))) b)) (cases_lt j (length calls))
 
 -- what was begun is begun after a call that is no step, where it still waits
 pub begun_more : (calls : List Call) (call : Call) (up : Upcoming) (y j : ℕ) → IsBegunSince calls up y j
@@ -147,14 +147,14 @@ untold call up n e = true≢false (ap is_some (sym e ∙ n))
 pub holds_on : (c : Settings) (picks : List Choice → ℕ → Type 0) (calls : List Call) (call : Call) (o o' : Option Name)
     → steps call ≡ false → upcoming_in call ≡ None
     → ((y : ℕ) → is_waiting (history calls) y ≡ true
-        → foretold (history (calls ++ call ∷ [])) y ≡ foretold (history calls) y)
+    → foretold (history (calls ++ call ∷ [])) y ≡ foretold (history calls) y)
     → ((n : Name) (y : ℕ) → o ≡ Some n → is_waiting (history calls) y ≡ true → reference (history calls) y ≡ n
-        → o' ≡ (if is_waiting (history (calls ++ call ∷ [])) y then Some n else None))
+    → o' ≡ (if is_waiting (history (calls ++ call ∷ [])) y then Some n else None))
     → (o ≡ None → o' ≡ None) → Holds c picks calls o → Holds c picks (calls ++ call ∷ []) o'
 holds_on c picks calls call None o' n q stay link none h =
     let calls' = calls ++ call ∷ [] in
     let nothing : NothingBegun calls' = λ up y j b.
-        either ⊥ calls call up y j (λ k s. h up y j k) (λ l. untold call up q l.told) b in
+    either ⊥ calls call up y j (λ k s. h up y j k) (λ l. untold call up q l.told) b in
     subst (Holds c picks calls') (sym (none refl)) nothing
 holds_on c picks calls call (Some n) o' s q stay link none h =
     let calls' = calls ++ call ∷ [] in
@@ -178,7 +178,7 @@ holds_on c picks calls call (Some n) o' s q stay link none h =
           (up, y, j, on)
       | false ↦ λ e up' y' j' k.
           either ⊥ calls call up' y' j' (λ m z. let one = b.only up' y' j' m in
-              true≢false (sym k.waits ∙ (ap (is_waiting t') one.0 ∙ e))) (λ l. untold call up' q l.told) k
+          true≢false (sym k.waits ∙ (ap (is_waiting t') one.0 ∙ e))) (λ l. untold call up' q l.told) k
     ] in
     subst (Holds c picks calls') (sym (link n y refl b.is.waits (reference_of b))) (both (is_waiting t' y) refl)
 
@@ -213,8 +213,8 @@ begin_same calls upcoming = history_more calls (Begin upcoming) ∙ append-nil (
 pub holds_new : (c : Settings) (picks : List Choice → ℕ → Type 0) (calls : List Call) (n : Name) (up : Upcoming) (y : ℕ)
     → Apart (history calls) (waiting (history calls)) → NothingBegun calls → is_waiting (history calls) y ≡ true
     → up ≡ foretold (history calls) y → name_of up.command ≡ n
-        → (nat_eq up.done 0 ≡ true → IsPick c picks (history calls) n)
-        → Holds c picks (calls ++ Begin (Some up) ∷ []) (Some n)
+    → (nat_eq up.done 0 ≡ true → IsPick c picks (history calls) n)
+    → Holds c picks (calls ++ Begin (Some up) ∷ []) (Some n)
 holds_new c picks calls n up y apart none w e own p =
     let call = Begin (Some up) in
     let calls' = calls ++ call ∷ [] in

@@ -55,7 +55,7 @@ unfolding block_of
 block_kept t m y e l =
     let k = command_before t m y l in
     let on : is_online (t ++ m ∷ []) (unit (t ++ m ∷ []) y) ≡ is_online t (unit t y) =
-        ap (λ (q : Command). is_online (t ++ m ∷ []) q.unit) k ∙ is_online_kept t m (unit t y) e in
+    ap (λ (q : Command). is_online (t ++ m ∷ []) q.unit) k ∙ is_online_kept t m (unit t y) e in
     (λ i. block_touched (on i) (k i).order (done_kept t m y e l i))
 
 foretold_kept : (t : Trace) (m : Moment) (y : ℕ) → service_in m.1 ≡ None → y < length t
@@ -79,7 +79,7 @@ quiet : {K : Type 0} (c : Settings) (picks : List Choice → ℕ → Type 0) (ca
     (entry : Entry) (h h' : Holdings K) → Turns c picks (history calls) (event, entry) h.begun h'
     → IsLegal c (history calls)
     → service_in entry ≡ None → is_step event ≡ false → IsLeft h h' (history calls) entry
-        → (h.begun ≡ None → h'.begun ≡ None) → Holds c picks calls h.begun → Turned c picks calls (Plain event entry) h'
+    → (h.begun ≡ None → h'.begun ≡ None) → Holds c picks calls h.begun → Turned c picks calls (Plain event entry) h'
 quiet c picks calls event entry h h' turn legal e s left none holds =
     let t = history calls in
     let m : Moment = (event, entry) in
@@ -87,11 +87,11 @@ quiet c picks calls event entry h h' turn legal e s left none holds =
     let same = history_more calls call in
     let t' = history (calls ++ call ∷ []) in
     let stays : (y : ℕ) → is_waiting t y ≡ true → foretold t' y ≡ foretold t y =
-        λ y w. ap (λ u. foretold u y) same ∙ foretold_kept t m y e (waits_below t y w) in
+    λ y w. ap (λ u. foretold u y) same ∙ foretold_kept t m y e (waits_below t y w) in
     let link : (n : Name) (y : ℕ) → h.begun ≡ Some n → is_waiting t y ≡ true → reference t y ≡ n
-        → h'.begun ≡ (if is_waiting t' y then Some n else None) =
-        λ n y b w own. left n y b w own ∙ ap (λ b. if b then Some n else None)
-        (sym (ap (λ u. is_waiting u y) same ∙ (waits_on t m y w ∙ ap (λ k. not (ends_in k entry)) own))) in
+    → h'.begun ≡ (if is_waiting t' y then Some n else None) =
+    λ n y b w own. left n y b w own ∙ ap (λ b. if b then Some n else None)
+    (sym (ap (λ u. is_waiting u y) same ∙ (waits_on t m y w ∙ ap (λ k. not (ends_in k entry)) own))) in
     record {
       legal = subst (IsLegal c) (sym same) (legal_more c t m legal turn.sends.right);
       agrees = subst (λ u. Agrees c u h') (sym same) turn.sends.agrees;
@@ -109,9 +109,9 @@ begun_unless h t k n y (Some fault) e b w own = b
 begun_unless {K} h t k n y None e b w own =
     let told = option_map (λ (r : Record). r.command.reference) (record_aborted h.waiting k.order) in
     elim (is_queued h.settings k) as (λ q. (if q then queued h k
-        else with_end (aborting h k.order) (answered_end h k)).begun
+    else with_end (aborting h k.order) (answered_end h k)).begun
     ≡ (if not (ends_in n (entries.Sent (Ok (if q then sents.Queued k.reference else sents.Answered k.reference told))))
-        then Some n else None))
+    then Some n else None))
     [ true ↦ b | false ↦ ap (λ o. begun_after o k.order) b ∙ begun_left k.reference t h.waiting n y k.order e w own ]
 
 -- ---- a step
@@ -119,19 +119,26 @@ begun_unless {K} h t k n y None e b w own =
 as_told : {K : Type 0} (c : Settings) (picks : List Choice → ℕ → Type 0) (calls : List Call) (k : Block)
     (report : Report) (h h' : Holdings K) (o : Option Name) → Agrees c (history calls) h → Held c picks calls h o
     → Turns c picks (history calls) (events.Step k, entries.Stepped report) h.begun h' → (up : Upcoming) (y j : ℕ)
-        → IsBegunSince calls up y j → IfSome (service_in (entries.Stepped report)) (IsAsTold up)
+    → IsBegunSince calls up y j → IfSome (service_in (entries.Stepped report)) (IsAsTold up)
 as_told c picks calls k reports.Idle h h' o a b turn up y j is = tt
 as_told c picks calls k (reports.Served reference' unit' lbn started' seek ended') h h' None a b turn up y j is =
     absurd (b.1 up y j is)
 as_told c picks calls k (reports.Served reference' unit' lbn started' seek ended') h h' (Some n) a b turn up y j is =
     let t = history calls in
-    let s : Service = record { reference = reference'; unit = unit'; lbn = lbn; started = started'; seek = seek; ended =
-        ended' } in
+    let s : Service = record {
+      reference = reference';
+      unit = unit';
+      lbn = lbn;
+      started = started';
+      seek = seek;
+      ended =
+          ended';
+    } in
     let own = b.1.3 in
     let one = own.only up y j is in
     let some = turn.sends.right in
     let same : some.0 ≡ b.1.1 = one_waits t some.0 b.1.1 a.follows.known.steady.apart some.1.waits own.is.waits
-        (sym some.1.reference ∙ (turn.same n b.0 ∙ sym (reference_of own))) in
+    (sym some.1.reference ∙ (turn.same n b.0 ∙ sym (reference_of own))) in
     let v : IsServed c t k s b.1.1 = subst (IsServed c t k s) same some.1 in
     let told : IsAsTold b.1.0 s = record {
       reference = v.reference ∙ ap (λ (u : Upcoming). u.command.reference) (sym own.now);
@@ -144,7 +151,7 @@ as_told c picks calls k (reports.Served reference' unit' lbn started' seek ended
 starts_chosen : {K : Type 0} (c : Settings) (picks : List Choice → ℕ → Type 0) (calls : List Call) (k : Block)
     (report : Report) (h h' : Holdings K) (o : Option Name) → Agrees c (history calls) h → Held c picks calls h o
     → Turns c picks (history calls) (events.Step k, entries.Stepped report) h.begun h'
-        → IfSome (start_of (service_in (entries.Stepped report))) (IsChosen (IsPick c picks) calls)
+    → IfSome (start_of (service_in (entries.Stepped report))) (IsChosen (IsPick c picks) calls)
 starts_chosen c picks calls k reports.Idle h h' o a b turn = tt
 starts_chosen c picks calls k (reports.Served reference' unit' lbn false seek ended') h h' o a b turn = tt
 starts_chosen c picks calls k (reports.Served reference' unit' lbn true seek ended') h h' None a b turn =
@@ -153,15 +160,22 @@ starts_chosen c picks calls k (reports.Served reference' unit' lbn true seek end
     let own = b.1.3 in
     let same : reference' ≡ n = turn.same n b.0 in
     let told = as_told c picks calls k (reports.Served reference' unit' lbn true seek ended') h h' (Some n) a b turn
-        b.1.0 b.1.1 b.1.2 own.is in
-    inr (b.1.0, b.1.1, b.1.2, own.is, own.own ∙ sym same, subst (IsPick c picks (history (take b.1.2 calls))) (sym same)
-        (own.chosen (sym told.started)))
+    b.1.0 b.1.1 b.1.2 own.is in
+    inr (
+      b.1.0,
+      b.1.1,
+      b.1.2,
+      own.is,
+      own.own ∙ sym same,
+      subst (IsPick c picks (history (take b.1.2 calls))) (sym same)
+          (own.chosen (sym told.started)),
+    )
 
 -- after a step nothing is begun
 unbegun_after : {K : Type 0} (c : Settings) (picks : List Choice → ℕ → Type 0) (calls : List Call) (k : Block)
     (report : Report) (h h' : Holdings K) (o : Option Name) → Held c picks calls h o
     → Turns c picks (history calls) (events.Step k, entries.Stepped report) h.begun h' → Steps picks k h report h'
-        → h'.begun ≡ None
+    → h'.begun ≡ None
 unbegun_after {K} c picks calls k reports.Idle h h' None b turn s = ap (λ (l : Line K). l.begun) s.serves.2 ∙ b.0
 unbegun_after {K} c picks calls k reports.Idle h h' (Some n) b turn s =
     absurd (none_waits (history calls) b.1.1 turn.sends.right b.1.3.is.waits)
@@ -171,7 +185,7 @@ unbegun_after {K} c picks calls k (reports.Served reference' unit' lbn started' 
 stepped : {K : Type 0} (c : Settings) (picks : List Choice → ℕ → Type 0) (calls : List Call) (k : Block)
     (report : Report) (h h' : Holdings K) (o : Option Name) → Agrees c (history calls) h → IsLegal c (history calls)
     → Held c picks calls h o → Turns c picks (history calls) (events.Step k, entries.Stepped report) h.begun h'
-        → Steps picks k h report h' → Turned c picks calls (Plain (events.Step k) (entries.Stepped report)) h'
+    → Steps picks k h report h' → Turned c picks calls (Plain (events.Step k) (entries.Stepped report)) h'
 stepped c picks calls k report h h' o a legal b turn s =
     let t = history calls in
     let m : Moment = (events.Step k, entries.Stepped report) in
@@ -192,29 +206,29 @@ stepped c picks calls k report h h' o a legal b turn s =
 plain : {K : Type 0} (picks : List Choice → ℕ → Type 0) (calls : List Call) (event : Event) (entry : Entry)
     (h h' : Holdings K) → IsValid h.settings → Agrees h.settings (history calls) h → IsLegal h.settings (history calls)
     → Holds h.settings picks calls h.begun → Answers picks h event entry h'
-        → Turned h.settings picks calls (Plain event entry) h'
+    → Turned h.settings picks calls (Plain event entry) h'
 plain {K} picks calls (events.Send message) (entries.Sent sent) h h' v a legal b r =
     let t = history calls in
     let k = command_of message.items in
     let o = refusal (balance_of h) (outstanding_of h) message.items in
     let left : IsLeft h h' t (entries.Sent sent) = λ n y e w own.
     ap (λ (x : Holdings K). x.begun) r.1 ∙ (begun_unless h t k n y o a.follows.waits e w own
-        ∙ ap (λ s. if not (ends_in n (entries.Sent s)) then Some n else None) (sym r.0)) in
+    ∙ ap (λ s. if not (ends_in n (entries.Sent s)) then Some n else None) (sym r.0)) in
     quiet h.settings picks calls (events.Send message) (entries.Sent sent) h h'
-        (turns picks h h' t (events.Send message) (entries.Sent sent) v a r) legal refl refl left
-        (λ n. unbegun_kept picks h h' (events.Send message) (entries.Sent sent) n r) b
+    (turns picks h h' t (events.Send message) (entries.Sent sent) v a r) legal refl refl left
+    (λ n. unbegun_kept picks h h' (events.Send message) (entries.Sent sent) n r) b
 plain {K} picks calls events.Take (entries.Taken end) h h' v a legal b r =
     quiet h.settings picks calls events.Take (entries.Taken end) h h'
-        (turns picks h h' (history calls) events.Take (entries.Taken end) v a r) legal refl refl
-        (λ n y e w own. ap (λ (x : Holdings K). x.begun) r.1 ∙ e)
+    (turns picks h h' (history calls) events.Take (entries.Taken end) v a r) legal refl refl
+    (λ n y e w own. ap (λ (x : Holdings K). x.begun) r.1 ∙ e)
     (λ n. unbegun_kept picks h h' events.Take (entries.Taken end) n r) b
 plain picks calls (events.Step k) (entries.Stepped report) h h' v a legal b r =
     stepped h.settings picks calls k report h h' h.begun a legal (refl, b)
-        (turns picks h h' (history calls) (events.Step k) (entries.Stepped report) v a r) r
+    (turns picks h h' (history calls) (events.Step k) (entries.Stepped report) v a r) r
 plain {K} picks calls events.Look (entries.Looked list) h h' v a legal b r =
     quiet h.settings picks calls events.Look (entries.Looked list) h h'
-        (turns picks h h' (history calls) events.Look (entries.Looked list) v a r) legal refl refl
-        (λ n y e w own. ap (λ (x : Holdings K). x.begun) r.1 ∙ e)
+    (turns picks h h' (history calls) events.Look (entries.Looked list) v a r) legal refl refl
+    (λ n y e w own. ap (λ (x : Holdings K). x.begun) r.1 ∙ e)
     (λ n. unbegun_kept picks h h' events.Look (entries.Looked list) n r) b
 plain picks calls (events.Send message) (entries.Taken end) h h' v a legal b r = absurd r
 plain picks calls (events.Send message) (entries.Stepped report) h h' v a legal b r = absurd r
@@ -247,14 +261,14 @@ only_begun c picks calls number (Some n) q e b up y j is =
 finish : {K : Type 0} (picks : List Choice → ℕ → Type 0) (calls : List Call) (number : ℕ) (k : Block)
     (answer : Result Report Stale) (h h' : Holdings K) → IsValid h.settings → Agrees h.settings (history calls) h
     → IsLegal h.settings (history calls) → Holds h.settings picks calls h.begun → Finishes picks number k h answer h'
-        → Turned h.settings picks calls (Finish number k answer) h'
+    → Turned h.settings picks calls (Finish number k answer) h'
 finish picks calls number k (Ok report) h h' v a legal b r =
     let c = h.settings in
     let step = stepped c picks calls k report h h' h.begun a legal (refl, b)
-        (turns picks h h' (history calls) (events.Step k) (entries.Stepped report) v a r.1) r.1 in
+    (turns picks h h' (history calls) (events.Step k) (entries.Stepped report) v a r.1) r.1 in
     let call = Finish number k (Ok report) in
     let same : history (calls ++ Plain (events.Step k) (entries.Stepped report) ∷ []) ≡ history (calls ++ call ∷ []) =
-        history_more calls (Plain (events.Step k) (entries.Stepped report)) ∙ sym (history_more calls call) in
+    history_more calls (Plain (events.Step k) (entries.Stepped report)) ∙ sym (history_more calls call) in
     record {
       legal = subst (IsLegal c) same step.legal;
       agrees = subst (λ u. Agrees c u h') same step.agrees;
@@ -319,8 +333,8 @@ knows_more {K} c picks calls call h h' v r k =
     let turn : Turned c picks calls call h' =
     subst (λ s. Turned s picks calls call h') k.settings
     (turned picks calls call h h' (subst IsValid back v) (subst (λ s. Agrees s (history calls) h) back k.agrees)
-        (subst (λ s. IsLegal s (history calls)) back k.legal) (subst (λ s. Holds s picks calls h.begun) back k.holds)
-        r) in
+    (subst (λ s. IsLegal s (history calls)) back k.legal) (subst (λ s. Holds s picks calls h.begun) back k.holds)
+    r) in
     record {
       settings = settings_kept picks h h' call r ∙ k.settings;
       legal = turn.legal;
@@ -338,7 +352,7 @@ knows_after {K} c picks so_far h h' [] v r k = subst (λ (x : Holdings K). Knows
     (subst (λ cs. Knows c picks cs h) (sym (append-nil so_far)) k)
 knows_after {K} c picks so_far h h' (call ∷ calls) v r k =
     subst (λ cs. Knows c picks cs h') (append_assoc so_far (call ∷ []) calls)
-        (knows_after c picks (so_far ++ call ∷ []) r.0 h' calls v r.2 (knows_more c picks so_far call h r.0 v r.1 k))
+    (knows_after c picks (so_far ++ call ∷ []) r.0 h' calls v r.2 (knows_more c picks so_far call h r.0 v r.1 k))
 
 -- What somebody calls of a new controller is answered so.
 pub called : {K : Type 0} (c : Settings) (picks : List Choice → ℕ → Type 0) (picker : K) (h : Holdings K)

@@ -31,8 +31,12 @@ runs c picks picker es ns h v r =
     let t = zip es ns in
     let k = comes c picks picker h es ns v r in
     record {
-      headline = record { answers = as_many picks (fresh c picker) h es ns r; legal = k.legal; promise =
-          progress c t v k.legal };
+      headline = record {
+        answers = as_many picks (fresh c picker) h es ns r;
+        legal = k.legal;
+        promise =
+            progress c t v k.legal;
+      };
       picked = k.picked;
       swept = λ w. sweeping c picks t w k.picked;
     }
@@ -49,8 +53,15 @@ new_runs {K} c picks picker new es ns h v e r = runs c (picks picker) picker es 
 chosen_swept : (c : Settings) (picks : List Choice → ℕ → Type 0) (so_far : List Call) (n : Name) → Sweeps picks
     → IsChosen (IsPick c picks) so_far n → IsChosen (IsSwept c) so_far n
 chosen_swept c picks so_far n w (inl h) = inl (h.0, swept_pick c picks (history so_far) n w h.1)
-chosen_swept c picks so_far n w (inr h) = inr (h.0, h.1, h.2, h.3, h.4, swept_pick c picks (history (take h.2 so_far)) n
-    w h.5)
+chosen_swept c picks so_far n w (inr h) = inr (
+  h.0,
+  h.1,
+  h.2,
+  h.3,
+  h.4,
+  swept_pick c picks (history (take h.2 so_far)) n
+      w h.5,
+)
 
 starts_swept : (c : Settings) (picks : List Choice → ℕ → Type 0) (so_far : List Call) (o : Option Name) → Sweeps picks
     → IfSome o (IsChosen (IsPick c picks) so_far) → IfSome o (IsChosen (IsSwept c) so_far)

@@ -37,9 +37,9 @@ found_number : (units : List Shape) (u : ℕ) (s : Shape) → find (λ x. nat_eq
 found_number [] u s e = absurd (false≢true (ap is_some e))
 found_number (x ∷ xs) u s e =
     let both : (b : Bool) → nat_eq x.number u ≡ b → cond b (Some x) (find (λ z. nat_eq z.number u) xs) ≡ Some s
-        → s.number ≡ u =
+    → s.number ≡ u =
     λ b. elim b as (λ b. nat_eq x.number u ≡ b → cond b (Some x) (find (λ z. nat_eq z.number u) xs) ≡ Some s
-        → s.number ≡ u) [
+    → s.number ≡ u) [
       | true ↦ λ q h. ap (λ (z : Shape). z.number) (sym (some_same x s h)) ∙ eqb-true x.number u q
       | false ↦ λ q h. found_number xs u s h
     ] in
@@ -55,7 +55,7 @@ find_map p f [] = refl
 find_map p f (x ∷ xs) =
     let rest = find_map p f xs in
     elim (p (f x)) as (λ b. cond b (Some (f x)) (find p (map f xs))
-        ≡ option_map f (cond b (Some x) (find (λ z. p (f z)) xs))) [ true ↦ refl | false ↦ rest ]
+    ≡ option_map f (cond b (Some x) (find (λ z. p (f z)) xs))) [ true ↦ refl | false ↦ rest ]
 
 -- ---- the units of commands
 
@@ -112,7 +112,7 @@ drive_found c t ds u d h =
     let e = some.1 in
     ap (λ ds. drive_of ds u) d.drives
     ∙ (ap (λ o. unwrap_or o (fresh_drive one_block))
-        (find_map (λ (x : Drive). nat_eq x.unit.number u) (drive_now c t) c.units ∙ ap (option_map (drive_now c t)) e)
+    (find_map (λ (x : Drive). nat_eq x.unit.number u) (drive_now c t) c.units ∙ ap (option_map (drive_now c t)) e)
     ∙ same_drive c t s u e (found_number c.units u s e))
 
 -- ---- at first, and where nothing is served
@@ -127,8 +127,12 @@ unfolding waiting
 driven_fresh c = record {
   drives = map_on fresh_drive (drive_now c []) c.units
       (every_from (λ s. fresh_drive s ≡ drive_now c [] s)
-          (λ s. λ i. record { unit = s; online = sym (is_online_empty s.number) i; head =
-          sym (head_empty c s.number) i }) c.units);
+      (λ s. λ i. record {
+        unit = s;
+        online = sym (is_online_empty s.number) i;
+        head =
+            sym (head_empty c s.number) i;
+      }) c.units);
   configured = tt;
 }
 
@@ -139,8 +143,12 @@ driven_kept c t m ds n r d =
     record {
       drives = d.drives ∙ map_on (drive_now c t) (drive_now c t') c.units
           (every_from (λ s. drive_now c t s ≡ drive_now c t' s)
-              (λ s. λ i. record { unit = s; online = sym (is_online_kept t m s.number n) i; head =
-              sym (head_kept c t m s.number n) i }) c.units);
+          (λ s. λ i. record {
+            unit = s;
+            online = sym (is_online_kept t m s.number n) i;
+            head =
+                sym (head_kept c t m s.number n) i;
+          }) c.units);
       configured = configured_more c t m r d.configured;
     }
 
@@ -167,7 +175,7 @@ state_held c t m k y front back st (Some end) e = sym
 head_held : (c : Settings) (t : Trace) (m : Moment) (k : Block) (y : ℕ) (front back : List ℕ)
     → Step c t m (service_by c t k y) k y front back
     → head_after (nat_eq (done t y) 0) (option_map (cylinder_of (unit_shape c (unit t y)))
-        (touched (drive_by c t (unit t y)) (held_of t y))) (head c t (unit t y)) ≡ head c (t ++ m ∷ []) (unit t y)
+    (touched (drive_by c t (unit t y)) (held_of t y))) (head c t (unit t y)) ≡ head c (t ++ m ∷ []) (unit t y)
 unfolding block_of
 head_held c t m k y front back st = sym (head_own c t m (service_by c t k y) k y front back st)
 
@@ -177,14 +185,14 @@ own_served : (c : Settings) (t : Trace) (m : Moment) (k : Block) (y : ℕ) (fron
 own_served c t m k y front back st =
     let u = unit t y in
     let state = ap (state_left (is_online t u) (order t y)) (end_held c t k y)
-        ∙ state_held c t m k y front back st (end_of c t k y) refl in
+    ∙ state_held c t m k y front back st (end_of c t k y) refl in
     λ i. record { unit = unit_shape c u; online = state i; head = head_held c t m k y front back st i }
 
 one_served : (c : Settings) (t : Trace) (m : Moment) (k : Block) (y : ℕ) (front back : List ℕ)
     → Step c t m (service_by c t k y) k y front back
     → (s : Shape) → unit_found c s.number ≡ Some s
     → (if nat_eq s.number (unit t y) then drive_after k (drive_by c t (unit t y)) (held_of t y) else drive_now c t s)
-        ≡ drive_now c (t ++ m ∷ []) s
+    ≡ drive_now c (t ++ m ∷ []) s
 one_served c t m k y front back st s found =
     let t' = t ++ m ∷ [] in
     let u = unit t y in
@@ -197,8 +205,12 @@ one_served c t m k y front back st s found =
           own_served c t m k y front back st ∙ sym (same_drive c t' s u there n)
       | false ↦ λ e.
           let n : u ≢ s.number = λ h. eqb-false s.number u e (sym h) in
-          λ i. record { unit = s; online = sym (is_online_other c t m (service_by c t k y) k y front back s.number st n)
-              i; head = sym (head_other c t m (service_by c t k y) k y front back s.number st n) i }
+          λ i. record {
+            unit = s;
+            online = sym (is_online_other c t m (service_by c t k y) k y front back s.number st n)
+                i;
+            head = sym (head_other c t m (service_by c t k y) k y front back s.number st n) i;
+          }
     ] in
     both (nat_eq s.number u) refl
 
@@ -206,7 +218,7 @@ one_served c t m k y front back st s found =
 pub driven_served : (c : Settings) (t : Trace) (m : Moment) (k : Block) (y : ℕ) (front back : List ℕ) (ds : List Drive)
     → IsUnitList c.units → Step c t m (service_by c t k y) k y front back
     → IsRight c t m.0 m.1 → Driven c t ds → Driven c (t ++ m ∷ [])
-        (replaced (unit t y) (drive_after k (drive_by c t (unit t y)) (held_of t y)) ds)
+    (replaced (unit t y) (drive_after k (drive_by c t (unit t y)) (held_of t y)) ds)
 driven_served c t m k y front back ds l st r d =
     let t' = t ++ m ∷ [] in
     let new = drive_after k (drive_by c t (unit t y)) (held_of t y) in
@@ -215,6 +227,6 @@ driven_served c t m k y front back ds l st r d =
       drives = ap (map serve) d.drives ∙ (map_map (drive_now c t) serve c.units
           ∙ map_on (λ s. serve (drive_now c t s)) (drive_now c t') c.units
           (every_weaker (λ s. unit_found c s.number ≡ Some s) (λ s. serve (drive_now c t s) ≡ drive_now c t' s)
-              (one_served c t m k y front back st) c.units (units_found c.units l)));
+          (one_served c t m k y front back st) c.units (units_found c.units l)));
       configured = configured_more c t m r d.configured;
     }

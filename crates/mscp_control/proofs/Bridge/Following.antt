@@ -45,20 +45,23 @@ looks h t list l a e =
 
 takes_when : {K : Type 0} (h : Holdings K) (t : Trace) → 1 ≤ h.settings.longest → Agrees h.settings t h
     → (us : List End) → h.untaken ≡ us
-    → Sends h.settings t (events.Take, entries.Taken
-        (option_map (λ e. record { items = end_bytes e }) (slice_get us 0))) (record h { untaken = drop 1 us })
+    → Sends h.settings t (
+      events.Take,
+      entries.Taken
+          (option_map (λ e. record { items = end_bytes e }) (slice_get us 0)),
+    ) (record h { untaken = drop 1 us })
 takes_when h t l a [] e =
     let c = h.settings in
     let m : Moment = (events.Take, entries.Taken None) in
     let r : IsRight c t m.0 m.1 = ap (λ us. option_map (λ e. record { items = end_bytes e }) (slice_get us 0))
-        (sym e ∙ a.follows.ends) in
+    (sym e ∙ a.follows.ends) in
     quiet h (record h { untaken = [] }) t m l (record { unserved = refl; kept = λ r. refl }) refl refl refl
-        (sym e ∙ ends_stay h t m refl a refl) a r
+    (sym e ∙ ends_stay h t m refl a refl) a r
 takes_when h t l a (u ∷ us) e =
     let c = h.settings in
     let m : Moment = (events.Take, entries.Taken (Some (record { items = end_bytes u }))) in
     let r : IsRight c t m.0 m.1 = ap (λ us. option_map (λ e. record { items = end_bytes e }) (slice_get us 0))
-        (sym e ∙ a.follows.ends) in
+    (sym e ∙ a.follows.ends) in
     let rest = ap (drop 1) (sym e ∙ a.follows.ends) ∙ sym (untaken_taken c t m refl refl) in
     quiet h (record h { untaken = us }) t m l (record { unserved = refl; kept = λ r. refl }) refl refl refl rest a r
 
@@ -77,9 +80,13 @@ idles {K} picks h h' t k v a s =
     let none : waiting t ≡ [] = none_mapped (held_of t) (waiting t) (sym a.follows.waits ∙ s.serves.0) in
     let same = s.serves.2 in
     let ends : h'.untaken ≡ untaken c (t ++ m ∷ []) = s.ends ∙ ends_on h t m refl a [] refl in
-    record { sends = quiet h h' t m v.some_blocks (record { unserved = refl; kept = λ r. refl }) refl
-        (ap (λ (l : Line K). l.waiting) same) (ap (λ (l : Line K). l.drives) same) ends a none; same =
-        λ n b. tt; picked = λ b. tt }
+    record {
+      sends = quiet h h' t m v.some_blocks (record { unserved = refl; kept = λ r. refl }) refl
+          (ap (λ (l : Line K). l.waiting) same) (ap (λ (l : Line K). l.drives) same) ends a none;
+      same =
+          λ n b. tt;
+      picked = λ b. tt;
+    }
 
 steps : {K : Type 0} (picks : List Choice → ℕ → Type 0) (h h' : Holdings K) (t : Trace) (k : Block) (report : Report)
     → IsValid h.settings → Agrees h.settings t h → Steps picks k h report h'
@@ -97,22 +104,26 @@ pub turns : {K : Type 0} (picks : List Choice → ℕ → Type 0) (h h' : Holdin
 turns {K} picks h h' t (events.Send message) (entries.Sent sent) v a r =
     let e = events.Send message in
     let all : Turns h.settings picks t (e, entries.Sent (answer_to_message h message.items)) h.begun
-        (after_message h message.items) = record { sends = sends h t e v.some_blocks a (λ s q. q); same =
-        λ n b. tt; picked = λ b. tt } in
+    (after_message h message.items) = record {
+      sends = sends h t e v.some_blocks a (λ s q. q);
+      same =
+          λ n b. tt;
+      picked = λ b. tt;
+    } in
     subst (λ s. Turns h.settings picks t (e, entries.Sent s) h.begun h') (sym r.0)
-        (subst (λ (x : Holdings K). Turns h.settings picks t (e, entries.Sent (answer_to_message h message.items))
-        h.begun x) (sym r.1) all)
+    (subst (λ (x : Holdings K). Turns h.settings picks t (e, entries.Sent (answer_to_message h message.items))
+    h.begun x) (sym r.1) all)
 turns {K} picks h h' t events.Take (entries.Taken end) v a r =
     let all : Turns h.settings picks t (events.Take, entries.Taken (end_taken h)) h.begun
-        (record h { untaken = drop 1 h.untaken }) =
-        record { sends = takes_when h t v.some_blocks a h.untaken refl; same = λ n b. tt; picked = λ b. tt } in
+    (record h { untaken = drop 1 h.untaken }) =
+    record { sends = takes_when h t v.some_blocks a h.untaken refl; same = λ n b. tt; picked = λ b. tt } in
     subst (λ s. Turns h.settings picks t (events.Take, entries.Taken s) h.begun h') (sym r.0)
-        (subst (λ (x : Holdings K). Turns h.settings picks t (events.Take, entries.Taken (end_taken h)) h.begun x)
-        (sym r.1) all)
+    (subst (λ (x : Holdings K). Turns h.settings picks t (events.Take, entries.Taken (end_taken h)) h.begun x)
+    (sym r.1) all)
 turns picks h h' t (events.Step k) (entries.Stepped report) v a r = steps picks h h' t k report v a r
 turns {K} picks h h' t events.Look (entries.Looked list) v a r =
     subst (λ (x : Holdings K). Turns h.settings picks t (events.Look, entries.Looked list) h.begun x) (sym r.1)
-        (record { sends = looks h t list v.some_blocks a r.0; same = λ n b. tt; picked = λ b. tt })
+    (record { sends = looks h t list v.some_blocks a r.0; same = λ n b. tt; picked = λ b. tt })
 turns picks h h' t (events.Send message) (entries.Taken end) v a r = absurd r
 turns picks h h' t (events.Send message) (entries.Stepped report) v a r = absurd r
 turns picks h h' t (events.Send message) (entries.Looked list) v a r = absurd r
@@ -144,8 +155,8 @@ comes_more {K} c picks t h h' event entry v r k =
     let m : Moment = (event, entry) in
     let turn : Turns c picks t m h.begun h' =
     subst (λ s. Turns s picks t m h.begun h') k.settings
-        (turns picks h h' t event entry (subst IsValid (sym k.settings) v)
-        (subst (λ s. Agrees s t h) (sym k.settings) k.agrees) r) in
+    (turns picks h h' t event entry (subst IsValid (sym k.settings) v)
+    (subst (λ s. Agrees s t h) (sym k.settings) k.agrees) r) in
     record {
       settings = (owner_kept picks h h' event entry r).0 ∙ k.settings;
       legal = legal_more c t m k.legal turn.sends.right;
@@ -168,8 +179,11 @@ comes_after c picks t h h' (e ∷ es) [] v r k = absurd r
 
 pub none_held : {K : Type 0} (c : Settings) (picker : K) → Agrees c [] (fresh c picker)
 unfolding waiting untaken ends collect
-none_held c picker = record { follows = record { known = known_empty c; waits = refl; ends = refl }; driven =
-    driven_fresh c }
+none_held c picker = record {
+  follows = record { known = known_empty c; waits = refl; ends = refl };
+  driven =
+      driven_fresh c;
+}
 
 -- What a new controller answers to events comes so.
 pub comes : {K : Type 0} (c : Settings) (picks : List Choice → ℕ → Type 0) (picker : K) (h : Holdings K)
@@ -177,8 +191,14 @@ pub comes : {K : Type 0} (c : Settings) (picks : List Choice → ℕ → Type 0)
     → Comes c picks (zip es ns) h
 comes {K} c picks picker h es ns v r =
     comes_after c picks [] (fresh c picker) h es ns v r
-        (record { settings = refl; legal = λ i l. absurd (omega (arith, l)); picked =
-        λ i l. absurd (omega (arith, l)); agrees = none_held c picker; unbegun = refl })
+    (record {
+      settings = refl;
+      legal = λ i l. absurd (omega (arith, l));
+      picked =
+          λ i l. absurd (omega (arith, l));
+      agrees = none_held c picker;
+      unbegun = refl;
+    })
 
 -- there is one entry an event
 pub as_many : {K : Type 0} (picks : List Choice → ℕ → Type 0) (h h' : Holdings K) (es : List Event) (ns : List Entry)

@@ -43,16 +43,16 @@ refusal_read : (balance : ℕ) (outstanding b : List ℕ) → 12 ≤ length b �
     → refusal balance outstanding b ≡ credit_fault balance outstanding (slice_index b 8) (num b 0 4)
 refusal_read balance outstanding b low high =
     ap (λ s. if s then Some Short else (if nat_lt 64 (length b) then Some Long
-        else credit_fault balance outstanding (slice_index b 8) (num b 0 4))) (le-ltb (length b) 12 low)
+    else credit_fault balance outstanding (slice_index b 8) (num b 0 4))) (le-ltb (length b) 12 low)
     ∙ ap (λ l. if l then Some Long else credit_fault balance outstanding (slice_index b 8) (num b 0 4))
-        (le-ltb 64 (length b) high)
+    (le-ltb 64 (length b) high)
 
 -- a message that is the command and isn't refused for its credit isn't refused
 pub taken : (balance : ℕ) (outstanding b : List ℕ) (command : Command) → IsCommand b command
     → credit_fault balance outstanding (slice_index b 8) command.reference ≡ None → refusal balance outstanding b ≡ None
 taken balance outstanding b command h e =
     refusal_read balance outstanding b h.low h.high
-        ∙ ap (credit_fault balance outstanding (slice_index b 8)) (sym h.reference) ∙ e
+    ∙ ap (credit_fault balance outstanding (slice_index b 8)) (sym h.reference) ∙ e
 
 -- no command that waits has a reference number that isn't outstanding
 or_left : (a b : Bool) → (a || b) ≡ false → a ≡ false
@@ -64,4 +64,4 @@ pub none_waits : (rs : List Record) (es : List End) (reference : Name)
     → list_any (has_reference reference) rs ≡ false
 none_waits rs es reference h =
     or_left (list_any (has_reference reference) rs) (list_any (λ e. same_name (end_name e) reference) es)
-        (sym (holds_either rs es reference) ∙ h)
+    (sym (holds_either rs es reference) ∙ h)

@@ -45,8 +45,15 @@ legal_from c ms r = legal_onto c [] ms (λ i h. absurd (omega (arith, h))) r
 
 -- all that a step says where it serves y
 abbrev pub service_by : Settings → Trace → Block → ℕ → Service
-service_by c t k y = record { reference = reference t y; unit = unit t y; lbn = block_of t y; started =
-    nat_eq (done t y) 0; seek = seek_to c t (unit t y) (block_of t y); ended = end_of c t k y }
+service_by c t k y = record {
+  reference = reference t y;
+  unit = unit t y;
+  lbn = block_of t y;
+  started =
+      nat_eq (done t y) 0;
+  seek = seek_to c t (unit t y) (block_of t y);
+  ended = end_of c t k y;
+}
 
 -- A step is right by the command that it serves.
 pub by_serving : {c : Settings} {t : Trace} {k : Block} {s : Service} (y : ℕ) → is_waiting t y ≡ true

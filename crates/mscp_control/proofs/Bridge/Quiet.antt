@@ -61,7 +61,7 @@ waiting_kept : (t : Trace) (m : Moment) → IsQuiet m
 waiting_kept t m q =
     waiting_more t m ∙ ap (λ l. l ++ cond (queues m.1) (length t ∷ []) [])
     (filter_all (λ x. not (ends_in (reference t x) m.1)) (waiting t)
-        (every_from (λ x. not (ends_in (reference t x) m.1) ≡ true) (λ x. ap not (q.kept (reference t x))) (waiting t)))
+    (every_from (λ x. not (ends_in (reference t x) m.1) ≡ true) (λ x. ap not (q.kept (reference t x))) (waiting t)))
 
 pub records_kept : (t t' : Trace) (xs : List ℕ) → AllByRecursion (Keeps t t') xs
     → map (held_of t') xs ≡ map (held_of t) xs
@@ -73,14 +73,14 @@ records_kept t t' xs k = map_on (held_of t') (held_of t) xs k
 pub follows_left : (c : Settings) (t : Trace) (m : Moment) (ws ws' : List Record) (us us' : List End) → 1 ≤ c.longest
     → IsRight c t m.0 m.1 → service_in m.1 ≡ None → queues m.1 ≡ false
     → ws' ≡ filter (λ r. not (ends_in (name_of r.command) m.1)) ws → us' ≡ untaken c (t ++ m ∷ []) → Follows c t ws us
-        → Follows c (t ++ m ∷ []) ws' us'
+    → Follows c (t ++ m ∷ []) ws' us'
 follows_left c t m ws ws' us us' l r unserved n left e f =
     let t' = t ++ m ∷ [] in
     let keep : ℕ → Bool = λ x. not (ends_in (reference t x) m.1) in
     let stays : Record → Bool = λ r. not (ends_in (name_of r.command) m.1) in
     let kept = filter keep (waiting t) in
     let same : waiting t' ≡ kept = waiting_more t m
-        ∙ (ap (λ b. kept ++ cond b (length t ∷ []) []) n ∙ append-nil kept) in
+    ∙ (ap (λ b. kept ++ cond b (length t ∷ []) []) n ∙ append-nil kept) in
     let k = every_kept (Keeps t t') keep (waiting t) (keeps t m unserved) in
     record {
       known = known_more c l t m r f.known;
@@ -103,18 +103,18 @@ record_new t m = λ i.
 pub follows_queued : (c : Settings) (t : Trace) (m : Moment) (ws : List Record) (us us' : List End) → 1 ≤ c.longest
     → IsRight c t m.0 m.1 → IsQuiet m → queues m.1 ≡ true
     → us' ≡ untaken c (t ++ m ∷ []) → Follows c t ws us
-        → Follows c (t ++ m ∷ []) (ws ++ fresh_record (command_of (sent_bytes m.0)) ∷ []) us'
+    → Follows c (t ++ m ∷ []) (ws ++ fresh_record (command_of (sent_bytes m.0)) ∷ []) us'
 follows_queued c t m ws us us' l r q n e f =
     let t' = t ++ m ∷ [] in
     let x = length t in
     let same : waiting t' ≡ waiting t ++ x ∷ [] = waiting_kept t m q
-        ∙ ap (λ b. waiting t ++ cond b (length t ∷ []) []) n in
+    ∙ ap (λ b. waiting t ++ cond b (length t ∷ []) []) n in
     let k = keeps t m q.unserved in
     record {
       known = known_more c l t m r f.known;
       waits =
           ap (λ ys. ys ++ fresh_record (command_of (sent_bytes m.0)) ∷ [])
-              (f.waits ∙ sym (records_kept t t' (waiting t) k))
+          (f.waits ∙ sym (records_kept t t' (waiting t) k))
           ∙ (ap (λ y. map (held_of t') (waiting t) ++ y ∷ []) (sym (record_new t m))
           ∙ (sym (map-append (held_of t') (waiting t) (x ∷ [])) ∙ ap (map (held_of t')) (sym same)));
       ends = e;
@@ -129,7 +129,7 @@ unfolding untaken
 untaken_taken c t m e n =
     let k = count_by (λ (n : Moment). takes n.1) t in
     let one : count_by (λ (n : Moment). takes n.1) (t ++ m ∷ []) ≡ k + 1 =
-        taken_more t m ∙ ap (λ b. k + cond b 1 0) e in
+    taken_more t m ∙ ap (λ b. k + cond b 1 0) e in
     let same : ends c (t ++ m ∷ []) ≡ ends c t = ends_more c t m
-        ∙ (ap (λ l. ends c t ++ l) n ∙ append-nil (ends c t)) in
+    ∙ (ap (λ l. ends c t ++ l) n ∙ append-nil (ends c t)) in
     ap (λ j. drop j (ends c (t ++ m ∷ []))) one ∙ (ap (drop (k + 1)) same ∙ sym (drop-drop 1 k (ends c t)))

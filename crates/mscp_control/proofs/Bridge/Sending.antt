@@ -61,7 +61,7 @@ unfolding outstanding
 outstanding_held c t ws us f =
     ap (λ xs. map (λ r. r.command.reference) xs ++ map (λ (e : End). e.reference) us) f.waits
     ∙ (ap (λ xs. xs ++ map (λ (e : End). e.reference) us)
-        (map_map (held_of t) (λ (r : Record). r.command.reference) (waiting t))
+    (map_map (held_of t) (λ (r : Record). r.command.reference) (waiting t))
     ∙ ap (λ xs. map (reference t) (waiting t) ++ map (λ (e : End). e.reference) xs) f.ends)
 
 -- a message is refused alike
@@ -101,26 +101,26 @@ status_same c on on' figure k (Some s) h = ap (λ b. own_end_with c b figure k N
 own_same : (c : Settings) (on on' : Bool) (figure reference unit : ℕ) (o : Order)
     → (is_some (unit_found c unit) ≡ true → on ≡ on')
     → let k : Command = record { reference = reference; unit = unit; order = o } in
-        own_end c on figure k ≡ own_end c on' figure k
+    own_end c on figure k ≡ own_end c on' figure k
 own_same c on on' figure reference unit orders.UnitStatus h =
     let k : Command = record { reference = reference; unit = unit; order = orders.UnitStatus } in
-        status_same c on on' figure k (unit_found c unit) h
+    status_same c on on' figure k (unit_found c unit) h
 own_same c on on' figure reference unit o h =
     let k : Command = record { reference = reference; unit = unit; order = o } in
-        with_same c on on' figure k (order_fault c unit o) refl
+    with_same c on on' figure k (order_fault c unit o) refl
 
 answer_held : {K : Type 0} (h : Holdings K) (t : Trace) (b : List ℕ) → Agrees h.settings t h
     → option_to_list (option_map aborted_record (record_aborted h.waiting (command_of b).order))
-        ++ answered_end h (command_of b) ∷ [] ≡ answer h.settings t b
+    ++ answered_end h (command_of b) ∷ [] ≡ answer h.settings t b
 unfolding answer
 answer_held h t b a =
     let c = h.settings in
     let k = command_of b in
     let on = is_online t k.unit in
     let state = own_same c (drive_of h.drives k.unit).online on (figure_polled c h.waiting k.order) k.reference k.unit
-        k.order (λ found. ap (λ (d : Drive). d.online) (drive_found c t h.drives k.unit a.driven found)) in
+    k.order (λ found. ap (λ (d : Drive). d.online) (drive_found c t h.drives k.unit a.driven found)) in
     let own : answered_end h k ≡ own_end c on (history.figure_asked c t k.order) k =
-        state ∙ ap (λ n. own_end c on n k) (asked_held c t h.waiting h.untaken k.order a.follows) in
+    state ∙ ap (λ n. own_end c on n k) (asked_held c t h.waiting h.untaken k.order a.follows) in
     let made = end_made c t h.waiting k a.follows.known.steady.apart a.follows.waits in
     (λ i. made i ++ own i ∷ [])
 
@@ -139,7 +139,7 @@ sending e s = (e, entries.Sent s)
 leaves : {K : Type 0} (h h' : Holdings K) (t : Trace) (m : Moment) → 1 ≤ h.settings.longest → service_in m.1 ≡ None
     → queues m.1 ≡ false → h'.waiting ≡ filter (λ r. not (ends_in (name_of r.command) m.1)) h.waiting
     → h'.drives ≡ h.drives → h'.untaken ≡ untaken h.settings (t ++ m ∷ []) → Agrees h.settings t h
-        → IsRight h.settings t m.0 m.1 → Sends h.settings t m h'
+    → IsRight h.settings t m.0 m.1 → Sends h.settings t m h'
 leaves h h' t m l unserved n left stay e a r =
     let c = h.settings in
     record {
@@ -157,7 +157,7 @@ pub quiet : {K : Type 0} (h h' : Holdings K) (t : Trace) (m : Moment) → 1 ≤ 
 quiet h h' t m l q n same stay e a r =
     let stays : Record → Bool = λ r. not (ends_in (name_of r.command) m.1) in
     leaves h h' t m l q.unserved n (same ∙ sym (filter_all stays h.waiting
-        (every_from (λ r. stays r ≡ true) (λ r. ap not (q.kept (name_of r.command))) h.waiting))) stay e a r
+    (every_from (λ r. stays r ≡ true) (λ r. ap not (q.kept (name_of r.command))) h.waiting))) stay e a r
 
 -- The ends where a moment takes none.
 pub ends_on : {K : Type 0} (h : Holdings K) (t : Trace) (m : Moment) → takes m.1 ≡ false → Agrees h.settings t h
@@ -179,7 +179,7 @@ refused h t e fault l a r =
 waits : {K : Type 0} (h : Holdings K) (t : Trace) (e : Event) → 1 ≤ h.settings.longest → Agrees h.settings t h
     → IsRight h.settings t e (entries.Sent (Ok (sents.Queued (command_of (sent_bytes e)).reference)))
     → Sends h.settings t (sending e (Ok (sents.Queued (command_of (sent_bytes e)).reference)))
-        (queued h (command_of (sent_bytes e)))
+    (queued h (command_of (sent_bytes e)))
 waits h t e l a r =
     let c = h.settings in
     let m = sending e (Ok (sents.Queued (command_of (sent_bytes e)).reference)) in
@@ -198,9 +198,9 @@ told h k = option_map (λ r. r.command.reference) (record_aborted h.waiting k.or
 
 answered : {K : Type 0} (h : Holdings K) (t : Trace) (e : Event) → 1 ≤ h.settings.longest → Agrees h.settings t h
     → IsRight h.settings t e (entries.Sent (Ok (sents.Answered (command_of (sent_bytes e)).reference
-        (told h (command_of (sent_bytes e))))))
+    (told h (command_of (sent_bytes e))))))
     → Sends h.settings t (sending e (Ok (sents.Answered (command_of (sent_bytes e)).reference
-        (told h (command_of (sent_bytes e))))))
+    (told h (command_of (sent_bytes e))))))
     (with_end (aborting h (command_of (sent_bytes e)).order) (answered_end h (command_of (sent_bytes e))))
 answered h t e l a r =
     let b = sent_bytes e in
@@ -209,8 +209,8 @@ answered h t e l a r =
     let made = option_to_list (option_map aborted_record (record_aborted h.waiting k.order)) in
     let all = answer_held h t b a ∙ sym (append-nil (answer h.settings t b)) in
     leaves h (with_end (aborting h k.order) (answered_end h k)) t m l refl refl
-        (others_wait k.reference h.waiting k.order)
-        refl
+    (others_wait k.reference h.waiting k.order)
+    refl
     (append_assoc h.untaken made (answered_end h k ∷ []) ∙ ends_on h t m refl a (made ++ answered_end h k ∷ []) all) a r
 
 -- ---- every message
@@ -242,18 +242,18 @@ sends_taken h t e l f right none true q =
     let c = h.settings in
     let b = sent_bytes e in
     waits h t e l f (right (Ok (sents.Queued (command_of b).reference))
-        (ap Ok (taken_as_queued c t (command_of b) q) ∙ arrival_when c t b None none))
+    (ap Ok (taken_as_queued c t (command_of b) q) ∙ arrival_when c t b None none))
 sends_taken h t e l f right none false q =
     let c = h.settings in
     let b = sent_bytes e in
     answered h t e l f (right (Ok (sents.Answered (command_of b).reference (told h (command_of b))))
-        (ap Ok (taken_as_answered h t (command_of b) f.follows q) ∙ arrival_when c t b None none))
+    (ap Ok (taken_as_answered h t (command_of b) f.follows q) ∙ arrival_when c t b None none))
 
 sends_when : {K : Type 0} (h : Holdings K) (t : Trace) (e : Event) → 1 ≤ h.settings.longest → Agrees h.settings t h
     → ((s : Result Sent SendFault) → s ≡ arrival h.settings t (sent_bytes e) → IsRight h.settings t e (entries.Sent s))
     → (o : Option SendFault) → refusal (balance h.settings t) (outstanding h.settings t) (sent_bytes e) ≡ o
     → Sends h.settings t (sending e (sent_unless h (command_of (sent_bytes e)) o))
-        (held_unless h (command_of (sent_bytes e)) o)
+    (held_unless h (command_of (sent_bytes e)) o)
 sends_when h t e l f right (Some fault) r = refused h t e fault l f
     (right (Err fault) (arrival_when h.settings t (sent_bytes e) (Some fault) r))
 sends_when h t e l f right None r = sends_taken h t e l f right r (is_queued h.settings (command_of (sent_bytes e)))
@@ -265,4 +265,4 @@ pub sends : {K : Type 0} (h : Holdings K) (t : Trace) (e : Event) → 1 ≤ h.se
     → Sends h.settings t (sending e (answer_to_message h (sent_bytes e))) (after_message h (sent_bytes e))
 sends h t e l f right =
     sends_when h t e l f right (refusal (balance_of h) (outstanding_of h) (sent_bytes e))
-        (sym (refusal_held h t (sent_bytes e) f.follows))
+    (sym (refusal_held h t (sent_bytes e) f.follows))

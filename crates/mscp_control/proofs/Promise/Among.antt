@@ -36,7 +36,7 @@ figure_of_one c t y front back a =
     ap (figure_found c t) (ap (find p) a.at.is
     ∙ find_first p front y back
     (every_weaker (λ x. reference t x ≢ reference t y) (λ x. p x ≡ false)
-        (λ x n. ne_eqb (reference t x) (reference t y) n) front a.before)
+    (λ x n. ne_eqb (reference t x) (reference t y) n) front a.before)
     (eq-eqb (reference t y) (reference t y) refl))
 
 -- two that wait and have one reference are one
@@ -44,13 +44,13 @@ pub one_waits : (t : Trace) (x y : ℕ) → Apart t (waiting t) → is_waiting t
     → reference t x ≡ reference t y → x ≡ y
 one_waits t x y apart w v e =
     let found : (z : ℕ) → is_waiting t z ≡ true → find (λ i. nat_eq (reference t i) (reference t z)) (waiting t)
-        ≡ Some z =
+    ≡ Some z =
     λ z k.
     let c = cut t z (waits_below t z k) k in
     let a = alone t z c.0 c.1 apart c.2 in
     let p : ℕ → Bool = λ i. nat_eq (reference t i) (reference t z) in
     ap (find p) a.at.is
     ∙ find_first p c.0 z c.1 (every_weaker (λ i. reference t i ≢ reference t z) (λ i. p i ≡ false)
-        (λ i n. ne_eqb (reference t i) (reference t z) n) c.0 a.before) (eq-eqb (reference t z) (reference t z) refl) in
+    (λ i n. ne_eqb (reference t i) (reference t z) n) c.0 a.before) (eq-eqb (reference t z) (reference t z) refl) in
     ap (λ o. unwrap_or o x) (sym (found x w) ∙ (ap (λ n. find (λ i. nat_eq (reference t i) n) (waiting t)) e
-        ∙ found y v))
+    ∙ found y v))

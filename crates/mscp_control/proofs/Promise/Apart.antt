@@ -32,8 +32,10 @@ apart_from : (t : Trace) (m : Moment) (x : ℕ) (xs : List ℕ) → x < length t
     → AllByRecursion (λ y. reference t x ≢ reference t y) xs
     → AllByRecursion (λ y. reference (t ++ m ∷ []) x ≢ reference (t ++ m ∷ []) y) xs
 apart_from t m x [] l h a = tt
-apart_from t m x (y ∷ ys) l h a = ((λ e. a.0 (sym (reference_before t m x l) ∙ (e ∙ reference_before t m y h.0))),
-    apart_from t m x ys l h.1 a.1)
+apart_from t m x (y ∷ ys) l h a = (
+  (λ e. a.0 (sym (reference_before t m x l) ∙ (e ∙ reference_before t m y h.0))),
+  apart_from t m x ys l h.1 a.1,
+)
 
 apart_along : (t : Trace) (m : Moment) (xs : List ℕ) → AllByRecursion (λ x. x < length t) xs → Apart t xs
     → Apart (t ++ m ∷ []) xs
@@ -49,8 +51,11 @@ new_apart : (t : Trace) (m : Moment) (xs : List ℕ) → AllByRecursion (λ x. x
     → AllByRecursion (λ x. reference t x ≢ (command_of (sent_bytes m.0)).reference) xs
     → AllByRecursion (λ x. reference (t ++ m ∷ []) x ≢ reference (t ++ m ∷ []) (length t)) xs
 new_apart t m [] h a = tt
-new_apart t m (x ∷ xs) h a = ((λ e. a.0 (sym (reference_before t m x h.0) ∙ (e ∙ reference_last t m))), new_apart t m xs
-    h.1 a.1)
+new_apart t m (x ∷ xs) h a = (
+  (λ e. a.0 (sym (reference_before t m x h.0) ∙ (e ∙ reference_last t m))),
+  new_apart t m xs
+      h.1 a.1,
+)
 
 -- a queued command has a new reference
 pub new_reference : (c : Settings) (t : Trace) (m : Moment) → IsRight c t m.0 m.1 → queues m.1 ≡ true
@@ -71,7 +76,7 @@ apart_more c t m r a =
     λ b. elim b as (λ b. queues m.1 ≡ b → Apart (t ++ m ∷ []) (kept ++ cond b (length t ∷ []) [])) [
       | true ↦ λ e. pairs_append (λ x y. reference (t ++ m ∷ []) x ≢ reference (t ++ m ∷ []) y) kept (length t) old
           (new_apart t m kept below (every_kept (λ x. reference t x ≢ (command_of (sent_bytes m.0)).reference) keep
-              (waiting t) (new_reference c t m r e)))
+          (waiting t) (new_reference c t m r e)))
       | false ↦ λ e. subst (λ l. Apart (t ++ m ∷ []) l) (sym (append-nil kept)) old
     ] in
     subst (λ l. Apart (t ++ m ∷ []) l) (sym (waiting_more t m)) (both (queues m.1) refl)

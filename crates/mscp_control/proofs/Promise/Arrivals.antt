@@ -42,8 +42,14 @@ refusal_none credit references b h =
     let g = if_none (nat_eq credit 0) NoCredit _ f.1 in
     let k = if_none (nat_eq credit 1 && not (is_immediate_class (class (slice_index b 8)))) LastCredit _ g.1 in
     let l = if_none (holds references (num b 0 4)) Doubled None k.1 in
-    record { low = ltb-false (length b) 12 e.0; high = ltb-false 64 (length b) f.0; free =
-        eqb-false credit 0 g.0; last = k.0; new = l.0 }
+    record {
+      low = ltb-false (length b) 12 e.0;
+      high = ltb-false 64 (length b) f.0;
+      free =
+          eqb-false credit 0 g.0;
+      last = k.0;
+      new = l.0;
+    }
 
 sent_or : Sent → Result Sent SendFault → Sent
 sent_or s (Ok r) = r

@@ -40,8 +40,11 @@ queued_open c k h =
     let both : (b : Bool) → is_immediate k.order ≡ b → IsOpen c k =
     λ b. elim b as (λ b. is_immediate k.order ≡ b → IsOpen c k) [
       | true ↦ λ e. absurd (false≢true (sym (ap (λ b. if b then false else is_none (fault_of c k)) e) ∙ h))
-      | false ↦ λ e. record { waits = e; sound = none_of (fault_of c k)
-          (sym (ap (λ b. if b then false else is_none (fault_of c k)) e) ∙ h) }
+      | false ↦ λ e. record {
+        waits = e;
+        sound = none_of (fault_of c k)
+            (sym (ap (λ b. if b then false else is_none (fault_of c k)) e) ∙ h);
+      }
     ] in
     both (is_immediate k.order) refl
 
@@ -82,22 +85,25 @@ same_each P t m (x ∷ xs) l h = (subst P (sym (command_before t m x l.0)) h.0, 
 pub each_queued : (c : Settings) (P : Command → Type 0) → ((k : Command) → is_queued c k ≡ true → P k)
     → (t : Trace) (m : Moment) → IsRight c t m.0 m.1
     → AllByRecursion (λ x. P (command t x)) (waiting t)
-        → AllByRecursion (λ x. P (command (t ++ m ∷ []) x)) (waiting (t ++ m ∷ []))
+    → AllByRecursion (λ x. P (command (t ++ m ∷ []) x)) (waiting (t ++ m ∷ []))
 each_queued c P each t m r h =
     let t' = t ++ m ∷ [] in
     let Q : ℕ → Type 0 = λ x. P (command t' x) in
     let keep : ℕ → Bool = λ x. not (ends_in (reference t x) m.1) in
     let kept = filter keep (waiting t) in
     let old = same_each P t m kept (every_kept (λ x. x < length t) keep (waiting t) (waiting_below t))
-        (every_kept (λ x. P (command t x)) keep (waiting t) h) in
+    (every_kept (λ x. P (command t x)) keep (waiting t) h) in
     let both : (b : Bool) → queues m.1 ≡ b → AllByRecursion Q (cond b (length t ∷ []) []) =
     λ b. elim b as (λ b. queues m.1 ≡ b → AllByRecursion Q (cond b (length t ∷ []) [])) [
-      | true ↦ λ e. (subst P (sym (command_last t m))
-          (each (command_of (sent_bytes m.0)) (queued_right c t m.0 m.1 e r).waits), tt)
+      | true ↦ λ e. (
+        subst P (sym (command_last t m))
+            (each (command_of (sent_bytes m.0)) (queued_right c t m.0 m.1 e r).waits),
+        tt,
+      )
       | false ↦ λ e. tt
     ] in
     subst (AllByRecursion Q) (sym (waiting_more t m))
-        (every_append Q kept (cond (queues m.1) (length t ∷ []) []) old (both (queues m.1) refl))
+    (every_append Q kept (cond (queues m.1) (length t ∷ []) []) old (both (queues m.1) refl))
 
 -- Each right moment keeps it that no waiting command is longer than the longest.
 pub short_more : (c : Settings) (t : Trace) (m : Moment) → 1 ≤ c.longest → IsRight c t m.0 m.1 → Short c t (waiting t)

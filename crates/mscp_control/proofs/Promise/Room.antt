@@ -43,9 +43,9 @@ two_filters p q [] h = omega arith
 two_filters p q (x ∷ xs) h =
     let rest = two_filters p q xs h.1 in
     let both : (b : Bool) → q x ≡ b → length (cond (p x) (x ∷ filter p xs) (filter p xs))
-        + length (cond b (x ∷ filter q xs) (filter q xs)) ≤ length (x ∷ xs) =
+    + length (cond b (x ∷ filter q xs) (filter q xs)) ≤ length (x ∷ xs) =
     λ b. elim b as (λ b. q x ≡ b → length (cond (p x) (x ∷ filter p xs) (filter p xs))
-        + length (cond b (x ∷ filter q xs) (filter q xs)) ≤ length (x ∷ xs)) [
+    + length (cond b (x ∷ filter q xs) (filter q xs)) ≤ length (x ∷ xs)) [
       | true ↦ λ e. omega (arith, rest, ap (λ b. length (cond b (x ∷ filter p xs) (filter p xs))) (h.0 e))
       | false ↦ λ e. elim (p x) as (λ b. length (cond b (x ∷ filter p xs) (filter p xs)) + length (filter q xs)
           ≤ length (x ∷ xs)) [ true ↦ omega (arith, rest) | false ↦ omega (arith, rest) ]
@@ -63,29 +63,35 @@ aborted_rest : (t : Trace) (q : ℕ) (o : Order) (f : Option ℕ) (a : Option �
     → a ≡ option_map (reference t) (slice_get (aborted_unless t o f) 0)
     → length (filter (λ x. not (aborts (reference t x) (entries.Sent (Ok (sents.Answered q a))))) (waiting t))
     + length (aborted_unless t o f) ≤ length (waiting t)
-aborted_rest t q o (Some fault) a e = omega (arith, fewer
-    (λ x. not (aborts (reference t x) (entries.Sent (Ok (sents.Answered q a))))) (waiting t))
+aborted_rest t q o (Some fault) a e = omega (
+  arith,
+  fewer
+      (λ x. not (aborts (reference t x) (entries.Sent (Ok (sents.Answered q a))))) (waiting t),
+)
 aborted_rest t q (orders.Abort other) None a e =
     let p : ℕ → Bool = λ x. nat_eq (reference t x) other in
     let keep : Option ℕ → ℕ → Bool = λ a x. not (aborts (reference t x) (entries.Sent (Ok (sents.Answered q a)))) in
     let both : (n : ℕ) → length (filter p (waiting t)) ≡ n
-        → length (filter (keep a) (waiting t)) + length (filter p (waiting t)) ≤ length (waiting t) =
+    → length (filter (keep a) (waiting t)) + length (filter p (waiting t)) ≤ length (waiting t) =
     λ n. elim n as (λ n. length (filter p (waiting t)) ≡ n
-        → length (filter (keep a) (waiting t)) + length (filter p (waiting t)) ≤ length (waiting t)) [
+    → length (filter (keep a) (waiting t)) + length (filter p (waiting t)) ≤ length (waiting t)) [
       | zero ↦ λ l. omega (arith, l, fewer (keep a) (waiting t))
       | suc n ↦ λ l.
           let each = every_weaker (λ x. Unit {0} × (p x ≡ true)) (λ x. reference t x ≡ other)
-              (λ x h. eqb-true (reference t x) other h.1) (filter p (waiting t))
-              (every_filter (λ x. Unit {0}) p (waiting t) (every_from (λ x. Unit {0}) (λ x. tt) (waiting t))) in
+          (λ x h. eqb-true (reference t x) other h.1) (filter p (waiting t))
+          (every_filter (λ x. Unit {0}) p (waiting t) (every_from (λ x. Unit {0}) (λ x. tt) (waiting t))) in
           let is : a ≡ Some other = e ∙ first_of_filter (filter p (waiting t)) (reference t) other each
-              (omega (arith, l)) in
+          (omega (arith, l)) in
           two_filters (keep a) p (waiting t) (every_from (λ x. p x ≡ true → keep a x ≡ false)
           (λ x h. ap (λ a. keep a x) is ∙ ap not (eq-eqb other (reference t x)
-              (sym (eqb-true (reference t x) other h)))) (waiting t))
+          (sym (eqb-true (reference t x) other h)))) (waiting t))
     ] in
     both (length (filter p (waiting t))) refl
-aborted_rest t q o None a e = omega (arith, fewer (λ x.
-    not (aborts (reference t x) (entries.Sent (Ok (sents.Answered q a))))) (waiting t))
+aborted_rest t q o None a e = omega (
+  arith,
+  fewer (λ x.
+      not (aborts (reference t x) (entries.Sent (Ok (sents.Answered q a))))) (waiting t),
+)
 
 answered_length : (c : Settings) (t : Trace) (b : List ℕ)
     → length (answer c t b) ≡ length (aborted c t (command_of b)) + 1
@@ -110,9 +116,15 @@ waiting_length t m = ap length (waiting_more t m) ∙ length-append
 still : (c : Settings) (t : Trace) (m : Moment) → Room c t → queues m.1 ≡ false → ends_at c t m ≡ [] → Fits c t m
 still c t m h q e =
     let room = h.room in
-    omega (arith, room, ap length e, waiting_length t m
-        ∙ ap (λ b. length (filter (λ x. not (ends_in (reference t x) m.1)) (waiting t))
-        + length (cond b (length t ∷ []) [])) q, fewer (λ x. not (ends_in (reference t x) m.1)) (waiting t))
+    omega (
+      arith,
+      room,
+      ap length e,
+      waiting_length t m
+          ∙ ap (λ b. length (filter (λ x. not (ends_in (reference t x) m.1)) (waiting t))
+          + length (cond b (length t ∷ []) [])) q,
+      fewer (λ x. not (ends_in (reference t x) m.1)) (waiting t),
+    )
 
 balance_some : (c : Settings) (t : Trace) → (balance c t ≡ 0 → ⊥)
     → length (waiting t) + length (untaken c t) + 1 ≤ c.credits
@@ -143,10 +155,10 @@ served_fits c t m s h st e r ends =
     let room = h.room in
     let before = ap length z.4.serves.among.at.is ∙ length-append front (y ∷ back) in
     let after = ap length z.4.changes.waits ∙ (length-append front (cond (is_some s.ended) [] (y ∷ []) ++ back)
-        ∙ ap (λ n. length front + n) (length-append (cond (is_some s.ended) [] (y ∷ [])) back)) in
+    ∙ ap (λ n. length front + n) (length-append (cond (is_some s.ended) [] (y ∷ [])) back)) in
     let own : length (cond (is_some s.ended) [] (y ∷ [])) + length (option_to_list s.ended) ≡ 1 =
     elim s.ended as (λ o. length (cond (is_some o) [] (y ∷ [])) + length (option_to_list o) ≡ 1)
-        [ None ↦ refl | Some e ↦ refl ] in
+    [ None ↦ refl | Some e ↦ refl ] in
     omega (arith, room, before, after, own, ap length ends)
 
 fits : (c : Settings) (t : Trace) (event : Event) (entry : Entry) → Room c t → Steady c t → IsRight c t event entry
@@ -156,21 +168,32 @@ fits c t event (entries.Taken taken) h st r = still c t (event, entries.Taken ta
 fits c t event (entries.Stepped reports.Idle) h st r = still c t (event, entries.Stepped reports.Idle) h refl refl
 fits c t event (entries.Stepped (reports.Served reference unit lbn started seek ended)) h st r =
     served_fits c t (event, entries.Stepped (reports.Served reference unit lbn started seek ended))
-        (record { reference = reference; unit = unit; lbn = lbn; started = started; seek = seek; ended = ended }) h st
-        refl r refl
+    (record { reference = reference; unit = unit; lbn = lbn; started = started; seek = seek; ended = ended }) h st
+    refl r refl
 fits c t event (entries.Sent (Err fault)) h st r = still c t (event, entries.Sent (Err fault)) h refl refl
 fits c t (events.Send b) (entries.Sent (Ok (sents.Queued q))) h st r =
     let m : Moment = (events.Send b, entries.Sent (Ok (sents.Queued q))) in
     let a = arrives c t b.items (sents.Queued q) r in
-    omega (arith, balance_some c t a.taken.free, waiting_length t m, fewer (λ x. not (ends_in (reference t x) m.1))
-        (waiting t))
+    omega (
+      arith,
+      balance_some c t a.taken.free,
+      waiting_length t m,
+      fewer (λ x. not (ends_in (reference t x) m.1))
+          (waiting t),
+    )
 fits c t (events.Send b) (entries.Sent (Ok (sents.Answered q o))) h st r =
     let m : Moment = (events.Send b, entries.Sent (Ok (sents.Answered q o))) in
     let a = arrives c t b.items (sents.Answered q o) r in
     let is = taken_as_answer c t (command_of b.items) (is_queued c (command_of b.items)) q o a.is in
     let rest = aborted_rest t q (command_of b.items).order (fault_of c (command_of b.items)) o is in
-    omega (arith, balance_some c t a.taken.free, waiting_length t m, rest, ap length (append-nil (answer c t b.items))
-        ∙ answered_length c t b.items)
+    omega (
+      arith,
+      balance_some c t a.taken.free,
+      waiting_length t m,
+      rest,
+      ap length (append-nil (answer c t b.items))
+          ∙ answered_length c t b.items,
+    )
 fits c t (events.Step k) (entries.Sent (Ok sent)) h st r = absurd r
 fits c t events.Take (entries.Sent (Ok sent)) h st r = absurd r
 fits c t events.Look (entries.Sent (Ok sent)) h st r = absurd r
@@ -210,18 +233,32 @@ room_more c t m r st h =
           let none = ap length o.1 in
           let one = count ∙ ap (λ b. count_by (λ (n : Moment). takes n.1) t + cond b 1 0) e in
           let waits = waiting_length t m ∙ ap (λ b. length (filter (λ x. not (ends_in (reference t x) m.1)) (waiting t))
-              + length (cond b (length t ∷ []) [])) o.2 in
+          + length (cond b (length t ∷ []) [])) o.2 in
           record {
             taken = omega (arith, one, more, some, untaken_length c t);
-            room = omega (arith, room, waits, fewer (λ x. not (ends_in (reference t x) m.1)) (waiting t), untaken_length
-                c (t ++ m ∷ []), untaken_length c t, one, more, none);
+            room = omega (
+              arith,
+              room,
+              waits,
+              fewer (λ x. not (ends_in (reference t x) m.1)) (waiting t),
+              untaken_length
+                  c (t ++ m ∷ []),
+              untaken_length c t,
+              one,
+              more,
+              none,
+            );
           }
       | false ↦ λ e.
           let none = count ∙ ap (λ b. count_by (λ (n : Moment). takes n.1) t + cond b 1 0) e in
           record {
             taken = omega (arith, none, more, taken);
-            room = omega (arith, fits c t m.0 m.1 h st r, ap length (untaken_more c t m e h.taken)
-                ∙ length-append (untaken c t) (ends_at c t m));
+            room = omega (
+              arith,
+              fits c t m.0 m.1 h st r,
+              ap length (untaken_more c t m e h.taken)
+                  ∙ length-append (untaken c t) (ends_at c t m),
+            );
           }
     ] in
     both (takes m.1) refl

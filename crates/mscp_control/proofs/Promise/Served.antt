@@ -76,7 +76,7 @@ pub below_parts : (t : Trace) (y : ℕ) (front back : List ℕ) → Cut t y fron
     → AllByRecursion (λ x. x < length t) front × ((y < length t) × AllByRecursion (λ x. x < length t) back)
 below_parts t y front back k =
     let p = every_parts (λ x. x < length t) front (y ∷ back)
-        (subst (AllByRecursion (λ x. x < length t)) k.is (waiting_below t)) in
+    (subst (AllByRecursion (λ x. x < length t)) k.is (waiting_below t)) in
     (p.0, (p.1.0, p.1.1))
 
 kept_other : (t : Trace) (m : Moment) (s : Service) (y x : ℕ) → service_in m.1 ≡ Some s → s.reference ≡ reference t y
@@ -115,7 +115,7 @@ changes t m s y front back v =
     let other : (x : ℕ) → reference t x ≢ reference t y → keep x ≡ true = λ x n. kept_other t m s y x v.is v.same n in
     let below = below_parts t y front back a.at in
     let still : (x : ℕ) → (reference t x ≢ reference t y) × (x < length t) → done (t ++ m ∷ []) x ≡ done t x =
-        λ x h. done_other t m s y x v.is v.same h.1 h.0 in
+    λ x h. done_other t m s y x v.is v.same h.1 h.0 in
     record {
       waits =
           waiting_more t m
@@ -124,11 +124,11 @@ changes t m s y front back v =
           ∙ (ap (filter keep) a.at.is
           ∙ (filter-append keep front (y ∷ back)
           ∙ (ap (λ l. l ++ cond (keep y) (y ∷ filter keep back) (filter keep back))
-              (filter_all keep front (every_weaker (λ x. reference t x ≢ reference t y) (λ x. keep x ≡ true) other front
-              a.before))
+          (filter_all keep front (every_weaker (λ x. reference t x ≢ reference t y) (λ x. keep x ≡ true) other front
+          a.before))
           ∙ (ap (λ l. front ++ cond (keep y) (y ∷ l) l)
-              (filter_all keep back (every_weaker (λ x. reference t x ≢ reference t y) (λ x. keep x ≡ true) other back
-              a.behind))
+          (filter_all keep back (every_weaker (λ x. reference t x ≢ reference t y) (λ x. keep x ≡ true) other back
+          a.behind))
           ∙ (ap (λ b. front ++ cond b (y ∷ back) back) (kept_own t m s y v.is v.same)
           ∙ ap (λ l. front ++ l) (cond_not y back (is_some s.ended)))))))));
       front_done = every_weaker (λ x. (reference t x ≢ reference t y) × (x < length t))

@@ -70,9 +70,9 @@ coded_with b None e = refl
 coded_with b (Some o) e =
     let byte : (row_of o).byte ≡ slice_index b 8 =
     eqb-true (row_of o).byte (slice_index b 8) (found_is (λ (x : Opcode). nat_eq (row_of x).byte (slice_index b 8))
-        opcodes o e) in
+    opcodes o e) in
     elim (nat_lt (length b) (least o)) as (λ s. IsCoded
-        (if s then orders.Invalid (slice_index b 8) invalid_length else parameters o b)) [
+    (if s then orders.Invalid (slice_index b 8) invalid_length else parameters o b)) [
       | true ↦ subst (λ k. IsCoded (orders.Invalid k invalid_length)) byte (coded_short o)
       | false ↦ coded_parameters o b
     ]
@@ -122,7 +122,7 @@ outcome_kind c t k y = ended_kind (unit_shape c (command t y).unit) (is_online t
 end_kinds : (c : Settings) (t : Trace) (k : Block) (y : ℕ) → AllByRecursion IsOfKind (option_to_list (end_of c t k y))
 end_kinds c t k y =
     elim (goes_on (is_online t (unit t y)) (order t y) k (left t y)) as
-        (λ b. AllByRecursion IsOfKind (option_to_list (if b then None else Some (outcome c t k y)))) [
+    (λ b. AllByRecursion IsOfKind (option_to_list (if b then None else Some (outcome c t k y)))) [
       | true ↦ tt
       | false ↦ (outcome_kind c t k y, tt)
     ]
@@ -150,7 +150,7 @@ every_flat : {X A : Type 0} (P : A → Type 0) (f : X → List A) → (xs : List
 every_flat P f [] h = tt
 every_flat P f (x ∷ xs) h =
     subst (AllByRecursion P) (sym (flat_map-cons f x xs))
-        (every_append P (f x) (flat_map f xs) h.0 (every_flat P f xs h.1))
+    (every_append P (f x) (flat_map f xs) h.0 (every_flat P f xs h.1))
 
 every_range : (P : ℕ → Type 0) (a n : ℕ) → ((i : ℕ) → i < a + n → P i) → AllByRecursion P (range_with_len a n)
 every_range P a zero h = tt
@@ -162,4 +162,4 @@ shaped c t l =
     All-from_recursion IsOfKind (ends c t)
     (every_flat IsOfKind (λ i. ends_at c (take i t) (moment t i)) (positions t)
     (every_range (λ i. AllByRecursion IsOfKind (ends_at c (take i t) (moment t i))) 0 (length t)
-        (λ i q. moment_kinds c (take i t) (moment t i) (l i (omega (arith, q))))))
+    (λ i q. moment_kinds c (take i t) (moment t i) (l i (omega (arith, q))))))

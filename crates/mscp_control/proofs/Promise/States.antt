@@ -81,7 +81,7 @@ given_other : (t : Trace) (u x : ℕ) (s : Service) → s.reference ≢ referenc
 unfolding given
 given_other t u x s n =
     ap (λ b. if nat_eq (unit t x) u then (if b then states_ended (order t x) s.ended else []) else [])
-        (ne_eqb s.reference (reference t x) n)
+    (ne_eqb s.reference (reference t x) n)
     ∙ if_same (nat_eq (unit t x) u) []
 
 -- A step of y gives a state to y's unit alone, and only where it ends y.
@@ -91,14 +91,14 @@ states_step : (t : Trace) (m : Moment) (s : Service) (y u : ℕ) (front back : L
 unfolding given
 states_step t m s y u front back a e r =
     let none : (x : ℕ) → reference t x ≢ reference t y → given t u (Some s) x ≡ [] =
-        λ x n. given_other t u x s (λ k. n (sym k ∙ r)) in
+    λ x n. given_other t u x s (λ k. n (sym k ∙ r)) in
     ap (λ o. flat_map (given t u o) (waiting t)) e
     ∙ (ap (flat_map (given t u (Some s))) a.at.is
     ∙ (flat_one (given t u (Some s)) front y back
     (every_weaker (λ x. reference t x ≢ reference t y) (λ x. given t u (Some s) x ≡ []) none front a.before)
     (every_weaker (λ x. reference t x ≢ reference t y) (λ x. given t u (Some s) x ≡ []) none back a.behind)
     ∙ ap (λ b. if nat_eq (unit t y) u then (if b then states_ended (order t y) s.ended else []) else [])
-        (eq-eqb s.reference (reference t y) r)))
+    (eq-eqb s.reference (reference t y) r)))
 
 -- The state that an order gives is that which it leaves.
 last_given : (on : Bool) (order : Order) (status : ℕ)
@@ -148,7 +148,7 @@ pub is_online_ended : (c : Settings) (t : Trace) (m : Moment) (s : Service) (k :
 is_online_ended c t m s k y front back e st h =
     own_states c t m s k y front back st
     ∙ (ap (λ o. last_or (states_ended (order t y) o) (is_online t (unit t y))) h
-        ∙ last_given (is_online t (unit t y)) (order t y) e.status)
+    ∙ last_given (is_online t (unit t y)) (order t y) e.status)
 
 -- Where it goes on, its unit keeps its state too.
 pub is_online_unended : (c : Settings) (t : Trace) (m : Moment) (s : Service) (k : Block) (y : ℕ) (front back : List ℕ)
@@ -173,7 +173,7 @@ goes h true None false = refl
 goes h true (Some k) false = refl
 goes h true (Some k) true =
     elim (nat_eq h.cylinder k) as (λ b. pair k (last_or ((if b then [] else nat_lt h.cylinder k ∷ []) ++ []) h.up)
-        ≡ pair k (if b then h.up else nat_lt h.cylinder k)) [ true ↦ refl | false ↦ refl ]
+    ≡ pair k (if b then h.up else nat_lt h.cylinder k)) [ true ↦ refl | false ↦ refl ]
 
 -- A step moves the head of its unit, by its block, and no other head.
 head_step : (c : Settings) (t : Trace) (m : Moment) (s : Service) (u : ℕ) → service_in m.1 ≡ Some s
@@ -184,9 +184,9 @@ head_step c t m s u e =
     let shape = unit_shape c u in
     let h = head c t u in
     ap (λ k. pair k (head_up c (t ++ m ∷ []) u)) (head_cylinder_more c t m u
-        ∙ ap (λ o. last_or (cylinder_touched shape u o) h.cylinder) e)
+    ∙ ap (λ o. last_or (cylinder_touched shape u o) h.cylinder) e)
     ∙ (ap (pair (last_or (cylinder_touched shape u (Some s)) h.cylinder))
-        (head_up_more c t m u ∙ ap (λ o. last_or (way_started shape u h.cylinder o) h.up) e)
+    (head_up_more c t m u ∙ ap (λ o. last_or (way_started shape u h.cylinder o) h.up) e)
     ∙ goes h (nat_eq s.unit u) (option_map (cylinder_of shape) s.lbn) s.started)
 
 -- Where no step serves, each head stays.
@@ -197,7 +197,7 @@ head_kept c t m u e =
     let shape = unit_shape c u in
     let h = head c t u in
     ap (λ k. pair k (head_up c (t ++ m ∷ []) u)) (head_cylinder_more c t m u
-        ∙ ap (λ o. last_or (cylinder_touched shape u o) h.cylinder) e)
+    ∙ ap (λ o. last_or (cylinder_touched shape u o) h.cylinder) e)
     ∙ ap (pair h.cylinder) (head_up_more c t m u ∙ ap (λ o. last_or (way_started shape u h.cylinder o) h.up) e)
 
 -- A step of y keeps the heads of the other units.
@@ -206,7 +206,7 @@ pub head_other : (c : Settings) (t : Trace) (m : Moment) (s : Service) (k : Bloc
 head_other c t m s k y front back u st n =
     head_step c t m s u st.serves.is
     ∙ ap (λ b. if b then head_after s.started (option_map (cylinder_of (unit_shape c u)) s.lbn) (head c t u)
-        else head c t u)
+    else head c t u)
     (ne_eqb s.unit u (λ e. n (sym st.served.unit ∙ e)))
 
 -- It moves the head of its own unit by the block that it touches.
@@ -217,5 +217,5 @@ head_own c t m s k y front back st =
     let u = unit t y in
     head_step c t m s u st.serves.is
     ∙ ap (λ b. if b then head_after s.started (option_map (cylinder_of (unit_shape c u)) s.lbn) (head c t u)
-        else head c t u)
+    else head c t u)
     (eq-eqb s.unit u st.served.unit)

@@ -43,15 +43,21 @@ weight_before t m x h = ap (λ (k : Command). order_weight k.order) (command_bef
 unfinished_same : (t : Trace) (m : Moment) (xs : List ℕ) → AllByRecursion (λ x. x < length t) xs
     → AllByRecursion (λ x. done (t ++ m ∷ []) x ≡ done t x) xs → Unfinished t xs → Unfinished (t ++ m ∷ []) xs
 unfinished_same t m [] l d u = tt
-unfinished_same t m (x ∷ xs) l d u = (omega (arith, weight_before t m x l.0, d.0, u.0), unfinished_same t m xs l.1 d.1
-    u.1)
+unfinished_same t m (x ∷ xs) l d u = (
+  omega (arith, weight_before t m x l.0, d.0, u.0),
+  unfinished_same t m xs l.1 d.1
+      u.1,
+)
 
 single_from : (t t' : Trace) (x : ℕ) (xs : List ℕ) → done t' x ≡ done t x
     → AllByRecursion (λ z. done t' z ≡ done t z) xs → AllByRecursion (λ z. (done t x ≡ 0) ⊎ (done t z ≡ 0)) xs
     → AllByRecursion (λ z. (done t' x ≡ 0) ⊎ (done t' z ≡ 0)) xs
 single_from t t' x [] e h s = tt
-single_from t t' x (z ∷ zs) e h s = (⊎_elim (λ k. inl (e ∙ k)) (λ k. inr (h.0 ∙ k)) s.0, single_from t t' x zs e h.1
-    s.1)
+single_from t t' x (z ∷ zs) e h s = (
+  ⊎_elim (λ k. inl (e ∙ k)) (λ k. inr (h.0 ∙ k)) s.0,
+  single_from t t' x zs e h.1
+      s.1,
+)
 
 single_same : (t t' : Trace) (xs : List ℕ) → AllByRecursion (λ x. done t' x ≡ done t x) xs → Single t xs → Single t' xs
 single_same t t' [] h s = tt
@@ -73,8 +79,11 @@ single_idle t (x ∷ xs) h = (idle_before t x h.0 xs, single_idle t xs h.1)
 single_own : (t : Trace) (y : ℕ) (back : List ℕ) → AllByRecursion (λ x. done t x ≡ 0) back → (b : Bool)
     → Single t (cond b [] (y ∷ []) ++ back)
 single_own t y back h true = single_idle t back h
-single_own t y back h false = (every_weaker (λ z. done t z ≡ 0) (λ z. (done t y ≡ 0) ⊎ (done t z ≡ 0)) (λ z e. inr e)
-    back h, single_idle t back h)
+single_own t y back h false = (
+  every_weaker (λ z. done t z ≡ 0) (λ z. (done t y ≡ 0) ⊎ (done t z ≡ 0)) (λ z e. inr e)
+      back h,
+  single_idle t back h,
+)
 
 idle_same : (t t' : Trace) (xs : List ℕ) → AllByRecursion (λ x. done t' x ≡ done t x) xs
     → AllByRecursion (λ x. done t x ≡ 0) xs → AllByRecursion (λ x. done t' x ≡ 0) xs
@@ -97,22 +106,24 @@ quiet c t m r s e =
     let below = every_kept (λ x. x < length t) keep (waiting t) (waiting_below t) in
     let same = every_weaker (λ x. x < length t) (λ x. done t' x ≡ done t x) (λ x l. done_kept t m x e l) kept below in
     let unfinished = unfinished_same t m kept below same
-        (every_kept (λ x. done t x < weight t x) keep (waiting t) s.unfinished) in
+    (every_kept (λ x. done t x < weight t x) keep (waiting t) s.unfinished) in
     let single = single_same t t' kept same (pairs_filter (λ x z. (done t x ≡ 0) ⊎ (done t z ≡ 0)) keep (waiting t)
-        s.single) in
+    s.single) in
     let new : Unfinished t' (length t ∷ []) = (omega (arith, done_last t m, some_steps (order t' (length t))), tt) in
     let news : AllByRecursion (λ x. (done t' x ≡ 0) ⊎ (done t' (length t) ≡ 0)) kept =
-        every_weaker (λ x. x < length t) (λ x. (done t' x ≡ 0) ⊎ (done t' (length t) ≡ 0)) (λ x l. inr (done_last t m))
-        kept below in
+    every_weaker (λ x. x < length t) (λ x. (done t' x ≡ 0) ⊎ (done t' (length t) ≡ 0)) (λ x l. inr (done_last t m))
+    kept below in
     record {
       apart = apart_more c t m r s.apart;
       unfinished = subst (Unfinished t') (sym (waiting_more t m))
           (every_append (λ x. done t' x < weight t' x) kept (cond (queues m.1) (length t ∷ []) []) unfinished
           (elim (queues m.1) as (λ b. Unfinished t' (cond b (length t ∷ []) [])) [ true ↦ new | false ↦ tt ]));
       single = subst (Single t') (sym (waiting_more t m))
-          (elim (queues m.1) as (λ b. Single t' (kept ++ cond b (length t ∷ []) []))
-          [ true ↦ pairs_append (λ x z. (done t' x ≡ 0) ⊎ (done t' z ≡ 0)) kept (length t) single news | false ↦
-              subst (Single t') (sym (append-nil kept)) single ]);
+          (elim (queues m.1) as (λ b. Single t' (kept ++ cond b (length t ∷ []) [])) [
+            | true ↦ pairs_append (λ x z. (done t' x ≡ 0) ⊎ (done t' z ≡ 0)) kept (length t) single news
+            | false ↦
+                subst (Single t') (sym (append-nil kept)) single
+          ]);
     }
 
 -- ---- a step
@@ -134,12 +145,14 @@ pub idle_others : (c : Settings) (t : Trace) (y : ℕ) (front back : List ℕ) �
 idle_others c t y front back w s h =
     let pairs = pairs_middle (λ x z. (done t x ≡ 0) ⊎ (done t z ≡ 0)) front y back (subst (Single t) w s) in
     ⊎_elim
-    (λ e. let d = ltb-true 0 (done t y) e in
-    (idle_where t y front d pairs.0, idle_where t y back d
-        (every_weaker (λ x. (done t y ≡ 0) ⊎ (done t x ≡ 0)) (λ x. (done t x ≡ 0) ⊎ (done t y ≡ 0))
-        (λ x p. ⊎_elim (λ k. inr k) (λ k. inl k) p) back pairs.1)))
+    (λ e. let d = ltb-true 0 (done t y) e in (
+      idle_where t y front d pairs.0,
+      idle_where t y back d
+          (every_weaker (λ x. (done t y ≡ 0) ⊎ (done t x ≡ 0)) (λ x. (done t x ≡ 0) ⊎ (done t y ≡ 0))
+          (λ x p. ⊎_elim (λ k. inr k) (λ k. inl k) p) back pairs.1),
+    ))
     (λ e. let all = every_parts (λ x. done t x ≡ 0) front (y ∷ back)
-        (subst (AllByRecursion (λ x. done t x ≡ 0)) w (startable_parts c t y e).idle) in (all.0, all.1.1))
+    (subst (AllByRecursion (λ x. done t x ≡ 0)) w (startable_parts c t y e).idle) in (all.0, all.1.1))
     (or_cases (in_service t y) (is_startable c t y) h)
 
 -- a command that a step doesn't end has more than one step left
@@ -165,19 +178,27 @@ stepped c t m s k y front back r h st =
     let own : (b : Bool) → is_some s.ended ≡ b → Unfinished t' (cond b [] (y ∷ [])) =
     λ b. elim b as (λ b. is_some s.ended ≡ b → Unfinished t' (cond b [] (y ∷ []))) [
       | true ↦ λ e. tt
-      | false ↦ λ e. (omega (arith, more_left c t k y (sym (ap is_some st.served.ended) ∙ e), ch.own_done, weight_before
-          t m y below.1.0), tt)
+      | false ↦ λ e. (
+        omega (
+          arith,
+          more_left c t k y (sym (ap is_some st.served.ended) ∙ e),
+          ch.own_done,
+          weight_before
+              t m y below.1.0,
+        ),
+        tt,
+      )
     ] in
     record {
       apart = apart_more c t m r h.apart;
       unfinished = subst (Unfinished t') (sym ch.waits)
           (every_append (λ x. done t' x < weight t' x) front (cond (is_some s.ended) [] (y ∷ []) ++ back)
-              (unfinished_same t m front below.0 ch.front_done parts.0)
+          (unfinished_same t m front below.0 ch.front_done parts.0)
           (every_append (λ x. done t' x < weight t' x) (cond (is_some s.ended) [] (y ∷ [])) back
-              (own (is_some s.ended) refl) (unfinished_same t m back below.1.1 ch.back_done parts.1.1)));
+          (own (is_some s.ended) refl) (unfinished_same t m back below.1.1 ch.back_done parts.1.1)));
       single = subst (Single t') (sym ch.waits)
           (single_of t' front (cond (is_some s.ended) [] (y ∷ []) ++ back) (idle_same t t' front ch.front_done idle.0)
-              (single_own t' y back (idle_same t t' back ch.back_done idle.1) (is_some s.ended)));
+          (single_own t' y back (idle_same t t' back ch.back_done idle.1) (is_some s.ended)));
     }
 
 -- Each right moment keeps it.

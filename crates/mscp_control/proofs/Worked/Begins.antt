@@ -26,8 +26,13 @@ plain m = Plain m.0 m.1
 
 -- what is told of a read of one block that had no step
 abbrev one_block : ℕ → ℕ → Upcoming
-one_block r block = record { command = record { reference = r; unit = 0; order = read 512 block }; lbn =
-    Some block; done = 0; weight = 1 }
+one_block r block = record {
+  command = record { reference = r; unit = 0; order = read 512 block };
+  lbn =
+      Some block;
+  done = 0;
+  weight = 1;
+}
 
 abbrev stale : Stale
 stale = record {}
@@ -116,8 +121,21 @@ near_finished : IsBegun (take 10 begun_and_aborted) 2
 unfolding moment collect command_of command is_waiting waiting done good passed_at passed is_free is_startable startable
     figure figure_of is_online head_cylinder head_up cost swept answer outcome ends untaken balance outstanding arrival
     block_of
-near_finished = (one_block 2 0, 4, 9, record { inside = omega arith; told = refl; own = refl; waited = refl; unstepped =
-    refl; waits = refl }, refl)
+near_finished = (
+  one_block 2 0,
+  4,
+  9,
+  record {
+    inside = omega arith;
+    told = refl;
+    own = refl;
+    waited = refl;
+    unstepped =
+        refl;
+    waits = refl;
+  },
+  refl,
+)
 
 -- ---- a number that is used again
 
@@ -137,9 +155,19 @@ again_legal : IsLegal (settings 8 8) (history number_again)
 unfolding moment collect command_of command is_waiting waiting done good passed_at passed is_free is_startable startable
     figure figure_of is_online head_cylinder head_up cost swept answer outcome ends untaken balance outstanding arrival
     block_of
-again_legal = legal_from (settings 8 8) (history number_again)
-    (refl, (by_serving 0 refl refl refl, (refl, (refl,
-    (refl, (refl, (refl, (refl, (by_serving 7 refl refl refl, tt)))))))))
+again_legal = legal_from (settings 8 8) (history number_again) (
+  refl,
+  (
+    by_serving 0 refl refl refl,
+    (
+      refl,
+      (
+        refl,
+        (refl, (refl, (refl, (refl, (by_serving 7 refl refl refl, tt))))),
+      ),
+    ),
+  ),
+)
 
 -- The old one waits no more,
 old_left : IsBegunSince (take 10 number_again) (one_block 1 60) 3 4 → ⊥
@@ -160,5 +188,18 @@ new_finished : IsBegun (take 12 number_again) 1
 unfolding moment collect command_of command is_waiting waiting done good passed_at passed is_free is_startable startable
     figure figure_of is_online head_cylinder head_up cost swept answer outcome ends untaken balance outstanding arrival
     block_of
-new_finished = (one_block 1 80, 7, 11, record { inside = omega arith; told = refl; own = refl; waited =
-    refl; unstepped = refl; waits = refl }, refl)
+new_finished = (
+  one_block 1 80,
+  7,
+  11,
+  record {
+    inside = omega arith;
+    told = refl;
+    own = refl;
+    waited =
+        refl;
+    unstepped = refl;
+    waits = refl;
+  },
+  refl,
+)

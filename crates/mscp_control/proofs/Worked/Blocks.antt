@@ -30,8 +30,10 @@ empty =
 pub empty_legal : IsLegal (settings 4 2) empty
 unfolding moment collect command_of command is_waiting waiting done good passed_at passed is_free is_startable startable
     figure figure_of is_online head_cylinder head_up answer outcome ends untaken balance outstanding arrival block_of
-empty_legal = legal_from (settings 4 2) empty (refl,
-    (by_serving 0 refl refl refl, (refl, (refl, (refl, (by_serving 3 refl refl refl, (refl, tt)))))))
+empty_legal = legal_from (settings 4 2) empty (
+  refl,
+  (by_serving 0 refl refl refl, (refl, (refl, (refl, (by_serving 3 refl refl refl, (refl, tt)))))),
+)
 
 -- A byte past a block takes a step of its own.
 abbrev pub partial : Trace
@@ -46,9 +48,22 @@ partial =
 pub partial_legal : IsLegal (settings 4 2) partial
 unfolding moment collect command_of command is_waiting waiting done good passed_at passed is_free is_startable startable
     figure figure_of is_online head_cylinder head_up answer outcome ends untaken balance outstanding arrival block_of
-partial_legal = legal_from (settings 4 2) partial (refl,
-    (by_serving 0 refl refl refl, (refl, (refl, (by_serving 3 refl refl refl,
-    (by_serving 3 refl refl refl, (refl, tt)))))))
+partial_legal = legal_from (settings 4 2) partial (
+  refl,
+  (
+    by_serving 0 refl refl refl,
+    (
+      refl,
+      (
+        refl,
+        (
+          by_serving 3 refl refl refl,
+          (by_serving 3 refl refl refl, (refl, tt)),
+        ),
+      ),
+    ),
+  ),
+)
 
 -- The last block of the unit may be read. A transfer past it, or from past it, is refused.
 abbrev pub last_block : Trace
@@ -91,9 +106,19 @@ bad_block =
 pub bad_block_legal : IsLegal (settings 4 2) bad_block
 unfolding moment collect command_of command is_waiting waiting done good passed_at passed is_free is_startable startable
     figure figure_of is_online head_cylinder head_up answer outcome ends untaken balance outstanding arrival block_of
-bad_block_legal = legal_from (settings 4 2) bad_block
-    (refl, (by_serving 0 refl refl refl, (refl, (refl,
-    (by_serving 3 refl refl refl, (by_serving 3 refl refl refl, (refl, tt)))))))
+bad_block_legal = legal_from (settings 4 2) bad_block (
+  refl,
+  (
+    by_serving 0 refl refl refl,
+    (
+      refl,
+      (
+        refl,
+        (by_serving 3 refl refl refl, (by_serving 3 refl refl refl, (refl, tt))),
+      ),
+    ),
+  ),
+)
 
 -- Each transfer has its own endcode. A read's is above.
 abbrev pub each_transfer : Trace
@@ -116,7 +141,37 @@ each_transfer =
 pub each_transfer_legal : IsLegal (settings 4 2) each_transfer
 unfolding moment collect command_of command is_waiting waiting done good passed_at passed is_free is_startable startable
     figure figure_of is_online head_cylinder head_up answer outcome ends untaken balance outstanding arrival block_of
-each_transfer_legal = legal_from (settings 4 2) each_transfer
-    (refl, (by_serving 0 refl refl refl, (refl, (refl,
-    (by_serving 3 refl refl refl, (refl, (refl, (by_serving 6 refl refl refl,
-    (refl, (refl, (by_serving 9 refl refl refl, (refl, (refl, (by_serving 12 refl refl refl, (refl, tt)))))))))))))))
+each_transfer_legal = legal_from (settings 4 2) each_transfer (
+  refl,
+  (
+    by_serving 0 refl refl refl,
+    (
+      refl,
+      (
+        refl,
+        (
+          by_serving 3 refl refl refl,
+          (
+            refl,
+            (
+              refl,
+              (
+                by_serving 6 refl refl refl,
+                (
+                  refl,
+                  (
+                    refl,
+                    (
+                      by_serving 9 refl refl refl,
+                      (refl, (refl, (by_serving 12 refl refl refl, (refl, tt)))),
+                    ),
+                  ),
+                ),
+              ),
+            ),
+          ),
+        ),
+      ),
+    ),
+  ),
+)

@@ -45,8 +45,8 @@ doubled =
     answered 1 0 orders.UnitStatus
     ∷ refused 1 0 (read 512 0) faults.Doubled
     ∷ took ((1 ∷ 0 ∷ 0 ∷ 0 ∷ 0 ∷ 0 ∷ 0 ∷ 0 ∷ 0x83 ∷ 0 ∷ 4 ∷ 0 ∷ [])
-        ++ (replicate 8 0 ++ ((1 ∷ 0 ∷ 0 ∷ 0 ∷ 0 ∷ 0 ∷ 0 ∷ 0 ∷ [])
-        ++ (replicate 8 0 ++ ((0x0A ∷ 0 ∷ 2 ∷ 0 ∷ 1 ∷ 0 ∷ []) ++ replicate 6 0)))))
+    ++ (replicate 8 0 ++ ((1 ∷ 0 ∷ 0 ∷ 0 ∷ 0 ∷ 0 ∷ 0 ∷ 0 ∷ [])
+    ++ (replicate 8 0 ++ ((0x0A ∷ 0 ∷ 2 ∷ 0 ∷ 1 ∷ 0 ∷ []) ++ replicate 6 0)))))
     ∷ queued 1 0 (read 512 0)
     ∷ refused 1 0 (orders.Status 7) faults.Doubled
     ∷ []

@@ -34,10 +34,31 @@ up_and_down =
 pub up_and_down_legal : IsLegal (settings 8 8) up_and_down
 unfolding moment collect command_of command is_waiting waiting done good passed_at passed is_free is_startable startable
     figure figure_of is_online head_cylinder head_up answer outcome ends untaken balance outstanding arrival block_of
-up_and_down_legal = legal_from (settings 8 8) up_and_down
-    (refl, (by_serving 0 refl refl refl, (refl, (refl,
-    (by_serving 3 refl refl refl, (refl, (refl, (refl,
-    (by_serving 6 refl refl refl, (by_serving 7 refl refl refl, (by_serving 5 refl refl refl, tt)))))))))))
+up_and_down_legal = legal_from (settings 8 8) up_and_down (
+  refl,
+  (
+    by_serving 0 refl refl refl,
+    (
+      refl,
+      (
+        refl,
+        (
+          by_serving 3 refl refl refl,
+          (
+            refl,
+            (
+              refl,
+              (
+                refl,
+                (by_serving 6 refl refl refl, (by_serving 7 refl refl refl, (by_serving 5 refl refl refl, tt))),
+              ),
+            ),
+          ),
+        ),
+      ),
+    ),
+  ),
+)
 
 -- At first it goes up.
 up_and_down_up : head (settings 8 8) (take 5 up_and_down) 0 ≡ record { cylinder = 10; up = true }
@@ -71,9 +92,22 @@ carried =
 pub carried_legal : IsLegal (settings 8 8) carried
 unfolding moment collect command_of command is_waiting waiting done good passed_at passed is_free is_startable startable
     figure figure_of is_online head_cylinder head_up answer outcome ends untaken balance outstanding arrival block_of
-carried_legal = legal_from (settings 8 8) carried (refl,
-    (by_serving 0 refl refl refl, (refl, (refl, (by_serving 3 refl refl refl,
-    (refl, (by_serving 5 refl refl refl, (by_serving 5 refl refl refl, tt))))))))
+carried_legal = legal_from (settings 8 8) carried (
+  refl,
+  (
+    by_serving 0 refl refl refl,
+    (
+      refl,
+      (
+        refl,
+        (
+          by_serving 3 refl refl refl,
+          (refl, (by_serving 5 refl refl refl, (by_serving 5 refl refl refl, tt))),
+        ),
+      ),
+    ),
+  ),
+)
 
 -- The transfer began on the way down.
 carried_started : head (settings 8 8) (take 7 carried) 0 ≡ record { cylinder = 1; up = false }
@@ -115,29 +149,65 @@ two_heads =
     ∷ served Good 900 0 None true 0 (onlined 900 0 0)
     ∷ served Good 901 1 None true 0 (onlined 901 1 0)
     ∷ took ((0x84 ∷ 3 ∷ 0 ∷ 0 ∷ 0 ∷ 0 ∷ 0 ∷ 0 ∷ 0x89 ∷ 0 ∷ 0 ∷ 0 ∷ [])
-        ++ (replicate 8 0 ++ ((1 ∷ 0 ∷ 0 ∷ 0 ∷ 0 ∷ 0 ∷ 0 ∷ 0 ∷ [])
-        ++ (replicate 8 0 ++ (0xE8 ∷ 3 ∷ 0 ∷ 0 ∷ 1 ∷ 0 ∷ 0 ∷ 0 ∷ [])))))
+    ++ (replicate 8 0 ++ ((1 ∷ 0 ∷ 0 ∷ 0 ∷ 0 ∷ 0 ∷ 0 ∷ 0 ∷ [])
+    ++ (replicate 8 0 ++ (0xE8 ∷ 3 ∷ 0 ∷ 0 ∷ 1 ∷ 0 ∷ 0 ∷ 0 ∷ [])))))
     ∷ took ((0x85 ∷ 3 ∷ 0 ∷ 0 ∷ 1 ∷ 0 ∷ 0 ∷ 0 ∷ 0x89 ∷ 0 ∷ 0 ∷ 0 ∷ [])
-        ++ (replicate 8 0 ++ ((2 ∷ 0 ∷ 0 ∷ 0 ∷ 0 ∷ 0 ∷ 0 ∷ 0 ∷ [])
-        ++ (replicate 8 0 ++ (0xE8 ∷ 3 ∷ 0 ∷ 0 ∷ 2 ∷ 0 ∷ 0 ∷ 0 ∷ [])))))
+    ++ (replicate 8 0 ++ ((2 ∷ 0 ∷ 0 ∷ 0 ∷ 0 ∷ 0 ∷ 0 ∷ 0 ∷ [])
+    ++ (replicate 8 0 ++ (0xE8 ∷ 3 ∷ 0 ∷ 0 ∷ 2 ∷ 0 ∷ 0 ∷ 0 ∷ [])))))
     ∷ queued 1 0 (read 512 400)
     ∷ queued 2 0 orders.SetUnit
     ∷ queued 3 0 (read 512 0)
     ∷ queued 4 1 (read 512 0)
     ∷ served Good 4 1 (Some 0) true 0 (moved 4 1 0 512)
     ∷ served Good 1 0 (Some 400) true 20 (moved 1 0 0 512)
-    ∷ served Good 2 0 None true 0 (Some (record { reference = 2; unit = 0; code = 0x8A; status = 0; body =
-        bodies.Online 1 0 1000 1 }))
+    ∷ served Good 2 0 None true 0 (Some (record {
+      reference = 2;
+      unit = 0;
+      code = 0x8A;
+      status = 0;
+      body =
+          bodies.Online 1 0 1000 1;
+    }))
     ∷ served Good 3 0 (Some 0) true 20 (moved 3 0 0 512)
     ∷ []
 
 pub two_heads_legal : IsLegal (two_units 8 2) two_heads
 unfolding moment collect command_of command is_waiting waiting done good passed_at passed is_free is_startable startable
     figure figure_of is_online head_cylinder head_up answer outcome ends untaken balance outstanding arrival block_of
-two_heads_legal = legal_from (two_units 8 2) two_heads
-    (refl, (refl, (by_serving 0 refl refl refl, (by_serving 1 refl refl refl,
-    (refl, (refl, (refl, (refl, (refl, (refl, (by_serving 9 refl refl refl,
-    (by_serving 6 refl refl refl, (by_serving 7 refl refl refl, (by_serving 8 refl refl refl, tt))))))))))))))
+two_heads_legal = legal_from (two_units 8 2) two_heads (
+  refl,
+  (
+    refl,
+    (
+      by_serving 0 refl refl refl,
+      (
+        by_serving 1 refl refl refl,
+        (
+          refl,
+          (
+            refl,
+            (
+              refl,
+              (
+                refl,
+                (
+                  refl,
+                  (
+                    refl,
+                    (
+                      by_serving 9 refl refl refl,
+                      (by_serving 6 refl refl refl, (by_serving 7 refl refl refl, (by_serving 8 refl refl refl, tt))),
+                    ),
+                  ),
+                ),
+              ),
+            ),
+          ),
+        ),
+      ),
+    ),
+  ),
+)
 
 -- The first read of each unit may start.
 two_heads_startable : startable (two_units 8 2) (take 10 two_heads) ≡ 6 ∷ 9 ∷ []

@@ -33,9 +33,22 @@ polled =
 pub polled_legal : IsLegal (settings 4 0) polled
 unfolding moment collect command_of command is_waiting waiting done good passed_at passed is_free is_startable startable
     figure figure_of is_online head_cylinder head_up answer outcome ends untaken balance outstanding arrival block_of
-polled_legal = legal_from (settings 4 0) polled (refl,
-    (by_serving 0 refl refl refl, (refl, (refl, (refl,
-    (refl, (by_serving 3 refl refl refl, (refl, (refl, (by_serving 3 refl refl refl, (refl, tt)))))))))))
+polled_legal = legal_from (settings 4 0) polled (
+  refl,
+  (
+    by_serving 0 refl refl refl,
+    (
+      refl,
+      (
+        refl,
+        (
+          refl,
+          (refl, (by_serving 3 refl refl refl, (refl, (refl, (by_serving 3 refl refl refl, (refl, tt)))))),
+        ),
+      ),
+    ),
+  ),
+)
 
 -- Before its first step two steps are left.
 polled_figure : figure (settings 4 0) (take 4 polled) 3 ≡ 2
@@ -60,9 +73,22 @@ watched =
 pub watched_legal : IsLegal (settings 4 2) watched
 unfolding moment collect command_of command is_waiting waiting done good passed_at passed is_free is_startable startable
     figure figure_of is_online head_cylinder head_up answer outcome ends untaken balance outstanding arrival block_of
-watched_legal = legal_from (settings 4 2) watched (refl,
-    (by_serving 0 refl refl refl, (refl, (refl, (refl,
-    (refl, (by_serving 3 refl refl refl, (refl, (by_serving 3 refl refl refl, (refl, tt))))))))))
+watched_legal = legal_from (settings 4 2) watched (
+  refl,
+  (
+    by_serving 0 refl refl refl,
+    (
+      refl,
+      (
+        refl,
+        (
+          refl,
+          (refl, (by_serving 3 refl refl refl, (refl, (by_serving 3 refl refl refl, (refl, tt))))),
+        ),
+      ),
+    ),
+  ),
+)
 
 -- At first it is 2 * 8 + 2.
 watched_figure : figure (settings 4 2) (take 4 watched) 3 ≡ 18
@@ -105,7 +131,22 @@ used_again =
 pub used_again_legal : IsLegal (settings 4 2) used_again
 unfolding moment collect command_of command is_waiting waiting done good passed_at passed is_free is_startable startable
     figure figure_of is_online head_cylinder head_up answer outcome ends untaken balance outstanding arrival block_of
-used_again_legal = legal_from (settings 4 2) used_again
-    (refl, (by_serving 0 refl refl refl, (refl, (refl,
-    (by_serving 3 refl refl refl, (by_serving 3 refl refl refl,
-    (refl, (refl, (refl, (by_serving 7 refl refl refl, (refl, tt)))))))))))
+used_again_legal = legal_from (settings 4 2) used_again (
+  refl,
+  (
+    by_serving 0 refl refl refl,
+    (
+      refl,
+      (
+        refl,
+        (
+          by_serving 3 refl refl refl,
+          (
+            by_serving 3 refl refl refl,
+            (refl, (refl, (refl, (by_serving 7 refl refl refl, (refl, tt))))),
+          ),
+        ),
+      ),
+    ),
+  ),
+)

@@ -72,15 +72,17 @@ no_unit =
 pub no_unit_legal : IsLegal (settings 4 2) no_unit
 unfolding moment collect command_of command is_waiting waiting done good passed_at passed is_free is_startable startable
     figure figure_of is_online head_cylinder head_up answer outcome ends untaken balance outstanding arrival block_of
-no_unit_legal = legal_from (settings 4 2) no_unit (refl,
-    (refl, (refl, (refl, (refl, (refl, (refl, (refl, (refl, (refl, tt))))))))))
+no_unit_legal = legal_from (settings 4 2) no_unit (
+  refl,
+  (refl, (refl, (refl, (refl, (refl, (refl, (refl, (refl, (refl, tt))))))))),
+)
 
 -- A host is told of its controller: a timeout of 60 seconds, and identifier 1.
 abbrev pub told : Trace
 told =
     answered 1 0 (orders.SetController 0)
     ∷ took ((1 ∷ 0 ∷ 0 ∷ 0 ∷ 0 ∷ 0 ∷ 0 ∷ 0 ∷ 0x84 ∷ 0 ∷ 0 ∷ 0 ∷ 0 ∷ 0 ∷ 0 ∷ 0 ∷ 60 ∷ 0 ∷ 0 ∷ 0 ∷ 1 ∷ [])
-        ++ replicate 7 0)
+    ++ replicate 7 0)
     ∷ []
 
 pub told_legal : IsLegal (settings 4 2) told

@@ -24,8 +24,8 @@ twice_online =
     ++ queued 1 0 orders.Online
     ∷ served Good 1 0 None true 0 (onlined 1 0 0x0100)
     ∷ took ((1 ∷ 0 ∷ 0 ∷ 0 ∷ 0 ∷ 0 ∷ 0 ∷ 0 ∷ 0x89 ∷ 0 ∷ 0 ∷ 1 ∷ [])
-        ++ (replicate 8 0 ++ ((1 ∷ 0 ∷ 0 ∷ 0 ∷ 0 ∷ 0 ∷ 0 ∷ 0 ∷ [])
-        ++ (replicate 8 0 ++ (0xE8 ∷ 3 ∷ 0 ∷ 0 ∷ 1 ∷ 0 ∷ 0 ∷ 0 ∷ [])))))
+    ++ (replicate 8 0 ++ ((1 ∷ 0 ∷ 0 ∷ 0 ∷ 0 ∷ 0 ∷ 0 ∷ 0 ∷ [])
+    ++ (replicate 8 0 ++ (0xE8 ∷ 3 ∷ 0 ∷ 0 ∷ 1 ∷ 0 ∷ 0 ∷ 0 ∷ [])))))
     ∷ []
 
 pub twice_online_legal : IsLegal (settings 4 2) twice_online
@@ -53,8 +53,8 @@ made_available =
     ∷ served Good 3 0 None true 0 (bare_end 3 0 0x88 0)
     ∷ served Good 4 0 None true 0 (moved 4 0 0x0004 0)
     ∷ took ((1 ∷ 0 ∷ 0 ∷ 0 ∷ 0 ∷ 0 ∷ 0 ∷ 0 ∷ 0x89 ∷ 0 ∷ 0 ∷ 0 ∷ [])
-        ++ (replicate 8 0 ++ ((1 ∷ 0 ∷ 0 ∷ 0 ∷ 0 ∷ 0 ∷ 0 ∷ 0 ∷ [])
-        ++ (replicate 8 0 ++ (0xE8 ∷ 3 ∷ 0 ∷ 0 ∷ 1 ∷ 0 ∷ 0 ∷ 0 ∷ [])))))
+    ++ (replicate 8 0 ++ ((1 ∷ 0 ∷ 0 ∷ 0 ∷ 0 ∷ 0 ∷ 0 ∷ 0 ∷ [])
+    ++ (replicate 8 0 ++ (0xE8 ∷ 3 ∷ 0 ∷ 0 ∷ 1 ∷ 0 ∷ 0 ∷ 0 ∷ [])))))
     ∷ took ((2 ∷ 0 ∷ 0 ∷ 0 ∷ 0 ∷ 0 ∷ 0 ∷ 0 ∷ 0xA1 ∷ 0 ∷ 0 ∷ 0 ∷ 0 ∷ 2 ∷ 0 ∷ 0 ∷ []) ++ replicate 16 0)
     ∷ took (3 ∷ 0 ∷ 0 ∷ 0 ∷ 0 ∷ 0 ∷ 0 ∷ 0 ∷ 0x88 ∷ 0 ∷ 0 ∷ 0 ∷ [])
     ∷ took ((4 ∷ 0 ∷ 0 ∷ 0 ∷ 0 ∷ 0 ∷ 0 ∷ 0 ∷ 0xA1 ∷ 0 ∷ 4 ∷ 0 ∷ 0 ∷ 0 ∷ 0 ∷ 0 ∷ []) ++ replicate 16 0)
@@ -63,10 +63,28 @@ made_available =
 pub made_available_legal : IsLegal (settings 5 2) made_available
 unfolding moment collect command_of command is_waiting waiting done good passed_at passed is_free is_startable startable
     figure figure_of is_online head_cylinder head_up answer outcome ends untaken balance outstanding arrival block_of
-made_available_legal = legal_from (settings 5 2) made_available
-    (refl, (refl, (refl, (refl, (by_serving 0 refl refl refl,
-    (by_serving 1 refl refl refl, (by_serving 2 refl refl refl,
-    (by_serving 3 refl refl refl, (refl, (refl, (refl, (refl, tt))))))))))))
+made_available_legal = legal_from (settings 5 2) made_available (
+  refl,
+  (
+    refl,
+    (
+      refl,
+      (
+        refl,
+        (
+          by_serving 0 refl refl refl,
+          (
+            by_serving 1 refl refl refl,
+            (
+              by_serving 2 refl refl refl,
+              (by_serving 3 refl refl refl, (refl, (refl, (refl, (refl, tt))))),
+            ),
+          ),
+        ),
+      ),
+    ),
+  ),
+)
 
 -- At first the ONLINE alone may start.
 made_available_startable : startable (settings 5 2) (take 4 made_available) ≡ 0 ∷ []
@@ -98,8 +116,8 @@ available_before_bad =
     ∷ served Good 3 0 None true 0 (bare_end 3 0 0x88 0)
     ∷ served (Bad 0x000B) 4 0 None true 0 (moved 4 0 0x0004 0)
     ∷ took ((1 ∷ 0 ∷ 0 ∷ 0 ∷ 0 ∷ 0 ∷ 0 ∷ 0 ∷ 0x89 ∷ 0 ∷ 0 ∷ 0 ∷ [])
-        ++ (replicate 8 0 ++ ((1 ∷ 0 ∷ 0 ∷ 0 ∷ 0 ∷ 0 ∷ 0 ∷ 0 ∷ [])
-        ++ (replicate 8 0 ++ (0xE8 ∷ 3 ∷ 0 ∷ 0 ∷ 1 ∷ 0 ∷ 0 ∷ 0 ∷ [])))))
+    ++ (replicate 8 0 ++ ((1 ∷ 0 ∷ 0 ∷ 0 ∷ 0 ∷ 0 ∷ 0 ∷ 0 ∷ [])
+    ++ (replicate 8 0 ++ (0xE8 ∷ 3 ∷ 0 ∷ 0 ∷ 1 ∷ 0 ∷ 0 ∷ 0 ∷ [])))))
     ∷ took ((2 ∷ 0 ∷ 0 ∷ 0 ∷ 0 ∷ 0 ∷ 0 ∷ 0 ∷ 0xA1 ∷ 0 ∷ 0 ∷ 0 ∷ 0 ∷ 2 ∷ 0 ∷ 0 ∷ []) ++ replicate 16 0)
     ∷ took (3 ∷ 0 ∷ 0 ∷ 0 ∷ 0 ∷ 0 ∷ 0 ∷ 0 ∷ 0x88 ∷ 0 ∷ 0 ∷ 0 ∷ [])
     ∷ took ((4 ∷ 0 ∷ 0 ∷ 0 ∷ 0 ∷ 0 ∷ 0 ∷ 0 ∷ 0xA1 ∷ 0 ∷ 4 ∷ 0 ∷ 0 ∷ 0 ∷ 0 ∷ 0 ∷ []) ++ replicate 16 0)
@@ -108,10 +126,28 @@ available_before_bad =
 pub available_before_bad_legal : IsLegal (settings 5 2) available_before_bad
 unfolding moment collect command_of command is_waiting waiting done good passed_at passed is_free is_startable startable
     figure figure_of is_online head_cylinder head_up answer outcome ends untaken balance outstanding arrival block_of
-available_before_bad_legal = legal_from (settings 5 2) available_before_bad
-    (refl, (refl, (refl, (refl, (by_serving 0 refl refl refl,
-    (by_serving 1 refl refl refl, (by_serving 2 refl refl refl,
-    (by_serving 3 refl refl refl, (refl, (refl, (refl, (refl, tt))))))))))))
+available_before_bad_legal = legal_from (settings 5 2) available_before_bad (
+  refl,
+  (
+    refl,
+    (
+      refl,
+      (
+        refl,
+        (
+          by_serving 0 refl refl refl,
+          (
+            by_serving 1 refl refl refl,
+            (
+              by_serving 2 refl refl refl,
+              (by_serving 3 refl refl refl, (refl, (refl, (refl, (refl, tt))))),
+            ),
+          ),
+        ),
+      ),
+    ),
+  ),
+)
 
 -- The head is where it was.
 available_before_bad_head : head (settings 5 2) available_before_bad 0 ≡ record { cylinder = 0; up = true }
@@ -124,12 +160,12 @@ abbrev pub bad_online : Trace
 bad_online =
     queued 1 0 orders.Online
     ∷ served (Bad 0x000B) 1 0 None true 0 (Some (record
-        { reference = 1; unit = 0; code = 0x89; status = 0x000B; body = bodies.Online 0 0 0 0 }))
+    { reference = 1; unit = 0; code = 0x89; status = 0x000B; body = bodies.Online 0 0 0 0 }))
     ∷ took ((1 ∷ 0 ∷ 0 ∷ 0 ∷ 0 ∷ 0 ∷ 0 ∷ 0 ∷ 0x89 ∷ 0 ∷ 0x0B ∷ 0 ∷ []) ++ replicate 32 0)
     ∷ answered 2 0 orders.UnitStatus
     ∷ took ((2 ∷ 0 ∷ 0 ∷ 0 ∷ 0 ∷ 0 ∷ 0 ∷ 0 ∷ 0x83 ∷ 0 ∷ 4 ∷ 0 ∷ [])
-        ++ (replicate 8 0 ++ ((1 ∷ 0 ∷ 0 ∷ 0 ∷ 0 ∷ 0 ∷ 0 ∷ 0 ∷ [])
-        ++ (replicate 8 0 ++ ((0x0A ∷ 0 ∷ 2 ∷ 0 ∷ 1 ∷ 0 ∷ []) ++ replicate 6 0)))))
+    ++ (replicate 8 0 ++ ((1 ∷ 0 ∷ 0 ∷ 0 ∷ 0 ∷ 0 ∷ 0 ∷ 0 ∷ [])
+    ++ (replicate 8 0 ++ ((0x0A ∷ 0 ∷ 2 ∷ 0 ∷ 1 ∷ 0 ∷ []) ++ replicate 6 0)))))
     ∷ []
 
 pub bad_online_legal : IsLegal (settings 4 2) bad_online
@@ -153,8 +189,8 @@ bad_available =
     ∷ took (1 ∷ 0 ∷ 0 ∷ 0 ∷ 0 ∷ 0 ∷ 0 ∷ 0 ∷ 0x88 ∷ 0 ∷ 0x0B ∷ 0 ∷ [])
     ∷ answered 2 0 orders.UnitStatus
     ∷ took ((2 ∷ 0 ∷ 0 ∷ 0 ∷ 0 ∷ 0 ∷ 0 ∷ 0 ∷ 0x83 ∷ 0 ∷ 0 ∷ 0 ∷ [])
-        ++ (replicate 8 0 ++ ((1 ∷ 0 ∷ 0 ∷ 0 ∷ 0 ∷ 0 ∷ 0 ∷ 0 ∷ [])
-        ++ (replicate 8 0 ++ ((0x0A ∷ 0 ∷ 2 ∷ 0 ∷ 1 ∷ 0 ∷ []) ++ replicate 6 0)))))
+    ++ (replicate 8 0 ++ ((1 ∷ 0 ∷ 0 ∷ 0 ∷ 0 ∷ 0 ∷ 0 ∷ 0 ∷ [])
+    ++ (replicate 8 0 ++ ((0x0A ∷ 0 ∷ 2 ∷ 0 ∷ 1 ∷ 0 ∷ []) ++ replicate 6 0)))))
     ∷ []
 
 pub bad_available_legal : IsLegal (settings 4 2) bad_available
@@ -174,8 +210,8 @@ abbrev pub unit_asked : Trace
 unit_asked =
     answered 1 0 orders.UnitStatus
     ∷ took ((1 ∷ 0 ∷ 0 ∷ 0 ∷ 0 ∷ 0 ∷ 0 ∷ 0 ∷ 0x83 ∷ 0 ∷ 4 ∷ 0 ∷ [])
-        ++ (replicate 8 0 ++ ((1 ∷ 0 ∷ 0 ∷ 0 ∷ 0 ∷ 0 ∷ 0 ∷ 0 ∷ [])
-        ++ (replicate 8 0 ++ ((0x0A ∷ 0 ∷ 2 ∷ 0 ∷ 1 ∷ 0 ∷ []) ++ replicate 6 0)))))
+    ++ (replicate 8 0 ++ ((1 ∷ 0 ∷ 0 ∷ 0 ∷ 0 ∷ 0 ∷ 0 ∷ 0 ∷ [])
+    ++ (replicate 8 0 ++ ((0x0A ∷ 0 ∷ 2 ∷ 0 ∷ 1 ∷ 0 ∷ []) ++ replicate 6 0)))))
     ∷ []
 
 pub unit_asked_legal : IsLegal (settings 4 2) unit_asked
@@ -189,8 +225,8 @@ unit_asked_online =
     came_online
     ++ answered 1 0 orders.UnitStatus
     ∷ took ((1 ∷ 0 ∷ 0 ∷ 0 ∷ 0 ∷ 0 ∷ 0 ∷ 0 ∷ 0x83 ∷ 0 ∷ 0 ∷ 0 ∷ [])
-        ++ (replicate 8 0 ++ ((1 ∷ 0 ∷ 0 ∷ 0 ∷ 0 ∷ 0 ∷ 0 ∷ 0 ∷ [])
-        ++ (replicate 8 0 ++ ((0x0A ∷ 0 ∷ 2 ∷ 0 ∷ 1 ∷ 0 ∷ []) ++ replicate 6 0)))))
+    ++ (replicate 8 0 ++ ((1 ∷ 0 ∷ 0 ∷ 0 ∷ 0 ∷ 0 ∷ 0 ∷ 0 ∷ [])
+    ++ (replicate 8 0 ++ ((0x0A ∷ 0 ∷ 2 ∷ 0 ∷ 1 ∷ 0 ∷ []) ++ replicate 6 0)))))
     ∷ []
 
 pub unit_asked_online_legal : IsLegal (settings 4 2) unit_asked_online
@@ -203,11 +239,17 @@ unit_asked_online_legal = legal_from (settings 4 2) unit_asked_online
 abbrev pub unit_set : Trace
 unit_set =
     queued 1 0 orders.SetUnit
-    ∷ served Good 1 0 None true 0 (Some (record { reference = 1; unit = 0; code = 0x8A; status = 0; body =
-        bodies.Online 1 0 1000 1 }))
+    ∷ served Good 1 0 None true 0 (Some (record {
+      reference = 1;
+      unit = 0;
+      code = 0x8A;
+      status = 0;
+      body =
+          bodies.Online 1 0 1000 1;
+    }))
     ∷ took ((1 ∷ 0 ∷ 0 ∷ 0 ∷ 0 ∷ 0 ∷ 0 ∷ 0 ∷ 0x8A ∷ 0 ∷ 0 ∷ 0 ∷ [])
-        ++ (replicate 8 0 ++ ((1 ∷ 0 ∷ 0 ∷ 0 ∷ 0 ∷ 0 ∷ 0 ∷ 0 ∷ [])
-        ++ (replicate 8 0 ++ (0xE8 ∷ 3 ∷ 0 ∷ 0 ∷ 1 ∷ 0 ∷ 0 ∷ 0 ∷ [])))))
+    ++ (replicate 8 0 ++ ((1 ∷ 0 ∷ 0 ∷ 0 ∷ 0 ∷ 0 ∷ 0 ∷ 0 ∷ [])
+    ++ (replicate 8 0 ++ (0xE8 ∷ 3 ∷ 0 ∷ 0 ∷ 1 ∷ 0 ∷ 0 ∷ 0 ∷ [])))))
     ∷ []
 
 pub unit_set_legal : IsLegal (settings 4 2) unit_set

@@ -157,11 +157,43 @@ pub as_far_legal : IsLegal (settings 8 8) as_far
 unfolding moment collect command_of command is_waiting waiting done good passed_at passed is_free is_startable startable
     figure figure_of is_online head_cylinder head_up cost swept answer outcome ends untaken balance outstanding arrival
     block_of
-as_far_legal = legal_from (settings 8 8) as_far (refl,
-    (by_serving 0 refl refl refl, (refl, (refl, (by_serving 3 refl refl refl,
-    (refl, (by_serving 5 refl refl refl, (by_serving 5 refl refl refl,
-    (refl, (refl, (refl, (by_serving 9 refl refl refl,
-    (by_serving 10 refl refl refl, (by_serving 8 refl refl refl, tt))))))))))))))
+as_far_legal = legal_from (settings 8 8) as_far (
+  refl,
+  (
+    by_serving 0 refl refl refl,
+    (
+      refl,
+      (
+        refl,
+        (
+          by_serving 3 refl refl refl,
+          (
+            refl,
+            (
+              by_serving 5 refl refl refl,
+              (
+                by_serving 5 refl refl refl,
+                (
+                  refl,
+                  (
+                    refl,
+                    (
+                      refl,
+                      (
+                        by_serving 9 refl refl refl,
+                        (by_serving 10 refl refl refl, (by_serving 8 refl refl refl, tt)),
+                      ),
+                    ),
+                  ),
+                ),
+              ),
+            ),
+          ),
+        ),
+      ),
+    ),
+  ),
+)
 
 -- A transfer that began on the way down went up to cylinder 2 with its later block, and its head still goes down.
 on_the_way_down : map (cost (settings 8 8) (take 11 as_far)) (startable (settings 8 8) (take 11 as_far)) ≡ 5 ∷ 2 ∷ 2

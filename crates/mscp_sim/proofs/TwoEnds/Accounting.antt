@@ -37,9 +37,9 @@ none_handed talk j n = find_false (λ i. hands_over (reference talk i) (said tal
 outstanding_same : (talk : Talk) (j i : ℕ) → NoEnd talk j → is_outstanding talk (j + 1) i ≡ is_outstanding talk j i
 outstanding_same talk j i n =
     let no : (nat_lt i j && hands_over (reference talk i) (said talk j).moment) ≡ false =
-        ap (λ b. nat_lt i j && b) (n (reference talk i)) ∙ and-false (nat_lt i j) in
+    ap (λ b. nat_lt i j && b) (n (reference talk i)) ∙ and-false (nat_lt i j) in
     ap (λ b. sends (said talk i).heard && not b) (any_more talk j i
-        ∙ (ap (λ b. list_any (is_ended talk i) (before j) || b) no ∙ or-false (list_any (is_ended talk i) (before j))))
+    ∙ (ap (λ b. list_any (is_ended talk i) (before j) || b) no ∙ or-false (list_any (is_ended talk i) (before j))))
 
 pub all_stay : (talk : Talk) (j : ℕ) → NoEnd talk j
     → filter (λ i. not (ends_now talk j i)) (outstanding talk j) ≡ outstanding talk j
@@ -55,8 +55,13 @@ subs_same : (c : Settings) (talk : Talk) (j : ℕ) (xs : List ℕ) → NoEnd tal
 subs_same c talk j xs n =
     map_on (submission_at c talk (j + 1)) (submission_at c talk j) xs
     (every_from (λ i. submission_at c talk (j + 1) i ≡ submission_at c talk j i)
-        (λ i. ap (λ t. record { reference = reference talk i; unit = unit_named talk i (said talk i).turn; opcode =
-        opcode talk i; told = t }) (no_answer c talk j i n)) xs)
+    (λ i. ap (λ t. record {
+      reference = reference talk i;
+      unit = unit_named talk i (said talk i).turn;
+      opcode =
+          opcode talk i;
+      told = t;
+    }) (no_answer c talk j i n)) xs)
 
 stands_same : (talk : Talk) (j : ℕ) (o : Option ℕ) → NoEnd talk j
     → polled_is_outstanding talk (j + 1) o ≡ polled_is_outstanding talk j o
@@ -75,11 +80,11 @@ pub account_quiet : (c : Settings) (talk : Talk) (j : ℕ) → NoEnd talk j → 
     → account_at c talk (j + 1) ≡ account_at c talk j
 account_quiet c talk j n s =
     let outs : outstanding talk (j + 1) ≡ outstanding talk j =
-        outstanding_more talk j ∙ ((λ i. all_stay talk j n i ++ cond (s i) (j ∷ []) [])
-        ∙ append-nil (outstanding talk j)) in
+    outstanding_more talk j ∙ ((λ i. all_stay talk j n i ++ cond (s i) (j ∷ []) [])
+    ∙ append-nil (outstanding talk j)) in
     let subs : map (submission_at c talk (j + 1)) (outstanding talk (j + 1))
-        ≡ map (submission_at c talk j) (outstanding talk j) =
-        ap (map (submission_at c talk (j + 1))) outs ∙ subs_same c talk j (outstanding talk j) n in
+    ≡ map (submission_at c talk j) (outstanding talk j) =
+    ap (map (submission_at c talk (j + 1))) outs ∙ subs_same c talk j (outstanding talk j) n in
     let flight : in_flight talk (j + 1) ≡ in_flight talk j = ap (find (λ p. is_asked (said talk p).heard)) outs in
     let watch = ap (option_map (watch_at talk (j + 1))) flight ∙ watch_same talk j (in_flight talk j) n in
     λ i. record { credits = c.credits; outstanding = subs i; watch = watch i }
@@ -92,15 +97,25 @@ outs_sent talk j n s = outstanding_more talk j ∙ (λ i. all_stay talk j n i ++
 
 subs_sent : (c : Settings) (talk : Talk) (j : ℕ) → NoEnd talk j → sends (said talk j).heard ≡ true
     → map (submission_at c talk (j + 1)) (outstanding talk (j + 1)) ≡ map (submission_at c talk j) (outstanding talk j)
-        ++ record { reference = reference talk j; unit = unit_named talk j (said talk j).turn; opcode =
-        opcode talk j; told = None } ∷ []
+    ++ record {
+      reference = reference talk j;
+      unit = unit_named talk j (said talk j).turn;
+      opcode =
+          opcode talk j;
+      told = None;
+    } ∷ []
 subs_sent c talk j n s =
     ap (map (submission_at c talk (j + 1))) (outs_sent talk j n s)
     ∙ (subs_same c talk j (outstanding talk j ++ j ∷ []) n
     ∙ (map-append (submission_at c talk j) (outstanding talk j) (j ∷ [])
     ∙ ap (λ t. map (submission_at c talk j) (outstanding talk j)
-        ++ record { reference = reference talk j; unit = unit_named talk j (said talk j).turn; opcode =
-        opcode talk j; told = t } ∷ []) (untold c talk j)))
+    ++ record {
+      reference = reference talk j;
+      unit = unit_named talk j (said talk j).turn;
+      opcode =
+          opcode talk j;
+      told = t;
+    } ∷ []) (untold c talk j)))
 
 or_nothing : (o : Option ℕ) → option_or o None ≡ o
 or_nothing None = refl
@@ -111,16 +126,21 @@ pub account_submitted : (c : Settings) (talk : Talk) (j : ℕ) (command : Comman
     → account_at c talk (j + 1) ≡ submitted (account_at c talk j) command
 account_submitted c talk j command sent n t h =
     let s : sends (said talk j).heard ≡ true = ap sends h in
-    let new : record { reference = reference talk j; unit = unit_named talk j (said talk j).turn; opcode =
-        opcode talk j; told = None } ≡ submission_of command =
-        ap (λ u. record { reference = reference_in u; unit = unit_named talk j u; opcode = opcode_in u; told = None })
-        t in
+    let new : record {
+      reference = reference talk j;
+      unit = unit_named talk j (said talk j).turn;
+      opcode =
+          opcode talk j;
+      told = None;
+    } ≡ submission_of command =
+    ap (λ u. record { reference = reference_in u; unit = unit_named talk j u; opcode = opcode_in u; told = None })
+    t in
     let subs = subs_sent c talk j n s ∙ ap (λ x. map (submission_at c talk j) (outstanding talk j) ++ x ∷ []) new in
     let p : ℕ → Bool = λ p. is_asked (said talk p).heard in
     let flight : in_flight talk (j + 1) ≡ in_flight talk j =
-        ap (find p) (outs_sent talk j n s) ∙ (find-append p (outstanding talk j) (j ∷ [])
-        ∙ (ap (λ b. option_or (in_flight talk j) (cond b (Some j) None)) (ap is_asked h)
-        ∙ or_nothing (in_flight talk j))) in
+    ap (find p) (outs_sent talk j n s) ∙ (find-append p (outstanding talk j) (j ∷ [])
+    ∙ (ap (λ b. option_or (in_flight talk j) (cond b (Some j) None)) (ap is_asked h)
+    ∙ or_nothing (in_flight talk j))) in
     let watch = ap (option_map (watch_at talk (j + 1))) flight ∙ watch_same talk j (in_flight talk j) n in
     λ i. record { credits = c.credits; outstanding = subs i; watch = watch i }
 
@@ -169,27 +189,32 @@ account_asked c talk j r s n t h w o =
     let i = a.command in
     let sent : sends (said talk j).heard ≡ true = ap sends h in
     let oldest : not (is_immediate (opcode talk i)) ≡ true =
-        found_is (λ x. not (is_immediate (opcode talk x))) (outstanding talk j) i a.found in
+    found_is (λ x. not (is_immediate (opcode talk x))) (outstanding talk j) i a.found in
     let unit : unit_or_0 talk (asked_for talk j) ≡ s.unit =
-        ap (unit_or_0 talk) a.found ∙ (unit_same talk i (said talk i).turn oldest
-        ∙ ap (λ (x : Submission). x.unit) (sym a.is)) in
+    ap (unit_or_0 talk) a.found ∙ (unit_same talk i (said talk i).turn oldest
+    ∙ ap (λ (x : Submission). x.unit) (sym a.is)) in
     let number : reference_found talk (asked_for talk j) ≡ s.reference =
-        ap (reference_found talk) a.found ∙ ap (λ (x : Submission). x.reference) (sym a.is) in
-    let new : record { reference = reference talk j; unit = unit_named talk j (said talk j).turn; opcode =
-        opcode talk j; told = None } ≡ submission_of (poll_of r s) =
-        ap (λ u. record { reference = reference_in u; unit = unit_named talk j u; opcode = opcode_in u; told = None })
-        t ∙ ap (λ u. record { reference = r; unit = u; opcode = 0x02; told = None }) unit in
+    ap (reference_found talk) a.found ∙ ap (λ (x : Submission). x.reference) (sym a.is) in
+    let new : record {
+      reference = reference talk j;
+      unit = unit_named talk j (said talk j).turn;
+      opcode =
+          opcode talk j;
+      told = None;
+    } ≡ submission_of (poll_of r s) =
+    ap (λ u. record { reference = reference_in u; unit = unit_named talk j u; opcode = opcode_in u; told = None })
+    t ∙ ap (λ u. record { reference = r; unit = u; opcode = 0x02; told = None }) unit in
     let subs = subs_sent c talk j n sent ∙ ap (λ x. map (submission_at c talk j) (outstanding talk j) ++ x ∷ []) new in
     let p : ℕ → Bool = λ p. is_asked (said talk p).heard in
     let idle : in_flight talk j ≡ None = no_flight talk j (in_flight talk j) w in
     let flight : in_flight talk (j + 1) ≡ Some j =
-        ap (find p) (outs_sent talk j n sent) ∙ (find-append p (outstanding talk j) (j ∷ [])
-        ∙ (λ k. option_or (idle k) (cond (is_asked (h k)) (Some j) None))) in
+    ap (find p) (outs_sent talk j n sent) ∙ (find-append p (outstanding talk j) (j ∷ [])
+    ∙ (λ k. option_or (idle k) (cond (is_asked (h k)) (Some j) None))) in
     let there : polled_is_outstanding talk (j + 1) (asked_for talk j) ≡ true =
-        ap (polled_is_outstanding talk (j + 1)) a.found
-        ∙ (outstanding_same talk j i n ∙ found_stands talk j i _ a.found) in
+    ap (polled_is_outstanding talk (j + 1)) a.found
+    ∙ (outstanding_same talk j i n ∙ found_stands talk j i _ a.found) in
     let watch : option_map (watch_at talk (j + 1)) (in_flight talk (j + 1))
-        ≡ Some (record { reference = r; polled = s.reference; is_outstanding = true }) =
+    ≡ Some (record { reference = r; polled = s.reference; is_outstanding = true }) =
     ap (option_map (watch_at talk (j + 1))) flight
-        ∙ (λ k. Some (record { reference = reference_in (t k); polled = number k; is_outstanding = there k })) in
+    ∙ (λ k. Some (record { reference = reference_in (t k); polled = number k; is_outstanding = there k })) in
     λ k. record { credits = c.credits; outstanding = subs k; watch = watch k }

@@ -54,23 +54,30 @@ came_from : (c : Settings) (talk : Talk) (j i l : ℕ) (ks : List ℕ) → AllBy
 came_from c talk j i l [] h e = absurd (false≢true (ap is_some e))
 came_from c talk j i l (k ∷ ks) h e =
     let rest = flat_map (λ k. answers_of c talk i (handed_over talk k)) ks in
-    let of : (o : Option ℕ) → handed_over talk k ≡ o → last_of (answers_of c talk i o ++ rest) ≡ Some l
-        → Came c talk j i l =
-    λ o. elim o as (λ o. handed_over talk k ≡ o → last_of (answers_of c talk i o ++ rest) ≡ Some l → Came c talk j i l)
-        [
+    let Goal : Option ℕ → Type 0 = λ o. handed_over talk k ≡ o → last_of (answers_of c talk i o ++ rest) ≡ Some l
+    → Came c talk j i l in
+    let of : (o : Option ℕ) → Goal o =
+    λ o. elim o as Goal [
       | None ↦ λ q f. came_from c talk j i l ks h.1 f
       | Some p ↦ λ q.
           let when : (b : Bool) → asks_about talk i p ≡ b
-              → last_of (cond b (figure_told c talk p ∷ []) [] ++ rest) ≡ Some l → Came c talk j i l =
+          → last_of (cond b (figure_told c talk p ∷ []) [] ++ rest) ≡ Some l → Came c talk j i l =
           λ b. elim b as (λ b. asks_about talk i p ≡ b
-              → last_of (cond b (figure_told c talk p ∷ []) [] ++ rest) ≡ Some l → Came c talk j i l) [
+          → last_of (cond b (figure_told c talk p ∷ []) [] ++ rest) ≡ Some l → Came c talk j i l) [
             | false ↦ λ a f. came_from c talk j i l ks h.1 f
             | true ↦ λ a.
                 let tail : (ys : List ℕ) → rest ≡ ys → last_of (figure_told c talk p ∷ ys) ≡ Some l
-                    → Came c talk j i l =
+                → Came c talk j i l =
                 λ ys. elim ys as (λ ys. rest ≡ ys → last_of (figure_told c talk p ∷ ys) ≡ Some l → Came c talk j i l) [
-                  | [] ↦ λ r f. record { turn = k; poll = p; early = h.0; handed = q; about = a; told =
-                      ap (λ o. unwrap_or o l) f }
+                  | [] ↦ λ r f. record {
+                    turn = k;
+                    poll = p;
+                    early = h.0;
+                    handed = q;
+                    about = a;
+                    told =
+                        ap (λ o. unwrap_or o l) f;
+                  }
                   | y ∷ ys ↦ λ r f. came_from c talk j i l ks h.1 (ap last_of r ∙ f)
                 ] in
                 tail rest refl
@@ -89,7 +96,7 @@ weaker_and false p q e = e
 stood_one : (talk : Talk) (m i : ℕ) → is_outstanding talk (m + 1) i ≡ true → is_outstanding talk m i ≡ true
 stood_one talk m i e =
     weaker_and (sends (said talk i).heard) (list_any (is_ended talk i) (before m)) (is_ended talk i m)
-        (sym (ap (λ b. sends (said talk i).heard && not b) (any_more talk m i)) ∙ e)
+    (sym (ap (λ b. sends (said talk i).heard && not b) (any_more talk m i)) ∙ e)
 
 stood_by : (talk : Talk) (m i d : ℕ) → is_outstanding talk (m + d) i ≡ true → is_outstanding talk m i ≡ true
 stood_by talk m i zero e = let same : m + 0 ≡ m = omega arith in subst (λ k. is_outstanding talk k i ≡ true) same e
@@ -105,7 +112,7 @@ any_there : (q : ℕ → Bool) (xs : List ℕ) (k : ℕ) → q k ≡ true → li
 any_there q [] k e h = absurd (false≢true h)
 any_there q (x ∷ xs) k e h =
     let out : (b : Bool) → nat_eq x k ≡ b → (b || list_any (λ y. nat_eq y k) xs) ≡ true
-        → (q x || list_any q xs) ≡ true =
+    → (q x || list_any q xs) ≡ true =
     λ b. elim b as (λ b. nat_eq x k ≡ b → (b || list_any (λ y. nat_eq y k) xs) ≡ true → (q x || list_any q xs) ≡ true) [
       | true ↦ λ n g. ap (λ b. b || list_any q xs) (ap q (eqb-true x k n) ∙ e)
       | false ↦ λ n g. ap (λ b. q x || b) (any_there q xs k e g) ∙ or-true (q x)
@@ -118,10 +125,10 @@ gone talk j k p l e =
     let below = found_below talk k p _ e in
     let after : nat_lt p k ≡ true = grind (arith, nat_tests, below) in
     let handed : hands_over (talks.reference talk p) (said talk k).moment ≡ true =
-        found_is (λ i. hands_over (talks.reference talk i) (said talk k).moment) (outstanding talk k) p e in
+    found_is (λ i. hands_over (talks.reference talk i) (said talk k).moment) (outstanding talk k) p e in
     let own : is_ended talk p k ≡ true = (λ i. after i && handed i) in
     ap (λ b. sends (said talk p).heard && not b) (any_there (is_ended talk p) (before j) k own (any_before k j l))
-        ∙ and-false (sends (said talk p).heard)
+    ∙ and-false (sends (said talk p).heard)
 
 -- ---- the first poll came first
 
@@ -140,13 +147,13 @@ order_of c talk j k p q known l m first second =
     (λ less. less)
     (λ more. ⊎_elim
     (λ same. absurd (true≢false (sym stands ∙ (ap (is_outstanding talk j) (sym same)
-        ∙ gone talk j k p m first.handed))))
+    ∙ gone talk j k p m first.handed))))
     (λ other.
     let less : q < p = omega (arith, more, other) in
     let there = outstanding_found talk p q (stood talk p j q (omega (arith, pk, m)) stands) less in
     let idle = (known p (omega (arith, pk, m, l))).tells.idle first.asked in
     let silent = found_all (λ x. is_asked (said talk x).heard ≡ false) _ (outstanding talk p) q
-        (none_found (λ x. is_asked (said talk x).heard) (outstanding talk p) idle) there in
+    (none_found (λ x. is_asked (said talk x).heard) (outstanding talk p) idle) there in
     absurd (true≢false (sym second.asked ∙ silent)))
     (cases_eq p q))
     (cases_lt p q)
@@ -174,7 +181,7 @@ part_of : (c : Settings) (t u : Trace) → Promise c (t ++ u) → (x : ℕ) → 
 part_of c t u p x w =
     let inside : length t ≤ length (t ++ u) = let l = length-append t u in omega (arith, l) in
     subst (λ v. (x : ℕ) → Contains (waiting v) x → figure_of c v (reference v x) ≡ figure c v x) (take-append_seam t u)
-        (p.own (length t) inside) x w
+    (p.own (length t) inside) x w
 
 first_most : (c : Settings) (talk : Talk) (p n : ℕ) → AllKnown c talk → p < length talk
     → AtMost c (trace_at talk p) n (figure_of c (trace_at talk p) n)
@@ -191,22 +198,22 @@ never_rises_at : (c : Settings) (t : Trace) (m : Moment) → Promise c (t ++ m �
 never_rises_at c t m p x w =
     let size : length (t ++ m ∷ []) ≡ length t + 1 = length-append t (m ∷ []) in
     let all : take (length t + 1) (t ++ m ∷ []) ≡ t ++ m ∷ [] =
-        take_all (length t + 1) (t ++ m ∷ []) (omega (arith, size)) in
+    take_all (length t + 1) (t ++ m ∷ []) (omega (arith, size)) in
     subst (λ v. figure c v x ≤ figure c t x) all
     (subst (λ v. (y : ℕ) → Contains (waiting v) y → figure c (take (length t + 1) (t ++ m ∷ [])) y ≤ figure c v y)
-        (take-append_seam t (m ∷ [])) (p.never_rises (length t) (omega (arith, size))) x w)
+    (take-append_seam t (m ∷ [])) (p.never_rises (length t) (omega (arith, size))) x w)
 
 falls_at : (c : Settings) (t : Trace) (m : Moment) → Promise c (t ++ m ∷ []) → is_step m.0 ≡ true → (x : ℕ)
     → Contains (waiting t) x → figure c (t ++ m ∷ []) x < figure c t x
 falls_at c t m p s x w =
     let size : length (t ++ m ∷ []) ≡ length t + 1 = length-append t (m ∷ []) in
     let all : take (length t + 1) (t ++ m ∷ []) ≡ t ++ m ∷ [] =
-        take_all (length t + 1) (t ++ m ∷ []) (omega (arith, size)) in
+    take_all (length t + 1) (t ++ m ∷ []) (omega (arith, size)) in
     let step : is_step (moment (t ++ m ∷ []) (length t)).0 ≡ true =
-        ap (λ (n : Moment). is_step n.0) (moment_last t m) ∙ s in
+    ap (λ (n : Moment). is_step n.0) (moment_last t m) ∙ s in
     subst (λ v. figure c v x < figure c t x) all
     (subst (λ v. (y : ℕ) → Contains (waiting v) y → figure c (take (length t + 1) (t ++ m ∷ [])) y < figure c v y)
-        (take-append_seam t (m ∷ [])) (p.falls (length t) (omega (arith, size)) step) x w)
+    (take-append_seam t (m ∷ [])) (p.falls (length t) (omega (arith, size)) step) x w)
 
 -- a moment raises no figure, and a step lowers each
 most_moment : (c : Settings) (t : Trace) (m : Moment) (n g g' : ℕ) → Promise c (t ++ m ∷ [])
@@ -225,8 +232,8 @@ most_moment c t m n g g' p new way most x w r =
     let there = contains_waiting t x waits in
     let rises = never_rises_at c t m p x there in
     ⊎_elim (λ same. omega (arith, old, rises, same))
-        (λ step. let falls = falls_at c t m p step.0 x there in let less = step.1 in
-        omega (arith, old, falls, less)) way)
+    (λ step. let falls = falls_at c t m p step.0 x there in let less = step.1 in
+    omega (arith, old, falls, less)) way)
     (λ beyond.
     let last : x ≡ length t = omega (arith, beyond, inside, size) in
     let queued : queues m.1 ≡ true = sym (is_waiting_last t m) ∙ (ap (is_waiting t') (sym last) ∙ w) in
@@ -253,9 +260,9 @@ most_same_with c talk m i g None s b e most =
 most_same_with c talk m i g (Some n) s b e most =
     let k = s.known m s.inside in
     let promise = subst (λ o. Promise c (trace_at talk m ++ option_to_list o)) e
-        (subst (Promise c) (trace_more talk m s.inside) k.promise) in
+    (subst (Promise c) (trace_more talk m s.inside) k.promise) in
     most_moment c (trace_at talk m) n (talks.reference talk i) g g promise (λ q. k.tells.new n e q i b s.stands)
-        (inl refl) most
+    (inl refl) most
 
 -- a turn raises no figure of a command that is outstanding
 most_same : (c : Settings) (talk : Talk) (m i g : ℕ) → Standing c talk m i → i < m
@@ -279,10 +286,10 @@ most_step c talk m i g s b w most =
     let k = s.known m s.inside in
     let n = step_moment talk m (account_at c talk m) (account_at c talk (m + 1)) (said talk m).turn w k.tells.says in
     let more : trace_at talk (m + 1) ≡ trace_at talk m ++ n.0 ∷ [] =
-        trace_more talk m s.inside ∙ ap (λ o. trace_at talk m ++ option_to_list o) n.1 in
+    trace_more talk m s.inside ∙ ap (λ o. trace_at talk m ++ option_to_list o) n.1 in
     subst (λ t. AtMost c t (talks.reference talk i) (g - 1)) (sym more)
     (most_moment c (trace_at talk m) n.0 (talks.reference talk i) g (g - 1) (subst (Promise c) more k.promise)
-        (λ q. k.tells.new n.0 n.1 q i b s.stands) (inr (n.2, refl)) most)
+    (λ q. k.tells.new n.0 n.1 q i b s.stands) (inr (n.2, refl)) most)
 
 most_by : (c : Settings) (talk : Talk) (m q i g d : ℕ) → Standing c talk q i → m + d ≤ q → i < m
     → AtMost c (trace_at talk m) (talks.reference talk i) g
@@ -293,14 +300,14 @@ most_by c talk m q i g (suc d) s e b most =
     let same : m + d + 1 ≡ m + suc d = omega arith in
     subst (λ k. AtMost c (trace_at talk k) (talks.reference talk i) g) same
     (most_same c talk (m + d) i g (sooner c talk (m + d) q i (omega (arith, e)) s) (omega (arith, b))
-        (most_by c talk m q i g d s (omega (arith, e)) b most))
+    (most_by c talk m q i g d s (omega (arith, e)) b most))
 
 most_until : (c : Settings) (talk : Talk) (m n q i g : ℕ) → Standing c talk q i → m ≤ n → n ≤ q → i < m
     → AtMost c (trace_at talk m) (talks.reference talk i) g → AtMost c (trace_at talk n) (talks.reference talk i) g
 most_until c talk m n q i g s a e b most =
     let same : m + (n - m) ≡ n = omega (arith, a) in
     subst (λ k. AtMost c (trace_at talk k) (talks.reference talk i) g) same
-        (most_by c talk m q i g (n - m) s (omega (arith, a, e)) b most)
+    (most_by c talk m q i g (n - m) s (omega (arith, a, e)) b most)
 
 it_is : (i : ℕ) (o : Option ℕ) → is_it i o ≡ true → o ≡ Some i
 it_is i None e = absurd (false≢true e)
@@ -340,25 +347,25 @@ never_reset c talk known j l st steps =
     let pp : asked_for talk p ≡ Some i = it_is i (asked_for talk p) ap_.1 in
     let pq : asked_for talk q ≡ Some i = it_is i (asked_for talk q) aq.1 in
     let less = order_of c talk j came.turn p q known l came.early
-        (record { handed = came.handed; asked = ap_.0 }) (record { handed = st.handed; asked = aq.0 }) in
+    (record { handed = came.handed; asked = ap_.0 }) (record { handed = st.handed; asked = aq.0 }) in
     let qj : q < j = found_below talk j q _ st.handed in
     let ql : q < length talk = omega (arith, qj, l) in
     let ip : i < p = found_below talk p i _ pp in
     let step = steps p less came.about in
     let s : Standing c talk q i =
-        sooner c talk q j i (omega (arith, qj)) (record { known = known; inside = l; stands = st.outstanding }) in
+    sooner c talk q j i (omega (arith, qj)) (record { known = known; inside = l; stands = st.outstanding }) in
     let g = figure_of c (trace_at talk p) n in
     let first : st.last ≡ g = sym came.told ∙ ap (λ o. figure_of c (trace_at talk p) (reference_found talk o)) pp in
     let second : figure_told c talk q ≡ figure_of c (trace_at talk q) n =
-        ap (λ o. figure_of c (trace_at talk q) (reference_found talk o)) pq in
+    ap (λ o. figure_of c (trace_at talk q) (reference_found talk o)) pq in
     let at_p = first_most c talk p n known (omega (arith, less, ql)) in
     let pk = step.1 in
     let kq = step.2 in
     let at_k = most_until c talk p step.0 q i g s (omega (arith, pk)) (omega (arith, kq)) ip at_p in
     let after = most_step c talk step.0 i g (sooner c talk step.0 q i (omega (arith, kq)) s) (omega (arith, ip, pk))
-        step.3 at_k in
+    step.3 at_k in
     let at_q = most_until c talk (step.0 + 1) q q i (g - 1) s (omega (arith, kq)) (omega arith)
-        (omega (arith, ip, pk)) after in
+    (omega (arith, ip, pk)) after in
     let some : 1 ≤ figure_told c talk q = (known j l).tells.some q i st.handed st.about st.outstanding in
     let x = waits_at c (trace_at talk q) n (subst (λ k. 1 ≤ k) second some) in
     let low = at_q x.command x.waits x.named in
@@ -373,9 +380,9 @@ never_stands c talk known j l i q h a steps st =
     let poll : q ≡ st.poll = ap (λ o. unwrap_or o q) (sym h ∙ st.handed) in
     let at : is_it i (asked_for talk q) ≡ true = (both_true (is_asked (said talk q).heard) _ a).1 in
     let at' : is_it st.command (asked_for talk st.poll) ≡ true =
-        (both_true (is_asked (said talk st.poll).heard) _ st.about).1 in
+    (both_true (is_asked (said talk st.poll).heard) _ st.about).1 in
     let command : i ≡ st.command = ap (λ o. unwrap_or o i)
-        (sym (it_is i (asked_for talk q) at) ∙ (ap (asked_for talk) poll
-            ∙ it_is st.command (asked_for talk st.poll) at')) in
+    (sym (it_is i (asked_for talk q) at) ∙ (ap (asked_for talk) poll
+    ∙ it_is st.command (asked_for talk st.poll) at')) in
     never_reset c talk known j l st (subst (λ k. StepsSincePolls talk k st.poll) command
-        (subst (StepsSincePolls talk i) poll steps))
+    (subst (StepsSincePolls talk i) poll steps))

@@ -46,10 +46,10 @@ coded_with : (b : List ℕ) (found : Option Opcode) → find (λ o. nat_eq (row_
 coded_with b None e = refl
 coded_with b (Some o) e =
     let byte : (row_of o).byte ≡ slice_index b 8 =
-        eqb-true (row_of o).byte (slice_index b 8)
-        (found_is (λ (x : Opcode). nat_eq (row_of x).byte (slice_index b 8)) opcodes o e) in
+    eqb-true (row_of o).byte (slice_index b 8)
+    (found_is (λ (x : Opcode). nat_eq (row_of x).byte (slice_index b 8)) opcodes o e) in
     elim (nat_lt (length b) (least o)) as (λ s. HasOwnEndcode
-        (if s then orders.Invalid (slice_index b 8) invalid_length else parameters o b)) [
+    (if s then orders.Invalid (slice_index b 8) invalid_length else parameters o b)) [
       | true ↦ subst (λ k. HasOwnEndcode (orders.Invalid k invalid_length)) byte (coded_short o)
       | false ↦ coded_parameters o b
     ]

@@ -15,14 +15,14 @@ times_append r [] ys = omega arith
 times_append r (x ∷ xs) ys =
     let rest = times_append r xs ys in
     elim (nat_eq x r) as (λ b. cond b (1 + times r (xs ++ ys)) (times r (xs ++ ys))
-        ≡ cond b (1 + times r xs) (times r xs) + times r ys) [ true ↦ omega (arith, rest) | false ↦ rest ]
+    ≡ cond b (1 + times r xs) (times r xs) + times r ys) [ true ↦ omega (arith, rest) | false ↦ rest ]
 
 -- it stands there exactly where it is found
 any_times : (r : ℕ) (xs : List ℕ) → list_any (λ x. nat_eq x r) xs ≡ nat_lt 0 (times r xs)
 any_times r [] = refl
 any_times r (x ∷ xs) =
     elim (nat_eq x r) as (λ b. (b || list_any (λ y. nat_eq y r) xs) ≡ nat_lt 0 (cond b (1 + times r xs) (times r xs)))
-        [ true ↦ grind (arith, nat_tests) | false ↦ any_times r xs ]
+    [ true ↦ grind (arith, nat_tests) | false ↦ any_times r xs ]
 
 pub any_alike : (r : ℕ) (xs ys : List ℕ) → times r xs ≡ times r ys
     → list_any (λ x. nat_eq x r) xs ≡ list_any (λ x. nat_eq x r) ys
@@ -43,13 +43,13 @@ times_without r n (x ∷ xs) s e =
     let out : (b : Bool) → nat_eq x.reference n ≡ b → cond b (Some x) (find (has_reference n) xs) ≡ Some s
     → times r (references (x ∷ xs)) ≡ times r (n ∷ []) + times r (references (cond b xs (x ∷ without n xs))) =
     λ b. elim b as (λ b. nat_eq x.reference n ≡ b → cond b (Some x) (find (has_reference n) xs) ≡ Some s
-        → times r (references (x ∷ xs)) ≡ times r (n ∷ []) + times r (references (cond b xs (x ∷ without n xs)))) [
+    → times r (references (x ∷ xs)) ≡ times r (n ∷ []) + times r (references (cond b xs (x ∷ without n xs)))) [
       | true ↦ λ q f. rw (eqb-true x.reference n q) (times_append r (n ∷ []) (references xs))
       | false ↦ λ q f.
           let rest = times_without r n xs s f in
           elim (nat_eq x.reference r) as (λ b. cond b (1 + times r (references xs)) (times r (references xs))
-              ≡ times r (n ∷ []) + cond b (1 + times r (references (without n xs)))
-              (times r (references (without n xs)))) [ true ↦ omega (arith, rest) | false ↦ rest ]
+          ≡ times r (n ∷ []) + cond b (1 + times r (references (without n xs)))
+          (times r (references (without n xs)))) [ true ↦ omega (arith, rest) | false ↦ rest ]
     ] in
     out (nat_eq x.reference n) refl e
 
@@ -58,9 +58,9 @@ pub length_without : (n : ℕ) (xs : List Submission) (s : Submission) → find 
 length_without n [] s e = absurd (false≢true (ap is_some e))
 length_without n (x ∷ xs) s e =
     let out : (b : Bool) → cond b (Some x) (find (has_reference n) xs) ≡ Some s
-        → length (x ∷ xs) ≡ 1 + length (cond b xs (x ∷ without n xs)) =
+    → length (x ∷ xs) ≡ 1 + length (cond b xs (x ∷ without n xs)) =
     λ b. elim b as (λ b. cond b (Some x) (find (has_reference n) xs) ≡ Some s
-        → length (x ∷ xs) ≡ 1 + length (cond b xs (x ∷ without n xs))) [
+    → length (x ∷ xs) ≡ 1 + length (cond b xs (x ∷ without n xs))) [
       | true ↦ λ f. omega arith
       | false ↦ λ f. let rest = length_without n xs s f in omega (arith, rest)
     ] in
@@ -78,9 +78,9 @@ found_without : (r n : ℕ) (xs : List Submission) → nat_eq n r ≡ false
 found_without r n [] d = refl
 found_without r n (x ∷ xs) d =
     let out : (b : Bool) → nat_eq x.reference n ≡ b
-        → opcode_found (cond b xs (x ∷ without n xs)) r ≡ opcode_found (x ∷ xs) r =
+    → opcode_found (cond b xs (x ∷ without n xs)) r ≡ opcode_found (x ∷ xs) r =
     λ b. elim b as (λ b. nat_eq x.reference n ≡ b → opcode_found (cond b xs (x ∷ without n xs)) r
-        ≡ opcode_found (x ∷ xs) r) [
+    ≡ opcode_found (x ∷ xs) r) [
       | true ↦ λ q. let other : nat_eq x.reference r ≡ false = ap (λ k. nat_eq k r) (eqb-true x.reference n q) ∙ d in
           rw other refl
       | false ↦ λ q. elim (nat_eq x.reference r) as
@@ -99,11 +99,11 @@ pub opcode_pushed : (r o : ℕ) (xs : List Submission) (s : Submission) → opco
 opcode_pushed r o [] s e = absurd (false≢true (ap is_some e))
 opcode_pushed r o (x ∷ xs) s e =
     let out : (b : Bool) → option_map (λ (q : Submission). q.opcode) (cond b (Some x) (find (has_reference r) xs))
-        ≡ Some o → option_map (λ (q : Submission). q.opcode) (cond b (Some x) (find (has_reference r) (xs ++ s ∷ [])))
-        ≡ Some o =
+    ≡ Some o → option_map (λ (q : Submission). q.opcode) (cond b (Some x) (find (has_reference r) (xs ++ s ∷ [])))
+    ≡ Some o =
     λ b. elim b as (λ b. option_map (λ (q : Submission). q.opcode) (cond b (Some x) (find (has_reference r) xs))
-        ≡ Some o → option_map (λ (q : Submission). q.opcode) (cond b (Some x) (find (has_reference r) (xs ++ s ∷ [])))
-        ≡ Some o) [
+    ≡ Some o → option_map (λ (q : Submission). q.opcode) (cond b (Some x) (find (has_reference r) (xs ++ s ∷ [])))
+    ≡ Some o) [
       | true ↦ λ e. e
       | false ↦ λ e. opcode_pushed r o xs s e
     ] in
@@ -114,11 +114,11 @@ pub opcode_new : (xs : List Submission) (s : Submission) → times s.reference (
 opcode_new [] s z = rw (eq-eqb s.reference s.reference refl) refl
 opcode_new (x ∷ xs) s z =
     let out : (b : Bool) → cond b (1 + times s.reference (references xs)) (times s.reference (references xs)) ≡ 0
-        → option_map (λ (q : Submission). q.opcode) (cond b (Some x) (find (has_reference s.reference) (xs ++ s ∷ [])))
-        ≡ Some s.opcode =
+    → option_map (λ (q : Submission). q.opcode) (cond b (Some x) (find (has_reference s.reference) (xs ++ s ∷ [])))
+    ≡ Some s.opcode =
     λ b. elim b as (λ b. cond b (1 + times s.reference (references xs)) (times s.reference (references xs)) ≡ 0
-        → option_map (λ (q : Submission). q.opcode) (cond b (Some x) (find (has_reference s.reference) (xs ++ s ∷ [])))
-        ≡ Some s.opcode) [
+    → option_map (λ (q : Submission). q.opcode) (cond b (Some x) (find (has_reference s.reference) (xs ++ s ∷ [])))
+    ≡ Some s.opcode) [
       | true ↦ λ z. absurd (omega (arith, z))
       | false ↦ λ z. opcode_new xs s z
     ] in
@@ -130,21 +130,21 @@ pub references_told : (n f : ℕ) (xs : List Submission) → references (with_to
 references_told n f [] = refl
 references_told n f (x ∷ xs) =
     elim (nat_eq x.reference n) as (λ b. references (cond b (record x { told = Some f } ∷ xs) (x ∷ with_told n f xs))
-        ≡ references (x ∷ xs)) [ true ↦ refl | false ↦ ap (λ ys. x.reference ∷ ys) (references_told n f xs) ]
+    ≡ references (x ∷ xs)) [ true ↦ refl | false ↦ ap (λ ys. x.reference ∷ ys) (references_told n f xs) ]
 
 pub small_told : (n f : ℕ) (xs : List Submission) → AllByRecursion IsSmall xs
     → AllByRecursion IsSmall (with_told n f xs)
 small_told n f [] h = tt
 small_told n f (x ∷ xs) h =
     elim (nat_eq x.reference n) as (λ b. AllByRecursion IsSmall
-        (cond b (record x { told = Some f } ∷ xs) (x ∷ with_told n f xs)))
-        [ true ↦ (h.0, h.1) | false ↦ (h.0, small_told n f xs h.1) ]
+    (cond b (record x { told = Some f } ∷ xs) (x ∷ with_told n f xs)))
+    [ true ↦ (h.0, h.1) | false ↦ (h.0, small_told n f xs h.1) ]
 
 pub opcode_told : (r n f : ℕ) (xs : List Submission) → opcode_found (with_told n f xs) r ≡ opcode_found xs r
 opcode_told r n f [] = refl
 opcode_told r n f (x ∷ xs) =
     elim (nat_eq x.reference n) as (λ b. opcode_found (cond b (record x { told = Some f } ∷ xs) (x ∷ with_told n f xs))
-        r ≡ opcode_found (x ∷ xs) r) [
+    r ≡ opcode_found (x ∷ xs) r) [
       | true ↦ elim (nat_eq x.reference r) as (λ b.
           option_map (λ (q : Submission). q.opcode)
           (cond b (Some (record x { told = Some f })) (find (has_reference r) xs))

@@ -29,8 +29,14 @@ read_as : (b : List ℕ) (e : End) (kind : Option BodyKind) → IsEnd b e → ki
 read_as b e None i k h = absurd h
 read_as b e (Some kind) i k h =
     let long : nat_lt (length b) (end_length kind) ≡ false = let l = h.0 in grind (arith, nat_tests, l) in
-    let same : end_at kind b ≡ e = λ j. record { reference = sym i.reference j; unit = sym i.unit j; code =
-        sym i.code j; status = sym i.status j; body = sym h.1 j } in
+    let same : end_at kind b ≡ e = λ j. record {
+      reference = sym i.reference j;
+      unit = sym i.unit j;
+      code =
+          sym i.code j;
+      status = sym i.status j;
+      body = sym h.1 j;
+    } in
     rw long (ap Ok same)
 
 -- the bytes of an end are read as that end
@@ -73,7 +79,7 @@ alone a h told e us m u =
     let one = m.once n in
     let all = counted_names n h in
     let ends : times n (map end_name h.untaken) ≡ 1 + times n (map end_name us) =
-        ap (λ es. times n (map end_name es)) u ∙ times_own n (map end_name us) in
+    ap (λ es. times n (map end_name es)) u ∙ times_own n (map end_name us) in
     (omega (arith, one, all, ends), omega (arith, one, all, ends))
 
 -- ---- what the first end tells
@@ -86,21 +92,22 @@ status_of w figure body e = rw e (eq-eqb w.polled w.polled refl)
 pub first_is : (e : End) (us : List End) (w : Watch) (told : Flight) → (f : IsFlight (e ∷ us) w told)
     → times e.reference (map end_name us) ≡ 0 → w.reference ≡ e.reference → (f.front ≡ []) × (f.end ≡ e)
 first_is e us w told f z s =
-    let cases : (front : List End) → f.front ≡ front → e ∷ us ≡ front ++ f.end ∷ f.back → (f.front ≡ []) × (f.end ≡ e) =
-    λ front. elim front as (λ front. f.front ≡ front → e ∷ us ≡ front ++ f.end ∷ f.back → (f.front ≡ []) × (f.end ≡ e))
-        [
+    let Goal : List End → Type 0 = λ front. f.front ≡ front → e ∷ us ≡ front ++ f.end ∷ f.back
+    → (f.front ≡ []) × (f.end ≡ e) in
+    let cases : (front : List End) → Goal front =
+    λ front. elim front as Goal [
       | [] ↦ λ q p. (q, ap (λ xs. unwrap_or (slice_get xs 0) f.end) (sym p))
       | g ∷ gs ↦ λ q p.
           let tail : us ≡ gs ++ f.end ∷ f.back = ap (drop 1) p in
           let named : f.end.reference ≡ e.reference = f.reference ∙ s in
           let counts : times e.reference (map end_name us) ≡ times e.reference (map end_name (gs ++ f.end ∷ f.back)) =
-              ap (λ xs. times e.reference (map end_name xs)) tail in
+          ap (λ xs. times e.reference (map end_name xs)) tail in
           let some : times e.reference (map end_name (gs ++ f.end ∷ f.back)) ≡ times e.reference (map end_name gs)
-              + (1 + times e.reference (map end_name f.back)) =
+          + (1 + times e.reference (map end_name f.back)) =
           times_ends e.reference gs (f.end ∷ f.back)
-              ∙ ap (λ n. times e.reference (map end_name gs) + n)
-              (subst (λ k. times k (f.end.reference ∷ map end_name f.back) ≡ 1 + times k (map end_name f.back)) named
-              (times_own f.end.reference (map end_name f.back))) in
+          ∙ ap (λ n. times e.reference (map end_name gs) + n)
+          (subst (λ k. times k (f.end.reference ∷ map end_name f.back) ≡ 1 + times k (map end_name f.back)) named
+          (times_own f.end.reference (map end_name f.back))) in
           absurd (omega (arith, z, counts, some))
     ] in
     cases f.front refl f.split
@@ -113,7 +120,7 @@ about_with e us w told true s f z =
     let k = first_is e us w told f z (eqb-true w.reference e.reference s) in
     let body : e.body ≡ bodies.Status w.polled told.figure = ap (λ (x : End). x.body) (sym k.1) ∙ f.body in
     elim (nat_eq e.code 0x82) as (λ c. is_about_polled (Some w) (if c then told_in e.body else None) ≡ true)
-        [ true ↦ status_of w told.figure e.body body | false ↦ refl ]
+    [ true ↦ status_of w told.figure e.body body | false ↦ refl ]
 
 about : (e : End) (us : List End) (watch : Option Watch) (told : Flight) → HasFlight (e ∷ us) watch told
     → times e.reference (map end_name us) ≡ 0 → is_about_polled watch (answered watch e) ≡ true
@@ -134,7 +141,7 @@ first_heard {K} a h told e us b m u i =
     let own = ends.0 in
     let s = found_some (find (has_reference e.reference) a.outstanding) own.opcode own.found in
     heard_ok a b e s.0 (read_end b e i) s.1 (ap (is_code_of e.code) s.2 ∙ own.code)
-        (about e us a.watch told (subst (λ xs. HasFlight xs a.watch told) u m.flight) (alone a h told e us m u).1)
+    (about e us a.watch told (subst (λ xs. HasFlight xs a.watch told) u m.flight) (alone a h told e us m u).1)
 
 -- ---- the match after it
 
@@ -157,8 +164,12 @@ told_match a h told n f m =
       waits = every_weaker (IsKnown a.outstanding) (IsKnown xs)
           (λ c k. (opcode_told c.reference n f a.outstanding ∙ k.0, k.1)) (commands h.waiting) m.waits;
       ends = every_weaker (IsAwaited a.outstanding) (IsAwaited xs)
-          (λ e k. record { opcode = k.opcode; found = opcode_told e.reference n f a.outstanding ∙ k.found; code =
-          k.code }) h.untaken m.ends;
+          (λ e k. record {
+            opcode = k.opcode;
+            found = opcode_told e.reference n f a.outstanding ∙ k.found;
+            code =
+                k.code;
+          }) h.untaken m.ends;
       flight = m.flight;
     }
 
@@ -170,13 +181,13 @@ told_if : {K : Type 0} (a : Account) (h : Holdings K) (told : Flight) (o : Optio
 told_if a h told None m = m
 told_if {K} a h told (Some t) m =
     elim (polled_is_outstanding a.watch) as (λ b. Matches
-        (record a { outstanding = if b then with_told t.0 t.1 a.outstanding else a.outstanding }) h told)
-        [ true ↦ told_match a h told t.0 t.1 m | false ↦ m ]
+    (record a { outstanding = if b then with_told t.0 t.1 a.outstanding else a.outstanding }) h told)
+    [ true ↦ told_match a h told t.0 t.1 m | false ↦ m ]
 
 flight_rest : (e : End) (us : List End) (w w' : Watch) (told : Flight) (f : IsFlight (e ∷ us) w told)
     → nat_eq w.reference e.reference ≡ false → w'.reference ≡ w.reference → w'.polled ≡ w.polled
     → (w'.is_outstanding ≡ true → (w.is_outstanding ≡ true) × (nat_eq e.reference w.polled ≡ false))
-        → IsFlight us w' told
+    → IsFlight us w' told
 flight_rest e us w w' told f n r p s =
     let cases : (front : List End) → f.front ≡ front → e ∷ us ≡ front ++ f.end ∷ f.back → IsFlight us w' told =
     λ front. elim front as (λ front. f.front ≡ front → e ∷ us ≡ front ++ f.end ∷ f.back → IsFlight us w' told) [
@@ -197,9 +208,9 @@ flight_rest e us w w' told f n r p s =
             ended = λ st wa.
                 let was = s st in
                 let any = subst (λ xs. list_any (λ (x : End). nat_eq x.reference w.polled) xs ≡ true) q
-                    (f.ended was.0 wa) in
+                (f.ended was.0 wa) in
                 let other : nat_eq g.reference w.polled ≡ false =
-                    ap (λ (x : End). nat_eq x.reference w.polled) (sym first) ∙ was.1 in
+                ap (λ (x : End). nat_eq x.reference w.polled) (sym first) ∙ was.1 in
                 let rest = rw other at any in
                 subst (λ x. list_any (λ (y : End). nat_eq y.reference x) gs ≡ true) (sym p) rest;
           }
@@ -223,8 +234,12 @@ flight_after e us (Some w) told f = flight_with e us w told (nat_eq w.reference 
 
 taken_out : {K : Type 0} (a : Account) (h : Holdings K) (told : Flight) (e : End) (us : List End) → Matches a h told
     → h.untaken ≡ e ∷ us
-    → Matches (record { credits = a.credits; outstanding = without e.reference a.outstanding; watch =
-        watch_after a.watch e.reference }) (record h { untaken = us }) told
+    → Matches (record {
+      credits = a.credits;
+      outstanding = without e.reference a.outstanding;
+      watch =
+          watch_after a.watch e.reference;
+    }) (record h { untaken = us }) told
 taken_out {K} a h told e us m u =
     let n = e.reference in
     let h' : Holdings K = record h { untaken = us } in
@@ -258,13 +273,16 @@ taken_out {K} a h told e us m u =
           (IsKnown (without n a.outstanding)) (λ c k.
           (opcode_without c.reference n (opcode_byte c.order) a.outstanding k.1 k.0.0, k.0.1)) (commands h.waiting)
           (every_both (IsKnown a.outstanding) (λ c. nat_eq n c.reference ≡ false) (commands h.waiting) m.waits
-              (other_commands n (commands h.waiting) apart.0));
+          (other_commands n (commands h.waiting) apart.0));
       ends = every_weaker (λ x. IsAwaited a.outstanding x × (nat_eq n x.reference ≡ false))
           (IsAwaited (without n a.outstanding)) (λ x k.
-          record { opcode = k.0.opcode; found = opcode_without x.reference n k.0.opcode a.outstanding k.1 k.0.found;
-          code = k.0.code }) us
+          record {
+            opcode = k.0.opcode;
+            found = opcode_without x.reference n k.0.opcode a.outstanding k.1 k.0.found;
+            code = k.0.code;
+          }) us
           (every_both (IsAwaited a.outstanding) (λ x. nat_eq n x.reference ≡ false) us ends.1
-              (other_ends n us apart.1));
+          (other_ends n us apart.1));
       flight = flight_after e us a.watch told (subst (λ xs. HasFlight xs a.watch told) u m.flight);
     }
 

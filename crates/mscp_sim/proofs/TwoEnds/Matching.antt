@@ -74,7 +74,7 @@ pub stays : {K : Type 0} (a : Account) (h h' : Holdings K) (told : Flight) → c
     → h'.untaken ≡ h.untaken → h'.settings ≡ h.settings → Matches a h told → Matches a h' told
 stays {K} a h h' told w u s m =
     let counts : (r : ℕ) → times r (outstanding_of h') ≡ times r (outstanding_of h) =
-        λ r. counted_names r h' ∙ ((λ i. counted r (w i) (u i)) ∙ sym (counted_names r h)) in
+    λ r. counted_names r h' ∙ ((λ i. counted r (w i) (u i)) ∙ sym (counted_names r h)) in
     let lengths = sym (length_commands h'.waiting) ∙ (ap length w ∙ length_commands h.waiting) in
     record {
       credits = m.credits ∙ ap (λ c. c.credits) (sym s);
@@ -108,12 +108,12 @@ ends_counted {K} r h h' x =
     let own = times r (x.own.reference ∷ []) in
     let old : times r (called (commands h.waiting)) ≡ times r (called x.front) + (own + times r (called x.back)) =
     ap (λ cs. times r (called cs)) x.waited ∙ (times_called r x.front (x.own ∷ x.back)
-        ∙ ap (λ n. times r (called x.front) + n) (times_called r (x.own ∷ []) x.back)) in
+    ∙ ap (λ n. times r (called x.front) + n) (times_called r (x.own ∷ []) x.back)) in
     let new : times r (called (commands h'.waiting)) ≡ times r (called x.front) + times r (called x.back) =
-        ap (λ cs. times r (called cs)) x.left ∙ times_called r x.front x.back in
+    ap (λ cs. times r (called cs)) x.left ∙ times_called r x.front x.back in
     let ends : times r (map end_name h'.untaken) ≡ times r (map end_name h.untaken) + own =
     ap (λ us. times r (map end_name us)) x.ends ∙ (times_ends r h.untaken (x.end ∷ [])
-        ∙ ap (λ n. times r (map end_name h.untaken) + times r (n ∷ [])) x.reference) in
+    ∙ ap (λ n. times r (map end_name h.untaken) + times r (n ∷ [])) x.reference) in
     let before = counted_names r h in
     let after = counted_names r h' in
     omega (arith, old, new, ends, before, after)
@@ -125,9 +125,9 @@ ends_match {K} a h h' told x m =
     let waited = subst (AllByRecursion (IsKnown a.outstanding)) x.waited m.waits in
     let parts = every_parts (IsKnown a.outstanding) x.front (x.own ∷ x.back) waited in
     let before : length h.waiting ≡ length x.front + suc (length x.back) =
-        sym (length_commands h.waiting) ∙ (ap length x.waited ∙ length-append x.front (x.own ∷ x.back)) in
+    sym (length_commands h.waiting) ∙ (ap length x.waited ∙ length-append x.front (x.own ∷ x.back)) in
     let after : length h'.waiting ≡ length x.front + length x.back =
-        sym (length_commands h'.waiting) ∙ (ap length x.left ∙ length-append x.front x.back) in
+    sym (length_commands h'.waiting) ∙ (ap length x.left ∙ length-append x.front x.back) in
     let ends : length h'.untaken ≡ length h.untaken + 1 = ap length x.ends ∙ length-append h.untaken (x.end ∷ []) in
     let known = parts.1.0 in
     let awaited : IsAwaited a.outstanding x.end = record {
@@ -155,14 +155,14 @@ pub known_more : (xs : List Submission) (s : Submission) (cs : List Command) →
     → AllByRecursion (IsKnown (xs ++ s ∷ [])) cs
 known_more xs s cs h =
     every_weaker (IsKnown xs) (IsKnown (xs ++ s ∷ []))
-        (λ c k. (opcode_pushed c.reference (opcode_byte c.order) xs s k.0, k.1)) cs h
+    (λ c k. (opcode_pushed c.reference (opcode_byte c.order) xs s k.0, k.1)) cs h
 
 pub awaited_more : (xs : List Submission) (s : Submission) (us : List End) → AllByRecursion (IsAwaited xs) us
     → AllByRecursion (IsAwaited (xs ++ s ∷ [])) us
 awaited_more xs s us h =
     every_weaker (IsAwaited xs) (IsAwaited (xs ++ s ∷ []))
-        (λ e k. record { opcode = k.opcode; found = opcode_pushed e.reference k.opcode xs s k.found; code = k.code }) us
-        h
+    (λ e k. record { opcode = k.opcode; found = opcode_pushed e.reference k.opcode xs s k.found; code = k.code }) us
+    h
 
 -- the host keeps one more submission, whose number is new to the controller
 pub record Adds {K : Type 0} (a a' : Account) (h : Holdings K) (s : Submission) : Type 0 where
@@ -197,7 +197,7 @@ pushes_match {K} a a' h h' s told told' x m f =
       credits = x.credits ∙ (m.credits ∙ ap (λ c. c.credits) (sym x.settings));
       many =
           let pushed : length a'.outstanding ≡ length a.outstanding + 1 =
-              ap length x.outstanding ∙ length-append a.outstanding (s ∷ []) in
+          ap length x.outstanding ∙ length-append a.outstanding (s ∷ []) in
           let many = m.many in
           let more = x.more in
           omega (arith, pushed, many, more);

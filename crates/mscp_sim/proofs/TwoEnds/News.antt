@@ -42,11 +42,13 @@ found_poll : (c : Settings) (talk : Talk) (j : ℕ) (e : End) (k : ℕ)
     → ((r : ℕ) → hands_over r (said talk j).moment ≡ nat_eq e.reference r) → (o : Option ℕ)
     → find (λ i. nat_eq (reference talk i) e.reference) (outstanding talk j) ≡ o
     → option_map (λ (s : Submission). s.opcode) (option_map (submission_at c talk j) o) ≡ Some k
-        → (p : ℕ) × (handed_over talk j ≡ Some p)
+    → (p : ℕ) × (handed_over talk j ≡ Some p)
 found_poll c talk j e k h None f q = absurd (false≢true (ap is_some q))
-found_poll c talk j e k h (Some p) f q =
-    (p, ap (λ (t : ℕ → Bool). find t (outstanding talk j))
-        (λ n i. (h (reference talk i) ∙ flip e.reference (reference talk i)) n) ∙ f)
+found_poll c talk j e k h (Some p) f q = (
+  p,
+  ap (λ (t : ℕ → Bool). find t (outstanding talk j))
+      (λ n i. (h (reference talk i) ∙ flip e.reference (reference talk i)) n) ∙ f,
+)
 
 -- what is known of the turn
 gives : {K : Type 0} {c : Settings} {picks : List Choice → ℕ → Type 0} {picker : K} {talk : Talk} {j : ℕ}
@@ -59,13 +61,13 @@ gives {K} {c} {picks} {picker} {talk} {j} {a} {h} s out hands silent =
     let m = subst (λ (x : Account). Matches x h s.told) s.account s.match in
     let own = (subst (AllByRecursion (IsAwaited (account_at c talk j).outstanding)) out.untaken m.ends).0 in
     let poll = found_poll c talk j e own.opcode hands
-        (find (λ i. nat_eq (reference talk i) e.reference) (outstanding talk j)) refl
-        (ap (option_map (λ (s : Submission). s.opcode))
-        (sym (find_map (submission_at c talk j) (has_reference e.reference) (outstanding talk j))) ∙ own.found) in
+    (find (λ i. nat_eq (reference talk i) e.reference) (outstanding talk j)) refl
+    (ap (option_map (λ (s : Submission). s.opcode))
+    (sym (find_map (submission_at c talk j) (has_reference e.reference) (outstanding talk j))) ∙ own.found) in
     let p = poll.0 in
     let found = found_is (λ i. hands_over (reference talk i) (said talk j).moment) (outstanding talk j) p poll.1 in
     let named : reference talk p ≡ e.reference =
-        sym (eqb-true e.reference (reference talk p) (sym (hands (reference talk p)) ∙ found)) in
+    sym (eqb-true e.reference (reference talk p) (sym (hands (reference talk p)) ∙ found)) in
     record {
       hands = hands;
       silent = silent;
@@ -77,9 +79,9 @@ gives {K} {c} {picks} {picker} {talk} {j} {a} {h} s out hands silent =
       tells = λ f.
           let w = watch_at talk j p in
           let flight : IsFlight es w s.told = subst (λ w. HasFlight es w s.told) (ap (option_map (watch_at talk j)) f)
-              (subst (λ xs. HasFlight xs (account_at c talk j).watch s.told) out.untaken m.flight) in
+          (subst (λ xs. HasFlight xs (account_at c talk j).watch s.told) out.untaken m.flight) in
           let first = first_is e out.rest w s.told flight
-              (alone (account_at c talk j) h s.told e out.rest m out.untaken).1 named in
+          (alone (account_at c talk j) h s.told e out.rest m out.untaken).1 named in
           let told = s.flight p f in
           record {
             code = ap (λ (x : End). x.code) (sym first.1) ∙ flight.code;
@@ -136,7 +138,7 @@ in_flight_then : (c : Settings) (talk : Talk) (j : ℕ) (e : End) (g : Gives c t
     → in_flight talk j ≡ Some g.poll
 in_flight_then c talk j e g st =
     let asked = (both_true (is_asked (said talk st.poll).heard) (is_it st.command (asked_for talk st.poll))
-        st.about).0 in
+    st.about).0 in
     poll_asks c talk j e g (ap (λ p. is_asked (said talk p).heard) (sym (its_poll c talk j e g st)) ∙ asked)
 
 -- a command's own end says no more than that it ended
@@ -151,14 +153,20 @@ said_figure : (c : Settings) (talk : Talk) (j f : ℕ) (last : Option ℕ) → 1
     → IsSaid c talk j (news_of_figure last f)
 said_figure c talk j f None some from to =
     let no : nat_eq f 0 ≡ false = grind (arith, nat_tests, some) in
-    rw no (record { not_lost = refl; resets = (λ q. absurd (false≢true q), λ st.
-        absurd (false≢true (ap is_some (from st).1))) })
+    rw no (record {
+      not_lost = refl;
+      resets = (
+        λ q. absurd (false≢true q),
+        λ st.
+            absurd (false≢true (ap is_some (from st).1)),
+      );
+    })
 said_figure c talk j f (Some l) some from to =
     let no : nat_eq f 0 ≡ false = grind (arith, nat_tests, some) in
     let both : (b : Bool) → nat_lt f l ≡ b → IsSaid c talk j
-        (if b then (if nat_eq f 0 then news.Lost else news.Progress f) else news.Reset) =
+    (if b then (if nat_eq f 0 then news.Lost else news.Progress f) else news.Reset) =
     λ b. elim b as (λ b. nat_lt f l ≡ b → IsSaid c talk j
-        (if b then (if nat_eq f 0 then news.Lost else news.Progress f) else news.Reset)) [
+    (if b then (if nat_eq f 0 then news.Lost else news.Progress f) else news.Reset)) [
       | true ↦ λ q. rw no (record {
         not_lost = refl;
         resets = (
@@ -181,38 +189,38 @@ told_last : (c : Settings) (talk : Talk) (j i : ℕ) (e : End) → Gives c talk 
     → last_told (account_at c talk j).outstanding (reference talk i) ≡ last_answer c talk j i
 told_last c talk j i e g f =
     let one = only_one (reference talk) (λ x. nat_eq x i) (outstanding talk j) i
-        (once_at c talk j (reference talk i) e g) f in
+    (once_at c talk j (reference talk i) e g) f in
     let found : find (λ x. nat_eq (reference talk x) (reference talk i)) (outstanding talk j) ≡ Some i =
-        ap (λ (t : ℕ → Bool). find t (outstanding talk j)) (λ n x. flip (reference talk x) (reference talk i) n)
-        ∙ one in
+    ap (λ (t : ℕ → Bool). find t (outstanding talk j)) (λ n x. flip (reference talk x) (reference talk i) n)
+    ∙ one in
     ap told_of (find_map (submission_at c talk j) (has_reference (reference talk i)) (outstanding talk j))
-        ∙ ap (λ o. told_of (option_map (submission_at c talk j) o)) found
+    ∙ ap (λ o. told_of (option_map (submission_at c talk j) o)) found
 
 -- what is said of the answer of the poll in flight, whose command is o
 said_answer : (c : Settings) (talk : Talk) (j : ℕ) (e : End) (g : Gives c talk j e) → in_flight talk j ≡ Some g.poll
     → (o : Option ℕ) → asked_for talk g.poll ≡ o → (b : Bool) → polled_is_outstanding talk j o ≡ b
     → (b ≡ true → 1 ≤ figure_told c talk g.poll)
     → IsSaid c talk j (if b then news_of_figure (last_told (account_at c talk j).outstanding (reference_found talk o))
-        (figure_told c talk g.poll) else news.Late)
+    (figure_told c talk g.poll) else news.Late)
 said_answer c talk j e g q None r true t some = absurd (false≢true t)
 said_answer c talk j e g q (Some i) r true t some =
     let p = g.poll in
     let below : i < p = found_below talk p i _ r in
     let before : p < j = found_below talk j p _ q in
     let there : find (λ x. nat_eq x i) (outstanding talk j) ≡ Some i =
-        outstanding_found talk j i t (omega (arith, below, before)) in
+    outstanding_found talk j i t (omega (arith, below, before)) in
     let last = told_last c talk j i e g there in
     rw last (said_figure c talk j (figure_told c talk p) (last_answer c talk j i) (some refl)
     (λ st.
     let about = (both_true (is_asked (said talk st.poll).heard) (is_it st.command (asked_for talk st.poll))
-        st.about).1 in
+    st.about).1 in
     let poll : st.poll ≡ p = its_poll c talk j e g st in
     let same : i ≡ st.command = eqb-true i st.command
-        (ap (is_it st.command) (sym (ap (asked_for talk) poll ∙ r)) ∙ about) in
+    (ap (is_it st.command) (sym (ap (asked_for talk) poll ∙ r)) ∙ about) in
     (st.last, ap (last_answer c talk j) same ∙ st.told, subst (λ k. st.last ≤ figure_told c talk k) poll st.not_less))
     (λ l k m.
     let asked : is_asked (said talk p).heard ≡ true =
-        found_is (λ x. is_asked (said talk x).heard) (outstanding talk j) p q in
+    found_is (λ x. is_asked (said talk x).heard) (outstanding talk j) p q in
     record {
       poll = p;
       command = i;
@@ -226,23 +234,23 @@ said_answer c talk j e g q (Some i) r true t some =
 said_answer c talk j e g q o r false t some =
     said_late c talk j (λ st.
     let about = (both_true (is_asked (said talk st.poll).heard) (is_it st.command (asked_for talk st.poll))
-        st.about).1 in
+    st.about).1 in
     let poll : st.poll ≡ g.poll = its_poll c talk j e g st in
     true≢false (sym (stands_it talk j st.command o (ap (is_it st.command) (sym (ap (asked_for talk) poll ∙ r)) ∙ about)
-        st.outstanding) ∙ t))
+    st.outstanding) ∙ t))
 
 said_flight : (c : Settings) (talk : Talk) (j p : ℕ) (e : End) (g : Gives c talk j e) → in_flight talk j ≡ Some p
     → (b : Bool) → nat_eq (reference talk p) e.reference ≡ b
     → IsSaid c talk j (news_with (account_at c talk j) e
-        (if b && nat_eq e.code 0x82 then host.told_in e.body else None))
+    (if b && nat_eq e.code 0x82 then host.told_in e.body else None))
 said_flight c talk j p e g q true n =
     let own = own_flight c talk j e p g q (eqb-true (reference talk p) e.reference n) in
     let tells = g.tells own in
     let asked = asked_for talk g.poll in
     let watch : (account_at c talk j).watch ≡ Some (watch_at talk j g.poll) =
-        ap (option_map (watch_at talk j)) own in
+    ap (option_map (watch_at talk j)) own in
     rw (eq-eqb e.code 0x82 tells.code, tells.body, watch)
-        (said_answer c talk j e g own asked refl (polled_is_outstanding talk j asked) refl tells.some)
+    (said_answer c talk j e g own asked refl (polled_is_outstanding talk j asked) refl tells.some)
 said_flight c talk j p e g q false n =
     said_ended c talk j e (λ st.
     let same : p ≡ g.poll = ap (λ o. unwrap_or o p) (sym q ∙ in_flight_then c talk j e g st) in
@@ -262,9 +270,14 @@ take_none : {K : Type 0} {c : Settings} {picks : List Choice → ℕ → Type 0}
     → Turns c picks picker talk j a' h'
 take_none {K} {c} {picks} {picker} {talk} {j} {a'} {h'} x m k =
     let answers = subst (λ o. AnswersTurn picks x.controller o h') m x.says.1 in
-    quiet x (record { unqueued = ap queues_in m; no_end = λ r. ap (hands_over r) m; unsent = ap sends k.0; no_news =
-        ap is_news k.0 }) k.1 (subst (λ (y : Holdings K). Matches x.host y x.at.told) (sym answers.1)
-        (taken_none x.host x.controller x.at.told (sym answers.0) x.at.match))
+    quiet x (record {
+      unqueued = ap queues_in m;
+      no_end = λ r. ap (hands_over r) m;
+      unsent = ap sends k.0;
+      no_news =
+          ap is_news k.0;
+    }) k.1 (subst (λ (y : Holdings K). Matches x.host y x.at.told) (sym answers.1)
+    (taken_none x.host x.controller x.at.told (sym answers.0) x.at.match))
 
 take_some : {K : Type 0} {c : Settings} {picks : List Choice → ℕ → Type 0} {picker : K} {talk : Talk} {j : ℕ}
     {a' : Account} {h' : Holdings K} → (x : Comes c picks picker talk j a' h') → (b : ArrayVec ℕ)
@@ -278,31 +291,34 @@ take_some {K} {c} {picks} {picker} {talk} {j} {a'} {h'} x b t m k =
     let e = out.end in
     let message : IsEnd b.items e = sound b e m (ap (λ xs. slice_get xs 0) out.untaken) in
     let hands : (r : ℕ) → hands_over r (said talk j).moment ≡ nat_eq e.reference r =
-        λ r. ap (hands_over r) m ∙ ap (λ q. nat_eq q r) (sym message.reference) in
+    λ r. ap (hands_over r) m ∙ ap (λ q. nat_eq q r) (sym message.reference) in
     let g = gives x.at out hands (ap sends k.1) in
     let both = sym k.2 ∙ out.heard in
     let left : a' ≡ received x.host e = ap (λ p. p.1) both in
     let same : a' ≡ account_at c talk (j + 1) = left
-        ∙ (ap (λ y. received y e) x.at.account ∙ sym (account_received c talk j e g)) in
+    ∙ (ap (λ y. received y e) x.at.account ∙ sym (account_received c talk j e g)) in
     let news : n ≡ news_with (account_at c talk j) e (answered (account_at c talk j).watch e) =
-        ap (λ p. news_or p.0 n) both
-        ∙ ap (λ (y : Account). news_with y e (answered y.watch e)) x.at.account in
+    ap (λ p. news_or p.0 n) both
+    ∙ ap (λ (y : Account). news_with y e (answered y.watch e)) x.at.account in
     let known : IsSaid c talk j n =
-        subst (IsSaid c talk j) (sym news) (said_with c talk j e g (in_flight talk j) refl) in
+    subst (IsSaid c talk j) (sym news) (said_with c talk j e g (in_flight talk j) refl) in
     record {
       tells = record {
         says = heard_at x same;
-        resets = (λ q. known.resets.0 (ap (λ o. is_reset (news_in o)) (sym k.1 ∙ q)), λ st. k.1
-            ∙ ap hears.News (reset_is n (known.resets.1 st)));
+        resets = (
+          λ q. known.resets.0 (ap (λ o. is_reset (news_in o)) (sym k.1 ∙ q)),
+          λ st. k.1
+              ∙ ap hears.News (reset_is n (known.resets.1 st)),
+        );
         no_lost = λ q. true≢false (sym (ap (λ o. is_lost (news_in o)) (sym k.1 ∙ q)) ∙ known.not_lost);
         new = unqueued talk j (ap queues_in m);
         idle = never_idle talk j (ap is_asked k.1);
         some = λ p i f about st.
             let this : p ≡ g.poll = ap (λ o. unwrap_or o p) (sym f ∙ g.found) in
             let parts = both_true (is_asked (said talk g.poll).heard) (is_it i (asked_for talk g.poll))
-                (subst (λ q. asks_about talk i q ≡ true) this about) in
+            (subst (λ q. asks_about talk i q ≡ true) this about) in
             subst (λ q. 1 ≤ figure_told c talk q) (sym this) ((g.tells (poll_asks c talk j e g parts.0)).some
-                (stands_it talk j i (asked_for talk g.poll) parts.1 st));
+            (stands_it talk j i (asked_for talk g.poll) parts.1 st));
       };
       next = record {
         account = same;

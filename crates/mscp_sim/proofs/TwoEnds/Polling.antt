@@ -42,8 +42,8 @@ pub flight_submitted : (talk : Talk) (j : ℕ) → NoEnd talk j → sends (said 
     → is_asked (said talk j).heard ≡ false → in_flight talk (j + 1) ≡ in_flight talk j
 flight_submitted talk j n s a =
     ap (find (asking talk)) (outs_sent talk j n s)
-        ∙ (find-append (asking talk) (outstanding talk j) (j ∷ [])
-        ∙ (ap (λ b. option_or (in_flight talk j) (cond b (Some j) None)) a ∙ or_nothing (in_flight talk j)))
+    ∙ (find-append (asking talk) (outstanding talk j) (j ∷ [])
+    ∙ (ap (λ b. option_or (in_flight talk j) (cond b (Some j) None)) a ∙ or_nothing (in_flight talk j)))
 
 pub one_submitted : (talk : Talk) (j : ℕ) → NoEnd talk j → sends (said talk j).heard ≡ true
     → is_asked (said talk j).heard ≡ false → OnePoll talk j → OnePoll talk (j + 1)
@@ -51,15 +51,15 @@ one_submitted talk j n s a o =
     let P : ℕ → Type 0 = λ p. asking talk p ≡ true → in_flight talk (j + 1) ≡ Some p in
     subst (AllByRecursion P) (sym (outs_sent talk j n s))
     (every_append P (outstanding talk j) (j ∷ []) (every_weaker (λ p. asking talk p ≡ true → in_flight talk j ≡ Some p)
-        P (λ p h q. flight_submitted talk j n s a ∙ h q) (outstanding talk j) o)
-        (λ q. absurd (true≢false (sym q ∙ a)), tt))
+    P (λ p h q. flight_submitted talk j n s a ∙ h q) (outstanding talk j) o)
+    (λ q. absurd (true≢false (sym q ∙ a)), tt))
 
 -- a poll is sent where none is in flight
 pub flight_asked : (talk : Talk) (j : ℕ) → NoEnd talk j → sends (said talk j).heard ≡ true
     → is_asked (said talk j).heard ≡ true → in_flight talk j ≡ None → in_flight talk (j + 1) ≡ Some j
 flight_asked talk j n s a e =
     ap (find (asking talk)) (outs_sent talk j n s)
-        ∙ (find-append (asking talk) (outstanding talk j) (j ∷ []) ∙ (λ k. option_or (e k) (cond (a k) (Some j) None)))
+    ∙ (find-append (asking talk) (outstanding talk j) (j ∷ []) ∙ (λ k. option_or (e k) (cond (a k) (Some j) None)))
 
 pub one_asked : (talk : Talk) (j : ℕ) → NoEnd talk j → sends (said talk j).heard ≡ true
     → is_asked (said talk j).heard ≡ true → in_flight talk j ≡ None → OnePoll talk (j + 1)
@@ -67,5 +67,5 @@ one_asked talk j n s a e =
     let P : ℕ → Type 0 = λ p. asking talk p ≡ true → in_flight talk (j + 1) ≡ Some p in
     subst (AllByRecursion P) (sym (outs_sent talk j n s))
     (every_append P (outstanding talk j) (j ∷ []) (every_weaker (λ p. asking talk p ≡ false) P
-        (λ p h q. absurd (true≢false (sym q ∙ h))) (outstanding talk j)
-        (none_found (asking talk) (outstanding talk j) e)) (λ q. flight_asked talk j n s a e, tt))
+    (λ p h q. absurd (true≢false (sym q ∙ h))) (outstanding talk j)
+    (none_found (asking talk) (outstanding talk j) e)) (λ q. flight_asked talk j n s a e, tt))

@@ -20,7 +20,7 @@ other_number : (a b : ℕ) → not (nat_eq a b) ≡ true → nat_eq b a ≡ fals
 other_number a b h =
     let out : (x : Bool) → nat_eq a b ≡ x → not x ≡ true → nat_eq b a ≡ false =
     λ x. elim x as (λ x. nat_eq a b ≡ x → not x ≡ true → nat_eq b a ≡ false)
-        [ true ↦ λ e k. absurd (false≢true k) | false ↦ λ e k. flip b a ∙ e ] in
+    [ true ↦ λ e k. absurd (false≢true k) | false ↦ λ e k. flip b a ∙ e ] in
     out (nat_eq a b) refl h
 
 -- ---- the submissions that are left
@@ -31,8 +31,8 @@ left_subs : (c : Settings) (talk : Talk) (j : ℕ) (e : End) → Gives c talk j 
 left_subs c talk j e g =
     let all = map (submission_at c talk (j + 1)) (outstanding talk j) in
     let once : times e.reference (references all) ≤ 1 =
-        subst (λ xs. times e.reference xs ≤ 1) (sym (references_at c talk (j + 1) j (outstanding talk j)))
-        (once_at c talk j e.reference e g) in
+    subst (λ xs. times e.reference xs ≤ 1) (sym (references_at c talk (j + 1) j (outstanding talk j)))
+    (once_at c talk j e.reference e g) in
     without_kept e.reference all once
     ∙ (filter_map_of (submission_at c talk (j + 1)) (λ s. not (nat_eq e.reference s.reference)) (outstanding talk j)
     ∙ ap (map (submission_at c talk (j + 1))) (sym (outs_after c talk j e g)))
@@ -46,17 +46,17 @@ flight_gone c talk j e p g q n =
     ap (find (λ x. is_asked (said talk x).heard)) (outs_after c talk j e g)
     ∙ find_none_kept (λ x. is_asked (said talk x).heard) (keep talk e) (outstanding talk j)
     (every_weaker (λ x. is_asked (said talk x).heard ≡ true → in_flight talk j ≡ Some x)
-        (λ x. is_asked (said talk x).heard ≡ true → keep talk e x ≡ false)
+    (λ x. is_asked (said talk x).heard ≡ true → keep talk e x ≡ false)
     (λ x h a. ap not (flip e.reference (reference talk x)
-        ∙ (ap (λ o. nat_eq (reference talk (unwrap_or o x)) e.reference) (sym (h a) ∙ q) ∙ n))) (outstanding talk j)
-        g.one)
+    ∙ (ap (λ o. nat_eq (reference talk (unwrap_or o x)) e.reference) (sym (h a) ∙ q) ∙ n))) (outstanding talk j)
+    g.one)
 
 flight_kept : (c : Settings) (talk : Talk) (j : ℕ) (e : End) (p : ℕ) → Gives c talk j e → in_flight talk j ≡ Some p
     → nat_eq (reference talk p) e.reference ≡ false → in_flight talk (j + 1) ≡ Some p
 flight_kept c talk j e p g q n =
     ap (find (λ x. is_asked (said talk x).heard)) (outs_after c talk j e g)
     ∙ find_kept (λ x. is_asked (said talk x).heard) (keep talk e) (outstanding talk j) p q
-        (ap not (flip e.reference (reference talk p) ∙ n))
+    (ap not (flip e.reference (reference talk p) ∙ n))
 
 flight_none : (c : Settings) (talk : Talk) (j : ℕ) (e : End) → Gives c talk j e → in_flight talk j ≡ None
     → in_flight talk (j + 1) ≡ None
@@ -64,8 +64,8 @@ flight_none c talk j e g q =
     ap (find (λ x. is_asked (said talk x).heard)) (outs_after c talk j e g)
     ∙ find_none_kept (λ x. is_asked (said talk x).heard) (keep talk e) (outstanding talk j)
     (every_weaker (λ x. is_asked (said talk x).heard ≡ false)
-        (λ x. is_asked (said talk x).heard ≡ true → keep talk e x ≡ false) (λ x h a. absurd (true≢false (sym a ∙ h)))
-        (outstanding talk j) (none_found (λ x. is_asked (said talk x).heard) (outstanding talk j) q))
+    (λ x. is_asked (said talk x).heard ≡ true → keep talk e x ≡ false) (λ x h a. absurd (true≢false (sym a ∙ h)))
+    (outstanding talk j) (none_found (λ x. is_asked (said talk x).heard) (outstanding talk j) q))
 
 -- whether its command is still outstanding
 abbrev watch_of : ℕ → ℕ → Bool → Watch
@@ -75,8 +75,8 @@ stands_after : (c : Settings) (talk : Talk) (j : ℕ) (e : End) (p : ℕ) (o : O
     → ((i : ℕ) → o ≡ Some i → i < p)
     → let w = watch_of (reference talk p) (reference_found talk o) in
     Some (w (polled_is_outstanding talk (j + 1) o))
-        ≡ (if nat_eq (reference_found talk o) e.reference then Some (w false)
-        else Some (w (polled_is_outstanding talk j o)))
+    ≡ (if nat_eq (reference_found talk o) e.reference then Some (w false)
+    else Some (w (polled_is_outstanding talk j o)))
 stands_after c talk j e p None g l b = elim (nat_eq 0 e.reference) as
     (λ d. Some (watch_of (reference talk p) 0 false)
     ≡ (if d then Some (watch_of (reference talk p) 0 false) else Some (watch_of (reference talk p) 0 false)))
@@ -85,13 +85,13 @@ stands_after c talk j e p (Some i) g l b =
     let w : Bool → Watch = watch_of (reference talk p) (reference talk i) in
     let below = b i refl in
     let after : is_outstanding talk (j + 1) i ≡ (is_outstanding talk j i
-        && not (nat_eq (reference talk i) e.reference)) =
+    && not (nat_eq (reference talk i) e.reference)) =
     stays_if talk j i (omega (arith, below, l)) ∙ ap (λ d. is_outstanding talk j i && not d)
-        (g.hands (reference talk i) ∙ flip e.reference (reference talk i)) in
+    (g.hands (reference talk i) ∙ flip e.reference (reference talk i)) in
     ap (λ s. Some (w s)) after
     ∙ elim (nat_eq (reference talk i) e.reference) as
-        (λ d. Some (w (is_outstanding talk j i && not d))
-        ≡ (if d then Some (w false) else Some (w (is_outstanding talk j i)))) [
+    (λ d. Some (w (is_outstanding talk j i && not d))
+    ≡ (if d then Some (w false) else Some (w (is_outstanding talk j i)))) [
       | true ↦ ap (λ s. Some (w s)) (and-false (is_outstanding talk j i))
       | false ↦ ap (λ s. Some (w s)) (and-true (is_outstanding talk j i))
     ]
@@ -104,12 +104,12 @@ watch_left c talk j e (Some p) g q =
     let w = watch_at talk j p in
     let both : (b : Bool) → nat_eq (reference talk p) e.reference ≡ b
     → option_map (watch_at talk (j + 1)) (in_flight talk (j + 1))
-        ≡ (if b then None else (if nat_eq w.polled e.reference then Some (record w { is_outstanding = false })
-        else Some w)) =
+    ≡ (if b then None else (if nat_eq w.polled e.reference then Some (record w { is_outstanding = false })
+    else Some w)) =
     λ b. elim b as (λ b. nat_eq (reference talk p) e.reference ≡ b
-        → option_map (watch_at talk (j + 1)) (in_flight talk (j + 1))
-        ≡ (if b then None else (if nat_eq w.polled e.reference then Some (record w { is_outstanding = false })
-        else Some w))) [
+    → option_map (watch_at talk (j + 1)) (in_flight talk (j + 1))
+    ≡ (if b then None else (if nat_eq w.polled e.reference then Some (record w { is_outstanding = false })
+    else Some w))) [
       | true ↦ λ n. ap (option_map (watch_at talk (j + 1))) (flight_gone c talk j e p g q n)
       | false ↦ λ n. ap (option_map (watch_at talk (j + 1))) (flight_kept c talk j e p g q n)
           ∙ stands_after c talk j e p (asked_for talk p) g (found_below talk j p _ q) (λ i f. found_below talk p i _ f)
@@ -120,7 +120,7 @@ pub account_received : (c : Settings) (talk : Talk) (j : ℕ) (e : End) → Give
     → account_at c talk (j + 1) ≡ received (account_at c talk j) e
 account_received c talk j e g =
     let subs : map (submission_at c talk (j + 1)) (outstanding talk (j + 1))
-        ≡ without e.reference (outstanding_with (account_at c talk j) (answered (account_at c talk j).watch e)) =
+    ≡ without e.reference (outstanding_with (account_at c talk j) (answered (account_at c talk j).watch e)) =
     sym (ap (without e.reference) (all_told c talk j e g (in_flight talk j) refl) ∙ left_subs c talk j e g) in
     λ i. record { credits = c.credits; outstanding = subs i; watch = watch_left c talk j e (in_flight talk j) g refl i }
 
@@ -129,13 +129,13 @@ account_received c talk j e g =
 pub one_received : (c : Settings) (talk : Talk) (j : ℕ) (e : End) → Gives c talk j e → OnePoll talk (j + 1)
 one_received c talk j e g =
     subst (AllByRecursion (λ x. is_asked (said talk x).heard ≡ true → in_flight talk (j + 1) ≡ Some x))
-        (sym (outs_after c talk j e g))
+    (sym (outs_after c talk j e g))
     (every_weaker (λ x. (is_asked (said talk x).heard ≡ true → in_flight talk j ≡ Some x) × (keep talk e x ≡ true))
-        (λ x. is_asked (said talk x).heard ≡ true → in_flight talk (j + 1) ≡ Some x)
+    (λ x. is_asked (said talk x).heard ≡ true → in_flight talk (j + 1) ≡ Some x)
     (λ x h a. flight_kept c talk j e x g (h.0 a) (other_number e.reference (reference talk x) h.1))
-        (filter (keep talk e) (outstanding talk j))
+    (filter (keep talk e) (outstanding talk j))
     (every_filter (λ x. is_asked (said talk x).heard ≡ true → in_flight talk j ≡ Some x) (keep talk e)
-        (outstanding talk j) g.one))
+    (outstanding talk j) g.one))
 
 -- a poll that is in flight after the turn was so before
 pub flight_back : (c : Settings) (talk : Talk) (j : ℕ) (e : End) (p : ℕ) → Gives c talk j e

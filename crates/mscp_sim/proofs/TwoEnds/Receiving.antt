@@ -55,8 +55,8 @@ pub outs_after : (c : Settings) (talk : Talk) (j : ℕ) (e : End) → Gives c ta
 outs_after c talk j e g =
     outstanding_more talk j
     ∙ ((λ i. filter_on (λ x. not (ends_now talk j x)) (keep talk e) (outstanding talk j)
-        (every_from (λ x. not (ends_now talk j x) ≡ keep talk e x) (λ x. ap not (g.hands (reference talk x)))
-        (outstanding talk j)) i ++ cond (g.silent i) (j ∷ []) [])
+    (every_from (λ x. not (ends_now talk j x) ≡ keep talk e x) (λ x. ap not (g.hands (reference talk x)))
+    (outstanding talk j)) i ++ cond (g.silent i) (j ∷ []) [])
     ∙ append-nil (filter (keep talk e) (outstanding talk j)))
 
 -- ---- members
@@ -80,7 +80,7 @@ every_members P (x ∷ xs) h = (
   every_members P xs (λ y m. h y (
       let out : (b : Bool) → nat_eq x y ≡ b → cond b (Some x) (find (λ z. nat_eq z y) xs) ≡ Some y =
       λ b. elim b as (λ b. nat_eq x y ≡ b → cond b (Some x) (find (λ z. nat_eq z y) xs) ≡ Some y)
-          [ true ↦ λ e. ap Some (eqb-true x y e) | false ↦ λ e. m ] in
+      [ true ↦ λ e. ap Some (eqb-true x y e) | false ↦ λ e. m ] in
       out (nat_eq x y) refl)),
 )
 
@@ -106,7 +106,7 @@ same_poll c talk j e q x g f r =
     let only = only_one (reference talk) q (outstanding talk j) x (once_at c talk j (reference talk x) e g) f in
     let named : find (λ i. hands_over (reference talk i) (said talk j).moment) (outstanding talk j) ≡ Some x =
     ap (λ (t : ℕ → Bool). find t (outstanding talk j))
-        (λ k i. (g.hands (reference talk i) ∙ ap (λ n. nat_eq n (reference talk i)) (sym r)) k) ∙ only in
+    (λ k i. (g.hands (reference talk i) ∙ ap (λ n. nat_eq n (reference talk i)) (sym r)) k) ∙ only in
     ap (λ o. unwrap_or o x) (sym named ∙ g.found)
 
 -- two outstanding commands of one number are one
@@ -144,14 +144,24 @@ subs_kept : (c : Settings) (talk : Talk) (j : ℕ) (xs : List ℕ) → AllByRecu
 subs_kept c talk j xs h =
     map_on (submission_at c talk (j + 1)) (submission_at c talk j) xs
     (every_weaker (TellsNothing c talk j) (λ i. submission_at c talk (j + 1) i ≡ submission_at c talk j i)
-    (λ i n. ap (λ t. record { reference = reference talk i; unit = unit_named talk i (said talk i).turn; opcode =
-        opcode talk i; told = t }) (last_same c talk j i n)) xs h)
+    (λ i n. ap (λ t. record {
+      reference = reference talk i;
+      unit = unit_named talk i (said talk i).turn;
+      opcode =
+          opcode talk i;
+      told = t;
+    }) (last_same c talk j i n)) xs h)
 
 -- where the end is that of a poll about the command i
 one_told : (c : Settings) (talk : Talk) (j i f : ℕ) → answers_of c talk i (handed_over talk j) ≡ f ∷ []
     → submission_at c talk (j + 1) i ≡ record (submission_at c talk j i) { told = Some f }
-one_told c talk j i f n = ap (λ t. record { reference = reference talk i; unit =
-    unit_named talk i (said talk i).turn; opcode = opcode talk i; told = t }) (last_new c talk j i f n)
+one_told c talk j i f n = ap (λ t. record {
+  reference = reference talk i;
+  unit =
+      unit_named talk i (said talk i).turn;
+  opcode = opcode talk i;
+  told = t;
+}) (last_new c talk j i f n)
 
 -- of each command: it has the number n and is told f, or it has another and is told nothing
 abbrev IsTold : Settings → Talk → ℕ → ℕ → ℕ → ℕ → Type 0
@@ -164,9 +174,9 @@ none_told c talk j n f [] h z = tt
 none_told c talk j n f (x ∷ xs) h z =
     let t = times n (map (reference talk) xs) in
     let out : (b : Bool) → nat_eq (reference talk x) n ≡ b → cond b (1 + t) t ≡ 0
-        → AllByRecursion (TellsNothing c talk j) (x ∷ xs) =
+    → AllByRecursion (TellsNothing c talk j) (x ∷ xs) =
     λ b. elim b as (λ b. nat_eq (reference talk x) n ≡ b → cond b (1 + t) t ≡ 0
-        → AllByRecursion (TellsNothing c talk j) (x ∷ xs)) [
+    → AllByRecursion (TellsNothing c talk j) (x ∷ xs)) [
       | true ↦ λ e z. absurd (omega (arith, z))
       | false ↦ λ e z. (h.0.1 e, none_told c talk j n f xs h.1 z)
     ] in
@@ -181,11 +191,11 @@ subs_told c talk j n f (x ∷ xs) h l =
     let rest = map (submission_at c talk j) xs in
     let s = submission_at c talk j x in
     let out : (b : Bool) → nat_eq (reference talk x) n ≡ b → cond b (1 + t) t ≤ 1
-        → cond b (record s { told = Some f } ∷ rest) (s ∷ with_told n f rest)
-        ≡ map (submission_at c talk (j + 1)) (x ∷ xs) =
+    → cond b (record s { told = Some f } ∷ rest) (s ∷ with_told n f rest)
+    ≡ map (submission_at c talk (j + 1)) (x ∷ xs) =
     λ b. elim b as (λ b. nat_eq (reference talk x) n ≡ b → cond b (1 + t) t ≤ 1
-        → cond b (record s { told = Some f } ∷ rest) (s ∷ with_told n f rest)
-        ≡ map (submission_at c talk (j + 1)) (x ∷ xs)) [
+    → cond b (record s { told = Some f } ∷ rest) (s ∷ with_told n f rest)
+    ≡ map (submission_at c talk (j + 1)) (x ∷ xs)) [
       | true ↦ λ e l. λ k. sym (one_told c talk j x f (h.0.0 e)) k
           ∷ sym (subs_kept c talk j xs (none_told c talk j n f xs h.1 (omega (arith, l)))) k
       | false ↦ λ e l. λ k. sym (subs_kept c talk j (x ∷ []) (h.0.1 e, tt)) k ++ subs_told c talk j n f xs h.1 l k
@@ -196,18 +206,18 @@ subs_told c talk j n f (x ∷ xs) h l =
 told_of_stands : (c : Settings) (talk : Talk) (j : ℕ) (e : End) (g : Gives c talk j e) (o : Option ℕ)
     → in_flight talk j ≡ Some g.poll → asked_for talk g.poll ≡ o → (b : Bool) → polled_is_outstanding talk j o ≡ b
     → (if b then with_told (reference_found talk o) (figure_told c talk g.poll) (account_at c talk j).outstanding
-        else (account_at c talk j).outstanding) ≡ map (submission_at c talk (j + 1)) (outstanding talk j)
+    else (account_at c talk j).outstanding) ≡ map (submission_at c talk (j + 1)) (outstanding talk j)
 told_of_stands c talk j e g None q r true t = absurd (false≢true t)
 told_of_stands c talk j e g (Some i) q r true t =
     let n = reference talk i in
     let p = g.poll in
     let f = figure_told c talk p in
     let asked : is_asked (said talk p).heard ≡ true =
-        found_is (λ x. is_asked (said talk x).heard) (outstanding talk j) p q in
+    found_is (λ x. is_asked (said talk x).heard) (outstanding talk j) p q in
     let below : i < p = found_below talk p i _ r in
     let before : p < j = found_below talk j p _ q in
     let there : find (λ x. nat_eq x i) (outstanding talk j) ≡ Some i =
-        outstanding_found talk j i t (omega (arith, below, before)) in
+    outstanding_found talk j i t (omega (arith, below, before)) in
     let own : (x : ℕ) → answers_of c talk x (handed_over talk j) ≡ cond (nat_eq i x) (f ∷ []) [] = λ x.
     ap (answers_of c talk x) g.found ∙ ((λ k. cond (asked k && is_it x (r k)) (f ∷ []) [])) in
     subs_told c talk j n f (outstanding talk j)
@@ -221,41 +231,41 @@ told_of_stands c talk j e g o q r false t =
     let p = g.poll in
     let f = figure_told c talk p in
     let asked : is_asked (said talk p).heard ≡ true =
-        found_is (λ x. is_asked (said talk x).heard) (outstanding talk j) p q in
+    found_is (λ x. is_asked (said talk x).heard) (outstanding talk j) p q in
     sym (subs_kept c talk j (outstanding talk j) (every_weaker (λ x. is_outstanding talk j x ≡ true)
-        (TellsNothing c talk j) (λ x m.
+    (TellsNothing c talk j) (λ x m.
     ap (answers_of c talk x) g.found
-        ∙ ((λ k. cond (asked k && is_it x (r k)) (f ∷ []) []) ∙ ap (λ b. cond b (f ∷ []) []) (gone_is talk j x o t m)))
-        (outstanding talk j) (outstanding_are talk j)))
+    ∙ ((λ k. cond (asked k && is_it x (r k)) (f ∷ []) []) ∙ ap (λ b. cond b (f ∷ []) []) (gone_is talk j x o t m)))
+    (outstanding talk j) (outstanding_are talk j)))
 
 told_when : (c : Settings) (talk : Talk) (j : ℕ) (e : End) (g : Gives c talk j e) (p : ℕ) → in_flight talk j ≡ Some p
     → (b : Bool) → nat_eq (reference talk p) e.reference ≡ b
     → outstanding_with (account_at c talk j) (if b && nat_eq e.code 0x82 then told_in e.body else None)
-        ≡ map (submission_at c talk (j + 1)) (outstanding talk j)
+    ≡ map (submission_at c talk (j + 1)) (outstanding talk j)
 told_when c talk j e g p q true n =
     let own = own_flight c talk j e p g q (eqb-true (reference talk p) e.reference n) in
     let tells = g.tells own in
     let asked = asked_for talk g.poll in
     let watch : (account_at c talk j).watch ≡ Some (watch_at talk j g.poll) =
-        ap (option_map (watch_at talk j)) own in
+    ap (option_map (watch_at talk j)) own in
     rw (eq-eqb e.code 0x82 tells.code, tells.body, watch)
-        (told_of_stands c talk j e g asked own refl (polled_is_outstanding talk j asked) refl)
+    (told_of_stands c talk j e g asked own refl (polled_is_outstanding talk j asked) refl)
 told_when c talk j e g p q false n =
     let other = false_from_ne_true (is_asked (said talk g.poll).heard) (λ a.
     let same : p ≡ g.poll = ap (λ o. unwrap_or o p) (sym q ∙ poll_asks c talk j e g a) in
     true≢false (sym (eq-eqb (reference talk p) e.reference (ap (reference talk) same ∙ g.named)) ∙ n)) in
     sym (subs_kept c talk j (outstanding talk j) (every_from (TellsNothing c talk j)
-        (λ i. nothing_asked c talk j i e g other) (outstanding talk j)))
+    (λ i. nothing_asked c talk j i e g other) (outstanding talk j)))
 
 -- ---- the answer that the end is, or that it is none
 
 pub all_told : (c : Settings) (talk : Talk) (j : ℕ) (e : End) (g : Gives c talk j e) (o : Option ℕ)
     → in_flight talk j ≡ o
     → outstanding_with (account_at c talk j) (answered (option_map (watch_at talk j) o) e)
-        ≡ map (submission_at c talk (j + 1)) (outstanding talk j)
+    ≡ map (submission_at c talk (j + 1)) (outstanding talk j)
 all_told c talk j e g None q =
     let quiet = false_from_ne_true (is_asked (said talk g.poll).heard)
-        (λ a. true≢false (ap is_some (sym (poll_asks c talk j e g a) ∙ q))) in
+    (λ a. true≢false (ap is_some (sym (poll_asks c talk j e g a) ∙ q))) in
     sym (subs_kept c talk j (outstanding talk j) (every_from (TellsNothing c talk j)
-        (λ i. nothing_asked c talk j i e g quiet) (outstanding talk j)))
+    (λ i. nothing_asked c talk j i e g quiet) (outstanding talk j)))
 all_told c talk j e g (Some p) q = told_when c talk j e g p q (nat_eq (reference talk p) e.reference) refl

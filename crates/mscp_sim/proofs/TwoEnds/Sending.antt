@@ -76,7 +76,7 @@ pub record Free (a : Account) (opcode reference : ℕ) : Type 0 where
 pub free : (a : Account) (opcode reference : ℕ) → host.refusal a opcode reference ≡ None → Free a opcode reference
 free a opcode reference e =
     let k = none_too (nat_eq (balance a) 0) (nat_eq (balance a) 1 && not (is_immediate opcode))
-        (list_any (has_reference reference) a.outstanding) e in
+    (list_any (has_reference reference) a.outstanding) e in
     record { some = k.0; spare = k.1; new = k.2 }
 
 unrefused : {K : Type 0} (a : Account) (h : Holdings K) (told : Flight) (opcode reference : ℕ) → Matches a h told
@@ -92,7 +92,7 @@ taken_in a h told c m k f =
     let low : nat_lt (length b) 12 ≡ false = let l = k.read.low in grind (arith, nat_tests, l) in
     let high : nat_lt 64 (length b) ≡ false = let l = k.read.high in grind (arith, nat_tests, l) in
     rw (low, high) ((λ i. credit_fault (balance_of h) (outstanding_of h) (k.opcode i) (k.reference i))
-        ∙ unrefused a h told (opcode_byte c.order) c.reference m f)
+    ∙ unrefused a h told (opcode_byte c.order) c.reference m f)
 
 -- ---- what both keep then
 
@@ -124,7 +124,7 @@ arrives_queued : {K : Type 0} (a a' : Account) (h : Holdings K) (told : Flight) 
     → Arrives a a' h s c → Matches a h told → a'.watch ≡ a.watch → Matches a' (queued h c) told
 arrives_queued a a' h told s c x m w =
     pushes_match a a' h (queued h c) s told told (queued_pushes a a' h told s c x m) m
-        (subst (λ (o : Option Watch). HasFlight h.untaken o told) (sym w) m.flight)
+    (subst (λ (o : Option Watch). HasFlight h.untaken o told) (sym w) m.flight)
 
 -- the same number is as new where another command was aborted
 new_still : {K : Type 0} (a : Account) (h h' : Holdings K) (told : Flight) (n : ℕ) → Matches a h told
@@ -134,17 +134,22 @@ new_still a h h' told n m m' z = sym (m'.same n) ∙ (m.same n ∙ z)
 arrives_ended : {K : Type 0} (a a' : Account) (h : Holdings K) (told told' : Flight) (s : Submission) (c : Command)
     → Arrives a a' h s c → Matches a h told
     → HasFlight (with_end (aborting h c.order) (answered_end h c)).untaken a'.watch told'
-        → Matches a' (with_end (aborting h c.order) (answered_end h c)) told'
+    → Matches a' (with_end (aborting h c.order) (answered_end h c)) told'
 arrives_ended {K} a a' h told told' s c x m f =
     let h1 : Holdings K = aborting h c.order in
     let e = answered_end h c in
     let m1 = aborting_matches a h told c.order m in
     let code : is_code_of e.code s.opcode ≡ true =
-        ap (is_code_of e.code) x.opcode ∙ (ap (λ q. is_code_of q (opcode_byte c.order))
-        (own_code_of h.settings _ _ c (fault_of h.settings c)) ∙ x.coded) in
+    ap (is_code_of e.code) x.opcode ∙ (ap (λ q. is_code_of q (opcode_byte c.order))
+    (own_code_of h.settings _ _ c (fault_of h.settings c)) ∙ x.coded) in
     let own : e.reference ≡ s.reference = own_reference_of h.settings _ _ c (fault_of h.settings c) ∙ sym x.reference in
-    let adds : Adds a a' h1 s = record { credits = x.adds.credits; outstanding = x.adds.outstanding; small =
-        x.adds.small; new = new_still a h h1 told s.reference m m1 x.adds.new } in
+    let adds : Adds a a' h1 s = record {
+      credits = x.adds.credits;
+      outstanding = x.adds.outstanding;
+      small =
+          x.adds.small;
+      new = new_still a h h1 told s.reference m m1 x.adds.new;
+    } in
     pushes_match a a' h1 (with_end h1 e) s told told' (ended_pushes a a' h1 told s e adds own code m1) m1 f
 
 -- ---- a command that is submitted
@@ -178,14 +183,22 @@ submitted_match {K} a h told c small unit m e =
     let b = command_bytes c in
     let both = message_taken h b (taken_in a h told c m k f) in
     let x : Arrives a (submitted a c) h (submission_of c) (command_of b) = record {
-      adds = record { credits = refl; outstanding = refl; small = (small, unit); new =
-          nobody_named a h told c.reference m f.new };
+      adds = record {
+        credits = refl;
+        outstanding = refl;
+        small = (small, unit);
+        new =
+            nobody_named a h told c.reference m f.new;
+      };
       reference = sym (same_reference c k);
       opcode = sym (same_opcode c k);
       coded = coded b;
     } in
-    record { taken = both.0; match = subst (λ (q : Holdings K). Matches (submitted a c) q told) (sym both.1)
-        (arrives_match a (submitted a c) h told (submission_of c) (command_of b) x m refl) }
+    record {
+      taken = both.0;
+      match = subst (λ (q : Holdings K). Matches (submitted a c) q told) (sym both.1)
+          (arrives_match a (submitted a c) h told (submission_of c) (command_of b) x m refl);
+    }
 
 -- ---- a poll
 
@@ -193,8 +206,12 @@ same_command : (c : Command) → IsValidOrder c.order → HasCommandRange c → 
 same_command c valid fits =
     let k = command_bytes_are_messages c valid fits in
     let r = command_read c in
-    λ i. record { reference = (r.reference ∙ sym k.reference) i; unit = (r.unit ∙ sym k.unit) i; order =
-        (r.order ∙ sym k.order) i }
+    λ i. record {
+      reference = (r.reference ∙ sym k.reference) i;
+      unit = (r.unit ∙ sym k.unit) i;
+      order =
+          (r.order ∙ sym k.order) i;
+    }
 
 found_small : (p : Submission → Bool) (xs : List Submission) (s : Submission) → find p xs ≡ Some s
     → AllByRecursion IsSmall xs → IsSmall s
@@ -213,9 +230,9 @@ found_named : (p : Submission → Bool) (xs : List Submission) (s : Submission) 
 found_named p [] s e = absurd (false≢true (ap is_some e))
 found_named p (x ∷ xs) s e =
     let out : (b : Bool) → cond b (Some x) (find p xs) ≡ Some s
-        → (nat_eq x.reference s.reference || list_any (has_reference s.reference) xs) ≡ true =
+    → (nat_eq x.reference s.reference || list_any (has_reference s.reference) xs) ≡ true =
     λ b. elim b as (λ b. cond b (Some x) (find p xs) ≡ Some s
-        → (nat_eq x.reference s.reference || list_any (has_reference s.reference) xs) ≡ true) [
+    → (nat_eq x.reference s.reference || list_any (has_reference s.reference) xs) ≡ true) [
       | true ↦ λ q. let same : nat_eq x.reference s.reference ≡ true =
           eq-eqb x.reference s.reference (ap (λ o. (unwrap_or o x).reference) q) in rw same refl
       | false ↦ λ q. let rest = found_named p xs s q in
@@ -243,7 +260,7 @@ told_now h s = record {
 poll_flight : {K : Type 0} (a : Account) (h : Holdings K) (told : Flight) (r : ℕ) (s : Submission) → Matches a h told
     → list_any (has_reference s.reference) a.outstanding ≡ true
     → HasFlight (with_end (aborting h (orders.Status s.reference)) (answered_end h (poll_of r s))).untaken
-        (watching a r s).watch (told_now h s)
+    (watching a r s).watch (told_now h s)
 poll_flight {K} a h told r s m there =
     record {
       front = h.untaken ++ [];
@@ -256,11 +273,11 @@ poll_flight {K} a h told r s m there =
       ended = λ st wa.
           let all = same_holds a h told s.reference m ∙ there in
           let either = sym (list_any-append (λ x. nat_eq x s.reference) (names h.waiting) (map end_name h.untaken))
-              ∙ all in
+          ∙ all in
           let second = second_of (list_any (λ x. nat_eq x s.reference) (names h.waiting))
-              (list_any (λ x. nat_eq x s.reference) (map end_name h.untaken)) either wa in
+          (list_any (λ x. nat_eq x s.reference) (map end_name h.untaken)) either wa in
           subst (λ us. list_any (λ (e : End). nat_eq e.reference s.reference) us ≡ true) (sym (append-nil h.untaken))
-              (sym (any_ends s.reference h.untaken) ∙ second);
+          (sym (any_ends s.reference h.untaken) ∙ second);
     }
 
 pub polled_match : {K : Type 0} (a : Account) (h : Holdings K) (told : Flight) (r : ℕ) (s : Submission) → r < 2 ^ 32
@@ -276,14 +293,22 @@ polled_match {K} a h told r s small m found e =
     let f = free a (opcode_byte c.order) r e in
     let both = message_taken h b (taken_in a h told c m k f) in
     let x : Arrives a (watching a r s) h (submission_of c) c = record {
-      adds = record { credits = refl; outstanding = refl; small = (small, fits.1); new =
-          nobody_named a h told r m f.new };
+      adds = record {
+        credits = refl;
+        outstanding = refl;
+        small = (small, fits.1);
+        new =
+            nobody_named a h told r m f.new;
+      };
       reference = refl;
       opcode = refl;
       coded = subst (λ (q : Command). HasOwnEndcode q.order) same (coded b);
     } in
     let match : Matches (watching a r s) (arrives h c) (told_now h s) =
-        arrives_ended a (watching a r s) h told (told_now h s) (submission_of c) c x m
-        (poll_flight a h told r s m (found_named p a.outstanding s found)) in
-    record { taken = both.0; match = subst (λ (q : Holdings K). Matches (watching a r s) q (told_now h s))
-        (sym (both.1 ∙ ap (arrives h) same)) match }
+    arrives_ended a (watching a r s) h told (told_now h s) (submission_of c) c x m
+    (poll_flight a h told r s m (found_named p a.outstanding s found)) in
+    record {
+      taken = both.0;
+      match = subst (λ (q : Holdings K). Matches (watching a r s) q (told_now h s))
+          (sym (both.1 ∙ ap (arrives h) same)) match;
+    }

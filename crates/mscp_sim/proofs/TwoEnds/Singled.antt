@@ -26,9 +26,9 @@ pub find_kept : {X : Type 0} (q keep : X → Bool) (xs : List X) (x : X) → fin
 find_kept q keep [] x e k = absurd (false≢true (ap is_some e))
 find_kept {X} q keep (y ∷ ys) x e k =
     let out : (b d : Bool) → q y ≡ b → keep y ≡ d → cond b (Some y) (find q ys) ≡ Some x
-        → find q (cond d (y ∷ filter keep ys) (filter keep ys)) ≡ Some x =
+    → find q (cond d (y ∷ filter keep ys) (filter keep ys)) ≡ Some x =
     λ b d. elim b as (λ b. q y ≡ b → keep y ≡ d → cond b (Some y) (find q ys) ≡ Some x
-        → find q (cond d (y ∷ filter keep ys) (filter keep ys)) ≡ Some x) [
+    → find q (cond d (y ∷ filter keep ys) (filter keep ys)) ≡ Some x) [
       | true ↦ λ p r f.
           let is : y ≡ x = ap (λ o. unwrap_or o y) f in
           let kept : d ≡ true = sym r ∙ (ap keep is ∙ k) in
@@ -49,7 +49,7 @@ find_none_kept {X} q keep (y ∷ ys) h =
       | true ↦ λ k.
           let test : (b : Bool) → q y ≡ b → cond b (Some y) (find q (filter keep ys)) ≡ None =
           λ b. elim b as (λ b. q y ≡ b → cond b (Some y) (find q (filter keep ys)) ≡ None)
-              [ true ↦ λ e. absurd (true≢false (sym k ∙ h.0 e)) | false ↦ λ e. rest ] in
+          [ true ↦ λ e. absurd (true≢false (sym k ∙ h.0 e)) | false ↦ λ e. rest ] in
           test (q y) refl
       | false ↦ λ k. rest
     ] in
@@ -71,9 +71,9 @@ pub found_in : (p : ℕ → Bool) (xs : List ℕ) (n : ℕ) → p n ≡ true →
 found_in p [] n k e = absurd (false≢true e)
 found_in p (x ∷ xs) n k e =
     let out : (b d : Bool) → nat_eq x n ≡ b → p x ≡ d → (b || list_any (λ y. nat_eq y n) xs) ≡ true
-        → find (λ y. nat_eq y n) (cond d (x ∷ filter p xs) (filter p xs)) ≡ Some n =
+    → find (λ y. nat_eq y n) (cond d (x ∷ filter p xs) (filter p xs)) ≡ Some n =
     λ b d. elim b as (λ b. nat_eq x n ≡ b → p x ≡ d → (b || list_any (λ y. nat_eq y n) xs) ≡ true
-        → find (λ y. nat_eq y n) (cond d (x ∷ filter p xs) (filter p xs)) ≡ Some n) [
+    → find (λ y. nat_eq y n) (cond d (x ∷ filter p xs) (filter p xs)) ≡ Some n) [
       | true ↦ λ q r f.
           let is = eqb-true x n q in
           let kept : d ≡ true = sym r ∙ (ap p is ∙ k) in
@@ -116,7 +116,7 @@ not_twice : (a b n : ℕ) → cond (nat_eq a b) (1 + n) n ≤ 1 → 1 ≤ n → 
 not_twice a b n t s =
     let out : (x : Bool) → nat_eq a b ≡ x → cond x (1 + n) n ≤ 1 → nat_eq a b ≡ false =
     λ x. elim x as (λ x. nat_eq a b ≡ x → cond x (1 + n) n ≤ 1 → nat_eq a b ≡ false)
-        [ true ↦ λ e l. absurd (omega (arith, l, s)) | false ↦ λ e l. e ] in
+    [ true ↦ λ e l. absurd (omega (arith, l, s)) | false ↦ λ e l. e ] in
     out (nat_eq a b) refl t
 
 -- what a test finds is the one of its number
@@ -134,9 +134,9 @@ only_one f q (y ∷ ys) x t e =
           let some : 1 ≤ times (f x) (map f ys) = at_least f q ys x g in
           let other : nat_eq (f y) (f x) ≡ false = not_twice (f y) (f x) (times (f x) (map f ys)) t some in
           let fewer : times (f x) (map f ys) ≤ 1 =
-              subst (λ b. cond b (1 + times (f x) (map f ys)) (times (f x) (map f ys)) ≤ 1) other t in
+          subst (λ b. cond b (1 + times (f x) (map f ys)) (times (f x) (map f ys)) ≤ 1) other t in
           ap (λ b. cond b (Some y) (find (λ i. nat_eq (f x) (f i)) ys)) (flip (f x) (f y) ∙ other)
-              ∙ only_one f q ys x fewer g
+          ∙ only_one f q ys x fewer g
     ] in
     out (q y) e
 
@@ -149,9 +149,9 @@ all_other n [] z = refl
 all_other n (x ∷ xs) z =
     let p : Submission → Bool = λ s. not (nat_eq n s.reference) in
     let out : (b : Bool) → nat_eq x.reference n ≡ b → cond b (1 + times n (references xs)) (times n (references xs)) ≡ 0
-        → filter p (x ∷ xs) ≡ x ∷ xs =
+    → filter p (x ∷ xs) ≡ x ∷ xs =
     λ b. elim b as (λ b. nat_eq x.reference n ≡ b → cond b (1 + times n (references xs)) (times n (references xs)) ≡ 0
-        → filter p (x ∷ xs) ≡ x ∷ xs) [
+    → filter p (x ∷ xs) ≡ x ∷ xs) [
       | true ↦ λ e z. absurd (omega (arith, z))
       | false ↦ λ e z. ap (λ b. cond (not b) (x ∷ filter p xs) (filter p xs)) (flip n x.reference ∙ e)
           ∙ ap (λ ys. x ∷ ys) (all_other n xs z)
@@ -164,13 +164,13 @@ without_kept n [] t = refl
 without_kept n (x ∷ xs) t =
     let p : Submission → Bool = λ s. not (nat_eq n s.reference) in
     let out : (b : Bool) → nat_eq x.reference n ≡ b → cond b (1 + times n (references xs)) (times n (references xs)) ≤ 1
-        → cond b xs (x ∷ without n xs) ≡ filter p (x ∷ xs) =
+    → cond b xs (x ∷ without n xs) ≡ filter p (x ∷ xs) =
     λ b. elim b as (λ b. nat_eq x.reference n ≡ b → cond b (1 + times n (references xs)) (times n (references xs)) ≤ 1
-        → cond b xs (x ∷ without n xs) ≡ filter p (x ∷ xs)) [
+    → cond b xs (x ∷ without n xs) ≡ filter p (x ∷ xs)) [
       | true ↦ λ e l.
           let none : times n (references xs) ≡ 0 = omega (arith, l) in
           sym (all_other n xs none) ∙ sym (ap (λ b. cond (not b) (x ∷ filter p xs) (filter p xs))
-              (flip n x.reference ∙ e))
+          (flip n x.reference ∙ e))
       | false ↦ λ e l. ap (λ ys. x ∷ ys) (without_kept n xs l)
           ∙ sym (ap (λ b. cond (not b) (x ∷ filter p xs) (filter p xs)) (flip n x.reference ∙ e))
     ] in

@@ -64,9 +64,11 @@ pub handed_on : {K : Type 0} (a a' : Account) (h h' : Holdings K) (told : Flight
     (r : Result News HostFault) (n : News) → Handed a h told b → (r, a') ≡ heard a b → r ≡ Ok n → h' ≡ after_take h
     → (heard a b ≡ (Ok n, a')) × Matches a' h' told
 handed_on {K} a a' h h' told b r n x e o k =
-    let left : a' ≡ received a x.end = ap (λ p. p.1) (e ∙ x.heard) in
-    (sym e ∙ ap (λ q. (q, a')) o, subst (λ (y : Account). Matches y h' told) (sym left)
-        (subst (λ (y : Holdings K). Matches (received a x.end) y told) (sym k) x.match))
+    let left : a' ≡ received a x.end = ap (λ p. p.1) (e ∙ x.heard) in (
+      sym e ∙ ap (λ q. (q, a')) o,
+      subst (λ (y : Account). Matches y h' told) (sym left)
+          (subst (λ (y : Holdings K). Matches (received a x.end) y told) (sym k) x.match),
+    )
 
 -- the bytes that a moment hands over
 abbrev pub handed_in : Option Moment → Option (ArrayVec ℕ)

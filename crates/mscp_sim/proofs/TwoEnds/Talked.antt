@@ -58,7 +58,7 @@ drop_more talk j s rest e =
     let some : length talk - j ≡ suc (length rest) = sym (length-drop j talk) ∙ ap length e in
     let here : j + 0 ≡ j = omega arith in
     let first : said talk j ≡ s = subst (λ k. said talk k ≡ s) here
-        (sym (get_or-drop j talk 0 nothing) ∙ ap (λ xs. get_or xs 0 nothing) e) in
+    (sym (get_or-drop j talk 0 nothing) ∙ ap (λ xs. get_or xs 0 nothing) e) in
     (omega (arith, some), first, drop_next j talk ∙ ap (drop 1) e)
 
 -- what is promised of a controller with these settings and this picker, whatever it answered
@@ -96,8 +96,14 @@ turns_from {K} c picks picker talk j (s ∷ rest) keeps x i l k =
     let promise = subst (Promise c) (history_of t) (keeps t r.1 turn.next.reached).promise in
     ⊎_elim
     (λ same. subst (Known c talk) same (record { tells = turn.tells; promise = promise }))
-    (λ other. turns_from c picks picker talk (j + 1) rest keeps (record { is = d.2; host = r.0; controller = r.1; at =
-        turn.next; goes = (x.goes.0, x.goes.1, r.3) }) i (omega (arith, l, other)) k)
+    (λ other. turns_from c picks picker talk (j + 1) rest keeps (record {
+      is = d.2;
+      host = r.0;
+      controller = r.1;
+      at =
+          turn.next;
+      goes = (x.goes.0, x.goes.1, r.3);
+    }) i (omega (arith, l, other)) k)
     (cases_eq j i)
 
 -- ---- the start
@@ -161,17 +167,23 @@ two_ends {K} c picks picker old new ts v runs law n g =
     let t = trace_of talk in
     let h : Holdings K = holdings.fresh c picker in
     let says : Converses picks (fresh c.credits) h talk new.host new.controller =
-        subst (λ (x : Account). Converses picks x h talk new.host new.controller) n.host
-        (subst (λ (y : Holdings K). Converses picks old.host y talk new.host new.controller) n.controller g.says) in
+    subst (λ (x : Account). Converses picks x h talk new.host new.controller) n.host
+    (subst (λ (y : Holdings K). Converses picks old.host y talk new.host new.controller) n.controller g.says) in
     let answered = answered_calls picks h new.controller t
-        (whole_calls picks (fresh c.credits) new.host h new.controller talk says) in
+    (whole_calls picks (fresh c.credits) new.host h new.controller talk says) in
     let run = runs c (events_of t) (entries_of t) new.controller v answered in
     let trace : trace_of talk ≡ new.lists.1 = ap (λ xs. xs ++ t) (sym n.trace) ∙ sym g.trace in
     let whole : zip (events_of t) (entries_of t) ≡ new.lists.1 = zipped t ∙ trace in
-    let rest : Rest c picks picker talk 0 talk = record { is = refl; host = fresh c.credits; controller = h; at =
-        at_start c picks picker talk; goes = (new.host, new.controller, says) } in
+    let rest : Rest c picks picker talk 0 talk = record {
+      is = refl;
+      host = fresh c.credits;
+      controller = h;
+      at =
+          at_start c picks picker talk;
+      goes = (new.host, new.controller, says);
+    } in
     let known : (i : ℕ) → i < length talk → Known c talk i = λ i l.
-        turns_from c picks picker talk 0 talk (λ t k r. law c (calls_of t) k v r) rest i (omega arith) l in
+    turns_from c picks picker talk 0 talk (λ t k r. law c (calls_of t) k v r) rest i (omega arith) l in
     record {
       talk = talk;
       turns = g.turns;

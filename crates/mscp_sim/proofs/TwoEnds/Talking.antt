@@ -19,7 +19,7 @@ converses_push : {K : Type 0} (picks : List Choice → ℕ → Type 0) (a m a' :
     (s : Said) → Converses picks a h talk m n → Says picks m n s a' h' → Converses picks a h (talk ++ s ∷ []) a' h'
 converses_push {K} picks a m a' h n h' [] s r one =
     let both : Says picks a h s a' h' = subst (λ (x : Account). Says picks x h s a' h') r.0
-        (subst (λ (y : Holdings K). Says picks m y s a' h') r.1 one) in
+    (subst (λ (y : Holdings K). Says picks m y s a' h') r.1 one) in
     (a', h', both, (refl, refl))
 converses_push picks a m a' h n h' (t ∷ talk) s r one =
     (r.0, r.1, r.2, converses_push picks r.0 m a' r.1 n h' talk s r.3 one)
@@ -52,8 +52,15 @@ pub record Talks {K : Type 0} (picks : K → List Choice → ℕ → Type 0) (ol
 pub talks_none : {K : Type 0} (picks : K → List Choice → ℕ → Type 0) (old : Kept K) → Match old.host old.controller
     → Talks picks old old []
 talks_none picks old m = record {
-  goes = record { talk = []; turns = refl; heard = sym (append-nil old.lists.0); trace =
-      sym (append-nil old.lists.1); says = (refl, refl); match = m };
+  goes = record {
+    talk = [];
+    turns = refl;
+    heard = sym (append-nil old.lists.0);
+    trace =
+        sym (append-nil old.lists.1);
+    says = (refl, refl);
+    match = m;
+  };
   picker = refl;
 }
 
@@ -90,9 +97,9 @@ pub talks_more : {K : Type 0} (picks : K → List Choice → ℕ → Type 0) (ol
     → Grows (picks now.controller.picker) now new turn → Talks picks old new (take (i + 1) all)
 talks_more {K} picks old now new all i turn l e t x =
     let same : Grows (picks old.controller.picker) now new turn =
-        subst (λ (k : K). Grows (picks k) now new turn) t.picker x in
+    subst (λ (k : K). Grows (picks k) now new turn) t.picker x in
     let more : take (i + 1) all ≡ take i all ++ turn ∷ [] =
-        take_more all i turn l ∙ ap (λ x. take i all ++ x ∷ []) (sym e) in
+    take_more all i turn l ∙ ap (λ x. take i all ++ x ∷ []) (sym e) in
     record {
       goes = subst (λ ts. GoesTo (picks old.controller.picker) old ts new) (sym more)
           (goes_more (picks old.controller.picker) old now new (take i all) turn t.goes same);

@@ -46,7 +46,7 @@ pub trace_more : (talk : Talk) (j : ℕ) → j < length talk
     → trace_of (take (j + 1) talk) ≡ trace_of (take j talk) ++ option_to_list (said talk j).moment
 trace_more talk j l =
     ap trace_of (take_more talk j _ l) ∙ (flat_map-append (λ (s : Said). option_to_list s.moment) (take j talk)
-        (said talk j ∷ []) ∙ ap (λ xs. trace_of (take j talk) ++ xs) (append-nil (option_to_list (said talk j).moment)))
+    (said talk j ∷ []) ∙ ap (λ xs. trace_of (take j talk) ++ xs) (append-nil (option_to_list (said talk j).moment)))
 
 -- ---- the whole trace
 
@@ -79,13 +79,21 @@ finds f p [] e = absurd (false≢true e)
 finds {X} f p (x ∷ xs) e =
     let out : (b : Bool) → p (f x) ≡ b → (b || list_any p (map f xs)) ≡ true → Finds (λ y. p (f y)) (x ∷ xs) =
     λ b. elim b as (λ b. p (f x) ≡ b → (b || list_any p (map f xs)) ≡ true → Finds (λ y. p (f y)) (x ∷ xs)) [
-      | true ↦ λ q h. record { item = x; found = ap (λ b. cond b (Some x) (find (λ y. p (f y)) xs)) q; there =
-          (0, omega arith, refl) }
+      | true ↦ λ q h. record {
+        item = x;
+        found = ap (λ b. cond b (Some x) (find (λ y. p (f y)) xs)) q;
+        there =
+            (0, omega arith, refl);
+      }
       | false ↦ λ q h.
           let rest = finds f p xs h in
           let l = rest.there.1 in
-          record { item = rest.item; found = ap (λ b. cond b (Some x) (find (λ y. p (f y)) xs)) q ∙ rest.found; there =
-              (suc rest.there.0, omega (arith, l), rest.there.2) }
+          record {
+            item = rest.item;
+            found = ap (λ b. cond b (Some x) (find (λ y. p (f y)) xs)) q ∙ rest.found;
+            there =
+                (suc rest.there.0, omega (arith, l), rest.there.2);
+          }
     ] in
     out (p (f x)) refl e
 
@@ -97,6 +105,6 @@ some_figure c t n p e =
     let x = finds (name t) (λ y. nat_eq y n) (waiting t) e in
     let whole : take (length t) t ≡ t = take_all (length t) t (omega arith) in
     let positive = subst (λ u. (y : ℕ) → Contains (waiting u) y ↔ (1 ≤ figure c u y)) whole
-        (p.positive (length t) (omega arith)) in
+    (p.positive (length t) (omega arith)) in
     let some : 1 ≤ figure c t x.item = (positive x.item).0 x.there in
     subst (λ o. 1 ≤ figure_found c t o) (sym x.found) some

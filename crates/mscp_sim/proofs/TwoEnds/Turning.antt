@@ -92,8 +92,11 @@ is_news heard = false
 -- nothing is handed over, and so no news is heard
 pub no_news : (c : Settings) (talk : Talk) (j : ℕ) → NoEnd talk j → is_news (said talk j).heard ≡ false
     → ((said talk j).heard ≡ hears.News news.Reset) ↔ Stands c talk j
-no_news c talk j n q = (λ e. absurd (false≢true (sym q ∙ ap is_news e)), λ s.
-    absurd (false≢true (ap is_some (sym (none_handed talk j n) ∙ s.handed))))
+no_news c talk j n q = (
+  λ e. absurd (false≢true (sym q ∙ ap is_news e)),
+  λ s.
+      absurd (false≢true (ap is_some (sym (none_handed talk j n) ∙ s.handed))),
+)
 
 pub not_lost : (talk : Talk) (j : ℕ) → is_news (said talk j).heard ≡ false → (said talk j).heard ≢ hears.News news.Lost
 not_lost talk j q e = false≢true (sym q ∙ ap is_news e)
@@ -103,15 +106,15 @@ pub reached_next : {K : Type 0} {c : Settings} {picks : List Choice → ℕ → 
     → AnsweredCalls picks (fresh c picker) (calls_of (trace_of (take (j + 1) talk))) h'
 reached_next {K} {c} {picks} {picker} {talk} {j} {a'} {h'} x =
     subst (λ t. AnsweredCalls picks (fresh c picker) (calls_of t) h') (sym (trace_more talk j x.inside))
-        (reached_more picks (fresh c picker) x.controller h' (trace_of (take j talk)) (said talk j).moment x.at.reached
-        x.says.1)
+    (reached_more picks (fresh c picker) x.controller h' (trace_of (take j talk)) (said talk j).moment x.at.reached
+    x.says.1)
 
 pub heard_at : {K : Type 0} {c : Settings} {picks : List Choice → ℕ → Type 0} {picker : K} {talk : Talk} {j : ℕ}
     {a' : Account} {h' : Holdings K} → Comes c picks picker talk j a' h' → a' ≡ account_at c talk (j + 1)
     → IsHeard (account_at c talk j) (said talk j).turn (said talk j) (account_at c talk (j + 1))
 heard_at {K} {c} {picks} {picker} {talk} {j} x same =
     subst (λ y. IsHeard y (said talk j).turn (said talk j) (account_at c talk (j + 1))) x.at.account
-        (subst (λ y. IsHeard x.host (said talk j).turn (said talk j) y) same x.says.0)
+    (subst (λ y. IsHeard x.host (said talk j).turn (said talk j) y) same x.says.0)
 
 -- what asks also sends
 pub asks_sends : (heard : Heard) → sends heard ≡ false → is_asked heard ≡ false
@@ -156,8 +159,8 @@ pub new_number : (c : Settings) (talk : Talk) (j r : ℕ) → named_in (said tal
 new_number c talk j r named n m f q i l o e =
     let same : reference talk i ≡ r = sym e ∙ (ap named_in (sym f) ∙ named) in
     true≢false (sym (any_map c talk j r (outstanding talk j)
-        ∙ any_found _ (λ x. nat_eq (reference talk x) r) (outstanding talk j) i (outstanding_found talk j i o l)
-        (eq-eqb (reference talk i) r same)) ∙ n)
+    ∙ any_found _ (λ x. nat_eq (reference talk x) r) (outstanding talk j) i (outstanding_found talk j i o l)
+    (eq-eqb (reference talk i) r same)) ∙ n)
 
 -- nothing is sent or queued, no end is handed over, and no news is heard
 pub record IsQuiet (s : Said) : Type 0 where
@@ -172,11 +175,18 @@ pub quiet : {K : Type 0} {c : Settings} {picks : List Choice → ℕ → Type 0}
     → a' ≡ x.host → Matches x.host h' x.at.told → Turns c picks picker talk j a' h'
 quiet {K} {c} {picks} {picker} {talk} {j} {a'} {h'} x q e m =
     let same : a' ≡ account_at c talk (j + 1) =
-        e ∙ (x.at.account ∙ sym (account_quiet c talk j q.no_end q.unsent)) in
+    e ∙ (x.at.account ∙ sym (account_quiet c talk j q.no_end q.unsent)) in
     record {
-      tells = record { says = heard_at x same; resets = no_news c talk j q.no_end q.no_news; no_lost =
-          not_lost talk j q.no_news; new = unqueued talk j q.unqueued; idle =
-          never_idle talk j (asks_sends (said talk j).heard q.unsent); some = none_some c talk j q.no_end };
+      tells = record {
+        says = heard_at x same;
+        resets = no_news c talk j q.no_end q.no_news;
+        no_lost =
+            not_lost talk j q.no_news;
+        new = unqueued talk j q.unqueued;
+        idle =
+            never_idle talk j (asks_sends (said talk j).heard q.unsent);
+        some = none_some c talk j q.no_end;
+      };
       next = record {
         account = same;
         told = x.at.told;
@@ -194,11 +204,16 @@ pub step_turn : {K : Type 0} {c : Settings} {picks : List Choice → ℕ → Typ
     → (said talk j).turn ≡ turns.Step k → Turns c picks picker talk j a' h'
 step_turn {K} {c} {picks} {picker} {talk} {j} {a'} {h'} x k t =
     let one : IsHeard x.host (turns.Step k) (said talk j) a' =
-        subst (λ u. IsHeard x.host u (said talk j) a') t x.says.0 in
+    subst (λ u. IsHeard x.host u (said talk j) a') t x.says.0 in
     let steps = subst (λ o. AnswersTurn picks x.controller o h') one.2 x.says.1 in
-    quiet x (record { unqueued = ap queues_in one.2; no_end = λ r. ap (hands_over r) one.2; unsent =
-        ap sends one.1; no_news = ap is_news one.1 }) one.3
-        (steps_match picks x.host x.controller h' x.at.told k one.0 steps x.at.match)
+    quiet x (record {
+      unqueued = ap queues_in one.2;
+      no_end = λ r. ap (hands_over r) one.2;
+      unsent =
+          ap sends one.1;
+      no_news = ap is_news one.1;
+    }) one.3
+    (steps_match picks x.host x.controller h' x.at.told k one.0 steps x.at.match)
 
 -- ---- a command
 
@@ -209,8 +224,13 @@ pub kept_back : {K : Type 0} {c : Settings} {picks : List Choice → ℕ → Typ
     → Turns c picks picker talk j a' h'
 kept_back {K} {c} {picks} {picker} {talk} {j} {a'} {h'} x none unsent no_news e =
     let left : h' ≡ x.controller = subst (λ o. AnswersTurn picks x.controller o h') none x.says.1 in
-    quiet x (record { unqueued = ap queues_in none; no_end = λ r. ap (hands_over r) none; unsent = unsent; no_news =
-        no_news }) e (subst (λ (y : Holdings K). Matches x.host y x.at.told) (sym left) x.at.match)
+    quiet x (record {
+      unqueued = ap queues_in none;
+      no_end = λ r. ap (hands_over r) none;
+      unsent = unsent;
+      no_news =
+          no_news;
+    }) e (subst (λ (y : Holdings K). Matches x.host y x.at.told) (sym left) x.at.match)
 
 pub submit_turn : {K : Type 0} {c : Settings} {picks : List Choice → ℕ → Type 0} {picker : K} {talk : Talk} {j : ℕ}
     {a' : Account} {h' : Holdings K} → (x : Comes c picks picker talk j a' h') → (command : Command)
@@ -226,13 +246,20 @@ submit_turn {K} {c} {picks} {picker} {talk} {j} {a'} {h'} x command t (Ok b) e k
     let sent : sends (said talk j).heard ≡ true = ap sends k.1 in
     let silent : is_asked (said talk j).heard ≡ false = ap is_asked k.1 in
     let fresh = subst (λ (z : Account). list_any (has_reference command.reference) z.outstanding ≡ false) x.at.account
-        y.fresh in
+    y.fresh in
     let same : a' ≡ account_at c talk (j + 1) = y.left
-        ∙ (ap (λ z. submitted z command) x.at.account ∙ sym (account_submitted c talk j command k.0 n t k.1)) in
+    ∙ (ap (λ z. submitted z command) x.at.account ∙ sym (account_submitted c talk j command k.0 n t k.1)) in
     record {
-      tells = record { says = heard_at x same; resets = no_news c talk j n (ap is_news k.1); no_lost =
-          not_lost talk j (ap is_news k.1); new = new_number c talk j command.reference (ap named_in k.2 ∙ y.named)
-          fresh; idle = never_idle talk j silent; some = none_some c talk j n };
+      tells = record {
+        says = heard_at x same;
+        resets = no_news c talk j n (ap is_news k.1);
+        no_lost =
+            not_lost talk j (ap is_news k.1);
+        new = new_number c talk j command.reference (ap named_in k.2 ∙ y.named)
+            fresh;
+        idle = never_idle talk j silent;
+        some = none_some c talk j n;
+      };
       next = record {
         account = same;
         told = x.at.told;

@@ -6,9 +6,9 @@ use Rattle.mscp_c.proofs.hosting.mscp_host_submit_at.Goals as goal
 pub returns-in-Err-Short-clause-after : goal.returns-in-Err-Short-clause-after
 returns-in-Err-Short-clause-after c made =
     c.is_made.ensures.same ∙ ap (λ r. with_held c.args.handle.now (submits_read c.args.handle.now.held r).1)
-        (ap Err (sym c.in-Err-Short.field-0-is) ∙ c.in-Err-Short.ensures)
+    (ap Err (sym c.in-Err-Short.field-0-is) ∙ c.in-Err-Short.ensures)
 
 pub returns-in-Err-Long-clause-after : goal.returns-in-Err-Long-clause-after
 returns-in-Err-Long-clause-after c made =
     c.is_made.ensures.same ∙ ap (λ r. with_held c.args.handle.now (submits_read c.args.handle.now.held r).1)
-        (ap Err (sym c.in-Err-Long.field-0-is) ∙ c.in-Err-Long.ensures)
+    (ap Err (sym c.in-Err-Long.field-0-is) ∙ c.in-Err-Long.ensures)

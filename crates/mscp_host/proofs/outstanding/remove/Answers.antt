@@ -8,11 +8,11 @@ pub returns-in-Some-clause-after : goal.returns-in-Some-clause-after
 returns-in-Some-clause-after c =
     c.remove.ensures.items
     ∙ removed_at c.args.reference c.args.submissions.now.items c.in-Some.place
-        (ap (position (has_reference c.args.reference)) (sym c.as_slice.ensures.value)
-        ∙ (sym c.place_of.ensures ∙ c.in-Some.is))
+    (ap (position (has_reference c.args.reference)) (sym c.as_slice.ensures.value)
+    ∙ (sym c.place_of.ensures ∙ c.in-Some.is))
 
 pub returns-in_default-clause-after : goal.returns-in_default-clause-after
 returns-in_default-clause-after c =
     sym (nowhere c.args.reference 0 c.args.submissions.now.items
-        (ap (position (has_reference c.args.reference)) (sym c.as_slice.ensures.value)
-        ∙ (sym c.place_of.ensures ∙ c.in_default.is))).1
+    (ap (position (has_reference c.args.reference)) (sym c.as_slice.ensures.value)
+    ∙ (sym c.place_of.ensures ∙ c.in_default.is))).1

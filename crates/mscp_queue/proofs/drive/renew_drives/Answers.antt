@@ -9,4 +9,4 @@ loop-drive-preserved c =
     let renewed : Drive → Drive = λ d. fresh_drive d.unit in
     mapped_more renewed c.args.drives.now c.loop-drive.drives c.loop-drive.drive-index c.drive-item.result c.new.result
     c.loop-drive.invariant c.loop-drive.auto.drives (omega (arith, c.loop-drive.auto.drives, c.loop-drive-test.true))
-        c.new.ensures
+    c.new.ensures

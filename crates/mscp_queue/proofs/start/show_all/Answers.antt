@@ -18,8 +18,8 @@ loop-place-preserved c =
     record {
       shown =
           shown_next c.args.drives.now c.args.records.now place (take place view) (take (place + 1) c.set.new.self) _
-              (c.transfer_choice.ensures ∙ (λ i. choice_of (c.aimed_at-cylinder.ensures.drive i)
-              (c.aimed_at-cylinder.ensures.record i))) c.loop-place.invariant.shown
+          (c.transfer_choice.ensures ∙ (λ i. choice_of (c.aimed_at-cylinder.ensures.drive i)
+          (c.aimed_at-cylinder.ensures.record i))) c.loop-place.invariant.shown
           (ap (take (place + 1)) c.set.ensures ∙ take_more_set view place _ (omega (arith, room, below)));
       room = ap length c.set.ensures ∙ (length-set view place _ ∙ room);
     }
@@ -33,4 +33,4 @@ returns c =
     let many : place ≡ length c.args.records.now = omega (arith, end, c.loop-place-test.false) in
     let all : take place view ≡ view = take_all place view (omega (arith, many, room)) in
     sym all ∙ (c.loop-place.invariant.shown ∙ ap (λ n.
-        choices_at c.args.drives.now c.args.records.now (range_with_len 0 n)) many)
+    choices_at c.args.drives.now c.args.records.now (range_with_len 0 n)) many)

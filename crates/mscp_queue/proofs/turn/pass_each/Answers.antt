@@ -10,7 +10,7 @@ loop-i-preserved c =
     record {
       passed =
           mapped_more (passed_by c.args.toll) c.args.records.now c.loop-i.records c.loop-i.i c.index-records-i.result
-              c.passed_by.result inv.passed inv.long
+          c.passed_by.result inv.passed inv.long
           (omega (arith, inv.long)) c.passed_by.ensures;
       long = length-set c.loop-i.records c.loop-i.i c.passed_by.result ∙ inv.long;
     }

@@ -11,6 +11,6 @@ returns-clause-served c =
     let f = passed_by c.args.toll in
     let e = c.pass_front.ensures.passed in
     let read = behind_read f k rs c.pass_front.new.records c.index-records-place.result c.requires.place e
-        ∙ get_or_default rs k c.index-records-place.result no_record c.requires.place in
+    ∙ get_or_default rs k c.index-records-place.result no_record c.requires.place in
     behind_set f k rs c.pass_front.new.records no_record c.advanced.result c.requires.place e
     ∙ ap (λ r. map f (take k rs) ++ r ∷ drop (k + 1) rs) (c.advanced.ensures ∙ ap advanced read)

@@ -13,14 +13,14 @@ none : (c : goal.After-from_residual) → AbortsNone c.args.reference c.args.wai
 none c =
     let p = has_reference c.args.reference in
     aborts_none c.args.reference c.args.waiting.now.items
-        (ap (position p) (sym c.as_slice.ensures.value) ∙ (sym c.place_of.ensures ∙ c.in_err-place.was))
+    (ap (position p) (sym c.as_slice.ensures.value) ∙ (sym c.place_of.ensures ∙ c.in_err-place.was))
 
 -- one is found
 one : (c : goal.After-remove-2) → Aborts c.args.reference c.args.waiting.now.items c.in_ok-place.place
 one c =
     let p = has_reference c.args.reference in
     aborts_at c.args.reference c.args.waiting.now.items c.in_ok-place.place c.requires.apart
-        (ap (position p) (sym c.as_slice.ensures.value) ∙ (sym c.place_of.ensures ∙ c.in_ok-place.was))
+    (ap (position p) (sym c.as_slice.ensures.value) ∙ (sym c.place_of.ensures ∙ c.in_ok-place.was))
 
 pub returns-in_err-place-clause-found : goal.returns-in_err-place-clause-found
 returns-in_err-place-clause-found c = c.from_residual.ensures ∙ sym (none c).found
@@ -31,8 +31,8 @@ returns-in_err-place-clause-left c = sym (none c).left
 pub returns-clause-found : goal.returns-clause-found
 returns-clause-found c =
     let k = one c in ap Some (c.remove-2.ensures.value
-        ∙ get_or_default c.args.waiting.now.items c.in_ok-place.place c.remove-2.result no_record k.inside)
-        ∙ sym k.found
+    ∙ get_or_default c.args.waiting.now.items c.in_ok-place.place c.remove-2.result no_record k.inside)
+    ∙ sym k.found
 
 pub returns-clause-left : goal.returns-clause-left
 returns-clause-left c = c.remove-2.ensures.items ∙ (one c).left
@@ -44,4 +44,4 @@ pub returns-clause-aims : goal.returns-clause-aims
 returns-clause-aims c =
     let k = c.in_ok-place.place in
     λ us e. c.remove.ensures.items ∙ (ap (λ zs. remove zs k) e
-        ∙ (aim_removed us c.args.waiting.now.items k ∙ ap (aims_of us) (sym c.remove-2.ensures.items)))
+    ∙ (aim_removed us c.args.waiting.now.items k ∙ ap (aims_of us) (sym c.remove-2.ensures.items)))

@@ -13,7 +13,7 @@ returns-in_err-script-clause-fault g c = λ fault e.
 pub returns-in_err-text-clause-fault : goal.returns-in_err-text-clause-fault
 returns-in_err-text-clause-fault g c = λ fault e.
     let from = of_script c.from_residual-in_err-text.result c.in_err-text.field-0.0 fault
-        c.from_residual-in_err-text.ensures.1 e in (
+    c.from_residual-in_err-text.ensures.1 e in (
       c.in_ok-script.script.items,
       c.in_ok-script.ensures.bytes,
       subst (λ (bytes : List ℕ). IsFault bytes fault) c.deref.ensures.value

@@ -14,10 +14,10 @@ returns-clause-talk g c =
     let host = c.in-Ok.ensures.new ∙ ap fresh c.credits.ensures.value in
     let picker = ap (λ h. h.picker) c.new-controller.ensures.fresh in
     let old = kept c.in-Ok.host c.new-controller.result
-        (record { heard = c.in_ok-with_capacity.field-0; trace = c.in_ok-with_capacity-2.field-0 }) in
+    (record { heard = c.in_ok-with_capacity.field-0; trace = c.in_ok-with_capacity-2.field-0 }) in
     let new = kept c.hear_each.new.host c.hear_each.new.controller c.hear_each.new.talk in
     two_ends c.args.config (g.K.Picker.picks c.args.picker) c.args.picker old new c.args.turns.now
-        c.new-controller.ensures.valid c.runs_keep_the_promise.ensures c.controllers_keep_the_promise.ensures (record {
+    c.new-controller.ensures.valid c.runs_keep_the_promise.ensures c.controllers_keep_the_promise.ensures (record {
       host = host;
       controller = c.new-controller.ensures.fresh;
       heard = c.in_ok-with_capacity.ensures.items;

@@ -24,15 +24,20 @@ pub loop-turn-preserved : goal.loop-turn-preserved
 loop-turn-preserved g c =
     let left = c.loop-turn-test.true in
     let more : length c.args.turns.now - c.loop-turn.turn-index
-        ≡ (length c.args.turns.now - (c.loop-turn.turn-index + 1)) + 1 = omega (arith, left) in
+    ≡ (length c.args.turns.now - (c.loop-turn.turn-index + 1)) + 1 = omega (arith, left) in
     record {
       talks =
           talks_more g.K.Picker.picks (kept c.args.host.now c.args.controller.now c.args.talk.now)
-              (kept c.loop-turn.host c.loop-turn.controller c.loop-turn.talk)
-              (kept c.hear-heard.new.host c.hear-heard.new.controller c.keep.new.self) c.args.turns.now
-              c.loop-turn.turn-index c.turn-item.result left c.turn-item.is c.loop-turn.invariant.talks
-              (record { told = c.hear-heard.result; goes = c.hear-heard.ensures; heard = c.keep.ensures.heard; trace =
-                  c.keep.ensures.trace });
+          (kept c.loop-turn.host c.loop-turn.controller c.loop-turn.talk)
+          (kept c.hear-heard.new.host c.hear-heard.new.controller c.keep.new.self) c.args.turns.now
+          c.loop-turn.turn-index c.turn-item.result left c.turn-item.is c.loop-turn.invariant.talks
+          (record {
+            told = c.hear-heard.result;
+            goes = c.hear-heard.ensures;
+            heard = c.keep.ensures.heard;
+            trace =
+                c.keep.ensures.trace;
+          });
       room = c.keep.ensures.room (length c.args.turns.now - (c.loop-turn.turn-index + 1))
           (subst (HasRoom c.loop-turn.talk) more c.loop-turn.invariant.room);
     }

@@ -11,7 +11,7 @@ pub unreachable-requires : goal.unreachable-requires
 unreachable-requires g c =
     let e = sym c.submit.ensures ∙ ap (λ r. (r, c.submit.new.self)) c.in-Ok.is in
     let x = submits_match c.args.host.now c.args.controller.now c.requires.0 c.args.command.now c.in-Ok.message
-        c.submit.new.self c.fit.ensures.reference c.fit.ensures.unit c.requires.1 e in
+    c.submit.new.self c.fit.ensures.reference c.fit.ensures.unit c.requires.1 e in
     let answer = c.send.ensures.answer ∙ (ap (answer_to_message c.args.controller.now) c.deref.ensures.0 ∙ x.taken) in
     absurd (false≢true (ap is_ok (sym c.in-Err-send.is ∙ answer)))
 
@@ -25,11 +25,17 @@ pub returns-in-Ok-send : goal.returns-in-Ok-send
 returns-in-Ok-send g c =
     let e = sym c.submit.ensures ∙ ap (λ r. (r, c.submit.new.self)) c.in-Ok.is in
     let x = submits_match c.args.host.now c.args.controller.now c.requires.0 c.args.command.now c.in-Ok.message
-        c.submit.new.self c.fit.ensures.reference c.fit.ensures.unit c.requires.1 e in
+    c.submit.new.self c.fit.ensures.reference c.fit.ensures.unit c.requires.1 e in
     let event = c.event_of.ensures ∙ ap (λ b. events.Send (record { items = b })) c.deref-in-Ok-send.ensures.0 in
     let sent = sym c.in-Ok-send.is ∙ (c.send.ensures.answer
-        ∙ ap (answer_to_message c.args.controller.now) c.deref.ensures.0) in
+    ∙ ap (answer_to_message c.args.controller.now) c.deref.ensures.0) in
     let after = c.send.ensures.after ∙ ap (after_message c.args.controller.now) c.deref.ensures.0 in
     let match : Match c.submit.new.self c.send.new.self = (c.requires.0, rw after x.match) in
-    rw event ((rw e ((c.in-Ok-send.sent, refl, refl), refl), (sent, after),
-        (c.fit.ensures.reference, c.fit.ensures.unit)), match)
+    rw event (
+      (
+        rw e ((c.in-Ok-send.sent, refl, refl), refl),
+        (sent, after),
+        (c.fit.ensures.reference, c.fit.ensures.unit),
+      ),
+      match,
+    )

@@ -15,10 +15,10 @@ returns-in-None-clause-answer g c =
     let b = c.args.b.now in
     let command = c.in_ok-command.command in
     let free : refusal (balance_of h) (outstanding_of h) b ≡ None =
-        taken (balance_of h) (outstanding_of h) b command c.in_ok-command.ensures.command
+    taken (balance_of h) (outstanding_of h) b command c.in_ok-command.ensures.command
     (ap (λ n. credit_fault (balance_of h) (outstanding_of h) n command.reference)
-        (sym (c.opcode.ensures ∙ c.in_ok-command.ensures.opcode))
-        ∙ (sym c.credit_fault.ensures.fault ∙ c.in-None.is)) in
+    (sym (c.opcode.ensures ∙ c.in_ok-command.ensures.opcode))
+    ∙ (sym c.credit_fault.ensures.fault ∙ c.in-None.is)) in
     ap Ok (c.arrive.ensures.sent ∙ ap (taken_as h) (command_is b command c.in_ok-command.ensures.command))
     ∙ sym (ap (sent_unless h (command_of b)) free)
 
@@ -28,10 +28,10 @@ returns-in-None-clause-after g c =
     let b = c.args.b.now in
     let command = c.in_ok-command.command in
     let free : refusal (balance_of h) (outstanding_of h) b ≡ None =
-        taken (balance_of h) (outstanding_of h) b command c.in_ok-command.ensures.command
+    taken (balance_of h) (outstanding_of h) b command c.in_ok-command.ensures.command
     (ap (λ n. credit_fault (balance_of h) (outstanding_of h) n command.reference)
-        (sym (c.opcode.ensures ∙ c.in_ok-command.ensures.opcode))
-        ∙ (sym c.credit_fault.ensures.fault ∙ c.in-None.is)) in
+    (sym (c.opcode.ensures ∙ c.in_ok-command.ensures.opcode))
+    ∙ (sym c.credit_fault.ensures.fault ∙ c.in-None.is)) in
     c.arrive.ensures.after ∙ ap (arrives h) (command_is b command c.in_ok-command.ensures.command)
     ∙ sym (ap (held_unless h (command_of b)) free)
 
@@ -39,4 +39,4 @@ pub arrive-requires-clause-coded : goal.arrive-requires-clause-coded
 arrive-requires-clause-coded g c =
     let b = c.args.b.now in
     subst (λ (q : Command). IsCoded q.order) (sym (command_is b c.in_ok-command.command
-        c.in_ok-command.ensures.command)) (coded b)
+    c.in_ok-command.ensures.command)) (coded b)

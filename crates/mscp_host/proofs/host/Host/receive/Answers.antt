@@ -10,6 +10,6 @@ returns c =
     let code = sym c.is_code_of.ensures ∙ c.if-not-is_code_of.false in
     let inside = rw c.answered-answer.ensures at (sym c.is_about_polled.ensures ∙ c.if-not-is_about_polled.false) in
     let about = subst (λ (a : Account). is_about_polled a.watch (answered a.watch c.in_ok-end.end) ≡ true)
-        c.self.view_is inside in
+    c.self.view_is inside in
     rw (c.hear.ensures.news, c.hear.ensures.after)
-        (sym (heard_ok c.args.self.now c.args.b.now c.in_ok-end.end c.in-Some.submission read found code about))
+    (sym (heard_ok c.args.self.now c.args.b.now c.in_ok-end.end c.in-Some.submission read found code about))

@@ -46,24 +46,24 @@ head_spec 𝓤 𝓛 𝓜 𝓡 wired =
     enter ! _ _ _ _ _ $ alloc_all ! (λ l. pass_all ! refl ((tt, tt), tt) $
     fsplit3 ! $ move ! (1 ∷ 2 ∷ 3 ∷ []) $ opens ! tt R b o (λ us.
     move ! (1 ∷ []) $ peeks ! R _ (shows 𝓛 R) h us
-        (λ is. fsplit ! $ peeks ! Words _ (shows 𝓛 Words) (to the_type h) us (λ s. fjoin ! $
+    (λ is. fsplit ! $ peeks ! Words _ (shows 𝓛 Words) (to the_type h) us (λ s. fjoin ! $
     let w = lowers.val_is h us is in let words = s.1.1.1 in
     let fits : Fits (head_of h) = (words.0.1, words.1.0.1, words.1.1.0.1) in
     let Cell = λ (ws : List Val). ‵ (cell_at full_share R.mir ws b o) in
     -- [what the handle owns; its cell; the open borrow, in three entries]
     rewrite ! 1 Cell w refl $
     sets ! (of_opd ! (load ! (through ! refl (fld ! refl (stop !))) (look_in ! 1 (sub ! 1 refl (whole !))))) refl
-        (tt, record { fits = fits.0 }) $
+    (tt, record { fits = fits.0 }) $
     sets ! (of_opd ! (load ! (through ! refl (fld ! refl (stop !))) (look_in ! 1 (sub ! 2 refl (whole !))))) refl
-        (tt, record { fits = fits.1 }) $
+    (tt, record { fits = fits.1 }) $
     sets ! (of_opd ! (load ! (through ! refl (fld ! refl (stop !))) (look_in ! 1 (sub ! 3 refl (whole !))))) refl
-        (tt, record { fits = fits.2 }) $
+    (tt, record { fits = fits.2 }) $
     sets ! (agg ! (and_then ! (get ! refl) (and_then ! (get ! refl) (and_then ! (get ! refl) (no_more !))))) refl
-        (good 𝓛 (head_of h) fits) $
+    (good 𝓛 (head_of h) fits) $
     rewrite ! 1 Cell (sym w) refl $ move ! (1 ∷ []) $ closes ! tt R h us b o $
     returns ! (look_at ! 0 refl) $ free_all ! refl $ move ! (3 ∷ []) $
     suffices ! _ (ends_at 𝓛 f.ended stayed c y (head_val (head_of h)) (head_of h) (h, tt) (tt, tt)) $ says !
-        (refl, refl) $
+    (refl, refl) $
     group ! 3 $ nothing ! $ move ! (1 ∷ 0 ∷ []) $ join ! $ nothing ! $ move ! (2 ∷ 0 ∷ []) $ join ! $ frame ! $ frame !
-        $
+    $
     owned ! H (Is H) (made 𝓛) (head_of h) _ (head_is (head_of h) fits) $ done !)))))

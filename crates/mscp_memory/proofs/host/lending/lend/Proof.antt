@@ -52,7 +52,7 @@ rest h us b o = fsep ((Struct (shape the_type)).own_val (to the_type h) us) (cel
 back : {M : Type 1} {𝓤 : Ura M} (𝓛 : Logic 𝓤) (h : Handle) (us : List Val) (b o b' o' : ℕ) → h.at ≡ block_ptr b' o'
     → is_made h ≡ true
     → (w : T.Denot) → ent 𝓤 (sep 𝓤 (sem 𝓛 ((mem T).own_at w b' o')) (sem 𝓛 (rest h us b o)))
-        (sem 𝓛 ((mem R).own_at (with_held h w) b o))
+    (sem 𝓛 ((mem R).own_at (with_held h w) b o))
 unfolding part_of
 back 𝓛 h us b o b' o' e made w =
     qed 𝓛 (‵ (lies_at T full_share (block_ptr b' o') w) ∷ ‵ (rest h us b o) ∷ []) ∵
@@ -69,10 +69,10 @@ lend_spec 𝓤 𝓛 𝓜 𝓡 wired =
     (λ κs. (mut_vals, tt)) (λ κs. (mut_Tells (named 0) κs.0 R, tt)) (λ κs qs bounds a _ are.
     let κ = κs.0 in let q = qs.0 in
     let b = a.0.ref_ptr.0 in let o = a.0.ref_ptr.1 in let γ = a.0.ghost_name in let h = a.0.now in let vs =
-        mut_vals a.0 in
+    mut_vals a.0 in
     let y : W.Ghost = ((κs, qs, bounds, a, (vs, tt)), tt) in
     qed 𝓛 (((‵ (flft κs.0 qs.0) ⊛ ‵ ftrue) ⊛ ‵ ((MutRef (named 0) κs.0 R).own_val a.0 vs) ⊛ ‵ ftrue)
-        ∷ raw (fact 𝓤 (is_made h ≡ true)) ∷ []) ∵ move ! (1 ∷ []) $ heard ! _ (λ made.
+    ∷ raw (fact 𝓤 (is_made h ≡ true)) ∷ []) ∵ move ! (1 ∷ []) $ heard ! _ (λ made.
     split ! $ split ! $ move ! (2 ∷ []) $ split ! $ keep ! (0 ∷ 2 ∷ []) $
     enter ! _ _ _ _ _ $ alloc_all ! (λ l. pass_all ! refl ((tt, tt), tt) $
     fsplit3 ! $ move ! (1 ∷ 2 ∷ 3 ∷ []) $ opens ! tt R b o (λ us.
@@ -85,7 +85,7 @@ lend_spec 𝓤 𝓛 𝓜 𝓡 wired =
     -- [the host; what the fields own; the struct's cell; the open borrow, in three entries]
     first ! $ blocks ! $
     sets ! (of_opd ! (load ! (through ! refl (fld ! refl (stop !))) (look_in ! 2 (sub ! 0 refl (whole !))))) refl
-        (tt, tt) $
+    (tt, tt) $
     sets ! (of_opd ! (get ! refl)) refl (tt, tt) $
     sets_last ! (addr ! (through ! refl (stop !))) refl (tt, tt) $
     exec ! 𝓣.C 𝓣.Λ (env code.Mir.locals l) (after 1 (code.function).body) (at_ret _ (W.post y)) $
@@ -95,14 +95,14 @@ lend_spec 𝓤 𝓛 𝓜 𝓡 wired =
     -- [the rest; the host; the open borrow, in three entries]
     move ! (2 ∷ 3 ∷ 4 ∷ 1 ∷ 0 ∷ []) $ group ! 5 $
     use1 𝓛 (later (some (λ (δ : GName). raw (Part 𝓛 R T (with_held h) (named 0) κ q b o b' o' γ (sem 𝓛 (rest h us b o))
-        (back 𝓛 h us b o b' o' e made) h.held δ))))
+    (back 𝓛 h us b o b' o' e made) h.held δ))))
     (lends_Part 𝓛 R T (with_held h) (named 0) κ q b o b' o' γ (sem 𝓛 (rest h us b o)) (back 𝓛 h us b o b' o' e made)
-        (R.coded.code h) (R.coded.code h) h.held) $ await ! tt $ pick ! (λ δ.
+    (R.coded.code h) (R.coded.code h) h.held) $ await ! tt $ pick ! (λ δ.
     returns ! (look_at ! 0 refl) $ free_all ! refl $ keep ! (0 ∷ []) $
     by ! (
     let r : MutBor T.Denot = record { ref_ptr = (b', o'); ghost_name = δ; now = h.held } in
     qed 𝓛 (‵ ((MutRef (named 0) κ T).own_val r (vptr b' o' ∷ [])) ∷ ‵ (flft κ q) ∷ ‵ (follows R T γ δ (with_held h))
-        ∷ []) ∵
+    ∷ []) ∵
     suffices ! _ (ends_at 𝓛 f.ended stayed c y (vptr b' o') r (tt, tt) (tt, tt)) $
     nothing ! $ nothing ! $ fjoin ! $ join ! $ nothing ! $ move ! (2 ∷ 0 ∷ []) $ join ! $ join ! $ frame ! $ says ! refl
-        $ done !))))))))
+    $ done !))))))))

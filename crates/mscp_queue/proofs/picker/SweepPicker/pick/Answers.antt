@@ -13,8 +13,8 @@ loop-place-preserved c =
     elim c.if-cost-least.branch [
       | then-cost-least w ↦ subst (λ b. next b c.if-cost-least.least) (sym w.best-is)
           (subst (next place) (sym w.least-is) (cheapest_comes view place best least _ c.loop-place-test.true
-              w.if-cost-least.true c.loop-place.invariant))
+          w.if-cost-least.true c.loop-place.invariant))
       | else-cost-least w ↦ subst (λ b. next b c.if-cost-least.least) (sym w.best-is)
           (subst (next best) (sym w.least-is) (cheapest_stays view place best least _ c.loop-place-test.true
-              w.if-cost-least.false c.loop-place.invariant))
+          w.if-cost-least.false c.loop-place.invariant))
     ]

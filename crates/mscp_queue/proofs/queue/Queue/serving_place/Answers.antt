@@ -9,4 +9,4 @@ pub returns-else-self : goal.returns-else-self
 returns-else-self g c =
     let K = g.row.K.Denot in
     sym (idle_found c.self.inside.waiting.items (c.self.invariant.held.idle c.if-self.false))
-        ∙ ap (λ (l : Line K). position is_in_service l.waiting) c.self.view_is
+    ∙ ap (λ (l : Line K). position is_in_service l.waiting) c.self.view_is

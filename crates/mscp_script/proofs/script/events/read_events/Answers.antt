@@ -20,5 +20,5 @@ returns-in_err-read_line-clause-outcome c =
     let number = rw c.in-Some.is at (c.in_ok-line.ensures.number) in
     let p = err_from_is_err_and c.from_residual-in_err-read_line.result c.from_residual-in_err-read_line.ensures.1 in
     rw (p.1, p.2) (λ s. onward_fails _ _ _ _ _ c.in_err-read_line.field-0.0
-        (rw number at (c.in_err-read_line.ensures.next s))
-        (c.loop-events.invariant.same s ∙ some (HasGone s c.loop-events.events.items)))
+    (rw number at (c.in_err-read_line.ensures.next s))
+    (c.loop-events.invariant.same s ∙ some (HasGone s c.loop-events.events.items)))

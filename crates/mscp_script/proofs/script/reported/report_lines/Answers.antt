@@ -18,6 +18,12 @@ returns c =
       config,
       on.0,
       c.in_ok-read_header.ensures.leads ∙ on.2,
-      (runs.entries, new.valid, run.headline, run.swept (λ view place inside h. h), c.in_ok-finish.ensures
-          ∙ ap finished runs.report_is),
+      (
+        runs.entries,
+        new.valid,
+        run.headline,
+        run.swept (λ view place inside h. h),
+        c.in_ok-finish.ensures
+            ∙ ap finished runs.report_is,
+      ),
     )

@@ -26,8 +26,8 @@ returns-in_err-run_plain-clause-going c =
     rw (p.1, p.2) (λ d es begun.
     let so_far = c.loop-found.invariant.going d es begun in
     onward_fails _ _ _ _ _ c.in_err-run_plain.field-0.0
-        (rw seen.number at (c.in_err-run_plain.ensures.next d so_far.0 so_far.1))
-        (so_far.2 ∙ seen.some (HasGone d so_far.0)))
+    (rw seen.number at (c.in_err-run_plain.ensures.next d so_far.0 so_far.1))
+    (so_far.2 ∙ seen.some (HasGone d so_far.0)))
 
 pub returns-clause-going : goal.returns-clause-going
 returns-clause-going c = rw (c.in_default.ensures.none.0, c.in_default.ensures.none.1) c.loop-found.invariant.going

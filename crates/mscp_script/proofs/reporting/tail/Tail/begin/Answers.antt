@@ -7,4 +7,4 @@ pub returns : goal.returns
 returns c =
     let room = c.self.inside.room in
     drop-set room 100 10 (omega (arith, c.self.told))
-        ∙ ap (λ xs. 10 ∷ xs) (drop_of_length-le room {i = 101} (omega (arith, c.self.told)))
+    ∙ ap (λ xs. 10 ∷ xs) (drop_of_length-le room {i = 101} (omega (arith, c.self.told)))

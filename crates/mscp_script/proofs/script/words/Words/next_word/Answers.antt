@@ -10,6 +10,10 @@ returns c = elim c.if-self-lt1.branch [
   | in_default-2 w ↦
       let some : 0 < length c.loop-self.self.rest.now = omega (arith, w.in_default.len_at_least) in
       let other : get_or c.loop-self.self.rest.now 0 0 ≢ 32 = search rules in
-      sym c.loop-self.invariant ∙ rw (c.split_at.ensures.front, c.split_at.ensures.back, c.unwrap_or-end.ensures,
-          c.index_of.ensures) (word_ahead _ some other)
+      sym c.loop-self.invariant ∙ rw (
+        c.split_at.ensures.front,
+        c.split_at.ensures.back,
+        c.unwrap_or-end.ensures,
+        c.index_of.ensures,
+      ) (word_ahead _ some other)
 ]
