@@ -65,7 +65,7 @@ follows_more : (c : Settings) (policy : Policy) (so_far : List Call) (h h' : Han
     → Follows c policy (so_far ++ call ∷ []) h'
 follows_more c policy so_far h h' call f r =
     let own : AnswersCall (PolicyPicks policy) h.held call h'.held =
-        subst (λ (p : Policy). AnswersCall (PolicyPicks p) h.held call h'.held) f.picker r in
+    subst (λ (p : Policy). AnswersCall (PolicyPicks p) h.held call h'.held) f.picker r in
     record {
       picker = picker_kept (PolicyPicks policy) h.held call h'.held own ∙ f.picker;
       called = calls_more (PolicyPicks policy) (fresh c policy) so_far h.held call h'.held f.called own;
@@ -81,7 +81,7 @@ follows_same c policy so_far h h' f e = subst (Follows c policy (so_far ++ [])) 
 finished : (c : Settings) (policy : Policy) (so_far : List Call) (h h' : Handle) (reference block : ℕ)
     (before : ReportOut) (status : ℤ) (after : ReportOut) (o : Option Block) → block_told block ≡ o
     → MatchOption o (RefusesStatus h before status h' after) (λ k. TellsFinish reference k h before status h' after)
-        → Follows c policy so_far h → Goes c policy so_far (made.Finish reference block before status after) h'
+    → Follows c policy so_far h → Goes c policy so_far (made.Finish reference block before status after) h'
 finished c policy so_far h h' reference block before status after None e r f = record {
   next = [];
   tells = subst (λ o. MatchOption o (TellsRefused before status after [])
@@ -100,7 +100,7 @@ finished c policy so_far h h' reference block before status after (Some k) e r f
 stepped : (c : Settings) (policy : Policy) (so_far : List Call) (h h' : Handle) (block : ℕ) (before : ReportOut)
     (status : ℤ) (after : ReportOut) (o : Option Block) → block_told block ≡ o
     → MatchOption o (RefusesStatus h before status h' after) (λ k. TellsStep k h before status h' after)
-        → Follows c policy so_far h → Goes c policy so_far (made.Step block before status after) h'
+    → Follows c policy so_far h → Goes c policy so_far (made.Step block before status after) h'
 stepped c policy so_far h h' block before status after None e r f = record {
   next = [];
   tells = subst (λ o. MatchOption o (TellsRefused before status after []) (λ k. TellsStepped k before status after []))
@@ -123,17 +123,29 @@ goes : (c : Settings) (policy : Policy) → ControllersKeepThePromise (PolicyPic
 goes c policy law valid so_far h h' (made.Send message before status after) f r =
     let sent = answer_to_message h.held message in
     let call : Call = calls.Plain (events.Send (record { items = message })) (entries.Sent sent) in
-    record { next = call ∷ []; tells = (sent, refl, r.1, r.2); follows =
-        follows_more c policy so_far h h' call f (refl, ap (λ (x : Handle). x.held) r.0) }
+    record {
+      next = call ∷ [];
+      tells = (sent, refl, r.1, r.2);
+      follows =
+          follows_more c policy so_far h h' call f (refl, ap (λ (x : Handle). x.held) r.0);
+    }
 goes c policy law valid so_far h h' (made.Take before status after) f r =
     let end = end_taken h.held in
     let call : Call = calls.Plain events.Take (entries.Taken end) in
-    record { next = call ∷ []; tells = (end, refl, r.1, r.2); follows =
-        follows_more c policy so_far h h' call f (refl, ap (λ (x : Handle). x.held) r.0) }
+    record {
+      next = call ∷ [];
+      tells = (end, refl, r.1, r.2);
+      follows =
+          follows_more c policy so_far h h' call f (refl, ap (λ (x : Handle). x.held) r.0);
+    }
 goes c policy law valid so_far h h' (made.Begin before status after) f r =
     let call : Call = calls.Begin r.upcoming in
-    record { next = call ∷ []; tells = (r.upcoming, refl, r.code, r.told); follows =
-        follows_more c policy so_far h h' call f r.begin }
+    record {
+      next = call ∷ [];
+      tells = (r.upcoming, refl, r.code, r.told);
+      follows =
+          follows_more c policy so_far h h' call f r.begin;
+    }
 goes c policy law valid so_far h h' (made.Finish reference block before status after) f r =
     finished c policy so_far h h' reference block before status after (block_told block) refl r f
 goes c policy law valid so_far h h' (made.Step block before status after) f r =
@@ -141,12 +153,16 @@ goes c policy law valid so_far h h' (made.Step block before status after) f r =
 goes c policy law valid so_far h h' (made.Look before status after) f r =
     let list : ArrayVec (ℕ × ℕ) = record { items = figures_in h.held } in
     let call : Call = calls.Plain events.Look (entries.Looked list) in
-    record { next = call ∷ []; tells = (list, refl, r.0, r.1); follows =
-        follows_more c policy so_far h h' call f (refl, ap (λ (x : Handle). x.held) r.2) }
+    record {
+      next = call ∷ [];
+      tells = (list, refl, r.0, r.1);
+      follows =
+          follows_more c policy so_far h h' call f (refl, ap (λ (x : Handle). x.held) r.2);
+    }
 goes c policy law valid so_far h h' (made.Figure reference answer) f r =
     let k = law c so_far h.held valid f.called in
     let figure = (λ i. figure_of_reference (k.settings i).budget (k.settings i).longest h.held.waiting reference)
-        ∙ k.figure reference in
+    ∙ k.figure reference in
     record { next = []; tells = (refl, r.0 ∙ ap pos figure); follows = follows_same c policy so_far h h' f r.1 }
 goes c policy law valid so_far h h' (made.Balance answer) f r =
     let k = law c so_far h.held valid f.called in
@@ -155,16 +171,23 @@ goes c policy law valid so_far h h' (made.Waiting answer) f r =
     let k = law c so_far h.held valid f.called in
     let many : length h.held.waiting ≡ length (waiting (history so_far)) =
     sym (length-map h.held.waiting (λ (q : Record). name_of q.command))
-        ∙ (ap length k.waiting ∙ length-map (waiting (history so_far)) (name (history so_far))) in
+    ∙ (ap length k.waiting ∙ length-map (waiting (history so_far)) (name (history so_far))) in
     record { next = []; tells = (refl, r.0 ∙ ap pos many); follows = follows_same c policy so_far h h' f r.1 }
 goes c policy law valid so_far h h' (made.Untaken answer) f r =
     let k = law c so_far h.held valid f.called in
-    record { next = []; tells = (refl, r.0 ∙ ap (λ us. pos (length us)) k.untaken); follows =
-        follows_same c policy so_far h h' f r.1 }
+    record {
+      next = [];
+      tells = (refl, r.0 ∙ ap (λ us. pos (length us)) k.untaken);
+      follows =
+          follows_same c policy so_far h h' f r.1;
+    }
 goes c policy law valid so_far h h' (made.Online unit answer) f r =
     let k = law c so_far h.held valid f.called in
-    record { next = []; tells = (refl, r.0 ∙ ap (λ (ds : List Drive). pos (flag (is_online_in ds unit))) k.drives);
-        follows = follows_same c policy so_far h h' f r.1 }
+    record {
+      next = [];
+      tells = (refl, r.0 ∙ ap (λ (ds : List Drive). pos (flag (is_online_in ds unit))) k.drives);
+      follows = follows_same c policy so_far h h' f r.1;
+    }
 
 -- ---- all calls
 
@@ -178,8 +201,12 @@ record GoesOn (c : Settings) (policy : Policy) (so_far : List Call) (more : List
 goes_on : (c : Settings) (policy : Policy) → ControllersKeepThePromise (PolicyPicks policy) policy → IsValid c
     → (so_far : List Call) (h h' : Handle) (more : List HandleCall) → Follows c policy so_far h
     → AnsweredByHandle h more h' → GoesOn c policy so_far more h'
-goes_on c policy law valid so_far h h' [] f r = record { told = []; tells = refl; follows =
-    follows_same c policy so_far h h' f r }
+goes_on c policy law valid so_far h h' [] f r = record {
+  told = [];
+  tells = refl;
+  follows =
+      follows_same c policy so_far h h' f r;
+}
 goes_on c policy law valid so_far h h' (call ∷ more) f r =
     let one = goes c policy law valid so_far h r.0 call f r.1 in
     let rest = goes_on c policy law valid (so_far ++ one.next) r.0 h' more one.follows r.2 in

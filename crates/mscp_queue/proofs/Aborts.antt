@@ -38,7 +38,7 @@ cut_by : (reference : Name) (rs A : List Record) (r : Record) (B : List Record) 
     → Found (has_reference reference) rs A r B → Cut reference rs A r B
 cut_by reference rs A r B apart f =
     let same : names rs ≡ names A ++ r.command.reference ∷ names B =
-        ap names f.is ∙ map-append (λ (q : Record). q.command.reference) A (r ∷ B) in
+    ap names f.is ∙ map-append (λ (q : Record). q.command.reference) A (r ∷ B) in
     let number : r.command.reference ≡ reference = eqb-true r.command.reference reference f.passed in
     record {
       is = f.is;
@@ -54,11 +54,11 @@ without_cut reference rs A r B k =
     let keep : Record → Bool = λ z. not (has_reference reference z) in
     let stays : (zs : List Record) → AllByRecursion (λ z. has_reference reference z ≡ false) zs → filter keep zs ≡ zs =
     λ zs h. filter_all keep zs (every_weaker (λ z. has_reference reference z ≡ false) (λ z. keep z ≡ true)
-        (λ z e. ap not e) zs h) in
+    (λ z e. ap not e) zs h) in
     ap (filter keep) k.is
     ∙ (filter-append keep A (r ∷ B) ∙ (ap (λ zs. zs ++ filter keep (r ∷ B)) (stays A k.before)
-        ∙ (ap (λ b. A ++ cond (not b) (r ∷ filter keep B) (filter keep B)) k.own
-        ∙ ap (λ zs. A ++ zs) (stays B k.behind))))
+    ∙ (ap (λ b. A ++ cond (not b) (r ∷ filter keep B) (filter keep B)) k.own
+    ∙ ap (λ zs. A ++ zs) (stays B k.behind))))
 
 -- ---- the one that is found
 
@@ -81,16 +81,21 @@ aborts_at reference rs place apart h =
     let f = some.3 in
     let k = cut_by reference rs A r B apart f in
     let first : length A ≡ place = ap (λ o. unwrap_or o place)
-        (sym (position_first (has_reference reference) A r B f.before f.passed)
-        ∙ (ap (position (has_reference reference)) (sym f.is) ∙ h)) in
+    (sym (position_first (has_reference reference) A r B f.before f.passed)
+    ∙ (ap (position (has_reference reference)) (sym f.is) ∙ h)) in
     let at : record_at rs place ≡ r = ap (λ zs. record_at zs place) f.is ∙ get_or_at A r B no_record place first in
     record {
       inside = omega (arith, first, ap length f.is, length-append A (r ∷ B));
       found = ap (find (has_reference reference)) f.is
           ∙ (find_first (has_reference reference) A r B f.before f.passed ∙ ap Some (sym at));
       left = ap (λ zs. remove zs place) f.is ∙ (removed_at A r B place first ∙ sym (without_cut reference rs A r B k));
-      count = omega (arith, ap length f.is, length-append A (r ∷ B), ap length (without_cut reference rs A r B k),
-          length-append A B);
+      count = omega (
+        arith,
+        ap length f.is,
+        length-append A (r ∷ B),
+        ap length (without_cut reference rs A r B k),
+        length-append A B,
+      );
     })
     (find_cases (has_reference reference) rs)
 
@@ -110,8 +115,8 @@ aborts_none reference rs h =
           (λ z e. ap not e) rs none);
     })
     (λ some. let f = some.3 in absurd (true≢false (ap is_some
-        (sym (position_first (has_reference reference) some.0 some.1 some.2 f.before f.passed)
-        ∙ (ap (position (has_reference reference)) (sym f.is) ∙ h)))))
+    (sym (position_first (has_reference reference) some.0 some.1 some.2 f.before f.passed)
+    ∙ (ap (position (has_reference reference)) (sym f.is) ∙ h)))))
     (find_cases (has_reference reference) rs)
 
 -- the records that have the reference number are the one that is found
@@ -127,7 +132,7 @@ found_once reference rs apart =
     let B = some.2 in
     let k = cut_by reference rs A r B apart some.3 in
     ap (filter p) k.is ∙ (filter_one p A r B k.before k.own k.behind
-        ∙ ap option_to_list (sym (ap (find p) k.is ∙ find_first p A r B k.before k.own))))
+    ∙ ap option_to_list (sym (ap (find p) k.is ∙ find_first p A r B k.before k.own))))
     (find_cases p rs)
 
 -- and it is counted out
@@ -143,14 +148,17 @@ counted_without reference rs new r n k apart h is counted e =
     let B = some.2 in
     let f = some.3 in
     let own : some.1 ≡ r = ap (λ o. unwrap_or o r)
-        (sym (find_first p A some.1 B f.before f.passed) ∙ (ap (find p) (sym f.is) ∙ sym h)) in
+    (sym (find_first p A some.1 B f.before f.passed) ∙ (ap (find p) (sym f.is) ∙ sym h)) in
     let out = count_out A some.1 B in
     let all = ap sequential_count f.is in
     let left = ap sequential_count (is ∙ without_cut reference rs A some.1 B
-        (cut_by reference rs A some.1 B apart f)) in
+    (cut_by reference rs A some.1 B apart f)) in
     let one = ap one_if own in
-    record { below = omega (arith, out, all, one, counted, e); counted =
-        omega (arith, out, all, left, one, counted, e) })
+    record {
+      below = omega (arith, out, all, one, counted, e);
+      counted =
+          omega (arith, out, all, left, one, counted, e);
+    })
     (find_cases p rs)
 
 -- none passes a test where none is found
@@ -159,7 +167,7 @@ missing : (p : Record → Bool) (rs : List Record) (place : ℕ) (d : Record) �
 missing p rs place d h l =
     ⊎_elim (λ none. All-from_recursion (λ r. p r ≡ false) rs none place d l)
     (λ some. let f = some.3 in absurd (true≢false (ap is_some
-        (sym (find_first p some.0 some.1 some.2 f.before f.passed) ∙ (ap (find p) (sym f.is) ∙ h))))) (find_cases p rs)
+    (sym (find_first p some.0 some.1 some.2 f.before f.passed) ∙ (ap (find p) (sym f.is) ∙ h))))) (find_cases p rs)
 
 -- ---- what is true of each queue stays true
 
@@ -169,23 +177,23 @@ names_kept p P [] h = tt
 names_kept p P (r ∷ rs) h =
     let rest = names_kept p P rs h.1 in
     elim (p r) as (λ b. AllByRecursion P (names (cond b (r ∷ filter p rs) (filter p rs))))
-        [ true ↦ (h.0, rest) | false ↦ rest ]
+    [ true ↦ (h.0, rest) | false ↦ rest ]
 
 apart_kept : (p : Record → Bool) (rs : List Record) → AreApart (names rs) → AreApart (names (filter p rs))
 apart_kept p [] h = tt
 apart_kept p (r ∷ rs) h =
     let rest = apart_kept p rs h.1 in
     elim (p r) as (λ b. AreApart (names (cond b (r ∷ filter p rs) (filter p rs))))
-        [ true ↦ (names_kept p (λ y. y ≢ r.command.reference) rs h.0, rest) | false ↦ rest ]
+    [ true ↦ (names_kept p (λ y. y ≢ r.command.reference) rs h.0, rest) | false ↦ rest ]
 
 fewer_of : {X : Type 0} (p q : X → Bool) (xs : List X) → length (filter p (filter q xs)) ≤ length (filter p xs)
 fewer_of p q [] = omega arith
 fewer_of {X} p q (x ∷ xs) =
     let rest = fewer_of p q xs in
     let both : (b d : Bool) → length (cond b (cond d (x ∷ filter p (filter q xs)) (filter p (filter q xs)))
-        (filter p (filter q xs))) ≤ length (cond d (x ∷ filter p xs) (filter p xs)) =
+    (filter p (filter q xs))) ≤ length (cond d (x ∷ filter p xs) (filter p xs)) =
     λ b d. elim d as (λ d. length (cond b (cond d (x ∷ filter p (filter q xs)) (filter p (filter q xs)))
-        (filter p (filter q xs))) ≤ length (cond d (x ∷ filter p xs) (filter p xs))) [
+    (filter p (filter q xs))) ≤ length (cond d (x ∷ filter p xs) (filter p xs))) [
       | true ↦ elim b as (λ b. length (cond b (x ∷ filter p (filter q xs)) (filter p (filter q xs)))
           ≤ length (x ∷ filter p xs)) [ true ↦ omega arith | false ↦ omega arith ]
       | false ↦ elim b as (λ b. length (cond b (filter p (filter q xs)) (filter p (filter q xs)))
@@ -193,7 +201,7 @@ fewer_of {X} p q (x ∷ xs) =
     ] in
     let split : (b : Bool) → length (filter p (cond b (x ∷ filter q xs) (filter q xs))) ≤ length (filter p (x ∷ xs)) =
     λ b. elim b as (λ b. length (filter p (cond b (x ∷ filter q xs) (filter q xs))) ≤ length (filter p (x ∷ xs)))
-        [ true ↦ both true (p x) | false ↦ both false (p x) ] in
+    [ true ↦ both true (p x) | false ↦ both false (p x) ] in
     split (q x)
 
 pub held_aborted : (room budget longest : ℕ) (reference : Name) (rs new : List Record) (ds : List Drive)
@@ -223,7 +231,7 @@ held_aborted room budget longest reference rs new ds begun serving b was h e =
           still_aborted budget reference rs name s.1 (h.still name s.0);
     } in
     subst (λ q. IsHeld room budget longest new ds (if q then None else begun) serving) was
-        (subst (λ zs. IsHeld room budget longest zs ds left serving) (sym e) all)
+    (subst (λ zs. IsHeld room budget longest zs ds left serving) (sym e) all)
 
 -- where nothing is aborted, what was begun stays
 pub none_aborted : (budget : ℕ) (reference : Name) (rs : List Record) (begun : Option Name)
@@ -236,7 +244,7 @@ none_aborted budget reference rs (Some name) s h =
     λ b. elim b as (λ b. nat_eq name reference ≡ b → Some name ≡ (if b then None else Some name)) [
       | true ↦ λ e.
           let own : has_reference reference (record_at rs w.0) ≡ true =
-              subst (λ n. has_reference n (record_at rs w.0) ≡ true) (eqb-true name reference e) w.2 in
+          subst (λ n. has_reference n (record_at rs w.0) ≡ true) (eqb-true name reference e) w.2 in
           absurd (true≢false (sym own ∙ missing (has_reference reference) rs w.0 no_record h w.1.inside))
       | false ↦ λ e. refl
     ] in

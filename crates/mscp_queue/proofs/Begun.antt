@@ -22,9 +22,9 @@ opened : (budget : ℕ) (rs : List Record) → All (λ place. is_open_at budget 
 opened budget rs =
     All-from_recursion (λ place. is_open_at budget rs place ≡ true) (open_places budget rs)
     (every_weaker (λ place. Unit {0} × (is_open_at budget rs place ≡ true))
-        (λ place. is_open_at budget rs place ≡ true) (λ place h. h.1) (open_places budget rs)
+    (λ place. is_open_at budget rs place ≡ true) (λ place h. h.1) (open_places budget rs)
     (every_filter (λ place. Unit {0}) (is_open_at budget rs) (range_with_len 0 (length rs))
-        (every_from (λ place. Unit {0}) (λ place. tt) (range_with_len 0 (length rs)))))
+    (every_from (λ place. Unit {0}) (λ place. tt) (range_with_len 0 (length rs)))))
 
 pub picked_opens : (picks : List Choice → ℕ → Type 0) (budget : ℕ) (ds : List Drive) (rs : List Record) (place : ℕ)
     → IsPick picks budget ds rs place → is_open_at budget rs place ≡ true
@@ -44,7 +44,7 @@ servable : (budget : ℕ) (rs front : List Record) (r : Record) (back : List Rec
 servable budget rs front r back name own m =
     let at = at_place rs front r back (length front) no_record m.is refl in
     let fresh : is_unstarted (record_at rs (length front)) ≡ true → is_unstarted r ≡ true =
-        λ e. ap is_unstarted (sym at.item) ∙ e in
+    λ e. ap is_unstarted (sym at.item) ∙ e in
     let all : IsServable budget rs (length front) = record {
       inside = omega (arith, ap length m.is, length-append front (r ∷ back));
       idle = λ e. All-from_recursion (λ z. z.done ≡ 0) rs (m.idle (fresh e));
@@ -55,8 +55,12 @@ servable budget rs front r back name own m =
 -- and one that stands at a place
 among : (budget : ℕ) (rs : List Record) (place : ℕ) → IsServable budget rs place
     → Among budget rs (take place rs) (record_at rs place) (drop (place + 1) rs)
-among budget rs place s = record { is = cut_at no_record rs place s.inside; idle =
-    λ e. recursion_from_All (λ z. z.done ≡ 0) rs (s.idle e); opens = s.opens }
+among budget rs place s = record {
+  is = cut_at no_record rs place s.inside;
+  idle =
+      λ e. recursion_from_All (λ z. z.done ≡ 0) rs (s.idle e);
+  opens = s.opens;
+}
 
 -- ---- a command comes
 
@@ -84,7 +88,7 @@ all_left p keep (r ∷ rs) h =
     let b = and_parts (p r) (list_all p rs) h in
     let rest = all_left p keep rs b.1 in
     elim (keep r) as (λ k. list_all p (cond k (r ∷ filter keep rs) (filter keep rs)) ≡ true)
-        [ true ↦ ap (λ q. q && list_all p (filter keep rs)) b.0 ∙ rest | false ↦ rest ]
+    [ true ↦ ap (λ q. q && list_all p (filter keep rs)) b.0 ∙ rest | false ↦ rest ]
 
 -- a record that may start may start where fewer are in front of it
 open_left : (budget : ℕ) (r : Record) (keep : Record → Bool) (front : List Record) → is_open budget r front ≡ true
@@ -92,7 +96,7 @@ open_left : (budget : ℕ) (r : Record) (keep : Record → Bool) (front : List R
 open_left budget r keep front h =
     let b = and_parts (is_free r front) (is_affordable budget r front) h in
     ap (λ q. q && is_affordable budget r (filter keep front)) (all_left (λ z. not (fences r z)) keep front b.0)
-        ∙ all_left (λ z. nat_le (z.passed + toll r) budget) keep front b.1
+    ∙ all_left (λ z. nat_le (z.passed + toll r) budget) keep front b.1
 
 pub still_aborted : (budget : ℕ) (reference : Name) (rs : List Record) (name : Name) → nat_eq name reference ≡ false
     → IsStillServable budget rs name → IsStillServable budget (without reference rs) name
@@ -119,9 +123,9 @@ pub still_begun : (reference : Name) (begun : Option Name) (name : Name) → beg
 still_begun reference None name e = absurd (false≢true (ap is_some e))
 still_begun reference (Some x) name e =
     let both : (b : Bool) → nat_eq x reference ≡ b → (if b then None else Some x) ≡ Some name
-        → (Some x ≡ Some name) × (nat_eq name reference ≡ false) =
+    → (Some x ≡ Some name) × (nat_eq name reference ≡ false) =
     λ b. elim b as (λ b. nat_eq x reference ≡ b → (if b then None else Some x) ≡ Some name
-        → (Some x ≡ Some name) × (nat_eq name reference ≡ false)) [
+    → (Some x ≡ Some name) × (nat_eq name reference ≡ false)) [
       | true ↦ λ q e. absurd (false≢true (ap is_some e))
       | false ↦ λ q e. (e, ap (λ n. nat_eq n reference) (ap (λ o. unwrap_or o x) (sym e)) ∙ q)
     ] in

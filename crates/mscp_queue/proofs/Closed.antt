@@ -51,23 +51,23 @@ closed_lets true seen fenced false f s = rw (f refl) refl
 closed_open : (budget : ℕ) (ds : List Drive) (front : List Record) (f : Front) (r : Record) → length ds ≤ 16
     → IsFront budget ds front f → is_closed f (length ds) ≡ true → (1 ≤ r.weight) × (r.weight < 2 ^ 32)
     → is_known (units_of ds) r.command.unit ≡ true
-        → AllByRecursion (λ z. is_known (units_of ds) z.command.unit ≡ true) front → is_open budget r front ≡ false
+    → AllByRecursion (λ z. is_known (units_of ds) z.command.unit ≡ true) front → is_open budget r front ≡ false
 closed_open budget ds front f r few h closed w known each =
     let at = drive_place ds r.command.unit in
     let inside : at < length ds = known_inside ds r.command.unit known in
     let all : (b : Bool) → nat_eq f.unspent 0 ≡ b → (b || list_all (λ x. x) (take (length ds) f.fenced)) ≡ true
-        → nat_le r.weight f.unspent ≡ true → get_or f.fenced at false ≡ true =
+    → nat_le r.weight f.unspent ≡ true → get_or f.fenced at false ≡ true =
     λ b. elim b as (λ b. nat_eq f.unspent 0 ≡ b → (b || list_all (λ x. x) (take (length ds) f.fenced)) ≡ true
-        → nat_le r.weight f.unspent ≡ true → get_or f.fenced at false ≡ true) [
+    → nat_le r.weight f.unspent ≡ true → get_or f.fenced at false ≡ true) [
       | true ↦ λ e k t. absurd (omega (arith, w.0, eqb-true f.unspent 0 e, leb-true r.weight f.unspent t))
       | false ↦ λ e k t. set_at f.fenced (length ds) at inside (omega (arith, h.many_fenced)) k
     ] in
     let seen : get_or f.fenced at false ≡ true → get_or f.seen at false ≡ true =
     λ e. h.seen at (omega arith) ∙ any_weaker (is_of ds at) (λ z. is_sequential z.command.order) front
-        (sym (h.fenced at (omega arith)) ∙ e) in
+    (sym (h.fenced at (omega arith)) ∙ e) in
     sym (let_is budget ds front f r (fresh_drive one_block) h w (omega arith) known each)
     ∙ closed_lets (nat_le r.weight f.unspent) (get_or f.seen at false) (get_or f.fenced at false) (is_sequential r.command.order)
-        (all (nat_eq f.unspent 0) refl closed) seen
+    (all (nat_eq f.unspent 0) refl closed) seen
 
 -- ---- nor do more of them
 
@@ -80,7 +80,7 @@ open_kept : (budget : ℕ) (r : Record) (rs : List Record) (place : ℕ) → is_
     → is_open budget r (take (place + 1) rs) ≡ false
 open_kept budget r rs place h =
     both_kept (is_free r (take place rs)) (is_affordable budget r (take place rs)) (is_free r (take (place + 1) rs))
-        (is_affordable budget r (take (place + 1) rs))
+    (is_affordable budget r (take (place + 1) rs))
     (list_all_kept _ rs place) (list_all_kept _ rs place) h
 
 -- the places found are all that there are up to a place, and nobody from there on may start
@@ -93,13 +93,13 @@ shut_more : (budget : ℕ) (ds : List Drive) (rs : List Record) (place : ℕ) (p
     → AllInside ds rs → AllWeigh rs → Shut budget ds rs place places → Shut budget ds rs (place + 1) places
 shut_more budget ds rs place places l inside weighs h =
     let one : filter (is_open_at budget rs) (place ∷ []) ≡ [] =
-        rw (h.shut (record_at rs place) (weighs place no_record l) (inside place no_record l).0) refl in
+    rw (h.shut (record_at rs place) (weighs place no_record l) (inside place no_record l).0) refl in
     record {
       opens =
           h.opens ∙ (sym (append-nil (filter (is_open_at budget rs) (range_with_len 0 place)))
           ∙ (ap (λ ps. filter (is_open_at budget rs) (range_with_len 0 place) ++ ps) (sym one)
           ∙ (sym (filter-append (is_open_at budget rs) (range_with_len 0 place) (place ∷ []))
-              ∙ ap (filter (is_open_at budget rs)) (sym (range_more place)))));
+          ∙ ap (filter (is_open_at budget rs)) (sym (range_more place)))));
       shut = λ r w k. open_kept budget r rs place (h.shut r w k);
     }
 
@@ -109,7 +109,7 @@ shut_on budget ds rs place zero places e inside weighs h =
     h.opens ∙ ap (λ n. filter (is_open_at budget rs) (range_with_len 0 n)) (omega (arith, e))
 shut_on budget ds rs place (suc k) places e inside weighs h =
     shut_on budget ds rs (place + 1) k places (omega (arith, e)) inside weighs
-        (shut_more budget ds rs place places (omega (arith, e)) inside weighs h)
+    (shut_more budget ds rs place places (omega (arith, e)) inside weighs h)
 
 -- so where they let nobody start, all that may start were found
 pub found_closed : (budget : ℕ) (ds : List Drive) (rs : List Record) (place : ℕ) (f : Front) (places : List ℕ)
@@ -118,7 +118,7 @@ pub found_closed : (budget : ℕ) (ds : List Drive) (rs : List Record) (place : 
 found_closed budget ds rs place f places choices few l inside weighs closed h =
     let known : All (λ z. is_known (units_of ds) z.command.unit ≡ true) rs = λ i other k. (inside i other k).0 in
     let each = recursion_from_All (λ z. is_known (units_of ds) z.command.unit ≡ true) (take place rs)
-        (All-take (λ z. is_known (units_of ds) z.command.unit ≡ true) place rs known) in
+    (All-take (λ z. is_known (units_of ds) z.command.unit ≡ true) place rs known) in
     shut_on budget ds rs place (length rs - place) places (omega arith) inside weighs
     (record { opens = h.opens; shut = λ r w k. closed_open budget ds (take place rs) f r few h.front closed w k each })
 

@@ -35,13 +35,13 @@ known_at [] n other h = absurd (false≢true h)
 known_at (d ∷ ds) n other h =
     let found : Bool → Drive = λ b. unwrap_or (cond b (Some d) (find (has_number n) ds)) (fresh_drive one_block) in
     let P : Bool → ℕ → Type 0 = λ b i. (i < length (d ∷ ds)) × (get_or (d ∷ ds) i other ≡ found b)
-        × ((get_or (d ∷ ds) i other).unit.number ≡ n) in
+    × ((get_or (d ∷ ds) i other).unit.number ≡ n) in
     let both : (b : Bool) → nat_eq d.unit.number n ≡ b
-        → is_some (cond b (Some d.unit) (find (λ s. nat_eq s.number n) (units_of ds))) ≡ true
-        → P b (cond (not b) (1 + drive_place ds n) 0) =
+    → is_some (cond b (Some d.unit) (find (λ s. nat_eq s.number n) (units_of ds))) ≡ true
+    → P b (cond (not b) (1 + drive_place ds n) 0) =
     λ b. elim b as (λ b. nat_eq d.unit.number n ≡ b
-        → is_some (cond b (Some d.unit) (find (λ s. nat_eq s.number n) (units_of ds))) ≡ true
-        → P b (cond (not b) (1 + drive_place ds n) 0)) [
+    → is_some (cond b (Some d.unit) (find (λ s. nat_eq s.number n) (units_of ds))) ≡ true
+    → P b (cond (not b) (1 + drive_place ds n) 0)) [
       | true ↦ λ e k. (omega arith, refl, eqb-true d.unit.number n e)
       | false ↦ λ e k.
           let rest = known_at ds n other k in
@@ -60,7 +60,7 @@ pub place_found : (ds : List Drive) (n other : ℕ) → is_known (units_of ds) n
     → unwrap_or (position (has_number n) ds) other ≡ drive_place ds n
 place_found ds n other h =
     ap (λ b. unwrap_or (cond b (Some (drive_place ds n)) None) other)
-        (lt-ltb (drive_place ds n) (length ds) (known_inside ds n h))
+    (lt-ltb (drive_place ds n) (length ds) (known_inside ds n h))
 
 -- units are told apart by the places of their drives
 apart_by_place : (ds : List Drive) (other : Drive) (a b : ℕ) → is_known (units_of ds) a ≡ true
@@ -107,8 +107,14 @@ no_one : (place : ℕ) → place < 16 → get_or (replicate 16 false) place fals
 no_one place h = get_or-replicate 16 place false false h
 
 pub front_none : (budget : ℕ) (ds : List Drive) → IsFront budget ds [] nobody
-front_none budget ds = record { many = length-replicate 16 false; many_fenced = length-replicate 16 false; seen =
-    no_one; fenced = no_one; unspent = λ w l k. le-leb w (2 ^ 32 - 1) (omega (arith, k)) }
+front_none budget ds = record {
+  many = length-replicate 16 false;
+  many_fenced = length-replicate 16 false;
+  seen =
+      no_one;
+  fenced = no_one;
+  unspent = λ w l k. le-leb w (2 ^ 32 - 1) (omega (arith, k));
+}
 
 or_false : (b : Bool) → (b || false) ≡ b
 or_false true = refl
@@ -146,15 +152,15 @@ within_both w a b =
     let in_a = min-le_left a b in
     let in_b = min-le_right a b in
     let first : w ≤ a → nat_le w (min a b) ≡ (nat_le w a && (nat_le w b && true)) = λ h. ⊎_elim
-        (λ k. lt-leb w (min a b) (omega (arith, in_b, k))
-            ∙ sym (ap (λ x. x && (nat_le w b && true)) (le-leb w a h) ∙ ap (λ x. x && true) (lt-leb w b k)))
-        (λ k. le-leb w (min a b) (le-min h k)
-            ∙ sym (ap (λ x. x && (nat_le w b && true)) (le-leb w a h) ∙ ap (λ x. x && true) (le-leb w b k)))
-        (cases_lt b w) in
+    (λ k. lt-leb w (min a b) (omega (arith, in_b, k))
+    ∙ sym (ap (λ x. x && (nat_le w b && true)) (le-leb w a h) ∙ ap (λ x. x && true) (lt-leb w b k)))
+    (λ k. le-leb w (min a b) (le-min h k)
+    ∙ sym (ap (λ x. x && (nat_le w b && true)) (le-leb w a h) ∙ ap (λ x. x && true) (le-leb w b k)))
+    (cases_lt b w) in
     ⊎_elim
-        (λ h. lt-leb w (min a b) (omega (arith, in_a, h))
-            ∙ sym (ap (λ x. x && (nat_le w b && true)) (lt-leb w a h)))
-        first (cases_lt a w)
+    (λ h. lt-leb w (min a b) (omega (arith, in_a, h))
+    ∙ sym (ap (λ x. x && (nat_le w b && true)) (lt-leb w a h)))
+    first (cases_lt a w)
 
 -- and within what is left of a budget where it keeps within it
 within_left : (w p budget : ℕ) → 1 ≤ w → nat_le w (budget - p) ≡ nat_le (p + w) budget
@@ -176,19 +182,19 @@ front_more budget ds front f r at l e h =
       seen = λ place k.
           set_more f.seen at place true (list_any (is_of ds place) front) (omega (arith, h.many)) (h.seen place k)
           ∙ (ap (λ b. list_any (is_of ds place) front || (b && true)) (of place)
-              ∙ (ap (λ b. list_any (is_of ds place) front || b) (and_true (is_of ds place r))
-              ∙ sym (list_any-append (is_of ds place) front (r ∷ []))));
+          ∙ (ap (λ b. list_any (is_of ds place) front || b) (and_true (is_of ds place r))
+          ∙ sym (list_any-append (is_of ds place) front (r ∷ []))));
       fenced = λ place k.
           let p : Record → Bool = λ z. is_of ds place z && is_sequential z.command.order in
           set_more f.fenced at place sequential (list_any p front) (omega (arith, h.many_fenced)) (h.fenced place k)
           ∙ (ap (λ b. list_any p front || (b && sequential)) (of place)
-              ∙ (ap (λ b. list_any p front || b) (sym (or_false (p r))) ∙ sym (list_any-append p front (r ∷ []))));
+          ∙ (ap (λ b. list_any p front || b) (sym (or_false (p r))) ∙ sym (list_any-append p front (r ∷ []))));
       unspent = λ w some small.
           let may : Record → Bool = λ z. nat_le (z.passed + w) budget in
           within_both w f.unspent (budget - r.passed)
           ∙ (ap (λ b. b && (nat_le w (budget - r.passed) && true)) (h.unspent w some small)
           ∙ (ap (λ b. list_all may front && (b && true)) (within_left w r.passed budget some)
-              ∙ sym (list_all-append may front (r ∷ []))));
+          ∙ sym (list_all-append may front (r ∷ []))));
     }
 
 -- z keeps back what is of this unit, and may be sequential
@@ -199,30 +205,30 @@ free_by : (ds : List Drive) (front : List Record) (f : Front) (budget unit : ℕ
     → IsFront budget ds front f → drive_place ds unit < 16
     → is_known (units_of ds) unit ≡ true → AllByRecursion (λ z. is_known (units_of ds) z.command.unit ≡ true) front
     → (if sequential then not (get_or f.seen (drive_place ds unit) false)
-        else not (get_or f.fenced (drive_place ds unit) false)) ≡ not (list_any (fences_of unit sequential) front)
+    else not (get_or f.fenced (drive_place ds unit) false)) ≡ not (list_any (fences_of unit sequential) front)
 free_by ds front f budget unit other true h l k each =
     ap not (h.seen (drive_place ds unit) l
     ∙ any_of (is_of ds (drive_place ds unit)) (fences_of unit true) front
     (every_weaker (λ z. is_known (units_of ds) z.command.unit ≡ true)
-        (λ z. is_of ds (drive_place ds unit) z ≡ fences_of unit true z)
+    (λ z. is_of ds (drive_place ds unit) z ≡ fences_of unit true z)
     (λ z w. apart_by_place ds other z.command.unit unit w k
-        ∙ (sym (and_all (nat_eq z.command.unit unit))
-        ∙ ap (λ b. nat_eq z.command.unit unit && b) (sym (or_true (is_sequential z.command.order))))) front each))
+    ∙ (sym (and_all (nat_eq z.command.unit unit))
+    ∙ ap (λ b. nat_eq z.command.unit unit && b) (sym (or_true (is_sequential z.command.order))))) front each))
 free_by ds front f budget unit other false h l k each =
     ap not (h.fenced (drive_place ds unit) l
     ∙ any_of (λ z. is_of ds (drive_place ds unit) z && is_sequential z.command.order) (fences_of unit false) front
     (every_weaker (λ z. is_known (units_of ds) z.command.unit ≡ true)
-        (λ z. (is_of ds (drive_place ds unit) z && is_sequential z.command.order) ≡ fences_of unit false z)
+    (λ z. (is_of ds (drive_place ds unit) z && is_sequential z.command.order) ≡ fences_of unit false z)
     (λ z w. ap (λ b. b && is_sequential z.command.order) (apart_by_place ds other z.command.unit unit w k)
-        ∙ ap (λ b. nat_eq z.command.unit unit && b) (sym (or_false (is_sequential z.command.order)))) front each))
+    ∙ ap (λ b. nat_eq z.command.unit unit && b) (sym (or_false (is_sequential z.command.order)))) front each))
 
 -- What is kept of those in front lets a record start exactly where it may.
 pub let_is : (budget : ℕ) (ds : List Drive) (front : List Record) (f : Front) (r : Record) (other : Drive)
     → IsFront budget ds front f → (1 ≤ r.weight) × (r.weight < 2 ^ 32) → drive_place ds r.command.unit < 16
     → is_known (units_of ds) r.command.unit ≡ true
-        → AllByRecursion (λ z. is_known (units_of ds) z.command.unit ≡ true) front
+    → AllByRecursion (λ z. is_known (units_of ds) z.command.unit ≡ true) front
     → is_let f r (drive_place ds r.command.unit) ≡ is_open budget r front
 let_is budget ds front f r other h w l k each =
     ap (λ b. b && nat_le r.weight f.unspent) (free_by ds front f budget r.command.unit other (is_sequential r.command.order) h l k
-        each ∙ sym (none_any (fences r) front))
+    each ∙ sym (none_any (fences r) front))
     ∙ ap (λ b. is_free r front && b) (h.unspent r.weight w.0 w.1)

@@ -34,7 +34,7 @@ heads_fresh (u ∷ us) = (omega arith, heads_fresh us)
 pub held_fresh : (room budget longest : ℕ) (us : List Shape) (rs : List Record) (ds : List Drive) → 1 ≤ room
     → room ≤ 63 → 1 ≤ longest → longest ≤ 8388608
     → room * longest + budget ≤ 4294967295 → IsUnitList us → rs ≡ [] → ds ≡ map fresh_drive us
-        → IsHeld room budget longest rs ds None false
+    → IsHeld room budget longest rs ds None false
 held_fresh room budget longest us rs ds a b c d e u n f =
     record {
       some_room = a;
@@ -67,7 +67,7 @@ pub held_renewed : (room budget longest : ℕ) (rs new : List Record) (ds ds' : 
 held_renewed room budget longest rs new ds ds' begun serving h n e =
     let s = h.small in
     held_fresh room budget longest (units_of ds) new ds' h.some_room h.few h.some_blocks h.short (omega arith) h.units
-        n e
+    n e
 
 -- ---- a command comes
 
@@ -85,8 +85,14 @@ some_steps (orders.Invalid opcode status) = omega arith
 
 fresh_kept : (budget longest : ℕ) (us : List Shape) (c : Command) → IsWaitable longest us c
     → IsKept budget longest us (fresh_record c)
-fresh_kept budget longest us c w = record { waitable = w; weight = refl; unfinished = some_steps c.order; good =
-    refl; passed = omega arith }
+fresh_kept budget longest us c w = record {
+  waitable = w;
+  weight = refl;
+  unfinished = some_steps c.order;
+  good =
+      refl;
+  passed = omega arith;
+}
 
 apart_more : (xs : List ℕ) (x : ℕ) → AreApart xs → AllByRecursion (λ y. x ≢ y) xs → AreApart (xs ++ x ∷ [])
 apart_more [] x a n = (tt, tt)
@@ -107,17 +113,17 @@ pub held_pushed : (room budget longest : ℕ) (rs new : List Record) (ds : List 
     (serving : Bool) (c : Command) → IsHeld room budget longest rs ds begun serving → length rs < room
     → IsWaitable longest (units_of ds) c
     → list_any (has_reference c.reference) rs ≡ false → new ≡ rs ++ fresh_record c ∷ []
-        → IsHeld room budget longest new ds begun serving
+    → IsHeld room budget longest new ds begun serving
 held_pushed room budget longest rs new ds begun serving c h l w n e =
     let K = IsKept budget longest (units_of ds) in
     let r = fresh_record c in
     let kept : All K (rs ++ r ∷ []) =
     All-from_recursion K (rs ++ r ∷ []) (every_append K rs (r ∷ []) (recursion_from_All K rs h.each)
-        (fresh_kept budget longest (units_of ds) c w, tt)) in
+    (fresh_kept budget longest (units_of ds) c w, tt)) in
     let numbers : names (rs ++ r ∷ []) ≡ names rs ++ c.reference ∷ [] =
-        map-append (λ (q : Record). q.command.reference) rs (r ∷ []) in
+    map-append (λ (q : Record). q.command.reference) rs (r ∷ []) in
     let served : filter is_in_service (rs ++ r ∷ []) ≡ filter is_in_service rs ++ [] =
-        filter-append is_in_service rs (r ∷ []) in
+    filter-append is_in_service rs (r ∷ []) in
     let all : IsHeld room budget longest (rs ++ r ∷ []) ds begun serving =
     record {
       some_room = h.some_room;
@@ -141,20 +147,35 @@ held_pushed room budget longest rs new ds begun serving c h l w n e =
 
 kept_passed : (budget longest n : ℕ) (us : List Shape) (r : Record) → IsKept budget longest us r
     → r.passed + n ≤ budget → IsKept budget longest us (passed_by n r)
-kept_passed budget longest n us r h l = record { waitable = h.waitable; weight = h.weight; unfinished =
-    h.unfinished; good = h.good; passed = l }
+kept_passed budget longest n us r h l = record {
+  waitable = h.waitable;
+  weight = h.weight;
+  unfinished =
+      h.unfinished;
+  good = h.good;
+  passed = l;
+}
 
 front_kept : (budget longest n : ℕ) (us : List Shape) (A : List Record) → AllByRecursion (IsKept budget longest us) A
     → AllByRecursion (λ r. r.passed + n ≤ budget) A
     → AllByRecursion (IsKept budget longest us) (map (passed_by n) A)
 front_kept budget longest n us [] h l = tt
-front_kept budget longest n us (r ∷ rs) h l = (kept_passed budget longest n us r h.0 l.0, front_kept budget longest n
-    us rs h.1 l.1)
+front_kept budget longest n us (r ∷ rs) h l = (
+  kept_passed budget longest n us r h.0 l.0,
+  front_kept budget longest n
+      us rs h.1 l.1,
+)
 
 kept_advanced : (budget longest : ℕ) (us : List Shape) (r : Record) → IsKept budget longest us r
     → r.done + 1 < r.weight → IsKept budget longest us (advanced r)
-kept_advanced budget longest us r h l = record { waitable = h.waitable; weight = h.weight; unfinished = l; good =
-    ap (λ n. n + 1) h.good; passed = h.passed }
+kept_advanced budget longest us r h l = record {
+  waitable = h.waitable;
+  weight = h.weight;
+  unfinished = l;
+  good =
+      ap (λ n. n + 1) h.good;
+  passed = h.passed;
+}
 
 names_passed : (n : ℕ) (A : List Record) → names (map (passed_by n) A) ≡ names A
 names_passed n [] = refl
@@ -183,9 +204,9 @@ none_idle : (rs : List Record) → length (filter is_in_service rs) ≡ 0 → Ar
 none_idle [] h = tt
 none_idle (r ∷ rs) h =
     let both : (b : Bool) → nat_lt 0 r.done ≡ b → length
-        (cond b (r ∷ filter is_in_service rs) (filter is_in_service rs)) ≡ 0 → AreIdle (r ∷ rs) =
+    (cond b (r ∷ filter is_in_service rs) (filter is_in_service rs)) ≡ 0 → AreIdle (r ∷ rs) =
     λ b. elim b as (λ b. nat_lt 0 r.done ≡ b → length (cond b (r ∷ filter is_in_service rs) (filter is_in_service rs))
-        ≡ 0 → AreIdle (r ∷ rs)) [
+    ≡ 0 → AreIdle (r ∷ rs)) [
       | true ↦ λ e l. absurd (omega (arith, l))
       | false ↦ λ e l. let z = ltb-false 0 r.done e in (omega arith, none_idle rs l)
     ] in
@@ -200,10 +221,10 @@ pub others_idle : (A : List Record) (r : Record) (B : List Record) → length (f
     → 0 < r.done → AreIdle A × AreIdle B
 others_idle A r B one l =
     let own : filter is_in_service (r ∷ B) ≡ r ∷ filter is_in_service B =
-        ap (λ b. cond b (r ∷ filter is_in_service B) (filter is_in_service B)) (lt-ltb 0 r.done l) in
+    ap (λ b. cond b (r ∷ filter is_in_service B) (filter is_in_service B)) (lt-ltb 0 r.done l) in
     let all = ap length (filter-append is_in_service A (r ∷ B))
-        ∙ (length-append (filter is_in_service A) (filter is_in_service (r ∷ B))
-        ∙ ap (λ xs. length (filter is_in_service A) + length xs) own) in
+    ∙ (length-append (filter is_in_service A) (filter is_in_service (r ∷ B))
+    ∙ ap (λ xs. length (filter is_in_service A) + length xs) own) in
     (none_idle A (omega (arith, all, one)), none_idle B (omega (arith, all, one)))
 
 own_one : (r : Record) (own : List Record) → IsLeft r own → length own ≤ 1
@@ -220,7 +241,7 @@ apart_left : (r : Record) (own : List Record) (A B : List Record) → IsLeft r o
 apart_left r own A B h a =
     ⊎_elim
     (λ e. subst (λ xs. AreApart (names A ++ (names xs ++ names B))) (sym e)
-        (apart_without (names A) r.command.reference (names B) a))
+    (apart_without (names A) r.command.reference (names B) a))
     (λ e. subst (λ xs. AreApart (names A ++ (names xs ++ names B))) (sym e.0) a)
     h.left
 
@@ -243,7 +264,7 @@ pub held_turn : (room budget longest n : ℕ) (A : List Record) (r : Record) (B 
     (begun : Option Name) (serving serves : Bool) → IsHeld room budget longest (A ++ r ∷ B) ds begun serving
     → IsTurn budget n A r B own
     → (serves ≡ false → own ≡ []) → units_of ds' ≡ units_of ds → All IsOnUnit ds'
-        → IsHeld room budget longest (map (passed_by n) A ++ (own ++ B)) ds' None serves
+    → IsHeld room budget longest (map (passed_by n) A ++ (own ++ B)) ds' None serves
 held_turn room budget longest n A r B own ds ds' begun serving serves h t ended u heads =
     let K = IsKept budget longest (units_of ds) in
     let new = map (passed_by n) A ++ (own ++ B) in
@@ -255,7 +276,7 @@ held_turn room budget longest n A r B own ds ds' begun serving serves h t ended 
     let old_numbers : names (A ++ r ∷ B) ≡ names A ++ (r.command.reference ∷ names B) = map-append ref A (r ∷ B) in
     let numbers : names new ≡ names A ++ (names own ++ names B) =
     map-append ref (map (passed_by n) A) (own ++ B)
-        ∙ (ap (λ xs. xs ++ names (own ++ B)) (names_passed n A) ∙ ap (λ xs. names A ++ xs) (map-append ref own B)) in
+    ∙ (ap (λ xs. xs ++ names (own ++ B)) (names_passed n A) ∙ ap (λ xs. names A ++ xs) (map-append ref own B)) in
     let few = own_one r own t.left in
     let served = filter-append is_in_service (map (passed_by n) A) (own ++ B) in
     let served_own = filter-append is_in_service own B in
@@ -267,16 +288,30 @@ held_turn room budget longest n A r B own ds ds' begun serving serves h t ended 
       some_blocks = h.some_blocks;
       short = h.short;
       small = h.small;
-      fits = let f = h.fits in omega (arith, length-append A (r ∷ B), length-append (map (passed_by n) A) (own ++ B),
-          length-map A (passed_by n), length-append own B);
+      fits = let f = h.fits in omega (
+        arith,
+        length-append A (r ∷ B),
+        length-append (map (passed_by n) A) (own ++ B),
+        length-map A (passed_by n),
+        length-append own B,
+      );
       each = subst (λ us. All (IsKept budget longest us) new) (sym u) (All-from_recursion K new kept);
       apart = subst AreApart (sym numbers) (apart_left r own A B t.left (subst AreApart old_numbers h.apart));
-      one = omega (arith, ap length served, length-append (filter is_in_service (map (passed_by n) A))
-          (filter is_in_service (own ++ B)), ap length served_own, length-append (filter is_in_service own)
-          (filter is_in_service B), none_front, none_back, own_serving own few);
+      one = omega (
+        arith,
+        ap length served,
+        length-append (filter is_in_service (map (passed_by n) A))
+            (filter is_in_service (own ++ B)),
+        ap length served_own,
+        length-append (filter is_in_service own)
+            (filter is_in_service B),
+        none_front,
+        none_back,
+        own_serving own few,
+      );
       idle = λ e. All-from_recursion (λ z. z.done ≡ 0) new
           (every_append (λ z. z.done ≡ 0) (map (passed_by n) A) (own ++ B) (passed_idle n A t.before)
-              (subst (λ zs. AreIdle (zs ++ B)) (sym (ended e)) t.behind));
+          (subst (λ zs. AreIdle (zs ++ B)) (sym (ended e)) t.behind));
       units = subst IsUnitList (sym u) h.units;
       heads = heads;
       still = λ name k. absurd (false≢true (ap is_some k));
@@ -291,12 +326,15 @@ units_replaced number new [] h = refl
 units_replaced number new (d ∷ ds) h =
     let both : (b : Bool) → has_number number d ≡ b → (if b then new else d).unit ≡ d.unit =
     λ b. elim b as (λ b. has_number number d ≡ b → (if b then new else d).unit ≡ d.unit)
-        [ true ↦ λ e. sym (h.0 e) | false ↦ λ e. refl ] in
+    [ true ↦ λ e. sym (h.0 e) | false ↦ λ e. refl ] in
     ap (λ u. u ∷ units_of (replaced number new ds)) (both (has_number number d) refl)
-        ∙ ap (λ us. d.unit ∷ us) (units_replaced number new ds h.1)
+    ∙ ap (λ us. d.unit ∷ us) (units_replaced number new ds h.1)
 
 pub heads_replaced : (number : ℕ) (new : Drive) (ds : List Drive) → IsOnUnit new → AllByRecursion IsOnUnit ds
     → AllByRecursion IsOnUnit (replaced number new ds)
 heads_replaced number new [] o h = tt
-heads_replaced number new (d ∷ ds) o h = (elim (has_number number d) as (λ b. IsOnUnit (if b then new else d))
-    [ true ↦ o | false ↦ h.0 ], heads_replaced number new ds o h.1)
+heads_replaced number new (d ∷ ds) o h = (
+  elim (has_number number d) as (λ b. IsOnUnit (if b then new else d))
+      [ true ↦ o | false ↦ h.0 ],
+  heads_replaced number new ds o h.1,
+)

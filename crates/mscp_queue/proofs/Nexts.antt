@@ -29,7 +29,7 @@ found_at p rs place h =
     let B = some.2 in
     let f = some.3 in
     let first : length A ≡ place = ap (λ o. unwrap_or o place)
-        (sym (position_first p A r B f.before f.passed) ∙ (ap (position p) (sym f.is) ∙ h)) in (
+    (sym (position_first p A r B f.before f.passed) ∙ (ap (position p) (sym f.is) ∙ h)) in (
       omega (arith, first, ap length f.is, length-append A (r ∷ B)),
       ap p (ap (λ l. record_at l place) f.is ∙ get_or_at A r B no_record place first) ∙ f.passed,
     ))
@@ -71,19 +71,19 @@ none_serving : (rs : List Record) → position is_in_service rs ≡ None → All
 none_serving rs h =
     ⊎_elim
     (λ none. All-from_recursion (λ r. r.done ≡ 0) rs
-        (every_weaker (λ r. is_in_service r ≡ false) (λ r. r.done ≡ 0)
-        (λ r e. let z = ltb-false 0 r.done e in omega arith) rs none))
+    (every_weaker (λ r. is_in_service r ≡ false) (λ r. r.done ≡ 0)
+    (λ r e. let z = ltb-false 0 r.done e in omega arith) rs none))
     (λ some.
     let f = some.3 in
     absurd (true≢false (ap is_some (sym (position_first is_in_service some.0 some.1 some.2 f.before f.passed)
-        ∙ (ap (position is_in_service) (sym f.is) ∙ h)))))
+    ∙ (ap (position is_in_service) (sym f.is) ∙ h)))))
     (find_cases is_in_service rs)
 
 -- and where all are idle, none is
 pub idle_found : (rs : List Record) → All (λ r. r.done ≡ 0) rs → position is_in_service rs ≡ None
 idle_found rs h =
     position_none is_in_service rs (every_weaker (λ r. r.done ≡ 0) (λ r. is_in_service r ≡ false)
-        (λ r e. ap (nat_lt 0) e) rs (recursion_from_All (λ r. r.done ≡ 0) rs h))
+    (λ r e. ap (nat_lt 0) e) rs (recursion_from_All (λ r. r.done ≡ 0) rs h))
 
 -- where none is, the record that is picked is
 pub picked_next : (picks : List Choice → ℕ → Type 0) (budget : ℕ) (ds : List Drive) (rs : List Record)
@@ -91,8 +91,12 @@ pub picked_next : (picks : List Choice → ℕ → Type 0) (budget : ℕ) (ds : 
     → IsPick picks budget ds rs place → IsNext picks budget ds rs begun place
 picked_next picks budget ds rs begun place n h l p =
     record {
-      servable = record { inside = l; idle = λ e. none_serving rs h; opens =
-          λ e. picked_opens picks budget ds rs place p };
+      servable = record {
+        inside = l;
+        idle = λ e. none_serving rs h;
+        opens =
+            λ e. picked_opens picks budget ds rs place p;
+      };
       same = λ name e. absurd (none_begun begun name n e);
       picked = λ b e. p;
     }
@@ -114,10 +118,10 @@ pub name_found : (rs : List Record) (name : Name) (place : ℕ) (o : Option ℕ)
 name_found rs name place None a l e h =
     ⊎_elim
     (λ none. absurd (true≢false (sym (eq-eqb (record_at rs place).command.reference name e)
-        ∙ All-from_recursion (λ r. has_reference name r ≡ false) rs none place no_record l)))
+    ∙ All-from_recursion (λ r. has_reference name r ≡ false) rs none place no_record l)))
     (λ some. let f = some.3 in absurd (true≢false (ap is_some
-        (sym (position_first (has_reference name) some.0 some.1 some.2 f.before f.passed)
-        ∙ (ap (position (has_reference name)) (sym f.is) ∙ sym h)))))
+    (sym (position_first (has_reference name) some.0 some.1 some.2 f.before f.passed)
+    ∙ (ap (position (has_reference name)) (sym f.is) ∙ sym h)))))
     (find_cases (has_reference name) rs)
 name_found rs name place (Some other) a l e h =
     let f = found_at (has_reference name) rs other (sym h) in
@@ -130,10 +134,10 @@ pub shown_found : (budget : ℕ) (ds : List Drive) (rs : List Record) (view : Li
 shown_found budget ds rs view i other o a v l h =
     let choice : ℕ → Choice = λ place. choice_of (drive_at ds rs place) (record_at rs place) in
     let k : i < length (open_places budget rs) = omega
-        (arith, l, ap length v, length-map (open_places budget rs) choice) in
+    (arith, l, ap length v, length-map (open_places budget rs) choice) in
     let is = ap (λ vs. get_or vs i other) v ∙ get_or-map choice (open_places budget rs) i 0 other k in
     name_found rs (get_or view i other).reference (get_or (open_places budget rs) i 0) o a
-        (places_inside budget rs i 0 k) (sym (ap (λ (q : Choice). q.reference) is)) h
+    (places_inside budget rs i 0 k) (sym (ap (λ (q : Choice). q.reference) is)) h
 
 -- the record of what was begun is next
 begun_next : (picks : List Choice → ℕ → Type 0) (budget : ℕ) (ds : List Drive) (rs : List Record) (begun : Option Name)
@@ -142,7 +146,7 @@ begun_next : (picks : List Choice → ℕ → Type 0) (budget : ℕ) (ds : List 
 begun_next picks budget ds rs begun name place a b s h =
     let f = found_at (has_reference name) rs place h in
     let number : (i : ℕ) → has_reference name (record_at rs i) ≡ true → (record_at rs i).command.reference ≡ name =
-        λ i. eqb-true (record_at rs i).command.reference name in
+    λ i. eqb-true (record_at rs i).command.reference name in
     let here : s.0 ≡ place = once rs s.0 place a s.1.inside f.0 (number s.0 s.2 ∙ sym (number place f.1)) in
     record {
       servable = subst (IsServable budget rs) here s.1;
@@ -156,10 +160,10 @@ begun_found : (budget : ℕ) (rs : List Record) (name : Name) → IsStillServabl
 begun_found budget rs name s h =
     ⊎_elim
     (λ none. true≢false (sym s.2 ∙ All-from_recursion (λ r. has_reference name r ≡ false) rs none s.0 no_record
-        s.1.inside))
+    s.1.inside))
     (λ some. let f = some.3 in true≢false (ap is_some
-        (sym (position_first (has_reference name) some.0 some.1 some.2 f.before f.passed)
-        ∙ (ap (position (has_reference name)) (sym f.is) ∙ h))))
+    (sym (position_first (has_reference name) some.0 some.1 some.2 f.before f.passed)
+    ∙ (ap (position (has_reference name)) (sym f.is) ∙ h))))
     (find_cases (has_reference name) rs)
 
 -- what is found of what was begun

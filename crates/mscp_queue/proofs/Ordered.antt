@@ -26,8 +26,15 @@ count_fits rs room n k b counted e fits few =
 
 pub counted_pushed : (rs new : List Record) (r : Record) (n k : ℕ) → n ≡ sequential_count rs → k ≡ one_if r
     → new ≡ rs ++ r ∷ [] → n + k ≡ sequential_count new
-counted_pushed rs new r n k counted e is = omega (arith, counted, e, sum_by-append one_if rs (r ∷ []), sum_by-cons
-    one_if r [], ap sequential_count is)
+counted_pushed rs new r n k counted e is = omega (
+  arith,
+  counted,
+  e,
+  sum_by-append one_if rs (r ∷ []),
+  sum_by-cons
+      one_if r [],
+  ap sequential_count is,
+)
 
 -- so many are taken from the count
 pub record IsCountedOut (n k : ℕ) (new : List Record) : Type 0 where
@@ -53,7 +60,7 @@ own_count false r = omega (arith, sum_by-cons one_if (advanced r) [])
 pub counted_left : (rs new : List Record) (place toll n k : ℕ) (ends : Bool) → place < length rs
     → new ≡ all_left toll ends place rs
     → n ≡ sequential_count rs → k ≡ cond (ends && is_sequential (record_at rs place).command.order) 1 0
-        → IsCountedOut n k new
+    → IsCountedOut n k new
 counted_left rs new place toll n k ends l is counted e =
     let A = take place rs in
     let r = record_at rs place in
@@ -65,8 +72,19 @@ counted_left rs new place toll n k ends l is counted e =
     let own = own_count ends r in
     record {
       below = omega (arith, old, sum_by-append one_if A (r ∷ B), sum_by-cons one_if r B, own, counted, e);
-      counted = omega (arith, old, sum_by-append one_if A (r ∷ B), sum_by-cons one_if r B, own, left, parts, front,
-          sum_by-append one_if (own_left ends r) B, counted, e);
+      counted = omega (
+        arith,
+        old,
+        sum_by-append one_if A (r ∷ B),
+        sum_by-cons one_if r B,
+        own,
+        left,
+        parts,
+        front,
+        sum_by-append one_if (own_left ends r) B,
+        counted,
+        e,
+      );
     }
 
 passed_below : (n top : ℕ) (A : List Record) → AllByRecursion (λ z. z.passed ≤ top) A
@@ -88,12 +106,13 @@ order_left n ends (q ∷ qs) r B h =
     let high : Record → Type 0 = λ z. z.passed ≤ q.passed + n in
     let parts = every_parts low qs (r ∷ B) h.0 in
     let behind = every_weaker low high (λ z l. omega (arith, l)) (own_left ends r ++ B)
-        (left_below ends q.passed r B parts.1) in
-    (every_append high (map (passed_by n) qs) (own_left ends r ++ B) (passed_below n q.passed qs parts.0) behind,
-        order_left n ends qs r B h.1)
+    (left_below ends q.passed r B parts.1) in (
+      every_append high (map (passed_by n) qs) (own_left ends r ++ B) (passed_below n q.passed qs parts.0) behind,
+      order_left n ends qs r B h.1,
+    )
 
 pub passed_left : (rs new : List Record) (place toll : ℕ) (ends : Bool) → place < length rs
     → new ≡ all_left toll ends place rs → ArePassedInOrder rs → ArePassedInOrder new
 passed_left rs new place toll ends l is h =
     subst ArePassedInOrder (sym is) (order_left toll ends (take place rs) (record_at rs place) (drop (place + 1) rs)
-        (subst ArePassedInOrder (cut_at no_record rs place l) h))
+    (subst ArePassedInOrder (cut_at no_record rs place l) h))

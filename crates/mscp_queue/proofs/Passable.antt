@@ -45,16 +45,16 @@ all_free budget longest r (z ∷ zs) s h =
     let same = nat_eq z.command.unit r.command.unit in
     ap (λ b. not (same && (b || is_sequential r.command.order)) && is_free r zs) own
     ∙ (ap (λ b. not (same && b) && is_free r zs) s
-        ∙ (ap (λ b. not b && is_free r zs) (unfenced same) ∙ all_free budget longest r zs s h.1))
+    ∙ (ap (λ b. not b && is_free r zs) (unfenced same) ∙ all_free budget longest r zs s h.1))
 
 all_affordable : (budget longest : ℕ) (r : Record) (front : List Record) → r.weight ≤ longest → ArePassable budget longest front
     → is_affordable budget r front ≡ true
 all_affordable budget longest r [] l h = refl
 all_affordable budget longest r (z ∷ zs) l h =
     let own = leb-true (z.passed + longest) budget
-        (and_parts (is_move z.command.order) (nat_le (z.passed + longest) budget) h.0).1 in
+    (and_parts (is_move z.command.order) (nat_le (z.passed + longest) budget) h.0).1 in
     ap (λ b. b && is_affordable budget r zs) (le-leb (z.passed + r.weight) budget (omega (arith, own, l)))
-        ∙ all_affordable budget longest r zs l h.1
+    ∙ all_affordable budget longest r zs l h.1
 
 opens_at : (budget longest : ℕ) (rs : List Record) (place : ℕ) → ArePassable budget longest rs
     → All (λ r. r.weight ≤ longest) rs → place < length rs
@@ -64,10 +64,10 @@ opens_at budget longest rs place h short l =
     let P : Record → Type 0 = λ z. is_passable budget longest z ≡ true in
     let all = All-from_recursion P rs h in
     let own = not_sequential r.command.order (and_parts (is_move r.command.order) (nat_le (r.passed + longest) budget)
-        (all place no_record l)).0 in
+    (all place no_record l)).0 in
     let front = recursion_from_All P (take place rs) (All-take P place rs all) in
     ap (λ b. b && is_affordable budget r (take place rs)) (all_free budget longest r (take place rs) own front)
-        ∙ all_affordable budget longest r (take place rs) (short place no_record l) front
+    ∙ all_affordable budget longest r (take place rs) (short place no_record l) front
 
 pub all_open : (budget longest : ℕ) (rs : List Record) → list_all (is_passable budget longest) rs ≡ true
     → All (λ r. r.weight ≤ longest) rs
@@ -75,7 +75,7 @@ pub all_open : (budget longest : ℕ) (rs : List Record) → list_all (is_passab
 all_open budget longest rs h short =
     filter_all (is_open_at budget rs) (range_with_len 0 (length rs))
     (every_weaker (λ k. (0 ≤ k) × (k < 0 + length rs)) (λ k. is_open_at budget rs k ≡ true)
-        (λ k b. opens_at budget longest rs k (every_of (is_passable budget longest) rs h) short (omega arith))
+    (λ k b. opens_at budget longest rs k (every_of (is_passable budget longest) rs h) short (omega arith))
     (range_with_len 0 (length rs)) (range_below 0 (length rs)))
 
 -- so all may start
@@ -86,8 +86,8 @@ all_may_start budget longest rs short h =
     record {
       transfers = All-from_recursion (λ z. is_move z.command.order ≡ true) rs
           (every_weaker P (λ z. is_move z.command.order ≡ true)
-              (λ z e. (and_parts (is_move z.command.order) (nat_le (z.passed + longest) budget) e).0) rs
-              (every_of (is_passable budget longest) rs h));
+          (λ z e. (and_parts (is_move z.command.order) (nat_le (z.passed + longest) budget) e).0) rs
+          (every_of (is_passable budget longest) rs h));
       places = all_open budget longest rs h short;
     }
 
@@ -99,7 +99,7 @@ sequential_not_passable : (budget longest : ℕ) (r : Record) → is_sequential 
 sequential_not_passable budget longest r s =
     let both : (b : Bool) → is_move r.command.order ≡ b → (b && nat_le (r.passed + longest) budget) ≡ false =
     λ b. elim b as (λ b. is_move r.command.order ≡ b → (b && nat_le (r.passed + longest) budget) ≡ false)
-        [ true ↦ λ m. absurd (false≢true (sym (not_sequential r.command.order m) ∙ s)) | false ↦ λ m. refl ] in
+    [ true ↦ λ m. absurd (false≢true (sym (not_sequential r.command.order m) ∙ s)) | false ↦ λ m. refl ] in
     both (is_move r.command.order) refl
 
 pub some_sequential : (budget longest : ℕ) (rs : List Record) → 0 < sequential_count rs
@@ -107,7 +107,7 @@ pub some_sequential : (budget longest : ℕ) (rs : List Record) → 0 < sequenti
 some_sequential budget longest [] h = absurd (omega (arith, h))
 some_sequential budget longest (r ∷ rs) h =
     let Goal : Bool → Type 0 = λ b. is_sequential r.command.order ≡ b
-        → (is_passable budget longest r && list_all (is_passable budget longest) rs) ≡ false in
+    → (is_passable budget longest r && list_all (is_passable budget longest) rs) ≡ false in
     let both : (b : Bool) → Goal b =
     λ b. elim b as Goal [
       | true ↦ λ e. ap (λ b. b && list_all (is_passable budget longest) rs) (sequential_not_passable budget longest r e)
@@ -124,16 +124,16 @@ no_sequential : (budget longest top : ℕ) (rs : List Record) → sequential_cou
 no_sequential budget longest top [] h w l m = refl
 no_sequential budget longest top (r ∷ rs) h w l m =
     let Goal : Bool → Type 0 = λ b. is_sequential r.command.order ≡ b
-        → (is_passable budget longest r && list_all (is_passable budget longest) rs) ≡ true in
+    → (is_passable budget longest r && list_all (is_passable budget longest) rs) ≡ true in
     let count = sum_by-cons one_if r rs in
     let both : (b : Bool) → Goal b =
     λ b. elim b as Goal [
       | true ↦ λ e. absurd (omega (arith, h, count, ap {B = ℕ} (λ b. cond b 1 0) e))
       | false ↦ λ e.
           ap (λ b. (b && nat_le (r.passed + longest) budget) && list_all (is_passable budget longest) rs)
-              (ap (λ b. b || is_move r.command.order) (sym e) ∙ w.0)
+          (ap (λ b. b || is_move r.command.order) (sym e) ∙ w.0)
           ∙ (ap (λ b. b && list_all (is_passable budget longest) rs) (le-leb (r.passed + longest) budget (omega (arith, l.0, m)))
-              ∙ no_sequential budget longest top rs (omega (arith, h, count, ap {B = ℕ} (λ b. cond b 1 0) e)) w.1 l.1 m)
+          ∙ no_sequential budget longest top rs (omega (arith, h, count, ap {B = ℕ} (λ b. cond b 1 0) e)) w.1 l.1 m)
     ] in
     both (is_sequential r.command.order) refl
 
@@ -141,7 +141,7 @@ no_sequential budget longest top (r ∷ rs) h w l m =
 pub oldest_tells : (budget longest : ℕ) (rs : List Record) (r : Record) → 0 < length rs → r ≡ get_or rs 0 r
     → sequential_count rs ≡ 0 → ArePassedInOrder rs
     → All (λ z. (is_sequential z.command.order || is_move z.command.order) ≡ true) rs
-        → nat_le (r.passed + longest) budget ≡ list_all (is_passable budget longest) rs
+    → nat_le (r.passed + longest) budget ≡ list_all (is_passable budget longest) rs
 oldest_tells budget longest [] r l e k o w = absurd (omega (arith, l))
 oldest_tells budget longest (q ∷ qs) r l e k o w =
     let W : Record → Type 0 = λ z. (is_sequential z.command.order || is_move z.command.order) ≡ true in
@@ -160,8 +160,8 @@ oldest_tells budget longest (q ∷ qs) r l e k o w =
 pub shown_next : (ds : List Drive) (rs : List Record) (place : ℕ) (choices choices' : List Choice) (choice : Choice)
     → choice ≡ choice_of (drive_at ds rs place) (record_at rs place)
     → choices ≡ choices_at ds rs (range_with_len 0 place) → choices' ≡ choices ++ choice ∷ []
-        → choices' ≡ choices_at ds rs (range_with_len 0 (place + 1))
+    → choices' ≡ choices_at ds rs (range_with_len 0 (place + 1))
 shown_next ds rs place choices choices' choice is shown more =
     let of : ℕ → Choice = λ i. choice_of (drive_at ds rs i) (record_at rs i) in
     more ∙ ((λ i. shown i ++ is i ∷ []) ∙ (sym (map-append of (range_with_len 0 place) (place ∷ []))
-        ∙ ap (choices_at ds rs) (sym (range_more place))))
+    ∙ ap (choices_at ds rs) (sym (range_more place))))

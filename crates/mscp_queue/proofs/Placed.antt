@@ -25,7 +25,7 @@ filter_map_of f p [] = refl
 filter_map_of f p (x ∷ xs) =
     ap (λ ys. cond (p (f x)) (f x ∷ ys) ys) (filter_map_of f p xs)
     ∙ elim (p (f x)) as (λ b. cond b (f x ∷ map f (filter (λ x. p (f x)) xs)) (map f (filter (λ x. p (f x)) xs))
-        ≡ map f (cond b (x ∷ filter (λ x. p (f x)) xs) (filter (λ x. p (f x)) xs))) [ true ↦ refl | false ↦ refl ]
+    ≡ map f (cond b (x ∷ filter (λ x. p (f x)) xs) (filter (λ x. p (f x)) xs))) [ true ↦ refl | false ↦ refl ]
 
 -- ---- a list at a place
 
@@ -58,11 +58,11 @@ each_push {X} d R xs x l r i h =
     let ys = xs ++ x ∷ [] in
     ⊎_elim
     (λ b. subst (λ (y : X). R (take i ys) y) (sym (get_or_append_left xs (x ∷ []) d i b))
-        (subst (λ zs. R zs (get_or xs i d)) (sym (take-append-le i xs (x ∷ []) (omega (arith, b)))) (l i b)))
+    (subst (λ zs. R zs (get_or xs i d)) (sym (take-append-le i xs (x ∷ []) (omega (arith, b)))) (l i b)))
     (λ b. let e : length xs ≡ i = omega (arith, b, h, length-append xs (x ∷ [])) in
     subst (λ i. R (take i ys) (get_or ys i d)) e
     (subst (λ (y : X). R (take (length xs) ys) y) (sym (get_or_at xs x [] d (length xs) refl))
-        (subst (λ zs. R zs x) (sym (take_at xs (x ∷ []) (length xs) refl)) r)))
+    (subst (λ zs. R zs x) (sym (take_at xs (x ∷ []) (length xs) refl)) r)))
     (cases_lt i (length xs))
 
 -- ---- the first element that passes a test
@@ -79,16 +79,25 @@ find_cases p [] = inl tt
 find_cases {X} p (y ∷ ys) =
     let rest = find_cases p ys in
     let both : (b : Bool) → p y ≡ b → AllByRecursion (λ z. p z ≡ false) (y ∷ ys)
-        ⊎ ((front : List X) × (x : X) × (back : List X) × Found p (y ∷ ys) front x back) =
+    ⊎ ((front : List X) × (x : X) × (back : List X) × Found p (y ∷ ys) front x back) =
     λ b. elim b as (λ b. p y ≡ b → AllByRecursion (λ z. p z ≡ false) (y ∷ ys)
-        ⊎ ((front : List X) × (x : X) × (back : List X) × Found p (y ∷ ys) front x back)) [
+    ⊎ ((front : List X) × (x : X) × (back : List X) × Found p (y ∷ ys) front x back)) [
       | true ↦ λ e. inr ([], y, ys, record { is = refl; before = tt; passed = e })
       | false ↦ λ e. elim rest as (λ r. AllByRecursion (λ z. p z ≡ false) (y ∷ ys)
           ⊎ ((front : List X) × (x : X) × (back : List X) × Found p (y ∷ ys) front x back)) [
-        | inl h ↦ inl (e, h)
-        | inr h ↦ inr (y ∷ h.0, h.1, h.2, record { is = ap (λ zs. y ∷ zs) h.3.is; before = (e, h.3.before); passed =
-            h.3.passed })
-      ]
+            | inl h ↦ inl (e, h)
+            | inr h ↦ inr (
+              y ∷ h.0,
+              h.1,
+              h.2,
+              record {
+                is = ap (λ zs. y ∷ zs) h.3.is;
+                before = (e, h.3.before);
+                passed =
+                    h.3.passed;
+              },
+            )
+          ]
     ] in
     both (p y) refl
 
@@ -128,11 +137,11 @@ pub position_none : {X : Type 0} (p : X → Bool) (xs : List X) → AllByRecursi
     → position p xs ≡ None
 position_none p xs h =
     ap (λ n. cond (nat_lt n (length xs)) (Some n) None) (len_none p xs h)
-        ∙ ap (λ b. cond b (Some (length xs)) None) (le-ltb (length xs) (length xs) (omega arith))
+    ∙ ap (λ b. cond b (Some (length xs)) None) (le-ltb (length xs) (length xs) (omega arith))
 
 pub position_first : {X : Type 0} (p : X → Bool) (front : List X) (x : X) (back : List X)
     → AllByRecursion (λ y. p y ≡ false) front → p x ≡ true → position p (front ++ x ∷ back) ≡ Some (length front)
 position_first p front x back h e =
     ap (λ n. cond (nat_lt n (length (front ++ x ∷ back))) (Some n) None) (len_first p front x back h e)
     ∙ ap (λ b. cond b (Some (length front)) None) (lt-ltb (length front) (length (front ++ x ∷ back))
-        (omega (arith, length-append front (x ∷ back))))
+    (omega (arith, length-append front (x ∷ back))))

@@ -64,8 +64,8 @@ aborted_kind c good h = moved_kind c.order good h
 online_kind : (s : Shape) (status : ℕ) → Some kinds.Online ≡ Some (kind_of_body (online_body s status))
 online_kind s status =
     elim (is_success status) as (λ b. Some kinds.Online
-        ≡ Some (kind_of_body (if b then bodies.Online s.id s.media s.size s.serial else bodies.Online 0 0 0 0)))
-        [ true ↦ refl | false ↦ refl ]
+    ≡ Some (kind_of_body (if b then bodies.Online s.id s.media s.size s.serial else bodies.Online 0 0 0 0)))
+    [ true ↦ refl | false ↦ refl ]
 
 outcome_kind : (s : Shape) (status good : ℕ) (o : Order) → IsCoded o
     → kind_of_code (endcode o) ≡ Some (kind_of_body (outcome_body s status o good))
@@ -87,7 +87,7 @@ pub given_kind : (k : Block) (d : Drive) (r : Record)
     → (is_sequential r.command.order || is_move r.command.order) ≡ true → IfSome (end_given k d r) IsOfKind
 given_kind k d r h =
     elim (goes_on d.online r.command.order k (left_of r)) as
-        (λ b. IfSome (if b then None else Some (outcome_at d.unit d.online r.command r.good k)) IsOfKind) [
+    (λ b. IfSome (if b then None else Some (outcome_at d.unit d.online r.command r.good k)) IsOfKind) [
       | true ↦ tt
       | false ↦ ended_kind d.unit d.online r.command r.good k (waitable_coded r.command.order h)
     ]
@@ -98,7 +98,7 @@ found_kind : (reference : Name) (rs : List Record) → AllByRecursion
 found_kind reference [] h = tt
 found_kind reference (r ∷ rs) h =
     elim (has_reference reference r) as (λ b. IfSome
-        (option_map aborted_record (if b then Some r else find (has_reference reference) rs)) IsOfKind) [
+    (option_map aborted_record (if b then Some r else find (has_reference reference) rs)) IsOfKind) [
       | true ↦ aborted_kind r.command r.good (waitable_coded r.command.order h.0)
       | false ↦ found_kind reference rs h.1
     ]
@@ -110,4 +110,4 @@ pub aborts_kind : (budget longest : ℕ) (reference : Name) (units : List Shape)
 aborts_kind budget longest reference units rs h =
     found_kind reference rs
     (every_weaker (IsKept budget longest units) (λ r. (is_sequential r.command.order || is_move r.command.order)
-        ≡ true) (λ r k. k.waitable.order) rs (recursion_from_All (IsKept budget longest units) rs h))
+    ≡ true) (λ r k. k.waitable.order) rs (recursion_from_All (IsKept budget longest units) rs h))

@@ -54,12 +54,17 @@ serving_less (r ∷ rs) = serving_when r rs (serving_less rs) (is_in_service r)
 -- the figure of a command that isn't in service is at most what is left of all, and the budget
 sum_bounded : (rs : List Record) (place : ℕ) → place < length rs
     → sum_by left_of (take place rs) + sum_by left_of (filter is_in_service (drop (place + 1) rs))
-        + left_of (record_at rs place) ≤ sum_by left_of rs
+    + left_of (record_at rs place) ≤ sum_by left_of rs
 sum_bounded rs place l =
     let parts = ap (sum_by left_of) (cut_at no_record rs place l) in
     let sums = sum_by-append left_of (take place rs) (record_at rs place ∷ drop (place + 1) rs) in
-    omega (arith, parts, sums, sum_by-cons left_of (record_at rs place) (drop (place + 1) rs),
-        serving_less (drop (place + 1) rs))
+    omega (
+      arith,
+      parts,
+      sums,
+      sum_by-cons left_of (record_at rs place) (drop (place + 1) rs),
+      serving_less (drop (place + 1) rs),
+    )
 
 -- so it fits 32 bits
 pub figure_fits : (budget : ℕ) (rs : List Record) (place before serving unspent left : ℕ)
@@ -84,7 +89,7 @@ entry_at budget rs place = ((record_at rs place).command.reference, figure_at bu
 -- the figures of one more place
 pub figures_more : (budget : ℕ) (rs : List Record) (n : ℕ)
     → figures_from budget rs (range_with_len 0 (n + 1)) ≡ figures_from budget rs (range_with_len 0 n)
-        ++ ((record_at rs n).command.reference, figure_at budget rs n) ∷ []
+    ++ ((record_at rs n).command.reference, figure_at budget rs n) ∷ []
 unfolding entry_at
 figures_more budget rs n = map-range_with_len_more {X = ℕ × ℕ} (entry_at budget rs) 0 n n
     (omega arith)
@@ -100,7 +105,7 @@ before_more rs place before left h f g =
 
 front_when : (r : Record) (rs : List Record) (b : Bool)
     → sum_by left_of (cond b (r ∷ filter is_in_service rs) (filter is_in_service rs)) ≡ cond b (left_of r) 0
-        + sum_by left_of (filter is_in_service rs)
+    + sum_by left_of (filter is_in_service rs)
 front_when r rs true = sum_by-cons left_of r (filter is_in_service rs)
 front_when r rs false = omega arith
 
@@ -108,17 +113,17 @@ front_when r rs false = omega arith
 pub serving_here : (rs : List Record) (place serving own : ℕ) → place < length rs
     → serving ≡ sum_by left_of (filter is_in_service (drop place rs))
     → own ≡ left_if_serving (record_at rs place) → serving ≡ own
-        + sum_by left_of (filter is_in_service (drop (place + 1) rs))
+    + sum_by left_of (filter is_in_service (drop (place + 1) rs))
 serving_here rs place serving own h f g =
     let here : drop place rs ≡ record_at rs place ∷ drop (place + 1) rs = drop_more rs place no_record h in
     let all : serving ≡ sum_by left_of (filter is_in_service (record_at rs place ∷ drop (place + 1) rs)) =
-        f ∙ ap (λ xs. sum_by left_of (filter is_in_service xs)) here in
+    f ∙ ap (λ xs. sum_by left_of (filter is_in_service xs)) here in
     all ∙ front_when (record_at rs place) (drop (place + 1) rs) (is_in_service (record_at rs place))
-        ∙ ap (λ (k : ℕ). k + sum_by left_of (filter is_in_service (drop (place + 1) rs))) (sym g)
+    ∙ ap (λ (k : ℕ). k + sum_by left_of (filter is_in_service (drop (place + 1) rs))) (sym g)
 
 -- so without that record's there is left what there is after it
 pub serving_more : (rs : List Record) (place serving own : ℕ) → place < length rs
     → serving ≡ sum_by left_of (filter is_in_service (drop place rs))
     → own ≡ left_if_serving (record_at rs place) → serving - own
-        ≡ sum_by left_of (filter is_in_service (drop (place + 1) rs))
+    ≡ sum_by left_of (filter is_in_service (drop (place + 1) rs))
 serving_more rs place serving own h f g = omega (arith, serving_here rs place serving own h f g)

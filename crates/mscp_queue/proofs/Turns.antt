@@ -32,7 +32,7 @@ front_affordable budget rs place h =
     let r = record_at rs place in
     let p = and_parts (is_free r (take place rs)) (is_affordable budget r (take place rs)) h in
     every_weaker (λ z. nat_le (z.passed + r.weight) budget ≡ true) (λ z. z.passed + r.weight ≤ budget)
-        (λ z e. leb-true (z.passed + r.weight) budget e) (take place rs)
+    (λ z e. leb-true (z.passed + r.weight) budget e) (take place rs)
     (every_of (λ z. nat_le (z.passed + r.weight) budget) (take place rs) p.1)
 
 -- ---- the turn
@@ -53,18 +53,18 @@ more_left k d r (Some end) h = record { left = inl refl }
 more_left k d r None h =
     let goes = goes_on d.online r.command.order k (left_of r) in
     let when : (b : Bool) → (if b then None else Some (outcome_at d.unit d.online r.command r.good k)) ≡ None
-        → b ≡ true =
+    → b ≡ true =
     λ b. elim b as (λ b. (if b then None else Some (outcome_at d.unit d.online r.command r.good k)) ≡ None → b ≡ true)
-        [ true ↦ λ e. refl | false ↦ λ e. absurd (true≢false (ap is_some e)) ] in
+    [ true ↦ λ e. refl | false ↦ λ e. absurd (true≢false (ap is_some e)) ] in
     let more = ltb-true 1 (left_of r) (last_of (touches d.online r.command.order) (is_good_block k)
-        (nat_lt 1 (left_of r)) (when goes h)) in
+    (nat_lt 1 (left_of r)) (when goes h)) in
     record { left = inr (refl, omega arith) }
 
 pub next_turn : (room budget longest place : ℕ) (rs : List Record) (ds : List Drive) (begun : Option Name)
     (serving : Bool) (k : Block) (d : Drive) → IsHeld room budget longest rs ds begun serving
     → IsServable budget rs place
     → IsTurn budget (step_toll (record_at rs place)) (take place rs) (record_at rs place) (drop (place + 1) rs)
-        (cond (is_some (end_given k d (record_at rs place))) [] (advanced (record_at rs place) ∷ []))
+    (cond (is_some (end_given k d (record_at rs place))) [] (advanced (record_at rs place) ∷ []))
 next_turn room budget longest place rs ds begun serving k d h n =
     let r = record_at rs place in
     let A = take place rs in
@@ -73,15 +73,20 @@ next_turn room budget longest place rs ds begun serving k d h n =
     let left = more_left k d r (end_given k d r) refl in
     let own = cond (is_some (end_given k d r)) [] (advanced r ∷ []) in
     let kept = (every_parts (IsKept budget longest (units_of ds)) A (r ∷ B)
-        (subst (AllByRecursion (IsKept budget longest (units_of ds))) cut
-        (recursion_from_All (IsKept budget longest (units_of ds)) rs h.each))).0 in
+    (subst (AllByRecursion (IsKept budget longest (units_of ds))) cut
+    (recursion_from_All (IsKept budget longest (units_of ds)) rs h.each))).0 in
     let both : (b : Bool) → is_unstarted r ≡ b → IsTurn budget (cond b r.weight 0) A r B own =
     λ b. elim b as (λ b. is_unstarted r ≡ b → IsTurn budget (cond b r.weight 0) A r B own) [
       | true ↦ λ e.
           let idle = every_parts (λ z. z.done ≡ 0) A (r ∷ B)
-              (subst AreIdle cut (recursion_from_All (λ z. z.done ≡ 0) rs (n.idle e))) in
-          record { before = idle.0; behind = idle.1.1; affordable =
-              front_affordable budget rs place (n.opens e); left = left }
+          (subst AreIdle cut (recursion_from_All (λ z. z.done ≡ 0) rs (n.idle e))) in
+          record {
+            before = idle.0;
+            behind = idle.1.1;
+            affordable =
+                front_affordable budget rs place (n.opens e);
+            left = left;
+          }
       | false ↦ λ e.
           let some = eqb-false r.done 0 e in
           let one = h.one in
@@ -108,8 +113,8 @@ pairs_rise (s ∷ []) r = (tt, tt)
 pairs_rise (s ∷ x ∷ xs) r =
     let more : (i : ℕ) → suc i + 1 ≡ suc (i + 1) = λ i. omega arith in
     let rest = pairs_rise (x ∷ xs) (λ i other h. subst
-        (λ j. (slice_index_or (x ∷ xs) i other).number < (slice_index_or (s ∷ x ∷ xs) j other).number) (more i)
-        (r (suc i) other (omega (arith, h)))) in
+    (λ j. (slice_index_or (x ∷ xs) i other).number < (slice_index_or (s ∷ x ∷ xs) j other).number) (more i)
+    (r (suc i) other (omega (arith, h)))) in
     let first : s.number < x.number = r 0 s (omega arith) in
     ((first, every_weaker (Lower x) (Lower s) (λ y h. omega (arith, first, h)) xs rest.0), rest)
 
@@ -120,7 +125,7 @@ found_among A (s ∷ B) p =
     let more = append_assoc A (s ∷ []) B in (
       find_first (λ (x : Shape). nat_eq x.number s.number) A s B
           (every_weaker (λ x. Lower x s) (λ x. nat_eq x.number s.number ≡ false)
-              (λ x h. ne_eqb x.number s.number (λ e. absurd (omega (arith, h, e)))) A low.0)
+          (λ x h. ne_eqb x.number s.number (λ e. absurd (omega (arith, h, e)))) A low.0)
           (eq-eqb s.number s.number refl),
       subst (λ l. AllByRecursion (λ (x : Shape). unit_found l x.number ≡ Some x) B) more
           (found_among (A ++ s ∷ []) B (subst (Pairs Lower) (sym more) p)),
@@ -136,8 +141,8 @@ found_unit n [] = refl
 found_unit n (d ∷ ds) =
     let rest = found_unit n ds in
     elim (nat_eq d.unit.number n) as (λ b. unwrap_or (cond b (Some d.unit) (unit_found (units_of ds) n)) one_block
-        ≡ (unwrap_or (cond b (Some d) (find (has_number n) ds)) (fresh_drive one_block)).unit)
-        [ true ↦ refl | false ↦ rest ]
+    ≡ (unwrap_or (cond b (Some d) (find (has_number n) ds)) (fresh_drive one_block)).unit)
+    [ true ↦ refl | false ↦ rest ]
 
 -- a drive of the number has the unit of the drive that is found
 pub units_same : (n : ℕ) (ds : List Drive) → IsUnitList (units_of ds)
@@ -145,9 +150,9 @@ pub units_same : (n : ℕ) (ds : List Drive) → IsUnitList (units_of ds)
 units_same n ds l =
     let us = units_of ds in
     every_weaker (λ d. unit_found us d.unit.number ≡ Some d.unit)
-        (λ d. has_number n d ≡ true → d.unit ≡ (drive_of ds n).unit)
+    (λ d. has_number n d ≡ true → d.unit ≡ (drive_of ds n).unit)
     (λ d f e. ap (λ o. unwrap_or o one_block) (sym f ∙ ap (unit_found us) (eqb-true d.unit.number n e))
-        ∙ found_unit n ds) ds
+    ∙ found_unit n ds) ds
     (every_mapped (λ (d : Drive). d.unit) (λ s. unit_found us s.number ≡ Some s) ds (units_found us l))
 
 -- ---- its block
@@ -180,7 +185,7 @@ touched_inside budget longest ds r d e k lbn h =
     let move = (and_parts (is_move r.command.order) d.online t.0).0 in
     let inside = inside_of (units_of ds) r.command.unit r.command.order move k.waitable.inside in
     let unit : (unwrap_or (unit_found (units_of ds) r.command.unit) one_block).size ≡ d.unit.size =
-        ap (λ (s : Shape). s.size) (found_unit r.command.unit ds ∙ ap (λ (d : Drive). d.unit) (sym e)) in
+    ap (λ (s : Shape). s.size) (found_unit r.command.unit ds ∙ ap (λ (d : Drive). d.unit) (sym e)) in
     let weight = k.weight in
     let unfinished = k.unfinished in
     omega (arith, t.1, inside, unit)
@@ -215,28 +220,28 @@ held_served {room} {budget} {longest} {place} {rs} {new} {ds} {ds'} {begun} {ser
     let d' = m.d' in
     let cut = cut_at no_record rs place n.inside in
     let unit : d'.unit ≡ (drive_of ds number).unit =
-        ap (λ (q : Drive). q.unit) m.drive_after ∙ ap (λ (q : Drive). q.unit) m.drive in
+    ap (λ (q : Drive). q.unit) m.drive_after ∙ ap (λ (q : Drive). q.unit) m.drive in
     let same = every_weaker (λ q. has_number number q ≡ true → q.unit ≡ (drive_of ds number).unit)
-        (λ q. has_number number q ≡ true → q.unit ≡ d'.unit) (λ q g b. g b ∙ sym unit) ds
-        (units_same number ds h.units) in
+    (λ q. has_number number q ≡ true → q.unit ≡ d'.unit) (λ q g b. g b ∙ sym unit) ds
+    (units_same number ds h.units) in
     let heads = All-from_recursion IsOnUnit (replaced number d' ds)
-        (heads_replaced number d' ds m.on (recursion_from_All IsOnUnit ds h.heads)) in
+    (heads_replaced number d' ds m.on (recursion_from_All IsOnUnit ds h.heads)) in
     let turn = next_turn room budget longest place rs ds begun serving k d h n in
     let ended : serves ≡ false → cond (is_some (end_given k d r)) [] (advanced r ∷ []) ≡ [] =
     λ e. ap (λ b. cond b [] (advanced r ∷ [])) (ended_if (is_some (end_given k d r)) (sym m.serves_on ∙ e)) in
     subst (λ zs. IsHeld room budget longest new zs None serves) (sym m.drives)
     (subst (λ zs. IsHeld room budget longest zs (replaced number d' ds) None serves) (sym m.records)
     (held_turn room budget longest (step_toll r) (take place rs) r (drop (place + 1) rs)
-        (cond (is_some (end_given k d r)) [] (advanced r ∷ [])) ds (replaced number d' ds) begun serving serves
+    (cond (is_some (end_given k d r)) [] (advanced r ∷ [])) ds (replaced number d' ds) begun serving serves
     (subst (λ zs. IsHeld room budget longest zs ds begun serving) cut h) turn ended (units_replaced number d' ds same)
-        heads))
+    heads))
 
 head_found : (n : ℕ) (ds : List Drive) → AllByRecursion IsOnUnit ds → IsOnUnit (drive_of ds n)
 head_found n [] h = omega arith
 head_found n (d ∷ ds) h =
     let rest = head_found n ds h.1 in
     elim (has_number n d) as (λ b. IsOnUnit (unwrap_or (cond b (Some d) (find (has_number n) ds))
-        (fresh_drive one_block))) [ true ↦ h.0 | false ↦ rest ]
+    (fresh_drive one_block))) [ true ↦ h.0 | false ↦ rest ]
 
 -- the drive that is found has its head on its unit
 pub head_kept : (room budget longest n : ℕ) (rs : List Record) (ds : List Drive) (begun : Option Name) (serving : Bool)
@@ -273,14 +278,14 @@ pub held_step : {room budget longest place : ℕ} {rs new : List Record} {ds ds'
 held_step {room} {budget} {longest} {place} {rs} {new} {ds} {ds'} {begun} {serving} {serves} {k} h n t =
     let own = advanced (record_at rs place) ∷ [] in
     let unit : t.command.unit ≡ (record_at rs place).command.unit =
-        ap (λ (c : Command). c.unit) t.of ∙ ap (λ (r : Record). r.command.unit) t.is in
+    ap (λ (c : Command). c.unit) t.of ∙ ap (λ (r : Record). r.command.unit) t.is in
     let found = t.drive ∙ ap (drive_of ds) (ap (λ (c : Command). c.unit) t.of) in
     let kept : IsKept budget longest (units_of ds) t.r =
-        subst (IsKept budget longest (units_of ds)) (sym t.is) (h.each place no_record n.inside) in
+    subst (IsKept budget longest (units_of ds)) (sym t.is) (h.each place no_record n.inside) in
     let head : IsOnUnit t.d = subst IsOnUnit (sym t.drive)
-        (head_kept room budget longest t.command.unit rs ds begun serving h) in
+    (head_kept room budget longest t.command.unit rs ds begun serving h) in
     let same : t.ends ≡ is_some (end_given k t.d (record_at rs place)) =
-        t.some ∙ (ap is_some t.ended ∙ ap (λ r. is_some (end_given k t.d r)) t.is) in
+    t.some ∙ (ap is_some t.ended ∙ ap (λ r. is_some (end_given k t.d r)) t.is) in
     held_served {k = k} h n (record {
       d = t.d;
       d' = t.d';
@@ -290,7 +295,7 @@ held_step {room} {budget} {longest} {place} {rs} {new} {ds} {ds'} {begun} {servi
       records = t.records ∙ (ap (λ n. map (passed_by n) (take place rs) ++ (cond t.ends [] own ++ drop (place + 1) rs))
           (t.cost ∙ ap step_toll t.is)
           ∙ ap (λ b. map (passed_by (step_toll (record_at rs place))) (take place rs)
-              ++ (cond b [] own ++ drop (place + 1) rs)) same);
+          ++ (cond b [] own ++ drop (place + 1) rs)) same);
       serves_on = t.serves_on ∙ ap not same;
       drives = t.drives ∙ ap (λ u. replaced u t.d' ds) unit;
     })
@@ -303,4 +308,4 @@ units_step number d d' ds ds' k r l e f v =
     let unit : d'.unit ≡ (drive_of ds number).unit = ap (λ (q : Drive). q.unit) f ∙ ap (λ (q : Drive). q.unit) e in
     ap units_of v
     ∙ units_replaced number d' ds (every_weaker (λ q. has_number number q ≡ true → q.unit ≡ (drive_of ds number).unit)
-        (λ q. has_number number q ≡ true → q.unit ≡ d'.unit) (λ q g b. g b ∙ sym unit) ds (units_same number ds l))
+    (λ q. has_number number q ≡ true → q.unit ≡ d'.unit) (λ q g b. g b ∙ sym unit) ds (units_same number ds l))

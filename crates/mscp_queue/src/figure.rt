@@ -43,13 +43,7 @@ fn left_if_serving(record: &Record) -> u64
 
 /// The figure of the record at the place, where so many steps are left of the records before it, and of those after it
 /// that are in service.
-fn figure_from(
-    budget: u32,
-    records: &[Record],
-    place: usize,
-    before: u64,
-    serving: u64,
-) -> u32
+fn figure_from(budget: u32, records: &[Record], place: usize, before: u64, serving: u64) -> u32
     requires place { place < length records.now }
     requires small { sum_by left_of records.now + budget < 2 ^ 32 }
     requires before { before ≡ sum_by left_of (take place records.now) }
@@ -98,11 +92,7 @@ pub(crate) fn has_any(records: &[Record], reference: u32) -> bool
 }
 
 /// The figure of the waiting command with the reference number, 0 if there is none.
-pub(crate) fn figure_of_reference(
-    budget: u32,
-    records: &[Record],
-    reference: u32,
-) -> u32
+pub(crate) fn figure_of_reference(budget: u32, records: &[Record], reference: u32) -> u32
     requires few { length records.now ≤ 64 }
     requires small { sum_by left_of records.now + budget < 2 ^ 32 }
     ensures { result ≡ figure_of_reference budget records.now reference }

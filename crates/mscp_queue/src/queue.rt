@@ -172,11 +172,7 @@ impl<K: Picker> Queue<K> {
     pub fn figure(&self, reference: u32) -> u32
         ensures { result ≡ figure_of_reference self.now.budget self.now.waiting reference }
     {
-        figure_of_reference(
-            self.budget,
-            self.waiting.as_slice(),
-            reference,
-        )
+        figure_of_reference(self.budget, self.waiting.as_slice(), reference)
     }
 
     /// Reference number and figure of each waiting command, in order of arrival.

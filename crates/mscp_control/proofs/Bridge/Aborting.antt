@@ -43,7 +43,7 @@ named_held : (t : Trace) (ws : List Record) (o : Order) → Apart t (waiting t) 
 named_held t ws (orders.Abort other) a e =
     sym (filter_map_of (held_of t) (has_reference other) (waiting t))
     ∙ (ap (filter (has_reference other)) (sym e) ∙ found_once other ws
-        (subst (λ rs. AreApart (names rs)) (sym e) (apart_held t (waiting t) a)))
+    (subst (λ rs. AreApart (names rs)) (sym e) (apart_held t (waiting t) a)))
 named_held t ws (orders.Status other) a e = refl
 named_held t ws orders.UnitStatus a e = refl
 named_held t ws (orders.SetController version) a e = refl
@@ -80,7 +80,7 @@ aborted_by c t u ws (orders.Invalid opcode status) a e = refl
 
 aborted_held : (c : Settings) (t : Trace) (ws : List Record) (k : Command) → Apart t (waiting t)
     → ws ≡ map (held_of t) (waiting t) → map (held_of t) (history.aborted c t k)
-        ≡ option_to_list (record_aborted ws k.order)
+    ≡ option_to_list (record_aborted ws k.order)
 aborted_held c t ws k a e = aborted_by c t k.unit ws k.order a e
 
 -- ---- what is told of it
@@ -100,7 +100,7 @@ first_held t (x ∷ xs) (Some r) e = ap (λ rs. Some (first_reference rs)) e
 pub reference_told : (c : Settings) (t : Trace) (ws : List Record) (k : Command) → Apart t (waiting t)
     → ws ≡ map (held_of t) (waiting t)
     → option_map (reference t) (slice_get (history.aborted c t k) 0)
-        ≡ option_map (λ r. r.command.reference) (record_aborted ws k.order)
+    ≡ option_map (λ r. r.command.reference) (record_aborted ws k.order)
 reference_told c t ws k a e = first_held t (history.aborted c t k) (record_aborted ws k.order)
     (aborted_held c t ws k a e)
 
@@ -113,7 +113,7 @@ mapped_option (Some r) = refl
 pub end_made : (c : Settings) (t : Trace) (ws : List Record) (k : Command) → Apart t (waiting t)
     → ws ≡ map (held_of t) (waiting t)
     → option_to_list (option_map aborted_record (record_aborted ws k.order))
-        ≡ map (λ x. aborted_end (command t x) (good t x)) (history.aborted c t k)
+    ≡ map (λ x. aborted_end (command t x) (good t x)) (history.aborted c t k)
 end_made c t ws k a e = sym (mapped_option (record_aborted ws k.order))
     ∙ (ap (map aborted_record) (sym (aborted_held c t ws k a e))
     ∙ map_map (held_of t) aborted_record (history.aborted c t k))
@@ -124,7 +124,7 @@ either_way : (a b : ℕ) → nat_eq a b ≡ nat_eq b a
 either_way a b =
     let both : (q : Bool) → nat_eq b a ≡ q → nat_eq a b ≡ q =
     λ q. elim q as (λ q. nat_eq b a ≡ q → nat_eq a b ≡ q)
-        [ true ↦ λ e. eq-eqb a b (sym (eqb-true b a e)) | false ↦ λ e. ne_eqb a b (λ h. eqb-false b a e (sym h)) ] in
+    [ true ↦ λ e. eq-eqb a b (sym (eqb-true b a e)) | false ↦ λ e. ne_eqb a b (λ h. eqb-false b a e (sym h)) ] in
     both (nat_eq b a) refl
 
 -- the answer to a message that aborts the command of this reference number, or none
@@ -137,11 +137,11 @@ left_by : (q other : ℕ) (ws : List Record) → without other ws
 left_by q other ws =
     let p = has_reference other in
     let ends : Option Record → Record → Bool = λ o r.
-        ends_in (name_of r.command) (Answer q (option_map (λ r. r.command.reference) o)) in
+    ends_in (name_of r.command) (Answer q (option_map (λ r. r.command.reference) o)) in
     ⊎_elim
     (λ none.
     filter_on (λ r. not (p r)) (λ r. not (ends None r)) ws
-        (every_weaker (λ r. p r ≡ false) (λ r. not (p r) ≡ not (ends None r)) (λ r e. ap not e) ws none)
+    (every_weaker (λ r. p r ≡ false) (λ r. not (p r) ≡ not (ends None r)) (λ r e. ap not e) ws none)
     ∙ ap (λ o. filter (λ r. not (ends o r)) ws) (sym (find_none p ws none)))
     (λ some.
     let A = some.0 in
@@ -150,8 +150,8 @@ left_by q other ws =
     let f = some.3 in
     let number : other ≡ y.command.reference = sym (eqb-true y.command.reference other f.passed) in
     filter_on (λ r. not (p r)) (λ r. not (ends (Some y) r)) ws
-        (every_from (λ r. not (p r) ≡ not (ends (Some y) r))
-        (λ r. ap not (either_way r.command.reference other ∙ ap (λ n. nat_eq n r.command.reference) number)) ws)
+    (every_from (λ r. not (p r) ≡ not (ends (Some y) r))
+    (λ r. ap not (either_way r.command.reference other ∙ ap (λ n. nat_eq n r.command.reference) number)) ws)
     ∙ ap (λ o. filter (λ r. not (ends o r)) ws) (sym (ap (find p) f.is ∙ find_first p A y B f.before f.passed)))
     (find_cases p ws)
 
@@ -179,7 +179,7 @@ with_other : (n other : ℕ) → (if nat_eq n other then None else Some n) ≡ (
 with_other n other =
     ap (λ b. if b then None else Some n) (either_way n other)
     ∙ elim (nat_eq other n) as (λ b. (if b then None else Some n) ≡ (if not b then Some n else None))
-        [ true ↦ refl | false ↦ refl ]
+    [ true ↦ refl | false ↦ refl ]
 
 -- it is begun no more where it is aborted
 abbrev Left : ℕ → List Record → Name → Order → Type 0
@@ -191,25 +191,25 @@ abort_left : (q other : ℕ) (t : Trace) (ws : List Record) (n : Name) (y : ℕ)
 abort_left q other t ws n y e w own =
     let p = has_reference other in
     let left : Option Record → Option Name = λ o. if not
-        (ends_in n (Answer q (option_map (λ r. r.command.reference) o))) then Some n else None in
+    (ends_in n (Answer q (option_map (λ r. r.command.reference) o))) then Some n else None in
     ⊎_elim
     (λ none.
     let all = every_mapped (held_of t) (λ r. p r ≡ false) (waiting t)
-        (subst (AllByRecursion (λ r. p r ≡ false)) e none) in
+    (subst (AllByRecursion (λ r. p r ≡ false)) e none) in
     let c = cut t y (waits_below t y w) w in
     let one : nat_eq (reference t y) other ≡ false =
-        (every_parts (λ x. nat_eq (reference t x) other ≡ false) c.0 (y ∷ c.1)
-        (subst (AllByRecursion (λ x. nat_eq (reference t x) other ≡ false)) c.2.is all)).1.0 in
+    (every_parts (λ x. nat_eq (reference t x) other ≡ false) c.0 (y ∷ c.1)
+    (subst (AllByRecursion (λ x. nat_eq (reference t x) other ≡ false)) c.2.is all)).1.0 in
     ap (λ b. if b then None else Some n) (ap (λ k. nat_eq k other) (sym own) ∙ one)
-        ∙ ap left (sym (find_none p ws none)))
+    ∙ ap left (sym (find_none p ws none)))
     (λ some.
     let A = some.0 in
     let r = some.1 in
     let B = some.2 in
     let f = some.3 in
     with_other n other ∙ (ap (λ k. if not (nat_eq k n) then Some n else None)
-        (sym (eqb-true r.command.reference other f.passed))
-        ∙ ap left (sym (ap (find p) f.is ∙ find_first p A r B f.before f.passed))))
+    (sym (eqb-true r.command.reference other f.passed))
+    ∙ ap left (sym (ap (find p) f.is ∙ find_first p A r B f.before f.passed))))
     (find_cases p ws)
 
 pub begun_left : (q : ℕ) (t : Trace) (ws : List Record) (n : Name) (y : ℕ) (o : Order)

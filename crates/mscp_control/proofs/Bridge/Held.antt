@@ -18,8 +18,14 @@ use Rattle.mscp_queue.proofs.Placed.{at_place, find_cases, find_none, find_first
 
 -- the record of a command
 abbrev pub held_of : Trace → ℕ → Record
-held_of t x = record { command = command t x; weight = weight t x; done = done t x; good = good t x; passed =
-    passed t x }
+held_of t x = record {
+  command = command t x;
+  weight = weight t x;
+  done = done t x;
+  good = good t x;
+  passed =
+      passed t x;
+}
 
 -- The records are those of the waiting commands, and the ends those that weren't taken.
 pub record Follows (c : Settings) (t : Trace) (ws : List Record) (us : List End) : Type 0 where
@@ -39,7 +45,7 @@ figure_held : (c : Settings) (t : Trace) (A : List ℕ) (x : ℕ) (B : List ℕ)
     → figure_between c.budget (map (held_of t) A) (held_of t x) (map (held_of t) B) ≡ figure c t x
 figure_held c t A x B e =
     let sum : ℕ → ℕ → ℕ = λ a b. cond (in_service t x) (left t x)
-        (a + b + (c.budget - passed t x) + left t x) in
+    (a + b + (c.budget - passed t x) + left t x) in
     ap (λ a. sum a (sum_by left_of (filter is_in_service (map (held_of t) B)))) (sum_by_map (held_of t) left_of A)
     ∙ (ap (λ b. sum (sum_by (left t) A) b) (working_held t B)
     ∙ sym (falls.figure_at c t A x B e))
@@ -50,7 +56,7 @@ shown c t x = (reference t x, figure c t x)
 
 shown_at : (c : Settings) (t : Trace) (A : List ℕ) (x : ℕ) (B : List ℕ) (k : ℕ) → waiting t ≡ A ++ x ∷ B → length A ≡ k
     → ((record_at (map (held_of t) (waiting t)) k).command.reference ≡ reference t x)
-        × (figure_at c.budget (map (held_of t) (waiting t)) k ≡ figure c t x)
+    × (figure_at c.budget (map (held_of t) (waiting t)) k ≡ figure c t x)
 shown_at c t A x B k e l =
     let h = held_of t in
     let rs = map h (waiting t) in
@@ -59,7 +65,7 @@ shown_at c t A x B k e l =
       ap (λ (r : Record). r.command.reference) at.item,
       ap (λ r. figure_between c.budget (take k rs) r (drop (k + 1) rs)) at.item
           ∙ (ap (λ a. figure_between c.budget a (h x) (drop (k + 1) rs)) at.before
-              ∙ (ap (figure_between c.budget (map h A) (h x)) at.behind ∙ figure_held c t A x B e)),
+          ∙ (ap (figure_between c.budget (map h A) (h x)) at.behind ∙ figure_held c t A x B e)),
     )
 
 figures_part : (c : Settings) (t : Trace) (A B : List ℕ) (k : ℕ) → waiting t ≡ A ++ B → length A ≡ k
@@ -68,16 +74,16 @@ figures_part c t A [] k e l = refl
 figures_part c t A (x ∷ B) k e l =
     let s = shown_at c t A x B k e l in
     let rest = figures_part c t (A ++ x ∷ []) B (k + 1) (e ∙ sym (append_assoc A (x ∷ []) B))
-        (omega (arith, length-append A (x ∷ []), l)) in
+    (omega (arith, length-append A (x ∷ []), l)) in
     (λ i. (s.0 i, s.1 i) ∷ figures_from c.budget (map (held_of t) (waiting t))
-        (range_with_len (k + 1) (length B))) ∙ ap (λ ys. shown c t x ∷ ys) rest
+    (range_with_len (k + 1) (length B))) ∙ ap (λ ys. shown c t x ∷ ys) rest
 
 -- The records' figures are those of the waiting commands.
 pub figures_held : (c : Settings) (t : Trace)
     → figures c.budget (map (held_of t) (waiting t)) ≡ map (λ x. (reference t x, figure c t x)) (waiting t)
 figures_held c t =
     ap (λ n. figures_from c.budget (map (held_of t) (waiting t)) (range_with_len 0 n))
-        (length-map (waiting t) (held_of t)) ∙ figures_part c t [] (waiting t) 0 refl refl
+    (length-map (waiting t) (held_of t)) ∙ figures_part c t [] (waiting t) 0 refl refl
 
 has_held : (t : Trace) (r : ℕ) (xs : List ℕ) → AllByRecursion (λ x. nat_eq (reference t x) r ≡ false) xs
     → AllByRecursion (λ w. has_reference r w ≡ false) (map (held_of t) xs)
@@ -95,7 +101,7 @@ figure_of_held c t r =
     ⊎_elim
     (λ none.
     ap (figure_at_place c.budget rs) (position_none (has_reference r) rs (has_held t r (waiting t) none))
-        ∙ sym (ap (figure_found c t) (find_none q (waiting t) none)))
+    ∙ sym (ap (figure_found c t) (find_none q (waiting t) none)))
     (λ some.
     let A = some.0 in
     let x = some.1 in
@@ -103,7 +109,7 @@ figure_of_held c t r =
     let f = some.3 in
     let cut : rs ≡ map h A ++ h x ∷ map h B = ap (map h) f.is ∙ map-append h A (x ∷ B) in
     ap (figure_at_place c.budget rs) (ap (position (has_reference r)) cut
-        ∙ position_first (has_reference r) (map h A) (h x) (map h B) (has_held t r A f.before) f.passed)
+    ∙ position_first (has_reference r) (map h A) (h x) (map h B) (has_held t r A f.before) f.passed)
     ∙ ((shown_at c t A x B (length (map h A)) f.is (sym (length-map A h))).1
     ∙ sym (ap (figure_found c t) (ap (find q) f.is ∙ find_first q A x B f.before f.passed))))
     (find_cases q (waiting t))

@@ -63,12 +63,19 @@ remains_count r (Some end) = omega arith
 -- where a command ends, one less waits
 count_after : (n place : ℕ) (r : Record) (rs : List Record) (e : Option End) → place < length rs
     → length (map (passed_by n) (take place rs) ++ (remains r e ++ drop (place + 1) rs)) + length (option_to_list e)
-        ≡ length rs
+    ≡ length rs
 count_after n place r rs e l =
     let A = take place rs in
     let B = drop (place + 1) rs in
-    omega (arith, remains_count r e, length-append (map (passed_by n) A) (remains r e ++ B), length-map A (passed_by n),
-        length-append (remains r e) B, length-take-le place rs (omega arith), length-drop (place + 1) rs)
+    omega (
+      arith,
+      remains_count r e,
+      length-append (map (passed_by n) A) (remains r e ++ B),
+      length-map A (passed_by n),
+      length-append (remains r e) B,
+      length-take-le place rs (omega arith),
+      length-drop (place + 1) rs,
+    )
 
 -- the waiting commands and the ends that a step brings are as many as waited
 pub count_stepped : {K : Type 0} (picks : List Choice → ℕ → Type 0) (k : Block) (old : Line K) (report : Report)
@@ -82,21 +89,34 @@ count_stepped {K} picks k old (reports.Served reference unit lbn started seek en
     let r = record_at old.waiting place in
     let e = end_given k (drive_at old.drives old.waiting place) r in
     let ends : ends_reported (reports.Served reference unit lbn started seek ended) ≡ option_to_list e =
-        ap ends_reported s.told in
-    omega (arith, ap (λ (l : Line K). length l.waiting) s.left, ap length ends, count_after (step_toll r) place r
-        old.waiting e s.next.servable.inside)
+    ap ends_reported s.told in
+    omega (
+      arith,
+      ap (λ (l : Line K). length l.waiting) s.left,
+      ap length ends,
+      count_after (step_toll r) place r
+          old.waiting e s.next.servable.inside,
+    )
 
 -- and the limits and the picker stay
 pub stays : {K : Type 0} (picks : List Choice → ℕ → Type 0) (k : Block) (old : Line K) (report : Report) (new : Line K)
     → Serves picks k old report new
     → (new.room ≡ old.room) × (new.budget ≡ old.budget) × (new.longest ≡ old.longest) × (new.picker ≡ old.picker)
-stays {K} picks k old reports.Idle new h =
-    (ap (λ (l : Line K). l.room) h.2, ap (λ (l : Line K). l.budget) h.2, ap (λ (l : Line K). l.longest) h.2, ap
-        (λ (l : Line K). l.picker) h.2)
+stays {K} picks k old reports.Idle new h = (
+  ap (λ (l : Line K). l.room) h.2,
+  ap (λ (l : Line K). l.budget) h.2,
+  ap (λ (l : Line K). l.longest) h.2,
+  ap
+      (λ (l : Line K). l.picker) h.2,
+)
 stays {K} picks k old (reports.Served reference unit lbn started seek ended) new h =
-    let e = h.1.left in
-    (ap (λ (l : Line K). l.room) e, ap (λ (l : Line K). l.budget) e, ap (λ (l : Line K). l.longest) e, ap
-        (λ (l : Line K). l.picker) e)
+    let e = h.1.left in (
+      ap (λ (l : Line K). l.room) e,
+      ap (λ (l : Line K). l.budget) e,
+      ap (λ (l : Line K). l.longest) e,
+      ap
+          (λ (l : Line K). l.picker) e,
+    )
 
 -- the ends that a step brings are of their kind
 reported_kinds : (report : Report) → IfSome (end_in report) IsOfKind → AllByRecursion IsOfKind (ends_reported report)
@@ -107,7 +127,7 @@ reported_kinds (reports.Served reference unit lbn started seek (Some end)) h = (
 pub held_stepped : {K : Type 0} (c : Settings) (picks : List Choice → ℕ → Type 0) (k : Block) (old : Line K)
     (report : Report) (new : Line K) (us us' : List End) → IsHeld c old us → Serves picks k old report new
     → units_of new.drives ≡ units_of old.drives → IfSome (end_in report) IsOfKind → us' ≡ us ++ ends_reported report
-        → IsHeld c new us'
+    → IsHeld c new us'
 held_stepped {K} c picks k old report new us us' h s u kind e =
     let count = count_stepped picks k old report new s in
     let same = stays picks k old report new s in
@@ -153,7 +173,7 @@ pub owner_kept : {K : Type 0} (picks : List Choice → ℕ → Type 0) (h h' : H
     → Answers picks h event entry h' → IsSameOwner h h'
 owner_kept {K} picks h h' (events.Send message) (entries.Sent sent) r =
     subst (λ (x : Holdings K). IsSameOwner h x) (sym r.1)
-        (owner_unless h (command_of message.items) (refusal (balance_of h) (outstanding_of h) message.items))
+    (owner_unless h (command_of message.items) (refusal (balance_of h) (outstanding_of h) message.items))
 owner_kept {K} picks h h' events.Take (entries.Taken end) r =
     subst (λ (x : Holdings K). IsSameOwner h x) (sym r.1) (refl, refl)
 owner_kept picks h h' (events.Step k) (entries.Stepped report) r =
@@ -191,7 +211,7 @@ unbegun_unless : {K : Type 0} (h : Holdings K) (command : Command) (o : Option S
 unbegun_unless h command (Some fault) n = n
 unbegun_unless {K} h command None n =
     elim (is_queued h.settings command) as (λ b. (if b then queued h command
-        else with_end (aborting h command.order) (answered_end h command)).begun ≡ None)
+    else with_end (aborting h command.order) (answered_end h command)).begun ≡ None)
     [ true ↦ n | false ↦ ap (λ b. begun_after b command.order) n ∙ begun_after_none command.order ]
 
 unbegun_stepped : {K : Type 0} (picks : List Choice → ℕ → Type 0) (k : Block) (old : Line K) (report : Report)
@@ -205,7 +225,7 @@ pub unbegun_kept : {K : Type 0} (picks : List Choice → ℕ → Type 0) (h h' :
     → h.begun ≡ None → Answers picks h event entry h' → h'.begun ≡ None
 unbegun_kept {K} picks h h' (events.Send message) (entries.Sent sent) n r =
     ap (λ (x : Holdings K). x.begun) r.1 ∙ unbegun_unless h (command_of message.items)
-        (refusal (balance_of h) (outstanding_of h) message.items) n
+    (refusal (balance_of h) (outstanding_of h) message.items) n
 unbegun_kept {K} picks h h' events.Take (entries.Taken end) n r = ap (λ (x : Holdings K). x.begun) r.1 ∙ n
 unbegun_kept picks h h' (events.Step k) (entries.Stepped report) n r =
     unbegun_stepped picks k (line_of h) report (line_of h') n r.serves

@@ -39,7 +39,7 @@ idle_held t h =
     all_of (λ x. nat_eq (done t x) 0) (waiting t)
     (every_weaker (λ x. done t x ≡ 0) (λ x. nat_eq (done t x) 0 ≡ true) (λ x d. eq-eqb (done t x) 0 d) (waiting t)
     (every_mapped (held_of t) (λ r. r.done ≡ 0) (waiting t)
-        (recursion_from_All (λ r. r.done ≡ 0) (map (held_of t) (waiting t)) h)))
+    (recursion_from_All (λ r. r.done ≡ 0) (map (held_of t) (waiting t)) h)))
 
 -- what is known of a record that may be served next: that its command may be
 pub record Next (c : Settings) (t : Trace) (place : ℕ) : Type 0 where
@@ -60,16 +60,16 @@ next_held c picks t ds begun place d n =
     let rs = map (held_of t) (waiting t) in
     let y = waiting_at t place in
     let inside : place < length (waiting t) = let l = n.servable.inside in
-        omega (arith, length-map (waiting t) (held_of t)) in
+    omega (arith, length-map (waiting t) (held_of t)) in
     let same : recorded.is_unstarted (record_at rs place) ≡ nat_eq (done t y) 0 =
-        ap recorded.is_unstarted (record_held t place inside) in
+    ap recorded.is_unstarted (record_held t place inside) in
     let places = open_places c.budget rs in
     let both : (b : Bool) → nat_eq (done t y) 0 ≡ b → (in_service t y || is_startable c t y) ≡ true =
     λ b. elim b as (λ b. nat_eq (done t y) 0 ≡ b → (in_service t y || is_startable c t y) ≡ true) [
       | true ↦ λ e.
           let idle = idle_held t (n.servable.idle (same ∙ e)) in
           or_right (in_service t y) (is_startable c t y)
-              (startable_held c t place inside idle ∙ n.servable.opens (same ∙ e))
+          (startable_held c t place inside idle ∙ n.servable.opens (same ∙ e))
       | false ↦ λ e.
           let some = eqb-false (done t y) 0 e in
           ap (λ b. b || is_startable c t y) (lt-ltb 0 (done t y) (omega arith))
@@ -103,13 +103,16 @@ reads c t ds ws place d e l =
     let y = waiting_at t place in
     let found : is_some (unit_found c (unit t y)) ≡ true =
     (every_parts (λ x. is_some (unit_found c (unit t x)) ≡ true) (take place W) (y ∷ drop (place + 1) W)
-        (subst (AllByRecursion (λ x. is_some (unit_found c (unit t x)) ≡ true)) (cut_at t place l) d.configured)).1.0 in
+    (subst (AllByRecursion (λ x. is_some (unit_found c (unit t x)) ≡ true)) (cut_at t place l) d.configured)).1.0 in
     let own : record_at ws place ≡ held_of t y = ap (λ zs. record_at zs place) e ∙ record_held t place l in
-    record { own = own; at = ap (λ (r : Record). drive_of ds r.command.unit) own
-        ∙ drive_found c t ds (unit t y) d found }
+    record {
+      own = own;
+      at = ap (λ (r : Record). drive_of ds r.command.unit) own
+          ∙ drive_found c t ds (unit t y) d found;
+    }
 
 pub waits_at : (t : Trace) (place : ℕ) → place < length (waiting t) → is_waiting t (waiting_at t place) ≡ true
 waits_at t place l =
     let P : ℕ → Type 0 = λ x. is_waiting t x ≡ true in
     (every_parts P (take place (waiting t)) (waiting_at t place ∷ drop (place + 1) (waiting t))
-        (subst (AllByRecursion P) (cut_at t place l) (waiting_waits t))).1.0
+    (subst (AllByRecursion P) (cut_at t place l) (waiting_waits t))).1.0

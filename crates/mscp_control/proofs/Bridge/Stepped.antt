@@ -55,9 +55,11 @@ use Rattle.mscp_control.proofs.Bridge.Servable.{Next, next_held, reads, waits_at
 
 -- the moment that serves y
 abbrev pub serving : Settings → Trace → Block → ℕ → Moment
-serving c t k y =
-    (events.Step k, entries.Stepped (reports.Served (reference t y) (unit t y) (block_of t y) (nat_eq (done t y) 0)
-        (seek_to c t (unit t y) (block_of t y)) (end_of c t k y)))
+serving c t k y = (
+  events.Step k,
+  entries.Stepped (reports.Served (reference t y) (unit t y) (block_of t y) (nat_eq (done t y) 0)
+      (seek_to c t (unit t y) (block_of t y)) (end_of c t k y)),
+)
 
 -- a step of a record reports the service
 report_held : (c : Settings) (t : Trace) (k : Block) (y : ℕ)
@@ -84,15 +86,19 @@ served_at c t k place n =
 -- and so the step is one of the command there, among the others
 step_at : (c : Settings) (t : Trace) (k : Block) (place : ℕ) → Apart t (waiting t) → Next c t place
     → Step c t (serving c t k (waiting_at t place)) (service_by c t k (waiting_at t place)) k (waiting_at t place)
-        (take place (waiting t)) (drop (place + 1) (waiting t))
+    (take place (waiting t)) (drop (place + 1) (waiting t))
 step_at c t k place apart n =
     let y = waiting_at t place in
     let A = take place (waiting t) in
     let B = drop (place + 1) (waiting t) in
     let serves : Serves t (serving c t k y) (service_by c t k y) y A B =
-        record { among = alone t y A B apart (cut_of t A y B (cut_at t place n.inside)); is = refl; same = refl } in
-    record { served = served_at c t k place n; serves = serves; changes =
-        changes t (serving c t k y) (service_by c t k y) y A B serves }
+    record { among = alone t y A B apart (cut_of t A y B (cut_at t place n.inside)); is = refl; same = refl } in
+    record {
+      served = served_at c t k place n;
+      serves = serves;
+      changes =
+          changes t (serving c t k y) (service_by c t k y) y A B serves;
+    }
 
 -- ---- the others
 
@@ -109,7 +115,7 @@ good_same : (t : Trace) (m : Moment) (x : ℕ) → x < length t → done (t ++ m
 unfolding one_if
 good_same t m x l d =
     good_before t m x l ∙ (ap (λ n. good t x + n) (unserved (serves_in (reference t x) m.1) (is_good m.0) (done t x)
-        (sym (done_before t m x l) ∙ d)) ∙ omega arith)
+    (sym (done_before t m x l) ∙ d)) ∙ omega arith)
 
 -- the commands behind it keep their records
 behind_kept : (c : Settings) (t : Trace) (k : Block) (y : ℕ) (A B : List ℕ)
@@ -124,9 +130,9 @@ behind_kept c t k y A B st =
     records_kept t t' B
     (every_weaker (λ x. L x × D x) (λ x. held_of t' x ≡ held_of t x)
     (λ x h. held_same t m x h.0.0 h.1 (good_same t m x h.0.0 h.1)
-        (passed_behind c t m (service_by c t k y) k y A B st x (omega (arith, h.0.1))))
+    (passed_behind c t m (service_by c t k y) k y A B st x (omega (arith, h.0.1))))
     B (every_both L D B (every_both (λ x. x < length t) (λ x. y < x) B (below_parts t y A B at).1.1 at.behind)
-        st.changes.back_done))
+    st.changes.back_done))
 
 -- a record that was passed
 held_passed : (t : Trace) (m : Moment) (x n : ℕ) → x < length t → done (t ++ m ∷ []) x ≡ done t x
@@ -154,11 +160,11 @@ front_tolled c t k y A B st idle =
     λ b. elim b as (λ b. nat_eq (done t y) 0 ≡ b → AllByRecursion (Q (step_toll (held_of t y))) A) [
       | true ↦ λ e. subst (λ n. AllByRecursion (Q n) A) (sym (cost_held t y true e))
           (every_weaker (λ x. (x < y) × (passings.is_unstarted t x ≡ true)) (Q (weight t y))
-              (λ x h. passed_front c t m s k y A B st e x h.0 h.1) A
-              (every_both (λ x. x < y) (λ x. passings.is_unstarted t x ≡ true) A at.before (idle e)))
+          (λ x h. passed_front c t m s k y A B st e x h.0 h.1) A
+          (every_both (λ x. x < y) (λ x. passings.is_unstarted t x ≡ true) A at.before (idle e)))
       | false ↦ λ e. subst (λ n. AllByRecursion (Q n) A) (sym (cost_held t y false e))
           (every_from (Q 0) (λ x. none_starts t m x
-              (λ r. ap (λ b. nat_eq (reference t y) r && b) e ∙ and-false (nat_eq (reference t y) r)) ∙ omega arith) A)
+          (λ r. ap (λ b. nat_eq (reference t y) r && b) e ∙ and-false (nat_eq (reference t y) r)) ∙ omega arith) A)
     ] in
     both (nat_eq (done t y) 0) refl
 
@@ -179,7 +185,7 @@ front_passed c t k y A B st idle =
     (every_weaker (λ x. D x × P x) (λ x. passed_by n (held_of t x) ≡ held_of t' x)
     (λ x h. sym (held_passed t m x n h.0.0 h.0.1 (good_same t m x h.0.0 h.0.1) h.1)) A
     (every_both D P A (every_both (λ x. x < length t) (λ x. done t' x ≡ done t x) A (below_parts t y A B at).0
-        st.changes.front_done) (front_tolled c t k y A B st idle)))
+    st.changes.front_done) (front_tolled c t k y A B st idle)))
 
 -- ---- the command itself, where it goes on
 
@@ -200,7 +206,7 @@ goes_on_good : (c : Settings) (t : Trace) (k : Block) (y : ℕ) → end_of c t k
 goes_on_good c t k y h =
     let on = is_online t (unit t y) in
     goes_good (touches on (order t y)) (nat_lt 1 (left t y)) k
-        (goes_when (goes_on on (order t y) k (left t y)) (outcome c t k y) h)
+    (goes_when (goes_on on (order t y) k (left t y)) (outcome c t k y) h)
 
 good_own : (c : Settings) (t : Trace) (k : Block) (y : ℕ) → y < length t → end_of c t k y ≡ None
     → good (t ++ serving c t k y ∷ []) y ≡ good t y + 1
@@ -233,10 +239,10 @@ own_remains c t k y A B st (Some end) e = refl
 waiting_served : (c : Settings) (t : Trace) (k : Block) (place : ℕ) (d : Drive) → Apart t (waiting t) → Next c t place
     → d ≡ drive_by c t (unit t (waiting_at t place))
     → (nat_eq (done t (waiting_at t place)) 0 ≡ true
-        → AllByRecursion (λ x. passings.is_unstarted t x ≡ true) (take place (waiting t)))
+    → AllByRecursion (λ x. passings.is_unstarted t x ≡ true) (take place (waiting t)))
     → waiting_after k d (map (held_of t) (waiting t)) place
-        ≡ map (held_of (t ++ serving c t k (waiting_at t place) ∷ []))
-        (waiting (t ++ serving c t k (waiting_at t place) ∷ []))
+    ≡ map (held_of (t ++ serving c t k (waiting_at t place) ∷ []))
+    (waiting (t ++ serving c t k (waiting_at t place) ∷ []))
 waiting_served c t k place d apart n e idle =
     let y = waiting_at t place in
     let A = take place (waiting t) in
@@ -249,15 +255,15 @@ waiting_served c t k place d apart n e idle =
     let st = step_at c t k place apart n in
     let gone = cond (is_some o) [] (y ∷ []) in
     let leaves : Drive → Record → List Record → List Record → List Record =
-        λ d r front back. map (passed_by (step_toll r)) front ++ (remains r (end_given k d r) ++ back) in
+    λ d r front back. map (passed_by (step_toll r)) front ++ (remains r (end_given k d r) ++ back) in
     ap (λ r. leaves d r (take place rs) (drop (place + 1) rs)) (record_held t place n.inside)
     ∙ (ap (λ d. leaves d (held_of t y) (take place rs) (drop (place + 1) rs)) e
     ∙ (ap (λ a. leaves (drive_by c t (unit t y)) (held_of t y) a (drop (place + 1) rs))
-        (take-map (held_of t) place (waiting t))
+    (take-map (held_of t) place (waiting t))
     ∙ (ap (λ b. leaves (drive_by c t (unit t y)) (held_of t y) (map (held_of t) A) b)
-        (drop-map (held_of t) (place + 1) (waiting t))
+    (drop-map (held_of t) (place + 1) (waiting t))
     ∙ (ap (λ x. map (passed_by (step_toll (held_of t y))) (map (held_of t) A)
-        ++ (remains (held_of t y) x ++ map (held_of t) B)) (end_held c t k y)
+    ++ (remains (held_of t y) x ++ map (held_of t) B)) (end_held c t k y)
     ∙ (ap (λ a. a ++ (remains (held_of t y) o ++ map (held_of t) B)) (front_passed c t k y A B st idle)
     ∙ (ap (λ r. map h' A ++ (r ++ map (held_of t) B)) (own_remains c t k y A B st o refl)
     ∙ (ap (λ b. map h' A ++ (map h' gone ++ b)) (sym (behind_kept c t k y A B st))
@@ -284,36 +290,36 @@ unstarted_front : (c : Settings) (picks : List Choice → ℕ → Type 0) (t : T
     (rs : List Record) (begun : Option Name) → rs ≡ map (held_of t) (waiting t)
     → IsNext picks c.budget ds rs begun place → Next c t place
     → nat_eq (done t (waiting_at t place)) 0 ≡ true
-        → AllByRecursion (λ x. passings.is_unstarted t x ≡ true) (take place (waiting t))
+    → AllByRecursion (λ x. passings.is_unstarted t x ≡ true) (take place (waiting t))
 unstarted_front c picks t place ds rs begun e n held u =
     let W = waiting t in
     let here : recorded.is_unstarted (record_at rs place) ≡ true =
-        ap (λ l. recorded.is_unstarted (record_at l place)) e
-        ∙ (ap recorded.is_unstarted (record_held t place held.inside) ∙ u) in
+    ap (λ l. recorded.is_unstarted (record_at l place)) e
+    ∙ (ap recorded.is_unstarted (record_held t place held.inside) ∙ u) in
     let done_all = every_mapped (held_of t) (λ r. r.done ≡ 0) W
-        (recursion_from_All (λ r. r.done ≡ 0) (map (held_of t) W)
-        (subst (All (λ r. r.done ≡ 0)) e (n.servable.idle here))) in
+    (recursion_from_All (λ r. r.done ≡ 0) (map (held_of t) W)
+    (subst (All (λ r. r.done ≡ 0)) e (n.servable.idle here))) in
     let W' : AllByRecursion (λ x. (x < length t) × (is_waiting t x ≡ true)) W =
-        every_both (λ x. x < length t) (λ x. is_waiting t x ≡ true) W (waiting_below t) (waiting_waits t) in
+    every_both (λ x. x < length t) (λ x. is_waiting t x ≡ true) W (waiting_below t) (waiting_waits t) in
     let all = every_weaker (λ x. ((x < length t) × (is_waiting t x ≡ true)) × (done t x ≡ 0))
-        (λ x. passings.is_unstarted t x ≡ true)
+    (λ x. passings.is_unstarted t x ≡ true)
     (λ x q. unstarted_by t x q.0.0 q.0.1 q.1) W (every_both (λ x. (x < length t) × (is_waiting t x ≡ true))
-        (λ x. done t x ≡ 0) W W' done_all) in
+    (λ x. done t x ≡ 0) W W' done_all) in
     (every_parts (λ x. passings.is_unstarted t x ≡ true) (take place W) (waiting_at t place ∷ drop (place + 1) W)
-        (subst (AllByRecursion (λ x. passings.is_unstarted t x ≡ true)) (cut_at t place held.inside) all)).0
+    (subst (AllByRecursion (λ x. passings.is_unstarted t x ≡ true)) (cut_at t place held.inside) all)).0
 
 -- A step of the record at a place.
 pub turns_at : {K : Type 0} (picks : List Choice → ℕ → Type 0) (h h' : Holdings K) (t : Trace) (k : Block)
     (report : Report) (place : ℕ) → IsValid h.settings → Agrees h.settings t h
     → ServesAt picks k (line_of h) report (line_of h') place → h'.untaken ≡ h.untaken ++ ends_reported report
-        → Turns h.settings picks t (events.Step k, entries.Stepped report) h.begun h'
+    → Turns h.settings picks t (events.Step k, entries.Stepped report) h.begun h'
 turns_at {K} picks h h' t k report place v a s u =
     let c = h.settings in
     let W = waiting t in
     let rs = map (held_of t) W in
     let f = a.follows in
     let next : IsNext picks c.budget h.drives rs h.begun place =
-        subst (λ ws. IsNext picks c.budget h.drives ws h.begun place) f.waits s.next in
+    subst (λ ws. IsNext picks c.budget h.drives ws h.begun place) f.waits s.next in
     let both = next_held c picks t h.drives h.begun place a.driven next in
     let n = both.0 in
     let y = waiting_at t place in
@@ -326,21 +332,21 @@ turns_at {K} picks h h' t k report place v a s u =
     let own = read.own in
     let at = read.at in
     let told : report ≡ report_of k (drive_by c t (unit t y)) (held_of t y) =
-        s.told ∙ (λ i. report_of k (at i) (own i)) in
+    s.told ∙ (λ i. report_of k (at i) (own i)) in
     let entry : entries.Stepped report ≡ m.1 = ap entries.Stepped told ∙ report_held c t k y in
     let right : IsRight c t m.0 m.1 = (y, served_at c t k place n) in
     let known = known_more c v.some_blocks t m right f.known in
     let waits : h'.waiting ≡ map (held_of t') (waiting t') =
     ap (λ (l : Line K). l.waiting) s.left ∙ (ap (λ ws.
-        waiting_after k (drive_of h.drives (record_at h.waiting place).command.unit) ws place) f.waits
+    waiting_after k (drive_of h.drives (record_at h.waiting place).command.unit) ws place) f.waits
     ∙ waiting_served c t k place (drive_of h.drives (record_at h.waiting place).command.unit) apart n at idle) in
     let ends : h'.untaken ≡ untaken c t' =
     u ∙ ((λ i. f.ends i ++ ends_reported (told i))
-        ∙ (ap (λ o. untaken c t ++ option_to_list o) (end_held c t k y)
-        ∙ sym (untaken_more c t m refl f.known.room.taken))) in
+    ∙ (ap (λ o. untaken c t ++ option_to_list o) (end_held c t k y)
+    ∙ sym (untaken_more c t m refl f.known.room.taken))) in
     let drives : h'.drives ≡ replaced (unit t y) (drive_after k (drive_by c t (unit t y)) (held_of t y)) h.drives =
     ap (λ (l : Line K). l.drives) s.left ∙ (λ i. replaced (own i).command.unit (drive_after k (at i) (own i))
-        h.drives) in
+    h.drives) in
     let driven = driven_served c t m k y (take place W) (drop (place + 1) W) h.drives v.unit_list st right a.driven in
     let all : Turns c picks t m h.begun h' = record {
       sends = record {

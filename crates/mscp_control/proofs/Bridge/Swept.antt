@@ -33,7 +33,7 @@ not_before c t x y l o =
 not_cheaper : (c : Settings) (t : Trace) (x y : ℕ) → cost c t y < cost c t x → goes_before c t x y ≡ false
 not_cheaper c t x y l =
     ap (λ b. b || (nat_eq (cost c t x) (cost c t y) && nat_lt x y))
-        (le-ltb (cost c t x) (cost c t y) (omega (arith, l)))
+    (le-ltb (cost c t x) (cost c t y) (omega (arith, l)))
     ∙ ap (λ b. b && nat_lt x y) (ne_eqb (cost c t x) (cost c t y) (λ e. absurd (omega (arith, l, e))))
 
 is_before : (c : Settings) (t : Trace) (x y : ℕ) → cost c t x < cost c t y → goes_before c t x y ≡ true
@@ -59,26 +59,28 @@ swept_at c t place h l =
     let own : get_or (map f S) place 0 ≡ f y = get_or-map f S place 0 0 l in
     let front : AllByRecursion (λ x. f y < f x) A =
     every_mapped f (λ n. f y < n) A (subst (λ ns. AllByRecursion (λ n. f y < n) ns) (take-map f place S)
-        (subst (λ k. AllByRecursion (λ n. k < n) (take place (map f S))) own
-        (recursion_from_All _ (take place (map f S)) h.first))) in
+    (subst (λ k. AllByRecursion (λ n. k < n) (take place (map f S))) own
+    (recursion_from_All _ (take place (map f S)) h.first))) in
     let least : AllByRecursion (λ x. f y ≤ f x) S =
-        every_mapped f (λ n. f y ≤ n) S (subst (λ k. AllByRecursion (λ n. k ≤ n) (map f S)) own
-        (recursion_from_All _ (map f S) h.least)) in
+    every_mapped f (λ n. f y ≤ n) S (subst (λ k. AllByRecursion (λ n. k ≤ n) (map f S)) own
+    (recursion_from_All _ (map f S) h.least)) in
     let back = (every_parts (λ x. f y ≤ f x) A (y ∷ B) (subst (AllByRecursion (λ x. f y ≤ f x)) cut least)).1.1 in
     let later = (pairs_middle ◌<◌ A y B (subst (Pairs ◌<◌) cut (startable_rise c t))).1 in
     let stays : ℕ → ℕ → Bool = λ z x. not (goes_before c t x z) in
     let none : AllByRecursion (λ x. stays y x ≡ true) (A ++ y ∷ B) =
     every_append (λ x. stays y x ≡ true) A (y ∷ B)
-        (every_weaker (λ x. f y < f x) (λ x. stays y x ≡ true) (λ x q. ap not (not_cheaper c t x y q)) A front)
-    (ap not (not_before c t y y (omega arith) (omega arith)), every_weaker (λ x. (f y ≤ f x) × (y < x))
-        (λ x. stays y x ≡ true) (λ x q. ap not (not_before c t x y q.0 (omega (arith, q.1)))) B
-        (every_both (λ x. f y ≤ f x) (λ x. y < x) B back later)) in
+    (every_weaker (λ x. f y < f x) (λ x. stays y x ≡ true) (λ x q. ap not (not_cheaper c t x y q)) A front) (
+      ap not (not_before c t y y (omega arith) (omega arith)),
+      every_weaker (λ x. (f y ≤ f x) × (y < x))
+          (λ x. stays y x ≡ true) (λ x q. ap not (not_before c t x y q.0 (omega (arith, q.1)))) B
+          (every_both (λ x. f y ≤ f x) (λ x. y < x) B back later),
+    ) in
     let passed : list_all (stays y) S ≡ true = ap (list_all (stays y)) cut ∙ all_of (stays y) (A ++ y ∷ B) none in
     let fails : (z : ℕ) → f y < f z → list_all (stays z) S ≡ false =
     λ z q.
     ap (list_all (stays z)) cut
     ∙ (list_all-append (stays z) A (y ∷ B) ∙ (ap (λ b. list_all (stays z) A && (not b && list_all (stays z) B))
-        (is_before c t y z q) ∙ and-false (list_all (stays z) A))) in
+    (is_before c t y z q) ∙ and-false (list_all (stays z) A))) in
     let p : ℕ → Bool = λ z. list_all (stays z) S in
     ap (find p) cut ∙ find_first p A y B (every_weaker (λ x. f y < f x) (λ x. p x ≡ false) fails A front) passed
 
@@ -90,7 +92,7 @@ swept_pick c picks t n w p =
     let place = p.0 in
     let least = w (map (choice c t) S) place (subst (λ n. place < n) (sym (length-map S (choice c t))) p.1) p.3 in
     ap (option_map (name t)) (swept_at c t place (subst (λ ns. IsFirstLeast ns place)
-        (map_map (choice c t) (λ (q : Choice). q.cost) S) least) p.1) ∙ ap Some p.2
+    (map_map (choice c t) (λ (q : Choice). q.cost) S) least) p.1) ∙ ap Some p.2
 
 when_swept : (c : Settings) (picks : List Choice → ℕ → Type 0) (t : Trace) (o : Option Service) → Sweeps picks
     → WhenStarted (λ s. IsPick c picks t (service_name s)) o → WhenStarted (λ s. IsSwept c t (service_name s)) o

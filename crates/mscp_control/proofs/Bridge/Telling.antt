@@ -26,8 +26,12 @@ agrees_same : {K : Type 0} (c : Settings) (t : Trace) (h h' : Holdings K) → Ag
     → line_of h' ≡ record (line_of h) { begun = h'.begun } → h'.untaken ≡ h.untaken → Agrees c t h'
 agrees_same {K} c t h h' a e u =
     record {
-      follows = record { known = a.follows.known; waits = ap (λ (l : Line K). l.waiting) e ∙ a.follows.waits; ends =
-          u ∙ a.follows.ends };
+      follows = record {
+        known = a.follows.known;
+        waits = ap (λ (l : Line K). l.waiting) e ∙ a.follows.waits;
+        ends =
+            u ∙ a.follows.ends;
+      };
       driven = subst (Driven c t) (sym (ap (λ (l : Line K). l.drives) e)) a.driven;
     }
 
@@ -53,7 +57,7 @@ tells_again : {K : Type 0} (c : Settings) (picks : List Choice → ℕ → Type 
 tells_again c picks calls up h h' y n a e b k =
     let t = history calls in
     let one : y ≡ b.1 = one_waits t y b.1 a.follows.known.steady.apart k.waits b.3.is.waits
-        (k.same n e ∙ sym (reference_of b.3)) in
+    (k.same n e ∙ sym (reference_of b.3)) in
     k.own ∙ (ap (foretold t) one ∙ sym b.3.now)
 
 tells_begun : {K : Type 0} (c : Settings) (picks : List Choice → ℕ → Type 0) (calls : List Call) (up : Upcoming)
@@ -73,8 +77,15 @@ tells_chosen c picks calls up h h' y (Some n) a b k e =
     let again = tells_again c picks calls up h h' y n a b.0 b.1 k in
     let own = b.1.3 in
     let name : name_of up.command ≡ n = ap (λ (u : Upcoming). u.command.reference) again ∙ own.own in
-    inr (b.1.0, b.1.1, b.1.2, own.is, own.own ∙ sym name, subst (IsPick c picks (history (take b.1.2 calls))) (sym name)
-        (own.chosen (ap (λ (u : Upcoming). nat_eq u.done 0) (sym again) ∙ e)))
+    inr (
+      b.1.0,
+      b.1.1,
+      b.1.2,
+      own.is,
+      own.own ∙ sym name,
+      subst (IsPick c picks (history (take b.1.2 calls))) (sym name)
+          (own.chosen (ap (λ (u : Upcoming). nat_eq u.done 0) (sym again) ∙ e)),
+    )
 
 tells_holds : {K : Type 0} (c : Settings) (picks : List Choice → ℕ → Type 0) (calls : List Call) (up : Upcoming)
     (h h' : Holdings K) (y : ℕ) (o : Option Name) → Agrees c (history calls) h → Held c picks calls h o
@@ -87,24 +98,24 @@ tells_holds c picks calls up h h' y (Some n) a b k =
     let name : n ≡ name_of up.command = sym b.1.3.own ∙ ap (λ (u : Upcoming). u.command.reference) (sym again) in
     subst (λ u. Holds c picks (calls ++ Begin (Some u) ∷ []) (Some (name_of up.command))) (sym again)
     (subst (λ k. Holds c picks (calls ++ Begin (Some b.1.0) ∷ []) (Some k)) name
-        (holds_again c picks calls n b.1.0 b.1.1 b.1.2 a.follows.known.steady.apart b.1.3))
+    (holds_again c picks calls n b.1.0 b.1.1 b.1.2 a.follows.known.steady.apart b.1.3))
 
 begin_at : {K : Type 0} (picks : List Choice → ℕ → Type 0) (calls : List Call) (up : Upcoming) (h h' : Holdings K)
     (place : ℕ) → Agrees h.settings (history calls) h → IsLegal h.settings (history calls)
     → Holds h.settings picks calls h.begun → BeginsAt picks (line_of h) up (line_of h') place → h'.untaken ≡ h.untaken
-        → Turned h.settings picks calls (Begin (Some up)) h'
+    → Turned h.settings picks calls (Begin (Some up)) h'
 begin_at {K} picks calls up h h' place a legal b s u =
     let c = h.settings in
     let t = history calls in
     let y = waiting_at t place in
     let next : IsNext picks c.budget h.drives (map (held_of t) (waiting t)) h.begun place =
-        subst (λ ws. IsNext picks c.budget h.drives ws h.begun place) a.follows.waits s.next in
+    subst (λ ws. IsNext picks c.budget h.drives ws h.begun place) a.follows.waits s.next in
     let both = next_held c picks t h.drives h.begun place a.driven next in
     let inside = both.0.inside in
     let read = reads c t h.drives h.waiting place a.driven a.follows.waits inside in
     let own : up ≡ foretold t y = s.told ∙ ((λ i. upcoming_of (read.at i) (read.own i)) ∙ told_held c t y) in
     let kept : h'.begun ≡ Some (reference t y) = ap (λ (l : Line K). l.begun) s.left
-        ∙ ap (λ (r : Record). Some r.command.reference) read.own in
+    ∙ ap (λ (r : Record). Some r.command.reference) read.own in
     let tells : Tells c picks calls up h h' y = record {
       waits = waits_at t place inside;
       own = own;
@@ -116,10 +127,13 @@ begin_at {K} picks calls up h h' place a legal b s u =
     } in
     let same = begin_same calls (Some up) in
     let chosen : (q : Bool) → nat_eq up.done 0 ≡ q
-        → IfSome (if q then Some (name_of up.command) else None) (IsChosen (IsPick c picks) calls) =
+    → IfSome (if q then Some (name_of up.command) else None) (IsChosen (IsPick c picks) calls) =
     λ q. elim q as (λ q. nat_eq up.done 0 ≡ q → IfSome (if q then Some (name_of up.command) else None)
-        (IsChosen (IsPick c picks) calls)) [ true ↦ λ e.
-        tells_chosen c picks calls up h h' y h.begun a (refl, b) tells e | false ↦ λ e. tt ] in
+    (IsChosen (IsPick c picks) calls)) [
+      | true ↦ λ e.
+          tells_chosen c picks calls up h h' y h.begun a (refl, b) tells e
+      | false ↦ λ e. tt
+    ] in
     record {
       legal = subst (IsLegal c) (sym same) legal;
       agrees = subst (λ v. Agrees c v h') (sym same)
@@ -135,7 +149,7 @@ begin_at {K} picks calls up h h' place a legal b s u =
 begin_none : {K : Type 0} (picks : List Choice → ℕ → Type 0) (calls : List Call) (h h' : Holdings K)
     → Agrees h.settings (history calls) h → IsLegal h.settings (history calls) → NothingBegun calls
     → h.waiting ≡ [] → h.begun ≡ None → line_of h' ≡ line_of h → h'.untaken ≡ h.untaken
-        → Turned h.settings picks calls (Begin None) h'
+    → Turned h.settings picks calls (Begin None) h'
 begin_none {K} picks calls h h' a legal nothing e n l u =
     let c = h.settings in
     let t = history calls in
@@ -155,8 +169,8 @@ begin_none {K} picks calls h h' a legal nothing e n l u =
 pub begin : {K : Type 0} (picks : List Choice → ℕ → Type 0) (calls : List Call) (upcoming : Option Upcoming)
     (h h' : Holdings K) → Agrees h.settings (history calls) h → IsLegal h.settings (history calls)
     → Holds h.settings picks calls h.begun → Foretells picks h upcoming h'
-        → Turned h.settings picks calls (Begin upcoming) h'
+    → Turned h.settings picks calls (Begin upcoming) h'
 begin picks calls None h h' a legal b r =
     begin_none picks calls h h' a legal (subst (Holds h.settings picks calls) r.begins.1 b) r.begins.0 r.begins.1
-        r.begins.2 r.untaken
+    r.begins.2 r.untaken
 begin picks calls (Some up) h h' a legal b r = begin_at picks calls up h h' r.begins.0 a legal b r.begins.1 r.untaken

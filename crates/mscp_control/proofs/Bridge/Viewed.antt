@@ -48,13 +48,13 @@ filter_places p q g a (x ∷ xs) h =
     let gx : g a ≡ x = subst (λ j. g j ≡ x) at here.0 in
     let px : p x ≡ q a = subst (λ j. p x ≡ q j) at here.1 in
     let rest = filter_places p q g (a + 1) xs (λ i l.
-        subst (λ j. (g j ≡ get_or xs i 0) × (p (get_or xs i 0) ≡ q j)) (omega arith) (h (suc i) (omega arith))) in
+    subst (λ j. (g j ≡ get_or xs i 0) × (p (get_or xs i 0) ≡ q j)) (omega arith) (h (suc i) (omega arith))) in
     ap (λ b. cond b (x ∷ filter p xs) (filter p xs)) px
     ∙ (ap (λ l. cond (q a) (x ∷ l) l) rest
     ∙ elim (q a) as (λ b. cond b (x ∷ map g (filter q (range_with_len (a + 1) (length xs))))
-        (map g (filter q (range_with_len (a + 1) (length xs))))
-        ≡ map g (cond b (a ∷ filter q (range_with_len (a + 1) (length xs)))
-        (filter q (range_with_len (a + 1) (length xs)))))
+    (map g (filter q (range_with_len (a + 1) (length xs))))
+    ≡ map g (cond b (a ∷ filter q (range_with_len (a + 1) (length xs)))
+    (filter q (range_with_len (a + 1) (length xs)))))
     [ true ↦ ap (λ y. y ∷ map g (filter q (range_with_len (a + 1) (length xs)))) (sym gx) | false ↦ refl ])
 
 -- those in front of a place
@@ -62,8 +62,8 @@ front_held : (t : Trace) (place : ℕ) → place < length (waiting t)
     → earlier t (waiting_at t place) ≡ take place (waiting t)
 front_held t place l =
     let cut = cut_at t place l in earlier_is t (waiting_at t place) (take place (waiting t))
-        (drop (place + 1) (waiting t)) (cut_of t (take place (waiting t)) (waiting_at t place)
-        (drop (place + 1) (waiting t)) cut)
+    (drop (place + 1) (waiting t)) (cut_of t (take place (waiting t)) (waiting_at t place)
+    (drop (place + 1) (waiting t)) cut)
 
 free_held : (t : Trace) (place : ℕ) → place < length (waiting t)
     → is_free t (waiting_at t place) ≡ records.is_free (held_of t (waiting_at t place))
@@ -74,17 +74,17 @@ free_held t place l =
     let keeps : Record → Bool = λ z. not (records.fences (held_of t y) z) in
     ap (list_all (λ z. not (fences t y z))) (front_held t place l)
     ∙ (sym (list_all-map keeps (held_of t) (take place (waiting t)))
-        ∙ ap (list_all keeps) (sym (take-map (held_of t) place (waiting t))))
+    ∙ ap (list_all keeps) (sym (take-map (held_of t) place (waiting t))))
 
 affordable_held : (c : Settings) (t : Trace) (place : ℕ) → place < length (waiting t)
     → is_affordable c t (waiting_at t place) ≡ records.is_affordable c.budget (held_of t (waiting_at t place))
-        (take place (map (held_of t) (waiting t)))
+    (take place (map (held_of t) (waiting t)))
 affordable_held c t place l =
     let w = weight t (waiting_at t place) in
     let may : Record → Bool = λ z. nat_le (z.passed + w) c.budget in
     ap (list_all (λ x. nat_le (passed t x + w) c.budget)) (front_held t place l)
     ∙ (sym (list_all-map may (held_of t) (take place (waiting t)))
-        ∙ ap (list_all may) (sym (take-map (held_of t) place (waiting t))))
+    ∙ ap (list_all may) (sym (take-map (held_of t) place (waiting t))))
 
 -- where nothing is in service, what may start is what the records say
 pub startable_held : (c : Settings) (t : Trace) (place : ℕ) → place < length (waiting t) → is_idle t ≡ true
@@ -107,7 +107,7 @@ startable_places c t idle =
     let rs = map (held_of t) W in
     let q = is_open_at c.budget rs in
     filter_places (is_startable c t) q (waiting_at t) 0 W
-        (λ i l. let z : 0 + i ≡ i = omega arith in (ap (waiting_at t) z, startable_held c t i l idle ∙ ap q (sym z)))
+    (λ i l. let z : 0 + i ≡ i = omega arith in (ap (waiting_at t) z, startable_held c t i l idle ∙ ap q (sym z)))
     ∙ ap (λ n. map (waiting_at t) (filter q (range_with_len 0 n))) (sym (length-map W (held_of t)))
 
 -- what a picker sees of a record is what it sees of its command
@@ -117,7 +117,7 @@ choice_held c t y = refl
 
 choice_at : (c : Settings) (t : Trace) (ds : List Drive) (place : ℕ) → Driven c t ds → place < length (waiting t)
     → choice_of (drive_at ds (map (held_of t) (waiting t)) place) (record_at (map (held_of t) (waiting t)) place)
-        ≡ choice c t (waiting_at t place)
+    ≡ choice c t (waiting_at t place)
 choice_at c t ds place d l =
     let y = waiting_at t place in
     let known = All-from_recursion (λ x. IsConfigured c (command t x)) (waiting t) d.configured place 0 l in
@@ -131,12 +131,12 @@ view_held c t ds d idle =
     let rs = map (held_of t) (waiting t) in
     let places = open_places c.budget rs in
     let same : ℕ → Type 0 = λ place. choice c t (waiting_at t place)
-        ≡ choice_of (drive_at ds rs place) (record_at rs place) in
+    ≡ choice_of (drive_at ds rs place) (record_at rs place) in
     ap (map (choice c t)) (startable_places c t idle)
     ∙ (map_map (waiting_at t) (choice c t) places
     ∙ map_on (λ place. choice c t (waiting_at t place)) (λ place. choice_of (drive_at ds rs place) (record_at rs place))
-        places
+    places
     (every_kept same (is_open_at c.budget rs) (range_with_len 0 (length rs))
     (every_weaker (λ place. (0 ≤ place) × (place < 0 + length rs)) same
     (λ place b. sym (choice_at c t ds place d (omega (arith, b, length-map (waiting t) (held_of t)))))
-        (range_with_len 0 (length rs)) (range_below 0 (length rs)))))
+    (range_with_len 0 (length rs)) (range_below 0 (length rs)))))

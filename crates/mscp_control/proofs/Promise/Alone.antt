@@ -23,9 +23,9 @@ pub one_served : (t : Trace) (xs : List ℕ) → Single t xs → length (filter 
 one_served t [] h = omega arith
 one_served t (x ∷ xs) h =
     let both : (b : Bool) → in_service t x ≡ b → length
-        (cond b (x ∷ filter (in_service t) xs) (filter (in_service t) xs)) ≤ 1 =
+    (cond b (x ∷ filter (in_service t) xs) (filter (in_service t) xs)) ≤ 1 =
     λ b. elim b as (λ b. in_service t x ≡ b → length (cond b (x ∷ filter (in_service t) xs) (filter (in_service t) xs))
-        ≤ 1) [
+    ≤ 1) [
       | true ↦ λ e. subst (λ zs. length (x ∷ zs) ≤ 1) (sym (others_idle t x xs (ltb-true 0 (done t x) e) h.0))
           (omega arith)
       | false ↦ λ e. one_served t xs h.1
@@ -38,7 +38,7 @@ unfolding is_startable is_free
 first_starts c t x rest e idle =
     let none : earlier t x ≡ [] = earlier_is t x [] rest (cut_of t [] x rest e) in
     let Starts : List ℕ → Type 0 = λ zs. (is_idle t && list_all (λ z. not (fences t x z)) zs
-        && list_all (λ z. nat_le (passed t z + toll t x) c.budget) zs) ≡ true in
+    && list_all (λ z. nat_le (passed t z + toll t x) c.budget) zs) ≡ true in
     subst Starts (sym none) (ap (λ b. b && true && true) idle)
 
 first_of : (x : ℕ) (ws : List ℕ) → slice_get ws 0 ≡ Some x → (rest : List ℕ) × (ws ≡ x ∷ rest)

@@ -32,11 +32,11 @@ unfolding figure
 figure_at c t A x B e =
     let k = cut_of t A x B e in
     let w = (every_parts (λ z. is_waiting t z ≡ true) A (x ∷ B)
-        (subst (λ l. AllByRecursion (λ z. is_waiting t z ≡ true) l) e (waiting_waits t))).1.0 in
+    (subst (λ l. AllByRecursion (λ z. is_waiting t z ≡ true) l) e (waiting_waits t))).1.0 in
     let F : List ℕ → List ℕ → ℕ = λ P Q. cond (in_service t x) (left t x)
-        (sum_by (left t) P + working t Q + (c.budget - passed t x) + left t x) in
+    (sum_by (left t) P + working t Q + (c.budget - passed t x) + left t x) in
     ap (λ b. cond b (F (earlier t x) (later t x)) 0) w
-        ∙ (ap (λ l. F l (later t x)) (earlier_is t x A B k) ∙ ap (λ l. F A l) (later_is t x A B k))
+    ∙ (ap (λ l. F l (later t x)) (earlier_is t x A B k) ∙ ap (λ l. F A l) (later_is t x A B k))
 
 pub working_append : (t : Trace) (A B : List ℕ) → working t (A ++ B) ≡ working t A + working t B
 working_append t A B = ap (sum_by (left t)) (filter-append (in_service t) A B)
@@ -98,9 +98,11 @@ own_left t t' s y e is u =
 own_working : (t t' : Trace) (s : Service) (y : ℕ) → record_of t' y ≡ served (record_of t y)
     → working t' (cond (is_some s.ended) [] (y ∷ [])) ≡ sum_by (left t') (cond (is_some s.ended) [] (y ∷ []))
 own_working t t' s y e =
-    elim (is_some s.ended) as (λ b. working t' (cond b [] (y ∷ [])) ≡ sum_by (left t') (cond b [] (y ∷ [])))
-    [ true ↦ refl | false ↦ ap (λ b. sum_by (left t') (cond b (y ∷ []) []))
-        (lt-ltb 0 (done t' y) (let d = ap (λ (r : Figured). r.done) e in omega (arith, d))) ]
+    elim (is_some s.ended) as (λ b. working t' (cond b [] (y ∷ [])) ≡ sum_by (left t') (cond b [] (y ∷ []))) [
+      | true ↦ refl
+      | false ↦ ap (λ b. sum_by (left t') (cond b (y ∷ []) []))
+          (lt-ltb 0 (done t' y) (let d = ap (λ (r : Figured). r.done) e in omega (arith, d)))
+    ]
 
 pub every_split : (P : ℕ → Type 0) (xs : List ℕ) → ((A : List ℕ) (x : ℕ) (B : List ℕ) → xs ≡ A ++ x ∷ B → P x)
     → AllByRecursion P xs
@@ -133,8 +135,15 @@ working_after : (t t' : Trace) (s : Service) (y : ℕ) (back B : List ℕ) → r
     ≡ sum_by (left t') (cond (is_some s.ended) [] (y ∷ []))
 working_after t t' s y back B e b k =
     let own : List ℕ = cond (is_some s.ended) [] (y ∷ []) in
-    omega (arith, working_append t' B (own ++ back), working_append t' own back, working_idle t' B b, working_idle t'
-        back k, own_working t t' s y e)
+    omega (
+      arith,
+      working_append t' B (own ++ back),
+      working_append t' own back,
+      working_idle t' B b,
+      working_idle t'
+          back k,
+      own_working t t' s y e,
+    )
 
 pub idle_stays : (t t' : Trace) (n : ℕ) (xs : List ℕ)
     → AllByRecursion (λ x. record_of t' x ≡ tolled n (record_of t x)) xs → AllByRecursion (λ x. done t x ≡ 0) xs
@@ -174,24 +183,24 @@ falls_front c t m s front y back f A x B q =
     let Same : ℕ → Type 0 = λ z. record_of t' z ≡ tolled (step_toll t s y) (record_of t z) in
     let new = every_parts Same A (x ∷ B) (subst (λ l. AllByRecursion Same l) q ch.at_front) in
     let idle = every_parts (λ z. done t z ≡ 0) A (x ∷ B)
-        (subst (λ l. AllByRecursion (λ z. done t z ≡ 0) l) q f.idle_front) in
+    (subst (λ l. AllByRecursion (λ z. done t z ≡ 0) l) q f.idle_front) in
     let e : waiting t ≡ A ++ x ∷ (B ++ y ∷ back) =
-        f.is ∙ (ap (λ l. l ++ y ∷ back) q ∙ append_assoc A (x ∷ B) (y ∷ back)) in
+    f.is ∙ (ap (λ l. l ++ y ∷ back) q ∙ append_assoc A (x ∷ B) (y ∷ back)) in
     let e' : waiting t' ≡ A ++ x ∷ (B ++ (own ++ back)) =
-        f.after ∙ (ap (λ l. l ++ (own ++ back)) q ∙ append_assoc A (x ∷ B) (own ++ back)) in
+    f.after ∙ (ap (λ l. l ++ (own ++ back)) q ∙ append_assoc A (x ∷ B) (own ++ back)) in
     let old = figure_idle c t A x (B ++ y ∷ back) e idle.1.0 in
     let now = figure_idle c t' A x (B ++ (own ++ back)) e' (ap (λ (r : Figured). r.done) new.1.0 ∙ idle.1.0) in
     let sA = left_all t t' (step_toll t s y) A new.0 in
     let lx : left t' x ≡ left t x = ap record_left new.1.0 in
     let w = working_before c t m s front y back B f idle.1.1 in
     let w' = working_after t t' s y back B ch.at_own (idle_stays t t' (step_toll t s y) B new.1.1 idle.1.1)
-        (idle_same t t' back ch.at_back f.idle_back) in
+    (idle_same t t' back ch.at_back f.idle_back) in
     let o = own_left t t' s y ch.at_own f.more f.unfinished in
     let affordable : s.started ≡ true → passed t x + toll t y ≤ c.budget =
-        λ h. (every_parts (λ z. passed t z + toll t y ≤ c.budget) A (x ∷ B)
-        (subst (λ l. AllByRecursion (λ z. passed t z + toll t y ≤ c.budget) l) q (f.affordable h))).1.0 in
+    λ h. (every_parts (λ z. passed t z + toll t y ≤ c.budget) A (x ∷ B)
+    (subst (λ l. AllByRecursion (λ z. passed t z + toll t y ≤ c.budget) l) q (f.affordable h))).1.0 in
     let pays = front_pays s.started (sum_by (left t) A) (left t x) (left t y) (sum_by (left t') own) (toll t y) c.budget
-        (passed t x) (passed t' x) (ap (λ (r : Figured). r.passed) new.1.0) affordable o (omega arith) in
+    (passed t x) (passed t' x) (ap (λ (r : Figured). r.passed) new.1.0) affordable o (omega arith) in
     omega (arith, old, now, sA, lx, w, w', pays)
 
 pub falls_back : (c : Settings) (t : Trace) (m : Moment) (s : Service) (front : List ℕ) (y : ℕ) (back : List ℕ)
@@ -204,12 +213,12 @@ falls_back c t m s front y back f A x B q =
     let Same : ℕ → Type 0 = λ z. record_of t' z ≡ record_of t z in
     let new = every_parts Same A (x ∷ B) (subst (λ l. AllByRecursion Same l) q ch.at_back) in
     let idle = every_parts (λ z. done t z ≡ 0) A (x ∷ B)
-        (subst (λ l. AllByRecursion (λ z. done t z ≡ 0) l) q f.idle_back) in
+    (subst (λ l. AllByRecursion (λ z. done t z ≡ 0) l) q f.idle_back) in
     let e : waiting t ≡ (front ++ y ∷ A) ++ x ∷ B =
-        f.is ∙ (ap (λ l. front ++ y ∷ l) q ∙ sym (append_assoc front (y ∷ A) (x ∷ B))) in
+    f.is ∙ (ap (λ l. front ++ y ∷ l) q ∙ sym (append_assoc front (y ∷ A) (x ∷ B))) in
     let e' : waiting t' ≡ (front ++ (own ++ A)) ++ x ∷ B =
-        f.after ∙ (ap (λ l. front ++ (own ++ l)) q
-        ∙ (ap (λ l. front ++ l) (sym (append_assoc own A (x ∷ B))) ∙ sym (append_assoc front (own ++ A) (x ∷ B)))) in
+    f.after ∙ (ap (λ l. front ++ (own ++ l)) q
+    ∙ (ap (λ l. front ++ l) (sym (append_assoc own A (x ∷ B))) ∙ sym (append_assoc front (own ++ A) (x ∷ B)))) in
     let old = figure_idle c t (front ++ y ∷ A) x B e idle.1.0 in
     let now = figure_idle c t' (front ++ (own ++ A)) x B e' (ap (λ (r : Figured). r.done) new.1.0 ∙ idle.1.0) in
     let sF = left_all t t' (step_toll t s y) front ch.at_front in
@@ -220,7 +229,7 @@ falls_back c t m s front y back f A x B q =
     let s4 = sum_by-append (left t') own A in
     let lx : left t' x ≡ left t x = ap record_left new.1.0 in
     let px : c.budget - passed t' x ≡ c.budget - passed t x =
-        ap (λ (r : Figured). c.budget - r.passed) new.1.0 in
+    ap (λ (r : Figured). c.budget - r.passed) new.1.0 in
     let w = working_idle t B idle.1.1 in
     let w' = working_idle t' B (idle_same t t' B new.1.1 idle.1.1) in
     let o = own_left t t' s y ch.at_own f.more f.unfinished in
@@ -233,17 +242,17 @@ figure_left c t A x B e =
     let h = figure_at c t A x B e in
     let sum = sum_by (left t) A + working t B + (c.budget - passed t x) + left t x in
     let both : (b : Bool) → left t x ≤ cond b (left t x) sum =
-        λ b. elim b as (λ b. left t x ≤ cond b (left t x) sum) [ true ↦ omega arith | false ↦ omega arith ] in
+    λ b. elim b as (λ b. left t x ≤ cond b (left t x) sum) [ true ↦ omega arith | false ↦ omega arith ] in
     subst (λ n. left t x ≤ n) (sym h) (both (in_service t x))
 
 pub falls_own : (c : Settings) (t : Trace) (m : Moment) (s : Service) (front : List ℕ) (y : ℕ) (back : List ℕ)
     → Fit c t m s front y back → (b : Bool) → is_some s.ended ≡ b → figure c (t ++ m ∷ []) y < figure c t y
 falls_own c t m s front y back f true is =
     let below = (every_parts (λ z. z < length t) front (y ∷ back)
-        (subst (λ l. AllByRecursion (λ z. z < length t) l) f.is (waiting_below t))).1.0 in
+    (subst (λ l. AllByRecursion (λ z. z < length t) l) f.is (waiting_below t))).1.0 in
     let gone : is_waiting (t ++ m ∷ []) y ≡ false =
     is_waiting_before t m y below ∙ and_right (is_waiting t y) (not (ends_in (reference t y) m.1))
-        (kept_own t m s y f.serves f.same ∙ ap not is) in
+    (kept_own t m s y f.serves f.same ∙ ap not is) in
     let zero = figure_gone c (t ++ m ∷ []) y gone in
     let low = figure_left c t front y back f.is in
     let u = f.unfinished in
@@ -266,7 +275,9 @@ step_falls c t m s front y back f x h =
     let P : ℕ → Type 0 = λ x. figure c (t ++ m ∷ []) x < figure c t x in
     All-contains P (waiting t) x
     (All-from_recursion P (waiting t) (subst (λ l. AllByRecursion P l) (sym f.is)
-    (every_append P front (y ∷ back) (every_split P front (falls_front c t m s front y back f))
-        (falls_own c t m s front y back f (is_some s.ended) refl, every_split P back
-        (falls_back c t m s front y back f)))))
+    (every_append P front (y ∷ back) (every_split P front (falls_front c t m s front y back f)) (
+      falls_own c t m s front y back f (is_some s.ended) refl,
+      every_split P back
+          (falls_back c t m s front y back f),
+    ))))
     h

@@ -59,7 +59,7 @@ front_passed c t m s k y front back st x l w d h =
       | true ↦ λ e.
           passed_front c t m s k y front back st e x h
           (ap (λ b. b && is_waiting t x && nat_eq (done t x) 0) (lt-ltb x (length t) l)
-              ∙ (ap (λ b. b && nat_eq (done t x) 0) w ∙ eq-eqb (done t x) 0 d))
+          ∙ (ap (λ b. b && nat_eq (done t x) 0) w ∙ eq-eqb (done t x) 0 d))
       | false ↦ λ e. none_starts t m x (λ r. ap (service_starts r) st.serves.is
           ∙ and_right (nat_eq s.reference r) s.started e) ∙ omega arith
     ] in
@@ -72,7 +72,7 @@ marks c t m s k y front back st idle =
     let at = st.serves.among.at in
     let below = below_parts t y front back at in
     let waits = every_parts (λ z. is_waiting t z ≡ true) front (y ∷ back)
-        (subst (AllByRecursion (λ z. is_waiting t z ≡ true)) at.is (waiting_waits t)) in
+    (subst (AllByRecursion (λ z. is_waiting t z ≡ true)) at.is (waiting_waits t)) in
     let A : ℕ → Type 0 = λ x. (x < length t) × (is_waiting t x ≡ true) in
     let B : ℕ → Type 0 = λ x. A x × (done t x ≡ 0) in
     let C : ℕ → Type 0 = λ x. B x × (x < y) in
@@ -80,17 +80,17 @@ marks c t m s k y front back st idle =
     record {
       at_front = every_weaker (λ x. C x × D x) (λ x. record_of t' x ≡ tolled (step_toll t s y) (record_of t x))
           (λ x h. made_is (weight t' x) (done t' x) (passed t' x) (weight t x) (done t x) (passed t x + step_toll t s y)
-              (weight_before t m x h.0.0.0.0) h.1 (front_passed c t m s k y front back st x h.0.0.0.0 h.0.0.0.1 h.0.0.1
-              h.0.1)) front
+          (weight_before t m x h.0.0.0.0) h.1 (front_passed c t m s k y front back st x h.0.0.0.0 h.0.0.0.1 h.0.0.1
+          h.0.1)) front
           (every_both C D front (every_both B (λ x. x < y) front
-              (every_both A (λ x. done t x ≡ 0) front
-              (every_both (λ x. x < length t) (λ x. is_waiting t x ≡ true) front below.0 waits.0) idle) at.before)
-              st.changes.front_done);
+          (every_both A (λ x. done t x ≡ 0) front
+          (every_both (λ x. x < length t) (λ x. is_waiting t x ≡ true) front below.0 waits.0) idle) at.before)
+          st.changes.front_done);
       at_own = made_is (weight t' y) (done t' y) (passed t' y) (weight t y) (done t y + 1) (passed t y)
           (weight_before t m y below.1.0) st.changes.own_done (passed_behind c t m s k y front back st y (omega arith));
       at_back = every_weaker (λ x. ((x < length t) × (y < x)) × D x) (λ x. record_of t' x ≡ record_of t x)
           (λ x h. made_is (weight t' x) (done t' x) (passed t' x) (weight t x) (done t x) (passed t x)
-              (weight_before t m x h.0.0) h.1 (passed_behind c t m s k y front back st x (omega (arith, h.0.1)))) back
+          (weight_before t m x h.0.0) h.1 (passed_behind c t m s k y front back st x (omega (arith, h.0.1)))) back
           (every_both (λ x. (x < length t) × (y < x)) D back
-              (every_both (λ x. x < length t) (λ x. y < x) back below.1.1 at.behind) st.changes.back_done);
+          (every_both (λ x. x < length t) (λ x. y < x) back below.1.1 at.behind) st.changes.back_done);
     }

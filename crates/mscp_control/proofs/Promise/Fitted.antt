@@ -24,7 +24,7 @@ fit_of c t m s k y front back st steady =
     let w = st.serves.among.at.is in
     let idle = idle_others c t y front back w steady.single st.served.next in
     let unfinished = every_parts (λ x. done t x < weight t x) front (y ∷ back)
-        (subst (AllByRecursion (λ x. done t x < weight t x)) w steady.unfinished) in
+    (subst (AllByRecursion (λ x. done t x < weight t x)) w steady.unfinished) in
     record {
       is = w;
       after = st.changes.waits;
@@ -46,4 +46,4 @@ leaves_of t m e =
     let t' = t ++ m ∷ [] in
     every_weaker (λ x. x < length t) (λ x. record_of t' x ≡ record_of t x)
     (λ x l. made_is _ _ _ _ _ _ (weight_before t m x l) (done_kept t m x e l)
-        (none_starts t m x (λ r. ap (service_starts r) e))) (waiting t) (waiting_below t)
+    (none_starts t m x (λ r. ap (service_starts r) e))) (waiting t) (waiting_below t)

@@ -36,20 +36,20 @@ pub collect_more : {X : Type 0} (seen : Trace → Moment → List X) (t : Trace)
 unfolding collect
 collect_more seen t m =
     let before = flat_on (λ i. seen (take i (t ++ m ∷ [])) (moment (t ++ m ∷ []) i)) (λ i. seen (take i t) (moment t i))
-        (positions t)
+    (positions t)
     (every_weaker (λ i. (0 ≤ i) × (i < 0 + length t))
-        (λ i. seen (take i (t ++ m ∷ [])) (moment (t ++ m ∷ []) i) ≡ seen (take i t) (moment t i))
+    (λ i. seen (take i (t ++ m ∷ [])) (moment (t ++ m ∷ []) i) ≡ seen (take i t) (moment t i))
     (λ i h. ap (λ u. seen u (moment (t ++ m ∷ []) i)) (take-append-le i t (m ∷ []) (omega arith))
-        ∙ ap (seen (take i t)) (moment_before t m i (omega arith)))
+    ∙ ap (seen (take i t)) (moment_before t m i (omega arith)))
     (positions t) (range_below 0 (length t))) in
     let last : seen (take (length t) (t ++ m ∷ [])) (moment (t ++ m ∷ []) (length t)) ≡ seen t m =
     ap (λ u. seen u (moment (t ++ m ∷ []) (length t))) (take_at t (m ∷ []) (length t) refl)
-        ∙ ap (seen t) (moment_last t m) in
+    ∙ ap (seen t) (moment_last t m) in
     ap (flat_map (λ i. seen (take i (t ++ m ∷ [])) (moment (t ++ m ∷ []) i))) (positions_more t m)
     ∙ (flat_map-append (λ i. seen (take i (t ++ m ∷ [])) (moment (t ++ m ∷ []) i)) (positions t) (length t ∷ [])
     ∙ (ap (λ l. l ++ (seen (take (length t) (t ++ m ∷ [])) (moment (t ++ m ∷ []) (length t)) ++ [])) before
     ∙ ap (λ l. flat_map (λ i. seen (take i t) (moment t i)) (positions t) ++ l)
-        (append-nil (seen (take (length t) (t ++ m ∷ [])) (moment (t ++ m ∷ []) (length t))) ∙ last)))
+    (append-nil (seen (take (length t) (t ++ m ∷ [])) (moment (t ++ m ∷ []) (length t))) ∙ last)))
 
 pub last_or-append : {X : Type 0} (xs ys : List X) (d : X) → last_or (xs ++ ys) d ≡ last_or ys (last_or xs d)
 last_or-append [] ys d = refl
@@ -90,9 +90,9 @@ unfolding is_waiting
 is_waiting_before t m x h =
     let E : Command → Moment → Bool = λ k n. ends_in k.reference n.1 in
     ap (λ (n : Moment). queues n.1 && not (list_any (E (command (t ++ m ∷ []) x)) (drop (x + 1) (t ++ m ∷ []))))
-        (moment_before t m x h)
+    (moment_before t m x h)
     ∙ ap (λ (k : Command). queues (moment t x).1 && not (list_any (E k) (drop (x + 1) (t ++ m ∷ []))))
-        (command_before t m x h)
+    (command_before t m x h)
     ∙ ap (λ l. queues (moment t x).1 && not (list_any (E (command t x)) l)) (drop_before t m x h)
     ∙ ap (λ b. queues (moment t x).1 && not b) (list_any-append (E (command t x)) (drop (x + 1) t) (m ∷ []))
     ∙ still (queues (moment t x).1) (list_any (E (command t x)) (drop (x + 1) t)) (E (command t x) m)
@@ -115,16 +115,16 @@ pub waiting_more : (t : Trace) (m : Moment) → waiting (t ++ m ∷ [])
 unfolding waiting
 waiting_more t m =
     let before = filter_on (is_waiting (t ++ m ∷ [])) (λ x. is_waiting t x && not (ends_in (reference t x) m.1))
-        (positions t)
+    (positions t)
     (every_weaker (λ x. (0 ≤ x) × (x < 0 + length t))
-        (λ x. is_waiting (t ++ m ∷ []) x ≡ (is_waiting t x && not (ends_in (reference t x) m.1)))
+    (λ x. is_waiting (t ++ m ∷ []) x ≡ (is_waiting t x && not (ends_in (reference t x) m.1)))
     (λ x h. is_waiting_before t m x (omega arith)) (positions t) (range_below 0 (length t))) in
     ap (filter (is_waiting (t ++ m ∷ []))) (positions_more t m)
     ∙ (filter-append (is_waiting (t ++ m ∷ [])) (positions t) (length t ∷ [])
     ∙ (ap (λ l. l ++ filter (is_waiting (t ++ m ∷ [])) (length t ∷ []))
-        (before ∙ sym (filter_filter (λ x. not (ends_in (reference t x) m.1)) (is_waiting t) (positions t)))
+    (before ∙ sym (filter_filter (λ x. not (ends_in (reference t x) m.1)) (is_waiting t) (positions t)))
     ∙ ap (λ b. filter (λ x. not (ends_in (reference t x) m.1)) (filter (is_waiting t) (positions t))
-        ++ cond b (length t ∷ []) []) (is_waiting_last t m)))
+    ++ cond b (length t ∷ []) []) (is_waiting_last t m)))
 
 -- a count of what came after x, at a test of its command
 count_before : (p : Command → Moment → Bool) (t : Trace) (m : Moment) (x : ℕ) → x < length t
@@ -163,11 +163,11 @@ passed_more t m x =
     let before = sum_on (P (t ++ m ∷ [])) (P t) (positions t)
     (every_weaker (λ i. (0 ≤ i) × (i < 0 + length t)) (λ i. P (t ++ m ∷ []) i ≡ P t i)
     (λ i h. ap (λ u. passed_at u (moment (t ++ m ∷ []) i) x) (take-append-le i t (m ∷ []) (omega arith))
-        ∙ ap (λ n. passed_at (take i t) n x) (moment_before t m i (omega arith)))
+    ∙ ap (λ n. passed_at (take i t) n x) (moment_before t m i (omega arith)))
     (positions t) (range_below 0 (length t))) in
     let last : P (t ++ m ∷ []) (length t) ≡ passed_at t m x =
     ap (λ u. passed_at u (moment (t ++ m ∷ []) (length t)) x) (take_at t (m ∷ []) (length t) refl)
-        ∙ ap (λ n. passed_at t n x) (moment_last t m) in
+    ∙ ap (λ n. passed_at t n x) (moment_last t m) in
     ap (sum_by (P (t ++ m ∷ []))) (positions_more t m)
     ∙ (sum_by_push (P (t ++ m ∷ [])) (positions t) (length t)
     ∙ (ap (λ k. k + P (t ++ m ∷ []) (length t)) before ∙ ap (λ k. sum_by (P t) (positions t) + k) last))
@@ -190,9 +190,9 @@ unfolding untaken
 untaken_more c t m e h =
     let k = count_by (λ (n : Moment). takes n.1) t in
     let same : count_by (λ (n : Moment). takes n.1) (t ++ m ∷ []) ≡ k =
-        taken_more t m ∙ (ap (λ b. k + cond b 1 0) e ∙ omega arith) in
+    taken_more t m ∙ (ap (λ b. k + cond b 1 0) e ∙ omega arith) in
     ap (λ n. drop n (ends c (t ++ m ∷ []))) same ∙ (ap (drop k) (ends_more c t m)
-        ∙ drop-append-le k (ends c t) (ends_at c t m) h)
+    ∙ drop-append-le k (ends c t) (ends_at c t m) h)
 
 -- ---- steps
 

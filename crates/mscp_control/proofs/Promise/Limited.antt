@@ -43,19 +43,19 @@ limited_step c t m s front y back f h =
     let parts = every_parts Old front (y ∷ back) (subst (AllByRecursion Old) f.is h) in
     let fronts : AllByRecursion New front =
     every_weaker (λ x. (record_of t' x ≡ tolled n (record_of t x)) × (passed t x + n ≤ c.budget)) New
-        (λ x p. let e = ap (λ (r : Figured). r.passed) p.0 in omega (arith, e, p.1)) front
+    (λ x p. let e = ap (λ (r : Figured). r.passed) p.0 in omega (arith, e, p.1)) front
     (every_both (λ x. record_of t' x ≡ tolled n (record_of t x)) (λ x. passed t x + n ≤ c.budget) front
-        f.marks.at_front (paid c t m s front y back f parts.0)) in
+    f.marks.at_front (paid c t m s front y back f parts.0)) in
     let own : New y = let e = ap (λ (r : Figured). r.passed) f.marks.at_own in omega (arith, e, parts.1.0) in
     let backs : AllByRecursion New back =
     every_weaker (λ x. (record_of t' x ≡ record_of t x) × Old x) New
-        (λ x p. let e = ap (λ (r : Figured). r.passed) p.0 in omega (arith, e, p.1)) back
+    (λ x p. let e = ap (λ (r : Figured). r.passed) p.0 in omega (arith, e, p.1)) back
     (every_both (λ x. record_of t' x ≡ record_of t x) Old back f.marks.at_back parts.1.1) in
     subst (AllByRecursion New) (sym f.after)
     (every_append New front (cond (is_some s.ended) [] (y ∷ []) ++ back) fronts
     (every_append New (cond (is_some s.ended) [] (y ∷ [])) back
-        (elim (is_some s.ended) as (λ b. AllByRecursion New (cond b [] (y ∷ []))) [ true ↦ tt | false ↦ (own, tt) ])
-        backs))
+    (elim (is_some s.ended) as (λ b. AllByRecursion New (cond b [] (y ∷ []))) [ true ↦ tt | false ↦ (own, tt) ])
+    backs))
 
 limited_quiet : (c : Settings) (t : Trace) (m : Moment) → service_in m.1 ≡ None → Limited c t (waiting t)
     → Limited c (t ++ m ∷ []) (waiting (t ++ m ∷ []))
@@ -65,12 +65,12 @@ limited_quiet c t m e h =
     let New : ℕ → Type 0 = λ x. passed t' x ≤ c.budget in
     let old : AllByRecursion New (waiting t) =
     every_weaker (λ x. (record_of t' x ≡ record_of t x) × (passed t x ≤ c.budget)) New
-        (λ x p. let e = ap (λ (r : Figured). r.passed) p.0 in omega (arith, e, p.1)) (waiting t)
+    (λ x p. let e = ap (λ (r : Figured). r.passed) p.0 in omega (arith, e, p.1)) (waiting t)
     (every_both (λ x. record_of t' x ≡ record_of t x) (λ x. passed t x ≤ c.budget) (waiting t) (leaves_of t m e) h) in
     let new : New (length t) = omega (arith, passed_last t m) in
     subst (AllByRecursion New) (sym (waiting_more t m))
     (every_append New (filter keep (waiting t)) (cond (queues m.1) (length t ∷ []) [])
-        (every_kept New keep (waiting t) old)
+    (every_kept New keep (waiting t) old)
     (elim (queues m.1) as (λ b. AllByRecursion New (cond b (length t ∷ []) [])) [ true ↦ (new, tt) | false ↦ tt ]))
 
 -- Each right moment keeps it.

@@ -32,7 +32,7 @@ unpassed : (t : Trace) (m : Moment) (x : ℕ) → starters t m x ≡ [] → pass
 unpassed t m x e =
     let z : ℕ = 0 in
     let none : cond (is_unstarted t x) z z ≡ z = elim (is_unstarted t x) as (λ b. cond b z z ≡ z)
-        [ true ↦ refl | false ↦ refl ] in
+    [ true ↦ refl | false ↦ refl ] in
     passed_by_starters t m x [] e ∙ (ap (λ n. passed t x + n) none ∙ omega arith)
 
 -- Where nobody starts, nobody is passed.
@@ -65,11 +65,13 @@ passed_behind c t m s k y front back st x h =
     let a = st.serves.among in
     let P : ℕ → Type 0 = λ z. starts_behind t m x z ≡ false in
     let all : AllByRecursion P (front ++ y ∷ back) =
-    every_append P front (y ∷ back) (behind_other t m s x y st.serves.is st.serves.same front a.before)
-    (and_left (nat_lt x y) (starts_in (reference t y) m.1) (le-ltb x y h), behind_other t m s x y st.serves.is
-        st.serves.same back a.behind) in
+    every_append P front (y ∷ back) (behind_other t m s x y st.serves.is st.serves.same front a.before) (
+      and_left (nat_lt x y) (starts_in (reference t y) m.1) (le-ltb x y h),
+      behind_other t m s x y st.serves.is
+          st.serves.same back a.behind,
+    ) in
     unpassed t m x (starters_at t m x ∙ filter_none (starts_behind t m x) (waiting t)
-        (subst (AllByRecursion P) (sym a.at.is) all))
+    (subst (AllByRecursion P) (sym a.at.is) all))
 
 -- An earlier one that was never served is passed by a start of y, at its toll.
 pub passed_front : (c : Settings) (t : Trace) (m : Moment) (s : Service) (k : Block) (y : ℕ) (front back : List ℕ)
@@ -78,11 +80,11 @@ pub passed_front : (c : Settings) (t : Trace) (m : Moment) (s : Service) (k : Bl
 passed_front c t m s k y front back st e x h u =
     let a = st.serves.among in
     let own : starts_behind t m x y ≡ true = ap (λ b. b && starts_in (reference t y) m.1) (lt-ltb x y h)
-        ∙ starts_own t m s y st.serves.is st.serves.same e in
+    ∙ starts_own t m s y st.serves.is st.serves.same e in
     let one : starters t m x ≡ y ∷ [] =
     starters_at t m x ∙ (ap (filter (starts_behind t m x)) a.at.is
     ∙ filter_one (starts_behind t m x) front y back (behind_other t m s x y st.serves.is st.serves.same front a.before)
-        own (behind_other t m s x y st.serves.is st.serves.same back a.behind)) in
+    own (behind_other t m s x y st.serves.is st.serves.same back a.behind)) in
     passed_by_starters t m x (y ∷ []) one
     ∙ (ap (λ b. passed t x + cond b (sum_by (toll t) (y ∷ [])) 0) u
     ∙ ap (λ n. passed t x + n) (sum_by-cons (toll t) y [] ∙ omega arith))

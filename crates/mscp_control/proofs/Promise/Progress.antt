@@ -50,7 +50,7 @@ free_start c t m s r steady e started x w same =
     let other : (x : ℕ) → reference t x ≢ reference t y → P x = λ x n h. absurd (n (h ∙ st.serves.same)) in
     let each : AllByRecursion P (waiting t) = subst (AllByRecursion P) (sym st.serves.among.at.is)
     (every_append P z.2 (y ∷ z.3) (every_weaker (λ x. reference t x ≢ reference t y) P other z.2 st.serves.among.before)
-        ((λ h. free), every_weaker (λ x. reference t x ≢ reference t y) P other z.3 st.serves.among.behind)) in
+    ((λ h. free), every_weaker (λ x. reference t x ≢ reference t y) P other z.3 st.serves.among.behind)) in
     one_of P (waiting t) each x w same
 
 free_starts : (c : Settings) (t : Trace) (m : Moment) → IsRight c t m.0 m.1 → Steady c t
@@ -58,7 +58,7 @@ free_starts : (c : Settings) (t : Trace) (m : Moment) → IsRight c t m.0 m.1 �
 free_starts c t m r steady =
     let both : (o : Option Service) → service_in m.1 ≡ o → WhenStarted (IsFreeStart t) o =
     λ o. elim o as (λ o. service_in m.1 ≡ o → WhenStarted (IsFreeStart t) o)
-        [ None ↦ λ e. tt | Some s ↦ λ e. free_start c t m s r steady e ] in
+    [ None ↦ λ e. tt | Some s ↦ λ e. free_start c t m s r steady e ] in
     both (service_in m.1) refl
 
 -- ---- who waits
@@ -74,7 +74,7 @@ kept_in p (y ∷ ys) x zero l is e = subst (λ l. Contains l x)
 kept_in p (y ∷ ys) x (suc k) l is e =
     let rest = kept_in p ys x k (omega arith) is e in
     elim (p y) as (λ b. Contains (cond b (y ∷ filter p ys) (filter p ys)) x)
-        [ true ↦ there y x (filter p ys) rest | false ↦ rest ]
+    [ true ↦ there y x (filter p ys) rest | false ↦ rest ]
 
 in_range : (a n i : ℕ) → i < n → Contains (range_with_len a n) (a + i)
 in_range a zero i h = absurd (omega arith)
@@ -82,14 +82,14 @@ in_range a (suc n) zero h = (0, omega arith, omega arith)
 in_range a (suc n) (suc i) h =
     let e : a + 1 + i ≡ a + suc i = omega arith in
     subst (λ x. Contains (range_with_len a (suc n)) x) e
-        (there a (a + 1 + i) (range_with_len (a + 1) n) (in_range (a + 1) n i (omega arith)))
+    (there a (a + 1 + i) (range_with_len (a + 1) n) (in_range (a + 1) n i (omega arith)))
 
 pub waits_in : (t : Trace) (x : ℕ) → is_waiting t x ≡ true → Contains (waiting t) x
 unfolding waiting
 waits_in t x e =
     let z : 0 + x ≡ x = omega arith in
     let h : Contains (positions t) x = subst (λ y. Contains (positions t) y) z
-        (in_range 0 (length t) x (waits_below t x e)) in
+    (in_range 0 (length t) x (waits_below t x e)) in
     kept_in (is_waiting t) (positions t) x h.0 h.1 h.2 e
 
 -- ---- the size of figures
@@ -99,9 +99,9 @@ low c t k x h =
     let P : ℕ → Type 0 = λ x. 1 ≤ figure c t x in
     one_of P (waiting t)
     (every_weaker (λ x. (done t x < weight t x) × (left t x ≤ figure c t x)) P (λ x e. omega (arith, e.0, e.1))
-        (waiting t)
+    (waiting t)
     (every_both (λ x. done t x < weight t x) (λ x. left t x ≤ figure c t x) (waiting t) k.steady.unfinished
-        (every_split (λ x. left t x ≤ figure c t x) (waiting t) (figure_left c t)))) x h
+    (every_split (λ x. left t x ≤ figure c t x) (waiting t) (figure_left c t)))) x h
 
 high : (c : Settings) (t : Trace) → Known c t → (x : ℕ) → Contains (waiting t) x
     → figure c t x + steps_after t x ≤ bound c
@@ -111,15 +111,17 @@ some_waits : (c : Settings) (t : Trace) (x : ℕ) → 1 ≤ figure c t x → Con
 some_waits c t x h =
     let both : (b : Bool) → is_waiting t x ≡ b → Contains (waiting t) x =
     λ b. elim b as (λ b. is_waiting t x ≡ b → Contains (waiting t) x)
-        [ true ↦ λ e. waits_in t x e | false ↦ λ e. absurd (omega (arith, h, figure_gone c t x e)) ] in
+    [ true ↦ λ e. waits_in t x e | false ↦ λ e. absurd (omega (arith, h, figure_gone c t x e)) ] in
     both (is_waiting t x) refl
 
 small : (c : Settings) (t : Trace) → Known c t → (x : ℕ) → figure c t x ≤ bound c
 small c t k x =
     let both : (b : Bool) → is_waiting t x ≡ b → figure c t x ≤ bound c =
-    λ b. elim b as (λ b. is_waiting t x ≡ b → figure c t x ≤ bound c)
-        [ true ↦ λ e. let h = high c t k x (waits_in t x e) in
-        omega (arith, h) | false ↦ λ e. omega (arith, figure_gone c t x e) ] in
+    λ b. elim b as (λ b. is_waiting t x ≡ b → figure c t x ≤ bound c) [
+      | true ↦ λ e. let h = high c t k x (waits_in t x e) in
+          omega (arith, h)
+      | false ↦ λ e. omega (arith, figure_gone c t x e)
+    ] in
     both (is_waiting t x) refl
 
 -- ---- polls
@@ -136,7 +138,7 @@ figure_told : (c : Settings) (t : Trace) → Steady c t → (x : ℕ) → Contai
 figure_told c t steady x w =
     let P : ℕ → Type 0 = λ x. figure_of c t (reference t x) ≡ figure c t x in
     one_of P (waiting t) (every_split P (waiting t)
-        (λ A y B e. figure_of_one c t y A B (alone t y A B steady.apart (cut_of t A y B e)))) x w
+    (λ A y B e. figure_of_one c t y A B (alone t y A B steady.apart (cut_of t A y B e)))) x w
 
 -- what is answered at once makes the ends of its answer
 ends_answered : (c : Settings) (t : Trace) (event : Event) (entry : Entry) → answers entry ≡ true

@@ -41,7 +41,7 @@ passed_past t x h =
     sum_none (λ i. passed_at (take i t) (moment t i) x) (positions t)
     (every_weaker (λ i. (0 ≤ i) × (i < 0 + length t)) (λ i. passed_at (take i t) (moment t i) x ≡ 0)
     (λ i k. passed_at_past (take i t) (moment t i) x (omega (arith, length-take i t))) (positions t)
-        (range_below 0 (length t)))
+    (range_below 0 (length t)))
 
 pub passed_last : (t : Trace) (m : Moment) → passed (t ++ m ∷ []) (length t) ≡ 0
 passed_last t m = passed_more t m (length t) ∙ (ap (λ n. n + passed_at t m (length t))
@@ -64,22 +64,24 @@ earlier_is t x A B k =
     ap (filter (λ z. nat_lt z x)) k.is
     ∙ (filter-append (λ z. nat_lt z x) A (x ∷ B)
     ∙ (ap (λ l. l ++ filter (λ z. nat_lt z x) (x ∷ B))
-        (filter_all (λ z. nat_lt z x) A (every_weaker (λ z. z < x) (λ z. nat_lt z x ≡ true) (λ z h. lt-ltb z x h) A
-        k.before))
-    ∙ (ap (λ l. A ++ l) (filter_none (λ z. nat_lt z x) (x ∷ B)
-        (le-ltb x x (omega arith), every_weaker (λ z. x < z) (λ z. nat_lt z x ≡ false) (λ z h. le-ltb z x (omega arith))
-        B k.behind)) ∙ append-nil A)))
+    (filter_all (λ z. nat_lt z x) A (every_weaker (λ z. z < x) (λ z. nat_lt z x ≡ true) (λ z h. lt-ltb z x h) A
+    k.before))
+    ∙ (ap (λ l. A ++ l) (filter_none (λ z. nat_lt z x) (x ∷ B) (
+      le-ltb x x (omega arith),
+      every_weaker (λ z. x < z) (λ z. nat_lt z x ≡ false) (λ z h. le-ltb z x (omega arith))
+          B k.behind,
+    )) ∙ append-nil A)))
 
 pub later_is : (t : Trace) (x : ℕ) (A B : List ℕ) → Cut t x A B → later t x ≡ B
 later_is t x A B k =
     ap (filter (λ z. nat_lt x z)) k.is
     ∙ (filter-append (λ z. nat_lt x z) A (x ∷ B)
     ∙ (ap (λ l. l ++ filter (λ z. nat_lt x z) (x ∷ B))
-        (filter_none (λ z. nat_lt x z) A (every_weaker (λ z. z < x) (λ z. nat_lt x z ≡ false)
-        (λ z h. le-ltb x z (omega arith)) A k.before))
+    (filter_none (λ z. nat_lt x z) A (every_weaker (λ z. z < x) (λ z. nat_lt x z ≡ false)
+    (λ z h. le-ltb x z (omega arith)) A k.before))
     ∙ (ap (λ d. cond d (x ∷ filter (λ z. nat_lt x z) B) (filter (λ z. nat_lt x z) B)) (le-ltb x x (omega arith))
     ∙ filter_all (λ z. nat_lt x z) B (every_weaker (λ z. x < z) (λ z. nat_lt x z ≡ true) (λ z h. lt-ltb x z h) B
-        k.behind))))
+    k.behind))))
 
 range_cut : (a n k : ℕ) → k < n → range_with_len a n ≡ range_with_len a k ++ (a + k)
     ∷ range_with_len (a + k + 1) (n - (k + 1))
@@ -92,8 +94,8 @@ range_cut a (suc n) (suc k) h =
     let e : a + 1 + k ≡ a + suc k = omega arith in
     let f : n - (k + 1) ≡ suc n - (suc k + 1) = omega arith in
     ap (λ l. a ∷ l) (range_cut (a + 1) n k (omega arith)
-        ∙ (ap (λ b. range_with_len (a + 1) k ++ b ∷ range_with_len (b + 1) (n - (k + 1))) e
-        ∙ ap (λ j. range_with_len (a + 1) k ++ (a + suc k) ∷ range_with_len (a + suc k + 1) j) f))
+    ∙ (ap (λ b. range_with_len (a + 1) k ++ b ∷ range_with_len (b + 1) (n - (k + 1))) e
+    ∙ ap (λ j. range_with_len (a + 1) k ++ (a + suc k) ∷ range_with_len (a + suc k + 1) j) f))
 
 pub cut : (t : Trace) (y : ℕ) → y < length t → is_waiting t y ≡ true
     → (front : List ℕ) × (back : List ℕ) × Cut t y front back
@@ -101,7 +103,7 @@ unfolding waiting
 cut t y l w =
     let n = length t - (y + 1) in
     let r : positions t ≡ range_with_len 0 y ++ y ∷ range_with_len (y + 1) n =
-        range_cut 0 (length t) y l ∙ ap (λ b. range_with_len 0 y ++ b ∷ range_with_len (b + 1) n) (omega arith) in
+    range_cut 0 (length t) y l ∙ ap (λ b. range_with_len 0 y ++ b ∷ range_with_len (b + 1) n) (omega arith) in
     let front = filter (is_waiting t) (range_with_len 0 y) in
     let back = filter (is_waiting t) (range_with_len (y + 1) n) in (
       front,

@@ -42,7 +42,7 @@ new_figure c t W x e d p h n =
     let parts = every_parts (λ z. weight t z ≤ c.longest) W (x ∷ []) h in
     let l = parts.1.0 in
     let each = every_weaker (λ z. weight t z ≤ c.longest) (λ z. left t z ≤ c.longest) (λ z w. omega (arith, w)) W
-        parts.0 in
+    parts.0 in
     let s = sum_by-le (left t) c.longest W (All-from_recursion (λ z. left t z ≤ c.longest) W each) in
     let b = bound_of c.credits c.budget c.longest (length W) (left t x) (sum_by (left t) W) n s (omega (arith, l)) in
     omega (arith, f, p, b)
@@ -64,21 +64,21 @@ within_more c t m r f short w =
     let New : ℕ → Type 0 = λ x. figure c t' x + steps_after t' x ≤ bound c in
     let Old : ℕ → Type 0 = λ x. (figure c t x + steps_after t x ≤ bound c) × (x < length t) in
     let old : AllByRecursion Old (waiting t) = every_both (λ x. figure c t x + steps_after t x ≤ bound c)
-        (λ x. x < length t) (waiting t) w (waiting_below t) in
+    (λ x. x < length t) (waiting t) w (waiting_below t) in
     let stay : (b : Bool) → is_step m.0 ≡ b → AllByRecursion New (waiting t) =
     λ b. elim b as (λ b. is_step m.0 ≡ b → AllByRecursion New (waiting t)) [
       | true ↦ λ e.
           every_weaker (λ x. Old x × (figure c t' x < figure c t x)) New
           (λ x h. let s = steps_more t m x h.0.1 in let one = ap {B = ℕ} (λ b. cond b 1 0) e in
-              omega (arith, s, one, h.0.0, h.1)) (waiting t)
+          omega (arith, s, one, h.0.0, h.1)) (waiting t)
           (every_both Old (λ x. figure c t' x < figure c t x) (waiting t) old
-              (every_contained (λ x. figure c t' x < figure c t x) (waiting t) (f.step e)))
+          (every_contained (λ x. figure c t' x < figure c t x) (waiting t) (f.step e)))
       | false ↦ λ e.
           every_weaker (λ x. Old x × (figure c t' x ≤ figure c t x)) New
           (λ x h. let s = steps_more t m x h.0.1 in let none = ap {B = ℕ} (λ b. cond b 1 0) e in
-              omega (arith, s, none, h.0.0, h.1)) (waiting t)
+          omega (arith, s, none, h.0.0, h.1)) (waiting t)
           (every_both Old (λ x. figure c t' x ≤ figure c t x) (waiting t) old
-              (every_contained (λ x. figure c t' x ≤ figure c t x) (waiting t) f.other))
+          (every_contained (λ x. figure c t' x ≤ figure c t x) (waiting t) f.other))
     ] in
     let front : AllByRecursion New kept = every_kept New keep (waiting t) (stay (is_step m.0) refl) in
     let split : (b : Bool) → queues m.1 ≡ b → AllByRecursion New (waiting t') =
@@ -89,7 +89,7 @@ within_more c t m r f short w =
           let few : length kept + 2 ≤ c.credits = omega (arith, room, fewer keep (waiting t)) in
           let new = new_figure c t' kept n is (done_last t m) (passed_last t m) (subst (Short c t') is short) few in
           subst (AllByRecursion New) (sym is) (every_append New kept (n ∷ []) front
-              (omega (arith, new, steps_last t m), tt))
+          (omega (arith, new, steps_last t m), tt))
       | false ↦ λ e. subst (AllByRecursion New) (sym
           (waiting_more t m ∙ (ap (λ b. kept ++ cond b (n ∷ []) []) e ∙ append-nil kept))) front
     ] in

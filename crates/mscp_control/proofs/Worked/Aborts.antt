@@ -31,9 +31,19 @@ in_service =
 pub in_service_legal : IsLegal (settings 5 2) in_service
 unfolding moment collect command_of command is_waiting waiting done good passed_at passed is_free is_startable startable
     figure figure_of is_online head_cylinder head_up answer outcome ends untaken balance outstanding arrival block_of
-in_service_legal = legal_from (settings 5 2) in_service
-    (refl, (by_serving 0 refl refl refl, (refl, (refl,
-    (by_serving 3 refl refl refl, (refl, (refl, (refl, (refl, tt)))))))))
+in_service_legal = legal_from (settings 5 2) in_service (
+  refl,
+  (
+    by_serving 0 refl refl refl,
+    (
+      refl,
+      (
+        refl,
+        (by_serving 3 refl refl refl, (refl, (refl, (refl, (refl, tt))))),
+      ),
+    ),
+  ),
+)
 
 -- Of two reads the second starts first, and is aborted in service. The four blocks that its start cost the first aren't
 -- given back: of the budget of eight, four are left.
@@ -52,9 +62,22 @@ passer =
 pub passer_legal : IsLegal (settings 5 1) passer
 unfolding moment collect command_of command is_waiting waiting done good passed_at passed is_free is_startable startable
     figure figure_of is_online head_cylinder head_up answer outcome ends untaken balance outstanding arrival block_of
-passer_legal = legal_from (settings 5 1) passer (refl,
-    (by_serving 0 refl refl refl, (refl, (refl, (refl,
-    (refl, (by_serving 4 refl refl refl, (refl, (refl, (refl, tt))))))))))
+passer_legal = legal_from (settings 5 1) passer (
+  refl,
+  (
+    by_serving 0 refl refl refl,
+    (
+      refl,
+      (
+        refl,
+        (
+          refl,
+          (refl, (by_serving 4 refl refl refl, (refl, (refl, (refl, tt))))),
+        ),
+      ),
+    ),
+  ),
+)
 
 -- It was passed by all four all the same.
 passer_passed : passed passer 3 ≡ 4
@@ -78,9 +101,22 @@ spent =
 pub spent_legal : IsLegal (with_budget 5 4) spent
 unfolding moment collect command_of command is_waiting waiting done good passed_at passed is_free is_startable startable
     figure figure_of is_online head_cylinder head_up answer outcome ends untaken balance outstanding arrival block_of
-spent_legal = legal_from (with_budget 5 4) spent (refl,
-    (by_serving 0 refl refl refl, (refl, (refl, (refl,
-    (refl, (by_serving 4 refl refl refl, (refl, (refl, (refl, tt))))))))))
+spent_legal = legal_from (with_budget 5 4) spent (
+  refl,
+  (
+    by_serving 0 refl refl refl,
+    (
+      refl,
+      (
+        refl,
+        (
+          refl,
+          (refl, (by_serving 4 refl refl refl, (refl, (refl, (refl, tt))))),
+        ),
+      ),
+    ),
+  ),
+)
 
 -- With a budget of three the second, which weighs four, may not start before the first.
 too_heavy : startable (with_budget 5 3) (take 5 spent) ≡ 3 ∷ []
@@ -104,9 +140,22 @@ overtaken =
 pub overtaken_legal : IsLegal (settings 5 1) overtaken
 unfolding moment collect command_of command is_waiting waiting done good passed_at passed is_free is_startable startable
     figure figure_of is_online head_cylinder head_up answer outcome ends untaken balance outstanding arrival block_of
-overtaken_legal = legal_from (settings 5 1) overtaken (refl,
-    (by_serving 0 refl refl refl, (refl, (refl, (refl,
-    (by_serving 4 refl refl refl, (refl, (refl, (refl, (refl, tt))))))))))
+overtaken_legal = legal_from (settings 5 1) overtaken (
+  refl,
+  (
+    by_serving 0 refl refl refl,
+    (
+      refl,
+      (
+        refl,
+        (
+          refl,
+          (by_serving 4 refl refl refl, (refl, (refl, (refl, (refl, tt))))),
+        ),
+      ),
+    ),
+  ),
+)
 
 -- An ABORT and a poll of a number of which nothing waits.
 abbrev pub nobody : Trace
@@ -139,5 +188,7 @@ fence =
 pub fence_legal : IsLegal (settings 5 2) fence
 unfolding moment collect command_of command is_waiting waiting done good passed_at passed is_free is_startable startable
     figure figure_of is_online head_cylinder head_up answer outcome ends untaken balance outstanding arrival block_of
-fence_legal = legal_from (settings 5 2) fence (refl,
-    (by_serving 0 refl refl refl, (refl, (refl, (refl, (refl, (refl, (refl, (refl, (refl, tt))))))))))
+fence_legal = legal_from (settings 5 2) fence (
+  refl,
+  (by_serving 0 refl refl refl, (refl, (refl, (refl, (refl, (refl, (refl, (refl, (refl, tt))))))))),
+)

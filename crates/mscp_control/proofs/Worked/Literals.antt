@@ -22,13 +22,29 @@ use Rattle.mscp_control.specs.History.{Moment, Trace}
 
 -- a unit of this number of 1000 blocks, 20 a cylinder
 abbrev pub shape : ℕ → Shape
-shape number = record { number = number; track = 10; group = 2; cylinder = 1; size = 1000; id = number + 1; media =
-    0; serial = number + 1 }
+shape number = record {
+  number = number;
+  track = 10;
+  group = 2;
+  cylinder = 1;
+  size = 1000;
+  id = number + 1;
+  media =
+      0;
+  serial = number + 1;
+}
 
 -- so many credits, a budget of so many blocks, transfers of at most 8 blocks, and these units
 abbrev pub settings_of : List Shape → ℕ → ℕ → Settings
-settings_of units credits budget = record { credits = credits; budget = budget; longest = 8; timeout = 60; id =
-    1; units = units }
+settings_of units credits budget = record {
+  credits = credits;
+  budget = budget;
+  longest = 8;
+  timeout = 60;
+  id =
+      1;
+  units = units;
+}
 
 -- the same with unit 0 alone
 abbrev pub with_budget : ℕ → ℕ → Settings
@@ -88,8 +104,14 @@ served k r u lbn started seek ended = (events.Step k, entries.Stepped (reports.S
 
 -- the end of a transfer with this endcode, reference, unit, status and byte count
 abbrev pub moved_by : ℕ → ℕ → ℕ → ℕ → ℕ → Option End
-moved_by code r u status count = Some (record { reference = r; unit = u; code = code; status = status; body =
-    bodies.Moved count })
+moved_by code r u status count = Some (record {
+  reference = r;
+  unit = u;
+  code = code;
+  status = status;
+  body =
+      bodies.Moved count;
+})
 
 -- the same of a read
 abbrev pub moved : ℕ → ℕ → ℕ → ℕ → Option End
@@ -97,8 +119,14 @@ moved r u status count = moved_by 0xA1 r u status count
 
 -- the end of an ONLINE with this reference, unit and status that tells of the unit
 abbrev pub onlined : ℕ → ℕ → ℕ → Option End
-onlined r u status = Some (record { reference = r; unit = u; code = 0x89; status = status; body =
-    bodies.Online (u + 1) 0 1000 (u + 1) })
+onlined r u status = Some (record {
+  reference = r;
+  unit = u;
+  code = 0x89;
+  status = status;
+  body =
+      bodies.Online (u + 1) 0 1000 (u + 1);
+})
 
 -- an end that tells no more than its status
 abbrev pub bare_end : ℕ → ℕ → ℕ → ℕ → Option End
@@ -110,6 +138,6 @@ came_online =
     queued 900 0 orders.Online
     ∷ served Good 900 0 None true 0 (onlined 900 0 0)
     ∷ took ((0x84 ∷ 3 ∷ 0 ∷ 0 ∷ 0 ∷ 0 ∷ 0 ∷ 0 ∷ 0x89 ∷ 0 ∷ 0 ∷ 0 ∷ [])
-        ++ (replicate 8 0 ++ ((1 ∷ 0 ∷ 0 ∷ 0 ∷ 0 ∷ 0 ∷ 0 ∷ 0 ∷ [])
-        ++ (replicate 8 0 ++ (0xE8 ∷ 3 ∷ 0 ∷ 0 ∷ 1 ∷ 0 ∷ 0 ∷ 0 ∷ [])))))
+    ++ (replicate 8 0 ++ ((1 ∷ 0 ∷ 0 ∷ 0 ∷ 0 ∷ 0 ∷ 0 ∷ 0 ∷ [])
+    ++ (replicate 8 0 ++ (0xE8 ∷ 3 ∷ 0 ∷ 0 ∷ 1 ∷ 0 ∷ 0 ∷ 0 ∷ [])))))
     ∷ []

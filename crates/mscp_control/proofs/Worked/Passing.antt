@@ -30,9 +30,19 @@ in_order =
 pub in_order_legal : IsLegal (settings 5 0) in_order
 unfolding moment collect command_of command is_waiting waiting done good passed_at passed is_free is_startable startable
     figure figure_of is_online head_cylinder head_up answer outcome ends untaken balance outstanding arrival block_of
-in_order_legal = legal_from (settings 5 0) in_order
-    (refl, (by_serving 0 refl refl refl, (refl, (refl,
-    (refl, (refl, (by_serving 3 refl refl refl, (by_serving 4 refl refl refl, (by_serving 5 refl refl refl, tt)))))))))
+in_order_legal = legal_from (settings 5 0) in_order (
+  refl,
+  (
+    by_serving 0 refl refl refl,
+    (
+      refl,
+      (
+        refl,
+        (refl, (refl, (by_serving 3 refl refl refl, (by_serving 4 refl refl refl, (by_serving 5 refl refl refl, tt))))),
+      ),
+    ),
+  ),
+)
 
 -- Each time the first alone may start.
 in_order_startable : startable (settings 5 0) (take 6 in_order) ≡ 3 ∷ []
@@ -65,10 +75,31 @@ passed_once =
 pub passed_once_legal : IsLegal (with_budget 5 1) passed_once
 unfolding moment collect command_of command is_waiting waiting done good passed_at passed is_free is_startable startable
     figure figure_of is_online head_cylinder head_up answer outcome ends untaken balance outstanding arrival block_of
-passed_once_legal = legal_from (with_budget 5 1) passed_once
-    (refl, (by_serving 0 refl refl refl, (refl, (refl,
-    (refl, (refl, (refl, (by_serving 4 refl refl refl,
-    (refl, (by_serving 3 refl refl refl, (refl, (by_serving 5 refl refl refl, (refl, tt)))))))))))))
+passed_once_legal = legal_from (with_budget 5 1) passed_once (
+  refl,
+  (
+    by_serving 0 refl refl refl,
+    (
+      refl,
+      (
+        refl,
+        (
+          refl,
+          (
+            refl,
+            (
+              refl,
+              (
+                by_serving 4 refl refl refl,
+                (refl, (by_serving 3 refl refl refl, (refl, (by_serving 5 refl refl refl, (refl, tt))))),
+              ),
+            ),
+          ),
+        ),
+      ),
+    ),
+  ),
+)
 
 -- At first any may start.
 passed_once_startable : startable (with_budget 5 1) (take 7 passed_once) ≡ 3 ∷ 4 ∷ 5 ∷ []
@@ -103,9 +134,19 @@ passed_twice =
 pub passed_twice_legal : IsLegal (with_budget 5 2) passed_twice
 unfolding moment collect command_of command is_waiting waiting done good passed_at passed is_free is_startable startable
     figure figure_of is_online head_cylinder head_up answer outcome ends untaken balance outstanding arrival block_of
-passed_twice_legal = legal_from (with_budget 5 2) passed_twice
-    (refl, (by_serving 0 refl refl refl, (refl, (refl,
-    (refl, (refl, (by_serving 4 refl refl refl, (by_serving 5 refl refl refl, (by_serving 3 refl refl refl, tt)))))))))
+passed_twice_legal = legal_from (with_budget 5 2) passed_twice (
+  refl,
+  (
+    by_serving 0 refl refl refl,
+    (
+      refl,
+      (
+        refl,
+        (refl, (refl, (by_serving 4 refl refl refl, (by_serving 5 refl refl refl, (by_serving 3 refl refl refl, tt))))),
+      ),
+    ),
+  ),
+)
 
 -- The first was passed by two blocks.
 passed_twice_passes : passed (take 8 passed_twice) 3 ≡ 2
@@ -134,9 +175,19 @@ passed_each =
 pub passed_each_legal : IsLegal (with_budget 8 1) passed_each
 unfolding moment collect command_of command is_waiting waiting done good passed_at passed is_free is_startable startable
     figure figure_of is_online head_cylinder head_up answer outcome ends untaken balance outstanding arrival block_of
-passed_each_legal = legal_from (with_budget 8 1) passed_each
-    (refl, (by_serving 0 refl refl refl, (refl, (refl,
-    (refl, (refl, (refl, (by_serving 6 refl refl refl, (by_serving 3 refl refl refl, tt)))))))))
+passed_each_legal = legal_from (with_budget 8 1) passed_each (
+  refl,
+  (
+    by_serving 0 refl refl refl,
+    (
+      refl,
+      (
+        refl,
+        (refl, (refl, (refl, (by_serving 6 refl refl refl, (by_serving 3 refl refl refl, tt))))),
+      ),
+    ),
+  ),
+)
 
 -- The second was passed by the fourth, as the first was.
 passed_each_passes : passed (take 8 passed_each) 4 ≡ 1

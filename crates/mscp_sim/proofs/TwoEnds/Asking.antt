@@ -34,7 +34,7 @@ figure_now : {K : Type 0} (c : Settings) (picks : List Choice → ℕ → Type 0
     (s : Submission) → KeepsPromise picks c (calls_of t) h → (told_now h s).figure ≡ figure_of c t s.reference
 figure_now c picks t h s k =
     ap (λ (d : Settings). figure_of_reference d.budget h.waiting s.reference) k.settings
-        ∙ (k.figure s.reference ∙ ap (λ u. figure_of c u s.reference) (history_of t))
+    ∙ (k.figure s.reference ∙ ap (λ u. figure_of c u s.reference) (history_of t))
 
 some_now : {K : Type 0} (c : Settings) (picks : List Choice → ℕ → Type 0) (t : Trace) (h : Holdings K) (s : Submission)
     → KeepsPromise picks c (calls_of t) h → (told_now h s).waited ≡ true → 1 ≤ figure_of c t s.reference
@@ -61,24 +61,31 @@ poll_turn {K} {c} {picks} {picker} {talk} {j} {a'} {h'} x r t (Ok (polls.Ask b))
     let sent : sends (said talk j).heard ≡ true = ap sends k.1 in
     let asked : is_asked (said talk j).heard ≡ true = ap is_asked k.1 in
     let idle : is_some (account_at c talk j).watch ≡ false =
-        subst (λ (z : Account). is_some z.watch ≡ false) x.at.account y.idle in
+    subst (λ (z : Account). is_some z.watch ≡ false) x.at.account y.idle in
     let first : oldest (account_at c talk j) ≡ Some y.about =
-        subst (λ (z : Account). oldest z ≡ Some y.about) x.at.account y.oldest in
+    subst (λ (z : Account). oldest z ≡ Some y.about) x.at.account y.oldest in
     let none : in_flight talk j ≡ None = no_flight talk j (in_flight talk j) idle in
     let about = polls_of c talk j y.about first in
     let number : y.about.reference ≡ reference_found talk (asked_for talk j) =
-        ap (λ (s : Submission). s.reference) about.is ∙ ap (reference_found talk) (sym about.found) in
+    ap (λ (s : Submission). s.reference) about.is ∙ ap (reference_found talk) (sym about.found) in
     let same : a' ≡ account_at c talk (j + 1) = y.left
-        ∙ (ap (λ z. watching z r y.about) x.at.account
-        ∙ sym (account_asked c talk j r y.about n t k.1 idle first)) in
+    ∙ (ap (λ z. watching z r y.about) x.at.account
+    ∙ sym (account_asked c talk j r y.about n t k.1 idle first)) in
     let fresh = subst (λ (z : Account). list_any (has_reference r) z.outstanding ≡ false) x.at.account y.fresh in
     let so_far = trace_of (take j talk) in
     let now : (told_now x.controller y.about).figure ≡ figure_told c talk j =
-        figure_now c picks so_far x.controller y.about x.keeps ∙ ap (figure_of c so_far) number in
+    figure_now c picks so_far x.controller y.about x.keeps ∙ ap (figure_of c so_far) number in
     record {
-      tells = record { says = heard_at x same; resets = no_news c talk j n (ap is_news k.1); no_lost =
-          not_lost talk j (ap is_news k.1); new = new_number c talk j r (ap named_in k.2 ∙ y.named) fresh; idle =
-          λ q. none; some = none_some c talk j n };
+      tells = record {
+        says = heard_at x same;
+        resets = no_news c talk j n (ap is_news k.1);
+        no_lost =
+            not_lost talk j (ap is_news k.1);
+        new = new_number c talk j r (ap named_in k.2 ∙ y.named) fresh;
+        idle =
+            λ q. none;
+        some = none_some c talk j n;
+      };
       next = record {
         account = same;
         told = told_now x.controller y.about;
@@ -86,9 +93,11 @@ poll_turn {K} {c} {picks} {picker} {talk} {j} {a'} {h'} x r t (Ok (polls.Ask b))
         reached = reached_next x;
         one = one_asked talk j n sent asked none;
         flight = λ q f.
-            let this : j ≡ q = ap (λ o. unwrap_or o j) (sym (flight_asked talk j n sent asked none) ∙ f) in
-            (now ∙ ap (figure_told c talk) this, λ w.
-                subst (λ y. 1 ≤ y) (sym (figure_now c picks so_far x.controller y.about x.keeps))
-                (some_now c picks so_far x.controller y.about x.keeps w));
+            let this : j ≡ q = ap (λ o. unwrap_or o j) (sym (flight_asked talk j n sent asked none) ∙ f) in (
+              now ∙ ap (figure_told c talk) this,
+              λ w.
+                  subst (λ y. 1 ≤ y) (sym (figure_now c picks so_far x.controller y.about x.keeps))
+                  (some_now c picks so_far x.controller y.about x.keeps w),
+            );
       };
     }

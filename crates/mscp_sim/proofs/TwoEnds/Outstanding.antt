@@ -29,7 +29,7 @@ passes_test p [] = tt
 passes_test p (x ∷ xs) =
     let out : (b : Bool) → p x ≡ b → AllByRecursion (λ y. p y ≡ true) (cond b (x ∷ filter p xs) (filter p xs)) =
     λ b. elim b as (λ b. p x ≡ b → AllByRecursion (λ y. p y ≡ true) (cond b (x ∷ filter p xs) (filter p xs)))
-        [ true ↦ λ e. (e, passes_test p xs) | false ↦ λ e. passes_test p xs ] in
+    [ true ↦ λ e. (e, passes_test p xs) | false ↦ λ e. passes_test p xs ] in
     out (p x) refl
 
 -- turn j hands over the end of the command i
@@ -40,8 +40,8 @@ pub any_more : (talk : Talk) (j i : ℕ) → list_any (is_ended talk i) (before 
     ≡ (list_any (is_ended talk i) (before j) || is_ended talk i j)
 any_more talk j i =
     ap (list_any (is_ended talk i)) (range_more j)
-        ∙ (list_any-append (is_ended talk i) (before j) (j ∷ [])
-        ∙ ap (λ b. list_any (is_ended talk i) (before j) || b) (or-false (is_ended talk i j)))
+    ∙ (list_any-append (is_ended talk i) (before j) (j ∷ [])
+    ∙ ap (λ b. list_any (is_ended talk i) (before j) || b) (or-false (is_ended talk i j)))
 
 split_not : (s p q : Bool) → (s && not (p || q)) ≡ ((s && not p) && not q)
 split_not true true q = refl
@@ -67,9 +67,9 @@ none_ended talk j (k ∷ ks) h =
 pub new_if : (talk : Talk) (j : ℕ) → is_outstanding talk (j + 1) j ≡ sends (said talk j).heard
 new_if talk j =
     let below = every_weaker (λ k. (0 ≤ k) × (k < 0 + (j + 1))) (λ k. k < j + 1)
-        (λ k h. let l = h.1 in omega (arith, l)) (before (j + 1)) (range_below 0 (j + 1)) in
+    (λ k h. let l = h.1 in omega (arith, l)) (before (j + 1)) (range_below 0 (j + 1)) in
     ap (λ b. sends (said talk j).heard && not b) (none_ended talk j (before (j + 1)) below)
-        ∙ and-true (sends (said talk j).heard)
+    ∙ and-true (sends (said talk j).heard)
 
 pub before_below : (j : ℕ) → AllByRecursion (λ k. k < j) (before j)
 before_below j = every_weaker (λ k. (0 ≤ k) × (k < 0 + j)) (λ k. k < j) (λ k h. let l = h.1 in omega (arith, l))
@@ -90,9 +90,9 @@ outstanding_more talk j =
     let p = is_outstanding talk (j + 1) in
     let q : ℕ → Bool = λ i. not (ends_now talk j i) in
     let old : filter p (before j) ≡ filter (λ i. is_outstanding talk j i && q i) (before j) =
-        filter_on p (λ i. is_outstanding talk j i && q i) (before j)
-        (every_weaker (λ i. i < j) (λ i. p i ≡ (is_outstanding talk j i && q i)) (λ i l. stays_if talk j i l) (before j)
-        (before_below j)) in
+    filter_on p (λ i. is_outstanding talk j i && q i) (before j)
+    (every_weaker (λ i. i < j) (λ i. p i ≡ (is_outstanding talk j i && q i)) (λ i l. stays_if talk j i l) (before j)
+    (before_below j)) in
     ap (filter p) (range_more j)
     ∙ (filter_append p (before j) (j ∷ [])
     ∙ (λ i. (old ∙ sym (filter_filter q (is_outstanding talk j) (before j))) i ++ cond (new_if talk j i) (j ∷ []) []))
@@ -104,7 +104,7 @@ pub answers_more : (c : Settings) (talk : Talk) (j i : ℕ)
 answers_more c talk j i =
     let f : ℕ → List ℕ = λ k. answers_of c talk i (handed_over talk k) in
     ap (flat_map f) (range_more j) ∙ (flat_map-append f (before j) (j ∷ [])
-        ∙ ap (λ xs. answers_about c talk j i ++ xs) (append-nil (f j)))
+    ∙ ap (λ xs. answers_about c talk j i ++ xs) (append-nil (f j)))
 
 -- the last answer stays where this turn brings none
 pub last_same : (c : Settings) (talk : Talk) (j i : ℕ) → answers_of c talk i (handed_over talk j) ≡ []
@@ -157,9 +157,9 @@ untold_of c talk j k l None e = refl
 untold_of c talk j k l (Some p) e =
     let below : p < k = found_below talk k p _ e in
     let no : is_it j (asked_for talk p) ≡ false = not_it j (asked_for talk p)
-        (λ x q. let m = found_below talk p x _ q in omega (arith, l, below, m)) in
+    (λ x q. let m = found_below talk p x _ q in omega (arith, l, below, m)) in
     elim (is_asked (said talk p).heard) as (λ b. cond (b && is_it j (asked_for talk p)) (figure_told c talk p ∷ []) []
-        ≡ []) [ true ↦ rw no refl | false ↦ refl ]
+    ≡ []) [ true ↦ rw no refl | false ↦ refl ]
 
 untold_in : (c : Settings) (talk : Talk) (j : ℕ) (ks : List ℕ) → AllByRecursion (λ k. k < j) ks
     → flat_map (λ k. answers_of c talk j (handed_over talk k)) ks ≡ []

@@ -42,13 +42,13 @@ commands_cut rs place l = ap commands (cut_at no_record rs place l)
 -- and after a step
 commands_after : (k : Block) (d : Drive) (rs : List Record) (place : ℕ) → let r = record_at rs place in
     commands (waiting_after k d rs place) ≡ commands (take place rs)
-        ++ (commands (remains r (end_given k d r)) ++ commands (drop (place + 1) rs))
+    ++ (commands (remains r (end_given k d r)) ++ commands (drop (place + 1) rs))
 commands_after k d rs place =
     let r = record_at rs place in
     map-append (λ (q : Record). q.command) (map (passed_by (step_toll r)) (take place rs))
-        (remains r (end_given k d r) ++ drop (place + 1) rs)
+    (remains r (end_given k d r) ++ drop (place + 1) rs)
     ∙ ((λ i. commands_passed (step_toll r) (take place rs) i
-        ++ map-append (λ (q : Record). q.command) (remains r (end_given k d r)) (drop (place + 1) rs) i))
+    ++ map-append (λ (q : Record). q.command) (remains r (end_given k d r)) (drop (place + 1) rs) i))
 
 -- a step serves the record at a place, which had this end, if it had one: what is left, and the ends then
 record Leaves {K : Type 0} (h h' : Holdings K) (k : Block) (d : Drive) (place : ℕ) (o : Option End) : Type 0 where
@@ -64,7 +64,7 @@ served_with : {K : Type 0} (a : Account) (h h' : Holdings K) (told : Flight) (k 
     (o : Option End) → Leaves h h' k d place o → Matches a h told → Matches a h' told
 served_with a h h' told k d place None x m =
     stays a h h' told (x.waiting ∙ sym (commands_cut h.waiting place x.inside)) (x.ends ∙ append-nil h.untaken)
-        x.settings m
+    x.settings m
 served_with {K} a h h' told k d place (Some e) x m =
     let is = x.given e refl in
     let ends : Ends h h' = record {
@@ -85,9 +85,9 @@ given_is : (k : Block) (d : Drive) (r : Record) (e : End) → end_given k d r �
     → e ≡ outcome_at d.unit d.online r.command r.good k
 given_is k d r e h =
     let out : (b : Bool) → (if b then None else Some (outcome_at d.unit d.online r.command r.good k)) ≡ Some e
-        → e ≡ outcome_at d.unit d.online r.command r.good k =
+    → e ≡ outcome_at d.unit d.online r.command r.good k =
     λ b. elim b as (λ b. (if b then None else Some (outcome_at d.unit d.online r.command r.good k)) ≡ Some e
-        → e ≡ outcome_at d.unit d.online r.command r.good k) [
+    → e ≡ outcome_at d.unit d.online r.command r.good k) [
       | true ↦ λ q. absurd (false≢true (ap is_some q))
       | false ↦ λ q. cc
     ] in
@@ -121,9 +121,9 @@ none_out n [] z = refl
 none_out n (r ∷ rs) z =
     let ns = map (λ (c : Command). c.reference) (commands rs) in
     let out : (b : Bool) → cond b (1 + times n ns) (times n ns) ≡ 0
-        → cond (not b) (r ∷ without n rs) (without n rs) ≡ r ∷ rs =
+    → cond (not b) (r ∷ without n rs) (without n rs) ≡ r ∷ rs =
     λ b. elim b as (λ b. cond b (1 + times n ns) (times n ns) ≡ 0
-        → cond (not b) (r ∷ without n rs) (without n rs) ≡ r ∷ rs) [
+    → cond (not b) (r ∷ without n rs) (without n rs) ≡ r ∷ rs) [
       | true ↦ λ z. absurd (omega (arith, z))
       | false ↦ λ z. ap (λ qs. r ∷ qs) (none_out n rs z)
     ] in
@@ -145,23 +145,23 @@ aborts_found : {K : Type 0} (a : Account) (h : Holdings K) (told : Flight) (n : 
 aborts_found {K} a h told n front x back f m =
     let command = x.command in
     let cut : commands h.waiting ≡ commands front ++ command ∷ commands back =
-        ap commands f.is ∙ map-append (λ (r : Record). r.command) front (x ∷ back) in
+    ap commands f.is ∙ map-append (λ (r : Record). r.command) front (x ∷ back) in
     let named : command.reference ≡ n = eqb-true command.reference n f.passed in
     let one = m.once n in
     let counts = counted_names n h in
     let parts : times n (map (λ (c : Command). c.reference) (commands h.waiting))
-        ≡ times n (map (λ (c : Command). c.reference) (commands front))
-        + (1 + times n (map (λ (c : Command). c.reference) (commands back))) =
+    ≡ times n (map (λ (c : Command). c.reference) (commands front))
+    + (1 + times n (map (λ (c : Command). c.reference) (commands back))) =
     ap (λ cs. times n (map (λ (c : Command). c.reference) cs)) cut
-        ∙ (times_called n (commands front) (command ∷ commands back)
-        ∙ ap (λ b. times n (map (λ (c : Command). c.reference) (commands front))
-        + cond b (1 + times n (map (λ (c : Command). c.reference) (commands back)))
-        (times n (map (λ (c : Command). c.reference) (commands back)))) f.passed) in
+    ∙ (times_called n (commands front) (command ∷ commands back)
+    ∙ ap (λ b. times n (map (λ (c : Command). c.reference) (commands front))
+    + cond b (1 + times n (map (λ (c : Command). c.reference) (commands back)))
+    (times n (map (λ (c : Command). c.reference) (commands back)))) f.passed) in
     let none : times n (map (λ (c : Command). c.reference) (commands back)) ≡ 0 = omega (arith, one, counts, parts) in
     let out : without n h.waiting ≡ front ++ back =
-        ap (without n) f.is ∙ front_kept n front x back f.before f.passed (none_out n back none) in
+    ap (without n) f.is ∙ front_kept n front x back f.before f.passed (none_out n back none) in
     let found : find (has_reference n) h.waiting ≡ Some x =
-        ap (find (has_reference n)) f.is ∙ find_first (has_reference n) front x back f.before f.passed in
+    ap (find (has_reference n)) f.is ∙ find_first (has_reference n) front x back f.before f.passed in
     let ends : Ends h (aborting h (orders.Abort n)) = record {
       front = commands front;
       own = command;
@@ -182,13 +182,13 @@ aborts_none : {K : Type 0} (a : Account) (h : Holdings K) (told : Flight) (n : �
 aborts_none {K} a h told n none m =
     let found : find (has_reference n) h.waiting ≡ None = find_none (has_reference n) h.waiting none in
     stays a h (aborting h (orders.Abort n)) told (ap commands (all_kept n h.waiting none))
-        (ap (λ o. h.untaken ++ option_to_list (option_map aborted_record o)) found ∙ append-nil h.untaken) refl m
+    (ap (λ o. h.untaken ++ option_to_list (option_map aborted_record o)) found ∙ append-nil h.untaken) refl m
 
 pub aborting_matches : {K : Type 0} (a : Account) (h : Holdings K) (told : Flight) (order : Order) → Matches a h told
     → Matches a (aborting h order) told
 aborting_matches a h told (orders.Abort n) m =
     ⊎_elim (λ none. aborts_none a h told n none m) (λ some. aborts_found a h told n some.0 some.1 some.2 some.3 m)
-        (find_cases (has_reference n) h.waiting)
+    (find_cases (has_reference n) h.waiting)
 aborting_matches a h told order m = stays a h (aborting h order) told refl (append-nil h.untaken) refl m
 
 -- ---- a command arrives
@@ -212,18 +212,20 @@ pub queued_pushes : {K : Type 0} (a a' : Account) (h : Holdings K) (told : Fligh
     → Arrives a a' h s c → Matches a h told → Pushes a a' h (queued h c) s
 queued_pushes {K} a a' h told s c x m =
     let cs : commands (queued h c).waiting ≡ commands h.waiting ++ c ∷ [] = more_called 0 h.waiting c in
-    let own : IsKnown (a.outstanding ++ s ∷ []) c =
-        (subst (λ n. opcode_found (a.outstanding ++ s ∷ []) n ≡ Some (opcode_byte c.order)) x.reference
-        (opcode_new a.outstanding s (new_to_host a h told s.reference m x.adds.new) ∙ ap Some x.opcode), x.coded) in
+    let own : IsKnown (a.outstanding ++ s ∷ []) c = (
+      subst (λ n. opcode_found (a.outstanding ++ s ∷ []) n ≡ Some (opcode_byte c.order)) x.reference
+          (opcode_new a.outstanding s (new_to_host a h told s.reference m x.adds.new) ∙ ap Some x.opcode),
+      x.coded,
+    ) in
     record {
       adds = x.adds;
       counts = λ r.
           let old = counted_names r h in
           let now = counted_names r (queued h c) in
           let pushed = ap (λ ds. times r (map (λ (d : Command). d.reference) ds)) cs
-              ∙ times_called r (commands h.waiting) (c ∷ []) in
+          ∙ times_called r (commands h.waiting) (c ∷ []) in
           let same : times r (c.reference ∷ []) ≡ times r (s.reference ∷ []) =
-              ap (λ n. times r (n ∷ [])) (sym x.reference) in
+          ap (λ n. times r (n ∷ [])) (sym x.reference) in
           omega (arith, old, now, pushed, same);
       more = let l = length-append h.waiting (fresh_record c ∷ []) in omega (arith, l);
       settings = refl;

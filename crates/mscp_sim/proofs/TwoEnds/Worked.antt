@@ -79,8 +79,17 @@ first_told = refl
 
 it_stands : Stands (settings 4 2) standing 7
 unfolding moment command_of command is_waiting waiting done passed_at passed figure figure_of outstanding
-it_stands = record { poll = 6; command = 3; last = 18; handed = refl; about = refl; outstanding = refl; told =
-    refl; not_less = omega arith }
+it_stands = record {
+  poll = 6;
+  command = 3;
+  last = 18;
+  handed = refl;
+  about = refl;
+  outstanding = refl;
+  told =
+      refl;
+  not_less = omega arith;
+}
 
 -- before the second poll is answered the host keeps the READ, of which 18 was told, and the poll
 kept : account_at (settings 4 2) standing 7 ≡ record {
@@ -124,9 +133,9 @@ unfolding moment command_of command is_waiting waiting done passed_at passed fig
 falls st =
     let poll : st.poll ≡ 7 = sym (ap (λ o. unwrap_or o 0) st.handed) in
     let command : st.command ≡ 3 = sym (eqb-true 3 st.command
-        (subst (λ p. asks_about moving st.command p ≡ true) poll st.about)) in
+    (subst (λ p. asks_about moving st.command p ≡ true) poll st.about)) in
     let last : 18 ≡ st.last = ap (λ o. unwrap_or o 0)
-        (subst (λ i. last_answer (settings 4 2) moving 8 i ≡ Some st.last) command st.told) in
+    (subst (λ i. last_answer (settings 4 2) moving 8 i ≡ Some st.last) command st.told) in
     let low : st.last ≤ 1 = subst (λ p. st.last ≤ figure_told (settings 4 2) moving p) poll st.not_less in
     omega (arith, last, low)
 
@@ -136,7 +145,7 @@ unfolding moment command_of command is_waiting waiting done passed_at passed fig
 late st =
     let poll : st.poll ≡ 10 = sym (ap (λ o. unwrap_or o 0) st.handed) in
     let command : st.command ≡ 3 = sym (eqb-true 3 st.command
-        (subst (λ p. asks_about moving st.command p ≡ true) poll st.about)) in
+    (subst (λ p. asks_about moving st.command p ≡ true) poll st.about)) in
     false≢true (subst (λ i. is_outstanding moving 12 i ≡ true) command st.outstanding)
 
 -- when the third answer comes the READ is outstanding no more

@@ -15,7 +15,9 @@ fn unit(rt: &impl Abort, number: u16) -> Unit {
 fn config(rt: &impl Abort) -> Config {
     let units = [unit(rt, 0), unit(rt, 300)];
     let units = Units::new(&units).ok().expect(rt, "two units");
-    Config::new(4, 16, 8, 60, 1, units).ok().expect(rt, "limits")
+    Config::new(4, 16, 8, 60, 1, units)
+        .ok()
+        .expect(rt, "limits")
 }
 
 /// The talk of these turns.

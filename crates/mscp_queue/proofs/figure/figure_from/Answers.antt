@@ -9,11 +9,11 @@ small : (c : goal.After-from-unspent)
 small c =
     let rs = c.args.records.now in
     let is : c.index-records-place.result ≡ record_at rs c.args.place =
-        c.index-records-place.is ∙ get_or_default rs c.args.place _ no_record c.requires.place in
+    c.index-records-place.is ∙ get_or_default rs c.args.place _ no_record c.requires.place in
     figure_fits c.args.budget rs c.args.place _ _ _ _ c.requires.small c.requires.place c.requires.before
-        c.requires.serving
+    c.requires.serving
     (c.from-unspent.ensures ∙ (c.saturating_sub.ensures ∙ ap (λ n. c.args.budget - n)
-        (c.passed.ensures ∙ ap (λ (r : Record). r.passed) is))) refl
+    (c.passed.ensures ∙ ap (λ (r : Record). r.passed) is))) refl
 
 -- what is left of the record
 left_is : (c : goal.After-from) → c.from.result ≡ left_of (record_at c.args.records.now c.args.place)

@@ -10,30 +10,33 @@ pub overflow_sub-serving : goal.overflow_sub-serving
 overflow_sub-serving c =
     let rs = c.args.records.now in
     let is : c.index-records-place.result ≡ record_at rs c.loop-place.place =
-        c.index-records-place.is ∙ get_or_default rs c.loop-place.place _ no_record c.loop-place-test.true in
-    omega (arith, serving_here rs c.loop-place.place _ _ c.loop-place-test.true c.loop-place.invariant.serving
-        (c.left_if_serving-serving.ensures ∙ ap left_if_serving is))
+    c.index-records-place.is ∙ get_or_default rs c.loop-place.place _ no_record c.loop-place-test.true in
+    omega (
+      arith,
+      serving_here rs c.loop-place.place _ _ c.loop-place-test.true c.loop-place.invariant.serving
+          (c.left_if_serving-serving.ensures ∙ ap left_if_serving is),
+    )
 
 pub figure_from-figure-requires-clause-serving : goal.figure_from-figure-requires-clause-serving
 figure_from-figure-requires-clause-serving c =
     let rs = c.args.records.now in
     let is : c.index-records-place.result ≡ record_at rs c.loop-place.place =
-        c.index-records-place.is ∙ get_or_default rs c.loop-place.place _ no_record c.loop-place-test.true in
+    c.index-records-place.is ∙ get_or_default rs c.loop-place.place _ no_record c.loop-place-test.true in
     serving_more rs c.loop-place.place _ _ c.loop-place-test.true c.loop-place.invariant.serving
-        (c.left_if_serving-serving.ensures ∙ ap left_if_serving is)
+    (c.left_if_serving-serving.ensures ∙ ap left_if_serving is)
 
 pub loop-place-preserved : goal.loop-place-preserved
 loop-place-preserved c =
     let rs = c.args.records.now in
     let inv = c.loop-place.invariant in
     let is : c.index-records-place.result ≡ record_at rs c.loop-place.place =
-        c.index-records-place.is ∙ get_or_default rs c.loop-place.place _ no_record c.loop-place-test.true in
+    c.index-records-place.is ∙ get_or_default rs c.loop-place.place _ no_record c.loop-place-test.true in
     let left : c.from-before.result ≡ left_of (record_at rs c.loop-place.place) =
-        c.from-before.ensures ∙ (c.left.ensures.value ∙ ap left_of is) in
+    c.from-before.ensures ∙ (c.left.ensures.value ∙ ap left_of is) in
     let reference : c.command.result.reference ≡ (record_at rs c.loop-place.place).command.reference =
-        ap (λ (k : Command). k.reference) c.command.ensures ∙ ap (λ (r : Record). r.command.reference) is in
+    ap (λ (k : Command). k.reference) c.command.ensures ∙ ap (λ (r : Record). r.command.reference) is in
     let figure : c.figure_from-figure.result ≡ figure_at c.args.budget rs c.loop-place.place =
-        c.figure_from-figure.ensures in
+    c.figure_from-figure.ensures in
     let more = figures_more c.args.budget rs c.loop-place.place in
     let items = c.push.ensures.items in
     let figures = inv.figures in

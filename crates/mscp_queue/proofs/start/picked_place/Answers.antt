@@ -21,7 +21,7 @@ length_shown g c =
     let rs = c.args.records.now in
     let ds = c.args.drives.now in
     ap length c.show_each.ensures ∙ length-map (open_places c.args.budget rs)
-        (λ place. choice_of (drive_at ds rs place) (record_at rs place))
+    (λ place. choice_of (drive_at ds rs place) (record_at rs place))
 
 -- the picker picks a choice of it
 chosen : (g : Rattle.mscp_queue.proofs.start.picked_place.Given.Over) (c : goal.After-place_of g)
@@ -40,7 +40,7 @@ found g c =
     let shown = c.choices.ensures.value ∙ c.show_each.ensures in
     let inside = chosen g c in
     shown_found c.args.budget c.args.drives.now c.args.records.now view c.pick-picked.result _ c.place_of.result
-        c.requires.apart shown
+    c.requires.apart shown
     (omega (arith, ap length c.choices.ensures.value, length_shown g c, inside)) c.place_of.ensures
 
 pub unwrap-requires : goal.unwrap-requires
@@ -50,7 +50,7 @@ pub returns-clause-picked : goal.returns-clause-picked
 returns-clause-picked g c =
     let picks = g.K.Picker.picks c.args.picker.now in
     let some : 0 < length c.show_each.new.view = omega
-        (arith, length_shown g c.before, some_place c.args.budget c.args.records.now c.requires.some) in (
+    (arith, length_shown g c.before, some_place c.args.budget c.args.records.now c.requires.some) in (
       c.pick-picked.result,
       chosen g c.before,
       some_same _ _ (sym (found g c.before) ∙ c.unwrap.ensures),
@@ -70,11 +70,16 @@ all_picked : (budget : ℕ) (ds : List Drive) (rs : List Record) (view : List Ch
 all_picked budget ds rs view some h is =
     let opens = h.places in
     let long : length view ≡ length rs = ap length is
-        ∙ (length-map (range_with_len 0 (length rs)) (λ place. choice_of (drive_at ds rs place) (record_at rs place))
-        ∙ length-range_with_len 0 (length rs)) in
+    ∙ (length-map (range_with_len 0 (length rs)) (λ place. choice_of (drive_at ds rs place) (record_at rs place))
+    ∙ length-range_with_len 0 (length rs)) in
     let any : 0 < length view = omega (arith, long, some) in
-    record { opens = opens; shown = is ∙ ap (choices_at ds rs) (sym opens); some = any; inside = λ place l. let below =
-        l any in omega (arith, below, long) }
+    record {
+      opens = opens;
+      shown = is ∙ ap (choices_at ds rs) (sym opens);
+      some = any;
+      inside = λ place l. let below =
+          l any in omega (arith, below, long);
+    }
 
 from_0 : (n : ℕ) → 0 + n ≡ n
 from_0 n = omega arith
@@ -89,7 +94,7 @@ returns-then-all-clause-picked g c =
     let rs = c.args.records.now in
     let picks = g.K.Picker.picks c.args.picker.now in
     let all = all_picked c.args.budget c.args.drives.now rs _ c.requires.some (c.requires.all c.if-all.true)
-        c.show_all.ensures in
+    c.show_all.ensures in
     let inside = all.inside c.pick.result c.pick.ensures.place in (
       c.pick.result,
       omega (arith, ap length all.opens, length-range_with_len 0 (length rs), inside),

@@ -17,9 +17,17 @@ returns-in_err-aborted-clause-after g c =
     let K = g.row.K.Denot in
     let q = c.self.inside in
     let stays = none_aborted q.budget c.args.reference q.waiting.items q.begun c.self.invariant.held.still
-        (sym c.take_out.ensures.found ∙ c.in_err-aborted.was) in
-    (λ i. record { room = q.room; budget = q.budget; longest = q.longest; waiting =
-        c.take_out.ensures.left i; drives = q.drives.items; begun = stays i; picker = q.picker })
+    (sym c.take_out.ensures.found ∙ c.in_err-aborted.was) in
+    (λ i. record {
+      room = q.room;
+      budget = q.budget;
+      longest = q.longest;
+      waiting =
+          c.take_out.ensures.left i;
+      drives = q.drives.items;
+      begun = stays i;
+      picker = q.picker;
+    })
     ∙ ap (λ (l : Line K). aborting c.args.reference l) c.self.view_is
 
 -- what was aborted is counted out
@@ -28,9 +36,9 @@ out : (g : Rattle.mscp_queue.proofs.queue.Queue.abort.Given.Over) (c : goal.Afte
 out g c =
     let q = c.self.inside in
     counted_without c.args.reference q.waiting.items c.take_out.new.waiting.items c.in_ok-aborted.aborted q.sequential
-        c.count_sequential.result c.self.invariant.held.apart
+    c.count_sequential.result c.self.invariant.held.apart
     (sym c.in_ok-aborted.was ∙ c.take_out.ensures.found) c.take_out.ensures.left c.self.invariant.counted
-        c.count_sequential.ensures
+    c.count_sequential.ensures
 
 pub overflow_sub-self : goal.overflow_sub-self
 overflow_sub-self g c = (out g c).below
@@ -42,9 +50,9 @@ invariant_of-self-then-was_begun g c =
     record {
       held =
           held_aborted q.room q.budget q.longest c.args.reference q.waiting.items c.take_out.new.waiting.items
-              q.drives.items q.begun q.serving _
+          q.drives.items q.begun q.serving _
           (ap (λ (l : Line K). is_begun c.args.reference l.begun) c.self.view_is ∙ sym c.if-was_begun.ensures)
-              c.self.invariant.held c.take_out.ensures.left;
+          c.self.invariant.held c.take_out.ensures.left;
       aimed = c.take_out.ensures.aims (units_of q.drives.items) c.self.invariant.aimed;
       counted = (out g c.before.before.before).counted;
       order = subst ArePassedInOrder (sym c.take_out.ensures.left)
@@ -58,9 +66,9 @@ invariant_of-self-else-was_begun g c =
     record {
       held =
           held_aborted q.room q.budget q.longest c.args.reference q.waiting.items c.take_out.new.waiting.items
-              q.drives.items q.begun q.serving _
+          q.drives.items q.begun q.serving _
           (ap (λ (l : Line K). is_begun c.args.reference l.begun) c.self.view_is ∙ sym c.if-was_begun.ensures)
-              c.self.invariant.held c.take_out.ensures.left;
+          c.self.invariant.held c.take_out.ensures.left;
       aimed = c.take_out.ensures.aims (units_of q.drives.items) c.self.invariant.aimed;
       counted = (out g c.before.before).counted;
       order = subst ArePassedInOrder (sym c.take_out.ensures.left)
@@ -76,4 +84,4 @@ returns-clause-shaped g c =
     subst IsOfKind (sym end)
     (subst (λ o. IfSome (option_map aborted_record o) IsOfKind) (sym c.take_out.ensures.found ∙ c.in_ok-aborted.was)
     (aborts_kind q.budget q.longest c.args.reference (units_of q.drives.items) q.waiting.items
-        c.self.invariant.held.each))
+    c.self.invariant.held.each))

@@ -19,10 +19,10 @@ returns-then-self-eq0-clause-passable g c =
     ∙ (ap (λ n. nat_le (r.passed + n) budget) c.from.ensures
     ∙ (ap (λ n. nat_le (r.passed + q.longest) n) c.from-then-self-eq0.ensures
     ∙ (oldest_tells q.budget q.longest rs r
-        (subst (λ (l : Line K). 0 < length l.waiting) (sym c.self.view_is) c.requires)
-        (c.index-deref-0.is ∙ ap (λ zs. get_or zs 0 r) c.deref.ensures.0)
-        (sym c.self.invariant.counted ∙ c.if-self-eq0.true) c.self.invariant.order
-        (λ i other l. (c.self.invariant.held.each i other l).waitable.order)
+    (subst (λ (l : Line K). 0 < length l.waiting) (sym c.self.view_is) c.requires)
+    (c.index-deref-0.is ∙ ap (λ zs. get_or zs 0 r) c.deref.ensures.0)
+    (sym c.self.invariant.counted ∙ c.if-self-eq0.true) c.self.invariant.order
+    (λ i other l. (c.self.invariant.held.each i other l).waitable.order)
     ∙ ap (λ (l : Line K). list_all (is_passable l.budget l.longest) l.waiting) c.self.view_is)))
 
 pub returns-then-self-eq0-clause-open : goal.returns-then-self-eq0-clause-open
@@ -30,9 +30,9 @@ returns-then-self-eq0-clause-open g c e =
     let K = g.row.K.Denot in
     let q = c.self.inside in
     let all = subst (λ (l : Line K). list_all (is_passable l.budget l.longest) l.waiting ≡ true) (sym c.self.view_is)
-        (sym (returns-then-self-eq0-clause-passable g c) ∙ e) in
+    (sym (returns-then-self-eq0-clause-passable g c) ∙ e) in
     subst (λ (l : Line K). AllMayStart l.budget l.waiting) c.self.view_is
-        (all_may_start q.budget q.longest q.waiting.items (held_short c.self.invariant.held) all)
+    (all_may_start q.budget q.longest q.waiting.items (held_short c.self.invariant.held) all)
 
 pub returns-else-self-eq0-clause-passable : goal.returns-else-self-eq0-clause-passable
 returns-else-self-eq0-clause-passable g c =

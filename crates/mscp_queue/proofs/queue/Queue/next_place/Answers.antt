@@ -14,9 +14,9 @@ found g c =
     let q = c.self.inside in
     let name = c.in-Some.reference in
     subst (λ (l : Line K). Finds (g.K.Picker.picks l.picker) l.budget l.drives l.waiting l.begun c.place_of.result)
-        c.self.view_is
+    c.self.view_is
     (finds_begun (g.K.Picker.picks q.picker) q.budget q.drives.items q.waiting.items q.begun name c.place_of.result
-        c.self.invariant.held.apart c.in-Some.is (c.self.invariant.held.still name c.in-Some.is)
+    c.self.invariant.held.apart c.in-Some.is (c.self.invariant.held.still name c.in-Some.is)
     (c.place_of.ensures ∙ ap (position (has_reference name)) c.as_slice.ensures.value))
 
 pub returns-in-Some-clause-none : goal.returns-in-Some-clause-none

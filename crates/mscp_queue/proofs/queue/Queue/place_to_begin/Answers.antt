@@ -15,9 +15,9 @@ returns-in-Some-clause-next g c =
     let nothing : q.begun ≡ None = ap (λ (l : Line K). l.begun) c.self.view_is ∙ c.requires.nothing in
     let serving = ap (λ (l : Line K). position is_in_service l.waiting) c.self.view_is ∙ sym c.serving_place.ensures in
     subst (λ (l : Line K). IsNext (g.K.Picker.picks l.picker) l.budget l.drives l.waiting l.begun c.in-Some.place)
-        c.self.view_is
+    c.self.view_is
     (serving_next picks q.budget q.drives.items q.waiting.items q.begun c.in-Some.place nothing
-        (serving ∙ c.in-Some.is))
+    (serving ∙ c.in-Some.is))
 
 pub returns-in-None-clause-next : goal.returns-in-None-clause-next
 returns-in-None-clause-next g c =
@@ -28,10 +28,10 @@ returns-in-None-clause-next g c =
     let drives = c.as_slice-in-None-2 in
     let place = c.picked_place.result in
     let serving = ap (position is_in_service) slice.ensures.value
-        ∙ (ap (λ (l : Line K). position is_in_service l.waiting) c.self.view_is ∙ sym c.serving_place.ensures) in
+    ∙ (ap (λ (l : Line K). position is_in_service l.waiting) c.self.view_is ∙ sym c.serving_place.ensures) in
     let nothing : q.begun ≡ None = ap (λ (l : Line K). l.begun) c.self.view_is ∙ c.requires.nothing in
     subst (λ (l : Line K). IsNext (g.K.Picker.picks l.picker) l.budget l.drives l.waiting l.begun place) c.self.view_is
     (subst (λ ds. IsNext picks q.budget ds q.waiting.items q.begun place) drives.ensures.value
     (subst (λ rs. IsNext picks q.budget drives.result.now rs q.begun place) slice.ensures.value
     (picked_next picks q.budget drives.result.now slice.result.now q.begun place nothing (serving ∙ c.in-None.is)
-        c.picked_place.ensures.inside c.picked_place.ensures.picked)))
+    c.picked_place.ensures.inside c.picked_place.ensures.picked)))

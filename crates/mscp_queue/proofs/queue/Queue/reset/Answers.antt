@@ -14,9 +14,9 @@ invariant_of-self g c =
     record {
       held =
           held_renewed q.room q.budget q.longest q.waiting.items c.clear.new.self.items q.drives.items _ q.begun
-              q.serving c.self.invariant.held c.clear.ensures
+          q.serving c.self.invariant.held c.clear.ensures
           (renewed q.drives.items c.renew_drives.new.drives
-              (c.renew_drives.ensures ∙ ap (map (λ (d : Drive). fresh_drive d.unit)) c.as_mut_slice.ensures.value));
+          (c.renew_drives.ensures ∙ ap (map (λ (d : Drive). fresh_drive d.unit)) c.as_mut_slice.ensures.value));
       aimed = c.clear-2.ensures ∙ ap (aims_of _) (sym c.clear.ensures);
       counted = ap sequential_count (sym c.clear.ensures);
       order = subst ArePassedInOrder (sym c.clear.ensures) tt;
@@ -27,7 +27,15 @@ returns g c =
     let q = c.self.inside in
     let K = g.row.K.Denot in
     let drives = renewed q.drives.items c.renew_drives.new.drives
-        (c.renew_drives.ensures ∙ ap (map (λ (d : Drive). fresh_drive d.unit)) c.as_mut_slice.ensures.value) in
-    (λ i. record { room = q.room; budget = q.budget; longest = q.longest; waiting = c.clear.ensures i; drives =
-        drives i; begun = None; picker = q.picker })
+    (c.renew_drives.ensures ∙ ap (map (λ (d : Drive). fresh_drive d.unit)) c.as_mut_slice.ensures.value) in
+    (λ i. record {
+      room = q.room;
+      budget = q.budget;
+      longest = q.longest;
+      waiting = c.clear.ensures i;
+      drives =
+          drives i;
+      begun = None;
+      picker = q.picker;
+    })
     ∙ ap (λ (l : Line K). fresh (units_of l.drives) l.room l.budget l.longest l.picker) c.self.view_is

@@ -31,7 +31,7 @@ served g c =
     let K = g.row.K.Denot in
     let next : IsNext (g.K.Picker.picks q.picker) q.budget q.drives.items rs q.begun place =
     subst (λ (l : Line K). IsNext (g.K.Picker.picks l.picker) l.budget l.drives l.waiting l.begun place)
-        (sym c.self.view_is) c.requires in
+    (sym c.self.view_is) c.requires in
     let item = c.index-deref-place.result in
     record {
       servable = next.servable;
@@ -45,9 +45,9 @@ out : (g : Rattle.mscp_queue.proofs.queue.Queue.serve_at.Given.Over) (c : goal.A
 out g c =
     let s = served g c in
     counted_left c.self.inside.waiting.items c.leave.new.waiting.items c.args.place c.step_toll.result
-        c.self.inside.sequential c.sequential_ended.result c.is_some-ends.result s.servable.inside c.leave.ensures.left
+    c.self.inside.sequential c.sequential_ended.result c.is_some-ends.result s.servable.inside c.leave.ensures.left
     c.self.invariant.counted (c.sequential_ended.ensures
-        ∙ ap {B = ℕ} (λ (r : Record). cond (c.is_some-ends.result && is_sequential r.command.order) 1 0) s.own)
+    ∙ ap {B = ℕ} (λ (r : Record). cond (c.is_some-ends.result && is_sequential r.command.order) 1 0) s.own)
 
 pub overflow_sub-self : goal.overflow_sub-self
 overflow_sub-self g c = (out g c).below
@@ -63,16 +63,16 @@ invariant_of-self g c =
     let new : c.replace_drive.new.drives ≡ replaced c.command-command.result.unit c.serve-service.result.drive ds =
     c.replace_drive.ensures ∙ ap (replaced c.command-command.result.unit c.serve-service.result.drive) slice in
     let long : length c.replace_drive.new.drives ≡ length ds =
-        ap length new ∙ length-map ds (λ (d : Drive). if has_number c.command-command.result.unit d
-        then c.serve-service.result.drive else d) in
+    ap length new ∙ length-map ds (λ (d : Drive). if has_number c.command-command.result.unit d
+    then c.serve-service.result.drive else d) in
     let q = c.self.inside in
     let ds' = refill (length ds) ds c.replace_drive.new.drives in
     let now = refilled ds c.replace_drive.new.drives long ∙ new in
     let drive = c.drive_of-drive.ensures ∙ ap (λ l. drive_of l c.command-command.result.unit)
-        c.as_slice.ensures.value in
+    c.as_slice.ensures.value in
     let units : units_of ds' ≡ units_of ds = units_step c.command-command.result.unit c.drive_of-drive.result
-        c.serve-service.result.drive ds ds' c.args.block.now item c.self.invariant.held.units drive
-        c.serve-service.ensures.drive now in
+    c.serve-service.result.drive ds ds' c.args.block.now item c.self.invariant.held.units drive
+    c.serve-service.ensures.drive now in
     record {
       held =
           held_step {k = c.args.block.now} c.self.invariant.held s.servable (record {
@@ -109,13 +109,13 @@ returns-clause-units g c =
     let number = c.command-command.result.unit in
     let service = c.serve-service in
     let new : c.replace_drive.new.drives ≡ replaced number service.result.drive ds =
-        c.replace_drive.ensures ∙ ap (replaced number service.result.drive) c.as_mut_slice.ensures.value in
+    c.replace_drive.ensures ∙ ap (replaced number service.result.drive) c.as_mut_slice.ensures.value in
     let long : length c.replace_drive.new.drives ≡ length ds =
-        ap length new ∙ length-map ds (λ (d : Drive). if has_number number d then service.result.drive else d) in
+    ap length new ∙ length-map ds (λ (d : Drive). if has_number number d then service.result.drive else d) in
     units_step number c.drive_of-drive.result service.result.drive ds (refill (length ds) ds c.replace_drive.new.drives)
-        c.args.block.now c.index-deref-place.result c.self.invariant.held.units
+    c.args.block.now c.index-deref-place.result c.self.invariant.held.units
     (c.drive_of-drive.ensures ∙ ap (λ l. drive_of l number) c.as_slice.ensures.value) service.ensures.drive
-        (refilled ds c.replace_drive.new.drives long ∙ new)
+    (refilled ds c.replace_drive.new.drives long ∙ new)
     ∙ ap (λ (l : Line K). units_of l.drives) c.self.view_is
 
 pub returns-clause-shaped : goal.returns-clause-shaped
@@ -125,9 +125,9 @@ returns-clause-shaped g c =
     let place = c.args.place in
     let item = c.index-deref-place.result in
     let inside : place < length rs = subst (λ (l : Line K). place < length l.waiting) (sym c.self.view_is)
-        c.requires.servable.inside in
+    c.requires.servable.inside in
     let own : item ≡ record_at rs place = c.index-deref-place.is
-        ∙ (ap (λ l. get_or l place item) c.deref.ensures.0 ∙ get_or_default rs place item no_record inside) in
+    ∙ (ap (λ l. get_or l place item) c.deref.ensures.0 ∙ get_or_default rs place item no_record inside) in
     let CanWait : Record → Type 0 = λ r. (is_sequential r.command.order || is_move r.command.order) ≡ true in
     let kept = c.self.invariant.held.each place no_record inside in
     subst (λ e. IfSome e IsOfKind) (sym c.serve-service.ensures.ended)

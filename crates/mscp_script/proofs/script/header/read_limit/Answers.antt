@@ -8,5 +8,5 @@ pub returns-clause-leads : goal.returns-clause-leads
 returns-clause-leads c = λ credits.
     rw (c.at.ensures, c.in_ok-line.ensures.number)
     (line_leads (limited credits) c.header_line.new.self.number (HasCredits credits)
-        (words c.in_ok-line.line.words.rest.now) _ _ c.limit_of.result (rw next_limit (c.limit_of.ensures credits))
-        (c.in_ok-line.ensures.some _))
+    (words c.in_ok-line.line.words.rest.now) _ _ c.limit_of.result (rw next_limit (c.limit_of.ensures credits))
+    (c.in_ok-line.ensures.some _))
