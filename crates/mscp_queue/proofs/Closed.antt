@@ -66,7 +66,8 @@ closed_open budget ds front f r few h closed w known each =
     λ e. h.seen at (omega arith) ∙ any_weaker (is_of ds at) (λ z. is_sequential z.command.order) front
     (sym (h.fenced at (omega arith)) ∙ e) in
     sym (let_is budget ds front f r (fresh_drive one_block) h w (omega arith) known each)
-    ∙ closed_lets (nat_le r.weight f.unspent) (get_or f.seen at false) (get_or f.fenced at false) (is_sequential r.command.order)
+    ∙ closed_lets (nat_le r.weight f.unspent) (get_or f.seen at false) (get_or f.fenced at false)
+    (is_sequential r.command.order)
     (all (nat_eq f.unspent 0) refl closed) seen
 
 -- ---- nor do more of them

@@ -229,6 +229,7 @@ pub let_is : (budget : ℕ) (ds : List Drive) (front : List Record) (f : Front) 
     → AllByRecursion (λ z. is_known (units_of ds) z.command.unit ≡ true) front
     → is_let f r (drive_place ds r.command.unit) ≡ is_open budget r front
 let_is budget ds front f r other h w l k each =
-    ap (λ b. b && nat_le r.weight f.unspent) (free_by ds front f budget r.command.unit other (is_sequential r.command.order) h l k
+    ap (λ b. b && nat_le r.weight f.unspent) (free_by ds front f budget r.command.unit other
+    (is_sequential r.command.order) h l k
     each ∙ sym (none_any (fences r) front))
     ∙ ap (λ b. is_free r front && b) (h.unspent r.weight w.0 w.1)

@@ -41,13 +41,15 @@ all_free : (budget longest : ℕ) (r : Record) (front : List Record) → is_sequ
     → ArePassable budget longest front → is_free r front ≡ true
 all_free budget longest r [] s h = refl
 all_free budget longest r (z ∷ zs) s h =
-    let own = not_sequential z.command.order (and_parts (is_move z.command.order) (nat_le (z.passed + longest) budget) h.0).0 in
+    let own = not_sequential z.command.order (and_parts (is_move z.command.order) (nat_le (z.passed + longest) budget)
+    h.0).0 in
     let same = nat_eq z.command.unit r.command.unit in
     ap (λ b. not (same && (b || is_sequential r.command.order)) && is_free r zs) own
     ∙ (ap (λ b. not (same && b) && is_free r zs) s
     ∙ (ap (λ b. not b && is_free r zs) (unfenced same) ∙ all_free budget longest r zs s h.1))
 
-all_affordable : (budget longest : ℕ) (r : Record) (front : List Record) → r.weight ≤ longest → ArePassable budget longest front
+all_affordable : (budget longest : ℕ) (r : Record) (front : List Record) → r.weight ≤ longest
+    → ArePassable budget longest front
     → is_affordable budget r front ≡ true
 all_affordable budget longest r [] l h = refl
 all_affordable budget longest r (z ∷ zs) l h =
@@ -112,7 +114,8 @@ some_sequential budget longest (r ∷ rs) h =
     λ b. elim b as Goal [
       | true ↦ λ e. ap (λ b. b && list_all (is_passable budget longest) rs) (sequential_not_passable budget longest r e)
       | false ↦ λ e. ap (λ b. is_passable budget longest r && b)
-          (some_sequential budget longest rs (omega (arith, h, sum_by-cons one_if r rs, ap {B = ℕ} (λ b. cond b 1 0) e)))
+          (some_sequential budget longest rs (omega
+          (arith, h, sum_by-cons one_if r rs, ap {B = ℕ} (λ b. cond b 1 0) e)))
           ∙ unfenced (is_passable budget longest r)
     ] in
     both (is_sequential r.command.order) refl
@@ -132,7 +135,8 @@ no_sequential budget longest top (r ∷ rs) h w l m =
       | false ↦ λ e.
           ap (λ b. (b && nat_le (r.passed + longest) budget) && list_all (is_passable budget longest) rs)
           (ap (λ b. b || is_move r.command.order) (sym e) ∙ w.0)
-          ∙ (ap (λ b. b && list_all (is_passable budget longest) rs) (le-leb (r.passed + longest) budget (omega (arith, l.0, m)))
+          ∙ (ap (λ b. b && list_all (is_passable budget longest) rs)
+          (le-leb (r.passed + longest) budget (omega (arith, l.0, m)))
           ∙ no_sequential budget longest top rs (omega (arith, h, count, ap {B = ℕ} (λ b. cond b 1 0) e)) w.1 l.1 m)
     ] in
     both (is_sequential r.command.order) refl
@@ -145,10 +149,12 @@ pub oldest_tells : (budget longest : ℕ) (rs : List Record) (r : Record) → 0 
 oldest_tells budget longest [] r l e k o w = absurd (omega (arith, l))
 oldest_tells budget longest (q ∷ qs) r l e k o w =
     let W : Record → Type 0 = λ z. (is_sequential z.command.order || is_move z.command.order) ≡ true in
-    let Goal : Bool → Type 0 = λ b. nat_le (q.passed + longest) budget ≡ b → b ≡ list_all (is_passable budget longest) (q ∷ qs) in
+    let Goal : Bool → Type 0 = λ b. nat_le (q.passed + longest) budget ≡ b
+    → b ≡ list_all (is_passable budget longest) (q ∷ qs) in
     let both : (b : Bool) → Goal b =
     λ b. elim b as Goal [
-      | true ↦ λ m. sym (no_sequential budget longest q.passed (q ∷ qs) k (recursion_from_All W (q ∷ qs) w) (omega arith, o.0)
+      | true ↦ λ m. sym (no_sequential budget longest q.passed (q ∷ qs) k (recursion_from_All W (q ∷ qs) w)
+          (omega arith, o.0)
           (leb-true (q.passed + longest) budget m))
       | false ↦ λ m. sym (ap (λ b. (is_move q.command.order && b) && list_all (is_passable budget longest) qs) m
           ∙ ap (λ b. b && list_all (is_passable budget longest) qs) (unfenced (is_move q.command.order)))

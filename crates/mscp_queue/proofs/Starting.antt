@@ -55,7 +55,8 @@ pub looks_more : {budget : ℕ} {ds : List Drive} {rs : List Record} {place : �
     → f' ≡ with_record budget f r at → places' ≡ places ++ cond (is_let f r at) (place ∷ []) []
     → choices' ≡ choices ++ cond (is_let f r at) (choice_of (drive_at ds rs place) (record_at rs place) ∷ []) []
     → Looks budget ds rs place f places choices → Looks budget ds rs (place + 1) f' places' choices'
-looks_more {budget} {ds} {rs} {place} {f} {f'} {places} {places'} {choices} {choices'} r at l few e same inside weighs added put
+looks_more {budget} {ds} {rs} {place} {f} {f'} {places} {places'} {choices} {choices'} r at l few e same inside weighs
+    added put
     shown h =
     let is : r ≡ record_at rs place = same ∙ get_or_default rs place r no_record l in
     let known : All (λ z. is_known (units_of ds) z.command.unit ≡ true) rs = λ i other k. (inside i other k).0 in

@@ -41,7 +41,8 @@ pub held_small : {room budget longest : ℕ} {rs : List Record} {ds : List Drive
 held_small {room} {budget} {longest} {rs} h = all_small room longest budget rs
     (λ i other l. let short = held_short h i other l in omega (arith, short)) h.fits h.small
 
-serving_when : (r : Record) (rs : List Record) → sum_by left_of (filter is_in_service rs) ≤ sum_by left_of rs → (b : Bool)
+serving_when : (r : Record) (rs : List Record) → sum_by left_of (filter is_in_service rs) ≤ sum_by left_of rs
+    → (b : Bool)
     → sum_by left_of (cond b (r ∷ filter is_in_service rs) (filter is_in_service rs)) ≤ sum_by left_of (r ∷ rs)
 serving_when r rs h true = omega (arith, sum_by-cons left_of r (filter is_in_service rs), sum_by-cons left_of r rs, h)
 serving_when r rs h false = omega (arith, sum_by-cons left_of r rs, h)

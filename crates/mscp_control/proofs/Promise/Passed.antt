@@ -26,7 +26,8 @@ starters_at t m x = filter_filter (λ z. starts_in (reference t z) m.1) (λ z. n
 passed_by_starters : (t : Trace) (m : Moment) (x : ℕ) (ys : List ℕ) → starters t m x ≡ ys
     → passed (t ++ m ∷ []) x ≡ passed t x + cond (is_unstarted t x) (sum_by (toll t) ys) 0
 unfolding passed_at
-passed_by_starters t m x ys e = passed_more t m x ∙ ap (λ l. passed t x + cond (is_unstarted t x) (sum_by (toll t) l) 0) e
+passed_by_starters t m x ys e =
+    passed_more t m x ∙ ap (λ l. passed t x + cond (is_unstarted t x) (sum_by (toll t) l) 0) e
 
 unpassed : (t : Trace) (m : Moment) (x : ℕ) → starters t m x ≡ [] → passed (t ++ m ∷ []) x ≡ passed t x
 unpassed t m x e =

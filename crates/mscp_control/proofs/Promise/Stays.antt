@@ -89,7 +89,8 @@ rises_not c t m h d A x B q true k =
     ∙ ap (λ b. filter keep A ++ cond b (x ∷ filter keep B) (filter keep B)) k)
     ∙ append_assoc (filter keep A) (x ∷ filter keep B) new)) in
     let S = sum_by (left t) A + working t B + (c.budget - passed t x) + left t x in
-    let S' = sum_by (left t') (filter keep A) + working t' (filter keep B ++ new) + (c.budget - passed t' x) + left t' x in
+    let S' = sum_by (left t') (filter keep A) + working t' (filter keep B ++ new) + (c.budget - passed t' x)
+    + left t' x in
     let lx : left t' x ≡ left t x = ap record_left same.1.0 in
     let px : c.budget - passed t' x ≡ c.budget - passed t x =
     ap (λ (r : Figured). c.budget - r.passed) same.1.0 in

@@ -5,7 +5,8 @@ use Rattle.mscp_queue.proofs.Sums.{figure_fits}
 use Rattle.mscp_queue.proofs.figure.figure_from.Goals as goal
 
 small : (c : goal.After-from-unspent)
-    → c.args.before + c.args.serving + c.from-unspent.result + left_of (record_at c.args.records.now c.args.place) < 2 ^ 32
+    → c.args.before + c.args.serving + c.from-unspent.result + left_of (record_at c.args.records.now c.args.place)
+    < 2 ^ 32
 small c =
     let rs = c.args.records.now in
     let is : c.index-records-place.result ≡ record_at rs c.args.place =

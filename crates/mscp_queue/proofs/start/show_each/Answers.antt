@@ -52,5 +52,6 @@ returns-then-add c =
     looks.shown
     ∙ ap (choices_at c.args.drives.now c.args.records.now)
     (found_closed c.args.budget c.args.drives.now c.args.records.now (c.loop-place.place + 1) c.add.new.self _ _
-    c.requires.waiting.drives (omega (arith, c.loop-place-test.true)) c.requires.waiting.inside c.requires.waiting.weighs
+    c.requires.waiting.drives (omega (arith, c.loop-place-test.true)) c.requires.waiting.inside
+    c.requires.waiting.weighs
     (sym c.add.ensures.closed ∙ c.if-add.true) looks)
