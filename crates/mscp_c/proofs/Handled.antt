@@ -161,7 +161,7 @@ goes c policy law valid so_far h h' (made.Look before status after) f r =
     }
 goes c policy law valid so_far h h' (made.Figure reference answer) f r =
     let k = law c so_far h.held valid f.called in
-    let figure = (λ i. figure_of_reference (k.settings i).budget (k.settings i).longest h.held.waiting reference)
+    let figure = (λ i. figure_of_reference (k.settings i).budget h.held.waiting reference)
     ∙ k.figure reference in
     record { next = []; tells = (refl, r.0 ∙ ap pos figure); follows = follows_same c policy so_far h h' f r.1 }
 goes c policy law valid so_far h h' (made.Balance answer) f r =

@@ -118,6 +118,13 @@ fn tells_the_first_fault(rt: HostRuntime) {
         ("credits 00000000004\n", "line 1: number"),
         ("credits 0000000004\n", "line 2: header"),
         ("credits 4294967295\n", "line 2: header"),
+        ("credits 4\nlongest 8\n", "line 2: word"),
+        ("credits 4\nbudget\n", "line 2: count"),
+        ("credits 4\nbudget 1 1\n", "line 2: count"),
+        ("credits 4\nbudget 4294967296\n", "line 2: number"),
+        ("credits 4\npassing 4294967296\n", "line 2: number"),
+        ("credits 4\nbudget 4294967295\npassing 1\n", "line 3: word"),
+        ("credits 4\npassing 4294967295\nbudget 1\n", "line 3: word"),
         (
             "credits 4\npassing 0\nlongest 8\ntimeout 65536\n",
             "line 4: number",
@@ -164,6 +171,8 @@ fn tells_the_fault_of_a_unit_or_of_limits(rt: HostRuntime) {
         "credits 65\npassing 0\nlongest 8\ntimeout 60\n",
         "credits 260\npassing 0\nlongest 8\ntimeout 60\n",
         "credits 64\npassing 449\nlongest 8388608\ntimeout 60\n",
+        "credits 64\npassing 512\nlongest 8388608\ntimeout 60\n",
+        "credits 64\nbudget 3766484992\nlongest 8388608\ntimeout 60\n",
         "credits 4\npassing 0\nlongest 0\ntimeout 60\n",
         "credits 4\npassing 0\nlongest 8388609\ntimeout 60\n",
         "credits 4\npassing 0\nlongest 8\ntimeout 0\n",
@@ -175,6 +184,26 @@ fn tells_the_fault_of_a_unit_or_of_limits(rt: HostRuntime) {
         let found = fault_text(&rt, rt.alloc(), all.as_bytes());
         assert_eq!(rt; found.as_str(), "line 6: config", "of {text:?}");
     }
+}
+
+// A count of passes is a budget of so many of the longest transfer.
+#[test]
+fn passes_are_a_budget(rt: HostRuntime) -> Result<(), Fail> {
+    let cases = [
+        ("passing 0\nlongest 8\n", 0),
+        ("passing 2\nlongest 8\n", 16),
+        ("budget 16\nlongest 8\n", 16),
+        ("budget 3\nlongest 8388608\n", 3),
+        ("passing 448\nlongest 8388608\n", 3_758_096_384),
+        ("budget 3766484991\nlongest 8388608\n", 3_766_484_991),
+    ];
+    for (limit, budget) in cases {
+        let rest = "timeout 60\nunit 0 10 2 1 1000\ngo\n";
+        let all = joined(&rt, rt.alloc(), &["credits 64\n", limit, rest]);
+        let script = read_script(rt.alloc(), all.as_bytes())?;
+        assert_eq!(rt; script.config.budget(), budget, "of {limit:?}");
+    }
+    Ok(())
 }
 
 /// A header of sixteen units, up to its `go`.

@@ -1,6 +1,5 @@
 use Rattle.std.proofs.Common.{◌+◌, ◌<◌, ◌^◌, subst, sym}
 use Rattle.std.specs.Prelude.{sum_by}
-use Rattle.mscp_queue.specs.declared.record.Record.{Record}
 use Rattle.mscp_queue.specs.Records.{left_of}
 use Rattle.mscp_queue.proofs.Sums.{held_small}
 use Rattle.mscp_queue.proofs.queue.Queue.look.Goals as goal
