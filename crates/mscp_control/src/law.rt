@@ -8,10 +8,10 @@ use mscp_queue::Picker;
 
 /// Every legal trace of a valid configuration, whoever answered it, keeps the promise: untaken ends and
 /// waiting commands never exceed the credits, no start passes a sequential command of its unit, a sequential command
-/// passes none of its unit, and no command is passed more often than the passing limit. Every waiting
+/// passes none of its unit, and no command is passed by more blocks than the budget. Every waiting
 /// command's figure falls at each step and never rises between steps, is at least 1 exactly while the command
-/// waits, at most the bound, and what the end of a poll of the command tells; and each command ends within so many
-/// steps. At most one command is in service, and if none is, the oldest that waits may start. Each end has the body of its
+/// waits, at most the bound, and what the end of a poll of the command reports; and each queued command ends within the
+/// bound. At most one command is in service, and if none is, the oldest that waits may start. Each end has the body of its
 /// endcode.
 pub fn legal_traces_make_progress()
     ensures { LegalTracesMakeProgress }

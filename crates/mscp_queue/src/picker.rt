@@ -6,7 +6,7 @@ ghost use Rattle.mscp_queue.specs.Pickers.{IsSweep};
 use crate::view::View;
 
 /// Picks the command that starts, of those that may. Any choice is lawful: what a queue shows may start, and the
-/// passing limit holds whoever picks.
+/// budget of each waiting command is kept, whoever picks.
 pub trait Picker {
     ghost use Rattle.std.specs.Prelude.{◌<◌, ℕ, List, length};
     ghost use Rattle.mscp_queue.specs.declared.view.Choice.{Choice};
