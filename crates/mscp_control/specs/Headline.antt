@@ -1,7 +1,7 @@
--- The promise of a run, whole: for every configuration, picker and list of events, `run` answers a legal trace: untaken
--- ends and waiting commands never exceed C, none passes a sequential command of its unit, none is passed more than P
--- times; every waiting command's status figure falls at each step, never rises between steps, and each queued command
--- ends within (C - 1 + P) * L steps. C is the number of credits, P the passing limit and L the longest transfer.
+-- The promise of a run, whole, with C credits, a budget of Q blocks and transfers of at most L blocks. For every
+-- configuration, picker and list of events, `run` answers a legal trace: untaken and waiting commands never exceed C,
+-- none passes a sequential command of its unit, none is passed by more than Q blocks; every waiting command's status
+-- figure falls at each step, never rises between steps, and each queued command ends within `(C - 1) * L + Q` steps.
 -- Nothing here names a picker: whatever it picks of what may start, the promise holds.
 use Rattle.std.specs.Prelude.{◌≡◌, ◌↔◌, ℕ, ◌+◌, ◌<◌, ◌≤◌, true, List, [], ◌∷◌, ◌++◌, length, filter, take, zip, All, Contains, slice_get, Some}
 use Rattle.mscp_packet.specs.declared.command.Command.{Command}

@@ -104,8 +104,8 @@ pub(crate) fn figure_of_reference(budget: u32, records: &[Record], reference: u3
 }
 
 /// Reference number and figure of each record, in order. What is left before a record and of one in service after it is
-/// kept from place to place, so each record is looked at once. It isn't made part of its caller, since the caller's caller
-/// would then have room for a list more than once on its stack.
+/// kept from place to place, so each record is looked at once. It isn't made part of its caller, since the caller's
+/// caller would then have room for a list more than once on its stack.
 #[tactic(auto, using(crate::proofs::Sums::figures_more))]
 #[inline(never)]
 pub(crate) fn figures(budget: u32, records: &[Record]) -> ArrayVec<(u32, u32), 64>

@@ -6,7 +6,7 @@ ghost use Rattle.mscp_queue.specs.Pickers.{IsSweep};
 use crate::view::View;
 
 /// Picks the command that starts, of those that may. Any choice is lawful: what a queue shows may start, and the
-/// passing limit holds whoever picks.
+/// budget of each waiting command is kept, whoever picks.
 pub trait Picker {
     ghost use Rattle.std.specs.Prelude.{◌<◌, ℕ, List, length};
     ghost use Rattle.mscp_queue.specs.declared.view.Choice.{Choice};
@@ -14,9 +14,9 @@ pub trait Picker {
     // Which places of a view the picker may pick. It may depend on the picker's own value, and leave a choice.
     ghost picks: { Self → List Choice → ℕ → Type 0 };
 
-    /// The place of the command that starts: if the view isn't empty it is a place in it, one of those that the picker may
-    /// pick. A queue may ask more than once for one start, and then it takes one of the answers. So a picker that counts
-    /// its calls counts no starts.
+    /// The place of the command that starts: if the view isn't empty it is a place in it, one of those that the picker
+    /// may pick. A queue may ask more than once for one start, and then it takes one of the answers. So a picker that
+    /// counts its calls counts no starts.
     fn pick(&self, view: &View) -> usize
         ensures place { 0 < length view.now → result < length view.now }
         ensures allowed { 0 < length view.now → picks self.now view.now result };
