@@ -126,11 +126,13 @@ struct mscp_unit {
     uint16_t cylinder; /* in groups */
 };
 
-/* The limits of a controller: no command waits for more than (credits - 1) * longest + budget steps. A limit of so many
- * passes is a budget of (uint64_t)passes * longest. */
+/* The limits of a controller: no command waits for more than (credits - 1) * longest + budget steps. Where a later
+ * command starts before a waiting one, that costs the budget of the waiting one all the steps that the later one takes:
+ * its blocks, 1 where it has none. It may start only if no budget is overdrawn. So that later commands may go first
+ * so many times, each time with a longest transfer, the budget is (uint64_t)times * longest. */
 struct mscp_limits {
     uint64_t id;      /* of the controller, which the host is told */
-    uint64_t budget;  /* by how many blocks a waiting command may be passed by later ones */
+    uint64_t budget;  /* the blocks that later commands may have in all that start before a waiting command */
     uint32_t credits; /* commands that wait and ends that weren't taken, together: 2 to 64 */
     uint32_t longest; /* the longest transfer in blocks: 1 to 8388608 */
     uint16_t timeout; /* in seconds, which the host is told: 1 to 255 */
