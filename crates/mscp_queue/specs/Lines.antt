@@ -13,9 +13,9 @@ use Rattle.mscp_queue.specs.Names.{Name, name_of}
 use Rattle.mscp_queue.specs.Records.{Record, drive_at, fresh_record, record_at, without}
 use Rattle.mscp_queue.specs.Serving.{IsNext, begun_without, drives_after, report_of, upcoming_of, waiting_after}
 
--- how many commands may wait, how often one may be passed, and the longest transfer in blocks (profile); the waiting
--- commands, in order of arrival; the drives, in the order of their units; what was begun, if something was; and who
--- picks
+-- how many commands may wait, by how many blocks one may be passed, and the longest transfer in blocks (profile); the
+-- waiting commands, in order of arrival; the drives, in the order of their units; what was begun, if something was; and
+-- who picks
 pub record Line (K : Type 0) : Type 0 where
   pub room : ℕ
   pub budget : ℕ
