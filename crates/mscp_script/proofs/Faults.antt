@@ -4,9 +4,9 @@ use Rattle.std.specs.Prelude.{IsErrAnd, Result, Ok, Err}
 use Rattle.std.proofs.lemmas.Bool.{true≢false}
 use Rattle.mscp_script.specs.declared.reading.ReadAllFault.{ReadAllFault}
 use Rattle.mscp_script.specs.declared.reading.ReadAllFault.TheVariants as readings
-use Rattle.mscp_script.specs.declared.script.fault.ReadFault.{ReadFault}
-use Rattle.mscp_script.specs.declared.script.fault.ReadFault.TheVariants as scripts
-use Rattle.mscp_script.specs.declared.script.fault.ScriptFault.{ScriptFault}
+use Rattle.mscp_reader.specs.declared.fault.ReadFault.{ReadFault}
+use Rattle.mscp_reader.specs.declared.fault.ReadFault.TheVariants as scripts
+use Rattle.mscp_reader.specs.declared.fault.ScriptFault.{ScriptFault}
 use Rattle.mscp_script.specs.declared.simulation.SimFault.{SimFault}
 use Rattle.mscp_script.specs.declared.simulation.SimFault.TheVariants as faults
 use Rattle.mscp_script.specs.Simulated.{sim_of_reading, sim_of_script}

@@ -10,10 +10,10 @@ use Rattle.mscp_control.specs.declared.event.Event.{Event}
 use Rattle.mscp_control.specs.declared.event.Entry.{Entry}
 use Rattle.mscp_control.specs.Settings.{Settings}
 use Rattle.mscp_control.specs.Holdings.{Answered, Answers, Holdings, fresh}
-use Rattle.mscp_script.specs.Grammar.{HasGone}
-use Rattle.mscp_script.specs.Outcome.{rest_outcome}
+use Rattle.mscp_reader.specs.Grammar.{HasGone}
+use Rattle.mscp_reader.specs.Outcome.{rest_outcome}
 use Rattle.mscp_script.specs.Running.{Meets, Ran, Runs}
-use Rattle.mscp_script.specs.declared.script.fault.ScriptFault.{ScriptFault}
+use Rattle.mscp_reader.specs.declared.fault.ScriptFault.{ScriptFault}
 use Rattle.mscp_script.specs.declared.running.Run.{Run}
 use Rattle.mscp_script.specs.Text.{Reported, ended_count, entry_lines, queued_count, reported, seek_of, step_count, with_entry}
 

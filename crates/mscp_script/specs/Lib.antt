@@ -1,14 +1,6 @@
 pub mod Whole
 pub mod Text
 pub mod Counted
-pub mod Steps
-pub mod Lexical
-pub mod Requests
-pub mod Grammar
-pub mod Plain
-pub mod Outcome
 pub mod Simulated
 pub mod Running
-pub mod Causes
-pub mod Shown
 pub mod Chosen

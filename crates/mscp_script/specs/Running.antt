@@ -7,11 +7,11 @@ use Rattle.mscp_control.specs.Settings.{Settings}
 use Rattle.mscp_control.specs.Holdings.{Answered, Answers, fresh}
 use Rattle.mscp_script.specs.declared.running.Run.{Run}
 use Rattle.mscp_script.specs.Text.{reported, with_entry}
-use Rattle.mscp_script.specs.Grammar.{HasGone}
-use Rattle.mscp_script.specs.Outcome.{Fails, rest_outcome}
+use Rattle.mscp_reader.specs.Grammar.{HasGone}
+use Rattle.mscp_reader.specs.Outcome.{Fails, rest_outcome}
 use Rattle.mscp_script.specs.Simulated.{IsReportOf}
-use Rattle.mscp_script.specs.declared.script.fault.ScriptFault.{ScriptFault}
-use Rattle.mscp_script.specs.declared.script.fault.ReadFault.{ReadFault}
+use Rattle.mscp_reader.specs.declared.fault.ScriptFault.{ScriptFault}
+use Rattle.mscp_reader.specs.declared.fault.ReadFault.{ReadFault}
 
 -- an event came: the controller answered an entry, which is reported
 pub record Ran (old new : Run) (event : Event) : Type 0 where

@@ -5,15 +5,15 @@ use Rattle.mscp_control.specs.declared.event.Event.{Event}
 use Rattle.mscp_control.specs.declared.event.Entry.{Entry}
 use Rattle.mscp_script.specs.declared.reading.ReadAllFault.{ReadAllFault}
 use Rattle.mscp_script.specs.declared.reading.ReadAllFault.TheVariants as readings
-use Rattle.mscp_script.specs.declared.script.fault.ReadFault.{ReadFault}
-use Rattle.mscp_script.specs.declared.script.fault.ReadFault.TheVariants as scripts
+use Rattle.mscp_reader.specs.declared.fault.ReadFault.{ReadFault}
+use Rattle.mscp_reader.specs.declared.fault.ReadFault.TheVariants as scripts
 use Rattle.mscp_script.specs.declared.simulation.SimFault.{SimFault}
 use Rattle.mscp_script.specs.declared.simulation.SimFault.TheVariants as faults
 use Rattle.mscp_control.specs.Settings.{IsValid, Settings}
 use Rattle.mscp_control.specs.Headline.{Headline}
 use Rattle.mscp_control.specs.Sweeping.{IsSweeping}
 use Rattle.mscp_script.specs.Text.{text}
-use Rattle.mscp_script.specs.Grammar.{Reads}
+use Rattle.mscp_reader.specs.Grammar.{Reads}
 use Rattle.mscp_script.specs.Whole.{IsFront, IsRest, most_read}
 
 -- the bytes are the text of a run of these events under this valid configuration, which has the headline, and in which

@@ -1,23 +1,21 @@
-//! Scripts of commands for a disk controller, and reports of what it answered.
+//! What the program does: scripts are run and reported, packets shown. What scripts mean is passed on from `mscp_reader`,
+//! the line of a packet from `mscp_text`.
 #![tactic(auto)]
 
 mod choosing;
-mod decoding;
-mod packet;
 mod reading;
+mod reported;
 mod reporting;
 mod running;
-mod script;
 mod simulation;
 mod stream;
-mod text;
 mod totals;
 
 pub use crate::choosing::{Deed, LineFault, choose};
-pub use crate::packet::{ShowFault, show_packet};
 pub use crate::reporting::report;
-pub use crate::script::{
-    Cause, ReadFault, Script, ScriptFault, read_script, scripts_have_one_meaning,
-};
 pub use crate::simulation::{SimFault, simulate};
 pub use crate::stream::{Failed, Sink, Source, Stream};
+pub use mscp_reader::{
+    Cause, ReadFault, Script, ScriptFault, read_script, scripts_have_one_meaning,
+};
+pub use mscp_text::{ShowFault, show_packet};

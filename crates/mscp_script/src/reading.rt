@@ -6,8 +6,8 @@ ghost use Rattle.mscp_script.specs.Whole.{IsFront, IsRest, most_read};
 #[cfg(test)]
 mod tests;
 
-use crate::script::MOST_BYTES;
 use crate::stream::Source;
+use mscp_reader::MOST_BYTES;
 use std::alloc::Global;
 
 /// How many bytes are read at most: one more than the longest script has.

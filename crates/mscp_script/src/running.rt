@@ -5,15 +5,15 @@ ghost use Rattle.mscp_control.specs.Holdings.{fresh};
 ghost use Rattle.mscp_control.specs.Settings.{IsValid};
 ghost use Rattle.mscp_control.specs.declared.event.Event.TheVariants as events;
 ghost use Rattle.mscp_queue.specs.declared.block.Block.TheVariants.{Good};
-ghost use Rattle.mscp_script.specs.Plain.{plain_request};
-ghost use Rattle.mscp_script.specs.Requests.{events_of};
+ghost use Rattle.mscp_reader.specs.Plain.{plain_request};
+ghost use Rattle.mscp_reader.specs.Requests.{events_of};
 ghost use Rattle.mscp_script.specs.Running.{Meets, Ran};
 ghost use Rattle.mscp_script.specs.Text.{finished, reported};
 
 use crate::reporting::Reporter;
-use crate::script::{Plain, Request};
 use mscp_control::{Block, Config, Controller, OutOfMemory, Sweep};
 use mscp_packet::write_command;
+use mscp_reader::{Plain, Request};
 use std::alloc::Global;
 
 /// A controller whose picker sweeps, and the report of what it answered so far. No entry is kept.

@@ -1,7 +1,7 @@
 // A script in, its report out.
 
 ghost use Rattle.std.specs.Prelude.{◌≡◌, ◌↔◌, true, false};
-ghost use Rattle.mscp_script.specs.Grammar.{IsFault};
+ghost use Rattle.mscp_reader.specs.Grammar.{IsFault};
 ghost use Rattle.mscp_script.specs.Simulated.{IsGiven, LeavesRest, WritesOnce, WritesReport, sim_of_reading, sim_of_script};
 ghost use Rattle.mscp_script.specs.declared.simulation.SimFault.TheVariants as faults;
 
@@ -9,8 +9,9 @@ ghost use Rattle.mscp_script.specs.declared.simulation.SimFault.TheVariants as f
 mod tests;
 
 use crate::reading::{LIMIT, ReadAllFault, read_all};
-use crate::script::{ReadFault, ScriptFault, report_script};
+use crate::reported::report_script;
 use crate::stream::{Failed, Sink, Source};
+use mscp_reader::{ReadFault, ScriptFault};
 use std::alloc::Global;
 use thiserror::Error;
 

@@ -1,10 +1,10 @@
 -- How the program ends.
 use Rattle.std.specs.Prelude.{ℕ, List, [], ◌∷◌, ◌++◌, codes, Result, Ok, Err}
 use Rattle.std.specs.Fmt.{decimal}
-use Rattle.mscp_script.specs.declared.packet.ShowFault.{ShowFault}
-use Rattle.mscp_script.specs.declared.packet.ShowFault.TheVariants as shows
+use Rattle.mscp_text.specs.declared.packet.ShowFault.{ShowFault}
+use Rattle.mscp_text.specs.declared.packet.ShowFault.TheVariants as shows
 use Rattle.mscp_script.specs.declared.simulation.SimFault.TheVariants as sims
-use Rattle.mscp_script.specs.Causes.{cause_word}
+use Rattle.mscp_reader.specs.Causes.{cause_word}
 use Rattle.mscpq.specs.declared.fault.Fault.{Fault}
 use Rattle.mscpq.specs.declared.fault.Fault.TheVariants.{Usage, Simulation, Packet, Open, Write, OutOfMemory}
 

@@ -1,8 +1,8 @@
 -- What the printing of a packet leaves in the writer.
 use Rattle.std.specs.Prelude.{◌≡◌, ℕ, ◌+◌, List, Option, option_map, Result, Ok, Err, IsOk}
 use Rattle.std.specs.Io.KnownBytes.{Appends}
-use Rattle.mscp_script.specs.Shown.{Shows}
-use Rattle.mscp_script.specs.declared.packet.ShowFault.{ShowFault}
+use Rattle.mscp_text.specs.Shown.{Shows}
+use Rattle.mscp_text.specs.declared.packet.ShowFault.{ShowFault}
 use Rattle.mscpq.specs.declared.fault.Fault.{Fault}
 use Rattle.mscpq.specs.declared.fault.Fault.TheVariants as faults
 

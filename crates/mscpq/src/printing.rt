@@ -1,7 +1,7 @@
 // The line of a packet, written.
 
 ghost use Rattle.std.specs.Prelude.{◌≡◌, ◌↔◌, true, false};
-ghost use Rattle.mscp_script.specs.Shown.{shown};
+ghost use Rattle.mscp_text.specs.Shown.{shown};
 ghost use Rattle.mscpq.specs.Printed.{Prints, PrintsOnce};
 
 use crate::fault::Fault;

@@ -7,11 +7,11 @@ ghost use Rattle.mscp_control.specs.declared.event.Entry.TheVariants as entries;
 ghost use Rattle.mscp_script.specs.Text.{aborted_part, block_word, end_line, ended_part, entry_lines, figure_line, last_line, refusal_word, sent_line, step_line};
 
 use crate::reporting::tail::Tail;
-use crate::text::{put, put_field};
 use crate::totals::Totals;
 use arrayvec::ArrayVec;
 use mscp_control::{Report, SendFault, Sent};
 use mscp_packet::End;
+use mscp_text::{put, put_field};
 use std::alloc::AllocError;
 
 /// The word of a refusal.

@@ -1,0 +1,40 @@
+-- Decimal digits.
+use Rattle.std.proofs.Common.{◌≡◌, ◌<◌, ◌≤◌, ◌+◌, ◌-◌, ◌*◌, ◌^◌, ◌++◌, ℕ, true, List, take, length, get_or, arith}
+use Rattle.std.specs.Prelude.{OnOk, if◌then◌else◌, Result, Ok, Err}
+use Rattle.std.specs.Result.{is_ok}
+use Rattle.std.specs.Fmt.{decimal}
+use Rattle.std.proofs.lemmas.Fmt.{length-decimal-le}
+use Rattle.std.specs.List.{list_all}
+use Rattle.std.specs.Str.Parse.{digits_value}
+use Rattle.std.proofs.lemmas.Bool.Decides.{nat_tests}
+use Rattle.std.proofs.lemmas.Grind.{common_steps}
+use Rattle.std.proofs.lemmas.Int.Digits.{digits_value_more}
+use Rattle.std.proofs.lemmas.Str.{digit_value_digit}
+use Rattle.std.proofs.lemmas.List.Folds.{list_all_more}
+use Rattle.mscp_reader.specs.Lexical.{is_digit}
+
+pub value_more : (word : List ℕ) (i v : ℕ) → i < length word → 48 ≤ get_or word i 0 → get_or word i 0 ≤ 57
+    → v ≡ digits_value 10 (take i word) → v * 10 + (get_or word i 0 - 48) ≡ digits_value 10 (take (i + 1) word)
+value_more word i v h low high e = omega (
+  arith,
+  digits_value_more 10 word i h,
+  digit_value_digit (get_or word i 0)
+      (low, high),
+)
+
+pub all_more : (word : List ℕ) (i : ℕ) → i < length word → 48 ≤ get_or word i 0 → get_or word i 0 ≤ 57
+    → list_all is_digit (take i word) ≡ true → list_all is_digit (take (i + 1) word) ≡ true
+all_more word i h low high e = rw (list_all_more is_digit word i 0 h, e) (grind (arith, nat_tests))
+
+pub small_more : (i v d : ℕ) → d < 10 → v < 10 ^ i → v * 10 + d < 10 ^ (i + 1)
+small_more i v d h e = grind (arith, common_steps)
+
+-- ---- how many there are
+
+pub few_digits : (n : ℕ) → n < 2 ^ 32 → length (decimal n) ≤ 10
+few_digits n h = length-decimal-le 10 n (omega arith) (omega (arith, h)) (omega (arith, h))
+
+pub on_ok : {T E : Type 0} (r : Result T E) (new old more : List ℕ) → new ≡ (if is_ok r then old ++ more else old)
+    → OnOk r (new ≡ old ++ more)
+on_ok (Ok v) new old more h = h
+on_ok (Err e) new old more h = tt

@@ -1,0 +1,8 @@
+pub mod Cuts
+pub mod PlainLines
+pub mod Digits
+pub mod Outcomes
+pub mod Rising
+pub mod Sound
+pub mod Whole
+mod RunsScripts

@@ -1,0 +1,318 @@
+-- Plain lines: what is cut off them, and what they say.
+use Rattle.std.proofs.Common.{◌≡◌, ◌<◌, ◌≤◌, ◌+◌, ◌-◌, ◌==◌, ◌&&◌, ◌∙◌, ℕ, Bool, true, false, not, suc, zero, subst, map, List, [], ◌∷◌, ◌++◌, length, take, drop, get_or, refl, sym, ap, arith, Ok, Err}
+use Rattle.std.specs.Prelude.{position, unwrap_or, nat_le, nat_lt, if◌then◌else◌, Some, Result}
+use Rattle.std.specs.List.{filter, list_all, slice_split}
+use Rattle.std.specs.Str.Lines.{strip_carriage_return}
+use Rattle.std.proofs.lemmas.Bool.{and_parts, and_from}
+use Rattle.std.proofs.lemmas.Bool.Decides.{nat_tests}
+use Rattle.std.proofs.lemmas.List.{append_assoc, append-nil, length-append, length-drop, length-take-le, take-append-drop, take_all}
+use Rattle.std.proofs.Math.Seq.{take-append_seam}
+use Rattle.std.specs.Str.Parse.{digits_value}
+use Rattle.mscp_packet.specs.declared.command.Order.{Order}
+use Rattle.mscp_packet.specs.declared.command.Order.TheVariants as orders
+use Rattle.mscp_packet.specs.declared.command.MoveKind.{MoveKind}
+use Rattle.mscp_reader.specs.Lexical.{is_comment, is_digit, is_numeral, is_printed, is_some_word, lines, narrow, number, said, steps_in, wide, without_empty_last, words}
+use Rattle.mscp_reader.specs.Plain.{plain_request, Asks, Cuts, CutsWord, Ends, IsApart, IsNumeral, IsPlain, is_letter}
+use Rattle.mscp_reader.specs.Requests.{asked, events_of, form_of, request, sent}
+use Rattle.mscp_reader.specs.Grammar.{HasGone, Place, next, said_at}
+use Rattle.mscp_reader.specs.Outcome.{in_line, onward, lines_outcome, rest_outcome}
+use Rattle.mscp_reader.specs.declared.events.Form.{Form}
+use Rattle.mscp_reader.specs.declared.events.Form.TheVariants as forms
+use Rattle.mscp_reader.specs.declared.events.Request.{Request}
+use Rattle.mscp_reader.specs.declared.events.Request.TheVariants as requests
+use Rattle.mscp_reader.specs.declared.fault.Cause.{Cause}
+use Rattle.mscp_reader.specs.declared.fault.Cause.TheVariants as causes
+use Rattle.mscp_reader.specs.declared.plain.Plain.{Plain}
+use Rattle.mscp_control.specs.Settings.{Settings}
+use Rattle.mscp_control.specs.declared.event.Event.{Event}
+use Rattle.mscp_reader.proofs.Outcomes.{speaks}
+use Rattle.mscp_reader.proofs.Cuts.{front_len, front_len_is, parts_after, split_parts, words_none}
+
+-- ---- letters and digits
+
+letters_step : (x : ℕ) (xs : List ℕ) (b : Bool) → is_letter x ≡ b
+    → list_all is_letter (take (front_len (λ c. not (is_letter c)) xs) xs) ≡ true
+    → list_all is_letter (take (front_len (λ c. not (is_letter c)) (x ∷ xs)) (x ∷ xs)) ≡ true
+letters_step x xs true e h = rw (e, e, h) refl
+letters_step x xs false e h = rw e refl
+
+letters_front : (xs : List ℕ) → list_all is_letter (take (front_len (λ c. not (is_letter c)) xs) xs) ≡ true
+letters_front [] = refl
+letters_front (x ∷ xs) = letters_step x xs (is_letter x) refl (letters_front xs)
+
+-- letters stand before the first other byte
+pub letters : (xs : List ℕ) → list_all is_letter (take (unwrap_or (position (λ c. not (is_letter c)) xs) (length xs))
+    xs) ≡ true
+letters xs = rw (front_len_is (λ c. not (is_letter c)) xs) (letters_front xs)
+
+-- a printed byte that is no space
+abbrev pub is_solid : ℕ → Bool
+is_solid b = not (b == 32) && is_printed b
+
+-- each byte is solid
+abbrev pub AllSolid : List ℕ → Type 0
+AllSolid w = list_all is_solid w ≡ true
+
+solid_letter : (b : ℕ) → is_letter b ≡ true → is_solid b ≡ true
+solid_letter b h = grind (arith, nat_tests)
+
+solid_digit : (b : ℕ) → is_digit b ≡ true → is_solid b ≡ true
+solid_digit b h = grind (arith, nat_tests)
+
+pub solid_letters : (w : List ℕ) → list_all is_letter w ≡ true → AllSolid w
+solid_letters [] h = refl
+solid_letters (b ∷ w) h = let p = and_parts (is_letter b) (list_all is_letter w) h in
+    and_from _ _ (solid_letter b p.0) (solid_letters w p.1)
+
+pub solid_digits : (w : List ℕ) → list_all is_digit w ≡ true → AllSolid w
+solid_digits [] h = refl
+solid_digits (b ∷ w) h = let p = and_parts (is_digit b) (list_all is_digit w) h in
+    and_from _ _ (solid_digit b p.0) (solid_digits w p.1)
+
+solid_apart : (b : ℕ) → is_solid b ≡ true → (b == 32) ≡ false
+solid_apart b h = grind (arith, nat_tests)
+
+solid_printed : (b : ℕ) → is_solid b ≡ true → is_printed b ≡ true
+solid_printed b h = grind (arith, nat_tests)
+
+printed_front : (w line : List ℕ) → AllSolid w → list_all is_printed line ≡ true
+    → list_all is_printed (w ++ line) ≡ true
+printed_front [] line solid h = h
+printed_front (b ∷ w) line solid h = let p = and_parts (is_solid b) (list_all is_solid w) solid in
+    and_from _ _ (solid_printed b p.0) (printed_front w line p.1 h)
+
+-- ---- words
+
+apart_split : (line : List ℕ) → IsApart line → slice_split (λ b. b == 32) line ≡ [] ∷ parts_after (λ b. b == 32) line
+apart_split [] h = refl
+apart_split (b ∷ line) h = rw h refl
+
+word_split : (w line : List ℕ) → AllSolid w → IsApart line
+    → slice_split (λ b. b == 32) (w ++ line) ≡ w ∷ parts_after (λ b. b == 32) line
+word_split [] line solid h = apart_split line h
+word_split (b ∷ w) line solid h =
+    let p = and_parts (is_solid b) (list_all is_solid w) solid in
+    rw (solid_apart b p.0, word_split w line p.1 h) refl
+
+apart_words : (line : List ℕ) → IsApart line → filter is_some_word (parts_after (λ b. b == 32) line) ≡ words line
+unfolding words
+apart_words [] h = refl
+apart_words (b ∷ line) h = rw h refl
+
+pub word_front : (w line : List ℕ) → 0 < length w → AllSolid w → IsApart line → words (w ++ line) ≡ w ∷ words line
+unfolding words
+word_front [] line some solid h = absurd (omega arith)
+word_front (b ∷ w) line some solid h = ap (filter is_some_word) (word_split (b ∷ w) line solid h)
+    ∙ ap (λ ws. (b ∷ w) ∷ ws) (apart_words line h)
+
+after_space : (line : List ℕ) → words (32 ∷ line) ≡ words line
+unfolding words
+after_space line = refl
+
+-- a space and a word were cut off
+pub cut_word : (w new : List ℕ) → 0 < length w → AllSolid w → Cuts (32 ∷ (w ++ new)) (w ∷ []) new
+cut_word w new some solid = λ more behind e. record {
+  line = 32 ∷ (w ++ e.line);
+  whole = ap (λ xs. 32 ∷ (w ++ xs)) e.whole ∙ ap (λ xs. 32 ∷ xs) (sym (append_assoc w e.line (10 ∷ behind)));
+  apart = refl;
+  printed = printed_front w e.line solid e.printed;
+  are = after_space (w ++ e.line) ∙ word_front w e.line some solid e.apart ∙ ap (λ ws. w ∷ ws) e.are;
+}
+
+-- a first byte that was seen
+pub seen : (xs : List ℕ) (b : ℕ) → 0 < length xs → get_or xs 0 0 ≡ b → xs ≡ b ∷ take (length xs - 1) (drop 1 xs)
+seen [] b some e = absurd (omega arith)
+seen (x ∷ xs) b some e = ap (λ y. y ∷ xs) e ∙ ap (λ ys. b ∷ ys) (sym (take_all (length (x ∷ xs) - 1) xs (omega arith)))
+
+-- a line feed was cut off
+pub at_feed : (xs behind : List ℕ) → xs ≡ 10 ∷ behind → Ends xs [] behind
+at_feed xs behind e = record { line = []; whole = e; apart = tt; printed = refl; are = words_none }
+
+-- ---- the line
+
+printed_fed : (b : ℕ) → is_printed b ≡ true → (b == 10) ≡ false
+printed_fed b h = grind (arith, nat_tests)
+
+feed_split : (line behind : List ℕ) → list_all is_printed line ≡ true
+    → slice_split (λ b. b == 10) (line ++ 10 ∷ behind) ≡ line ∷ slice_split (λ b. b == 10) behind
+feed_split [] behind h = refl
+feed_split (b ∷ line) behind h = let p = and_parts (is_printed b) (list_all is_printed line) h in
+    rw (printed_fed b p.0, feed_split line behind p.1) refl
+
+pub said_plain : (line : List ℕ) → length line ≤ 200 → is_comment line ≡ false → list_all is_printed line ≡ true
+    → said line ≡ Ok (words line)
+unfolding said
+said_plain line short other printed = rw (other, printed) (grind (arith, nat_tests))
+
+-- ---- numbers
+
+number_word : (most : ℕ) (w : List ℕ) → list_all is_digit w ≡ true → 0 < length w → length w ≤ 10
+    → digits_value 10 w ≤ most → number most w ≡ Ok (digits_value 10 w)
+unfolding number
+number_word most w digits some few small = rw digits (grind (arith, nat_tests))
+
+-- a space and a number were cut off
+pub cut_number : (old : List ℕ) (value digits : ℕ) → 0 < length old → get_or old 0 0 ≡ 32
+    → IsNumeral value digits (take (length old - 1) (drop 1 old)) → ¬ (digits ≡ 0) → value ≤ 4294967295
+    → CutsWord wide value old (take (length (take (length old - 1) (drop 1 old)) - digits)
+    (drop digits (take (length old - 1) (drop 1 old))))
+cut_number old value digits some space numeral least small =
+    let bytes : List ℕ = take (length old - 1) (drop 1 old) in
+    let word : List ℕ = take digits bytes in
+    let rest : List ℕ = drop digits bytes in
+    let new : List ℕ = take (length bytes - digits) rest in
+    let size : length word ≡ digits = length-take-le digits bytes numeral.within in
+    let whole : 32 ∷ (word ++ new) ≡ old = ap (λ xs. 32 ∷ (word ++ xs))
+    (take_all (length bytes - digits) rest (omega (arith, length-drop digits bytes)))
+    ∙ ap (λ xs. 32 ∷ xs) (take-append-drop digits bytes) ∙ sym (seen old 32 some space) in
+    let long : 0 < length word = omega (arith, size, least) in
+    let means : wide word ≡ Ok value = number_word 4294967295 word numeral.all long (omega (arith, size, numeral.few))
+    (omega (arith, numeral.value, small)) ∙ ap Ok (sym numeral.value) in
+    (word, means, subst (λ xs. Cuts xs (word ∷ []) new) whole (cut_word word new long (solid_digits word numeral.all)))
+
+narrow_step : (d v : ℕ) (b : Bool) → nat_le d 4294967295 ≡ b
+    → (let r : Result ℕ Cause = if b then Ok d else Err causes.Number in r ≡ Ok v) → v ≤ 65535
+    → (let r : Result ℕ Cause = if nat_le d 65535 then Ok d else Err causes.Number in r ≡ Ok v)
+narrow_step d v true e h small = let same : d ≡ v = cc in let fits : nat_le d 65535 ≡ true =
+    grind (arith, nat_tests, same) in rw fits h
+narrow_step d v false e h small = cc
+
+narrow_case : (d v : ℕ) (b : Bool) → (let r : Result ℕ Cause =
+    if b && nat_le d 4294967295 then Ok d else Err causes.Number in r ≡ Ok v) → v ≤ 65535
+    → (let r : Result ℕ Cause = if b && nat_le d 65535 then Ok d else Err causes.Number in r ≡ Ok v)
+narrow_case d v true h small = narrow_step d v (nat_le d 4294967295) refl h small
+narrow_case d v false h small = cc
+
+pub narrow_is : (word : List ℕ) (v : ℕ) → wide word ≡ Ok v → v ≤ 65535 → narrow word ≡ Ok v
+unfolding number
+narrow_is word v h small = narrow_case (digits_value 10 word) v (is_numeral word) h small
+
+-- ---- requests
+
+pub transfer_asks : (kind : MoveKind) (xs ys zs us vs : List ℕ) (r u c b : ℕ) → CutsWord wide r xs ys
+    → CutsWord narrow u ys zs → CutsWord wide c zs us → CutsWord wide b us vs
+    → Asks (forms.Transfer kind) (sent r u (orders.Move kind c b)) xs vs
+unfolding asked
+transfer_asks kind xs ys zs us vs r u c b p q s t = (
+  p.0 ∷ q.0 ∷ s.0 ∷ t.0 ∷ [],
+  rw (p.1, q.1, s.1, t.1) refl,
+  λ more behind e. p.2 _ behind (q.2 _ behind (s.2 _ behind (t.2 more behind e))),
+)
+
+pub other_asks : (order : Order) (xs ys zs : List ℕ) (r u : ℕ) → CutsWord wide r xs ys → CutsWord narrow u ys zs
+    → Asks (forms.Plain order) (sent r u order) xs zs
+unfolding asked
+other_asks order xs ys zs r u p q = (
+  p.0 ∷ q.0 ∷ [],
+  rw (p.1, q.1) refl,
+  λ more behind e.
+      p.2 _ behind (q.2 more behind e),
+)
+
+pub poll_asks : (xs ys zs : List ℕ) (r o : ℕ) → CutsWord wide r xs ys → CutsWord wide o ys zs
+    → Asks forms.Status (sent r 0 (orders.Status o)) xs zs
+unfolding asked
+poll_asks xs ys zs r o p q = (p.0 ∷ q.0 ∷ [], rw (p.1, q.1) refl, λ more behind e. p.2 _ behind (q.2 more behind e))
+
+pub steps_asks : (xs ys : List ℕ) (n : ℕ) → CutsWord wide n xs ys → 1 ≤ n → n ≤ 1000
+    → Asks forms.Step (requests.Steps n) xs ys
+unfolding asked
+steps_asks xs ys n p low high =
+    let fits : steps_in n ≡ Ok n = grind (arith, nat_tests) in
+    (p.0 ∷ [], rw (p.1, fits) refl, λ more behind e. p.2 more behind e)
+
+pub take_asks : (xs : List ℕ) → Asks forms.Take requests.Take xs xs
+unfolding asked
+take_asks xs = ([], refl, λ more behind e. e)
+
+pub look_asks : (xs : List ℕ) → Asks forms.Look requests.Look xs xs
+unfolding asked
+look_asks xs = ([], refl, λ more behind e. e)
+
+some_word : (w : List ℕ) (form : Form) → form_of w ≡ Some form → 0 < length w
+unfolding form_of
+some_word [] form h = cc
+some_word (b ∷ w) form h = omega arith
+
+letter_first : (b : ℕ) → is_letter b ≡ true → (b == 35) ≡ false
+letter_first b h = grind (arith, nat_tests)
+
+no_comment : (w line : List ℕ) → 0 < length w → list_all is_letter w ≡ true → is_comment (w ++ line) ≡ false
+no_comment [] line some h = absurd (omega arith)
+no_comment (b ∷ w) line some h = letter_first b (and_parts (is_letter b) (list_all is_letter w) h).0
+
+pub plain_is : (bytes w rest new behind : List ℕ) (form : Form) (what : Request) → bytes ≡ w ++ rest
+    → list_all is_letter w ≡ true → form_of w ≡ Some form → Asks form what rest new → Ends new [] behind
+    → IsPlain bytes what behind
+unfolding request
+plain_is bytes w rest new behind form what is letters known asks ends =
+    let e = asks.2 [] behind ends in
+    let some = some_word w form known in
+    let solid = solid_letters w letters in
+    record {
+      line = w ++ e.line;
+      whole = is ∙ ap (λ xs. w ++ xs) e.whole ∙ sym (append_assoc w e.line (10 ∷ behind));
+      printed = printed_front w e.line solid e.printed;
+      said = no_comment w e.line some letters;
+      asks = rw (word_front w e.line some solid e.apart, known, e.are ∙ append-nil asks.0) asks.1;
+    }
+
+-- ---- the outcome
+
+last_printed : (line : List ℕ) (i : ℕ) → list_all is_printed line ≡ true → (get_or line i 0 == 13) ≡ false
+last_printed [] i h = refl
+last_printed (b ∷ line) zero h = let p = (and_parts (is_printed b) (list_all is_printed line) h).0 in
+    grind (arith, nat_tests, p)
+last_printed (b ∷ line) (suc i) h = last_printed line i (and_parts (is_printed b) (list_all is_printed line) h).1
+
+strip_printed : (line : List ℕ) → list_all is_printed line ≡ true → strip_carriage_return line ≡ line
+strip_printed line h = rw (last_printed line (length line - 1) h) refl
+
+plain_lines : (line behind : List ℕ) → list_all is_printed line ≡ true
+    → lines (line ++ 10 ∷ behind) ≡ line ∷ lines behind
+unfolding lines
+plain_lines line behind h =
+    ap (λ parts. map strip_carriage_return (without_empty_last parts)) (feed_split line behind h)
+    ∙ ap (map strip_carriage_return) (split_parts (λ b. b == 10) behind line)
+    ∙ ap (λ l. l ∷ map strip_carriage_return (without_empty_last (slice_split (λ b. b == 10) behind)))
+    (strip_printed line h)
+
+some_words : (ws : List (List ℕ)) (what : Request) → request ws ≡ Ok what → ¬ (ws ≡ [])
+unfolding request
+some_words [] what h = λ e. cc
+some_words (w ∷ ws) what h = λ e. cc
+
+said_by : (n : ℕ) (line : List ℕ) → n + 1 ≤ 1000000 → said line ≡ Ok (words line)
+    → in_line (n + 1) (said_at (n + 1) line) ≡ Ok (words line)
+said_by n line few h = let fits : nat_lt 1000000 (n + 1) ≡ false = grind (arith, nat_tests) in rw (fits, h) refl
+
+-- what becomes of the lines of which the first is plain
+pub plain_onward : (n : ℕ) (bytes behind : List ℕ) (what : Request) (r : IsPlain bytes what behind) → n + 1 ≤ 1000000
+    → length r.line ≤ 200
+    → (p : Place) → rest_outcome n p bytes ≡ onward (n + 1) p (words r.line) (lines behind)
+plain_onward n bytes behind what r few short p =
+    ap (λ xs. rest_outcome n p xs) r.whole
+    ∙ ap (lines_outcome n p) (plain_lines r.line behind r.printed)
+    ∙ speaks n r.line (lines behind) (words r.line) (said_by n r.line few (said_plain r.line short r.said r.printed))
+    (some_words _ what r.asks) p
+
+-- its length, and the line itself
+pub line_length : (bytes behind : List ℕ) (what : Request) (r : IsPlain bytes what behind)
+    → length bytes - length behind - 1 ≡ length r.line
+line_length bytes behind what r = omega (arith, ap length r.whole, length-append r.line (10 ∷ behind))
+
+pub line_of : (bytes behind : List ℕ) (what : Request) (r : IsPlain bytes what behind)
+    → take (length bytes - length behind - 1) bytes ≡ r.line
+line_of bytes behind what r = rw (line_length bytes behind what r)
+    (ap (take (length r.line)) r.whole ∙ take-append_seam r.line (10 ∷ behind))
+
+-- what a plain line leads to, where its events aren't too many
+pub plain_next : (s : Settings) (es : List Event) (said : List (List ℕ)) (plain : Plain) (n : ℕ)
+    → request said ≡ Ok (plain_request plain)
+    → length es + length (events_of (plain_request plain)) ≤ 1000000
+    → in_line n (next (HasGone s es) said) ≡ Ok (HasGone s (es ++ events_of (plain_request plain)))
+unfolding next
+plain_next s es said plain n asks few =
+    let fits : nat_le (length es + length (events_of (plain_request plain))) 1000000 ≡ true =
+    grind (arith, nat_tests) in
+    rw (asks, fits) refl

@@ -1,0 +1,280 @@
+-- Literal scripts: what they mean, and a fault of each cause.
+use Rattle.std.proofs.Common.{◌≡◌, ◌+◌, ℕ, List, [], ◌∷◌, ◌++◌, length, refl, lit≤, lit<, inl}
+use Rattle.std.specs.Prelude.{codes, replicate, Ok, Err}
+use Rattle.std.specs.List.{flat_map}
+use Rattle.mscp_drive.specs.Shape.{Shape}
+use Rattle.mscp_control.specs.Settings.{Settings}
+use Rattle.mscp_queue.specs.declared.block.Block.TheVariants.{Good, Bad}
+use Rattle.mscp_control.specs.declared.event.Event.{Event}
+use Rattle.mscp_control.specs.declared.event.Event.TheVariants as events
+use Rattle.mscp_packet.specs.declared.command.Order.TheVariants as orders
+use Rattle.mscp_packet.specs.declared.command.MoveKind.TheVariants as moves
+use Rattle.mscp_packet.specs.Commands.{command_bytes}
+use Rattle.mscp_reader.specs.declared.fault.Cause.{Cause}
+use Rattle.mscp_reader.specs.declared.fault.Cause.TheVariants as causes
+use Rattle.mscp_reader.specs.declared.fault.ScriptFault.{ScriptFault}
+use Rattle.mscp_reader.specs.Lexical.{lines, words, said, number, message, status}
+use Rattle.mscp_reader.specs.Requests.{form_of, asked, request}
+use Rattle.mscp_reader.specs.Grammar.{Place, HasGone, setting, limit, unit_of, more_units, first_units, with_unit, gone, unit_or_go, next, after_line, Reads, IsFault}
+use Rattle.mscp_reader.specs.Outcome.{lines_outcome}
+use Rattle.mscp_reader.proofs.Sound.{is_read, is_fault}
+use Rattle.hex.specs.Hex.{decode_pairs}
+
+-- ---- short words
+
+-- these lines, each ended by a line feed
+abbrev text : List (List ℕ) → List ℕ
+text all = flat_map (λ line. line ++ 10 ∷ []) all
+
+abbrev limits_lines : List (List ℕ)
+limits_lines = codes "credits 4" ∷ codes "passing 0" ∷ codes "longest 8" ∷ codes "timeout 60" ∷ []
+
+abbrev header : List (List ℕ)
+header = limits_lines ++ codes "unit 0 10 2 1 1000" ∷ codes "go" ∷ []
+
+abbrev shape : ℕ → Shape
+shape n = record { number = n; track = 10; group = 2; cylinder = 1; size = 1000; id = n + 1; media = 0; serial = n + 1 }
+
+abbrev settings : List Shape → Settings
+settings units = record { credits = 4; budget = 0; longest = 8; timeout = 60; id = 1; units = units }
+
+abbrev at_line : ℕ → Cause → ScriptFault
+at_line n cause = record { line = n; cause = cause }
+
+-- ---- lines, words and numbers
+
+-- the last line may lack its line feed, and one carriage return is dropped at each line's end
+lines_cut : lines (codes "a" ++ 10 ∷ 10 ∷ codes "b" ++ 13 ∷ 10 ∷ 13 ∷ 13 ∷ []) ≡ codes "a" ∷ [] ∷ codes "b" ∷ (13 ∷ [])
+    ∷ []
+unfolding lines
+lines_cut = refl
+
+lines_ended : lines (codes "a" ++ 10 ∷ []) ≡ codes "a" ∷ []
+unfolding lines
+lines_ended = refl
+
+lines_of_nothing : lines [] ≡ []
+unfolding lines
+lines_of_nothing = refl
+
+words_cut : words (codes "  step   12 ") ≡ codes "step" ∷ codes "12" ∷ []
+unfolding words
+words_cut = refl
+
+number_padded : number 4294967295 (codes "0000000012") ≡ Ok 12
+unfolding number
+number_padded = refl
+
+number_of_eleven : number 4294967295 (codes "00000000012") ≡ Err causes.Number
+unfolding number
+number_of_eleven = refl
+
+number_greatest : number 4294967295 (codes "4294967295") ≡ Ok 4294967295
+unfolding number
+number_greatest = refl
+
+number_past : number 4294967295 (codes "4294967296") ≡ Err causes.Number
+unfolding number
+number_past = refl
+
+-- ---- scripts that are read
+
+abbrev shown : List (List ℕ)
+shown =
+    header ++ codes "# a comment" ∷ [] ∷ codes "read 1 0 1024 5" ∷ codes " step  2 " ∷ codes "bad 00E8"
+    ∷ codes "packet 0aFF" ∷ codes "abort 2 1" ∷ codes "take" ∷ codes "look" ∷ []
+
+abbrev sent : ℕ → ℕ → orders.the_data → Event
+sent r u o = events.Send (record { items = command_bytes (record { reference = r; unit = u; order = o }) })
+
+abbrev asked_for : List Event
+asked_for =
+    sent 1 0 (orders.Move moves.Read 1024 5) ∷ events.Step Good ∷ events.Step Good ∷ events.Step (Bad 0xE8)
+    ∷ events.Send (record { items = 0x0A ∷ 0xFF ∷ [] }) ∷ sent 2 0 (orders.Abort 1) ∷ events.Take ∷ events.Look ∷ []
+
+shown_read : Reads (text shown) (settings (shape 0 ∷ [])) asked_for
+unfolding lines words said number message status form_of asked request setting limit unit_of more_units first_units
+    with_unit
+    gone unit_or_go next after_line lines_outcome decode_pairs
+shown_read = is_read (text shown) (settings (shape 0 ∷ [])) asked_for (lit≤ tt) refl
+
+-- two units
+abbrev two : List (List ℕ)
+two = limits_lines ++ codes "unit 0 10 2 1 1000" ∷ codes "unit 7 10 2 1 1000" ∷ codes "go" ∷ []
+
+two_read : Reads (text two) (settings (shape 0 ∷ shape 7 ∷ [])) []
+unfolding lines words said number message status form_of asked request setting limit unit_of more_units first_units
+    with_unit
+    gone unit_or_go next after_line lines_outcome decode_pairs
+two_read = is_read (text two) (settings (shape 0 ∷ shape 7 ∷ [])) [] (lit≤ tt) refl
+
+-- ---- a fault of each cause
+
+abbrev Faulty : List (List ℕ) → ℕ → Cause → Type 0
+Faulty all n cause = IsFault (text all) (at_line n cause)
+
+-- a comment may be too long as well
+abbrev long : List (List ℕ)
+long = header ++ replicate 201 32 ∷ []
+
+long_fault : Faulty long 7 causes.Long
+unfolding lines words said number message status form_of asked request setting limit unit_of more_units first_units
+    with_unit
+    gone unit_or_go next after_line lines_outcome decode_pairs
+long_fault = is_fault (text long) (at_line 7 causes.Long) (lit≤ tt) refl
+
+-- a tab
+abbrev byte : List (List ℕ)
+byte = header ++ (9 ∷ codes "take") ∷ []
+
+byte_fault : Faulty byte 7 causes.Byte
+unfolding lines words said number message status form_of asked request setting limit unit_of more_units first_units
+    with_unit
+    gone unit_or_go next after_line lines_outcome decode_pairs
+byte_fault = is_fault (text byte) (at_line 7 causes.Byte) (lit≤ tt) refl
+
+-- a line of the header that comes again
+abbrev again : List (List ℕ)
+again = header ++ codes "credits 4" ∷ []
+
+again_fault : Faulty again 7 causes.Word
+unfolding lines words said number message status form_of asked request setting limit unit_of more_units first_units
+    with_unit
+    gone unit_or_go next after_line lines_outcome decode_pairs
+again_fault = is_fault (text again) (at_line 7 causes.Word) (lit≤ tt) refl
+
+-- another line of the header than is due
+abbrev word_first : List (List ℕ)
+word_first = codes "passing 0" ∷ []
+
+word_first_fault : Faulty word_first 1 causes.Word
+unfolding lines words said number message status form_of asked request setting limit unit_of more_units first_units
+    with_unit
+    gone unit_or_go next after_line lines_outcome decode_pairs
+word_first_fault = is_fault (text word_first) (at_line 1 causes.Word) (lit≤ tt) refl
+
+-- spaces before what would be a comment
+abbrev word_comment : List (List ℕ)
+word_comment = header ++ codes " # no comment" ∷ []
+
+word_comment_fault : Faulty word_comment 7 causes.Word
+unfolding lines words said number message status form_of asked request setting limit unit_of more_units first_units
+    with_unit
+    gone unit_or_go next after_line lines_outcome decode_pairs
+word_comment_fault = is_fault (text word_comment) (at_line 7 causes.Word) (lit≤ tt) refl
+
+-- a word too many
+abbrev count : List (List ℕ)
+count = header ++ codes "take 1" ∷ []
+
+count_fault : Faulty count 7 causes.Count
+unfolding lines words said number message status form_of asked request setting limit unit_of more_units first_units
+    with_unit
+    gone unit_or_go next after_line lines_outcome decode_pairs
+count_fault = is_fault (text count) (at_line 7 causes.Count) (lit≤ tt) refl
+
+-- too few words come before a wrong number
+abbrev count_first : List (List ℕ)
+count_first = header ++ codes "read 1 x" ∷ []
+
+count_first_fault : Faulty count_first 7 causes.Count
+unfolding lines words said number message status form_of asked request setting limit unit_of more_units first_units
+    with_unit
+    gone unit_or_go next after_line lines_outcome decode_pairs
+count_first_fault = is_fault (text count_first) (at_line 7 causes.Count) (lit≤ tt) refl
+
+-- no step
+abbrev zero_steps : List (List ℕ)
+zero_steps = header ++ codes "step 0" ∷ []
+
+zero_steps_fault : Faulty zero_steps 7 causes.Number
+unfolding lines words said number message status form_of asked request setting limit unit_of more_units first_units
+    with_unit
+    gone unit_or_go next after_line lines_outcome decode_pairs
+zero_steps_fault = is_fault (text zero_steps) (at_line 7 causes.Number) (lit≤ tt) refl
+
+-- an odd number of digits
+abbrev odd_digits : List (List ℕ)
+odd_digits = header ++ codes "packet abc" ∷ []
+
+odd_digits_fault : Faulty odd_digits 7 causes.Hex
+unfolding lines words said number message status form_of asked request setting limit unit_of more_units first_units
+    with_unit
+    gone unit_or_go next after_line lines_outcome decode_pairs
+odd_digits_fault = is_fault (text odd_digits) (at_line 7 causes.Hex) (lit≤ tt) refl
+
+-- too few digits of a status
+abbrev hex_four : List (List ℕ)
+hex_four = header ++ codes "bad 0" ∷ []
+
+hex_four_fault : Faulty hex_four 7 causes.Hex
+unfolding lines words said number message status form_of asked request setting limit unit_of more_units first_units
+    with_unit
+    gone unit_or_go next after_line lines_outcome decode_pairs
+hex_four_fault = is_fault (text hex_four) (at_line 7 causes.Hex) (lit≤ tt) refl
+
+-- code 4
+abbrev code_four : List (List ℕ)
+code_four = header ++ codes "bad 0004" ∷ []
+
+code_four_fault : Faulty code_four 7 causes.Status
+unfolding lines words said number message status form_of asked request setting limit unit_of more_units first_units
+    with_unit
+    gone unit_or_go next after_line lines_outcome decode_pairs
+code_four_fault = is_fault (text code_four) (at_line 7 causes.Status) (lit≤ tt) refl
+
+-- a size of zero
+abbrev no_size : List (List ℕ)
+no_size = limits_lines ++ codes "unit 0 0 2 1 1000" ∷ []
+
+no_size_fault : Faulty no_size 5 causes.Unit
+unfolding lines words said number message status form_of asked request setting limit unit_of more_units first_units
+    with_unit
+    gone unit_or_go next after_line lines_outcome decode_pairs
+no_size_fault = is_fault (text no_size) (at_line 5 causes.Unit) (lit≤ tt) refl
+
+-- a number that doesn't rise
+abbrev unit_again : List (List ℕ)
+unit_again = limits_lines ++ codes "unit 3 10 2 1 1000" ∷ codes "unit 3 10 2 1 1000" ∷ []
+
+unit_again_fault : Faulty unit_again 6 causes.Unit
+unfolding lines words said number message status form_of asked request setting limit unit_of more_units first_units
+    with_unit
+    gone unit_or_go next after_line lines_outcome decode_pairs
+unit_again_fault = is_fault (text unit_again) (at_line 6 causes.Unit) (lit≤ tt) refl
+
+-- one credit: at go, before what comes later
+abbrev one_credit : List (List ℕ)
+one_credit = codes "credits 1" ∷ codes "passing 0" ∷ codes "longest 8" ∷ codes "timeout 60" ∷ codes "unit 0 10 2 1 1000"
+    ∷ codes "go" ∷ codes "wrong" ∷ []
+
+one_credit_fault : Faulty one_credit 6 causes.Config
+unfolding lines words said number message status form_of asked request setting limit unit_of more_units first_units
+    with_unit
+    gone unit_or_go next after_line lines_outcome decode_pairs
+one_credit_fault = is_fault (text one_credit) (at_line 6 causes.Config) (lit≤ tt) refl
+
+-- the script ends before go
+abbrev no_go : List (List ℕ)
+no_go = limits_lines ++ [] ∷ []
+
+no_go_fault : Faulty no_go 6 causes.Header
+unfolding lines words said number message status form_of asked request setting limit unit_of more_units first_units
+    with_unit
+    gone unit_or_go next after_line lines_outcome decode_pairs
+no_go_fault = is_fault (text no_go) (at_line 6 causes.Header) (lit≤ tt) refl
+
+-- line 1,000,001, whatever stands in it
+lines_fault : (p : Place) (line : List ℕ) → after_line 1000000 p line ≡ Err causes.Lines
+unfolding after_line
+lines_fault p line = refl
+
+-- one event more than 1,000,000
+events_fault : (s : Settings) (es : List Event) → length es ≡ 1000000
+    → next (HasGone s es) (codes "take" ∷ []) ≡ Err causes.Events
+unfolding next words form_of asked request
+events_fault s es e = rw e refl
+
+-- one byte more than 16,777,216
+size_fault : (bytes : List ℕ) → length bytes ≡ 16777217 → IsFault bytes (at_line 0 causes.Size)
+size_fault bytes e = inl (rw e (lit< tt), refl)

@@ -1,0 +1,14 @@
+use Rattle.std.proofs.Common.{◌≡◌, ◌≤◌, length}
+use Rattle.mscp_reader.specs.Grammar.{Place}
+use Rattle.mscp_reader.specs.Outcome.{rest_outcome}
+use Rattle.mscp_reader.proofs.lines.Lines.next_line.Given as goal
+
+abbrev pub invariant-loop-bytes : goal.invariant-loop-bytes
+invariant-loop-bytes l = record {
+  shorter : length l.self.rest.now ≤ length l.initial.self.rest.now;
+  same : (p : Place) → rest_outcome l.initial.self.number p l.initial.self.rest.now
+      ≡ rest_outcome l.self.number p l.self.rest.now;
+}
+
+abbrev pub decreases-loop-bytes : goal.decreases-loop-bytes
+decreases-loop-bytes l = length l.self.rest.now

@@ -1,0 +1,18 @@
+use Rattle.std.proofs.Common.{◌-◌, ◌≡◌, ◌<◌, ◌≤◌, ◌^◌, true, length, take}
+use Rattle.std.specs.List.{list_all}
+use Rattle.std.specs.Str.Parse.{digits_value}
+use Rattle.mscp_reader.specs.Lexical.{is_digit}
+use Rattle.mscp_reader.proofs.plain.numeral_of.Given as goal
+
+abbrev pub invariant-loop-digits : goal.invariant-loop-digits
+invariant-loop-digits l = record {
+  most : l.digits ≤ l.most;
+  few : l.most ≤ 10;
+  within : l.most ≤ length l.bytes;
+  all : list_all is_digit (take l.digits l.bytes) ≡ true;
+  value : l.value ≡ digits_value 10 (take l.digits l.bytes);
+  small : l.value < 10 ^ l.digits;
+}
+
+abbrev pub decreases-loop-digits : goal.decreases-loop-digits
+decreases-loop-digits l = l.most - l.digits

@@ -1,0 +1,16 @@
+use Rattle.std.proofs.Common.{◌≡◌, ◌++◌, ◌∙◌, sym, true}
+use Rattle.std.specs.List.{list_all}
+use Rattle.std.proofs.lemmas.List.{take-append-drop}
+use Rattle.mscp_reader.specs.Plain.{is_letter}
+use Rattle.mscp_reader.proofs.PlainLines.{plain_is}
+use Rattle.mscp_reader.proofs.plain.read_plain.Goals as goal
+
+pub returns : goal.returns
+returns c =
+    let word = c.split_at.result.0.now in
+    let rest = c.split_at.result.1.now in
+    let whole : c.args.bytes.now ≡ word ++ rest = rw (c.split_at.ensures.front, c.split_at.ensures.back)
+    (sym (take-append-drop c.letter_count.result c.args.bytes.now)) in
+    let letters : list_all is_letter word ≡ true = rw c.split_at.ensures.front c.letter_count.ensures.letters in
+    plain_is _ word rest _ _ c.in_ok-form.form _ whole letters (sym c.form_of.ensures ∙ c.in_ok-form.was)
+    c.in_ok-plain.ensures c.in_ok-behind.ensures

@@ -1,0 +1,6 @@
+pub mod Lexical
+pub mod Requests
+pub mod Grammar
+pub mod Plain
+pub mod Outcome
+pub mod Causes

@@ -1,0 +1,140 @@
+-- What a line after the header asks for.
+use Rattle.std.specs.Prelude.{ℕ, if◌then◌else◌, List, [], ◌∷◌, replicate, codes, Option, Some, None, Result, Ok, Err}
+use Rattle.std.specs.Str.{bytes_eq}
+use Rattle.mscp_packet.specs.Commands.{command_bytes}
+use Rattle.mscp_packet.specs.declared.command.Order.{Order}
+use Rattle.mscp_packet.specs.declared.command.Order.TheVariants as orders
+use Rattle.mscp_packet.specs.declared.command.MoveKind.TheVariants as moves
+use Rattle.mscp_queue.specs.declared.block.Block.TheVariants.{Good, Bad}
+use Rattle.mscp_control.specs.declared.event.Event.{Event}
+use Rattle.mscp_control.specs.declared.event.Event.TheVariants as events
+use Rattle.mscp_text.specs.Steps.{◌>>=◌}
+use Rattle.mscp_reader.specs.Lexical.{wide, narrow, steps_in, message, status, bad_in}
+use Rattle.mscp_reader.specs.declared.fault.Cause.{Cause}
+use Rattle.mscp_reader.specs.declared.fault.Cause.TheVariants as causes
+use Rattle.mscp_reader.specs.declared.events.Form.{Form}
+use Rattle.mscp_reader.specs.declared.events.Form.TheVariants as forms
+use Rattle.mscp_reader.specs.declared.events.Request.{Request}
+use Rattle.mscp_reader.specs.declared.events.Request.TheVariants as requests
+
+-- ---- so many fields and no others
+
+abbrev pub none : List (List ℕ) → Result (Unit {0}) Cause
+none [] = Ok tt
+none fields = Err causes.Count
+
+abbrev pub one : List (List ℕ) → Result (List ℕ) Cause
+one (a ∷ []) = Ok a
+one fields = Err causes.Count
+
+abbrev pub two : List (List ℕ) → Result (List ℕ × List ℕ) Cause
+two (a ∷ b ∷ []) = Ok (a, b)
+two fields = Err causes.Count
+
+abbrev pub four : List (List ℕ) → Result (List ℕ × List ℕ × List ℕ × List ℕ) Cause
+four (a ∷ b ∷ c ∷ d ∷ []) = Ok (a, b, c, d)
+four fields = Err causes.Count
+
+abbrev pub five : List (List ℕ) → Result (List ℕ × List ℕ × List ℕ × List ℕ × List ℕ) Cause
+five (a ∷ b ∷ c ∷ d ∷ e ∷ []) = Ok (a, b, c, d, e)
+five fields = Err causes.Count
+
+-- ---- the first word
+
+-- the form of a line with this first word, one line for each (profile)
+unfoldable pub form_of : List ℕ → Option Form
+form_of word =
+    if bytes_eq word (codes "read") then Some (forms.Transfer moves.Read) else (
+    if bytes_eq word (codes "write") then Some (forms.Transfer moves.Write) else (
+    if bytes_eq word (codes "access") then Some (forms.Transfer moves.Access) else (
+    if bytes_eq word (codes "erase") then Some (forms.Transfer moves.Erase) else (
+    if bytes_eq word (codes "compare") then Some (forms.Transfer moves.Compare) else (
+    if bytes_eq word (codes "online") then Some (forms.Plain orders.Online) else (
+    if bytes_eq word (codes "available") then Some (forms.Plain orders.Available) else (
+    if bytes_eq word (codes "setunit") then Some (forms.Plain orders.SetUnit) else (
+    if bytes_eq word (codes "unitstatus") then Some (forms.Plain orders.UnitStatus) else (
+    if bytes_eq word (codes "setcontroller") then Some forms.SetController else (
+    if bytes_eq word (codes "abort") then Some forms.Abort else (
+    if bytes_eq word (codes "status") then Some forms.Status else (
+    if bytes_eq word (codes "packet") then Some forms.Packet else (
+    if bytes_eq word (codes "step") then Some forms.Step else (
+    if bytes_eq word (codes "bad") then Some forms.Bad else (
+    if bytes_eq word (codes "take") then Some forms.Take else (
+    if bytes_eq word (codes "look") then Some forms.Look else None))))))))))))))))
+
+-- ---- the fields
+
+-- a command that the host sends
+abbrev pub sent : ℕ → ℕ → Order → Request
+sent reference unit order = requests.Send (record { reference = reference; unit = unit; order = order })
+
+-- a request that has no fields
+abbrev pub alone : Request → List (List ℕ) → Result Request Cause
+alone request fields = do
+  f ← none fields
+  Ok request
+
+-- what a line of this form asks for by these fields (profile)
+unfoldable pub asked : Form → List (List ℕ) → Result Request Cause
+asked (forms.Transfer kind) fields = do
+  f ← four fields
+  reference ← wide f.0
+  unit ← narrow f.1
+  count ← wide f.2
+  block ← wide f.3
+  Ok (sent reference unit (orders.Move kind count block))
+asked (forms.Plain order) fields = do
+  f ← two fields
+  reference ← wide f.0
+  unit ← narrow f.1
+  Ok (sent reference unit order)
+asked forms.SetController fields = do
+  f ← one fields
+  reference ← wide f
+  Ok (sent reference 0 (orders.SetController 0))
+asked forms.Abort fields = do
+  f ← two fields
+  reference ← wide f.0
+  other ← wide f.1
+  Ok (sent reference 0 (orders.Abort other))
+asked forms.Status fields = do
+  f ← two fields
+  reference ← wide f.0
+  other ← wide f.1
+  Ok (sent reference 0 (orders.Status other))
+asked forms.Packet fields = do
+  f ← one fields
+  bytes ← message f
+  Ok (requests.Packet (record { items = bytes }))
+asked forms.Step fields = do
+  f ← one fields
+  n ← wide f
+  count ← steps_in n
+  Ok (requests.Steps count)
+asked forms.Bad fields = do
+  f ← one fields
+  n ← status f
+  code ← bad_in n
+  Ok (requests.Bad code)
+asked forms.Take fields = alone requests.Take fields
+asked forms.Look fields = alone requests.Look fields
+
+-- what a line of this form, if it is one, asks for
+abbrev pub asked_if : Option Form → List (List ℕ) → Result Request Cause
+asked_if None fields = Err causes.Word
+asked_if (Some form) fields = asked form fields
+
+-- what the words of a line ask for (profile)
+unfoldable pub request : List (List ℕ) → Result Request Cause
+request [] = Err causes.Word
+request (word ∷ fields) = asked_if (form_of word) fields
+
+-- ---- its events
+
+abbrev pub events_of : Request → List Event
+events_of (requests.Send command) = events.Send (record { items = command_bytes command }) ∷ []
+events_of (requests.Packet bytes) = events.Send bytes ∷ []
+events_of requests.Take = events.Take ∷ []
+events_of requests.Look = events.Look ∷ []
+events_of (requests.Steps count) = replicate count (events.Step Good)
+events_of (requests.Bad code) = events.Step (Bad code) ∷ []

@@ -1,0 +1,332 @@
+// The lines after the header: what comes to the controller.
+
+ghost use Rattle.std.specs.Prelude.{◌≡◌, ◌+◌, ◌++◌, ◌≤◌, [], List, length, vec_len, IfOk, IfErr, OnOk};
+ghost use Rattle.mscp_packet.specs.Commands.{command_bytes};
+ghost use Rattle.mscp_control.specs.Settings.{Settings};
+ghost use Rattle.mscp_text.specs.Steps.{Gives};
+ghost use Rattle.mscp_reader.specs.Lexical as lexical;
+ghost use Rattle.mscp_reader.specs.Requests as requests;
+ghost use Rattle.mscp_reader.specs.Grammar.{HasGone, next};
+ghost use Rattle.mscp_reader.specs.Outcome.{Tells, in_line, rest_outcome};
+
+use crate::fault::{Cause, ReadFault, ScriptFault};
+use crate::lines::{Line, Lines};
+use crate::numbers::{message, narrow, status, wide};
+use crate::words::Words;
+use arrayvec::ArrayVec;
+use mscp_control::{Block, Event, FaultStatus, OutOfMemory};
+use mscp_packet::{Command, MoveKind, Order, write_command};
+use std::alloc::Global;
+
+/// The most events of a script.
+pub const MOST_EVENTS: usize = 1_000_000;
+
+/// The most steps of one line.
+pub const MOST_STEPS: u32 = 1000;
+
+/// What the first word of a line says that its fields are.
+#[derive(Clone, Copy, Debug)]
+pub enum Form {
+    /// REF UNIT BYTES LBN of a transfer.
+    Transfer(MoveKind),
+    /// REF UNIT of another command to a unit.
+    Plain(Order),
+    /// REF of a SET CONTROLLER CHARACTERISTICS.
+    SetController,
+    /// REF OTHER of an abort.
+    Abort,
+    /// REF OTHER of a poll.
+    Status,
+    /// HEX of a message.
+    Packet,
+    /// How many good blocks.
+    Step,
+    /// HEX4 of a bad block.
+    Bad,
+    /// No fields: an end is taken.
+    Take,
+    /// No fields: all figures are asked for.
+    Look,
+}
+
+/// What a line asks for.
+#[derive(Debug, Drop)]
+pub enum Request {
+    /// The host sends this command.
+    Send(Command),
+    /// The host sends these bytes.
+    Packet(ArrayVec<u8, 64>),
+    /// The host takes an end.
+    Take,
+    /// The drive serves so many good blocks.
+    Steps(u32),
+    /// The drive serves a bad block.
+    Bad(FaultStatus),
+    /// The figures of all waiting commands are asked for.
+    Look,
+}
+
+/// Reads all lines that are left.
+pub fn read_events(alloc: Global, lines: &mut Lines<'_>) -> Result<Vec<Event>, ReadFault>
+    ensures events { IfOk result (λ events. vec_len events ≤ MOST_EVENTS) }
+    ensures fault { (fault : ScriptFault) → result ≡ Err (ReadFault.Script fault) → 1 ≤ fault.line }
+    ensures outcome { (s : Settings) → Tells (λ events. (s, events.items)) result (rest_outcome lines.old.number
+        (HasGone s []) lines.old.rest.now) }
+{
+    let mut events = Vec::new(alloc);
+    while let Some(line) = lines.next_line()? {
+        read_line(&mut events, line)?;
+    }
+    Ok(events)
+}
+
+/// Reads a line, and appends its events.
+#[tactic(auto, unfolding(crate::specs::Grammar::next))]
+fn read_line(events: &mut Vec<Event>, line: Line<'_>) -> Result<(), ReadFault>
+    requires { vec_len events.old ≤ MOST_EVENTS }
+    ensures few { OnOk result (vec_len events.new ≤ MOST_EVENTS) }
+    ensures fault { (fault : ScriptFault) → result ≡ Err (ReadFault.Script fault) → 1 ≤ fault.line }
+    ensures next { (s : Settings) → Tells (λ done. HasGone s events.new.items) result
+        (in_line line.entry.number (next (HasGone s events.old.items) (lexical.words line.entry.words.rest.now))) }
+{
+    let request = request_after(line, events.len())?;
+    add_events(events, request)?;
+    Ok(())
+}
+
+/// What a line asks for, after so many events.
+#[tactic(auto, unfolding(crate::specs::Grammar::next))]
+pub fn request_after(line: Line<'_>, count: usize) -> Result<Request, ScriptFault>
+    requires { count ≤ MOST_EVENTS }
+    ensures line { IfErr result (λ fault. 1 ≤ fault.line) }
+    ensures few { IfOk result (λ request. count + length (requests.events_of request) ≤ MOST_EVENTS) }
+    ensures next { (s : Settings) (es : List Event) → length es ≡ count
+        → Gives (λ request. HasGone s (es ++ requests.events_of request)) result
+        (in_line line.entry.number (next (HasGone s es) (lexical.words line.entry.words.rest.now))) }
+{
+    let request = request_of(line)?;
+    if event_count(&request) > MOST_EVENTS - count {
+        return Err(ScriptFault {
+            line: line.number,
+            cause: Cause::Events,
+        });
+    }
+    Ok(request)
+}
+
+/// What a line asks for, with its number in its fault.
+fn request_of(line: Line<'_>) -> Result<Request, ScriptFault>
+    ensures line { IfErr result (λ fault. 1 ≤ fault.line) }
+    ensures request { result ≡ in_line line.entry.number (requests.request (lexical.words line.entry.words.rest.now)) }
+{
+    ScriptFault::at(line.number, read_request(line.words))
+}
+
+/// What the line of these words asks for. It isn't made part of its caller, where a request would be moved piece by piece
+/// from each way in which a line is read.
+#[inline(never)]
+#[tactic(auto, unfolding(crate::specs::Requests::request))]
+fn read_request(mut words: Words<'_>) -> Result<Request, Cause>
+    ensures { result ≡ requests.request (lexical.words words.entry.rest.now) }
+{
+    let Some(word) = words.next_word() else {
+        return Err(Cause::Word);
+    };
+    let Some(form) = form_of(word) else {
+        return Err(Cause::Word);
+    };
+    read_fields(form, words)
+}
+
+/// The form of the line of this first word. It is made part of its callers, which look at the form next.
+#[inline(always)]
+#[tactic(auto, unfolding(crate::specs::Requests::form_of))]
+pub fn form_of(word: &[u8]) -> Option<Form>
+    ensures { result ≡ requests.form_of word.now }
+{
+    match word {
+        b"read" => Some(Form::Transfer(MoveKind::Read)),
+        b"write" => Some(Form::Transfer(MoveKind::Write)),
+        b"access" => Some(Form::Transfer(MoveKind::Access)),
+        b"erase" => Some(Form::Transfer(MoveKind::Erase)),
+        b"compare" => Some(Form::Transfer(MoveKind::Compare)),
+        b"online" => Some(Form::Plain(Order::Online)),
+        b"available" => Some(Form::Plain(Order::Available)),
+        b"setunit" => Some(Form::Plain(Order::SetUnit)),
+        b"unitstatus" => Some(Form::Plain(Order::UnitStatus)),
+        b"setcontroller" => Some(Form::SetController),
+        b"abort" => Some(Form::Abort),
+        b"status" => Some(Form::Status),
+        b"packet" => Some(Form::Packet),
+        b"step" => Some(Form::Step),
+        b"bad" => Some(Form::Bad),
+        b"take" => Some(Form::Take),
+        b"look" => Some(Form::Look),
+        _ => None,
+    }
+}
+
+/// What a line of this form asks for by these fields.
+#[tactic(auto, unfolding(crate::specs::Requests::asked))]
+fn read_fields(form: Form, words: Words<'_>) -> Result<Request, Cause>
+    ensures { result ≡ requests.asked form (lexical.words words.entry.rest.now) }
+{
+    match form {
+        Form::Transfer(kind) => read_transfer(kind, words),
+        Form::Plain(order) => read_plain(order, words),
+        Form::SetController => read_controller(words),
+        Form::Abort => read_abort(words),
+        Form::Status => read_status(words),
+        Form::Packet => read_packet(words),
+        Form::Step => read_steps(words),
+        Form::Bad => read_bad(words),
+        Form::Take => alone(Request::Take, words),
+        Form::Look => alone(Request::Look, words),
+    }
+}
+
+/// A request that has no fields.
+fn alone(request: Request, words: Words<'_>) -> Result<Request, Cause>
+    ensures { result ≡ requests.alone request (lexical.words words.entry.rest.now) }
+{
+    words.none()?;
+    Ok(request)
+}
+
+/// A transfer: its reference number, its unit, how many bytes, and the first block.
+#[tactic(auto, unfolding(crate::specs::Requests::asked))]
+fn read_transfer(kind: MoveKind, words: Words<'_>) -> Result<Request, Cause>
+    ensures { result ≡ requests.asked (Form.Transfer kind) (lexical.words words.entry.rest.now) }
+{
+    let (reference, unit, count, block) = words.four()?;
+    Ok(Request::Send(Command {
+        reference: wide(reference)?,
+        unit: narrow(unit)?,
+        order: Order::Move(kind, wide(count)?, wide(block)?),
+    }))
+}
+
+/// Another command to a unit: its reference number, and its unit.
+#[tactic(auto, unfolding(crate::specs::Requests::asked))]
+fn read_plain(order: Order, words: Words<'_>) -> Result<Request, Cause>
+    ensures { result ≡ requests.asked (Form.Plain order) (lexical.words words.entry.rest.now) }
+{
+    let (reference, unit) = words.two()?;
+    Ok(Request::Send(Command {
+        reference: wide(reference)?,
+        unit: narrow(unit)?,
+        order,
+    }))
+}
+
+/// A SET CONTROLLER CHARACTERISTICS: its reference number.
+#[tactic(auto, unfolding(crate::specs::Requests::asked))]
+fn read_controller(words: Words<'_>) -> Result<Request, Cause>
+    ensures { result ≡ requests.asked Form.SetController (lexical.words words.entry.rest.now) }
+{
+    let reference = words.one()?;
+    Ok(Request::Send(Command {
+        reference: wide(reference)?,
+        unit: 0,
+        order: Order::SetController(0),
+    }))
+}
+
+/// An abort: its reference number, and that of the command to be aborted.
+#[tactic(auto, unfolding(crate::specs::Requests::asked))]
+fn read_abort(words: Words<'_>) -> Result<Request, Cause>
+    ensures { result ≡ requests.asked Form.Abort (lexical.words words.entry.rest.now) }
+{
+    let (reference, other) = words.two()?;
+    Ok(Request::Send(Command {
+        reference: wide(reference)?,
+        unit: 0,
+        order: Order::Abort(wide(other)?),
+    }))
+}
+
+/// A poll: its reference number, and that of the command that it is about.
+#[tactic(auto, unfolding(crate::specs::Requests::asked))]
+fn read_status(words: Words<'_>) -> Result<Request, Cause>
+    ensures { result ≡ requests.asked Form.Status (lexical.words words.entry.rest.now) }
+{
+    let (reference, other) = words.two()?;
+    Ok(Request::Send(Command {
+        reference: wide(reference)?,
+        unit: 0,
+        order: Order::Status(wide(other)?),
+    }))
+}
+
+/// A message as it is.
+#[tactic(auto, unfolding(crate::specs::Requests::asked))]
+fn read_packet(words: Words<'_>) -> Result<Request, Cause>
+    ensures { result ≡ requests.asked Form.Packet (lexical.words words.entry.rest.now) }
+{
+    Ok(Request::Packet(message(words.one()?)?))
+}
+
+/// So many steps: at least one.
+#[tactic(auto, unfolding(crate::specs::Requests::asked))]
+fn read_steps(words: Words<'_>) -> Result<Request, Cause>
+    ensures { result ≡ requests.asked Form.Step (lexical.words words.entry.rest.now) }
+{
+    let count = wide(words.one()?)?;
+    if !(1..=MOST_STEPS).contains(&count) {
+        return Err(Cause::Number);
+    }
+    Ok(Request::Steps(count))
+}
+
+/// A bad block of this status.
+#[tactic(auto, unfolding(crate::specs::Requests::asked))]
+fn read_bad(words: Words<'_>) -> Result<Request, Cause>
+    ensures { result ≡ requests.asked Form.Bad (lexical.words words.entry.rest.now) }
+{
+    let code = status(words.one()?)?;
+    match FaultStatus::new(code) {
+        Some(code) => Ok(Request::Bad(code)),
+        None => Err(Cause::Status),
+    }
+}
+
+/// The message of a command.
+fn command_message(command: &Command) -> ArrayVec<u8, 64>
+    ensures { result.items ≡ command_bytes command.now }
+{
+    let mut bytes = ArrayVec::new();
+    bytes
+        .try_extend_from_slice(write_command(command).as_slice())
+        .unwrap();
+    bytes
+}
+
+/// How many events a request is.
+fn event_count(request: &Request) -> usize
+    ensures { result ≡ length (requests.events_of request.now) }
+{
+    match request {
+        Request::Send(_) | Request::Packet(_) | Request::Take | Request::Look | Request::Bad(_) =>
+            1,
+        Request::Steps(count) => *count as usize,
+    }
+}
+
+/// Appends the events of a request.
+fn add_events(events: &mut Vec<Event>, request: Request) -> Result<(), OutOfMemory>
+    ensures { OnOk result (events.new.items ≡ events.old.items ++ requests.events_of request) }
+{
+    match request {
+        Request::Send(command) => events.push(Event::Send(command_message(&command)))?,
+        Request::Packet(bytes) => events.push(Event::Send(bytes))?,
+        Request::Take => events.push(Event::Take)?,
+        Request::Look => events.push(Event::Look)?,
+        Request::Bad(code) => events.push(Event::Step(Block::Bad(code)))?,
+        Request::Steps(count) => {
+            for _step in 0..count {
+                events.push(Event::Step(Block::Good))?;
+            }
+        }
+    }
+    Ok(())
+}

@@ -1,0 +1,22 @@
+//! Scripts: what their bytes ask for, line by line, and their first fault.
+#![tactic(auto)]
+
+mod events;
+mod fault;
+mod header;
+mod law;
+mod lines;
+mod numbers;
+mod pieces;
+mod plain;
+mod script;
+mod words;
+
+pub use crate::events::{MOST_EVENTS, Request, request_after};
+pub use crate::fault::{Cause, ReadFault, ScriptFault};
+pub use crate::header::read_header;
+pub use crate::law::scripts_have_one_meaning;
+pub use crate::lines::{Line, Lines, PlainLine};
+pub use crate::plain::Plain;
+pub use crate::script::{MOST_BYTES, Script, lines_of, read_script};
+pub use crate::words::Words;

@@ -1,0 +1,219 @@
+// The lines of a script.
+
+ghost use Rattle.std.specs.Prelude.{◌≡◌, ◌↔◌, ◌+◌, ◌<◌, ◌≤◌, [], ◌∷◌, length, IsTrue, IfSome, IfNone, IfOk, IfErr, drop, MatchOption, MatchResult, Ok, Err};
+ghost use Rattle.std.specs.List.{list_all};
+ghost use Rattle.std.specs.Str.Lines.{strip_carriage_return};
+ghost use Rattle.mscp_text.specs.Steps.{Gives};
+ghost use Rattle.mscp_reader.specs.Lexical as lexical;
+ghost use Rattle.mscp_reader.specs.Plain.{plain_request};
+ghost use Rattle.mscp_reader.specs.Requests.{request};
+ghost use Rattle.mscp_reader.specs.Grammar.{Place, IsInHeader};
+ghost use Rattle.mscp_reader.specs.Grammar.{said_at};
+ghost use Rattle.mscp_reader.specs.Outcome.{in_line, lines_outcome, rest_outcome, onward, all_read};
+ghost use Rattle.mscp_reader.specs.declared.script.TheConstants.{MOST_BYTES};
+
+use crate::fault::{Cause, ScriptFault};
+use crate::pieces::index_of;
+use crate::plain::{Plain, read_plain};
+use crate::script::MOST_BYTES;
+use crate::words::Words;
+
+/// The most lines that a script has.
+const MOST_LINES: u32 = 1_000_000;
+
+/// The most bytes that a line has.
+const LONGEST_LINE: usize = 200;
+
+/// A line that has a word: its number, and its words.
+#[derive(Clone, Copy, Debug)]
+pub struct Line<'a> {
+    pub number: u32,
+    pub words: Words<'a>,
+    pub ghost counted: { 1 ≤ number },
+}
+
+/// A plain line, and what it asks for.
+#[derive(Clone, Copy, Debug)]
+pub struct PlainLine<'a> {
+    pub line: Line<'a>,
+    pub plain: Plain,
+    pub ghost agrees: { request (lexical.words line.words.rest.now) ≡ Ok (plain_request plain) },
+}
+
+/// The lines of a script that are left, and how many were cut off.
+#[derive(Debug, Drop)]
+pub struct Lines<'a> {
+    pub rest: &'a [u8],
+    pub number: u32,
+    pub ghost countable: { number + length rest.now ≤ MOST_BYTES },
+}
+
+impl<'a> Lines<'a> {
+    /// The lines of a script.
+    pub fn new(script: &'a [u8]) -> Self
+        requires { length script.now ≤ MOST_BYTES }
+        ensures { (result.number ≡ 0) × (result.rest.now ≡ script.now) }
+    {
+        Lines {
+            rest: script,
+            number: 0,
+        }
+    }
+
+    /// The next line that has a word, if one is left. Comments and lines without a word are skipped.
+    pub fn next_line(&mut self) -> Result<Option<Line<'a>>, ScriptFault>
+        ensures shorter { IfOk result (λ line. IfSome line (λ _. length self.new.rest.now < length self.old.rest.now)) }
+        ensures fault { IfErr result (λ fault. 1 ≤ fault.line) }
+        ensures number { IfOk result (λ found. IfSome found (λ line. line.number ≡ self.new.number)) }
+        ensures none { IfOk result (λ found. IfNone found ((p : Place) → rest_outcome self.old.number p
+            self.old.rest.now ≡ all_read self.new.number p)) }
+        ensures some { IfOk result (λ found. IfSome found (λ line. (p : Place) → rest_outcome self.old.number p
+            self.old.rest.now
+            ≡ onward self.new.number p (lexical.words line.words.rest.now) (lexical.lines self.new.rest.now))) }
+        ensures wrong { IfErr result (λ fault. (p : Place) → rest_outcome self.old.number p self.old.rest.now ≡ Err
+            fault) }
+    {
+        while let Some(bytes) = self.cut() {
+            let words = words_of(self.number, bytes)?;
+            if !words.is_empty() {
+                return Ok(Some(Line {
+                    number: self.number,
+                    words,
+                }));
+            }
+        }
+        Ok(None)
+    }
+
+    /// The next line that has a word, which the header still needs.
+    pub fn header_line(&mut self) -> Result<Line<'a>, ScriptFault>
+        ensures shorter { IfOk result (λ _. length self.new.rest.now < length self.old.rest.now) }
+        ensures fault { IfErr result (λ fault. 1 ≤ fault.line) }
+        ensures number { IfOk result (λ line. line.number ≡ self.new.number) }
+        ensures some { IfOk result (λ line. (p : Place) → rest_outcome self.old.number p self.old.rest.now
+            ≡ onward self.new.number p (lexical.words line.words.rest.now) (lexical.lines self.new.rest.now)) }
+        ensures wrong { IfErr result (λ fault. (p : Place) → IsInHeader p → rest_outcome self.old.number p
+            self.old.rest.now ≡ Err fault) }
+    {
+        match self.next_line()? {
+            Some(line) => Ok(line),
+            None => Err(ScriptFault {
+                line: self.number + 1,
+                cause: Cause::Header,
+            }),
+        }
+    }
+
+    /// The next line, if it is found to be plain. Any other line stays, and nothing is said of it.
+    pub fn plain_line(&mut self) -> Option<PlainLine<'a>>
+        ensures shorter { IfSome result (λ _. length self.new.rest.now < length self.old.rest.now) }
+        ensures number { IfSome result (λ found. found.line.number ≡ self.new.number) }
+        ensures none { IfNone result ((self.new.number ≡ self.old.number) × (self.new.rest.now ≡ self.old.rest.now)) }
+        ensures some { IfSome result (λ found. (p : Place) → rest_outcome self.old.number p self.old.rest.now
+            ≡ onward self.new.number p (lexical.words found.line.words.rest.now) (lexical.lines self.new.rest.now)) }
+    {
+        let (plain, behind) = read_plain(self.rest)?;
+        let length = self.rest.len() - behind.len() - 1;
+        if length > LONGEST_LINE || self.number >= MOST_LINES {
+            return None;
+        }
+        let line = Line {
+            number: self.number + 1,
+            words: Words::new(&self.rest[..length]),
+        };
+        self.number += 1;
+        self.rest = behind;
+        Some(PlainLine { line, plain })
+    }
+
+    /// Cuts off the next line: up to a line feed or the end, without a carriage return there.
+    #[tactic(auto, using(crate::proofs::Cuts::line_ahead, crate::proofs::Cuts::lines_none))]
+    fn cut(&mut self) -> Option<&'a [u8]>
+        ensures shorter { IfSome result (λ _. length self.new.rest.now < length self.old.rest.now) }
+        ensures counted { MatchOption result (self.new.number ≡ self.old.number) (λ _. self.new.number
+            ≡ self.old.number + 1) }
+        ensures line { MatchOption result (lexical.lines self.old.rest.now ≡ []) (λ line. lexical.lines
+            self.old.rest.now ≡ line.now ∷ lexical.lines self.new.rest.now) }
+    {
+        if self.rest.is_empty() {
+            return None;
+        }
+        let end = index_of(self.rest, b'\n').unwrap_or(self.rest.len());
+        let (line, rest) = self.rest.split_at(end);
+        self.rest = without_first(rest);
+        self.number += 1;
+        Some(without_return(line))
+    }
+}
+
+/// All but the first byte, if there is one.
+fn without_first(bytes: &[u8]) -> &[u8]
+    ensures { result.now ≡ drop 1 bytes.now }
+{
+    match bytes {
+        [_first, rest @ ..] => rest,
+        [] => bytes,
+    }
+}
+
+/// A line without a carriage return at its end.
+fn without_return(line: &[u8]) -> &[u8]
+    ensures { result.now ≡ strip_carriage_return line.now }
+{
+    match line {
+        [front @ .., b'\r'] => front,
+        _ => line,
+    }
+}
+
+/// The words of a line of this number, with that number in its fault.
+fn words_of(number: u32, line: &[u8]) -> Result<Words<'_>, ScriptFault>
+    requires { 1 ≤ number }
+    ensures line { IfErr result (λ fault. 1 ≤ fault.line) }
+    ensures words { Gives (λ words. lexical.words words.rest.now) result (in_line number (said_at number line.now)) }
+{
+    ScriptFault::at(number, said_in(number, line))
+}
+
+/// The words of a line of this number. Too many lines, too long a line and a wrong byte come before any word; a
+/// comment has no word and no wrong byte.
+fn said_in(number: u32, line: &[u8]) -> Result<Words<'_>, Cause>
+    requires { 1 ≤ number }
+    ensures { Gives (λ words. lexical.words words.rest.now) result (said_at number line.now) }
+{
+    if number > MOST_LINES {
+        return Err(Cause::Lines);
+    }
+    said(line)
+}
+
+/// What a line says.
+#[tactic(auto, using(crate::proofs::Cuts::words_none), unfolding(crate::specs::Lexical::said))]
+fn said(line: &[u8]) -> Result<Words<'_>, Cause>
+    ensures { Gives (λ words. lexical.words words.rest.now) result (lexical.said line.now) }
+{
+    if line.len() > LONGEST_LINE {
+        return Err(Cause::Long);
+    }
+    if is_comment(line) {
+        return Ok(Words::new(b""));
+    }
+    if !is_printed(line) {
+        return Err(Cause::Byte);
+    }
+    Ok(Words::new(line))
+}
+
+/// Whether a line is a comment.
+fn is_comment(line: &[u8]) -> bool
+    ensures { result ≡ lexical.is_comment line.now }
+{
+    matches!(line, [b'#', ..])
+}
+
+/// Whether a line has spaces and printed ASCII characters alone.
+fn is_printed(line: &[u8]) -> bool
+    ensures { result ≡ list_all lexical.is_printed line.now }
+{
+    line.iter().all(|byte| b' ' <= *byte && *byte <= b'~')
+}

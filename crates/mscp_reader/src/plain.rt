@@ -1,0 +1,202 @@
+// Plain lines: a word, and then numbers behind one space each, up to a line feed. Most lines are plain, and are read in
+// one pass over their bytes. Any other line is left to the reader of all lines, which finds the faults, too.
+
+ghost use Rattle.std.specs.Prelude.{◌≡◌, ◌≤◌, [], true, not, position, take, length, IfSome};
+ghost use Rattle.std.specs.List.{list_all};
+ghost use Rattle.mscp_reader.specs.Lexical as lexical;
+ghost use Rattle.mscp_reader.specs.Requests as requests;
+ghost use Rattle.mscp_reader.specs.Plain.{Asks, CutsWord, Ends, IsNumeral, IsPlain, is_letter, plain_request};
+
+use crate::events::{Form, MOST_STEPS, Request, form_of};
+use crate::numbers::MOST_DIGITS;
+use mscp_packet::{Command, MoveKind, Order};
+
+/// What a plain line asks for.
+#[derive(Clone, Copy, Debug)]
+pub enum Plain {
+    /// The host sends this command.
+    Send(Command),
+    /// The host takes an end.
+    Take,
+    /// The figures of all waiting commands are asked for.
+    Look,
+    /// The drive serves so many good blocks.
+    Steps(u32),
+}
+
+impl Plain {
+    /// How many events it is.
+    pub fn event_count(self) -> usize
+        ensures { result ≡ length (requests.events_of (plain_request self)) }
+    {
+        match self {
+            Plain::Send(_) | Plain::Take | Plain::Look => 1,
+            Plain::Steps(count) => count as usize,
+        }
+    }
+}
+
+/// What the first line of these bytes asks for, and what stands behind it, if that line is found to be plain. Nothing is
+/// said of any other: the reader of all lines reads those.
+pub fn read_plain(bytes: &[u8]) -> Option<(Plain, &[u8])>
+    ensures { IfSome result (λ read. IsPlain bytes.now (plain_request read.0) read.1.now) }
+{
+    let (word, rest) = bytes.split_at(letter_count(bytes));
+    let form = form_of(word)?;
+    let mut fields = Fields { rest };
+    let plain = fields.plain(form)?;
+    Some((plain, fields.behind()?))
+}
+
+/// How many lower case letters bytes begin with.
+#[tactic(auto, using(crate::proofs::PlainLines::letters))]
+fn letter_count(bytes: &[u8]) -> usize
+    ensures within { result ≤ length bytes.now }
+    ensures letters { list_all is_letter (take result bytes.now) ≡ true }
+{
+    first_other(bytes).unwrap_or(bytes.len())
+}
+
+/// The index of the first byte that is no lower case letter.
+fn first_other(bytes: &[u8]) -> Option<usize>
+    ensures { result ≡ position (λ b. not (is_letter b)) bytes.now }
+{
+    bytes
+        .iter()
+        .position(|byte| !(b'a' <= *byte && *byte <= b'z'))
+}
+
+/// The digits that bytes begin with, at most 10, and their value.
+#[derive(Clone, Copy, Debug)]
+struct Numeral {
+    value: u64,
+    digits: usize,
+}
+
+/// The digits that these bytes begin with.
+fn numeral_of(bytes: &[u8]) -> Numeral
+    ensures { IsNumeral result.value result.digits bytes.now }
+{
+    let most = bytes.len().min(MOST_DIGITS);
+    let mut value = 0u64;
+    let mut digits = 0;
+    while digits < most && bytes[digits].is_ascii_digit() {
+        value = value * 10 + u64::from(bytes[digits] - b'0');
+        digits += 1;
+    }
+    Numeral { value, digits }
+}
+
+/// The fields of a plain line that are left, and what stands behind the line.
+#[derive(Debug, Drop)]
+struct Fields<'a> {
+    rest: &'a [u8],
+}
+
+impl<'a> Fields<'a> {
+    /// Cuts off what a line of this form asks for by its fields.
+    fn plain(&mut self, form: Form) -> Option<Plain>
+        ensures { IfSome result (λ plain. Asks form (plain_request plain) self.old.rest.now self.new.rest.now) }
+    {
+        match form {
+            Form::Transfer(kind) => Some(Plain::Send(self.transfer(kind)?)),
+            Form::Plain(order) => Some(Plain::Send(self.other(order)?)),
+            Form::Status => Some(Plain::Send(self.poll()?)),
+            Form::Step => Some(Plain::Steps(self.steps()?)),
+            Form::Take => Some(Plain::Take),
+            Form::Look => Some(Plain::Look),
+            _ => None,
+        }
+    }
+
+    /// Cuts off the fields of a transfer.
+    fn transfer(&mut self, kind: MoveKind) -> Option<Command>
+        ensures { IfSome result (λ command. Asks (Form.Transfer kind) (Request.Send command) self.old.rest.now
+            self.new.rest.now) }
+    {
+        let reference = self.wide()?;
+        let unit = self.narrow()?;
+        let count = self.wide()?;
+        let block = self.wide()?;
+        Some(Command {
+            reference,
+            unit,
+            order: Order::Move(kind, count, block),
+        })
+    }
+
+    /// Cuts off the fields of another command to a unit.
+    fn other(&mut self, order: Order) -> Option<Command>
+        ensures { IfSome result (λ command. Asks (Form.Plain order) (Request.Send command) self.old.rest.now
+            self.new.rest.now) }
+    {
+        let reference = self.wide()?;
+        let unit = self.narrow()?;
+        Some(Command {
+            reference,
+            unit,
+            order,
+        })
+    }
+
+    /// Cuts off the fields of a poll.
+    fn poll(&mut self) -> Option<Command>
+        ensures { IfSome result (λ command. Asks Form.Status (Request.Send command) self.old.rest.now
+            self.new.rest.now) }
+    {
+        let reference = self.wide()?;
+        let other = self.wide()?;
+        Some(Command {
+            reference,
+            unit: 0,
+            order: Order::Status(other),
+        })
+    }
+
+    /// Cuts off how many steps there are.
+    fn steps(&mut self) -> Option<u32>
+        ensures { IfSome result (λ count. Asks Form.Step (Request.Steps count) self.old.rest.now self.new.rest.now) }
+    {
+        let count = self.wide()?;
+        if !(1..=MOST_STEPS).contains(&count) {
+            return None;
+        }
+        Some(count)
+    }
+
+    /// Cuts off a space and the number behind it.
+    fn wide(&mut self) -> Option<u32>
+        ensures { IfSome result (λ value. CutsWord lexical.wide value self.old.rest.now self.new.rest.now) }
+    {
+        let [b' ', bytes @ ..] = self.rest else {
+            return None;
+        };
+        let numeral = numeral_of(bytes);
+        if numeral.digits == 0 || numeral.value > u64::from(u32::MAX) {
+            return None;
+        }
+        self.rest = &bytes[numeral.digits..];
+        Some(numeral.value as u32)
+    }
+
+    /// Cuts off a space and the number behind it, which is at most 65535.
+    fn narrow(&mut self) -> Option<u16>
+        ensures { IfSome result (λ value. CutsWord lexical.narrow value self.old.rest.now self.new.rest.now) }
+    {
+        let value = self.wide()?;
+        if value > u32::from(u16::MAX) {
+            return None;
+        }
+        Some(value as u16)
+    }
+
+    /// What stands behind the line, if no field is left.
+    fn behind(self) -> Option<&'a [u8]>
+        ensures { IfSome result (λ behind. Ends self.entry.rest.now [] behind.now) }
+    {
+        match self.rest {
+            [b'\n', behind @ ..] => Some(behind),
+            _ => None,
+        }
+    }
+}

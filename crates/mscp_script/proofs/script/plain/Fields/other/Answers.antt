@@ -1,5 +1,0 @@
-use Rattle.mscp_script.proofs.PlainLines.{other_asks}
-use Rattle.mscp_script.proofs.script.plain.Fields.other.Goals as goal
-
-pub returns : goal.returns
-returns c = other_asks c.args.order _ _ _ _ _ c.in_ok-reference.ensures c.in_ok-unit.ensures

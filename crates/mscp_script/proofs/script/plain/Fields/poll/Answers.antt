@@ -1,5 +1,0 @@
-use Rattle.mscp_script.proofs.PlainLines.{poll_asks}
-use Rattle.mscp_script.proofs.script.plain.Fields.poll.Goals as goal
-
-pub returns : goal.returns
-returns c = poll_asks _ _ _ _ _ c.in_ok-reference.ensures c.in_ok-other.ensures

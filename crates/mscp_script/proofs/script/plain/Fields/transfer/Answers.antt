@@ -1,6 +1,0 @@
-use Rattle.mscp_script.proofs.PlainLines.{transfer_asks}
-use Rattle.mscp_script.proofs.script.plain.Fields.transfer.Goals as goal
-
-pub returns : goal.returns
-returns c = transfer_asks c.args.kind _ _ _ _ _ _ _ _ _ c.in_ok-reference.ensures c.in_ok-unit.ensures
-    c.in_ok-count.ensures c.in_ok-block.ensures

@@ -1,0 +1,10 @@
+//! Text of messages: hexadecimal digits, the line of a packet, and what such lines are made of.
+#![tactic(auto)]
+
+mod decoding;
+mod packet;
+mod words;
+
+pub use crate::decoding::{MOST_MESSAGE_BYTES, decode};
+pub use crate::packet::{ShowFault, show_packet};
+pub use crate::words::{put, put_field};

@@ -1,0 +1,152 @@
+// The text of commands and ends.
+
+ghost use Rattle.std.specs.Prelude.{◌≡◌, ◌++◌, codes, OnOk};
+ghost use Rattle.mscp_text.specs.Lines.{status_text};
+ghost use Rattle.mscp_text.specs.Shown.{body_text, code_text, command_text, end_text, invalid_name, move_name, order_text, packet_line};
+
+use crate::packet::Packet;
+use crate::words::{put, put_field, put_hex};
+use mscp_packet::status::INVALID_OPCODE;
+use mscp_packet::{Command, End, EndBody, MoveKind, Order};
+use std::alloc::AllocError;
+
+/// The name of a transfer.
+fn move_name(kind: MoveKind) -> &'static str
+    ensures { result.now ≡ move_name kind }
+{
+    match kind {
+        MoveKind::Access => "ACCESS",
+        MoveKind::Erase => "ERASE",
+        MoveKind::Compare => "COMPARE HOST DATA",
+        MoveKind::Read => "READ",
+        MoveKind::Write => "WRITE",
+    }
+}
+
+/// What is wrong with a command that is refused with this status.
+fn invalid_name(status: u16) -> &'static str
+    ensures { result.now ≡ invalid_name status }
+{
+    if status == INVALID_OPCODE {
+        "unknown"
+    } else {
+        "short"
+    }
+}
+
+/// Appends what a command asks for.
+fn put_order(out: &mut Vec<u8>, order: Order) -> Result<(), AllocError>
+    ensures { OnOk result (out.new.items ≡ out.old.items ++ order_text order) }
+{
+    match order {
+        Order::Abort(other) => put_field(out, "ABORT of ", other),
+        Order::Status(other) => put_field(out, "GET COMMAND STATUS of ", other),
+        Order::UnitStatus => put(out, "GET UNIT STATUS"),
+        Order::SetController(version) => {
+            put_field(out, "SET CONTROLLER CHARACTERISTICS version ", version)
+        }
+        Order::Available => put(out, "AVAILABLE"),
+        Order::Online => put(out, "ONLINE"),
+        Order::SetUnit => put(out, "SET UNIT CHARACTERISTICS"),
+        Order::Move(kind, count, block) => {
+            put(out, move_name(kind))?;
+            put_field(out, " bytes ", count)?;
+            put_field(out, " block ", block)
+        }
+        Order::Invalid { opcode, status } => {
+            put(out, invalid_name(status))?;
+            put_field(out, " opcode ", opcode)
+        }
+    }
+}
+
+/// Appends a command.
+fn put_command(out: &mut Vec<u8>, command: Command) -> Result<(), AllocError>
+    ensures { OnOk result (out.new.items ≡ out.old.items ++ command_text command) }
+{
+    put_field(out, "command ", command.reference)?;
+    put_field(out, " unit ", command.unit)?;
+    put(out, " ")?;
+    put_order(out, command.order)
+}
+
+/// Appends what an end tells beside its status.
+fn put_body(out: &mut Vec<u8>, body: EndBody) -> Result<(), AllocError>
+    ensures { OnOk result (out.new.items ≡ out.old.items ++ body_text body) }
+{
+    match body {
+        EndBody::Bare => Ok(()),
+        EndBody::Abort(other) => put_field(out, " of ", other),
+        EndBody::Status { other, figure } => {
+            put_field(out, " of ", other)?;
+            put_field(out, " figure ", figure)
+        }
+        EndBody::UnitStatus {
+            id,
+            media,
+            track,
+            group,
+            cylinder,
+        } => {
+            put_field(out, " id ", id)?;
+            put_field(out, " media ", media)?;
+            put_field(out, " track ", track)?;
+            put_field(out, " group ", group)?;
+            put_field(out, " cylinder ", cylinder)
+        }
+        EndBody::Controller { timeout, id } => {
+            put_field(out, " timeout ", timeout)?;
+            put_field(out, " id ", id)
+        }
+        EndBody::Online {
+            id,
+            media,
+            size,
+            serial,
+        } => {
+            put_field(out, " id ", id)?;
+            put_field(out, " media ", media)?;
+            put_field(out, " size ", size)?;
+            put_field(out, " serial ", serial)
+        }
+        EndBody::Moved(count) => put_field(out, " bytes ", count),
+    }
+}
+
+/// Appends the endcode of an end.
+fn put_code(out: &mut Vec<u8>, code: u8) -> Result<(), AllocError>
+    ensures { OnOk result (out.new.items ≡ out.old.items ++ (codes " code " ++ code_text code)) }
+{
+    put(out, " code ")?;
+    put_hex(out, &[code])
+}
+
+/// Appends the status of an end.
+fn put_status(out: &mut Vec<u8>, status: u16) -> Result<(), AllocError>
+    ensures { OnOk result (out.new.items ≡ out.old.items ++ (codes " status " ++ status_text status)) }
+{
+    put(out, " status ")?;
+    put_hex(out, &status.to_be_bytes())
+}
+
+/// Appends an end.
+fn put_end(out: &mut Vec<u8>, end: End) -> Result<(), AllocError>
+    ensures { OnOk result (out.new.items ≡ out.old.items ++ end_text end) }
+{
+    put_field(out, "end ", end.reference)?;
+    put_field(out, " unit ", end.unit)?;
+    put_code(out, end.code)?;
+    put_status(out, end.status)?;
+    put_body(out, end.body)
+}
+
+/// Appends the line of a packet.
+pub fn put_packet(out: &mut Vec<u8>, packet: Packet) -> Result<(), AllocError>
+    ensures { OnOk result (out.new.items ≡ out.old.items ++ packet_line packet) }
+{
+    match packet {
+        Packet::Command(command) => put_command(out, command)?,
+        Packet::End(end) => put_end(out, end)?,
+    }
+    put(out, "\n")
+}
