@@ -6,9 +6,6 @@ ghost use Rattle.mscp_control.specs.declared.event.Event.{Event};
 ghost use Rattle.mscp_reader.specs.Grammar.{Begins, Reads, IsFault};
 ghost use Rattle.mscp_reader.specs.Outcome.{Tells, meaning_of, rest_outcome, script_outcome};
 
-#[cfg(test)]
-mod tests;
-
 use crate::events::read_events;
 use crate::fault::{Cause, ReadFault, ScriptFault};
 use crate::header::read_header;

@@ -9,6 +9,8 @@ mod reporting;
 mod running;
 mod simulation;
 mod stream;
+#[cfg(test)]
+mod tests;
 mod totals;
 
 pub use crate::choosing::{Deed, LineFault, choose};

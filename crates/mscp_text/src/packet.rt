@@ -7,8 +7,6 @@ ghost use Rattle.mscp_text.specs.Steps.{Gives};
 ghost use Rattle.mscp_text.specs.Shown.{message_of, of_end, of_message, packet_of, shown, Shows};
 ghost use Rattle.mscp_text.specs.declared.packet.ShowFault.TheVariants as faults;
 
-#[cfg(test)]
-mod tests;
 mod text;
 
 use crate::decoding::{MOST_MESSAGE_BYTES, decode};

@@ -1,7 +1,10 @@
-use super::*;
+// What scripts mean, and the first fault of each.
+
+use crate::read_script;
 use arrayvec::ArrayVec;
-use mscp_control::{Block, FaultStatus};
+use mscp_control::{Block, Config, Event, FaultStatus};
 use mscp_drive::{Unit, Units};
+use std::alloc::Global;
 use std::process::Abort;
 use std::test::Fail;
 

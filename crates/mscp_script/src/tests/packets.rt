@@ -1,4 +1,7 @@
-use super::*;
+// The line of each packet, and why a word has none.
+
+use crate::{ShowFault, show_packet};
+use std::alloc::Global;
 use std::process::Abort;
 use std::test::Fail;
 
