@@ -3,14 +3,16 @@ use Rattle.std.proofs.Common.{◌≡◌, ℕ, List, [], ◌∷◌, ◌++◌, len
 use Rattle.std.specs.Prelude.{ℤ, pos, MatchOption, Option, Some, None, Ok, Err}
 use Rattle.std.proofs.lemmas.List.{length-map}
 use Rattle.arrayvec.specs.ArrayVec.{ArrayVec}
+use Rattle.mscp_queue.specs.declared.name.Connection.TheVariants.{First}
+use Rattle.mscp_queue.specs.Names.{name_on}
+use Rattle.mscp_queue.specs.declared.name.Connection.{Connection}
 use Rattle.mscp_queue.specs.declared.block.Block.{Block}
 use Rattle.mscp_queue.specs.declared.drive.Drive.{Drive}
 use Rattle.mscp_queue.specs.declared.view.Choice.{Choice}
 use Rattle.mscp_queue.specs.Drives.{is_online_in}
-use Rattle.mscp_queue.specs.Figures.{figure_of_reference}
+use Rattle.mscp_queue.specs.Figures.{figure_of_name}
 use Rattle.mscp_queue.specs.Lines.{Line}
-use Rattle.mscp_queue.specs.Names.{name_of}
-use Rattle.mscp_queue.specs.Records.{Record}
+use Rattle.mscp_queue.specs.Records.{name_of}
 use Rattle.mscp_control.specs.declared.event.Event.TheVariants as events
 use Rattle.mscp_control.specs.declared.event.Entry.TheVariants as entries
 use Rattle.mscp_control.specs.Settings.{Settings, IsValid}
@@ -151,7 +153,7 @@ goes c policy law valid so_far h h' (made.Finish reference block before status a
 goes c policy law valid so_far h h' (made.Step block before status after) f r =
     stepped c policy so_far h h' block before status after (block_told block) refl r f
 goes c policy law valid so_far h h' (made.Look before status after) f r =
-    let list : ArrayVec (ℕ × ℕ) = record { items = figures_in h.held } in
+    let list : ArrayVec (Connection × ℕ × ℕ) = record { items = figures_in h.held } in
     let call : Call = calls.Plain events.Look (entries.Looked list) in
     record {
       next = call ∷ [];
@@ -161,8 +163,8 @@ goes c policy law valid so_far h h' (made.Look before status after) f r =
     }
 goes c policy law valid so_far h h' (made.Figure reference answer) f r =
     let k = law c so_far h.held valid f.called in
-    let figure = (λ i. figure_of_reference (k.settings i).budget h.held.waiting reference)
-    ∙ k.figure reference in
+    let figure = (λ i. figure_of_name (k.settings i).budget h.held.waiting (name_on First reference))
+    ∙ k.figure (name_on First reference) in
     record { next = []; tells = (refl, r.0 ∙ ap pos figure); follows = follows_same c policy so_far h h' f r.1 }
 goes c policy law valid so_far h h' (made.Balance answer) f r =
     let k = law c so_far h.held valid f.called in
@@ -170,7 +172,7 @@ goes c policy law valid so_far h h' (made.Balance answer) f r =
 goes c policy law valid so_far h h' (made.Waiting answer) f r =
     let k = law c so_far h.held valid f.called in
     let many : length h.held.waiting ≡ length (waiting (history so_far)) =
-    sym (length-map h.held.waiting (λ (q : Record). name_of q.command))
+    sym (length-map h.held.waiting name_of)
     ∙ (ap length k.waiting ∙ length-map (waiting (history so_far)) (name (history so_far))) in
     record { next = []; tells = (refl, r.0 ∙ ap pos many); follows = follows_same c policy so_far h h' f r.1 }
 goes c policy law valid so_far h h' (made.Untaken answer) f r =

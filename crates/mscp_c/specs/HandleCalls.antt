@@ -1,6 +1,9 @@
 -- What somebody calls from C who holds a handle on a controller, what is told, and what is promised of it.
 use Rattle.std.specs.Prelude.{◌≡◌, ℕ, ℤ, pos, List, [], ◌∷◌, ◌++◌, length, map, Option, MatchOption, Result}
 use Rattle.arrayvec.specs.ArrayVec.{ArrayVec}
+use Rattle.mscp_queue.specs.declared.name.Connection.TheVariants.{First}
+use Rattle.mscp_queue.specs.Names.{name_on}
+use Rattle.mscp_queue.specs.declared.name.Connection.{Connection}
 use Rattle.mscp_queue.specs.declared.block.Block.{Block}
 use Rattle.mscp_queue.specs.declared.report.Report.{Report}
 use Rattle.mscp_queue.specs.declared.upcoming.Upcoming.{Upcoming}
@@ -124,9 +127,10 @@ Tells c so_far (Step block before status after) next =
     MatchOption (block_told block) (TellsRefused before status after next)
     (λ k. TellsStepped k before status after next)
 Tells c so_far (Look before status after) next =
-    (list : ArrayVec (ℕ × ℕ)) × (next ≡ calls.Plain events.Look (entries.Looked list) ∷ [])
+    (list : ArrayVec (Connection × ℕ × ℕ)) × (next ≡ calls.Plain events.Look (entries.Looked list) ∷ [])
     × (status ≡ pos (length list.items)) × (after ≡ figures_told list.items before)
-Tells c so_far (Figure reference answer) next = (next ≡ []) × (answer ≡ pos (figure_of c (history so_far) reference))
+Tells c so_far (Figure reference answer) next =
+    (next ≡ []) × (answer ≡ pos (figure_of c (history so_far) (name_on First reference)))
 Tells c so_far (Balance answer) next = (next ≡ []) × (answer ≡ pos (balance c (history so_far)))
 Tells c so_far (Waiting answer) next = (next ≡ []) × (answer ≡ pos (length (waiting (history so_far))))
 Tells c so_far (Untaken answer) next = (next ≡ []) × (answer ≡ pos (length (untaken c (history so_far))))

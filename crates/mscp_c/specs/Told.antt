@@ -5,12 +5,15 @@ use Rattle.mscp_packet.specs.declared.command.Order.{Order}
 use Rattle.mscp_packet.specs.declared.command.Order.TheVariants as orders
 use Rattle.mscp_packet.specs.declared.end.End.{End}
 use Rattle.mscp_packet.specs.Commands.{opcode_byte}
+use Rattle.mscp_queue.specs.declared.name.Connection.{Connection}
+use Rattle.mscp_queue.specs.declared.name.Connection.TheVariants.{First}
+use Rattle.mscp_queue.specs.Names.{name_on}
 use Rattle.mscp_queue.specs.declared.block.Block.{Block}
 use Rattle.mscp_queue.specs.declared.block.Block.TheVariants.{Good, Bad}
 use Rattle.mscp_queue.specs.declared.report.Report.{Report}
 use Rattle.mscp_queue.specs.declared.report.Report.TheVariants.{Idle, Served}
 use Rattle.mscp_queue.specs.declared.upcoming.Upcoming.{Upcoming}
-use Rattle.mscp_queue.specs.Figures.{figure_of_reference, figures}
+use Rattle.mscp_queue.specs.Figures.{figure_of_name, figures}
 use Rattle.mscp_control.specs.declared.event.SendFault.{SendFault}
 use Rattle.mscp_control.specs.declared.event.Sent.{Sent}
 use Rattle.mscp_control.specs.declared.event.Sent.TheVariants.{Queued, Answered}
@@ -96,7 +99,7 @@ block_told status = if nat_eq status 0 then Some Good else (if nat_lt (status % 
 -- the status of a report
 abbrev pub report_code : Report → ℤ
 report_code Idle = status.NOTHING
-report_code (Served reference unit lbn started seek ended) = status.DONE
+report_code (Served connection reference unit lbn started seek ended) = status.DONE
 
 -- the status of an end, 0 where there is none
 abbrev pub status_told : Option End → ℕ
@@ -106,7 +109,7 @@ status_told (Some end) = end.status
 -- what is told of a report. Where nothing waits nothing is
 abbrev pub report_told : Report → ReportOut → ReportOut
 report_told Idle out = out
-report_told (Served reference unit lbn started seek ended) out = record {
+report_told (Served connection reference unit lbn started seek ended) out = record {
   reference = reference;
   lbn = unwrap_or lbn 0;
   seek = seek;
@@ -120,16 +123,16 @@ report_told (Served reference unit lbn started seek ended) out = record {
 -- ---- figures
 
 -- the figures of the waiting commands, and that of the command of this reference number, 0 where none waits
-abbrev pub figures_in : Held → List (ℕ × ℕ)
+abbrev pub figures_in : Held → List (Connection × ℕ × ℕ)
 figures_in h = figures h.settings.budget h.waiting
 
 abbrev pub figure_in : Held → ℕ → ℕ
-figure_in h reference = figure_of_reference h.settings.budget h.waiting reference
+figure_in h reference = figure_of_name h.settings.budget h.waiting (name_on First reference)
 
 -- a reference number and a figure
-abbrev pub figure_told : ℕ × ℕ → FigureOut
-figure_told f = record { reference = f.0; figure = f.1 }
+abbrev pub figure_told : (Connection × ℕ × ℕ) → FigureOut
+figure_told f = record { reference = f.1; figure = f.2 }
 
 -- as many of the figures as there is room for, and then what was there
-abbrev pub figures_told : List (ℕ × ℕ) → List FigureOut → List FigureOut
+abbrev pub figures_told : List (Connection × ℕ × ℕ) → List FigureOut → List FigureOut
 figures_told fs out = map figure_told (take (length out) fs) ++ drop (length fs) out

@@ -6,7 +6,7 @@ ghost use Rattle.mscp_c.specs.Told.{PacketTold, begin_code, block_told, bytes_of
 use crate::outs::{FigureOut, PacketOut, ReportOut, SentOut, UpcomingOut};
 use crate::status::{ANSWERED, DONE, NOTHING, QUEUED, send_fault_code};
 use arrayvec::ArrayVec;
-use mscp_control::{Block, FaultStatus, Report, SendFault, Sent, Upcoming};
+use mscp_control::{Block, Connection, FaultStatus, Report, SendFault, Sent, Upcoming};
 use mscp_packet::Order;
 
 /// A flag as a number.
@@ -90,6 +90,7 @@ pub(crate) fn tell_report(out: &mut ReportOut, report: &Report) -> i32
     match *report {
         Report::Idle => NOTHING,
         Report::Served {
+            connection: _,
             reference,
             unit,
             lbn,
@@ -116,14 +117,14 @@ pub(crate) fn tell_report(out: &mut ReportOut, report: &Report) -> i32
 }
 
 /// Tells as many of the figures as there is room for.
-pub(crate) fn tell_figures(out: &mut [FigureOut], list: &[(u32, u32)])
+pub(crate) fn tell_figures(out: &mut [FigureOut], list: &[(Connection, u32, u32)])
     ensures { out.new ≡ figures_told list.now out.old }
 {
     let count = list.len().min(out.len());
     for i in 0..count {
         out[i] = FigureOut {
-            reference: list[i].0,
-            figure: list[i].1,
+            reference: list[i].1,
+            figure: list[i].2,
         };
     }
 }

@@ -1,5 +1,5 @@
 -- How a message is judged when it comes. Nothing here asks what came before it.
-use Rattle.std.specs.Prelude.{ℕ, Bool, true, false, not, ◌&&◌, nat_lt, if◌then◌else◌, ◌==◌, List, length, slice_index, Option, Some, None, is_none, Result}
+use Rattle.std.specs.Prelude.{ℕ, Bool, true, false, not, ◌&&◌, nat_eq, nat_lt, if◌then◌else◌, ◌==◌, List, length, slice_index, Option, Some, None, is_none, Result}
 use Rattle.std.specs.List.{list_any}
 use Rattle.mscp_packet.specs.declared.command.Order.{Order}
 use Rattle.mscp_packet.specs.declared.command.Order.TheVariants as orders
@@ -12,14 +12,13 @@ use Rattle.mscp_drive.specs.Extent as extent
 use Rattle.mscp_queue.specs.Orders.{order_weight}
 use Rattle.mscp_control.specs.declared.event.SendFault.{SendFault}
 use Rattle.mscp_control.specs.declared.event.SendFault.TheVariants.{Short, Long, NoCredit, LastCredit, Doubled}
-use Rattle.mscp_queue.specs.Names.{Name, same_name}
 use Rattle.mscp_control.specs.Settings.{Settings, unit_found}
 
 -- ---- credits
 
 -- a reference number is among these
-abbrev pub holds : List Name → Name → Bool
-holds references reference = list_any (λ x. same_name x reference) references
+abbrev pub holds : List ℕ → ℕ → Bool
+holds references reference = list_any (λ x. nat_eq x reference) references
 
 -- why a command with this opcode byte and reference number is refused, the first that holds, where so many
 -- credits are free and commands with these reference numbers wait or have ends that weren't taken (manual,

@@ -3,10 +3,12 @@
 use Rattle.std.specs.Prelude.{◌≡◌, ◌≢◌, ◌⊎◌, ℕ, ◌+◌, ◌<◌, Bool, true, false, ◌||◌, nat_eq, if◌then◌else◌, List, [], ◌∷◌, length, take, drop, flat_map, slice_index_or, Option, Some, None, IfSome, Result, Ok, Err}
 use Rattle.std.specs.List.{list_any}
 use Rattle.mscp_queue.specs.declared.block.Block.{Block}
+use Rattle.mscp_queue.specs.declared.name.Connection.TheVariants.{First}
+use Rattle.mscp_queue.specs.declared.name.Name.{Name}
 use Rattle.mscp_queue.specs.declared.report.Report.{Report}
 use Rattle.mscp_queue.specs.declared.upcoming.Upcoming.{Upcoming}
 use Rattle.mscp_queue.specs.declared.view.Choice.{Choice}
-use Rattle.mscp_queue.specs.Names.{Name, name_of}
+use Rattle.mscp_queue.specs.Names.{name_on}
 use Rattle.mscp_control.specs.declared.event.Event.{Event}
 use Rattle.mscp_control.specs.declared.event.Event.TheVariants as events
 use Rattle.mscp_control.specs.declared.event.Entry.{Entry}
@@ -14,7 +16,7 @@ use Rattle.mscp_control.specs.declared.event.Entry.TheVariants as entries
 use Rattle.mscp_control.specs.declared.event.Stale.{Stale}
 use Rattle.mscp_control.specs.Settings.{Settings}
 use Rattle.mscp_control.specs.History.{Moment, Trace, Service, is_step, service_in}
-use Rattle.mscp_control.specs.Commands.{command, done, in_service, is_waiting, service_name, waiting, weight}
+use Rattle.mscp_control.specs.Commands.{command, connection, done, in_service, is_waiting, service_name, waiting, weight}
 use Rattle.mscp_control.specs.Passing.{is_startable}
 use Rattle.mscp_control.specs.Legal.{block_of}
 use Rattle.mscp_control.specs.Holdings.{Answers, Finishes, Foretells, Holdings}
@@ -66,17 +68,27 @@ abbrev pub start_of : Option Service → Option Name
 start_of None = None
 start_of (Some s) = if s.started then Some (service_name s) else None
 
+-- the name of the command that is told of before its step
+abbrev pub upcoming_name : Upcoming → Name
+upcoming_name upcoming = name_on upcoming.connection upcoming.command.reference
+
 -- the name of the command that a call starts, or of which it tells that the next step starts it
 abbrev pub starts : Call → Option Name
 starts (Begin None) = None
-starts (Begin (Some upcoming)) = if nat_eq upcoming.done 0 then Some (name_of upcoming.command) else None
+starts (Begin (Some upcoming)) = if nat_eq upcoming.done 0 then Some (upcoming_name upcoming) else None
 starts call = start_of (service_of call)
 
 -- ---- what was begun
 
 -- what is told of y before its next step (profile)
 abbrev pub foretold : Trace → ℕ → Upcoming
-foretold t y = record { command = command t y; lbn = block_of t y; done = done t y; weight = weight t y }
+foretold t y = record {
+  connection = connection t y;
+  command = command t y;
+  lbn = block_of t y;
+  done = done t y;
+  weight = weight t y;
+}
 
 -- after the calls y is begun, since the call at j: that was a begin which told this of y, no step came since, and y
 -- still waits (profile)
@@ -100,22 +112,23 @@ IsForetold c t None = waiting t ≡ []
 IsForetold c t (Some upcoming) =
     (y : ℕ) × (is_waiting t y ≡ true) × ((in_service t y || is_startable c t y) ≡ true) × (upcoming ≡ foretold t y)
 
--- the command of this reference number is begun
-abbrev pub IsBegun : List Call → ℕ → Type 0
-IsBegun calls reference =
-    (upcoming : Upcoming) × (y : ℕ) × (j : ℕ) × IsBegunSince calls upcoming y j × (name_of upcoming.command ≡ reference)
+-- the command of this name is begun
+abbrev pub IsBegun : List Call → Name → Type 0
+IsBegun calls name =
+    (upcoming : Upcoming) × (y : ℕ) × (j : ℕ) × IsBegunSince calls upcoming y j × (upcoming_name upcoming ≡ name)
 
 -- after these calls this may be answered: a begin tells what it may, and only what is begun is finished. What may be
 -- answered to an event is said by IsLegal (profile)
 abbrev pub IsRightCall : Settings → List Call → Call → Type 0
 IsRightCall c so_far (Plain event entry) = Unit {0}
 IsRightCall c so_far (Begin upcoming) = IsForetold c (history so_far) upcoming
-IsRightCall c so_far (Finish reference k (Ok report)) = IsBegun so_far reference
+IsRightCall c so_far (Finish reference k (Ok report)) = IsBegun so_far (name_on First reference)
 IsRightCall c so_far (Finish reference k (Err stale)) = Unit {0}
 
 -- the step serves what was told: this command and this block, and it is a start exactly if the command had no step
 -- (profile)
 pub record IsAsTold (upcoming : Upcoming) (s : Service) : Type 0 where
+  pub connection : s.connection ≡ upcoming.connection
   pub reference : s.reference ≡ upcoming.command.reference
   pub unit : s.unit ≡ upcoming.command.unit
   pub lbn : s.lbn ≡ upcoming.lbn
@@ -124,7 +137,7 @@ pub record IsAsTold (upcoming : Upcoming) (s : Service) : Type 0 where
 -- the call holds to what was begun: a begin tells the same, a step serves it, and no finish of it is stale (profile)
 abbrev pub HoldsTo : Upcoming → Call → Type 0
 HoldsTo upcoming (Begin again) = again ≡ Some upcoming
-HoldsTo upcoming (Finish reference k (Err stale)) = name_of upcoming.command ≢ reference
+HoldsTo upcoming (Finish reference k (Err stale)) = upcoming_name upcoming ≢ name_on First reference
 HoldsTo upcoming call = IfSome (service_of call) (IsAsTold upcoming)
 
 -- the call holds to all that was begun
@@ -135,7 +148,7 @@ HoldsToBegun so_far call = (upcoming : Upcoming) (y j : ℕ) → IsBegunSince so
 abbrev pub IsChosen : (Trace → Name → Type 0) → List Call → Name → Type 0
 IsChosen R so_far n =
     (NothingBegun so_far × R (history so_far) n)
-    ⊎ ((upcoming : Upcoming) × (y : ℕ) × (j : ℕ) × IsBegunSince so_far upcoming y j × (name_of upcoming.command ≡ n)
+    ⊎ ((upcoming : Upcoming) × (y : ℕ) × (j : ℕ) × IsBegunSince so_far upcoming y j × (upcoming_name upcoming ≡ n)
     × R (history (take j so_far)) n)
 
 -- what the call starts, or tells that the next step starts it, was chosen where R allowed it

@@ -8,7 +8,10 @@ use Rattle.mscp_packet.specs.Commands.{command_of}
 use Rattle.mscp_control.specs.declared.event.Entry.{Entry}
 use Rattle.mscp_control.specs.declared.event.Entry.TheVariants as entries
 use Rattle.mscp_control.specs.declared.event.Sent.TheVariants as sents
-use Rattle.mscp_queue.specs.Names.{Name, name_of, same_name}
+use Rattle.mscp_queue.specs.declared.name.Connection.{Connection}
+use Rattle.mscp_queue.specs.declared.name.Connection.TheVariants.{First}
+use Rattle.mscp_queue.specs.declared.name.Name.{Name}
+use Rattle.mscp_queue.specs.Names.{name_on, same_name}
 use Rattle.mscp_queue.specs.Orders.{order_weight}
 use Rattle.mscp_control.specs.History.{Moment, Trace, moment, positions, sent_bytes, is_step, is_good, queues, Service, service_in}
 
@@ -26,9 +29,13 @@ command t x = command_of (sent_bytes (moment t x).0)
 abbrev pub reference : Trace → ℕ → ℕ
 reference t x = (command t x).reference
 
+-- the connection that it came by: there is one (manual)
+abbrev pub connection : Trace → ℕ → Connection
+connection t x = First
+
 -- its name, which tells it from the others that wait (manual)
 abbrev pub name : Trace → ℕ → Name
-name t x = name_of (command t x)
+name t x = name_on (connection t x) (reference t x)
 
 -- its unit (manual)
 abbrev pub unit : Trace → ℕ → ℕ
@@ -46,7 +53,7 @@ weight t x = order_weight (order t x)
 
 -- the name of the command that was served
 abbrev pub service_name : Service → Name
-service_name s = s.reference
+service_name s = name_on s.connection s.reference
 
 -- the service is of the command of this name (profile)
 abbrev pub service_is : Name → Option Service → Bool
@@ -65,7 +72,7 @@ service_starts n (Some s) = same_name (service_name s) n && s.started
 
 -- the message that was answered aborted the command of this name (manual)
 abbrev pub aborts : Name → Entry → Bool
-aborts n (entries.Sent (Ok (sents.Answered reference (Some other)))) = same_name other n
+aborts n (entries.Sent (Ok (sents.Answered reference (Some other)))) = same_name (name_on First other) n
 aborts n entry = false
 
 -- the command of this name is served (profile)

@@ -2,8 +2,9 @@
 use Rattle.std.specs.Prelude.{◌≡◌, ℕ, List, map}
 use Rattle.mscp_drive.specs.Shape.{Shape}
 use Rattle.mscp_queue.specs.declared.drive.Drive.{Drive}
+use Rattle.mscp_queue.specs.declared.name.Name.{Name}
 use Rattle.mscp_queue.specs.declared.view.Choice.{Choice}
-use Rattle.mscp_queue.specs.Figures.{figure_of_reference}
+use Rattle.mscp_queue.specs.Figures.{figure_of_name}
 use Rattle.mscp_queue.specs.Kept.{names}
 use Rattle.mscp_control.specs.Settings.{Settings, IsValid}
 use Rattle.mscp_control.specs.Holdings.{Holdings, balance_of, fresh}
@@ -42,9 +43,8 @@ pub record KeepsPromise {K : Type 0} (picks : List Choice → ℕ → Type 0) (c
   -- it holds the commands that wait after the history, and the ends that weren't taken (manual)
   pub waiting : names held.waiting ≡ map (name (history calls)) (waiting (history calls))
   pub untaken : held.untaken ≡ untaken c (history calls)
-  -- the figure that it now tells of a reference number is that of the history (profile)
-  pub figure : (reference : ℕ) → figure_of_reference c.budget held.waiting reference
-      ≡ figure_of c (history calls) reference
+  -- the figure that it now tells of a name is that of the history (profile)
+  pub figure : (name : Name) → figure_of_name c.budget held.waiting name ≡ figure_of c (history calls) name
   -- its drives are the units with the states and heads of the history, the way that each head goes too (manual, heads
   -- are the profile's)
   pub drives : held.drives ≡ map (drive_now c (history calls)) c.units

@@ -10,7 +10,8 @@ use Rattle.mscp_control.specs.Settings.{Settings}
 use Rattle.mscp_control.specs.Arrival.{fault_of}
 use Rattle.mscp_control.specs.Outcomes.{own_end, outcome_of}
 use Rattle.mscp_queue.specs.Outcomes.{aborted_end}
-use Rattle.mscp_queue.specs.Names.{same_name}
+use Rattle.mscp_queue.specs.declared.name.Connection.TheVariants.{First}
+use Rattle.mscp_queue.specs.Names.{name_on, same_name}
 use Rattle.mscp_control.specs.History.{Moment, Trace, sent_bytes, answers, Service, service_in}
 use Rattle.mscp_control.specs.Commands.{command, name, unit, waiting, good}
 use Rattle.mscp_control.specs.Figures.{figure_of}
@@ -20,12 +21,12 @@ use Rattle.mscp_control.specs.Units.{is_online}
 
 -- the figure that an order asks for (manual, "Host Command Timeouts")
 abbrev pub figure_asked : Settings → Trace → Order → ℕ
-figure_asked c t (orders.Status other) = figure_of c t other
+figure_asked c t (orders.Status other) = figure_of c t (name_on First other)
 figure_asked c t order = 0
 
 -- the waiting commands that an order names to be aborted (manual)
 abbrev pub named : Trace → Order → List ℕ
-named t (orders.Abort other) = filter (λ x. same_name (name t x) other) (waiting t)
+named t (orders.Abort other) = filter (λ x. same_name (name t x) (name_on First other)) (waiting t)
 named t order = []
 
 -- the same of an order that is refused with this status, or isn't: what is refused aborts nothing (manual)

@@ -13,6 +13,8 @@ use Rattle.mscp_packet.specs.Statuses.{success}
 use Rattle.mscp_control.specs.declared.event.Event.{Event}
 use Rattle.mscp_control.specs.declared.event.Entry.{Entry}
 use Rattle.mscp_control.specs.Settings.{Settings, IsValid, bound}
+use Rattle.mscp_queue.specs.declared.name.Connection.TheVariants.{First}
+use Rattle.mscp_queue.specs.Names.{name_on}
 use Rattle.mscp_queue.specs.Outcomes.{end_with}
 use Rattle.mscp_control.specs.History.{Moment, Trace, moment, answers, is_step, Service, service_in, WhenStarted}
 use Rattle.mscp_control.specs.Commands.{in_service, is_idle, name, service_name, sent_command, waiting, steps_after}
@@ -51,7 +53,8 @@ poll_end command reference figure = end_with command success (bodies.Status refe
 abbrev pub TellsFigure : Settings → Trace → Moment → Trace → Type 0
 TellsFigure c before m after =
     (reference : ℕ) → answers m.1 ≡ true → (sent_command m).order ≡ orders.Status reference
-    → ends c after ≡ ends c before ++ poll_end (sent_command m) reference (figure_of c before reference) ∷ []
+    → ends c after ≡ ends c before
+    ++ poll_end (sent_command m) reference (figure_of c before (name_on First reference)) ∷ []
 
 -- ---- the promise
 

@@ -3,6 +3,7 @@ use Rattle.std.specs.Prelude.{◌≡◌, ℕ, Bool, true, false, List, [], ◌�
 use Rattle.std.specs.List.{range_with_len}
 use Rattle.mscp_packet.specs.declared.end.End.{End}
 use Rattle.mscp_queue.specs.declared.block.Block.TheVariants.{Good}
+use Rattle.mscp_queue.specs.declared.name.Connection.{Connection}
 use Rattle.mscp_queue.specs.declared.report.Report.TheVariants as reports
 use Rattle.mscp_control.specs.declared.event.Sent.TheVariants as sents
 use Rattle.mscp_control.specs.declared.event.Event.{Event}
@@ -69,6 +70,7 @@ takes entry = false
 
 -- what is said of a step that served a command (profile)
 pub record Service : Type 0 where
+  pub connection : Connection
   pub reference : ℕ
   pub unit : ℕ
   pub lbn : Option ℕ
@@ -78,8 +80,9 @@ pub record Service : Type 0 where
 
 -- the same, if a step served a command (profile)
 abbrev pub service_in : Entry → Option Service
-service_in (entries.Stepped (reports.Served reference unit lbn started seek ended)) =
+service_in (entries.Stepped (reports.Served connection reference unit lbn started seek ended)) =
     Some (record {
+      connection = connection;
       reference = reference;
       unit = unit;
       lbn = lbn;

@@ -9,16 +9,17 @@ use Rattle.mscp_packet.specs.declared.end.End.{End}
 use Rattle.mscp_packet.specs.Commands.{command_of}
 use Rattle.mscp_packet.specs.Ends.{end_bytes}
 use Rattle.mscp_queue.specs.declared.block.Block.{Block}
+use Rattle.mscp_queue.specs.declared.name.Connection.TheVariants.{First}
+use Rattle.mscp_queue.specs.declared.name.Name.{Name}
 use Rattle.mscp_queue.specs.declared.report.Report.{Report}
 use Rattle.mscp_queue.specs.declared.report.Report.TheVariants.{Idle, Served}
 use Rattle.mscp_queue.specs.declared.drive.Drive.{Drive}
 use Rattle.mscp_queue.specs.declared.upcoming.Upcoming.{Upcoming}
 use Rattle.mscp_queue.specs.declared.view.Choice.{Choice}
 use Rattle.mscp_queue.specs.Drives.{drive_of, fresh_drive}
-use Rattle.mscp_queue.specs.Records.{Record, aborted_record, fresh_record, has_reference, without}
-use Rattle.mscp_queue.specs.Names.{Name, end_name}
-use Rattle.mscp_queue.specs.Kept.{names}
-use Rattle.mscp_queue.specs.Figures.{figure_of_reference, figures}
+use Rattle.mscp_queue.specs.Records.{Record, aborted_record, fresh_record, has_name, without}
+use Rattle.mscp_queue.specs.Names.{name_on}
+use Rattle.mscp_queue.specs.Figures.{figure_of_name, figures}
 use Rattle.mscp_queue.specs.Lines.{Begins, Line, Serves}
 use Rattle.mscp_queue.specs.Serving.{begun_without, is_begun}
 use Rattle.mscp_control.specs.declared.event.SendFault.{SendFault}
@@ -71,30 +72,38 @@ balance_of h = h.settings.credits - (length h.waiting + length h.untaken)
 abbrev pub IsBalanced : {K : Type 0} → Holdings K → Type 0
 IsBalanced h = balance_of h + length h.waiting + length h.untaken ≡ h.settings.credits
 
--- the names of the commands that wait or whose ends weren't taken (manual)
-abbrev pub outstanding_of : {K : Type 0} → Holdings K → List Name
-outstanding_of h = names h.waiting ++ map end_name h.untaken
+-- the reference numbers of records' commands
+abbrev pub numbers : List Record → List ℕ
+numbers rs = map (λ r. r.command.reference) rs
+
+-- the reference numbers of ends
+abbrev pub numbers_ended : List End → List ℕ
+numbers_ended ends = map (λ e. e.reference) ends
+
+-- the reference numbers of the commands that wait or whose ends weren't taken (manual)
+abbrev pub outstanding_of : {K : Type 0} → Holdings K → List ℕ
+outstanding_of h = numbers h.waiting ++ numbers_ended h.untaken
 
 -- ---- a message
 
 -- the figure that an order asks for (manual)
 abbrev pub figure_polled : Settings → List Record → Order → ℕ
-figure_polled c rs (orders.Status other) = figure_of_reference c.budget rs other
+figure_polled c rs (orders.Status other) = figure_of_name c.budget rs (name_on First other)
 figure_polled c rs order = 0
 
 -- the waiting command that an order names to be aborted, if there is one (manual)
 abbrev pub record_aborted : List Record → Order → Option Record
-record_aborted rs (orders.Abort other) = find (has_reference other) rs
+record_aborted rs (orders.Abort other) = find (has_name (name_on First other)) rs
 record_aborted rs order = None
 
 -- what waits once that command was aborted: the others (manual)
 abbrev pub unaborted : List Record → Order → List Record
-unaborted rs (orders.Abort other) = without other rs
+unaborted rs (orders.Abort other) = without (name_on First other) rs
 unaborted rs order = rs
 
 -- what is begun then: nothing, where it was that command (profile)
 abbrev pub begun_after : Option Name → Order → Option Name
-begun_after begun (orders.Abort other) = begun_without other begun
+begun_after begun (orders.Abort other) = begun_without (name_on First other) begun
 begun_after begun order = begun
 
 -- what a command becomes that isn't refused: it is queued, or answered at once (manual)
@@ -106,7 +115,7 @@ taken_as h command =
 
 -- what is held once this command waits
 abbrev pub queued : {K : Type 0} → Holdings K → Command → Holdings K
-queued h command = record h { waiting = h.waiting ++ fresh_record command ∷ [] }
+queued h command = record h { waiting = h.waiting ++ fresh_record First command ∷ [] }
 
 -- what is held once this end was made
 abbrev pub with_end : {K : Type 0} → Holdings K → End → Holdings K
@@ -156,7 +165,7 @@ after_message h b = held_unless h (command_of b) (refusal (balance_of h) (outsta
 -- the ends that a report brings
 abbrev pub ends_reported : Report → List End
 ends_reported Idle = []
-ends_reported (Served reference unit lbn started seek ended) = option_to_list ended
+ends_reported (Served connection reference unit lbn started seek ended) = option_to_list ended
 
 -- what a step with this block may report, and what is held after it: a relation, since any command that may start may
 -- be the one that the picker picks (profile)
@@ -183,8 +192,9 @@ pub record Foretells {K : Type 0} (picks : List Choice → ℕ → Type 0)
 -- reference number is begun it is a step, and else it is stale and changes nothing (profile)
 abbrev pub Finishes : {K : Type 0}
     → (List Choice → ℕ → Type 0) → ℕ → Block → Holdings K → Result Report Stale → Holdings K → Type 0
-Finishes picks reference k old (Ok report) new = (is_begun reference old.begun ≡ true) × Steps picks k old report new
-Finishes picks reference k old (Err stale) new = (is_begun reference old.begun ≡ false) × (new ≡ old)
+Finishes picks reference k old (Ok report) new =
+    (is_begun (name_on First reference) old.begun ≡ true) × Steps picks k old report new
+Finishes picks reference k old (Err stale) new = (is_begun (name_on First reference) old.begun ≡ false) × (new ≡ old)
 
 -- ---- a take
 

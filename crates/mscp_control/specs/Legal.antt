@@ -12,12 +12,13 @@ use Rattle.mscp_control.specs.declared.event.Entry.TheVariants as entries
 use Rattle.mscp_drive.specs.Shape.{cylinder_of}
 use Rattle.mscp_drive.specs.Heads.{distance}
 use Rattle.mscp_queue.specs.declared.view.Choice.{Choice}
-use Rattle.mscp_queue.specs.Names.{Name}
+use Rattle.mscp_queue.specs.declared.name.Connection.{Connection}
+use Rattle.mscp_queue.specs.declared.name.Name.{Name}
 use Rattle.mscp_queue.specs.Orders.{order_class}
 use Rattle.mscp_control.specs.Settings.{Settings, unit_shape}
 use Rattle.mscp_queue.specs.Outcomes.{block_touched, goes_on}
 use Rattle.mscp_control.specs.History.{Trace, moment, Service, service_in, WhenStarted}
-use Rattle.mscp_control.specs.Commands.{reference, name, service_name, unit, order, is_waiting, waiting, done, left, in_service}
+use Rattle.mscp_control.specs.Commands.{connection, reference, name, service_name, unit, order, is_waiting, waiting, done, left, in_service}
 use Rattle.mscp_control.specs.Passing.{is_startable, startable}
 use Rattle.mscp_control.specs.Figures.{figure}
 use Rattle.mscp_control.specs.Units.{cost, is_online, head_cylinder}
@@ -54,7 +55,9 @@ pub record IsServed (c : Settings) (t : Trace) (k : Block) (s : Service) (y : �
   pub seek : s.seek ≡ seek_to c t (unit t y) (block_of t y)
   -- it ends unless it goes on (manual)
   pub ended : s.ended ≡ end_of c t k y
-  -- it is named by its reference number (manual)
+  -- it is named by its connection (manual)
+  pub connection : s.connection ≡ connection t y
+  -- and by its reference number (manual)
   pub reference : s.reference ≡ reference t y
   -- and by its unit (manual)
   pub unit : s.unit ≡ unit t y
@@ -66,6 +69,10 @@ IsStep c t k (Some s) = (y : ℕ) × IsServed c t k s y
 
 -- ---- answers
 
+-- what a look tells of a command that waits: its connection, its reference number and its figure (profile)
+abbrev pub shown : Settings → Trace → ℕ → (Connection × ℕ × ℕ)
+shown c t x = (connection t x, reference t x, figure c t x)
+
 -- after t, this may be answered to the event (manual)
 abbrev pub IsRight : Settings → Trace → Event → Entry → Type 0
 IsRight c t (events.Send b) (entries.Sent sent) = sent ≡ arrival c t b.items
@@ -73,7 +80,7 @@ IsRight c t (events.Step k) (entries.Stepped reports.Idle) = waiting t ≡ []
 IsRight c t (events.Step k) (entries.Stepped report) = IsStep c t k (service_in (entries.Stepped report))
 IsRight c t events.Take (entries.Taken end) =
     end ≡ option_map (λ e. record { items = end_bytes e }) (slice_get (untaken c t) 0)
-IsRight c t events.Look (entries.Looked list) = list.items ≡ map (λ x. (reference t x, figure c t x)) (waiting t)
+IsRight c t events.Look (entries.Looked list) = list.items ≡ map (shown c t) (waiting t)
 IsRight c t event entry = ⊥
 
 -- each answer is right after what came before it (manual)
@@ -85,7 +92,13 @@ IsLegal c t = (i : ℕ) → i < length t → IsRight c (take i t) (moment t i).0
 -- what a picker sees of a command that waits (profile)
 abbrev pub choice : Settings → Trace → ℕ → Choice
 choice c t y =
-    record { reference = reference t y; unit = unit t y; class = order_class (order t y); cost = cost c t y }
+    record {
+      connection = connection t y;
+      reference = reference t y;
+      unit = unit t y;
+      class = order_class (order t y);
+      cost = cost c t y;
+    }
 
 -- what it sees after t: the commands that may start, in the order in which they came (profile)
 abbrev pub view : Settings → Trace → List Choice

@@ -5,7 +5,8 @@ ghost use Rattle.std.specs.List.{list_any};
 ghost use Rattle.mscp_packet.specs.Ends.{IsEnd, IsOfKind};
 ghost use Rattle.mscp_queue.specs.Drives.{is_online_in};
 ghost use Rattle.mscp_queue.specs.Orders.{first_block, order_weight};
-ghost use Rattle.mscp_queue.specs.Figures.{figure_of_reference, figures};
+ghost use Rattle.mscp_queue.specs.Figures.{figure_of_name, figures};
+ghost use Rattle.mscp_queue.specs.Names.{name_on};
 ghost use Rattle.mscp_queue.specs.Outcomes.{IsCoded};
 ghost use Rattle.mscp_control.specs.Arrival.{credit_fault, fault_of, holds, is_queued};
 ghost use Rattle.mscp_control.specs.Settings.{IsValid};
@@ -22,7 +23,7 @@ use arrayvec::ArrayVec;
 use mscp_drive::Units;
 use mscp_packet::status::SUCCESS;
 use mscp_packet::{Command, End, EndBody, Order, read_command, write_end};
-use mscp_queue::{Block, Picker, Queue, Report, Upcoming, Waiting, end_with};
+use mscp_queue::{Block, Connection, Picker, Queue, Report, Upcoming, Waiting, end_with};
 use std::marker::Model;
 
 /// Whether one of the ends has the reference number.
@@ -155,14 +156,14 @@ impl<K: Picker> Controller<K> {
     /// may still wait, at most.
     pub fn figure(&self, reference: u32) -> u32
         ensures value { result
-            ≡ figure_of_reference self.now.settings.budget self.now.waiting reference }
+            ≡ figure_of_name self.now.settings.budget self.now.waiting (name_on Connection.First reference) }
         ensures account { IsBalanced self.now }
     {
-        self.queue.figure(reference)
+        self.queue.figure(Connection::First, reference)
     }
 
-    /// Reference number and figure of each waiting command, oldest first.
-    pub fn look(&self) -> ArrayVec<(u32, u32), 64>
+    /// Connection, reference number and figure of each waiting command, oldest first.
+    pub fn look(&self) -> ArrayVec<(Connection, u32, u32), 64>
         ensures value { result.items ≡ figures self.now.settings.budget self.now.waiting }
         ensures account { IsBalanced self.now }
     {
@@ -174,7 +175,7 @@ impl<K: Picker> Controller<K> {
     fn is_outstanding(&self, reference: u32) -> bool
         ensures { result ≡ holds (outstanding_of self.now) reference }
     {
-        let waits = self.queue.contains(reference);
+        let waits = self.queue.contains(Connection::First, reference);
         let ended = is_untaken(self.untaken.as_slice(), reference);
         waits || ended
     }
@@ -203,6 +204,7 @@ impl<K: Picker> Controller<K> {
         ensures account { IsBalanced self.new }
     {
         self.queue.push(Waiting {
+            connection: Connection::First,
             reference: command.reference,
             unit: command.unit,
             order: command.order,
@@ -258,7 +260,7 @@ impl<K: Picker> Controller<K> {
         let Order::Abort(other) = order else {
             return None;
         };
-        let end = self.queue.abort(*other)?;
+        let end = self.queue.abort(Connection::First, *other)?;
         self.untaken.push(end);
         Some(end.reference)
     }
@@ -357,7 +359,7 @@ impl<K: Picker> Controller<K> {
         ensures finish { Finishes (K.picks self.old.picker) reference block self.old result self.new }
         ensures account { IsBalanced self.new }
     {
-        if self.queue.is_begun(reference) {
+        if self.queue.is_begun(Connection::First, reference) {
             Ok(self.step(block))
         } else {
             Err(Stale)

@@ -2,7 +2,7 @@
 
 use arrayvec::ArrayVec;
 use mscp_packet::PacketFault;
-use mscp_queue::{Block, Report};
+use mscp_queue::{Block, Connection, Report};
 
 /// Why a message is refused: the first that holds, in this order. Nothing is changed.
 #[derive(Clone, Copy, Debug, PartialEq, Eq)]
@@ -71,6 +71,6 @@ pub enum Entry {
     Taken(Option<ArrayVec<u8, 48>>),
     /// What the step did.
     Stepped(Report),
-    /// Reference number and figure of each waiting command, oldest first.
-    Looked(ArrayVec<(u32, u32), 64>),
+    /// Connection, reference number and figure of each waiting command, oldest first.
+    Looked(ArrayVec<(Connection, u32, u32), 64>),
 }

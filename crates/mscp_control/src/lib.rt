@@ -20,4 +20,6 @@ pub use crate::law::{
 };
 pub use crate::memory::OutOfMemory;
 pub use crate::running::{run, run_into};
-pub use mscp_queue::{Block, Choice, FaultStatus, Oldest, Picker, Report, Sweep, Upcoming, View};
+pub use mscp_queue::{
+    Block, Choice, Connection, FaultStatus, Oldest, Picker, Report, Sweep, Upcoming, View,
+};

@@ -1,59 +1,61 @@
 -- A command that is aborted is taken out of those that wait, and no other.
 use Rattle.std.proofs.Common.{◌≡◌, ◌≢◌, ⊎_elim, ℕ, ◌+◌, ◌<◌, ◌≤◌, Bool, true, false, cond, not, List, [], ◌∷◌, ◌++◌, length, refl, ap, sym, ◌∙◌, subst, arith}
-use Rattle.std.specs.Prelude.{filter, find, option_to_list, nat_eq, remove, slice_index_or, unwrap_or, is_some, if◌then◌else◌, Option, Some, None}
+use Rattle.std.specs.Prelude.{filter, find, option_to_list, remove, slice_index_or, unwrap_or, is_some, if◌then◌else◌, Option, Some, None}
 use Rattle.std.specs.List.{AllByRecursion, position}
-use Rattle.std.proofs.lemmas.Bool.{eqb-true, false≢true, ne_eqb, true≢false}
+use Rattle.std.proofs.lemmas.Bool.{false≢true, true≢false}
 use Rattle.std.proofs.lemmas.List.{get_or_at, length-append, map-append}
 use Rattle.std.proofs.lemmas.List.Elements.{All-from_recursion, filter-append, recursion_from_All}
 use Rattle.mscp_queue.specs.declared.drive.Drive.{Drive}
 use Rattle.mscp_queue.specs.Kept.{AreApart, IsHeld, IsKept, IsStillServable, names, sequential_count, units_of}
-use Rattle.mscp_queue.specs.Names.{Name}
+use Rattle.mscp_queue.specs.declared.name.Name.{Name}
+use Rattle.mscp_queue.specs.Names.{same_name}
 use Rattle.mscp_queue.specs.Serving.{begun_without, is_begun}
 use Rattle.mscp_queue.proofs.Begun.{still_aborted, still_begun}
-use Rattle.mscp_queue.specs.Records.{Record, has_reference, is_in_service, no_record, record_at, without}
+use Rattle.mscp_queue.specs.Records.{Record, has_name, is_in_service, name_of, no_record, record_at, without}
 use Rattle.mscp_queue.proofs.Lists.{every_kept, every_weaker, fewer, filter_all, filter_none, filter_one}
+use Rattle.mscp_queue.proofs.Named.{is_differ, same_is}
 use Rattle.mscp_queue.proofs.Mapped.{removed_at}
 use Rattle.mscp_queue.proofs.Ordered.{IsCountedOut, count_out, one_if}
 use Rattle.mscp_queue.proofs.Placed.{Found, find_cases, find_first, find_none, position_first, position_none}
 
 -- ---- names that stand once
 
-apart_behind : (A : List ℕ) (x : ℕ) (B : List ℕ) → AreApart (A ++ x ∷ B) → AllByRecursion (λ y. y ≢ x) B
+apart_behind : (A : List Name) (x : Name) (B : List Name) → AreApart (A ++ x ∷ B) → AllByRecursion (λ y. y ≢ x) B
 apart_behind [] x B h = h.0
 apart_behind (y ∷ ys) x B h = apart_behind ys x B h.1
 
-others : (reference : Name) (rs : List Record) → AllByRecursion (λ y. y ≢ reference) (names rs)
-    → AllByRecursion (λ r. has_reference reference r ≡ false) rs
-others reference [] h = tt
-others reference (r ∷ rs) h = (ne_eqb r.command.reference reference h.0, others reference rs h.1)
+others : (gone : Name) (rs : List Record) → AllByRecursion (λ y. y ≢ gone) (names rs)
+    → AllByRecursion (λ r. has_name gone r ≡ false) rs
+others gone [] h = tt
+others gone (r ∷ rs) h = (is_differ (name_of r) gone h.0, others gone rs h.1)
 
--- the records where one of them has the reference number
-pub record Cut (reference : Name) (rs A : List Record) (r : Record) (B : List Record) : Type 0 where
+-- the records where one of them has the name
+pub record Cut (gone : Name) (rs A : List Record) (r : Record) (B : List Record) : Type 0 where
   pub is : rs ≡ A ++ r ∷ B
-  pub own : has_reference reference r ≡ true
-  pub before : AllByRecursion (λ z. has_reference reference z ≡ false) A
-  pub behind : AllByRecursion (λ z. has_reference reference z ≡ false) B
+  pub own : has_name gone r ≡ true
+  pub before : AllByRecursion (λ z. has_name gone z ≡ false) A
+  pub behind : AllByRecursion (λ z. has_name gone z ≡ false) B
 
-cut_by : (reference : Name) (rs A : List Record) (r : Record) (B : List Record) → AreApart (names rs)
-    → Found (has_reference reference) rs A r B → Cut reference rs A r B
-cut_by reference rs A r B apart f =
-    let same : names rs ≡ names A ++ r.command.reference ∷ names B =
-    ap names f.is ∙ map-append (λ (q : Record). q.command.reference) A (r ∷ B) in
-    let number : r.command.reference ≡ reference = eqb-true r.command.reference reference f.passed in
+cut_by : (gone : Name) (rs A : List Record) (r : Record) (B : List Record) → AreApart (names rs)
+    → Found (has_name gone) rs A r B → Cut gone rs A r B
+cut_by gone rs A r B apart f =
+    let same : names rs ≡ names A ++ name_of r ∷ names B =
+    ap names f.is ∙ map-append name_of A (r ∷ B) in
+    let number : name_of r ≡ gone = same_is (name_of r) gone f.passed in
     record {
       is = f.is;
       own = f.passed;
       before = f.before;
-      behind = others reference B (subst (λ n. AllByRecursion (λ y. y ≢ n) (names B)) number
-          (apart_behind (names A) r.command.reference (names B) (subst AreApart same apart)));
+      behind = others gone B (subst (λ n. AllByRecursion (λ y. y ≢ n) (names B)) number
+          (apart_behind (names A) (name_of r) (names B) (subst AreApart same apart)));
     }
 
-without_cut : (reference : Name) (rs A : List Record) (r : Record) (B : List Record) → Cut reference rs A r B
-    → without reference rs ≡ A ++ B
-without_cut reference rs A r B k =
-    let keep : Record → Bool = λ z. not (has_reference reference z) in
-    let stays : (zs : List Record) → AllByRecursion (λ z. has_reference reference z ≡ false) zs → filter keep zs ≡ zs =
-    λ zs h. filter_all keep zs (every_weaker (λ z. has_reference reference z ≡ false) (λ z. keep z ≡ true)
+without_cut : (gone : Name) (rs A : List Record) (r : Record) (B : List Record) → Cut gone rs A r B
+    → without gone rs ≡ A ++ B
+without_cut gone rs A r B k =
+    let keep : Record → Bool = λ z. not (has_name gone z) in
+    let stays : (zs : List Record) → AllByRecursion (λ z. has_name gone z ≡ false) zs → filter keep zs ≡ zs =
+    λ zs h. filter_all keep zs (every_weaker (λ z. has_name gone z ≡ false) (λ z. keep z ≡ true)
     (λ z e. ap not e) zs h) in
     ap (filter keep) k.is
     ∙ (filter-append keep A (r ∷ B) ∙ (ap (λ zs. zs ++ filter keep (r ∷ B)) (stays A k.before)
@@ -63,84 +65,84 @@ without_cut reference rs A r B k =
 -- ---- the one that is found
 
 -- what is taken out where a record is found at a place
-pub record Aborts (reference : Name) (rs : List Record) (place : ℕ) : Type 0 where
+pub record Aborts (gone : Name) (rs : List Record) (place : ℕ) : Type 0 where
   pub inside : place < length rs
-  pub found : find (has_reference reference) rs ≡ Some (record_at rs place)
-  pub left : remove rs place ≡ without reference rs
-  pub count : length (without reference rs) + 1 ≡ length rs
+  pub found : find (has_name gone) rs ≡ Some (record_at rs place)
+  pub left : remove rs place ≡ without gone rs
+  pub count : length (without gone rs) + 1 ≡ length rs
 
-pub aborts_at : (reference : Name) (rs : List Record) (place : ℕ) → AreApart (names rs)
-    → position (has_reference reference) rs ≡ Some place → Aborts reference rs place
-aborts_at reference rs place apart h =
+pub aborts_at : (gone : Name) (rs : List Record) (place : ℕ) → AreApart (names rs)
+    → position (has_name gone) rs ≡ Some place → Aborts gone rs place
+aborts_at gone rs place apart h =
     ⊎_elim
-    (λ none. absurd (false≢true (ap is_some (sym (position_none (has_reference reference) rs none) ∙ h))))
+    (λ none. absurd (false≢true (ap is_some (sym (position_none (has_name gone) rs none) ∙ h))))
     (λ some.
     let A = some.0 in
     let r = some.1 in
     let B = some.2 in
     let f = some.3 in
-    let k = cut_by reference rs A r B apart f in
+    let k = cut_by gone rs A r B apart f in
     let first : length A ≡ place = ap (λ o. unwrap_or o place)
-    (sym (position_first (has_reference reference) A r B f.before f.passed)
-    ∙ (ap (position (has_reference reference)) (sym f.is) ∙ h)) in
+    (sym (position_first (has_name gone) A r B f.before f.passed)
+    ∙ (ap (position (has_name gone)) (sym f.is) ∙ h)) in
     let at : record_at rs place ≡ r = ap (λ zs. record_at zs place) f.is ∙ get_or_at A r B no_record place first in
     record {
       inside = omega (arith, first, ap length f.is, length-append A (r ∷ B));
-      found = ap (find (has_reference reference)) f.is
-          ∙ (find_first (has_reference reference) A r B f.before f.passed ∙ ap Some (sym at));
-      left = ap (λ zs. remove zs place) f.is ∙ (removed_at A r B place first ∙ sym (without_cut reference rs A r B k));
+      found = ap (find (has_name gone)) f.is
+          ∙ (find_first (has_name gone) A r B f.before f.passed ∙ ap Some (sym at));
+      left = ap (λ zs. remove zs place) f.is ∙ (removed_at A r B place first ∙ sym (without_cut gone rs A r B k));
       count = omega (
         arith,
         ap length f.is,
         length-append A (r ∷ B),
-        ap length (without_cut reference rs A r B k),
+        ap length (without_cut gone rs A r B k),
         length-append A B,
       );
     })
-    (find_cases (has_reference reference) rs)
+    (find_cases (has_name gone) rs)
 
 -- nothing is taken out where none is found
-pub record AbortsNone (reference : Name) (rs : List Record) : Type 0 where
-  pub found : find (has_reference reference) rs ≡ None
-  pub left : without reference rs ≡ rs
+pub record AbortsNone (gone : Name) (rs : List Record) : Type 0 where
+  pub found : find (has_name gone) rs ≡ None
+  pub left : without gone rs ≡ rs
 
-pub aborts_none : (reference : Name) (rs : List Record) → position (has_reference reference) rs ≡ None
-    → AbortsNone reference rs
-aborts_none reference rs h =
+pub aborts_none : (gone : Name) (rs : List Record) → position (has_name gone) rs ≡ None
+    → AbortsNone gone rs
+aborts_none gone rs h =
     ⊎_elim
     (λ none. record {
-      found = find_none (has_reference reference) rs none;
-      left = filter_all (λ z. not (has_reference reference z)) rs
-          (every_weaker (λ z. has_reference reference z ≡ false) (λ z. not (has_reference reference z) ≡ true)
+      found = find_none (has_name gone) rs none;
+      left = filter_all (λ z. not (has_name gone z)) rs
+          (every_weaker (λ z. has_name gone z ≡ false) (λ z. not (has_name gone z) ≡ true)
           (λ z e. ap not e) rs none);
     })
     (λ some. let f = some.3 in absurd (true≢false (ap is_some
-    (sym (position_first (has_reference reference) some.0 some.1 some.2 f.before f.passed)
-    ∙ (ap (position (has_reference reference)) (sym f.is) ∙ h)))))
-    (find_cases (has_reference reference) rs)
+    (sym (position_first (has_name gone) some.0 some.1 some.2 f.before f.passed)
+    ∙ (ap (position (has_name gone)) (sym f.is) ∙ h)))))
+    (find_cases (has_name gone) rs)
 
--- the records that have the reference number are the one that is found
-pub found_once : (reference : Name) (rs : List Record) → AreApart (names rs)
-    → filter (has_reference reference) rs ≡ option_to_list (find (has_reference reference) rs)
-found_once reference rs apart =
-    let p = has_reference reference in
+-- the records that have the name are the one that is found
+pub found_once : (gone : Name) (rs : List Record) → AreApart (names rs)
+    → filter (has_name gone) rs ≡ option_to_list (find (has_name gone) rs)
+found_once gone rs apart =
+    let p = has_name gone in
     ⊎_elim
     (λ none. filter_none p rs none ∙ ap option_to_list (sym (find_none p rs none)))
     (λ some.
     let A = some.0 in
     let r = some.1 in
     let B = some.2 in
-    let k = cut_by reference rs A r B apart some.3 in
+    let k = cut_by gone rs A r B apart some.3 in
     ap (filter p) k.is ∙ (filter_one p A r B k.before k.own k.behind
     ∙ ap option_to_list (sym (ap (find p) k.is ∙ find_first p A r B k.before k.own))))
     (find_cases p rs)
 
 -- and it is counted out
-pub counted_without : (reference : Name) (rs new : List Record) (r : Record) (n k : ℕ) → AreApart (names rs)
-    → Some r ≡ find (has_reference reference) rs → new ≡ without reference rs
+pub counted_without : (gone : Name) (rs new : List Record) (r : Record) (n k : ℕ) → AreApart (names rs)
+    → Some r ≡ find (has_name gone) rs → new ≡ without gone rs
     → n ≡ sequential_count rs → k ≡ one_if r → IsCountedOut n k new
-counted_without reference rs new r n k apart h is counted e =
-    let p = has_reference reference in
+counted_without gone rs new r n k apart h is counted e =
+    let p = has_name gone in
     ⊎_elim
     (λ none. absurd (true≢false (ap is_some (h ∙ find_none p rs none))))
     (λ some.
@@ -151,8 +153,8 @@ counted_without reference rs new r n k apart h is counted e =
     (sym (find_first p A some.1 B f.before f.passed) ∙ (ap (find p) (sym f.is) ∙ sym h)) in
     let out = count_out A some.1 B in
     let all = ap sequential_count f.is in
-    let left = ap sequential_count (is ∙ without_cut reference rs A some.1 B
-    (cut_by reference rs A some.1 B apart f)) in
+    let left = ap sequential_count (is ∙ without_cut gone rs A some.1 B
+    (cut_by gone rs A some.1 B apart f)) in
     let one = ap one_if own in
     record {
       below = omega (arith, out, all, one, counted, e);
@@ -171,7 +173,7 @@ missing p rs place d h l =
 
 -- ---- what is true of each queue stays true
 
-names_kept : (p : Record → Bool) (P : ℕ → Type 0) (rs : List Record) → AllByRecursion P (names rs)
+names_kept : (p : Record → Bool) (P : Name → Type 0) (rs : List Record) → AllByRecursion P (names rs)
     → AllByRecursion P (names (filter p rs))
 names_kept p P [] h = tt
 names_kept p P (r ∷ rs) h =
@@ -184,7 +186,7 @@ apart_kept p [] h = tt
 apart_kept p (r ∷ rs) h =
     let rest = apart_kept p rs h.1 in
     elim (p r) as (λ b. AreApart (names (cond b (r ∷ filter p rs) (filter p rs))))
-    [ true ↦ (names_kept p (λ y. y ≢ r.command.reference) rs h.0, rest) | false ↦ rest ]
+    [ true ↦ (names_kept p (λ y. y ≢ name_of r) rs h.0, rest) | false ↦ rest ]
 
 fewer_of : {X : Type 0} (p q : X → Bool) (xs : List X) → length (filter p (filter q xs)) ≤ length (filter p xs)
 fewer_of p q [] = omega arith
@@ -204,48 +206,48 @@ fewer_of {X} p q (x ∷ xs) =
     [ true ↦ both true (p x) | false ↦ both false (p x) ] in
     split (q x)
 
-pub held_aborted : (room budget longest : ℕ) (reference : Name) (rs new : List Record) (ds : List Drive)
+pub held_aborted : (room budget longest : ℕ) (gone : Name) (rs new : List Record) (ds : List Drive)
     (begun : Option Name)
-    (serving b : Bool) → is_begun reference begun ≡ b → IsHeld room budget longest rs ds begun serving
-    → new ≡ without reference rs
+    (serving b : Bool) → is_begun gone begun ≡ b → IsHeld room budget longest rs ds begun serving
+    → new ≡ without gone rs
     → IsHeld room budget longest new ds (if b then None else begun) serving
-held_aborted room budget longest reference rs new ds begun serving b was h e =
-    let keep : Record → Bool = λ z. not (has_reference reference z) in
+held_aborted room budget longest gone rs new ds begun serving b was h e =
+    let keep : Record → Bool = λ z. not (has_name gone z) in
     let K = IsKept budget longest (units_of ds) in
-    let left = begun_without reference begun in
-    let all : IsHeld room budget longest (without reference rs) ds left serving = record {
+    let left = begun_without gone begun in
+    let all : IsHeld room budget longest (without gone rs) ds left serving = record {
       some_room = h.some_room;
       few = h.few;
       some_blocks = h.some_blocks;
       short = h.short;
       small = h.small;
       fits = let f = h.fits in omega (arith, fewer keep rs);
-      each = All-from_recursion K (without reference rs) (every_kept K keep rs (recursion_from_All K rs h.each));
+      each = All-from_recursion K (without gone rs) (every_kept K keep rs (recursion_from_All K rs h.each));
       apart = apart_kept keep rs h.apart;
       one = let o = h.one in omega (arith, fewer_of is_in_service keep rs);
-      idle = λ e. All-from_recursion (λ z. z.done ≡ 0) (without reference rs)
+      idle = λ e. All-from_recursion (λ z. z.done ≡ 0) (without gone rs)
           (every_kept (λ z. z.done ≡ 0) keep rs (recursion_from_All (λ z. z.done ≡ 0) rs (h.idle e)));
       units = h.units;
       heads = h.heads;
-      still = λ name k. let s = still_begun reference begun name k in
-          still_aborted budget reference rs name s.1 (h.still name s.0);
+      still = λ name k. let s = still_begun gone begun name k in
+          still_aborted budget gone rs name s.1 (h.still name s.0);
     } in
     subst (λ q. IsHeld room budget longest new ds (if q then None else begun) serving) was
     (subst (λ zs. IsHeld room budget longest zs ds left serving) (sym e) all)
 
 -- where nothing is aborted, what was begun stays
-pub none_aborted : (budget : ℕ) (reference : Name) (rs : List Record) (begun : Option Name)
-    → ((name : Name) → begun ≡ Some name → IsStillServable budget rs name) → find (has_reference reference) rs ≡ None
-    → begun ≡ begun_without reference begun
-none_aborted budget reference rs None s h = refl
-none_aborted budget reference rs (Some name) s h =
+pub none_aborted : (budget : ℕ) (gone : Name) (rs : List Record) (begun : Option Name)
+    → ((name : Name) → begun ≡ Some name → IsStillServable budget rs name) → find (has_name gone) rs ≡ None
+    → begun ≡ begun_without gone begun
+none_aborted budget gone rs None s h = refl
+none_aborted budget gone rs (Some name) s h =
     let w = s name refl in
-    let both : (b : Bool) → nat_eq name reference ≡ b → Some name ≡ (if b then None else Some name) =
-    λ b. elim b as (λ b. nat_eq name reference ≡ b → Some name ≡ (if b then None else Some name)) [
+    let both : (b : Bool) → same_name name gone ≡ b → Some name ≡ (if b then None else Some name) =
+    λ b. elim b as (λ b. same_name name gone ≡ b → Some name ≡ (if b then None else Some name)) [
       | true ↦ λ e.
-          let own : has_reference reference (record_at rs w.0) ≡ true =
-          subst (λ n. has_reference n (record_at rs w.0) ≡ true) (eqb-true name reference e) w.2 in
-          absurd (true≢false (sym own ∙ missing (has_reference reference) rs w.0 no_record h w.1.inside))
+          let own : has_name gone (record_at rs w.0) ≡ true =
+          subst (λ n. has_name n (record_at rs w.0) ≡ true) (same_is name gone e) w.2 in
+          absurd (true≢false (sym own ∙ missing (has_name gone) rs w.0 no_record h w.1.inside))
       | false ↦ λ e. refl
     ] in
-    both (nat_eq name reference) refl
+    both (same_name name gone) refl

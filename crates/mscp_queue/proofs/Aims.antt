@@ -10,6 +10,7 @@ use Rattle.mscp_drive.specs.Shape.{Shape, cylinder_blocks, cylinder_of, last_cyl
 use Rattle.mscp_drive.specs.UnitList.{unit_found}
 use Rattle.mscp_queue.specs.declared.aim.Aim.{Aim}
 use Rattle.mscp_queue.specs.declared.drive.Drive.{Drive}
+use Rattle.mscp_queue.specs.declared.name.Connection.{Connection}
 use Rattle.mscp_queue.specs.Aims.{IsAimed, aim_of, aims_of, unit_place}
 use Rattle.mscp_queue.specs.Drives.{IsOnUnit, drive_of, has_number, one_block}
 use Rattle.mscp_queue.specs.Kept.{CanBeShown, HasBlocks, is_known, units_of}
@@ -159,9 +160,10 @@ aims_kept us rs new place toll l e =
     ∙ (sym (map-append of (map (passed_by toll) A) (advanced r ∷ B)) ∙ ap (aims_of us) (sym e))))
 
 -- a command comes
-pub aims_pushed : (us : List Shape) (rs new : List Record) (aims aims' : List Aim) (command : Command) (aim : Aim)
-    → aims ≡ aims_of us rs → aim ≡ aim_of us command → aims' ≡ aims ++ aim ∷ [] → new ≡ rs ++ fresh_record command ∷ []
-    → aims' ≡ aims_of us new
-aims_pushed us rs new aims aims' command aim old own more e =
+pub aims_pushed : (us : List Shape) (rs new : List Record) (aims aims' : List Aim) (by : Connection) (command : Command)
+    (aim : Aim) → aims ≡ aims_of us rs → aim ≡ aim_of us command → aims' ≡ aims ++ aim ∷ []
+    → new ≡ rs ++ fresh_record by command ∷ [] → aims' ≡ aims_of us new
+aims_pushed us rs new aims aims' by command aim old own more e =
     let of : Record → Aim = λ q. aim_of us q.command in
-    more ∙ ((λ i. old i ++ own i ∷ []) ∙ (sym (map-append of rs (fresh_record command ∷ [])) ∙ ap (aims_of us) (sym e)))
+    more ∙ ((λ i. old i ++ own i ∷ []) ∙ (sym (map-append of rs (fresh_record by command ∷ []))
+    ∙ ap (aims_of us) (sym e)))

@@ -1,18 +1,20 @@
 -- Why what was begun stays lawful: what comes later and what is aborted takes nothing from an earlier command's
 -- freedom, and passes rise at starts alone.
 use Rattle.std.proofs.Common.{◌≡◌, ℕ, ◌+◌, Bool, true, false, cond, not, ◌&&◌, List, [], ◌∷◌, ◌++◌, take, drop, length, refl, ap, sym, ◌∙◌, subst, append_assoc, arith}
-use Rattle.std.specs.Prelude.{All, filter, if◌then◌else◌, is_some, nat_eq, nat_le, unwrap_or, Option, Some, None}
+use Rattle.std.specs.Prelude.{All, filter, if◌then◌else◌, is_some, nat_le, unwrap_or, Option, Some, None}
 use Rattle.std.specs.List.{AllByRecursion, list_all, range_with_len}
-use Rattle.std.proofs.lemmas.Bool.{and_parts, eqb-true, false≢true}
+use Rattle.std.proofs.lemmas.Bool.{and_parts, false≢true}
 use Rattle.std.proofs.lemmas.List.{length-append}
 use Rattle.std.proofs.lemmas.List.Elements.{All-from_recursion, filter-append, recursion_from_All}
 use Rattle.mscp_queue.specs.declared.drive.Drive.{Drive}
 use Rattle.mscp_queue.specs.declared.view.Choice.{Choice}
 use Rattle.mscp_queue.specs.Kept.{IsStillServable}
-use Rattle.mscp_queue.specs.Names.{Name}
-use Rattle.mscp_queue.specs.Records.{Record, has_reference, is_unstarted, no_record, record_at, toll, without}
+use Rattle.mscp_queue.specs.declared.name.Name.{Name}
+use Rattle.mscp_queue.specs.Records.{Record, has_name, is_unstarted, name_of, no_record, record_at, toll, without}
+use Rattle.mscp_queue.specs.Names.{same_name}
 use Rattle.mscp_queue.specs.Serving.{IsServable, begun_without}
 use Rattle.mscp_queue.specs.Views.{IsPick, fences, is_affordable, is_free, is_open, is_open_at, open_places}
+use Rattle.mscp_queue.proofs.Named.{same_is}
 use Rattle.mscp_queue.proofs.Lists.{every_append, every_filter, every_from, every_kept, every_weaker}
 use Rattle.mscp_queue.proofs.Placed.{at_place, cut_at}
 
@@ -40,7 +42,7 @@ pub record Among (budget : ℕ) (rs front : List Record) (r : Record) (back : Li
 
 -- a record that may be served, wherever it stands
 servable : (budget : ℕ) (rs front : List Record) (r : Record) (back : List Record) (name : Name)
-    → has_reference name r ≡ true → Among budget rs front r back → IsStillServable budget rs name
+    → has_name name r ≡ true → Among budget rs front r back → IsStillServable budget rs name
 servable budget rs front r back name own m =
     let at = at_place rs front r back (length front) no_record m.is refl in
     let fresh : is_unstarted (record_at rs (length front)) ≡ true → is_unstarted r ≡ true =
@@ -50,7 +52,7 @@ servable budget rs front r back name own m =
       idle = λ e. All-from_recursion (λ z. z.done ≡ 0) rs (m.idle (fresh e));
       opens = λ e. (λ i. is_open budget (at.item i) (at.before i)) ∙ m.opens (fresh e);
     } in
-    (length front, all, ap (has_reference name) at.item ∙ own)
+    (length front, all, ap (has_name name) at.item ∙ own)
 
 -- and one that stands at a place
 among : (budget : ℕ) (rs : List Record) (place : ℕ) → IsServable budget rs place
@@ -98,18 +100,18 @@ open_left budget r keep front h =
     ap (λ q. q && is_affordable budget r (filter keep front)) (all_left (λ z. not (fences r z)) keep front b.0)
     ∙ all_left (λ z. nat_le (z.passed + toll r) budget) keep front b.1
 
-pub still_aborted : (budget : ℕ) (reference : Name) (rs : List Record) (name : Name) → nat_eq name reference ≡ false
-    → IsStillServable budget rs name → IsStillServable budget (without reference rs) name
-still_aborted budget reference rs name other s =
+pub still_aborted : (budget : ℕ) (gone : Name) (rs : List Record) (name : Name) → same_name name gone ≡ false
+    → IsStillServable budget rs name → IsStillServable budget (without gone rs) name
+still_aborted budget gone rs name other s =
     let place = s.0 in
     let m = among budget rs place s.1 in
-    let keep : Record → Bool = λ z. not (has_reference reference z) in
+    let keep : Record → Bool = λ z. not (has_name gone z) in
     let front = take place rs in
     let r = record_at rs place in
     let back = drop (place + 1) rs in
-    let number : r.command.reference ≡ name = eqb-true r.command.reference name s.2 in
-    let stays : keep r ≡ true = ap (λ n. not (nat_eq n reference)) number ∙ ap not other in
-    servable budget (without reference rs) (filter keep front) r (filter keep back) name s.2
+    let number : name_of r ≡ name = same_is (name_of r) name s.2 in
+    let stays : keep r ≡ true = ap (λ n. not (same_name n gone)) number ∙ ap not other in
+    servable budget (without gone rs) (filter keep front) r (filter keep back) name s.2
     (record {
       is = ap (filter keep) m.is ∙ (filter-append keep front (r ∷ back)
           ∙ ap (λ b. filter keep front ++ cond b (r ∷ filter keep back) (filter keep back)) stays);
@@ -118,15 +120,15 @@ still_aborted budget reference rs name other s =
     })
 
 -- what is begun after an abort was begun before, and isn't what was aborted
-pub still_begun : (reference : Name) (begun : Option Name) (name : Name) → begun_without reference begun ≡ Some name
-    → (begun ≡ Some name) × (nat_eq name reference ≡ false)
-still_begun reference None name e = absurd (false≢true (ap is_some e))
-still_begun reference (Some x) name e =
-    let both : (b : Bool) → nat_eq x reference ≡ b → (if b then None else Some x) ≡ Some name
-    → (Some x ≡ Some name) × (nat_eq name reference ≡ false) =
-    λ b. elim b as (λ b. nat_eq x reference ≡ b → (if b then None else Some x) ≡ Some name
-    → (Some x ≡ Some name) × (nat_eq name reference ≡ false)) [
+pub still_begun : (gone : Name) (begun : Option Name) (name : Name) → begun_without gone begun ≡ Some name
+    → (begun ≡ Some name) × (same_name name gone ≡ false)
+still_begun gone None name e = absurd (false≢true (ap is_some e))
+still_begun gone (Some x) name e =
+    let both : (b : Bool) → same_name x gone ≡ b → (if b then None else Some x) ≡ Some name
+    → (Some x ≡ Some name) × (same_name name gone ≡ false) =
+    λ b. elim b as (λ b. same_name x gone ≡ b → (if b then None else Some x) ≡ Some name
+    → (Some x ≡ Some name) × (same_name name gone ≡ false)) [
       | true ↦ λ q e. absurd (false≢true (ap is_some e))
-      | false ↦ λ q e. (e, ap (λ n. nat_eq n reference) (ap (λ o. unwrap_or o x) (sym e)) ∙ q)
+      | false ↦ λ q e. (e, ap (λ n. same_name n gone) (ap (λ o. unwrap_or o x) (sym e)) ∙ q)
     ] in
-    both (nat_eq x reference) refl e
+    both (same_name x gone) refl e

@@ -4,18 +4,21 @@ use Rattle.std.specs.Prelude.{All, filter, nat_lt, if◌then◌else◌, is_some,
 use Rattle.std.specs.List.{AllByRecursion, list_any, refill}
 use Rattle.std.proofs.lemmas.List.{length-append, length-map, map-append}
 use Rattle.std.proofs.lemmas.List.Elements.{All-from_recursion, All-nil, filter-append, recursion_from_All}
-use Rattle.std.proofs.lemmas.Bool.{eqb-false, ltb-false, lt-ltb, false≢true, true≢false}
+use Rattle.std.proofs.lemmas.Bool.{ltb-false, lt-ltb, false≢true, true≢false}
 use Rattle.mscp_packet.specs.declared.command.Command.{Command}
 use Rattle.mscp_packet.specs.declared.command.Order.{Order}
 use Rattle.mscp_packet.specs.declared.command.Order.TheVariants as orders
 use Rattle.mscp_drive.specs.Shape.{Shape}
 use Rattle.mscp_drive.specs.UnitList.{IsUnitList}
 use Rattle.mscp_queue.specs.declared.drive.Drive.{Drive}
+use Rattle.mscp_queue.specs.declared.name.Connection.{Connection}
 use Rattle.mscp_queue.specs.Drives.{IsOnUnit, fresh_drive, has_number, replaced}
 use Rattle.mscp_queue.specs.Kept.{AreApart, IsHeld, IsKept, IsWaitable, names, units_of}
-use Rattle.mscp_queue.specs.Names.{Name}
+use Rattle.mscp_queue.specs.declared.name.Name.{Name}
+use Rattle.mscp_queue.specs.Names.{name_on}
 use Rattle.mscp_queue.specs.Orders.{order_weight}
-use Rattle.mscp_queue.specs.Records.{Record, advanced, fresh_record, has_reference, is_in_service, passed_by}
+use Rattle.mscp_queue.specs.Records.{Record, advanced, fresh_record, has_name, is_in_service, name_of, passed_by}
+use Rattle.mscp_queue.proofs.Named.{differ_is}
 use Rattle.mscp_queue.proofs.Lists.{every_append, every_parts}
 use Rattle.mscp_queue.proofs.Mapped.{refilled}
 use Rattle.mscp_queue.proofs.Placed.{map_map}
@@ -83,9 +86,9 @@ some_steps orders.Online = omega arith
 some_steps orders.SetUnit = omega arith
 some_steps (orders.Invalid opcode status) = omega arith
 
-fresh_kept : (budget longest : ℕ) (us : List Shape) (c : Command) → IsWaitable longest us c
-    → IsKept budget longest us (fresh_record c)
-fresh_kept budget longest us c w = record {
+fresh_kept : (budget longest : ℕ) (us : List Shape) (by : Connection) (c : Command) → IsWaitable longest us c
+    → IsKept budget longest us (fresh_record by c)
+fresh_kept budget longest us by c w = record {
   waitable = w;
   weight = refl;
   unfinished = some_steps c.order;
@@ -94,7 +97,7 @@ fresh_kept budget longest us c w = record {
   passed = omega arith;
 }
 
-apart_more : (xs : List ℕ) (x : ℕ) → AreApart xs → AllByRecursion (λ y. x ≢ y) xs → AreApart (xs ++ x ∷ [])
+apart_more : (xs : List Name) (x : Name) → AreApart xs → AllByRecursion (λ y. x ≢ y) xs → AreApart (xs ++ x ∷ [])
 apart_more [] x a n = (tt, tt)
 apart_more (y ∷ ys) x a n = (every_append (λ z. z ≢ y) ys (x ∷ []) a.0 (n.0, tt), apart_more ys x a.1 n.1)
 
@@ -102,26 +105,26 @@ or_parts : (a b : Bool) → (a || b) ≡ false → (a ≡ false) × (b ≡ false
 or_parts true b h = absurd (true≢false h)
 or_parts false b h = (refl, h)
 
-none_has : (reference : Name) (rs : List Record) → list_any (has_reference reference) rs ≡ false
-    → AllByRecursion (λ y. reference ≢ y) (names rs)
-none_has reference [] h = tt
-none_has reference (r ∷ rs) h =
-    let p = or_parts (has_reference reference r) (list_any (has_reference reference) rs) h in
-    ((λ e. eqb-false r.command.reference reference p.0 (sym e)), none_has reference rs p.1)
+none_has : (gone : Name) (rs : List Record) → list_any (has_name gone) rs ≡ false
+    → AllByRecursion (λ y. gone ≢ y) (names rs)
+none_has gone [] h = tt
+none_has gone (r ∷ rs) h =
+    let p = or_parts (has_name gone r) (list_any (has_name gone) rs) h in
+    ((λ e. differ_is (name_of r) gone p.0 (sym e)), none_has gone rs p.1)
 
 pub held_pushed : (room budget longest : ℕ) (rs new : List Record) (ds : List Drive) (begun : Option Name)
-    (serving : Bool) (c : Command) → IsHeld room budget longest rs ds begun serving → length rs < room
+    (serving : Bool) (by : Connection) (c : Command) → IsHeld room budget longest rs ds begun serving → length rs < room
     → IsWaitable longest (units_of ds) c
-    → list_any (has_reference c.reference) rs ≡ false → new ≡ rs ++ fresh_record c ∷ []
+    → list_any (has_name (name_on by c.reference)) rs ≡ false → new ≡ rs ++ fresh_record by c ∷ []
     → IsHeld room budget longest new ds begun serving
-held_pushed room budget longest rs new ds begun serving c h l w n e =
+held_pushed room budget longest rs new ds begun serving by c h l w n e =
     let K = IsKept budget longest (units_of ds) in
-    let r = fresh_record c in
+    let r = fresh_record by c in
     let kept : All K (rs ++ r ∷ []) =
     All-from_recursion K (rs ++ r ∷ []) (every_append K rs (r ∷ []) (recursion_from_All K rs h.each)
-    (fresh_kept budget longest (units_of ds) c w, tt)) in
-    let numbers : names (rs ++ r ∷ []) ≡ names rs ++ c.reference ∷ [] =
-    map-append (λ (q : Record). q.command.reference) rs (r ∷ []) in
+    (fresh_kept budget longest (units_of ds) by c w, tt)) in
+    let numbers : names (rs ++ r ∷ []) ≡ names rs ++ name_of r ∷ [] =
+    map-append name_of rs (r ∷ []) in
     let served : filter is_in_service (rs ++ r ∷ []) ≡ filter is_in_service rs ++ [] =
     filter-append is_in_service rs (r ∷ []) in
     let all : IsHeld room budget longest (rs ++ r ∷ []) ds begun serving =
@@ -133,7 +136,7 @@ held_pushed room budget longest rs new ds begun serving c h l w n e =
       small = h.small;
       fits = omega (arith, length-append rs (r ∷ []));
       each = kept;
-      apart = subst AreApart (sym numbers) (apart_more (names rs) c.reference h.apart (none_has c.reference rs n));
+      apart = subst AreApart (sym numbers) (apart_more (names rs) (name_of r) h.apart (none_has (name_of r) rs n));
       one = let o = h.one in omega (arith, ap length served, length-append (filter is_in_service rs) []);
       idle = λ e. All-from_recursion (λ z. z.done ≡ 0) (rs ++ r ∷ [])
           (every_append (λ z. z.done ≡ 0) rs (r ∷ []) (recursion_from_All (λ z. z.done ≡ 0) rs (h.idle e)) (refl, tt));
@@ -179,9 +182,9 @@ kept_advanced budget longest us r h l = record {
 
 names_passed : (n : ℕ) (A : List Record) → names (map (passed_by n) A) ≡ names A
 names_passed n [] = refl
-names_passed n (r ∷ rs) = ap (λ xs. r.command.reference ∷ xs) (names_passed n rs)
+names_passed n (r ∷ rs) = ap (λ xs. name_of r ∷ xs) (names_passed n rs)
 
-apart_without : (xs : List ℕ) (x : ℕ) (ys : List ℕ) → AreApart (xs ++ x ∷ ys) → AreApart (xs ++ ys)
+apart_without : (xs : List Name) (x : Name) (ys : List Name) → AreApart (xs ++ x ∷ ys) → AreApart (xs ++ ys)
 apart_without [] x ys h = h.1
 apart_without (z ∷ zs) x ys h =
     let p = every_parts (λ y. y ≢ z) zs (x ∷ ys) h.0 in
@@ -237,11 +240,11 @@ own_serving (r ∷ []) h = elim (is_in_service r) as (λ b. length (cond b (r �
 own_serving (r ∷ s ∷ rs) h = absurd (omega arith)
 
 apart_left : (r : Record) (own : List Record) (A B : List Record) → IsLeft r own
-    → AreApart (names A ++ (r.command.reference ∷ names B)) → AreApart (names A ++ (names own ++ names B))
+    → AreApart (names A ++ (name_of r ∷ names B)) → AreApart (names A ++ (names own ++ names B))
 apart_left r own A B h a =
     ⊎_elim
     (λ e. subst (λ xs. AreApart (names A ++ (names xs ++ names B))) (sym e)
-    (apart_without (names A) r.command.reference (names B) a))
+    (apart_without (names A) (name_of r) (names B) a))
     (λ e. subst (λ xs. AreApart (names A ++ (names xs ++ names B))) (sym e.0) a)
     h.left
 
@@ -272,11 +275,10 @@ held_turn room budget longest n A r B own ds ds' begun serving serves h t ended 
     let kept : AllByRecursion K new =
     every_append K (map (passed_by n) A) (own ++ B) (front_kept budget longest n (units_of ds) A parts.0 t.affordable)
     (every_append K own B (kept_left budget longest (units_of ds) r own t.left parts.1.0) parts.1.1) in
-    let ref : Record → ℕ = λ q. q.command.reference in
-    let old_numbers : names (A ++ r ∷ B) ≡ names A ++ (r.command.reference ∷ names B) = map-append ref A (r ∷ B) in
+    let old_numbers : names (A ++ r ∷ B) ≡ names A ++ (name_of r ∷ names B) = map-append name_of A (r ∷ B) in
     let numbers : names new ≡ names A ++ (names own ++ names B) =
-    map-append ref (map (passed_by n) A) (own ++ B)
-    ∙ (ap (λ xs. xs ++ names (own ++ B)) (names_passed n A) ∙ ap (λ xs. names A ++ xs) (map-append ref own B)) in
+    map-append name_of (map (passed_by n) A) (own ++ B)
+    ∙ (ap (λ xs. xs ++ names (own ++ B)) (names_passed n A) ∙ ap (λ xs. names A ++ xs) (map-append name_of own B)) in
     let few = own_one r own t.left in
     let served = filter-append is_in_service (map (passed_by n) A) (own ++ B) in
     let served_own = filter-append is_in_service own B in

@@ -1,6 +1,7 @@
 pub mod Lists
 pub mod Placed
 pub mod Mapped
+pub mod Named
 pub mod Fronts
 pub mod Starting
 pub mod Closed

@@ -4,15 +4,16 @@ use Rattle.std.specs.Prelude.{All, IfNone, IfSome, is_some, nat_lt, unwrap_or, O
 use Rattle.std.specs.List.{AllByRecursion, position}
 use Rattle.std.proofs.lemmas.List.{get_or-map, get_or_at, length-append, length-map}
 use Rattle.std.proofs.lemmas.List.Elements.{All-from_recursion, recursion_from_All}
-use Rattle.std.proofs.lemmas.Bool.{eq-eqb, eqb-true, false≢true, ltb-false, ltb-true, true≢false}
+use Rattle.std.proofs.lemmas.Bool.{eqb-true, false≢true, ltb-false, ltb-true, true≢false}
 use Rattle.mscp_queue.specs.declared.drive.Drive.{Drive}
 use Rattle.mscp_queue.specs.declared.view.Choice.{Choice}
 use Rattle.mscp_queue.specs.Kept.{AreApart, IsStillServable, names}
-use Rattle.mscp_queue.specs.Names.{Name}
-use Rattle.mscp_queue.specs.Records.{Record, drive_at, has_reference, is_in_service, is_unstarted, no_record, record_at}
+use Rattle.mscp_queue.specs.declared.name.Name.{Name}
+use Rattle.mscp_queue.specs.Records.{Record, drive_at, has_name, is_in_service, is_unstarted, name_of, no_record, record_at}
 use Rattle.mscp_queue.specs.Serving.{IsNext, IsServable}
-use Rattle.mscp_queue.specs.Views.{IsPick, choice_of, open_places, view_of}
+use Rattle.mscp_queue.specs.Views.{IsPick, choice_name, choice_of, open_places, view_of}
 use Rattle.mscp_queue.proofs.Begun.{picked_opens}
+use Rattle.mscp_queue.proofs.Named.{is_same, same_is}
 use Rattle.mscp_queue.proofs.Lists.{every_weaker}
 use Rattle.mscp_queue.proofs.Placed.{find_cases, position_first, position_none}
 use Rattle.mscp_queue.proofs.Starting.{places_inside}
@@ -42,7 +43,7 @@ some_is : (x y : Name) → Some x ≡ Some y → x ≡ y
 some_is x y e = ap (λ o. unwrap_or o x) e
 
 others_differ : (name : Name) (rs : List Record) (i : ℕ) → AllByRecursion (λ y. y ≢ name) (names rs) → i < length rs
-    → (record_at rs i).command.reference ≢ name
+    → name_of (record_at rs i) ≢ name
 others_differ name [] i h l = λ e. absurd (omega (arith, l))
 others_differ name (r ∷ rs) zero h l = h.0
 others_differ name (r ∷ rs) (suc i) h l = others_differ name rs i h.1 (omega (arith, l))
@@ -105,66 +106,66 @@ picked_next picks budget ds rs begun place n h l p =
 
 -- a name stands at one place
 once : (rs : List Record) (i j : ℕ) → AreApart (names rs) → i < length rs → j < length rs
-    → (record_at rs i).command.reference ≡ (record_at rs j).command.reference → i ≡ j
+    → name_of (record_at rs i) ≡ name_of (record_at rs j) → i ≡ j
 once [] i j a k l e = absurd (omega (arith, k))
 once (r ∷ rs) zero zero a k l e = refl
-once (r ∷ rs) zero (suc j) a k l e = absurd (others_differ r.command.reference rs j a.0 (omega (arith, l)) (sym e))
-once (r ∷ rs) (suc i) zero a k l e = absurd (others_differ r.command.reference rs i a.0 (omega (arith, k)) e)
+once (r ∷ rs) zero (suc j) a k l e = absurd (others_differ (name_of r) rs j a.0 (omega (arith, l)) (sym e))
+once (r ∷ rs) (suc i) zero a k l e = absurd (others_differ (name_of r) rs i a.0 (omega (arith, k)) e)
 once (r ∷ rs) (suc i) (suc j) a k l e = ap suc (once rs i j a.1 (omega (arith, k)) (omega (arith, l)) e)
 
 -- so it is found there
 pub name_found : (rs : List Record) (name : Name) (place : ℕ) (o : Option ℕ) → AreApart (names rs) → place < length rs
-    → (record_at rs place).command.reference ≡ name → o ≡ position (has_reference name) rs → o ≡ Some place
+    → name_of (record_at rs place) ≡ name → o ≡ position (has_name name) rs → o ≡ Some place
 name_found rs name place None a l e h =
     ⊎_elim
-    (λ none. absurd (true≢false (sym (eq-eqb (record_at rs place).command.reference name e)
-    ∙ All-from_recursion (λ r. has_reference name r ≡ false) rs none place no_record l)))
+    (λ none. absurd (true≢false (sym (is_same (name_of (record_at rs place)) name e)
+    ∙ All-from_recursion (λ r. has_name name r ≡ false) rs none place no_record l)))
     (λ some. let f = some.3 in absurd (true≢false (ap is_some
-    (sym (position_first (has_reference name) some.0 some.1 some.2 f.before f.passed)
-    ∙ (ap (position (has_reference name)) (sym f.is) ∙ sym h)))))
-    (find_cases (has_reference name) rs)
+    (sym (position_first (has_name name) some.0 some.1 some.2 f.before f.passed)
+    ∙ (ap (position (has_name name)) (sym f.is) ∙ sym h)))))
+    (find_cases (has_name name) rs)
 name_found rs name place (Some other) a l e h =
-    let f = found_at (has_reference name) rs other (sym h) in
-    ap Some (once rs other place a f.0 l (eqb-true (record_at rs other).command.reference name f.1 ∙ sym e))
+    let f = found_at (has_name name) rs other (sym h) in
+    ap Some (once rs other place a f.0 l (same_is (name_of (record_at rs other)) name f.1 ∙ sym e))
 
 -- and so is the record that a choice of a view is of
 pub shown_found : (budget : ℕ) (ds : List Drive) (rs : List Record) (view : List Choice) (i : ℕ) (other : Choice)
     (o : Option ℕ) → AreApart (names rs) → view ≡ view_of budget ds rs → i < length view
-    → o ≡ position (has_reference (get_or view i other).reference) rs → o ≡ Some (get_or (open_places budget rs) i 0)
+    → o ≡ position (has_name (choice_name (get_or view i other))) rs → o ≡ Some (get_or (open_places budget rs) i 0)
 shown_found budget ds rs view i other o a v l h =
     let choice : ℕ → Choice = λ place. choice_of (drive_at ds rs place) (record_at rs place) in
     let k : i < length (open_places budget rs) = omega
     (arith, l, ap length v, length-map (open_places budget rs) choice) in
     let is = ap (λ vs. get_or vs i other) v ∙ get_or-map choice (open_places budget rs) i 0 other k in
-    name_found rs (get_or view i other).reference (get_or (open_places budget rs) i 0) o a
-    (places_inside budget rs i 0 k) (sym (ap (λ (q : Choice). q.reference) is)) h
+    name_found rs (choice_name (get_or view i other)) (get_or (open_places budget rs) i 0) o a
+    (places_inside budget rs i 0 k) (sym (ap (choice_name) is)) h
 
 -- the record of what was begun is next
 begun_next : (picks : List Choice → ℕ → Type 0) (budget : ℕ) (ds : List Drive) (rs : List Record) (begun : Option Name)
     (name : Name) (place : ℕ) → AreApart (names rs) → begun ≡ Some name → IsStillServable budget rs name
-    → position (has_reference name) rs ≡ Some place → IsNext picks budget ds rs begun place
+    → position (has_name name) rs ≡ Some place → IsNext picks budget ds rs begun place
 begun_next picks budget ds rs begun name place a b s h =
-    let f = found_at (has_reference name) rs place h in
-    let number : (i : ℕ) → has_reference name (record_at rs i) ≡ true → (record_at rs i).command.reference ≡ name =
-    λ i. eqb-true (record_at rs i).command.reference name in
+    let f = found_at (has_name name) rs place h in
+    let number : (i : ℕ) → has_name name (record_at rs i) ≡ true → name_of (record_at rs i) ≡ name =
+    λ i. same_is (name_of (record_at rs i)) name in
     let here : s.0 ≡ place = once rs s.0 place a s.1.inside f.0 (number s.0 s.2 ∙ sym (number place f.1)) in
     record {
       servable = subst (IsServable budget rs) here s.1;
-      same = λ other e. subst (λ n. has_reference n (record_at rs place) ≡ true) (some_is name other (sym b ∙ e)) f.1;
+      same = λ other e. subst (λ n. has_name n (record_at rs place) ≡ true) (some_is name other (sym b ∙ e)) f.1;
       picked = λ n e. absurd (none_begun begun name n b);
     }
 
 -- and it is found
 begun_found : (budget : ℕ) (rs : List Record) (name : Name) → IsStillServable budget rs name
-    → position (has_reference name) rs ≡ None → ⊥
+    → position (has_name name) rs ≡ None → ⊥
 begun_found budget rs name s h =
     ⊎_elim
-    (λ none. true≢false (sym s.2 ∙ All-from_recursion (λ r. has_reference name r ≡ false) rs none s.0 no_record
+    (λ none. true≢false (sym s.2 ∙ All-from_recursion (λ r. has_name name r ≡ false) rs none s.0 no_record
     s.1.inside))
     (λ some. let f = some.3 in true≢false (ap is_some
-    (sym (position_first (has_reference name) some.0 some.1 some.2 f.before f.passed)
-    ∙ (ap (position (has_reference name)) (sym f.is) ∙ h))))
-    (find_cases (has_reference name) rs)
+    (sym (position_first (has_name name) some.0 some.1 some.2 f.before f.passed)
+    ∙ (ap (position (has_name name)) (sym f.is) ∙ h))))
+    (find_cases (has_name name) rs)
 
 -- what is found of what was begun
 pub record Finds (picks : List Choice → ℕ → Type 0) (budget : ℕ) (ds : List Drive) (rs : List Record)
@@ -176,7 +177,7 @@ pub record Finds (picks : List Choice → ℕ → Type 0) (budget : ℕ) (ds : L
 pub finds_begun : (picks : List Choice → ℕ → Type 0) (budget : ℕ) (ds : List Drive) (rs : List Record)
     (begun : Option Name) (name : Name) (o : Option ℕ) → AreApart (names rs) → begun ≡ Some name
     → IsStillServable budget rs name
-    → o ≡ position (has_reference name) rs → Finds picks budget ds rs begun o
+    → o ≡ position (has_name name) rs → Finds picks budget ds rs begun o
 finds_begun picks budget ds rs begun name None a b s h = absurd (begun_found budget rs name s (sym h))
 finds_begun picks budget ds rs begun name (Some place) a b s h =
     record { none = tt; unbegun = tt; some = begun_next picks budget ds rs begun name place a b s (sym h) }

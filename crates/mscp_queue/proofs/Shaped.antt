@@ -18,9 +18,9 @@ use Rattle.mscp_queue.specs.declared.drive.Drive.{Drive}
 use Rattle.mscp_queue.specs.Kept.{IsKept}
 use Rattle.mscp_queue.specs.Orders.{endcode, is_move, is_sequential}
 use Rattle.mscp_queue.specs.Outcomes.{IsCoded, aborted_end, goes_on, is_success, moved_body, online_body, outcome_at, outcome_body}
-use Rattle.mscp_queue.specs.Records.{Record, aborted_record, has_reference, left_of}
+use Rattle.mscp_queue.specs.Records.{Record, aborted_record, has_name, left_of}
 use Rattle.mscp_queue.specs.Serving.{end_given}
-use Rattle.mscp_queue.specs.Names.{Name}
+use Rattle.mscp_queue.specs.declared.name.Name.{Name}
 use Rattle.mscp_queue.proofs.Lists.{every_weaker}
 
 -- what is sequential or a transfer has an endcode
@@ -92,22 +92,22 @@ given_kind k d r h =
       | false ↦ ended_kind d.unit d.online r.command r.good k (waitable_coded r.command.order h)
     ]
 
-found_kind : (reference : Name) (rs : List Record) → AllByRecursion
+found_kind : (gone : Name) (rs : List Record) → AllByRecursion
     (λ r. (is_sequential r.command.order || is_move r.command.order) ≡ true) rs
-    → IfSome (option_map aborted_record (find (has_reference reference) rs)) IsOfKind
-found_kind reference [] h = tt
-found_kind reference (r ∷ rs) h =
-    elim (has_reference reference r) as (λ b. IfSome
-    (option_map aborted_record (if b then Some r else find (has_reference reference) rs)) IsOfKind) [
+    → IfSome (option_map aborted_record (find (has_name gone) rs)) IsOfKind
+found_kind gone [] h = tt
+found_kind gone (r ∷ rs) h =
+    elim (has_name gone r) as (λ b. IfSome
+    (option_map aborted_record (if b then Some r else find (has_name gone) rs)) IsOfKind) [
       | true ↦ aborted_kind r.command r.good (waitable_coded r.command.order h.0)
-      | false ↦ found_kind reference rs h.1
+      | false ↦ found_kind gone rs h.1
     ]
 
 -- an abort of what waits gives it an end of its kind
-pub aborts_kind : (budget longest : ℕ) (reference : Name) (units : List Shape) (rs : List Record)
-    → All (IsKept budget longest units) rs → IfSome (option_map aborted_record (find (has_reference reference) rs))
+pub aborts_kind : (budget longest : ℕ) (gone : Name) (units : List Shape) (rs : List Record)
+    → All (IsKept budget longest units) rs → IfSome (option_map aborted_record (find (has_name gone) rs))
     IsOfKind
-aborts_kind budget longest reference units rs h =
-    found_kind reference rs
+aborts_kind budget longest gone units rs h =
+    found_kind gone rs
     (every_weaker (IsKept budget longest units) (λ r. (is_sequential r.command.order || is_move r.command.order)
     ≡ true) (λ r k. k.waitable.order) rs (recursion_from_All (IsKept budget longest units) rs h))

@@ -8,9 +8,10 @@ use Rattle.std.proofs.lemmas.List.Elements.{recursion_from_All}
 use Rattle.std.proofs.lemmas.List.FromFn.{map-range_with_len_more}
 use Rattle.std.proofs.lemmas.List.Sums.{sum_by-append, sum_by-cons, sum_by_push}
 use Rattle.mscp_queue.specs.declared.drive.Drive.{Drive}
+use Rattle.mscp_queue.specs.declared.name.Connection.{Connection}
+use Rattle.mscp_queue.specs.declared.name.Name.{Name}
 use Rattle.mscp_queue.specs.Kept.{IsHeld}
-use Rattle.mscp_queue.specs.Names.{Name}
-use Rattle.mscp_queue.specs.Figures.{figure_at, figures_from}
+use Rattle.mscp_queue.specs.Figures.{figure_at, figures_from, looked_at}
 use Rattle.mscp_queue.proofs.Placed.{cut_at}
 use Rattle.mscp_queue.specs.Records.{Record, is_in_service, left_if_serving, left_of, no_record, record_at}
 
@@ -84,16 +85,15 @@ serving_after rs place serving f = f ∙ ap (λ xs. sum_by left_of (filter is_in
 
 -- ---- a look
 
-entry_at : ℕ → List Record → ℕ → ℕ × ℕ
-entry_at budget rs place = ((record_at rs place).command.reference, figure_at budget rs place)
+entry_at : ℕ → List Record → ℕ → (Connection × ℕ × ℕ)
+entry_at budget rs place = looked_at (record_at rs place) (figure_at budget rs place)
 
 -- the figures of one more place
 pub figures_more : (budget : ℕ) (rs : List Record) (n : ℕ)
     → figures_from budget rs (range_with_len 0 (n + 1)) ≡ figures_from budget rs (range_with_len 0 n)
-    ++ ((record_at rs n).command.reference, figure_at budget rs n) ∷ []
+    ++ looked_at (record_at rs n) (figure_at budget rs n) ∷ []
 unfolding entry_at
-figures_more budget rs n = map-range_with_len_more {X = ℕ × ℕ} (entry_at budget rs) 0 n n
-    (omega arith)
+figures_more budget rs n = map-range_with_len_more {X = Connection × ℕ × ℕ} (entry_at budget rs) 0 n n (omega arith)
 
 -- what is left before the next place
 pub before_more : (rs : List Record) (place before left : ℕ) → place < length rs

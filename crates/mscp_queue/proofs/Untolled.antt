@@ -7,8 +7,7 @@ same : (n : ℕ) → n + 0 ≡ n
 same n = omega arith
 
 unpassed : (r : Record) → passed_by 0 r ≡ r
-unpassed r = ap (λ n. record { command = r.command; weight = r.weight; done = r.done; good = r.good; passed = n })
-    (same r.passed)
+unpassed r = ap (λ n. record r { passed = n }) (same r.passed)
 
 untolled : (xs : List Record) → map (passed_by 0) xs ≡ xs
 untolled [] = refl

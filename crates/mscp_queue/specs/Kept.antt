@@ -8,12 +8,12 @@ use Rattle.mscp_drive.specs.Shape.{Shape}
 use Rattle.mscp_drive.specs.UnitList.{IsUnitList, unit_found}
 use Rattle.mscp_queue.specs.declared.aim.Aim.{Aim}
 use Rattle.mscp_queue.specs.declared.drive.Drive.{Drive}
+use Rattle.mscp_queue.specs.declared.name.Name.{Name}
 use Rattle.mscp_queue.specs.Aims.{aims_of}
-use Rattle.mscp_queue.specs.Names.{Name, name_of}
 use Rattle.mscp_queue.specs.Orders.{first_block, is_move, is_sequential, order_weight}
 use Rattle.mscp_queue.specs.Drives.{IsOnUnit, one_block}
 use Rattle.mscp_queue.specs.Pairs.{Pairs}
-use Rattle.mscp_queue.specs.Records.{Record, has_reference, is_in_service, record_at}
+use Rattle.mscp_queue.specs.Records.{Record, has_name, is_in_service, name_of, record_at}
 use Rattle.mscp_queue.specs.Serving.{IsServable}
 
 -- the units of drives
@@ -54,7 +54,7 @@ pub record IsKept (budget longest : ℕ) (units : List Shape) (r : Record) : Typ
 
 -- the names of the commands of records
 abbrev pub names : List Record → List Name
-names rs = map (λ r. name_of r.command) rs
+names rs = map name_of rs
 
 -- each of these names stands once
 abbrev pub AreApart : List Name → Type 0
@@ -64,7 +64,7 @@ AreApart (x ∷ xs) = AllByRecursion (λ y. y ≢ x) xs × AreApart xs
 -- the command of this name waits, and may be served
 abbrev pub IsStillServable : ℕ → List Record → Name → Type 0
 IsStillServable budget rs name =
-    (place : ℕ) × IsServable budget rs place × (has_reference name (record_at rs place) ≡ true)
+    (place : ℕ) × IsServable budget rs place × (has_name name (record_at rs place) ≡ true)
 
 -- the limits, the waiting commands and the drives of a queue, what was begun, and whether one may be in service
 pub record IsHeld (room budget longest : ℕ) (rs : List Record) (ds : List Drive) (begun : Option Name)

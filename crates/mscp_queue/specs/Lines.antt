@@ -8,9 +8,10 @@ use Rattle.mscp_queue.specs.declared.report.Report.TheVariants.{Idle}
 use Rattle.mscp_queue.specs.declared.drive.Drive.{Drive}
 use Rattle.mscp_queue.specs.declared.upcoming.Upcoming.{Upcoming}
 use Rattle.mscp_queue.specs.declared.view.Choice.{Choice}
+use Rattle.mscp_queue.specs.declared.name.Connection.{Connection}
+use Rattle.mscp_queue.specs.declared.name.Name.{Name}
 use Rattle.mscp_queue.specs.Drives.{fresh_drive}
-use Rattle.mscp_queue.specs.Names.{Name, name_of}
-use Rattle.mscp_queue.specs.Records.{Record, drive_at, fresh_record, record_at, without}
+use Rattle.mscp_queue.specs.Records.{Record, drive_at, fresh_record, name_of, record_at, without}
 use Rattle.mscp_queue.specs.Serving.{IsNext, begun_without, drives_after, report_of, upcoming_of, waiting_after}
 
 -- how many commands may wait, by how many blocks one may be passed, and the longest transfer in blocks (profile); the
@@ -37,13 +38,13 @@ fresh units room budget longest picker = record {
   picker = picker;
 }
 
--- a queue once a command waits
-abbrev pub pushed : {K : Type 0} → Line K → Command → Line K
-pushed line command = record line { waiting = line.waiting ++ fresh_record command ∷ [] }
+-- a queue once a command waits that came by a connection
+abbrev pub pushed : {K : Type 0} → Line K → Connection → Command → Line K
+pushed line connection command = record line { waiting = line.waiting ++ fresh_record connection command ∷ [] }
 
 -- a queue once the command at a place was begun
 abbrev pub begun_at : {K : Type 0} → Line K → ℕ → Line K
-begun_at line place = record line { begun = Some (name_of (record_at line.waiting place).command) }
+begun_at line place = record line { begun = Some (name_of (record_at line.waiting place)) }
 
 -- the record at a place is begun
 pub record BeginsAt {K : Type 0} (picks : List Choice → ℕ → Type 0)
@@ -60,12 +61,9 @@ abbrev pub Begins : {K : Type 0} → (List Choice → ℕ → Type 0) → Line K
 Begins picks old None new = (old.waiting ≡ []) × (old.begun ≡ None) × (new ≡ old)
 Begins picks old (Some upcoming) new = (place : ℕ) × BeginsAt picks old upcoming new place
 
--- a queue once the command of this reference number was aborted: it is begun no more
+-- a queue once the command of this name was aborted: it is begun no more
 abbrev pub aborting : {K : Type 0} → Name → Line K → Line K
-aborting reference line = record line {
-  waiting = without reference line.waiting;
-  begun = begun_without reference line.begun;
-}
+aborting name line = record line { waiting = without name line.waiting; begun = begun_without name line.begun }
 
 -- a queue after a step of the record at a place
 abbrev pub served : {K : Type 0} → Block → Line K → ℕ → Line K

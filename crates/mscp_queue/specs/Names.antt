@@ -1,20 +1,25 @@
--- What tells a command apart from the others that wait or whose ends weren't taken: its reference number (manual).
--- Where commands are told apart, it is by these words.
-use Rattle.std.specs.Prelude.{ℕ, Bool, nat_eq}
-use Rattle.mscp_packet.specs.declared.command.Command.{Command}
+-- What tells a command apart from the others that wait or whose ends weren't taken: the connection that it came by, and
+-- its reference number (manual: each host numbers its own). Where commands are told apart, it is by these words.
+use Rattle.std.specs.Prelude.{ℕ, Bool, true, false, ◌&&◌, nat_eq}
 use Rattle.mscp_packet.specs.declared.end.End.{End}
+use Rattle.mscp_queue.specs.declared.name.Connection.{Connection}
+use Rattle.mscp_queue.specs.declared.name.Connection.TheVariants.{First, Second}
+use Rattle.mscp_queue.specs.declared.name.Name.{Name}
 
-abbrev pub Name : Type 0
-Name = ℕ
+-- both are the same connection
+abbrev pub same_connection : Connection → Connection → Bool
+same_connection First First = true
+same_connection Second Second = true
+same_connection one other = false
 
 -- both name the same command
 abbrev pub same_name : Name → Name → Bool
-same_name one other = nat_eq one other
+same_name one other = same_connection one.connection other.connection && nat_eq one.reference other.reference
 
--- the name of a command
-abbrev pub name_of : Command → Name
-name_of command = command.reference
+-- the name that a reference number is on a connection
+abbrev pub name_on : Connection → ℕ → Name
+name_on connection reference = record { connection = connection; reference = reference }
 
--- the name of the command that an end is of
-abbrev pub end_name : End → Name
-end_name end = end.reference
+-- the name of the command that an end, which goes to a connection, is of
+abbrev pub end_name : Connection → End → Name
+end_name connection end = name_on connection end.reference

@@ -4,28 +4,41 @@ use Rattle.mscp_packet.specs.declared.command.Command.{Command}
 use Rattle.mscp_packet.specs.declared.command.Order.TheVariants as orders
 use Rattle.mscp_packet.specs.declared.end.End.{End}
 use Rattle.mscp_queue.specs.declared.drive.Drive.{Drive}
+use Rattle.mscp_queue.specs.declared.name.Connection.{Connection}
+use Rattle.mscp_queue.specs.declared.name.Connection.TheVariants.{First}
+use Rattle.mscp_queue.specs.declared.name.Name.{Name}
 use Rattle.mscp_queue.specs.Drives.{drive_of}
-use Rattle.mscp_queue.specs.Names.{Name, name_of, same_name}
+use Rattle.mscp_queue.specs.Names.{name_on, same_name}
 use Rattle.mscp_queue.specs.Orders.{order_weight}
 use Rattle.mscp_queue.specs.Outcomes.{aborted_end}
 
--- a waiting command: how many steps it takes, how many it had, how many of its blocks were good, and by how many
--- blocks it was passed (profile)
+-- a waiting command: the connection that it came by, how many steps it takes, how many it had, how many of its blocks
+-- were good, and by how many blocks it was passed (profile)
 pub record Record : Type 0 where
+  pub connection : Connection
   pub command : Command
   pub weight : ℕ
   pub done : ℕ
   pub good : ℕ
   pub passed : ℕ
 
--- the record of a command that begins to wait
-abbrev pub fresh_record : Command → Record
-fresh_record command = record { command = command; weight = order_weight command.order; done = 0; good = 0; passed = 0 }
+-- the record of a command that came by a connection and begins to wait
+abbrev pub fresh_record : Connection → Command → Record
+fresh_record connection command =
+    record {
+      connection = connection;
+      command = command;
+      weight = order_weight command.order;
+      done = 0;
+      good = 0;
+      passed = 0;
+    }
 
 -- a record of nothing, which stands past the end of a list
 abbrev pub no_record : Record
 no_record =
     record {
+      connection = First;
       command = record { reference = 0; unit = 0; order = orders.Online };
       weight = 0;
       done = 0;
@@ -37,17 +50,21 @@ no_record =
 abbrev pub record_at : List Record → ℕ → Record
 record_at rs place = slice_index_or rs place no_record
 
--- the record is of the command of this reference number
-abbrev pub has_reference : Name → Record → Bool
-has_reference reference r = same_name (name_of r.command) reference
+-- the name of a record's command
+abbrev pub name_of : Record → Name
+name_of r = name_on r.connection r.command.reference
+
+-- the record is of the command of this name
+abbrev pub has_name : Name → Record → Bool
+has_name name r = same_name (name_of r) name
 
 -- the drive of the record at a place
 abbrev pub drive_at : List Drive → List Record → ℕ → Drive
 drive_at ds rs place = drive_of ds (record_at rs place).command.unit
 
--- the records without that of the command of this reference number
+-- the records without that of the command of this name
 abbrev pub without : Name → List Record → List Record
-without reference rs = filter (λ r. not (has_reference reference r)) rs
+without name rs = filter (λ r. not (has_name name r)) rs
 
 -- the end of a record's command that is aborted, which counts the bytes of its good blocks (manual)
 abbrev pub aborted_record : Record → End
@@ -79,11 +96,11 @@ step_toll r = cond (is_unstarted r) (toll r) 0
 
 -- the record once its command was passed at this toll
 abbrev pub passed_by : ℕ → Record → Record
-passed_by n r = record { command = r.command; weight = r.weight; done = r.done; good = r.good; passed = r.passed + n }
+passed_by n r = record r { passed = r.passed + n }
 
 -- the record after a step of its command that doesn't end it: the block was good
 abbrev pub advanced : Record → Record
-advanced r = record { command = r.command; weight = r.weight; done = r.done + 1; good = r.good + 1; passed = r.passed }
+advanced r = record r { done = r.done + 1; good = r.good + 1 }
 
 -- what a step leaves of the record, which ended its command or not
 abbrev pub remains : Record → Option End → List Record

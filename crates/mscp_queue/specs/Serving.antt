@@ -10,10 +10,11 @@ use Rattle.mscp_queue.specs.declared.report.Report.TheVariants.{Idle, Served}
 use Rattle.mscp_queue.specs.declared.drive.Drive.{Drive}
 use Rattle.mscp_queue.specs.declared.upcoming.Upcoming.{Upcoming}
 use Rattle.mscp_queue.specs.declared.view.Choice.{Choice}
-use Rattle.mscp_queue.specs.Names.{Name, same_name}
+use Rattle.mscp_queue.specs.declared.name.Name.{Name}
+use Rattle.mscp_queue.specs.Names.{same_name}
 use Rattle.mscp_queue.specs.Outcomes.{block_touched, goes_on, head_after, outcome_at, state_after}
 use Rattle.mscp_queue.specs.Drives.{replaced}
-use Rattle.mscp_queue.specs.Records.{Record, drive_at, has_reference, step_toll, is_unstarted, left_of, passed_by, record_at, remains}
+use Rattle.mscp_queue.specs.Records.{Record, drive_at, has_name, step_toll, is_unstarted, left_of, passed_by, record_at, remains}
 use Rattle.mscp_queue.specs.Views.{IsPick, is_open_at}
 
 -- ---- a record on its drive
@@ -49,18 +50,19 @@ drive_after k d r = record {
 -- what a step with this block reports of a record (manual)
 abbrev pub report_of : Block → Drive → Record → Report
 report_of k d r =
-    Served r.command.reference r.command.unit (touched d r) (is_unstarted r) (seek_from d (touched d r))
+    Served r.connection r.command.reference r.command.unit (touched d r) (is_unstarted r) (seek_from d (touched d r))
     (end_given k d r)
 
 -- the end that a report brings, if it brings one
 abbrev pub end_in : Report → Option End
 end_in Idle = None
-end_in (Served reference unit lbn started seek ended) = ended
+end_in (Served connection reference unit lbn started seek ended) = ended
 
--- what is told of a record before its step: its command, the block that the step touches, and how many steps the
--- command had and takes (profile)
+-- what is told of a record before its step: its connection and its command, the block that the step touches, and how
+-- many steps the command had and takes (profile)
 abbrev pub upcoming_of : Drive → Record → Upcoming
-upcoming_of d r = record { command = r.command; lbn = touched d r; done = r.done; weight = r.weight }
+upcoming_of d r =
+    record { connection = r.connection; command = r.command; lbn = touched d r; done = r.done; weight = r.weight }
 
 -- ---- a record among the others
 
@@ -77,21 +79,21 @@ pub record IsServable (budget : ℕ) (rs : List Record) (place : ℕ) : Type 0 w
   pub idle : is_unstarted (record_at rs place) ≡ true → All (λ r. r.done ≡ 0) rs
   pub opens : is_unstarted (record_at rs place) ≡ true → is_open_at budget rs place ≡ true
 
--- the command of this reference number was begun (profile)
+-- the command of this name was begun (profile)
 abbrev pub is_begun : Name → Option Name → Bool
-is_begun reference None = false
-is_begun reference (Some name) = same_name name reference
+is_begun name None = false
+is_begun name (Some begun) = same_name begun name
 
--- what is begun without the command of this reference number: nothing, where it was that (profile)
+-- what is begun without the command of this name: nothing, where it was that (profile)
 abbrev pub begun_without : Name → Option Name → Option Name
-begun_without reference begun = if is_begun reference begun then None else begun
+begun_without name begun = if is_begun name begun then None else begun
 
 -- the record at a place may be served next: it may be served, and it is what was begun, or where nothing was, it is in
 -- service or the picker may pick it (profile)
 pub record IsNext (picks : List Choice → ℕ → Type 0) (budget : ℕ)
     (ds : List Drive) (rs : List Record) (begun : Option Name) (place : ℕ) : Type 0 where
   pub servable : IsServable budget rs place
-  pub same : (name : Name) → begun ≡ Some name → has_reference name (record_at rs place) ≡ true
+  pub same : (name : Name) → begun ≡ Some name → has_name name (record_at rs place) ≡ true
   pub picked : begun ≡ None → is_unstarted (record_at rs place) ≡ true → IsPick picks budget ds rs place
 
 -- the drives after a step of the record at a place: that of its unit has changed

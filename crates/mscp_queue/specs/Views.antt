@@ -3,6 +3,8 @@ use Rattle.std.specs.Prelude.{All, ◌≡◌, ℕ, ◌+◌, ◌<◌, Bool, true,
 use Rattle.std.specs.List.{list_all, range_with_len}
 use Rattle.mscp_queue.specs.declared.drive.Drive.{Drive}
 use Rattle.mscp_queue.specs.declared.view.Choice.{Choice}
+use Rattle.mscp_queue.specs.declared.name.Name.{Name}
+use Rattle.mscp_queue.specs.Names.{name_on}
 use Rattle.mscp_queue.specs.Orders.{is_move, is_sequential, order_class, order_cost}
 use Rattle.mscp_queue.specs.Records.{Record, drive_at, record_at, toll}
 
@@ -40,9 +42,14 @@ pub record AllMayStart (budget : ℕ) (rs : List Record) : Type 0 where
   pub transfers : All (λ r. is_move r.command.order ≡ true) rs
   pub places : open_places budget rs ≡ range_with_len 0 (length rs)
 
+-- the name of a choice's command
+abbrev pub choice_name : Choice → Name
+choice_name choice = name_on choice.connection choice.reference
+
 -- what a picker sees of a record whose unit's drive is this (profile)
 abbrev pub choice_of : Drive → Record → Choice
 choice_of d r = record {
+  connection = r.connection;
   reference = r.command.reference;
   unit = r.command.unit;
   class = order_class r.command.order;

@@ -2,9 +2,10 @@
 
 ghost use Rattle.std.specs.Prelude.{◌≡◌, ◌≤◌, ◌<◌, ◌+◌, ◌*◌, ◌^◌, length, filter, sum_by, take, drop, All};
 ghost use Rattle.std.specs.List.{list_any, position};
-ghost use Rattle.mscp_queue.specs.Figures.{figure_at, figure_of_reference, figures};
-ghost use Rattle.mscp_queue.specs.Records.{has_reference, is_in_service, left_if_serving, left_of};
+ghost use Rattle.mscp_queue.specs.Figures.{figure_at, figure_of_name, figures};
+ghost use Rattle.mscp_queue.specs.Records.{has_name, is_in_service, left_if_serving, left_of};
 
+use crate::name::{Connection, Name};
 use crate::record::Record;
 use arrayvec::ArrayVec;
 
@@ -71,44 +72,42 @@ pub(crate) fn figure_at(budget: u32, records: &[Record], place: usize) -> u32
     figure_from(budget, records, place, before, serving)
 }
 
-/// The place of the record with the reference number, if there is one.
-pub(crate) fn place_of(records: &[Record], reference: u32) -> Option<usize>
-    ensures { result ≡ position (has_reference reference) records.now }
+/// The place of the record of this name, if there is one.
+pub(crate) fn place_of(records: &[Record], name: Name) -> Option<usize>
+    ensures { result ≡ position (has_name name) records.now }
 {
-    records
-        .iter()
-        .position(|record| record.command().reference == reference)
+    records.iter().position(|record| record.has_name(name))
 }
 
-/// Whether a record has the reference number. Nearly always none has, so each is looked at without a branch.
-pub(crate) fn has_any(records: &[Record], reference: u32) -> bool
-    ensures { result ≡ list_any (has_reference reference) records.now }
+/// Whether a record has this name. Nearly always none has, so each is looked at without a branch.
+pub(crate) fn has_any(records: &[Record], name: Name) -> bool
+    ensures { result ≡ list_any (has_name name) records.now }
 {
     let mut found = false;
     for record in records {
-        found |= record.command().reference == reference;
+        found |= record.has_name(name);
     }
     found
 }
 
-/// The figure of the waiting command with the reference number, 0 if there is none.
-pub(crate) fn figure_of_reference(budget: u32, records: &[Record], reference: u32) -> u32
+/// The figure of the waiting command of this name, 0 if there is none.
+pub(crate) fn figure_of_name(budget: u32, records: &[Record], name: Name) -> u32
     requires few { length records.now ≤ 64 }
     requires small { sum_by left_of records.now + budget < 2 ^ 32 }
-    ensures { result ≡ figure_of_reference budget records.now reference }
+    ensures { result ≡ figure_of_name budget records.now name }
 {
-    match place_of(records, reference) {
+    match place_of(records, name) {
         Some(place) => figure_at(budget, records, place),
         None => 0,
     }
 }
 
-/// Reference number and figure of each record, in order. What is left before a record and of one in service after it is
+/// Connection, reference number and figure of each record, in order. What is left before a record and of one in service after it is
 /// kept from place to place, so each record is looked at once. It isn't made part of its caller, since the caller's
 /// caller would then have room for a list more than once on its stack.
 #[tactic(auto, using(crate::proofs::Sums::figures_more))]
 #[inline(never)]
-pub(crate) fn figures(budget: u32, records: &[Record]) -> ArrayVec<(u32, u32), 64>
+pub(crate) fn figures(budget: u32, records: &[Record]) -> ArrayVec<(Connection, u32, u32), 64>
     requires few { length records.now ≤ 64 }
     requires small { sum_by left_of records.now + budget < 2 ^ 32 }
     ensures { result.items ≡ figures budget records.now }
@@ -120,7 +119,7 @@ pub(crate) fn figures(budget: u32, records: &[Record]) -> ArrayVec<(u32, u32), 6
         let record = records[place];
         serving -= left_if_serving(&record);
         let figure = figure_from(budget, records, place, before, serving);
-        list.push((record.command().reference, figure));
+        list.push((record.connection(), record.command().reference, figure));
         before += u64::from(record.left());
     }
     list

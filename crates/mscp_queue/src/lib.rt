@@ -6,6 +6,7 @@ mod block;
 mod drive;
 mod figure;
 mod front;
+mod name;
 mod outcome;
 mod picker;
 mod queue;
@@ -21,6 +22,7 @@ mod view;
 
 pub use crate::block::{Block, FaultStatus};
 pub use crate::drive::Drive;
+pub use crate::name::Connection;
 pub use crate::outcome::{end_with, endcode_of};
 pub use crate::picker::{Oldest, Picker, Sweep};
 pub use crate::queue::{Queue, Waiting};

@@ -4,18 +4,20 @@ ghost use Rattle.std.specs.Prelude.{◌≡◌, ◌+◌, ◌*◌, ◌<◌, ◌≤
 ghost use Rattle.std.specs.List.{list_all, list_any, position};
 ghost use Rattle.mscp_packet.specs.Ends.{IsOfKind};
 ghost use Rattle.mscp_queue.specs.Drives.{is_online_in};
-ghost use Rattle.mscp_queue.specs.Figures.{figure_of_reference, figures};
+ghost use Rattle.mscp_queue.specs.Figures.{figure_of_name, figures};
 ghost use Rattle.mscp_queue.specs.Kept.{IsWaitable, units_of};
 ghost use Rattle.mscp_queue.specs.Lines.{Begins, BeginsAt, Line, Serves, ServesAt, aborting, fresh, pushed};
+ghost use Rattle.mscp_queue.specs.Names.{name_on};
 ghost use Rattle.mscp_queue.specs.Orders.{order_weight};
-ghost use Rattle.mscp_queue.specs.Records.{aborted_record, has_reference, is_in_service};
+ghost use Rattle.mscp_queue.specs.Records.{aborted_record, has_name, is_in_service};
 ghost use Rattle.mscp_queue.specs.Serving.{IsNext, end_in, is_begun};
 ghost use Rattle.mscp_queue.specs.Views.{AllMayStart, is_passable};
 
 use crate::aim::Aim;
 use crate::block::Block;
 use crate::drive::{Drive, drive_of, drives_of, renew_drives, replace_drive};
-use crate::figure::{figure_of_reference, figures, has_any, place_of};
+use crate::figure::{figure_of_name, figures, has_any, place_of};
+use crate::name::{Connection, Name};
 use crate::outcome::aborted_end;
 use crate::picker::Picker;
 use crate::record::Record;
@@ -33,6 +35,8 @@ use std::marker::Model;
 /// A command that is to wait, and how many steps it takes.
 #[derive(Clone, Copy, Debug, PartialEq, Eq)]
 pub struct Waiting {
+    /// The connection that it came by, and that its end goes to.
+    pub connection: Connection,
     /// Its reference number.
     pub reference: u32,
     /// The number of its unit.
@@ -53,7 +57,7 @@ pub struct Queue<K> {
     // Of each waiting command, in the same order.
     aims: ArrayVec<Aim, 64>,
     drives: ArrayVec<Drive, 16>,
-    begun: Option<u32>,
+    begun: Option<Name>,
     // Whether one may be in service: where none is, nobody looks for it.
     serving: bool,
     // How many of the waiting commands are sequential.
@@ -132,11 +136,15 @@ impl<K: Picker> Queue<K> {
         self.waiting.len() as u32
     }
 
-    /// Whether a command with the reference number waits.
-    pub fn contains(&self, reference: u32) -> bool
-        ensures { result ≡ list_any (has_reference reference) self.now.waiting }
+    /// Whether a command of the connection with the reference number waits.
+    pub fn contains(&self, connection: Connection, reference: u32) -> bool
+        ensures { result ≡ list_any (has_name (name_on connection reference)) self.now.waiting }
     {
-        has_any(self.waiting.as_slice(), reference)
+        let name = Name {
+            connection,
+            reference,
+        };
+        has_any(self.waiting.as_slice(), name)
     }
 
     /// Whether the unit of this number is online: false where it isn't configured.
@@ -149,50 +157,59 @@ impl<K: Picker> Queue<K> {
     /// Lets a command wait, behind all that wait.
     pub fn push(&mut self, new: Waiting)
         requires room { length self.old.waiting < self.old.room }
-        requires apart { list_any (has_reference new.reference) self.old.waiting ≡ false }
+        requires apart { list_any (has_name (name_on new.connection new.reference)) self.old.waiting ≡ false }
         requires weight { new.weight ≡ order_weight new.order }
         requires waitable { IsWaitable self.old.longest (units_of self.old.drives)
             (record { reference = new.reference; unit = new.unit; order = new.order }) }
         ensures { self.new ≡
-            pushed self.old (record { reference = new.reference; unit = new.unit; order = new.order }) }
+            pushed self.old new.connection (record { reference = new.reference; unit = new.unit; order = new.order }) }
     {
         let command = Command {
             reference: new.reference,
             unit: new.unit,
             order: new.order,
         };
-        let record = Record::new(command, new.weight);
+        let record = Record::new(new.connection, command, new.weight);
         self.sequential += record.count_sequential();
         self.aims.push(Aim::of(&command, self.drives.as_slice()));
         self.waiting.push(record);
     }
 
-    /// The figure of the waiting command with the reference number, 0 if there is none: how many steps it may still
-    /// wait, at most.
-    pub fn figure(&self, reference: u32) -> u32
-        ensures { result ≡ figure_of_reference self.now.budget self.now.waiting reference }
+    /// The figure of the waiting command of the connection with the reference number, 0 if there is none: how many steps it
+    /// may still wait, at most.
+    pub fn figure(&self, connection: Connection, reference: u32) -> u32
+        ensures { result ≡ figure_of_name self.now.budget self.now.waiting (name_on connection reference) }
     {
-        figure_of_reference(self.budget, self.waiting.as_slice(), reference)
+        let name = Name {
+            connection,
+            reference,
+        };
+        figure_of_name(self.budget, self.waiting.as_slice(), name)
     }
 
-    /// Reference number and figure of each waiting command, in order of arrival.
-    pub fn look(&self) -> ArrayVec<(u32, u32), 64>
+    /// Connection, reference number and figure of each waiting command, in order of arrival.
+    pub fn look(&self) -> ArrayVec<(Connection, u32, u32), 64>
         ensures { result.items ≡ figures self.now.budget self.now.waiting }
     {
         figures(self.budget, self.waiting.as_slice())
     }
 
-    /// Ends the waiting command with the reference number, in service or not, and gives its end, whose body is that of its
-    /// endcode. What its start cost the commands that it passed isn't given back to them.
-    pub fn abort(&mut self, reference: u32) -> Option<End>
-        ensures end { result ≡ option_map aborted_record (find (has_reference reference) self.old.waiting) }
+    /// Ends the waiting command of the connection with the reference number, in service or not, and gives its end, whose
+    /// body is that of its endcode. What its start cost the commands that it passed isn't given back to them.
+    pub fn abort(&mut self, connection: Connection, reference: u32) -> Option<End>
+        ensures end { result
+            ≡ option_map aborted_record (find (has_name (name_on connection reference)) self.old.waiting) }
         ensures shaped { IfSome result IsOfKind }
-        ensures after { self.new ≡ aborting reference self.old }
+        ensures after { self.new ≡ aborting (name_on connection reference) self.old }
         ensures unchanged { IfNone result (self.new ≡ self.old) }
         ensures count { IfSome result (λ end. length self.new.waiting + 1 ≡ length self.old.waiting) }
     {
-        let was_begun = self.is_begun(reference);
-        let aborted = take_out(&mut self.waiting, &mut self.aims, reference)?;
+        let was_begun = self.is_begun(connection, reference);
+        let name = Name {
+            connection,
+            reference,
+        };
+        let aborted = take_out(&mut self.waiting, &mut self.aims, name)?;
         self.sequential -= aborted.count_sequential();
         if was_begun {
             self.begun = None;
@@ -200,12 +217,17 @@ impl<K: Picker> Queue<K> {
         Some(aborted_end(&aborted.command(), aborted.done()))
     }
 
-    /// Whether the command with the reference number was begun, and neither served nor aborted since, nor the queue reset.
-    pub fn is_begun(&self, reference: u32) -> bool
-        ensures { result ≡ is_begun reference self.now.begun }
+    /// Whether the command of the connection with the reference number was begun, and neither served nor aborted since, nor
+    /// the queue reset.
+    pub fn is_begun(&self, connection: Connection, reference: u32) -> bool
+        ensures { result ≡ is_begun (name_on connection reference) self.now.begun }
     {
+        let name = Name {
+            connection,
+            reference,
+        };
         match self.begun {
-            Some(begun) => begun == reference,
+            Some(begun) => begun.is(name),
             None => false,
         }
     }
@@ -263,7 +285,7 @@ impl<K: Picker> Queue<K> {
         ensures same { self.new ≡ self.old }
     {
         match self.begun {
-            Some(reference) => place_of(self.waiting.as_slice(), reference),
+            Some(name) => place_of(self.waiting.as_slice(), name),
             None if self.waiting.is_empty() => None,
             None => Some(self.place_to_begin()),
         }
@@ -275,9 +297,11 @@ impl<K: Picker> Queue<K> {
         ensures { BeginsAt (K.picks self.old.picker) self.old result self.new place }
     {
         let record = self.waiting[place];
-        let command = record.command();
-        self.begun = Some(command.reference);
-        upcoming(&drive_of(self.drives.as_slice(), command.unit), &record)
+        self.begun = Some(record.name());
+        upcoming(
+            &drive_of(self.drives.as_slice(), record.command().unit),
+            &record,
+        )
     }
 
     /// What the next step serves, if a command waits. Where nothing is in service and nothing was begun the picker picks
@@ -313,6 +337,7 @@ impl<K: Picker> Queue<K> {
         self.serving = !ends;
         self.sequential -= sequential_ended(&record, ends);
         Report::Served {
+            connection: record.connection(),
             reference: command.reference,
             unit: command.unit,
             lbn: service.lbn,

@@ -2,15 +2,17 @@
 
 ghost use Rattle.std.specs.Prelude.{◌≡◌, ◌+◌, ◌-◌, ◌<◌, ◌≤◌, ◌^◌, cond, nat_eq};
 ghost use Rattle.mscp_queue.specs.Orders.{is_sequential, order_weight};
-ghost use Rattle.mscp_queue.specs.Records.{advanced, step_toll, fresh_record, left_of, no_record, passed_by};
+ghost use Rattle.mscp_queue.specs.Records.{advanced, step_toll, fresh_record, has_name, left_of, name_of, no_record, passed_by};
 
+use crate::name::{Connection, Name};
 use mscp_packet::{Command, Order};
 use std::marker::Model;
 
-/// A waiting command: what it asks for, how many steps it takes, how many it had, and by how many blocks
-/// it was passed.
+/// A waiting command: the connection that it came by, what it asks for, how many steps it takes, how many it had, and by
+/// how many blocks it was passed.
 #[derive(Clone, Copy, Debug, PartialEq, Eq)]
 pub struct Record {
+    connection: Connection,
     command: Command,
     weight: u32,
     done: u32,
@@ -25,20 +27,35 @@ impl Model for Record {
     ghost Value = { Told };
 
     ghost view = { λ r.
-        record { command = r.command; weight = r.weight; done = r.done; good = r.done; passed = r.passed } };
+        record {
+          connection = r.connection;
+          command = r.command;
+          weight = r.weight;
+          done = r.done;
+          good = r.done;
+          passed = r.passed;
+        } };
 
     ghost invariant = { λ r. Unit {0} };
 
-    ghost inverse = { λ t. record { command = t.command; weight = t.weight; done = t.done; passed = t.passed } };
+    ghost inverse = { λ t.
+        record {
+          connection = t.connection;
+          command = t.command;
+          weight = t.weight;
+          done = t.done;
+          passed = t.passed;
+        } };
 }
 
 impl Record {
-    /// The record of a command that begins to wait and takes so many steps.
-    pub fn new(command: Command, weight: u32) -> Record
+    /// The record of a command that came by the connection, begins to wait, and takes so many steps.
+    pub fn new(connection: Connection, command: Command, weight: u32) -> Record
         requires { weight ≡ order_weight command.order }
-        ensures { result ≡ fresh_record command }
+        ensures { result ≡ fresh_record connection command }
     {
         Record {
+            connection,
             command,
             weight,
             done: 0,
@@ -46,11 +63,35 @@ impl Record {
         }
     }
 
+    /// The connection that the command came by, and that its end goes to.
+    pub fn connection(&self) -> Connection
+        ensures { result ≡ self.now.connection }
+    {
+        self.connection
+    }
+
     /// The command that waits.
     pub fn command(&self) -> Command
         ensures { result ≡ self.now.command }
     {
         self.command
+    }
+
+    /// The name of the command.
+    pub(crate) fn name(&self) -> Name
+        ensures { result ≡ name_of self.now }
+    {
+        Name {
+            connection: self.connection,
+            reference: self.command.reference,
+        }
+    }
+
+    /// Whether the command has this name.
+    pub(crate) fn has_name(&self, name: Name) -> bool
+        ensures { result ≡ has_name name self.now }
+    {
+        self.name().is(name)
     }
 
     /// Whether the command is sequential: it keeps its place among the commands of its unit.
@@ -146,6 +187,7 @@ impl Default for Record {
         ensures { result ≡ no_record }
     {
         Record {
+            connection: Connection::First,
             command: Command {
                 reference: 0,
                 unit: 0,

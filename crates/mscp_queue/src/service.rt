@@ -42,6 +42,7 @@ pub(crate) fn upcoming(drive: &Drive, served: &Record) -> Upcoming
     ensures { result ≡ upcoming_of drive.now served.now }
 {
     Upcoming {
+        connection: served.connection(),
         command: served.command(),
         lbn: touched(drive, served),
         done: served.done(),

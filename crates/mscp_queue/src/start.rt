@@ -33,6 +33,7 @@ fn transfer_choice(record: &Record, drive: &Drive, cylinder: u32) -> Choice
 {
     let command = record.command();
     Choice {
+        connection: record.connection(),
         reference: command.reference,
         unit: command.unit,
         class: Class::Free,
@@ -52,6 +53,7 @@ fn choice_of(record: &Record, drive: &Drive, cylinder: u32) -> Choice
         return transfer_choice(record, drive, cylinder);
     }
     Choice {
+        connection: record.connection(),
         reference: command.reference,
         unit: command.unit,
         class: Class::Sequential,
@@ -135,8 +137,8 @@ fn show_each(view: &mut View, records: &[Record], aims: &[Aim], drives: &[Drive]
 }
 
 /// The place of the record that the picker picks, of those that may start: the view is made anew, and shows these. `all`
-/// tells that each is of a transfer and may start. Then a record has its place in the view. Else it is found by the
-/// reference number that the picker saw, since only one has it.
+/// tells that each is of a transfer and may start. Then a record has its place in the view. Else it is found by the name
+/// that the picker saw, since only one has it.
 pub(crate) fn picked_place<K: Picker>(
     all: bool,
     records: &[Record],
@@ -160,5 +162,5 @@ pub(crate) fn picked_place<K: Picker>(
     view.clear();
     show_each(view, records, aims, drives, budget);
     let picked = picker.pick(view);
-    place_of(records, view.choices()[picked].reference).unwrap()
+    place_of(records, view.choices()[picked].name()).unwrap()
 }

@@ -5,7 +5,7 @@ ghost use Rattle.mscp_drive.specs.Shape.{shape};
 ghost use Rattle.mscp_queue.specs.Kept.{IsWaitable, units_of};
 ghost use Rattle.mscp_queue.specs.Orders.{order_weight};
 
-use crate::{Block, Picker, Queue, Report, View, Waiting};
+use crate::{Block, Connection, Picker, Queue, Report, View, Waiting};
 use mscp_drive::{Unit, Units};
 use mscp_packet::{MoveKind, Order};
 use std::process::Abort;
@@ -47,6 +47,7 @@ fn read(reference: u32) -> Waiting
         (record { reference = result.reference; unit = result.unit; order = result.order }) }
 {
     Waiting {
+        connection: Connection::First,
         reference,
         unit: 0,
         order: Order::Move(MoveKind::Read, 512, 0),

@@ -6,10 +6,11 @@ ghost use Rattle.mscp_drive.specs.Shape.{Shape};
 ghost use Rattle.mscp_queue.specs.Aims.{aims_of};
 ghost use Rattle.mscp_queue.specs.Kept.{AreApart, names};
 ghost use Rattle.mscp_queue.specs.Orders.{is_sequential};
-ghost use Rattle.mscp_queue.specs.Records.{advanced, has_reference, is_in_service, passed_by, record_at, without};
+ghost use Rattle.mscp_queue.specs.Records.{advanced, has_name, is_in_service, passed_by, record_at, without};
 
 use crate::aim::Aim;
 use crate::figure::place_of;
+use crate::name::Name;
 use crate::record::Record;
 use arrayvec::ArrayVec;
 
@@ -90,22 +91,22 @@ pub(crate) fn sequential_ended(record: &Record, ends: bool) -> u32
     u32::from(ends && record.is_sequential())
 }
 
-/// Takes the record of the command with the reference number out, if there is one. The aims stay those of the records.
+/// Takes the record of the command of this name out, if there is one. The aims stay those of the records.
 pub(crate) fn take_out(
     waiting: &mut ArrayVec<Record, 64>,
     aims: &mut ArrayVec<Aim, 64>,
-    reference: u32,
+    name: Name,
 ) -> Option<Record>
     requires apart { AreApart (names waiting.old.items) }
     requires aimed { length aims.old.items ≡ length waiting.old.items }
-    ensures found { result ≡ find (has_reference reference) waiting.old.items }
-    ensures left { waiting.new.items ≡ without reference waiting.old.items }
+    ensures found { result ≡ find (has_name name) waiting.old.items }
+    ensures left { waiting.new.items ≡ without name waiting.old.items }
     ensures unchanged { IfNone result (waiting.new.items ≡ waiting.old.items) }
     ensures count { IfSome result (λ r. length waiting.new.items + 1 ≡ length waiting.old.items) }
     ensures aims { (units : List Shape) → aims.old.items ≡ aims_of units waiting.old.items
         → aims.new.items ≡ aims_of units waiting.new.items }
 {
-    let place = place_of(waiting.as_slice(), reference)?;
+    let place = place_of(waiting.as_slice(), name)?;
     aims.remove(place);
     Some(waiting.remove(place))
 }

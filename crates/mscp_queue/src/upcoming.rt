@@ -1,11 +1,13 @@
 // What is told before a step.
 
+use crate::name::Connection;
 use mscp_packet::Command;
 
-/// What the next step serves: the command, the block that the step touches, how many steps the command had, and how many
+/// What the next step serves: the command and the connection that it came by, the block that the step touches, how many steps the command had, and how many
 /// it takes in all. `lbn` is none for a sequential command, and for a transfer whose unit is available.
 #[derive(Clone, Copy, Debug, PartialEq, Eq)]
 pub struct Upcoming {
+    pub connection: Connection,
     pub command: Command,
     pub lbn: Option<u32>,
     pub done: u32,

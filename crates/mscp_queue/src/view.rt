@@ -1,7 +1,9 @@
 // What a picker sees.
 
 ghost use Rattle.std.specs.Prelude.{◌≡◌, ◌↔◌, ◌<◌, ◌≤◌, [], ◌∷◌, ◌++◌, length, slice_set, IsSome, IfSome};
+ghost use Rattle.mscp_queue.specs.Views.{choice_name};
 
+use crate::name::{Connection, Name};
 use mscp_packet::Class;
 use std::fmt;
 use std::fmt::{Debug, Formatter, Write};
@@ -10,6 +12,8 @@ use std::marker::Model;
 /// A command that may start, as a picker sees it.
 #[derive(Clone, Copy, Debug, PartialEq, Eq)]
 pub struct Choice {
+    /// The connection that it came by.
+    pub connection: Connection,
     /// Its reference number.
     pub reference: u32,
     /// The number of its unit.
@@ -21,14 +25,28 @@ pub struct Choice {
     pub cost: u64,
 }
 
+impl Choice {
+    /// The name of the command.
+    pub(crate) fn name(&self) -> Name
+        ensures { result ≡ choice_name self.now }
+    {
+        Name {
+            connection: self.connection,
+            reference: self.reference,
+        }
+    }
+}
+
 /// A choice of nothing, which fills the places of a list that isn't full.
 impl Default for Choice {
     ghost use Rattle.mscp_packet.specs.declared.class.Class.TheVariants.{Unknown};
+    ghost use Rattle.mscp_queue.specs.declared.name.Connection.TheVariants.{First};
 
     fn default() -> Choice
-        ensures { result ≡ record { reference = 0; unit = 0; class = Unknown; cost = 0 } }
+        ensures { result ≡ record { connection = First; reference = 0; unit = 0; class = Unknown; cost = 0 } }
     {
         Choice {
+            connection: Connection::First,
             reference: 0,
             unit: 0,
             class: Class::Unknown,

@@ -13,7 +13,7 @@ use crate::reporting::lines::{put_figures, put_sent, put_step, put_taken, put_to
 use crate::reporting::tail::Tail;
 use crate::totals::Totals;
 use arrayvec::ArrayVec;
-use mscp_control::{Entry, OutOfMemory, Report, SendFault, Sent};
+use mscp_control::{Connection, Entry, OutOfMemory, Report, SendFault, Sent};
 use std::alloc::Global;
 use std::marker::Model;
 
@@ -93,7 +93,10 @@ impl Reporter {
     }
 
     /// Reports the figures of a look.
-    pub fn looked(&mut self, shown: &ArrayVec<(u32, u32), 64>) -> Result<(), OutOfMemory>
+    pub fn looked(
+        &mut self,
+        shown: &ArrayVec<(Connection, u32, u32), 64>,
+    ) -> Result<(), OutOfMemory>
         requires { self.old.count + 1 < 2 ^ 64 }
         ensures { OnOk result (self.new ≡ with_entry self.old (entries.Looked shown.now)) }
     {

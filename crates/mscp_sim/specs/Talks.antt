@@ -2,6 +2,8 @@
 -- which it was sent, so a reference number that is used again names another command.
 use Rattle.std.specs.Prelude.{ℕ, Bool, true, false, not, ◌&&◌, nat_eq, nat_lt, if◌then◌else◌, List, [], ◌∷◌, take, map, filter, find, flat_map, slice_index_or, Option, Some, None, option_map, option_to_list}
 use Rattle.std.specs.List.{list_any, range_with_len}
+use Rattle.mscp_queue.specs.declared.name.Connection.TheVariants.{First}
+use Rattle.mscp_queue.specs.Names.{name_on}
 use Rattle.mscp_packet.specs.declared.command.Order.TheVariants as orders
 use Rattle.mscp_packet.specs.Commands.{opcode_byte}
 use Rattle.mscp_packet.specs.Number.{num}
@@ -119,7 +121,8 @@ unit_or_0 talk (Some i) = unit_in (said talk i).turn
 
 -- what the poll in turn j is told: the figure of that command after the trace so far (manual, "Host Command Timeouts")
 abbrev pub figure_told : Settings → Talk → ℕ → ℕ
-figure_told c talk j = figure_of c (trace_of (take j talk)) (reference_found talk (asked_for talk j))
+figure_told c talk j =
+    figure_of c (trace_of (take j talk)) (name_on First (reference_found talk (asked_for talk j)))
 
 -- a command was found, and it is i
 abbrev pub is_it : ℕ → Option ℕ → Bool

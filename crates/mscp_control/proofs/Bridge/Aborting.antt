@@ -1,15 +1,17 @@
 -- What a message aborts: the same by records and by history.
 use Rattle.std.proofs.Common.{◌≡◌, ◌≢◌, ⊎_elim, ℕ, Bool, true, false, not, List, [], ◌∷◌, map, length, refl, ap, sym, ◌∙◌, subst, arith}
-use Rattle.std.specs.Prelude.{filter, find, if◌then◌else◌, nat_eq, Option, Some, None, option_map, option_to_list, slice_get, Ok}
+use Rattle.std.specs.Prelude.{filter, find, if◌then◌else◌, Option, Some, None, option_map, option_to_list, slice_get, Ok}
 use Rattle.std.specs.List.{AllByRecursion}
-use Rattle.std.proofs.lemmas.Bool.{eq-eqb, eqb-false, eqb-true, ne_eqb}
 use Rattle.mscp_packet.specs.declared.command.Command.{Command}
 use Rattle.mscp_packet.specs.declared.command.Order.{Order}
 use Rattle.mscp_packet.specs.declared.command.Order.TheVariants as orders
 use Rattle.mscp_queue.specs.Kept.{AreApart, names}
-use Rattle.mscp_queue.specs.Names.{Name, name_of}
+use Rattle.mscp_queue.specs.declared.name.Name.{Name}
 use Rattle.mscp_queue.specs.Outcomes.{aborted_end}
-use Rattle.mscp_queue.specs.Records.{Record, aborted_record, has_reference, without}
+use Rattle.mscp_queue.specs.Records.{Record, aborted_record, has_name, name_of, without}
+use Rattle.mscp_queue.specs.declared.name.Connection.TheVariants.{First}
+use Rattle.mscp_queue.specs.Names.{name_on, same_name}
+use Rattle.mscp_queue.proofs.Named.{differ_is, is_differ, is_same, same_is}
 use Rattle.mscp_queue.proofs.Aborts.{found_once}
 use Rattle.mscp_queue.proofs.Lists.{every_from, every_mapped, every_parts, every_weaker, filter_all, filter_on}
 use Rattle.mscp_queue.proofs.Placed.{filter_map_of, find_cases, find_first, find_none, map_map}
@@ -18,7 +20,7 @@ use Rattle.mscp_control.specs.declared.event.Sent.TheVariants as sents
 use Rattle.mscp_control.specs.Settings.{Settings}
 use Rattle.mscp_control.specs.Arrival.{order_fault}
 use Rattle.mscp_control.specs.History.{Trace}
-use Rattle.mscp_control.specs.Commands.{command, reference, waiting, good, ends_in, is_waiting}
+use Rattle.mscp_control.specs.Commands.{command, name, reference, waiting, good, ends_in, is_waiting}
 use Rattle.mscp_control.specs.Ends as history
 use Rattle.mscp_control.specs.Ends.{aborted_unless, named}
 use Rattle.mscp_control.specs.Holdings.{record_aborted, begun_after, unaborted}
@@ -28,8 +30,8 @@ use Rattle.mscp_control.proofs.Bridge.Held.{held_of}
 
 -- ---- who is aborted
 
-names_from : (t : Trace) (x : ℕ) (xs : List ℕ) → AllByRecursion (λ y. reference t x ≢ reference t y) xs
-    → AllByRecursion (λ n. n ≢ reference t x) (names (map (held_of t) xs))
+names_from : (t : Trace) (x : ℕ) (xs : List ℕ) → AllByRecursion (λ y. name t x ≢ name t y) xs
+    → AllByRecursion (λ n. n ≢ name t x) (names (map (held_of t) xs))
 names_from t x [] h = tt
 names_from t x (y ∷ ys) h = ((λ e. h.0 (sym e)), names_from t x ys h.1)
 
@@ -41,8 +43,8 @@ apart_held t (x ∷ xs) a = (names_from t x xs a.0, apart_held t xs a.1)
 named_held : (t : Trace) (ws : List Record) (o : Order) → Apart t (waiting t) → ws ≡ map (held_of t) (waiting t)
     → map (held_of t) (named t o) ≡ option_to_list (record_aborted ws o)
 named_held t ws (orders.Abort other) a e =
-    sym (filter_map_of (held_of t) (has_reference other) (waiting t))
-    ∙ (ap (filter (has_reference other)) (sym e) ∙ found_once other ws
+    sym (filter_map_of (held_of t) (has_name (name_on First other)) (waiting t))
+    ∙ (ap (filter (has_name (name_on First other))) (sym e) ∙ found_once (name_on First other) ws
     (subst (λ rs. AreApart (names rs)) (sym e) (apart_held t (waiting t) a)))
 named_held t ws (orders.Status other) a e = refl
 named_held t ws orders.UnitStatus a e = refl
@@ -120,24 +122,28 @@ end_made c t ws k a e = sym (mapped_option (record_aborted ws k.order))
 
 -- ---- who is left
 
-either_way : (a b : ℕ) → nat_eq a b ≡ nat_eq b a
+either_way : (a b : Name) → same_name a b ≡ same_name b a
 either_way a b =
-    let both : (q : Bool) → nat_eq b a ≡ q → nat_eq a b ≡ q =
-    λ q. elim q as (λ q. nat_eq b a ≡ q → nat_eq a b ≡ q)
-    [ true ↦ λ e. eq-eqb a b (sym (eqb-true b a e)) | false ↦ λ e. ne_eqb a b (λ h. eqb-false b a e (sym h)) ] in
-    both (nat_eq b a) refl
+    let both : (q : Bool) → same_name b a ≡ q → same_name a b ≡ q =
+    λ q. elim q as (λ q. same_name b a ≡ q → same_name a b ≡ q)
+    [ true ↦ λ e. is_same a b (sym (same_is b a e)) | false ↦ λ e. is_differ a b (λ h. differ_is b a e (sym h)) ] in
+    both (same_name b a) refl
+
+-- the name that a reference number tells: there is one connection
+abbrev told : Name → Name
+told n = name_on First n.reference
 
 -- the answer to a message that aborts the command of this reference number, or none
 abbrev pub Answer : ℕ → Option ℕ → entries.the_data
 Answer q a = entries.Sent (Ok (sents.Answered q a))
 
-left_by : (q other : ℕ) (ws : List Record) → without other ws
-    ≡ filter (λ r. not (ends_in (name_of r.command)
-    (Answer q (option_map (λ r. r.command.reference) (find (has_reference other) ws))))) ws
+left_by : (q other : ℕ) (ws : List Record) → without (name_on First other) ws
+    ≡ filter (λ r. not (ends_in (name_of r)
+    (Answer q (option_map (λ r. r.command.reference) (find (has_name (name_on First other)) ws))))) ws
 left_by q other ws =
-    let p = has_reference other in
+    let p = has_name (name_on First other) in
     let ends : Option Record → Record → Bool = λ o r.
-    ends_in (name_of r.command) (Answer q (option_map (λ r. r.command.reference) o)) in
+    ends_in (name_of r) (Answer q (option_map (λ r. r.command.reference) o)) in
     ⊎_elim
     (λ none.
     filter_on (λ r. not (p r)) (λ r. not (ends None r)) ws
@@ -148,20 +154,21 @@ left_by q other ws =
     let y = some.1 in
     let B = some.2 in
     let f = some.3 in
-    let number : other ≡ y.command.reference = sym (eqb-true y.command.reference other f.passed) in
+    let number : name_on First other ≡ told (name_of y) =
+    ap told (sym (same_is (name_of y) (name_on First other) f.passed)) in
     filter_on (λ r. not (p r)) (λ r. not (ends (Some y) r)) ws
     (every_from (λ r. not (p r) ≡ not (ends (Some y) r))
-    (λ r. ap not (either_way r.command.reference other ∙ ap (λ n. nat_eq n r.command.reference) number)) ws)
+    (λ r. ap not (either_way (name_of r) (name_on First other) ∙ ap (λ n. same_name n (name_of r)) number)) ws)
     ∙ ap (λ o. filter (λ r. not (ends o r)) ws) (sym (ap (find p) f.is ∙ find_first p A y B f.before f.passed)))
     (find_cases p ws)
 
-none_left : (q : ℕ) (ws : List Record) → ws ≡ filter (λ r. not (ends_in (name_of r.command) (Answer q None))) ws
-none_left q ws = sym (filter_all (λ r. not (ends_in (name_of r.command) (Answer q None))) ws
-    (every_from (λ r. not (ends_in (name_of r.command) (Answer q None)) ≡ not false) (λ r. refl) ws))
+none_left : (q : ℕ) (ws : List Record) → ws ≡ filter (λ r. not (ends_in (name_of r) (Answer q None))) ws
+none_left q ws = sym (filter_all (λ r. not (ends_in (name_of r) (Answer q None))) ws
+    (every_from (λ r. not (ends_in (name_of r) (Answer q None)) ≡ not false) (λ r. refl) ws))
 
 -- the others wait on
 pub others_wait : (q : ℕ) (ws : List Record) (o : Order)
-    → unaborted ws o ≡ filter (λ r. not (ends_in (name_of r.command)
+    → unaborted ws o ≡ filter (λ r. not (ends_in (name_of r)
     (Answer q (option_map (λ r. r.command.reference) (record_aborted ws o))))) ws
 others_wait q ws (orders.Abort other) = left_by q other ws
 others_wait q ws (orders.Status other) = none_left q ws
@@ -175,10 +182,11 @@ others_wait q ws (orders.Invalid opcode status) = none_left q ws
 
 -- ---- what was begun
 
-with_other : (n other : ℕ) → (if nat_eq n other then None else Some n) ≡ (if not (nat_eq other n) then Some n else None)
+with_other : (n other : Name)
+    → (if same_name n other then None else Some n) ≡ (if not (same_name other n) then Some n else None)
 with_other n other =
     ap (λ b. if b then None else Some n) (either_way n other)
-    ∙ elim (nat_eq other n) as (λ b. (if b then None else Some n) ≡ (if not b then Some n else None))
+    ∙ elim (same_name other n) as (λ b. (if b then None else Some n) ≡ (if not b then Some n else None))
     [ true ↦ refl | false ↦ refl ]
 
 -- it is begun no more where it is aborted
@@ -187,9 +195,9 @@ Left q ws n o = begun_after (Some n) o ≡ (if not (ends_in n
     (Answer q (option_map (λ r. r.command.reference) (record_aborted ws o)))) then Some n else None)
 
 abort_left : (q other : ℕ) (t : Trace) (ws : List Record) (n : Name) (y : ℕ) → ws ≡ map (held_of t) (waiting t)
-    → is_waiting t y ≡ true → reference t y ≡ n → Left q ws n (orders.Abort other)
+    → is_waiting t y ≡ true → name t y ≡ n → Left q ws n (orders.Abort other)
 abort_left q other t ws n y e w own =
-    let p = has_reference other in
+    let p = has_name (name_on First other) in
     let left : Option Record → Option Name = λ o. if not
     (ends_in n (Answer q (option_map (λ r. r.command.reference) o))) then Some n else None in
     ⊎_elim
@@ -197,23 +205,23 @@ abort_left q other t ws n y e w own =
     let all = every_mapped (held_of t) (λ r. p r ≡ false) (waiting t)
     (subst (AllByRecursion (λ r. p r ≡ false)) e none) in
     let c = cut t y (waits_below t y w) w in
-    let one : nat_eq (reference t y) other ≡ false =
-    (every_parts (λ x. nat_eq (reference t x) other ≡ false) c.0 (y ∷ c.1)
-    (subst (AllByRecursion (λ x. nat_eq (reference t x) other ≡ false)) c.2.is all)).1.0 in
-    ap (λ b. if b then None else Some n) (ap (λ k. nat_eq k other) (sym own) ∙ one)
+    let Other : ℕ → Type 0 = λ x. same_name (name t x) (name_on First other) ≡ false in
+    let one : same_name (name t y) (name_on First other) ≡ false =
+    (every_parts Other c.0 (y ∷ c.1) (subst (AllByRecursion Other) c.2.is all)).1.0 in
+    ap (λ b. if b then None else Some n) (ap (λ k. same_name k (name_on First other)) (sym own) ∙ one)
     ∙ ap left (sym (find_none p ws none)))
     (λ some.
     let A = some.0 in
     let r = some.1 in
     let B = some.2 in
     let f = some.3 in
-    with_other n other ∙ (ap (λ k. if not (nat_eq k n) then Some n else None)
-    (sym (eqb-true r.command.reference other f.passed))
+    with_other n (name_on First other) ∙ (ap (λ k. if not (same_name k n) then Some n else None)
+    (ap told (sym (same_is (name_of r) (name_on First other) f.passed)))
     ∙ ap left (sym (ap (find p) f.is ∙ find_first p A r B f.before f.passed))))
     (find_cases p ws)
 
 pub begun_left : (q : ℕ) (t : Trace) (ws : List Record) (n : Name) (y : ℕ) (o : Order)
-    → ws ≡ map (held_of t) (waiting t) → is_waiting t y ≡ true → reference t y ≡ n → Left q ws n o
+    → ws ≡ map (held_of t) (waiting t) → is_waiting t y ≡ true → name t y ≡ n → Left q ws n o
 begun_left q t ws n y (orders.Abort other) e w own = abort_left q other t ws n y e w own
 begun_left q t ws n y (orders.Status other) e w own = refl
 begun_left q t ws n y orders.UnitStatus e w own = refl

@@ -8,12 +8,12 @@ use Rattle.std.proofs.lemmas.List.Folds.{list_any-append}
 use Rattle.std.proofs.lemmas.Grind.{flat_map-append}
 use Rattle.mscp_queue.specs.declared.upcoming.Upcoming.{Upcoming}
 use Rattle.mscp_queue.specs.declared.view.Choice.{Choice}
-use Rattle.mscp_queue.specs.Names.{Name, name_of}
+use Rattle.mscp_queue.specs.declared.name.Name.{Name}
 use Rattle.mscp_control.specs.Settings.{Settings}
 use Rattle.mscp_control.specs.History.{Trace}
-use Rattle.mscp_control.specs.Commands.{ends_in, is_waiting, reference, waiting}
+use Rattle.mscp_control.specs.Commands.{ends_in, is_waiting, name, waiting}
 use Rattle.mscp_control.specs.Legal.{IsLegal, IsPick}
-use Rattle.mscp_control.specs.Calls.{Call, HoldsToBegun, IsBegunSince, IsRightCall, NothingBegun, StartsChosen, call_at, foretold, history, moments_of, steps, upcoming_in}
+use Rattle.mscp_control.specs.Calls.{Call, HoldsToBegun, IsBegunSince, IsRightCall, NothingBegun, StartsChosen, call_at, foretold, history, moments_of, steps, upcoming_in, upcoming_name}
 use Rattle.mscp_control.specs.Calls.{Begin}
 use Rattle.mscp_control.proofs.Promise.Apart.{Apart}
 use Rattle.mscp_control.proofs.Promise.Among.{one_waits}
@@ -51,7 +51,7 @@ waits_before t [] y l w = subst (λ u. is_waiting u y ≡ true) (append-nil t) w
 waits_before t (m ∷ ms) y l w =
     let one = waits_before (t ++ m ∷ []) ms y (omega (arith, l, length_push t m))
     (subst (λ u. is_waiting u y ≡ true) (sym (append_assoc t (m ∷ []) ms)) w) in
-    (and_parts (is_waiting t y) (not (ends_in (reference t y) m.1)) (sym (is_waiting_before t m y l) ∙ one)).0
+    (and_parts (is_waiting t y) (not (ends_in (name t y) m.1)) (sym (is_waiting_before t m y l) ∙ one)).0
 
 -- what was begun before the last call, and that the last was no step
 pub begun_before : (calls : List Call) (call : Call) (up : Upcoming) (y j : ℕ) → j < length calls
@@ -126,7 +126,7 @@ pub record Begun (c : Settings) (picks : List Choice → ℕ → Type 0) (calls 
     (y j : ℕ) : Type 0 where
   pub is : IsBegunSince calls up y j
   pub now : up ≡ foretold (history calls) y
-  pub own : name_of up.command ≡ n
+  pub own : upcoming_name up ≡ n
   pub only : (up' : Upcoming) (y' j' : ℕ) → IsBegunSince calls up' y' j' → (y' ≡ y) × (up' ≡ up)
   pub chosen : nat_eq up.done 0 ≡ true → IsPick c picks (history (take j calls)) n
 
@@ -135,10 +135,10 @@ abbrev pub Holds : Settings → (List Choice → ℕ → Type 0) → List Call �
 Holds c picks calls None = NothingBegun calls
 Holds c picks calls (Some n) = (up : Upcoming) × (y : ℕ) × (j : ℕ) × Begun c picks calls n up y j
 
--- its reference is that of the history
-pub reference_of : {c : Settings} {picks : List Choice → ℕ → Type 0} {calls : List Call} {n : Name} {up : Upcoming}
-    {y j : ℕ} → Begun c picks calls n up y j → reference (history calls) y ≡ n
-reference_of b = ap (λ (u : Upcoming). u.command.reference) (sym b.now) ∙ b.own
+-- its name is that of the history
+pub name_begun : {c : Settings} {picks : List Choice → ℕ → Type 0} {calls : List Call} {n : Name} {up : Upcoming}
+    {y j : ℕ} → Begun c picks calls n up y j → name (history calls) y ≡ n
+name_begun b = ap upcoming_name (sym b.now) ∙ b.own
 
 untold : (call : Call) (up : Upcoming) → upcoming_in call ≡ None → upcoming_in call ≡ Some up → ⊥
 untold call up n e = true≢false (ap is_some (sym e ∙ n))
@@ -148,7 +148,7 @@ pub holds_on : (c : Settings) (picks : List Choice → ℕ → Type 0) (calls : 
     → steps call ≡ false → upcoming_in call ≡ None
     → ((y : ℕ) → is_waiting (history calls) y ≡ true
     → foretold (history (calls ++ call ∷ [])) y ≡ foretold (history calls) y)
-    → ((n : Name) (y : ℕ) → o ≡ Some n → is_waiting (history calls) y ≡ true → reference (history calls) y ≡ n
+    → ((n : Name) (y : ℕ) → o ≡ Some n → is_waiting (history calls) y ≡ true → name (history calls) y ≡ n
     → o' ≡ (if is_waiting (history (calls ++ call ∷ [])) y then Some n else None))
     → (o ≡ None → o' ≡ None) → Holds c picks calls o → Holds c picks (calls ++ call ∷ []) o'
 holds_on c picks calls call None o' n q stay link none h =
@@ -180,7 +180,7 @@ holds_on c picks calls call (Some n) o' s q stay link none h =
           either ⊥ calls call up' y' j' (λ m z. let one = b.only up' y' j' m in
           true≢false (sym k.waits ∙ (ap (is_waiting t') one.0 ∙ e))) (λ l. untold call up' q l.told) k
     ] in
-    subst (Holds c picks calls') (sym (link n y refl b.is.waits (reference_of b))) (both (is_waiting t' y) refl)
+    subst (Holds c picks calls') (sym (link n y refl b.is.waits (name_begun b))) (both (is_waiting t' y) refl)
 
 -- a step
 pub nothing_stepped : (calls : List Call) (call : Call) → steps call ≡ true → upcoming_in call ≡ None
@@ -196,7 +196,7 @@ some_is up up' e = ap (λ o. unwrap_or o up) (sym e)
 one_foretold : (t : Trace) (up up' : Upcoming) (y y' : ℕ) → Apart t (waiting t) → is_waiting t y ≡ true
     → is_waiting t y' ≡ true → up ≡ foretold t y → up' ≡ foretold t y' → up' ≡ up → y' ≡ y
 one_foretold t up up' y y' apart w w' e e' same = one_waits t y' y apart w' w
-    (ap (λ (u : Upcoming). u.command.reference) (sym e' ∙ (same ∙ e)))
+    (ap upcoming_name (sym e' ∙ (same ∙ e)))
 
 last_same : (calls : List Call) (up up' : Upcoming) (y y' : ℕ) → Apart (history calls) (waiting (history calls))
     → is_waiting (history calls) y ≡ true → up ≡ foretold (history calls) y → Last calls (Begin (Some up)) up' y'
@@ -212,7 +212,7 @@ begin_same calls upcoming = history_more calls (Begin upcoming) ∙ append-nil (
 -- it begins y where nothing is begun
 pub holds_new : (c : Settings) (picks : List Choice → ℕ → Type 0) (calls : List Call) (n : Name) (up : Upcoming) (y : ℕ)
     → Apart (history calls) (waiting (history calls)) → NothingBegun calls → is_waiting (history calls) y ≡ true
-    → up ≡ foretold (history calls) y → name_of up.command ≡ n
+    → up ≡ foretold (history calls) y → upcoming_name up ≡ n
     → (nat_eq up.done 0 ≡ true → IsPick c picks (history calls) n)
     → Holds c picks (calls ++ Begin (Some up) ∷ []) (Some n)
 holds_new c picks calls n up y apart none w e own p =

@@ -1,7 +1,7 @@
 -- Every call of a controller that somebody holds is answered right, and what was begun is held to.
 use Rattle.std.proofs.Common.{◌≡◌, inl, inr, ℕ, ◌<◌, Bool, true, false, not, ◌&&◌, ◌||◌, List, [], ◌∷◌, ◌++◌, map, take, length, refl, ap, sym, ◌∙◌, subst, append_assoc, append-nil, arith}
 use Rattle.std.specs.Prelude.{IfSome, if◌then◌else◌, nat_eq, option_map, Option, Some, None, Result, Ok, Err}
-use Rattle.std.proofs.lemmas.Bool.{eqb-false, eqb-true, false≢true}
+use Rattle.std.proofs.lemmas.Bool.{false≢true}
 use Rattle.mscp_packet.specs.declared.command.Command.{Command}
 use Rattle.mscp_packet.specs.Commands.{command_of}
 use Rattle.mscp_queue.specs.declared.block.Block.{Block}
@@ -10,7 +10,9 @@ use Rattle.mscp_queue.specs.declared.report.Report.TheVariants as reports
 use Rattle.mscp_queue.specs.declared.upcoming.Upcoming.{Upcoming}
 use Rattle.mscp_queue.specs.declared.view.Choice.{Choice}
 use Rattle.mscp_queue.specs.Lines.{Line}
-use Rattle.mscp_queue.specs.Names.{Name}
+use Rattle.mscp_queue.specs.declared.name.Name.{Name}
+use Rattle.mscp_queue.specs.declared.name.Connection.TheVariants.{First}
+use Rattle.mscp_queue.specs.Names.{name_on, same_name}
 use Rattle.mscp_queue.specs.Orders.{order_weight}
 use Rattle.mscp_queue.specs.Outcomes.{block_touched}
 use Rattle.mscp_queue.specs.Records.{Record}
@@ -25,11 +27,12 @@ use Rattle.mscp_control.specs.declared.event.Stale.{Stale}
 use Rattle.mscp_control.specs.Settings.{Settings, IsValid}
 use Rattle.mscp_control.specs.Arrival.{is_queued, refusal}
 use Rattle.mscp_control.specs.History.{Trace, Moment, Service, is_step, service_in}
-use Rattle.mscp_control.specs.Commands.{ends_in, is_waiting, reference, unit, waiting}
+use Rattle.mscp_control.specs.Commands.{connection, ends_in, is_waiting, name, unit, waiting}
 use Rattle.mscp_control.specs.Units.{is_online}
 use Rattle.mscp_control.specs.Legal.{IsLegal, IsPick, IsServed, block_of}
 use Rattle.mscp_control.specs.Holdings.{Answers, Finishes, Holdings, Steps, record_aborted, aborting, answered_end, balance_of, begun_after, with_end, fresh, held_unless, outstanding_of, queued, sent_unless}
-use Rattle.mscp_control.specs.Calls.{AnsweredCalls, AnswersCall, AtEachCall, Begin, Call, Finish, HoldsToBegun, IsAsTold, IsBegun, IsBegunSince, IsChosen, IsRightCall, Plain, StartsChosen, foretold, history, start_of}
+use Rattle.mscp_control.specs.Calls.{AnsweredCalls, AnswersCall, AtEachCall, Begin, Call, Finish, HoldsToBegun, IsAsTold, IsBegun, IsBegunSince, IsChosen, IsRightCall, Plain, StartsChosen, foretold, history, start_of, upcoming_name}
+use Rattle.mscp_queue.proofs.Named.{differ_is, same_is}
 use Rattle.mscp_queue.proofs.Placed.{each_push}
 use Rattle.mscp_control.proofs.Promise.Among.{one_waits}
 use Rattle.mscp_control.proofs.Promise.Grows.{command_before, is_waiting_before}
@@ -37,7 +40,7 @@ use Rattle.mscp_control.proofs.Promise.States.{is_online_kept}
 use Rattle.mscp_control.proofs.Promise.Steady.{done_kept}
 use Rattle.mscp_control.proofs.Promise.Waits.{waits_below}
 use Rattle.mscp_control.proofs.Bridge.Aborting.{begun_left}
-use Rattle.mscp_control.proofs.Bridge.Begun.{Held, Turned, none_waits, Holds, history_more, holds_on, nothing_stepped, reference_of}
+use Rattle.mscp_control.proofs.Bridge.Begun.{Held, Turned, none_waits, Holds, history_more, holds_on, nothing_stepped, name_begun}
 use Rattle.mscp_control.proofs.Bridge.Following.{none_held, turns}
 use Rattle.mscp_control.proofs.Bridge.Held.{held_of}
 use Rattle.mscp_control.proofs.Bridge.Keeping.{owner_kept, unbegun_kept}
@@ -64,15 +67,21 @@ foretold_kept t m y e l = λ i.
     let k = command_before t m y l in
     let b = block_kept t m y e l in
     let d = done_kept t m y e l in
-    record { command = k i; lbn = b i; done = d i; weight = order_weight (k i).order }
+    record {
+      connection = connection t y;
+      command = k i;
+      lbn = b i;
+      done = d i;
+      weight = order_weight (k i).order;
+    }
 
 waits_on : (t : Trace) (m : Moment) (y : ℕ) → is_waiting t y ≡ true
-    → is_waiting (t ++ m ∷ []) y ≡ not (ends_in (reference t y) m.1)
-waits_on t m y w = is_waiting_before t m y (waits_below t y w) ∙ ap (λ b. b && not (ends_in (reference t y) m.1)) w
+    → is_waiting (t ++ m ∷ []) y ≡ not (ends_in (name t y) m.1)
+waits_on t m y w = is_waiting_before t m y (waits_below t y w) ∙ ap (λ b. b && not (ends_in (name t y) m.1)) w
 
 -- what is begun after a moment that serves nobody: what was, unless it was ended
 abbrev IsLeft : {K : Type 0} → Holdings K → Holdings K → Trace → Entry → Type 0
-IsLeft h h' t entry = (n : Name) (y : ℕ) → h.begun ≡ Some n → is_waiting t y ≡ true → reference t y ≡ n
+IsLeft h h' t entry = (n : Name) (y : ℕ) → h.begun ≡ Some n → is_waiting t y ≡ true → name t y ≡ n
     → h'.begun ≡ (if not (ends_in n entry) then Some n else None)
 
 quiet : {K : Type 0} (c : Settings) (picks : List Choice → ℕ → Type 0) (calls : List Call) (event : Event)
@@ -88,7 +97,7 @@ quiet c picks calls event entry h h' turn legal e s left none holds =
     let t' = history (calls ++ call ∷ []) in
     let stays : (y : ℕ) → is_waiting t y ≡ true → foretold t' y ≡ foretold t y =
     λ y w. ap (λ u. foretold u y) same ∙ foretold_kept t m y e (waits_below t y w) in
-    let link : (n : Name) (y : ℕ) → h.begun ≡ Some n → is_waiting t y ≡ true → reference t y ≡ n
+    let link : (n : Name) (y : ℕ) → h.begun ≡ Some n → is_waiting t y ≡ true → name t y ≡ n
     → h'.begun ≡ (if is_waiting t' y then Some n else None) =
     λ n y b w own. left n y b w own ∙ ap (λ b. if b then Some n else None)
     (sym (ap (λ u. is_waiting u y) same ∙ (waits_on t m y w ∙ ap (λ k. not (ends_in k entry)) own))) in
@@ -103,7 +112,7 @@ quiet c picks calls event entry h h' turn legal e s left none holds =
 
 -- what is begun after a message
 begun_unless : {K : Type 0} (h : Holdings K) (t : Trace) (k : Command) (n : Name) (y : ℕ) (o : Option SendFault)
-    → h.waiting ≡ map (held_of t) (waiting t) → h.begun ≡ Some n → is_waiting t y ≡ true → reference t y ≡ n
+    → h.waiting ≡ map (held_of t) (waiting t) → h.begun ≡ Some n → is_waiting t y ≡ true → name t y ≡ n
     → (held_unless h k o).begun ≡ (if not (ends_in n (entries.Sent (sent_unless h k o))) then Some n else None)
 begun_unless h t k n y (Some fault) e b w own = b
 begun_unless {K} h t k n y None e b w own =
@@ -121,26 +130,27 @@ as_told : {K : Type 0} (c : Settings) (picks : List Choice → ℕ → Type 0) (
     → Turns c picks (history calls) (events.Step k, entries.Stepped report) h.begun h' → (up : Upcoming) (y j : ℕ)
     → IsBegunSince calls up y j → IfSome (service_in (entries.Stepped report)) (IsAsTold up)
 as_told c picks calls k reports.Idle h h' o a b turn up y j is = tt
-as_told c picks calls k (reports.Served reference' unit' lbn started' seek ended') h h' None a b turn up y j is =
+as_told c picks calls k (reports.Served via' reference' unit' lbn b' seek e') h h' None a b turn up y j is =
     absurd (b.1 up y j is)
-as_told c picks calls k (reports.Served reference' unit' lbn started' seek ended') h h' (Some n) a b turn up y j is =
+as_told c picks calls k (reports.Served via' reference' unit' lbn b' seek e') h h' (Some n) a b turn up y j is =
     let t = history calls in
     let s : Service = record {
+      connection = via';
       reference = reference';
       unit = unit';
       lbn = lbn;
-      started = started';
+      started = b';
       seek = seek;
-      ended =
-          ended';
+      ended = e';
     } in
     let own = b.1.3 in
     let one = own.only up y j is in
     let some = turn.sends.right in
     let same : some.0 ≡ b.1.1 = one_waits t some.0 b.1.1 a.follows.known.steady.apart some.1.waits own.is.waits
-    (sym some.1.reference ∙ (turn.same n b.0 ∙ sym (reference_of own))) in
+    (sym (λ i. name_on (some.1.connection i) (some.1.reference i)) ∙ (turn.same n b.0 ∙ sym (name_begun own))) in
     let v : IsServed c t k s b.1.1 = subst (IsServed c t k s) same some.1 in
     let told : IsAsTold b.1.0 s = record {
+      connection = v.connection ∙ ap (λ (u : Upcoming). u.connection) (sym own.now);
       reference = v.reference ∙ ap (λ (u : Upcoming). u.command.reference) (sym own.now);
       unit = v.unit ∙ ap (λ (u : Upcoming). u.command.unit) (sym own.now);
       lbn = v.lbn ∙ ap (λ (u : Upcoming). u.lbn) (sym own.now);
@@ -153,13 +163,13 @@ starts_chosen : {K : Type 0} (c : Settings) (picks : List Choice → ℕ → Typ
     → Turns c picks (history calls) (events.Step k, entries.Stepped report) h.begun h'
     → IfSome (start_of (service_in (entries.Stepped report))) (IsChosen (IsPick c picks) calls)
 starts_chosen c picks calls k reports.Idle h h' o a b turn = tt
-starts_chosen c picks calls k (reports.Served reference' unit' lbn false seek ended') h h' o a b turn = tt
-starts_chosen c picks calls k (reports.Served reference' unit' lbn true seek ended') h h' None a b turn =
+starts_chosen c picks calls k (reports.Served via' reference' unit' lbn false seek e') h h' o a b turn = tt
+starts_chosen c picks calls k (reports.Served via' reference' unit' lbn true seek e') h h' None a b turn =
     inl (b.1, turn.picked b.0 refl)
-starts_chosen c picks calls k (reports.Served reference' unit' lbn true seek ended') h h' (Some n) a b turn =
+starts_chosen c picks calls k (reports.Served via' reference' unit' lbn true seek e') h h' (Some n) a b turn =
     let own = b.1.3 in
-    let same : reference' ≡ n = turn.same n b.0 in
-    let told = as_told c picks calls k (reports.Served reference' unit' lbn true seek ended') h h' (Some n) a b turn
+    let same : name_on via' reference' ≡ n = turn.same n b.0 in
+    let told = as_told c picks calls k (reports.Served via' reference' unit' lbn true seek e') h h' (Some n) a b turn
     b.1.0 b.1.1 b.1.2 own.is in
     inr (
       b.1.0,
@@ -179,7 +189,7 @@ unbegun_after : {K : Type 0} (c : Settings) (picks : List Choice → ℕ → Typ
 unbegun_after {K} c picks calls k reports.Idle h h' None b turn s = ap (λ (l : Line K). l.begun) s.serves.2 ∙ b.0
 unbegun_after {K} c picks calls k reports.Idle h h' (Some n) b turn s =
     absurd (none_waits (history calls) b.1.1 turn.sends.right b.1.3.is.waits)
-unbegun_after {K} c picks calls k (reports.Served reference' unit' lbn started' seek ended') h h' o b turn s =
+unbegun_after {K} c picks calls k (reports.Served via' reference' unit' lbn b' seek e') h h' o b turn s =
     ap (λ (l : Line K). l.begun) s.serves.1.left
 
 stepped : {K : Type 0} (c : Settings) (picks : List Choice → ℕ → Type 0) (calls : List Call) (k : Block)
@@ -246,17 +256,18 @@ plain picks calls events.Look (entries.Stepped report) h h' v a legal b r = absu
 -- ---- a finish
 
 begun_as : (c : Settings) (picks : List Choice → ℕ → Type 0) (calls : List Call) (number : ℕ) (o : Option Name)
-    → is_begun number o ≡ true → Holds c picks calls o → IsBegun calls number
+    → is_begun (name_on First number) o ≡ true → Holds c picks calls o → IsBegun calls (name_on First number)
 begun_as c picks calls number None e b = absurd (false≢true e)
-begun_as c picks calls number (Some n) e b = (b.0, b.1, b.2, b.3.is, b.3.own ∙ eqb-true n number e)
+begun_as c picks calls number (Some n) e b = (b.0, b.1, b.2, b.3.is, b.3.own ∙ same_is n (name_on First number) e)
 
 -- what is begun is of this number, or isn't
 only_begun : (c : Settings) (picks : List Choice → ℕ → Type 0) (calls : List Call) (number : ℕ) (o : Option Name)
-    (q : Bool) → is_begun number o ≡ q → Holds c picks calls o → (up : Upcoming) (y j : ℕ) → IsBegunSince calls up y j
-    → nat_eq up.command.reference number ≡ q
+    (q : Bool) → is_begun (name_on First number) o ≡ q → Holds c picks calls o → (up : Upcoming) (y j : ℕ)
+    → IsBegunSince calls up y j
+    → same_name (upcoming_name up) (name_on First number) ≡ q
 only_begun c picks calls number None q e b up y j is = absurd (b up y j is)
 only_begun c picks calls number (Some n) q e b up y j is =
-    ap (λ k. nat_eq k number) (ap (λ (u : Upcoming). u.command.reference) (b.3.only up y j is).1 ∙ b.3.own) ∙ e
+    ap (λ k. same_name k (name_on First number)) (ap upcoming_name (b.3.only up y j is).1 ∙ b.3.own) ∙ e
 
 finish : {K : Type 0} (picks : List Choice → ℕ → Type 0) (calls : List Call) (number : ℕ) (k : Block)
     (answer : Result Report Stale) (h h' : Holdings K) → IsValid h.settings → Agrees h.settings (history calls) h
@@ -290,7 +301,7 @@ finish {K} picks calls number k (Err stale) h h' v a legal b r =
       legal = subst (IsLegal c) (sym same) legal;
       agrees = subst (λ u. Agrees c u h') (sym same) (subst (Agrees c t) (sym r.1) a);
       right = tt;
-      begun = λ up y j is. eqb-false up.command.reference number
+      begun = λ up y j is. differ_is (upcoming_name up) (name_on First number)
           (only_begun c picks calls number h.begun false r.0 b up y j is);
       picked = tt;
       holds = holds_on c picks calls call h.begun h'.begun refl refl (λ y w. ap (λ u. foretold u y) same)

@@ -2,8 +2,9 @@
 use Rattle.std.proofs.Common.{◌≡◌, inl, inr, ℕ, ◌-◌, ◌+◌, List, take, length, ap, subst, ◌∙◌}
 use Rattle.std.specs.Prelude.{IfSome, Option, Some, None, zip}
 use Rattle.mscp_queue.specs.declared.view.Choice.{Choice}
-use Rattle.mscp_queue.specs.Figures.{figure_of_reference}
-use Rattle.mscp_queue.specs.Names.{Name, name_of}
+use Rattle.mscp_queue.specs.Figures.{figure_of_name}
+use Rattle.mscp_queue.specs.declared.name.Name.{Name}
+use Rattle.mscp_queue.specs.Records.{name_of}
 use Rattle.mscp_queue.specs.Kept.{names}
 use Rattle.mscp_queue.proofs.Placed.{map_map}
 use Rattle.mscp_control.specs.declared.event.Event.{Event}
@@ -82,10 +83,9 @@ keeps_promise c picks picker calls h v r =
       picked = k.picked;
       swept = λ w i l. starts_swept c picks (take i calls) (starts (call_at calls i)) w (k.picked i l);
       settings = k.settings;
-      waiting = ap names f.waits ∙ map_map (held_of t) (λ r. name_of r.command) (waiting t);
+      waiting = ap names f.waits ∙ map_map (held_of t) name_of (waiting t);
       untaken = f.ends;
-      figure = λ reference. ap (λ ws. figure_of_reference c.budget ws reference) f.waits
-          ∙ figure_of_held c t reference;
+      figure = λ name. ap (λ ws. figure_of_name c.budget ws name) f.waits ∙ figure_of_held c t name;
       drives = k.agrees.driven.drives;
       balance = ap (λ (s : Settings). s.credits - (length h.waiting + length h.untaken)) k.settings
           ∙ balance_held c t h.waiting h.untaken f;

@@ -5,6 +5,7 @@ use Rattle.std.proofs.lemmas.List.{append_assoc}
 use Rattle.arrayvec.specs.ArrayVec.{ArrayVec}
 use Rattle.mscp_packet.specs.declared.end.End.{End}
 use Rattle.mscp_packet.specs.Ends.{end_bytes}
+use Rattle.mscp_queue.specs.declared.name.Connection.{Connection}
 use Rattle.mscp_queue.specs.declared.block.Block.{Block}
 use Rattle.mscp_queue.specs.declared.report.Report.{Report}
 use Rattle.mscp_queue.specs.declared.report.Report.TheVariants as reports
@@ -32,7 +33,7 @@ use Rattle.mscp_control.proofs.Bridge.Stepped.{Turns, turns_at}
 
 -- ---- a look
 
-looks : {K : Type 0} (h : Holdings K) (t : Trace) (list : ArrayVec (ℕ × ℕ)) → 1 ≤ h.settings.longest
+looks : {K : Type 0} (h : Holdings K) (t : Trace) (list : ArrayVec (Connection × ℕ × ℕ)) → 1 ≤ h.settings.longest
     → Agrees h.settings t h → list.items ≡ figures h.settings.budget h.waiting
     → Sends h.settings t (events.Look, entries.Looked list) h
 looks h t list l a e =
@@ -92,8 +93,9 @@ steps : {K : Type 0} (picks : List Choice → ℕ → Type 0) (h h' : Holdings K
     → IsValid h.settings → Agrees h.settings t h → Steps picks k h report h'
     → Turns h.settings picks t (events.Step k, entries.Stepped report) h.begun h'
 steps picks h h' t k reports.Idle v a s = idles picks h h' t k v a s
-steps picks h h' t k (reports.Served reference unit lbn started seek ended) v a s =
-    turns_at picks h h' t k (reports.Served reference unit lbn started seek ended) s.serves.0 v a s.serves.1 s.ends
+steps picks h h' t k (reports.Served connection reference unit lbn started seek ended) v a s =
+    turns_at picks h h' t k (reports.Served connection reference unit lbn started seek ended) s.serves.0 v a
+    s.serves.1 s.ends
 
 -- ---- every event
 

@@ -1,8 +1,10 @@
 -- What each event keeps of what a controller holds.
-use Rattle.std.proofs.Common.{◌≡◌, ℕ, ◌+◌, ◌<◌, ◌≤◌, true, false, List, [], ◌∷◌, ◌++◌, map, length, take, drop, ap, refl, sym, subst, ◌∙◌, arith}
+use Rattle.std.proofs.Common.{◌≡◌, ℕ, zero, suc, ◌+◌, ◌<◌, ◌≤◌, true, false, not, List, [], ◌∷◌, ◌++◌, map, length, take, drop, ap, refl, sym, subst, ◌∙◌, arith}
 use Rattle.std.specs.Prelude.{if◌then◌else◌, option_to_list, Option, Some, None, IfSome}
 use Rattle.std.specs.List.{AllByRecursion}
 use Rattle.std.proofs.lemmas.List.{length-append, length-drop, length-map, length-take-le}
+use Rattle.std.proofs.lemmas.List.Elements.{All-from_recursion}
+use Rattle.mscp_queue.specs.declared.name.Name.{Name}
 use Rattle.mscp_packet.specs.declared.end.End.{End}
 use Rattle.mscp_packet.specs.Ends.{IsOfKind}
 use Rattle.mscp_drive.specs.Shape.{Shape}
@@ -10,13 +12,14 @@ use Rattle.mscp_queue.specs.declared.block.Block.{Block}
 use Rattle.mscp_queue.specs.declared.report.Report.{Report}
 use Rattle.mscp_queue.specs.declared.report.Report.TheVariants as reports
 use Rattle.mscp_queue.specs.declared.view.Choice.{Choice}
+use Rattle.mscp_queue.specs.declared.name.Connection.TheVariants.{First}
 use Rattle.mscp_queue.specs.Drives.{fresh_drive}
 use Rattle.mscp_queue.specs.Kept.{units_of}
 use Rattle.mscp_queue.specs.Lines as lines
 use Rattle.mscp_queue.specs.Lines.{Line, Serves}
-use Rattle.mscp_queue.specs.Records.{Record, drive_at, step_toll, passed_by, record_at, remains}
+use Rattle.mscp_queue.specs.Records.{Record, drive_at, has_name, no_record, step_toll, passed_by, record_at, remains}
 use Rattle.mscp_queue.specs.Serving.{end_given, end_in}
-use Rattle.mscp_queue.proofs.Lists.{every_append}
+use Rattle.mscp_queue.proofs.Lists.{every_append, every_kept}
 use Rattle.mscp_control.specs.Settings.{Settings, IsValid, room}
 use Rattle.mscp_packet.specs.declared.command.Command.{Command}
 use Rattle.mscp_packet.specs.declared.command.Order.{Order}
@@ -51,6 +54,7 @@ held_fresh {K} c units room' budget longest picker line us v u r p l e n =
       same_budget = p;
       same_longest = l;
       units = units_fresh units ∙ u;
+      alone = tt;
     } in
     subst (λ (q : Line K). IsHeld c q us) (sym e) all
 
@@ -83,12 +87,12 @@ pub count_stepped : {K : Type 0} (picks : List Choice → ℕ → Type 0) (k : B
     → length new.waiting + length (ends_reported report) ≡ length old.waiting
 count_stepped {K} picks k old reports.Idle new h = let same = ap (λ (l : Line K). length l.waiting) h.2 in
     omega (arith, same)
-count_stepped {K} picks k old (reports.Served reference unit lbn started seek ended) new h =
+count_stepped {K} picks k old (reports.Served connection reference unit lbn started seek ended) new h =
     let place = h.0 in
     let s = h.1 in
     let r = record_at old.waiting place in
     let e = end_given k (drive_at old.drives old.waiting place) r in
-    let ends : ends_reported (reports.Served reference unit lbn started seek ended) ≡ option_to_list e =
+    let ends : ends_reported (reports.Served connection reference unit lbn started seek ended) ≡ option_to_list e =
     ap ends_reported s.told in
     omega (
       arith,
@@ -97,6 +101,47 @@ count_stepped {K} picks k old (reports.Served reference unit lbn started seek en
       count_after (step_toll r) place r
           old.waiting e s.next.servable.inside,
     )
+
+-- ---- each came by the first connection
+
+abbrev IsFirst : Record → Type 0
+IsFirst r = r.connection ≡ First
+
+first_passed : (n : ℕ) (rs : List Record) → AllByRecursion IsFirst rs → AllByRecursion IsFirst (map (passed_by n) rs)
+first_passed n [] h = tt
+first_passed n (r ∷ rs) h = (h.0, first_passed n rs h.1)
+
+first_remains : (r : Record) (e : Option End) → IsFirst r → AllByRecursion IsFirst (remains r e)
+first_remains r None h = (h, tt)
+first_remains r (Some end) h = tt
+
+first_taken : (place : ℕ) (rs : List Record) → AllByRecursion IsFirst rs → AllByRecursion IsFirst (take place rs)
+first_taken zero rs h = tt
+first_taken (suc place) [] h = tt
+first_taken (suc place) (r ∷ rs) h = (h.0, first_taken place rs h.1)
+
+first_dropped : (place : ℕ) (rs : List Record) → AllByRecursion IsFirst rs → AllByRecursion IsFirst (drop place rs)
+first_dropped zero rs h = h
+first_dropped (suc place) [] h = tt
+first_dropped (suc place) (r ∷ rs) h = first_dropped place rs h.1
+
+first_stepped : {K : Type 0} (picks : List Choice → ℕ → Type 0) (k : Block) (old : Line K) (report : Report)
+    (new : Line K) → AllByRecursion IsFirst old.waiting → Serves picks k old report new
+    → AllByRecursion IsFirst new.waiting
+first_stepped {K} picks k old reports.Idle new f h =
+    subst (λ (l : Line K). AllByRecursion IsFirst l.waiting) (sym h.2) f
+first_stepped {K} picks k old (reports.Served connection reference unit lbn started seek ended) new f h =
+    let place = h.0 in
+    let s = h.1 in
+    let r = record_at old.waiting place in
+    let front = map (passed_by (step_toll r)) (take place old.waiting) in
+    let own = remains r (end_given k (drive_at old.drives old.waiting place) r) in
+    let is : IsFirst r = All-from_recursion IsFirst old.waiting f place no_record s.next.servable.inside in
+    subst (λ (l : Line K). AllByRecursion IsFirst l.waiting) (sym s.left)
+    (every_append IsFirst front (own ++ drop (place + 1) old.waiting)
+    (first_passed (step_toll r) (take place old.waiting) (first_taken place old.waiting f))
+    (every_append IsFirst own (drop (place + 1) old.waiting) (first_remains r _ is)
+    (first_dropped (place + 1) old.waiting f)))
 
 -- and the limits and the picker stay
 pub stays : {K : Type 0} (picks : List Choice → ℕ → Type 0) (k : Block) (old : Line K) (report : Report) (new : Line K)
@@ -109,7 +154,7 @@ stays {K} picks k old reports.Idle new h = (
   ap
       (λ (l : Line K). l.picker) h.2,
 )
-stays {K} picks k old (reports.Served reference unit lbn started seek ended) new h =
+stays {K} picks k old (reports.Served connection reference unit lbn started seek ended) new h =
     let e = h.1.left in (
       ap (λ (l : Line K). l.room) e,
       ap (λ (l : Line K). l.budget) e,
@@ -121,8 +166,8 @@ stays {K} picks k old (reports.Served reference unit lbn started seek ended) new
 -- the ends that a step brings are of their kind
 reported_kinds : (report : Report) → IfSome (end_in report) IsOfKind → AllByRecursion IsOfKind (ends_reported report)
 reported_kinds reports.Idle h = tt
-reported_kinds (reports.Served reference unit lbn started seek None) h = tt
-reported_kinds (reports.Served reference unit lbn started seek (Some end)) h = (h, tt)
+reported_kinds (reports.Served connection reference unit lbn started seek None) h = tt
+reported_kinds (reports.Served connection reference unit lbn started seek (Some end)) h = (h, tt)
 
 pub held_stepped : {K : Type 0} (c : Settings) (picks : List Choice → ℕ → Type 0) (k : Block) (old : Line K)
     (report : Report) (new : Line K) (us us' : List End) → IsHeld c old us → Serves picks k old report new
@@ -143,6 +188,28 @@ held_stepped {K} c picks k old report new us us' h s u kind e =
       same_budget = same.1 ∙ h.same_budget;
       same_longest = same.2 ∙ h.same_longest;
       units = u ∙ h.units;
+      alone = first_stepped picks k old report new h.alone s;
+    }
+
+-- the same after an abort, which leaves one command less and makes its end
+pub held_aborted : {K : Type 0} {c : Settings} {old new : Line K} {us us' : List End} (name : Name) (end : End)
+    → IsHeld c old us → new ≡ lines.aborting name old → length new.waiting + 1 ≡ length old.waiting → IsOfKind end
+    → us' ≡ us ++ end ∷ [] → IsHeld c new us'
+held_aborted {K} {c} {old} {new} {us} {us'} name end h e count kind more =
+    let covered = h.covered in
+    let fits = h.fits in
+    record {
+      valid = h.valid;
+      covered = omega (arith, count, ap length more, length-append us (end ∷ []));
+      shaped = subst (AllByRecursion IsOfKind) (sym more)
+          (every_append IsOfKind us (end ∷ []) h.shaped (kind, tt));
+      fits = omega (arith, count);
+      same_room = ap (λ (l : Line K). l.room) e ∙ h.same_room;
+      same_budget = ap (λ (l : Line K). l.budget) e ∙ h.same_budget;
+      same_longest = ap (λ (l : Line K). l.longest) e ∙ h.same_longest;
+      units = ap (λ (l : Line K). units_of l.drives) e ∙ h.units;
+      alone = subst (λ (l : Line K). AllByRecursion IsFirst l.waiting) (sym e)
+          (every_kept IsFirst (λ r. not (has_name name r)) old.waiting h.alone);
     }
 
 -- there is room for the end that a step brings
@@ -217,7 +284,7 @@ unbegun_unless {K} h command None n =
 unbegun_stepped : {K : Type 0} (picks : List Choice → ℕ → Type 0) (k : Block) (old : Line K) (report : Report)
     (new : Line K) → old.begun ≡ None → Serves picks k old report new → new.begun ≡ None
 unbegun_stepped {K} picks k old reports.Idle new n h = ap (λ (l : Line K). l.begun) h.2 ∙ n
-unbegun_stepped {K} picks k old (reports.Served reference unit lbn started seek ended) new n h =
+unbegun_stepped {K} picks k old (reports.Served connection reference unit lbn started seek ended) new n h =
     ap (λ (l : Line K). l.begun) h.1.left
 
 -- no event begins a command

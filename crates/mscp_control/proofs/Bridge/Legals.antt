@@ -5,7 +5,7 @@ use Rattle.std.proofs.lemmas.List.{append_assoc}
 use Rattle.mscp_queue.specs.declared.block.Block.{Block}
 use Rattle.mscp_control.specs.Settings.{Settings}
 use Rattle.mscp_control.specs.History.{Trace, Moment, moment, Service, service_in, WhenStarted}
-use Rattle.mscp_control.specs.Commands.{reference, service_name, unit, is_waiting, done, in_service}
+use Rattle.mscp_control.specs.Commands.{connection, reference, service_name, unit, is_waiting, done, in_service}
 use Rattle.mscp_control.specs.Passing.{is_startable}
 use Rattle.mscp_queue.specs.declared.view.Choice.{Choice}
 use Rattle.mscp_control.specs.Legal.{IsPick, IsPicked, IsRight, IsLegal, IsServed, block_of, seek_to, end_of}
@@ -46,6 +46,7 @@ legal_from c ms r = legal_onto c [] ms (λ i h. absurd (omega (arith, h))) r
 -- all that a step says where it serves y
 abbrev pub service_by : Settings → Trace → Block → ℕ → Service
 service_by c t k y = record {
+  connection = connection t y;
   reference = reference t y;
   unit = unit t y;
   lbn = block_of t y;
@@ -67,6 +68,7 @@ by_serving y w n e = (
     started = ap (λ (s : Service). s.started) e;
     seek = ap (λ (s : Service). s.seek) e;
     ended = ap (λ (s : Service). s.ended) e;
+    connection = ap (λ (s : Service). s.connection) e;
     reference = ap (λ (s : Service). s.reference) e;
     unit = ap (λ (s : Service). s.unit) e;
   },

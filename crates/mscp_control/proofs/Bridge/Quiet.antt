@@ -5,12 +5,13 @@ use Rattle.std.specs.List.{AllByRecursion}
 use Rattle.std.proofs.lemmas.List.{drop-drop, map-append}
 use Rattle.mscp_packet.specs.declared.end.End.{End}
 use Rattle.mscp_packet.specs.Commands.{command_of}
-use Rattle.mscp_queue.specs.Names.{name_of}
-use Rattle.mscp_queue.specs.Records.{Record, fresh_record}
+use Rattle.mscp_queue.specs.declared.name.Connection.TheVariants.{First}
+use Rattle.mscp_queue.specs.declared.name.Name.{Name}
+use Rattle.mscp_queue.specs.Records.{Record, fresh_record, name_of}
 use Rattle.mscp_control.specs.Settings.{Settings}
 use Rattle.mscp_queue.specs.Orders.{order_weight}
 use Rattle.mscp_control.specs.History.{Trace, Moment, queues, sent_bytes, is_good, takes, service_in}
-use Rattle.mscp_control.specs.Commands.{reference, waiting, done, good, service_is, service_starts, ends_in}
+use Rattle.mscp_control.specs.Commands.{name, waiting, done, good, service_is, service_starts, ends_in}
 use Rattle.mscp_control.specs.Passing.{passed}
 use Rattle.mscp_control.specs.Ends.{ends_at}
 use Rattle.mscp_control.specs.Account.{ends, untaken}
@@ -27,7 +28,7 @@ use Rattle.mscp_control.proofs.Bridge.Held.{held_of, Follows}
 -- the moment serves nobody and ends nobody
 pub record IsQuiet (m : Moment) : Type 0 where
   pub unserved : service_in m.1 ≡ None
-  pub kept : (r : ℕ) → ends_in r m.1 ≡ false
+  pub kept : (r : Name) → ends_in r m.1 ≡ false
 
 -- ---- one command
 
@@ -37,10 +38,17 @@ pub held_same : (t : Trace) (m : Moment) (x : ℕ) → x < length t → done (t 
     → held_of (t ++ m ∷ []) x ≡ held_of t x
 held_same t m x l d g p = λ i.
     let k = command_before t m x l in
-    record { command = k i; weight = order_weight (k i).order; done = d i; good = g i; passed = p i }
+    record {
+      connection = First;
+      command = k i;
+      weight = order_weight (k i).order;
+      done = d i;
+      good = g i;
+      passed = p i;
+    }
 
 good_kept : (t : Trace) (m : Moment) (x : ℕ) → service_in m.1 ≡ None → x < length t → good (t ++ m ∷ []) x ≡ good t x
-good_kept t m x e l = good_before t m x l ∙ (ap (λ o. good t x + cond (service_is (reference t x) o && is_good m.0) 1 0)
+good_kept t m x e l = good_before t m x l ∙ (ap (λ o. good t x + cond (service_is (name t x) o && is_good m.0) 1 0)
     e ∙ omega arith)
 
 passed_kept : (t : Trace) (m : Moment) (x : ℕ) → service_in m.1 ≡ None → passed (t ++ m ∷ []) x ≡ passed t x
@@ -60,8 +68,8 @@ waiting_kept : (t : Trace) (m : Moment) → IsQuiet m
     → waiting (t ++ m ∷ []) ≡ waiting t ++ cond (queues m.1) (length t ∷ []) []
 waiting_kept t m q =
     waiting_more t m ∙ ap (λ l. l ++ cond (queues m.1) (length t ∷ []) [])
-    (filter_all (λ x. not (ends_in (reference t x) m.1)) (waiting t)
-    (every_from (λ x. not (ends_in (reference t x) m.1) ≡ true) (λ x. ap not (q.kept (reference t x))) (waiting t)))
+    (filter_all (λ x. not (ends_in (name t x) m.1)) (waiting t)
+    (every_from (λ x. not (ends_in (name t x) m.1) ≡ true) (λ x. ap not (q.kept (name t x))) (waiting t)))
 
 pub records_kept : (t t' : Trace) (xs : List ℕ) → AllByRecursion (Keeps t t') xs
     → map (held_of t') xs ≡ map (held_of t) xs
@@ -72,12 +80,12 @@ records_kept t t' xs k = map_on (held_of t') (held_of t) xs k
 -- What is held after a moment that serves nobody and queues nobody: the records of the commands that it doesn't end.
 pub follows_left : (c : Settings) (t : Trace) (m : Moment) (ws ws' : List Record) (us us' : List End) → 1 ≤ c.longest
     → IsRight c t m.0 m.1 → service_in m.1 ≡ None → queues m.1 ≡ false
-    → ws' ≡ filter (λ r. not (ends_in (name_of r.command) m.1)) ws → us' ≡ untaken c (t ++ m ∷ []) → Follows c t ws us
+    → ws' ≡ filter (λ r. not (ends_in (name_of r) m.1)) ws → us' ≡ untaken c (t ++ m ∷ []) → Follows c t ws us
     → Follows c (t ++ m ∷ []) ws' us'
 follows_left c t m ws ws' us us' l r unserved n left e f =
     let t' = t ++ m ∷ [] in
-    let keep : ℕ → Bool = λ x. not (ends_in (reference t x) m.1) in
-    let stays : Record → Bool = λ r. not (ends_in (name_of r.command) m.1) in
+    let keep : ℕ → Bool = λ x. not (ends_in (name t x) m.1) in
+    let stays : Record → Bool = λ r. not (ends_in (name_of r) m.1) in
     let kept = filter keep (waiting t) in
     let same : waiting t' ≡ kept = waiting_more t m
     ∙ (ap (λ b. kept ++ cond b (length t ∷ []) []) n ∙ append-nil kept) in
@@ -91,19 +99,27 @@ follows_left c t m ws ws' us us' l r unserved n left e f =
 
 -- ---- a command comes
 
-record_new : (t : Trace) (m : Moment) → held_of (t ++ m ∷ []) (length t) ≡ fresh_record (command_of (sent_bytes m.0))
+record_new : (t : Trace) (m : Moment)
+    → held_of (t ++ m ∷ []) (length t) ≡ fresh_record First (command_of (sent_bytes m.0))
 record_new t m = λ i.
     let k = command_last t m in
     let d = done_last t m in
     let g = good_last t m in
     let p = passed_last t m in
-    record { command = k i; weight = order_weight (k i).order; done = d i; good = g i; passed = p i }
+    record {
+      connection = First;
+      command = k i;
+      weight = order_weight (k i).order;
+      done = d i;
+      good = g i;
+      passed = p i;
+    }
 
 -- What is held after a command was queued: its record comes last.
 pub follows_queued : (c : Settings) (t : Trace) (m : Moment) (ws : List Record) (us us' : List End) → 1 ≤ c.longest
     → IsRight c t m.0 m.1 → IsQuiet m → queues m.1 ≡ true
     → us' ≡ untaken c (t ++ m ∷ []) → Follows c t ws us
-    → Follows c (t ++ m ∷ []) (ws ++ fresh_record (command_of (sent_bytes m.0)) ∷ []) us'
+    → Follows c (t ++ m ∷ []) (ws ++ fresh_record First (command_of (sent_bytes m.0)) ∷ []) us'
 follows_queued c t m ws us us' l r q n e f =
     let t' = t ++ m ∷ [] in
     let x = length t in
@@ -113,7 +129,7 @@ follows_queued c t m ws us us' l r q n e f =
     record {
       known = known_more c l t m r f.known;
       waits =
-          ap (λ ys. ys ++ fresh_record (command_of (sent_bytes m.0)) ∷ [])
+          ap (λ ys. ys ++ fresh_record First (command_of (sent_bytes m.0)) ∷ [])
           (f.waits ∙ sym (records_kept t t' (waiting t) k))
           ∙ (ap (λ y. map (held_of t') (waiting t) ++ y ∷ []) (sym (record_new t m))
           ∙ (sym (map-append (held_of t') (waiting t) (x ∷ [])) ∙ ap (map (held_of t')) (sym same)));

@@ -9,8 +9,7 @@ use Rattle.mscp_packet.specs.declared.end.End.{End}
 use Rattle.mscp_packet.specs.Commands.{command_of}
 use Rattle.mscp_drive.specs.Shape.{Shape}
 use Rattle.mscp_queue.specs.declared.drive.Drive.{Drive}
-use Rattle.mscp_queue.specs.Names.{name_of}
-use Rattle.mscp_queue.specs.Records.{Record, aborted_record}
+use Rattle.mscp_queue.specs.Records.{Record, aborted_record, name_of}
 use Rattle.mscp_control.specs.declared.event.SendFault.{SendFault}
 use Rattle.mscp_control.specs.declared.event.Sent.{Sent}
 use Rattle.mscp_control.specs.declared.event.Sent.TheVariants as sents
@@ -29,8 +28,10 @@ use Rattle.mscp_control.specs.Ends as history
 use Rattle.mscp_control.specs.Credits.{arrival, taken_in, taken_unless}
 use Rattle.mscp_control.specs.Legal.{IsRight}
 use Rattle.mscp_control.specs.Holdings.{Holdings, record_aborted, aborting, after_message, answer_to_message, answered_end, balance_of, with_end, figure_polled, held_unless, outstanding_of, queued, sent_unless}
+use Rattle.mscp_queue.specs.declared.name.Connection.TheVariants.{First}
+use Rattle.mscp_queue.specs.Names.{name_on}
 use Rattle.mscp_queue.specs.Drives.{drive_of}
-use Rattle.mscp_queue.specs.Figures.{figure_of_reference}
+use Rattle.mscp_queue.specs.Figures.{figure_of_name}
 use Rattle.mscp_control.proofs.Promise.Arrivals.{taken_when}
 use Rattle.mscp_control.proofs.Promise.Grows.{untaken_more}
 use Rattle.mscp_queue.proofs.Lists.{every_from, filter_all}
@@ -74,8 +75,8 @@ refusal_held h t b f = λ i. refusal (balance_held h.settings t h.waiting h.unta
 
 asked_held : (c : Settings) (t : Trace) (ws : List Record) (us : List End) (o : Order) → Follows c t ws us
     → figure_polled c ws o ≡ history.figure_asked c t o
-asked_held c t ws us (orders.Status other) f = ap (λ xs. figure_of_reference c.budget xs other) f.waits
-    ∙ figure_of_held c t other
+asked_held c t ws us (orders.Status other) f = ap (λ xs. figure_of_name c.budget xs (name_on First other)) f.waits
+    ∙ figure_of_held c t (name_on First other)
 asked_held c t ws us (orders.Abort other) f = refl
 asked_held c t ws us orders.UnitStatus f = refl
 asked_held c t ws us (orders.SetController version) f = refl
@@ -137,7 +138,7 @@ sending e s = (e, entries.Sent s)
 
 -- A moment that serves nobody and queues nobody: those that it doesn't end wait on.
 leaves : {K : Type 0} (h h' : Holdings K) (t : Trace) (m : Moment) → 1 ≤ h.settings.longest → service_in m.1 ≡ None
-    → queues m.1 ≡ false → h'.waiting ≡ filter (λ r. not (ends_in (name_of r.command) m.1)) h.waiting
+    → queues m.1 ≡ false → h'.waiting ≡ filter (λ r. not (ends_in (name_of r) m.1)) h.waiting
     → h'.drives ≡ h.drives → h'.untaken ≡ untaken h.settings (t ++ m ∷ []) → Agrees h.settings t h
     → IsRight h.settings t m.0 m.1 → Sends h.settings t m h'
 leaves h h' t m l unserved n left stay e a r =
@@ -155,9 +156,9 @@ pub quiet : {K : Type 0} (h h' : Holdings K) (t : Trace) (m : Moment) → 1 ≤ 
     → queues m.1 ≡ false → h'.waiting ≡ h.waiting → h'.drives ≡ h.drives → h'.untaken ≡ untaken h.settings (t ++ m ∷ [])
     → Agrees h.settings t h → IsRight h.settings t m.0 m.1 → Sends h.settings t m h'
 quiet h h' t m l q n same stay e a r =
-    let stays : Record → Bool = λ r. not (ends_in (name_of r.command) m.1) in
+    let stays : Record → Bool = λ r. not (ends_in (name_of r) m.1) in
     leaves h h' t m l q.unserved n (same ∙ sym (filter_all stays h.waiting
-    (every_from (λ r. stays r ≡ true) (λ r. ap not (q.kept (name_of r.command))) h.waiting))) stay e a r
+    (every_from (λ r. stays r ≡ true) (λ r. ap not (q.kept (name_of r))) h.waiting))) stay e a r
 
 -- The ends where a moment takes none.
 pub ends_on : {K : Type 0} (h : Holdings K) (t : Trace) (m : Moment) → takes m.1 ≡ false → Agrees h.settings t h

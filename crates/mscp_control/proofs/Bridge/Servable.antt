@@ -2,23 +2,23 @@
 use Rattle.std.proofs.Common.{◌≡◌, ℕ, ◌+◌, ◌<◌, Bool, true, false, ◌&&◌, ◌||◌, List, [], ◌∷◌, map, take, drop, get_or, length, refl, ap, sym, ◌∙◌, subst, arith}
 use Rattle.std.specs.Prelude.{All, nat_eq, Option, Some, None, is_some}
 use Rattle.std.specs.List.{AllByRecursion, list_all}
-use Rattle.std.proofs.lemmas.Bool.{eq-eqb, eqb-false, eqb-true, lt-ltb}
+use Rattle.std.proofs.lemmas.Bool.{eq-eqb, eqb-false, lt-ltb}
 use Rattle.std.proofs.lemmas.List.{get_or-map, length-map}
 use Rattle.std.proofs.lemmas.List.Elements.{recursion_from_All}
 use Rattle.mscp_queue.specs.declared.drive.Drive.{Drive}
 use Rattle.mscp_queue.specs.declared.view.Choice.{Choice}
 use Rattle.mscp_queue.specs.Drives.{drive_of}
-use Rattle.mscp_queue.specs.Names.{Name}
-use Rattle.mscp_queue.specs.Records.{Record, record_at}
+use Rattle.mscp_queue.specs.declared.name.Name.{Name}
+use Rattle.mscp_queue.specs.Records.{Record, name_of, record_at}
 use Rattle.mscp_queue.specs.Records as recorded
 use Rattle.mscp_queue.specs.Serving.{IsNext}
 use Rattle.mscp_queue.specs.Views.{open_places}
 use Rattle.mscp_control.specs.Settings.{Settings, unit_found}
 use Rattle.mscp_control.specs.History.{Trace}
-use Rattle.mscp_control.specs.Commands.{reference, unit, is_idle, is_waiting, waiting, done, in_service}
+use Rattle.mscp_control.specs.Commands.{name, unit, is_idle, is_waiting, waiting, done, in_service}
 use Rattle.mscp_control.specs.Passing.{is_startable, startable}
-use Rattle.mscp_control.specs.Passing as passings
 use Rattle.mscp_control.specs.Legal.{view}
+use Rattle.mscp_queue.proofs.Named.{same_is}
 use Rattle.mscp_queue.proofs.Lists.{every_mapped, every_weaker, every_parts}
 use Rattle.mscp_control.proofs.Promise.Waits.{waiting_waits}
 use Rattle.mscp_control.proofs.Bridge.Held.{held_of}
@@ -49,7 +49,7 @@ pub record Next (c : Settings) (t : Trace) (place : ℕ) : Type 0 where
 -- and that it was begun, or where nothing was, that it is picked
 pub record Chosen (c : Settings) (picks : List Choice → ℕ → Type 0) (t : Trace) (begun : Option Name) (place : ℕ) :
     Type 0 where
-  pub same : (n : Name) → begun ≡ Some n → reference t (waiting_at t place) ≡ n
+  pub same : (n : Name) → begun ≡ Some n → name t (waiting_at t place) ≡ n
   pub picked : begun ≡ None → nat_eq (done t (waiting_at t place)) 0 ≡ true
       → (i : ℕ) × (i < length (startable c t)) × (get_or (startable c t) i 0 ≡ waiting_at t place) × picks (view c t) i
 
@@ -76,8 +76,8 @@ next_held c picks t ds begun place d n =
     ] in
     let next : Next c t place = record { inside = inside; next = both (nat_eq (done t y) 0) refl } in
     let chosen : Chosen c picks t begun place = record {
-      same = λ k e. ap (λ (r : Record). r.command.reference) (sym (record_held t place inside))
-          ∙ eqb-true (record_at rs place).command.reference k (n.same k e);
+      same = λ k e. ap name_of (sym (record_held t place inside))
+          ∙ same_is (name_of (record_at rs place)) k (n.same k e);
       picked = λ b e.
           let idle = idle_held t (n.servable.idle (same ∙ e)) in
           let p = n.picked b (same ∙ e) in

@@ -16,7 +16,8 @@ use Rattle.mscp_queue.specs.declared.report.Report.TheVariants as reports
 use Rattle.mscp_queue.specs.declared.view.Choice.{Choice}
 use Rattle.mscp_queue.specs.Drives.{drive_of, replaced}
 use Rattle.mscp_queue.specs.Lines.{Line, ServesAt}
-use Rattle.mscp_queue.specs.Names.{Name}
+use Rattle.mscp_queue.specs.declared.name.Name.{Name}
+use Rattle.mscp_queue.specs.Names.{same_name}
 use Rattle.mscp_queue.specs.Orders.{order_weight}
 use Rattle.mscp_queue.specs.Outcomes.{goes_on, is_good_block, touches}
 use Rattle.mscp_queue.specs.Records.{Record, advanced, step_toll, passed_by, record_at, remains}
@@ -26,7 +27,7 @@ use Rattle.mscp_control.specs.declared.event.Event.TheVariants as events
 use Rattle.mscp_control.specs.declared.event.Entry.TheVariants as entries
 use Rattle.mscp_control.specs.Settings.{Settings, IsValid}
 use Rattle.mscp_control.specs.History.{Trace, Moment, is_good, service_in, WhenStarted}
-use Rattle.mscp_control.specs.Commands.{reference, service_name, unit, order, is_waiting, waiting, weight, done, good, left, serves_in}
+use Rattle.mscp_control.specs.Commands.{connection, name, reference, service_name, unit, order, is_waiting, waiting, weight, done, good, left, serves_in}
 use Rattle.mscp_control.specs.Passing.{passed}
 use Rattle.mscp_control.specs.Passing as passings
 use Rattle.mscp_control.specs.Units.{is_online}
@@ -34,6 +35,7 @@ use Rattle.mscp_control.specs.Ends.{outcome}
 use Rattle.mscp_control.specs.Account.{untaken}
 use Rattle.mscp_control.specs.Legal.{IsPick, IsRight, block_of, end_of, IsServed, seek_to}
 use Rattle.mscp_control.specs.Holdings.{Holdings, ends_reported, line_of}
+use Rattle.mscp_queue.proofs.Named.{is_same}
 use Rattle.mscp_queue.proofs.Lists.{every_mapped, every_weaker, every_both, every_from, every_parts}
 use Rattle.mscp_control.proofs.Promise.Grows.{command_before, done_before, good_before, untaken_more}
 use Rattle.mscp_control.proofs.Promise.Waits.{cut_of, waiting_below, waiting_waits}
@@ -57,7 +59,7 @@ use Rattle.mscp_control.proofs.Bridge.Servable.{Next, next_held, reads, waits_at
 abbrev pub serving : Settings → Trace → Block → ℕ → Moment
 serving c t k y = (
   events.Step k,
-  entries.Stepped (reports.Served (reference t y) (unit t y) (block_of t y) (nat_eq (done t y) 0)
+  entries.Stepped (reports.Served (connection t y) (reference t y) (unit t y) (block_of t y) (nat_eq (done t y) 0)
       (seek_to c t (unit t y) (block_of t y)) (end_of c t k y)),
 )
 
@@ -65,7 +67,7 @@ serving c t k y = (
 report_held : (c : Settings) (t : Trace) (k : Block) (y : ℕ)
     → entries.Stepped (report_of k (drive_by c t (unit t y)) (held_of t y)) ≡ (serving c t k y).1
 unfolding block_of
-report_held c t k y = λ i. entries.Stepped (reports.Served (reference t y) (unit t y) (block_of t y)
+report_held c t k y = λ i. entries.Stepped (reports.Served (connection t y) (reference t y) (unit t y) (block_of t y)
     (nat_eq (done t y) 0) (seek_held c t (unit t y) (block_of t y) i) (end_held c t k y i))
 
 -- the command at a place waits
@@ -79,6 +81,7 @@ served_at c t k place n =
       started = refl;
       seek = refl;
       ended = refl;
+      connection = refl;
       reference = refl;
       unit = refl;
     }
@@ -114,7 +117,7 @@ good_same : (t : Trace) (m : Moment) (x : ℕ) → x < length t → done (t ++ m
     → good (t ++ m ∷ []) x ≡ good t x
 unfolding one_if
 good_same t m x l d =
-    good_before t m x l ∙ (ap (λ n. good t x + n) (unserved (serves_in (reference t x) m.1) (is_good m.0) (done t x)
+    good_before t m x l ∙ (ap (λ n. good t x + n) (unserved (serves_in (name t x) m.1) (is_good m.0) (done t x)
     (sym (done_before t m x l) ∙ d)) ∙ omega arith)
 
 -- the commands behind it keep their records
@@ -140,7 +143,14 @@ held_passed : (t : Trace) (m : Moment) (x n : ℕ) → x < length t → done (t 
     → held_of (t ++ m ∷ []) x ≡ passed_by n (held_of t x)
 held_passed t m x n l d g p = λ i.
     let k = command_before t m x l in
-    record { command = k i; weight = order_weight (k i).order; done = d i; good = g i; passed = p i }
+    record {
+      connection = connection t x;
+      command = k i;
+      weight = order_weight (k i).order;
+      done = d i;
+      good = g i;
+      passed = p i;
+    }
 
 cost_held : (t : Trace) (y : ℕ) (b : Bool) → nat_eq (done t y) 0 ≡ b
     → step_toll (held_of t y) ≡ cond b (weight t y) 0
@@ -164,7 +174,7 @@ front_tolled c t k y A B st idle =
           (every_both (λ x. x < y) (λ x. passings.is_unstarted t x ≡ true) A at.before (idle e)))
       | false ↦ λ e. subst (λ n. AllByRecursion (Q n) A) (sym (cost_held t y false e))
           (every_from (Q 0) (λ x. none_starts t m x
-          (λ r. ap (λ b. nat_eq (reference t y) r && b) e ∙ and-false (nat_eq (reference t y) r)) ∙ omega arith) A)
+          (λ r. ap (λ b. same_name (name t y) r && b) e ∙ and-false (same_name (name t y) r)) ∙ omega arith) A)
     ] in
     both (nat_eq (done t y) 0) refl
 
@@ -212,7 +222,7 @@ good_own : (c : Settings) (t : Trace) (k : Block) (y : ℕ) → y < length t →
     → good (t ++ serving c t k y ∷ []) y ≡ good t y + 1
 good_own c t k y l e =
     good_before t (serving c t k y) y l
-    ∙ (ap (λ b. good t y + cond (b && is_good (events.Step k)) 1 0) (eq-eqb (reference t y) (reference t y) refl)
+    ∙ (ap (λ b. good t y + cond (b && is_good (events.Step k)) 1 0) (is_same (name t y) (name t y) refl)
     ∙ ap (λ b. good t y + cond b 1 0) (goes_on_good c t k y e))
 
 held_own : (c : Settings) (t : Trace) (k : Block) (y : ℕ) (A B : List ℕ)
@@ -225,7 +235,14 @@ held_own c t k y A B st e =
     let d = st.changes.own_done in
     let g = good_own c t k y l e in
     let p = passed_behind c t m (service_by c t k y) k y A B st y (omega arith) in
-    λ i. record { command = q i; weight = order_weight (q i).order; done = d i; good = g i; passed = p i }
+    λ i. record {
+      connection = connection t y;
+      command = q i;
+      weight = order_weight (q i).order;
+      done = d i;
+      good = g i;
+      passed = p i;
+    }
 
 own_remains : (c : Settings) (t : Trace) (k : Block) (y : ℕ) (A B : List ℕ)
     → Step c t (serving c t k y) (service_by c t k y) k y A B → (o : Option End) → end_of c t k y ≡ o
@@ -357,6 +374,6 @@ turns_at {K} picks h h' t k report place v a s u =
         };
       };
       same = both.1.same;
-      picked = λ b e. let p = both.1.picked b e in (p.0, p.1, ap (reference t) p.2, p.3);
+      picked = λ b e. let p = both.1.picked b e in (p.0, p.1, ap (name t) p.2, p.3);
     } in
     subst (λ q. Turns c picks t (events.Step k, q) h.begun h') (sym entry) all

@@ -8,7 +8,7 @@ use Rattle.std.proofs.lemmas.List.{drop_more, get_or-map, length-map, take-appen
 use Rattle.std.proofs.lemmas.List.Elements.{recursion_from_All}
 use Rattle.std.proofs.lemmas.List.Folds.{list_all-append}
 use Rattle.mscp_queue.specs.declared.view.Choice.{Choice}
-use Rattle.mscp_queue.specs.Names.{Name}
+use Rattle.mscp_queue.specs.declared.name.Name.{Name}
 use Rattle.mscp_queue.specs.Pickers.{IsFirstLeast}
 use Rattle.mscp_queue.specs.Pairs.{Pairs}
 use Rattle.mscp_queue.proofs.Lists.{every_append, every_both, every_mapped, every_parts, every_weaker, pairs_filter, pairs_middle}

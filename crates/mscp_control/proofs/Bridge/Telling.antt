@@ -4,17 +4,17 @@ use Rattle.std.specs.Prelude.{IfSome, if◌then◌else◌, nat_eq, Option, Some,
 use Rattle.mscp_queue.specs.declared.upcoming.Upcoming.{Upcoming}
 use Rattle.mscp_queue.specs.declared.view.Choice.{Choice}
 use Rattle.mscp_queue.specs.Lines.{BeginsAt, Line}
-use Rattle.mscp_queue.specs.Names.{Name, name_of}
-use Rattle.mscp_queue.specs.Records.{Record}
+use Rattle.mscp_queue.specs.declared.name.Name.{Name}
+use Rattle.mscp_queue.specs.Records.{Record, name_of}
 use Rattle.mscp_queue.specs.Serving.{IsNext, upcoming_of}
 use Rattle.mscp_control.specs.Settings.{Settings}
 use Rattle.mscp_control.specs.History.{Trace}
-use Rattle.mscp_control.specs.Commands.{is_waiting, reference, unit, waiting}
+use Rattle.mscp_control.specs.Commands.{is_waiting, name, unit, waiting}
 use Rattle.mscp_control.specs.Legal.{IsLegal, IsPick, block_of}
 use Rattle.mscp_control.specs.Holdings.{Foretells, Holdings, line_of}
-use Rattle.mscp_control.specs.Calls.{Begin, Call, HoldsToBegun, IsChosen, NothingBegun, foretold, history}
+use Rattle.mscp_control.specs.Calls.{Begin, Call, HoldsToBegun, IsChosen, NothingBegun, foretold, history, upcoming_name}
 use Rattle.mscp_control.proofs.Promise.Among.{one_waits}
-use Rattle.mscp_control.proofs.Bridge.Begun.{Held, Turned, Holds, begin_same, holds_again, holds_new, nothing_told, reference_of}
+use Rattle.mscp_control.proofs.Bridge.Begun.{Held, Turned, Holds, begin_same, holds_again, holds_new, nothing_told, name_begun}
 use Rattle.mscp_control.proofs.Bridge.Drives.{Driven, drive_by}
 use Rattle.mscp_control.proofs.Bridge.Following.{none_mapped}
 use Rattle.mscp_control.proofs.Bridge.Held.{held_of}
@@ -45,9 +45,9 @@ record Tells {K : Type 0} (c : Settings) (picks : List Choice → ℕ → Type 0
     (h h' : Holdings K) (y : ℕ) : Type 0 where
   pub waits : is_waiting (history calls) y ≡ true
   pub own : up ≡ foretold (history calls) y
-  pub same : (n : Name) → h.begun ≡ Some n → reference (history calls) y ≡ n
-  pub picked : h.begun ≡ None → nat_eq up.done 0 ≡ true → IsPick c picks (history calls) (name_of up.command)
-  pub kept : h'.begun ≡ Some (name_of up.command)
+  pub same : (n : Name) → h.begun ≡ Some n → name (history calls) y ≡ n
+  pub picked : h.begun ≡ None → nat_eq up.done 0 ≡ true → IsPick c picks (history calls) (upcoming_name up)
+  pub kept : h'.begun ≡ Some (upcoming_name up)
 
 -- it is what was begun, if something was
 tells_again : {K : Type 0} (c : Settings) (picks : List Choice → ℕ → Type 0) (calls : List Call) (up : Upcoming)
@@ -57,7 +57,7 @@ tells_again : {K : Type 0} (c : Settings) (picks : List Choice → ℕ → Type 
 tells_again c picks calls up h h' y n a e b k =
     let t = history calls in
     let one : y ≡ b.1 = one_waits t y b.1 a.follows.known.steady.apart k.waits b.3.is.waits
-    (k.same n e ∙ sym (reference_of b.3)) in
+    (k.same n e ∙ sym (name_begun b.3)) in
     k.own ∙ (ap (foretold t) one ∙ sym b.3.now)
 
 tells_begun : {K : Type 0} (c : Settings) (picks : List Choice → ℕ → Type 0) (calls : List Call) (up : Upcoming)
@@ -71,12 +71,12 @@ tells_begun c picks calls up h h' y (Some n) a b k up' y' j' is =
 tells_chosen : {K : Type 0} (c : Settings) (picks : List Choice → ℕ → Type 0) (calls : List Call) (up : Upcoming)
     (h h' : Holdings K) (y : ℕ) (o : Option Name) → Agrees c (history calls) h → Held c picks calls h o
     → Tells c picks calls up h h' y
-    → nat_eq up.done 0 ≡ true → IsChosen (IsPick c picks) calls (name_of up.command)
+    → nat_eq up.done 0 ≡ true → IsChosen (IsPick c picks) calls (upcoming_name up)
 tells_chosen c picks calls up h h' y None a b k e = inl (b.1, k.picked b.0 e)
 tells_chosen c picks calls up h h' y (Some n) a b k e =
     let again = tells_again c picks calls up h h' y n a b.0 b.1 k in
     let own = b.1.3 in
-    let name : name_of up.command ≡ n = ap (λ (u : Upcoming). u.command.reference) again ∙ own.own in
+    let name : upcoming_name up ≡ n = ap upcoming_name again ∙ own.own in
     inr (
       b.1.0,
       b.1.1,
@@ -90,13 +90,13 @@ tells_chosen c picks calls up h h' y (Some n) a b k e =
 tells_holds : {K : Type 0} (c : Settings) (picks : List Choice → ℕ → Type 0) (calls : List Call) (up : Upcoming)
     (h h' : Holdings K) (y : ℕ) (o : Option Name) → Agrees c (history calls) h → Held c picks calls h o
     → Tells c picks calls up h h' y
-    → Holds c picks (calls ++ Begin (Some up) ∷ []) (Some (name_of up.command))
-tells_holds c picks calls up h h' y None a b k = holds_new c picks calls (name_of up.command) up y
+    → Holds c picks (calls ++ Begin (Some up) ∷ []) (Some (upcoming_name up))
+tells_holds c picks calls up h h' y None a b k = holds_new c picks calls (upcoming_name up) up y
     a.follows.known.steady.apart b.1 k.waits k.own refl (k.picked b.0)
 tells_holds c picks calls up h h' y (Some n) a b k =
     let again = tells_again c picks calls up h h' y n a b.0 b.1 k in
-    let name : n ≡ name_of up.command = sym b.1.3.own ∙ ap (λ (u : Upcoming). u.command.reference) (sym again) in
-    subst (λ u. Holds c picks (calls ++ Begin (Some u) ∷ []) (Some (name_of up.command))) (sym again)
+    let name : n ≡ upcoming_name up = sym b.1.3.own ∙ ap upcoming_name (sym again) in
+    subst (λ u. Holds c picks (calls ++ Begin (Some u) ∷ []) (Some (upcoming_name up))) (sym again)
     (subst (λ k. Holds c picks (calls ++ Begin (Some b.1.0) ∷ []) (Some k)) name
     (holds_again c picks calls n b.1.0 b.1.1 b.1.2 a.follows.known.steady.apart b.1.3))
 
@@ -114,21 +114,21 @@ begin_at {K} picks calls up h h' place a legal b s u =
     let inside = both.0.inside in
     let read = reads c t h.drives h.waiting place a.driven a.follows.waits inside in
     let own : up ≡ foretold t y = s.told ∙ ((λ i. upcoming_of (read.at i) (read.own i)) ∙ told_held c t y) in
-    let kept : h'.begun ≡ Some (reference t y) = ap (λ (l : Line K). l.begun) s.left
-    ∙ ap (λ (r : Record). Some r.command.reference) read.own in
+    let kept : h'.begun ≡ Some (name t y) = ap (λ (l : Line K). l.begun) s.left
+    ∙ ap (λ (r : Record). Some (name_of r)) read.own in
     let tells : Tells c picks calls up h h' y = record {
       waits = waits_at t place inside;
       own = own;
       same = both.1.same;
       picked = λ n e.
           let p = both.1.picked n (ap (λ (q : Upcoming). nat_eq q.done 0) (sym own) ∙ e) in
-          (p.0, p.1, ap (reference t) p.2 ∙ ap (λ (q : Upcoming). q.command.reference) (sym own), p.3);
-      kept = kept ∙ ap (λ (q : Upcoming). Some q.command.reference) (sym own);
+          (p.0, p.1, ap (name t) p.2 ∙ ap upcoming_name (sym own), p.3);
+      kept = kept ∙ ap (λ (q : Upcoming). Some (upcoming_name q)) (sym own);
     } in
     let same = begin_same calls (Some up) in
     let chosen : (q : Bool) → nat_eq up.done 0 ≡ q
-    → IfSome (if q then Some (name_of up.command) else None) (IsChosen (IsPick c picks) calls) =
-    λ q. elim q as (λ q. nat_eq up.done 0 ≡ q → IfSome (if q then Some (name_of up.command) else None)
+    → IfSome (if q then Some (upcoming_name up) else None) (IsChosen (IsPick c picks) calls) =
+    λ q. elim q as (λ q. nat_eq up.done 0 ≡ q → IfSome (if q then Some (upcoming_name up) else None)
     (IsChosen (IsPick c picks) calls)) [
       | true ↦ λ e.
           tells_chosen c picks calls up h h' y h.begun a (refl, b) tells e

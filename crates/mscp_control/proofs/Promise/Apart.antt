@@ -1,4 +1,4 @@
--- The commands that wait have different references.
+-- The commands that wait have different names.
 use Rattle.std.proofs.Common.{◌≡◌, ◌≢◌, ℕ, ◌<◌, Bool, true, false, cond, not, List, [], ◌∷◌, ◌++◌, map, length, refl, ap, sym, ◌∙◌, subst, append-nil}
 use Rattle.std.specs.Prelude.{nat_eq, filter}
 use Rattle.std.specs.List.{AllByRecursion}
@@ -9,31 +9,34 @@ use Rattle.mscp_control.specs.Settings.{Settings}
 use Rattle.mscp_packet.specs.Commands.{command_of}
 use Rattle.mscp_control.specs.Arrival.{holds}
 use Rattle.mscp_control.specs.History.{Trace, Moment, queues, sent_bytes}
-use Rattle.mscp_control.specs.Commands.{reference, waiting, ends_in}
+use Rattle.mscp_control.specs.Commands.{name, reference, waiting, ends_in}
 use Rattle.mscp_control.specs.Account.{untaken, outstanding}
 use Rattle.mscp_control.specs.Legal.{IsRight}
+use Rattle.mscp_queue.specs.declared.name.Connection.TheVariants.{First}
+use Rattle.mscp_queue.specs.declared.name.Name.{Name}
+use Rattle.mscp_queue.specs.Names.{name_on}
 use Rattle.mscp_queue.specs.Pairs.{Pairs}
-use Rattle.mscp_queue.proofs.Lists.{every_kept, pairs_filter, pairs_append}
-use Rattle.mscp_control.proofs.Promise.Grows.{command_before, command_last, waiting_more}
+use Rattle.mscp_queue.proofs.Lists.{every_kept, every_weaker, pairs_filter, pairs_append}
+use Rattle.mscp_control.proofs.Promise.Grows.{command_last, name_before, waiting_more}
 use Rattle.mscp_control.proofs.Promise.Waits.{waiting_below}
 use Rattle.mscp_control.proofs.Promise.Arrivals.{queued_right}
 
 abbrev pub Apart : Trace → List ℕ → Type 0
-Apart t xs = Pairs (λ x y. reference t x ≢ reference t y) xs
+Apart t xs = Pairs (λ x y. name t x ≢ name t y) xs
 
-pub reference_before : (t : Trace) (m : Moment) (x : ℕ) → x < length t → reference (t ++ m ∷ []) x ≡ reference t x
-reference_before t m x h = ap (λ (k : Command). k.reference) (command_before t m x h)
+-- the name of what a moment queues
+abbrev pub queued_name : Moment → Name
+queued_name m = name_on First (command_of (sent_bytes m.0)).reference
 
-pub reference_last : (t : Trace) (m : Moment) → reference (t ++ m ∷ []) (length t)
-    ≡ (command_of (sent_bytes m.0)).reference
-reference_last t m = ap (λ (k : Command). k.reference) (command_last t m)
+pub name_last : (t : Trace) (m : Moment) → name (t ++ m ∷ []) (length t) ≡ queued_name m
+name_last t m = ap (λ (k : Command). name_on First k.reference) (command_last t m)
 
 apart_from : (t : Trace) (m : Moment) (x : ℕ) (xs : List ℕ) → x < length t → AllByRecursion (λ y. y < length t) xs
-    → AllByRecursion (λ y. reference t x ≢ reference t y) xs
-    → AllByRecursion (λ y. reference (t ++ m ∷ []) x ≢ reference (t ++ m ∷ []) y) xs
+    → AllByRecursion (λ y. name t x ≢ name t y) xs
+    → AllByRecursion (λ y. name (t ++ m ∷ []) x ≢ name (t ++ m ∷ []) y) xs
 apart_from t m x [] l h a = tt
 apart_from t m x (y ∷ ys) l h a = (
-  (λ e. a.0 (sym (reference_before t m x l) ∙ (e ∙ reference_before t m y h.0))),
+  (λ e. a.0 (sym (name_before t m x l) ∙ (e ∙ name_before t m y h.0))),
   apart_from t m x ys l h.1 a.1,
 )
 
@@ -48,35 +51,39 @@ not_held f (x ∷ xs) us q h = let p = or_parts (nat_eq (f x) q) (holds (map f x
     (eqb-false (f x) q p.0, not_held f xs us q p.1)
 
 new_apart : (t : Trace) (m : Moment) (xs : List ℕ) → AllByRecursion (λ x. x < length t) xs
-    → AllByRecursion (λ x. reference t x ≢ (command_of (sent_bytes m.0)).reference) xs
-    → AllByRecursion (λ x. reference (t ++ m ∷ []) x ≢ reference (t ++ m ∷ []) (length t)) xs
+    → AllByRecursion (λ x. name t x ≢ queued_name m) xs
+    → AllByRecursion (λ x. name (t ++ m ∷ []) x ≢ name (t ++ m ∷ []) (length t)) xs
 new_apart t m [] h a = tt
 new_apart t m (x ∷ xs) h a = (
-  (λ e. a.0 (sym (reference_before t m x h.0) ∙ (e ∙ reference_last t m))),
+  (λ e. a.0 (sym (name_before t m x h.0) ∙ (e ∙ name_last t m))),
   new_apart t m xs
       h.1 a.1,
 )
 
--- a queued command has a new reference
-pub new_reference : (c : Settings) (t : Trace) (m : Moment) → IsRight c t m.0 m.1 → queues m.1 ≡ true
-    → AllByRecursion (λ x. reference t x ≢ (command_of (sent_bytes m.0)).reference) (waiting t)
+-- a queued command has a new name
+pub new_name : (c : Settings) (t : Trace) (m : Moment) → IsRight c t m.0 m.1 → queues m.1 ≡ true
+    → AllByRecursion (λ x. name t x ≢ queued_name m) (waiting t)
 unfolding outstanding command_of
-new_reference c t m r q = not_held (reference t) (waiting t) (map (λ (e : End). e.reference) (untaken c t))
-    (command_of (sent_bytes m.0)).reference (queued_right c t m.0 m.1 q r).taken.new
+new_name c t m r q =
+    let new = (command_of (sent_bytes m.0)).reference in
+    every_weaker (λ x. reference t x ≢ new) (λ x. name t x ≢ queued_name m)
+    (λ x n e. n (ap (λ (k : Name). k.reference) e)) (waiting t)
+    (not_held (reference t) (waiting t) (map (λ (e : End). e.reference) (untaken c t)) new
+    (queued_right c t m.0 m.1 q r).taken.new)
 
--- A legal moment keeps the references apart.
+-- A legal moment keeps the names apart.
 pub apart_more : (c : Settings) (t : Trace) (m : Moment) → IsRight c t m.0 m.1 → Apart t (waiting t)
     → Apart (t ++ m ∷ []) (waiting (t ++ m ∷ []))
 apart_more c t m r a =
-    let keep : ℕ → Bool = λ x. not (ends_in (reference t x) m.1) in
+    let keep : ℕ → Bool = λ x. not (ends_in (name t x) m.1) in
     let kept = filter keep (waiting t) in
     let below = every_kept (λ x. x < length t) keep (waiting t) (waiting_below t) in
-    let old = apart_along t m kept below (pairs_filter (λ x y. reference t x ≢ reference t y) keep (waiting t) a) in
+    let old = apart_along t m kept below (pairs_filter (λ x y. name t x ≢ name t y) keep (waiting t) a) in
     let both : (b : Bool) → queues m.1 ≡ b → Apart (t ++ m ∷ []) (kept ++ cond b (length t ∷ []) []) =
     λ b. elim b as (λ b. queues m.1 ≡ b → Apart (t ++ m ∷ []) (kept ++ cond b (length t ∷ []) [])) [
-      | true ↦ λ e. pairs_append (λ x y. reference (t ++ m ∷ []) x ≢ reference (t ++ m ∷ []) y) kept (length t) old
-          (new_apart t m kept below (every_kept (λ x. reference t x ≢ (command_of (sent_bytes m.0)).reference) keep
-          (waiting t) (new_reference c t m r e)))
+      | true ↦ λ e. pairs_append (λ x y. name (t ++ m ∷ []) x ≢ name (t ++ m ∷ []) y) kept (length t) old
+          (new_apart t m kept below (every_kept (λ x. name t x ≢ queued_name m) keep
+          (waiting t) (new_name c t m r e)))
       | false ↦ λ e. subst (λ l. Apart (t ++ m ∷ []) l) (sym (append-nil kept)) old
     ] in
     subst (λ l. Apart (t ++ m ∷ []) l) (sym (waiting_more t m)) (both (queues m.1) refl)

@@ -15,7 +15,6 @@ use Rattle.mscp_control.specs.Legal.{IsRight}
 use Rattle.mscp_control.proofs.Promise.Grows.{done_last}
 use Rattle.mscp_control.proofs.Promise.Served.{step_right}
 use Rattle.mscp_control.proofs.Promise.Steady.{Steady}
-use Rattle.mscp_control.proofs.Promise.Queued.{Short}
 use Rattle.mscp_control.proofs.Promise.Falls.{step_falls}
 use Rattle.mscp_control.proofs.Promise.Stays.{never_rises}
 use Rattle.mscp_control.proofs.Promise.Fitted.{fit_of, leaves_of}
@@ -31,7 +30,8 @@ nobody t x e h = let l = ap length e in let k = h.1 in omega (arith, l, k)
 idle_right : (c : Settings) (t : Trace) (event : Event) (entry : Entry) → is_step event ≡ true → service_in entry ≡ None
     → IsRight c t event entry → waiting t ≡ []
 idle_right c t (events.Step k) (entries.Stepped reports.Idle) s e r = r
-idle_right c t (events.Step k) (entries.Stepped (reports.Served a b d f g h)) s e r = absurd (true≢false (ap is_some e))
+idle_right c t (events.Step k) (entries.Stepped (reports.Served n a b d f g h)) s e r =
+    absurd (true≢false (ap is_some e))
 idle_right c t (events.Step k) (entries.Sent sent) s e r = absurd r
 idle_right c t (events.Step k) (entries.Taken taken) s e r = absurd r
 idle_right c t (events.Step k) (entries.Looked list) s e r = absurd r

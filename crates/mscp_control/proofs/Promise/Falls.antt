@@ -1,5 +1,5 @@
 -- The figures of the waiting commands fall at each step of a legal run.
-use Rattle.std.proofs.Common.{◌≡◌, ◌≢◌, ℕ, ◌+◌, ◌-◌, ◌*◌, ◌<◌, ◌≤◌, Bool, true, false, cond, not, List, [], ◌∷◌, ◌++◌, length, refl, ap, sym, ◌∙◌, subst, arith}
+use Rattle.std.proofs.Common.{◌≡◌, ◌≢◌, ℕ, ◌+◌, ◌-◌, ◌<◌, ◌≤◌, Bool, true, false, cond, not, List, [], ◌∷◌, ◌++◌, length, refl, ap, sym, ◌∙◌, subst, arith}
 use Rattle.std.specs.Prelude.{filter, sum_by, nat_eq, Contains, Some, is_some}
 use Rattle.std.specs.List.{AllByRecursion}
 use Rattle.std.proofs.lemmas.List.{append_assoc}
@@ -8,7 +8,7 @@ use Rattle.std.proofs.lemmas.List.Sums.{sum_by-append, sum_by-cons}
 use Rattle.std.proofs.lemmas.Bool.{lt-ltb, le-ltb, and_right, eqb-true, eqb-false}
 use Rattle.mscp_control.specs.Settings.{Settings}
 use Rattle.mscp_control.specs.History.{Trace, Moment, Service, service_in}
-use Rattle.mscp_control.specs.Commands.{reference, weight, is_waiting, waiting, done, left, in_service, earlier, later, ends_in}
+use Rattle.mscp_control.specs.Commands.{name, weight, is_waiting, waiting, done, left, in_service, earlier, later, ends_in, service_name}
 use Rattle.mscp_control.specs.Passing.{toll, passed}
 use Rattle.mscp_control.specs.Figures.{figure}
 use Rattle.mscp_queue.proofs.Lists.{every_weaker, every_append, every_parts, filter_none, sum_on}
@@ -72,7 +72,7 @@ pub record Fit (c : Settings) (t : Trace) (m : Moment) (s : Service) (front : Li
   pub after : waiting (t ++ m ∷ []) ≡ front ++ (cond (is_some s.ended) [] (y ∷ []) ++ back)
   pub marks : Marks t (t ++ m ∷ []) s front y back
   pub serves : service_in m.1 ≡ Some s
-  pub same : s.reference ≡ reference t y
+  pub same : service_name s ≡ name t y
   pub started : s.started ≡ nat_eq (done t y) 0
   pub more : is_some s.ended ≡ false → 1 < left t y
   pub unfinished : done t y < weight t y
@@ -251,7 +251,7 @@ falls_own c t m s front y back f true is =
     let below = (every_parts (λ z. z < length t) front (y ∷ back)
     (subst (λ l. AllByRecursion (λ z. z < length t) l) f.is (waiting_below t))).1.0 in
     let gone : is_waiting (t ++ m ∷ []) y ≡ false =
-    is_waiting_before t m y below ∙ and_right (is_waiting t y) (not (ends_in (reference t y) m.1))
+    is_waiting_before t m y below ∙ and_right (is_waiting t y) (not (ends_in (name t y) m.1))
     (kept_own t m s y f.serves f.same ∙ ap not is) in
     let zero = figure_gone c (t ++ m ∷ []) y gone in
     let low = figure_left c t front y back f.is in

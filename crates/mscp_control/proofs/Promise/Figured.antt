@@ -6,8 +6,9 @@ use Rattle.std.proofs.lemmas.Bool.{lt-ltb, eq-eqb, and_right}
 use Rattle.mscp_queue.specs.declared.block.Block.{Block}
 use Rattle.mscp_control.specs.Settings.{Settings}
 use Rattle.mscp_control.specs.History.{Trace, Moment, Service}
-use Rattle.mscp_control.specs.Commands.{weight, is_waiting, done, service_starts}
+use Rattle.mscp_control.specs.Commands.{weight, is_waiting, done, service_name, service_starts}
 use Rattle.mscp_control.specs.Passing.{toll, passed}
+use Rattle.mscp_queue.specs.Names.{same_name}
 use Rattle.mscp_queue.proofs.Lists.{every_weaker, every_both, every_parts}
 use Rattle.mscp_control.proofs.Promise.Waits.{waiting_waits}
 use Rattle.mscp_control.proofs.Promise.Served.{Step, below_parts}
@@ -61,7 +62,7 @@ front_passed c t m s k y front back st x l w d h =
           (ap (λ b. b && is_waiting t x && nat_eq (done t x) 0) (lt-ltb x (length t) l)
           ∙ (ap (λ b. b && nat_eq (done t x) 0) w ∙ eq-eqb (done t x) 0 d))
       | false ↦ λ e. none_starts t m x (λ r. ap (service_starts r) st.serves.is
-          ∙ and_right (nat_eq s.reference r) s.started e) ∙ omega arith
+          ∙ and_right (same_name (service_name s) r) s.started e) ∙ omega arith
     ] in
     both s.started refl
 

@@ -12,7 +12,6 @@ use Rattle.mscp_control.proofs.Promise.Waits.{waiting_below, earlier_is}
 use Rattle.mscp_control.proofs.Promise.Served.{Step}
 use Rattle.mscp_control.proofs.Promise.Starts.{startable_of, startable_parts}
 use Rattle.mscp_control.proofs.Promise.Steady.{Steady, idle_others, more_left, done_kept, weight_before}
-use Rattle.mscp_control.proofs.Promise.Queued.{Short}
 use Rattle.mscp_control.proofs.Promise.Passed.{none_starts}
 use Rattle.mscp_control.proofs.Promise.Figured.{record_of, marks, made_is}
 use Rattle.mscp_control.proofs.Promise.Falls.{Fit}

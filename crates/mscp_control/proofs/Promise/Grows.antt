@@ -13,10 +13,13 @@ use Rattle.mscp_control.specs.declared.event.Entry.TheVariants as entries
 use Rattle.mscp_packet.specs.Commands.{command_of}
 use Rattle.mscp_control.specs.Settings.{Settings}
 use Rattle.mscp_control.specs.History.{Trace, Moment, moment, positions, collect, last_or, queues, sent_bytes, is_good, is_step, takes}
-use Rattle.mscp_control.specs.Commands.{command, reference, is_waiting, waiting, done, good, steps_after, serves_in, ends_in}
+use Rattle.mscp_control.specs.Commands.{command, name, is_waiting, waiting, done, good, steps_after, serves_in, ends_in}
 use Rattle.mscp_control.specs.Passing.{passed_at, passed}
 use Rattle.mscp_control.specs.Ends.{ends_at}
 use Rattle.mscp_control.specs.Account.{ends, untaken}
+use Rattle.mscp_queue.specs.declared.name.Connection.TheVariants.{First}
+use Rattle.mscp_queue.specs.declared.name.Name.{Name}
+use Rattle.mscp_queue.specs.Names.{name_on}
 use Rattle.mscp_queue.proofs.Lists.{filter_on, filter_filter, sum_on, flat_on, every_weaker, range_more, range_below}
 
 pub moment_before : (t : Trace) (m : Moment) (x : ℕ) → x < length t → moment (t ++ m ∷ []) x ≡ moment t x
@@ -70,6 +73,9 @@ pub command_last : (t : Trace) (m : Moment) → command (t ++ m ∷ []) (length 
 unfolding command
 command_last t m = ap (λ (n : Moment). command_of (sent_bytes n.0)) (moment_last t m)
 
+pub name_before : (t : Trace) (m : Moment) (x : ℕ) → x < length t → name (t ++ m ∷ []) x ≡ name t x
+name_before t m x h = ap (λ (k : Command). name_on First k.reference) (command_before t m x h)
+
 pub drop_before : (t : Trace) (m : Moment) (x : ℕ) → x < length t
     → drop (x + 1) (t ++ m ∷ []) ≡ drop (x + 1) t ++ m ∷ []
 drop_before t m x h = drop-append-le (x + 1) t (m ∷ []) (omega arith)
@@ -85,17 +91,17 @@ still true false false = refl
 still false a e = refl
 
 pub is_waiting_before : (t : Trace) (m : Moment) (x : ℕ) → x < length t
-    → is_waiting (t ++ m ∷ []) x ≡ (is_waiting t x && not (ends_in (reference t x) m.1))
+    → is_waiting (t ++ m ∷ []) x ≡ (is_waiting t x && not (ends_in (name t x) m.1))
 unfolding is_waiting
 is_waiting_before t m x h =
-    let E : Command → Moment → Bool = λ k n. ends_in k.reference n.1 in
-    ap (λ (n : Moment). queues n.1 && not (list_any (E (command (t ++ m ∷ []) x)) (drop (x + 1) (t ++ m ∷ []))))
+    let E : Name → Moment → Bool = λ k n. ends_in k n.1 in
+    ap (λ (n : Moment). queues n.1 && not (list_any (E (name (t ++ m ∷ []) x)) (drop (x + 1) (t ++ m ∷ []))))
     (moment_before t m x h)
-    ∙ ap (λ (k : Command). queues (moment t x).1 && not (list_any (E k) (drop (x + 1) (t ++ m ∷ []))))
-    (command_before t m x h)
-    ∙ ap (λ l. queues (moment t x).1 && not (list_any (E (command t x)) l)) (drop_before t m x h)
-    ∙ ap (λ b. queues (moment t x).1 && not b) (list_any-append (E (command t x)) (drop (x + 1) t) (m ∷ []))
-    ∙ still (queues (moment t x).1) (list_any (E (command t x)) (drop (x + 1) t)) (E (command t x) m)
+    ∙ ap (λ (k : Name). queues (moment t x).1 && not (list_any (E k) (drop (x + 1) (t ++ m ∷ []))))
+    (name_before t m x h)
+    ∙ ap (λ l. queues (moment t x).1 && not (list_any (E (name t x)) l)) (drop_before t m x h)
+    ∙ ap (λ b. queues (moment t x).1 && not b) (list_any-append (E (name t x)) (drop (x + 1) t) (m ∷ []))
+    ∙ still (queues (moment t x).1) (list_any (E (name t x)) (drop (x + 1) t)) (E (name t x) m)
 
 and_true : (b : Bool) → (b && true) ≡ b
 and_true true = refl
@@ -104,26 +110,26 @@ and_true false = refl
 pub is_waiting_last : (t : Trace) (m : Moment) → is_waiting (t ++ m ∷ []) (length t) ≡ queues m.1
 unfolding is_waiting
 is_waiting_last t m =
-    let E : Moment → Bool = λ n. ends_in (reference (t ++ m ∷ []) (length t)) n.1 in
+    let E : Moment → Bool = λ n. ends_in (name (t ++ m ∷ []) (length t)) n.1 in
     ap (λ (n : Moment). queues n.1 && not (list_any E (drop (length t + 1) (t ++ m ∷ [])))) (moment_last t m)
     ∙ ap (λ l. queues m.1 && not (list_any E l)) (drop_last t m)
     ∙ and_true (queues m.1)
 
 -- What waits after one more moment: what waited and isn't ended by it, and what it queues.
 pub waiting_more : (t : Trace) (m : Moment) → waiting (t ++ m ∷ [])
-    ≡ filter (λ x. not (ends_in (reference t x) m.1)) (waiting t) ++ cond (queues m.1) (length t ∷ []) []
+    ≡ filter (λ x. not (ends_in (name t x) m.1)) (waiting t) ++ cond (queues m.1) (length t ∷ []) []
 unfolding waiting
 waiting_more t m =
-    let before = filter_on (is_waiting (t ++ m ∷ [])) (λ x. is_waiting t x && not (ends_in (reference t x) m.1))
+    let before = filter_on (is_waiting (t ++ m ∷ [])) (λ x. is_waiting t x && not (ends_in (name t x) m.1))
     (positions t)
     (every_weaker (λ x. (0 ≤ x) × (x < 0 + length t))
-    (λ x. is_waiting (t ++ m ∷ []) x ≡ (is_waiting t x && not (ends_in (reference t x) m.1)))
+    (λ x. is_waiting (t ++ m ∷ []) x ≡ (is_waiting t x && not (ends_in (name t x) m.1)))
     (λ x h. is_waiting_before t m x (omega arith)) (positions t) (range_below 0 (length t))) in
     ap (filter (is_waiting (t ++ m ∷ []))) (positions_more t m)
     ∙ (filter-append (is_waiting (t ++ m ∷ [])) (positions t) (length t ∷ [])
     ∙ (ap (λ l. l ++ filter (is_waiting (t ++ m ∷ [])) (length t ∷ []))
-    (before ∙ sym (filter_filter (λ x. not (ends_in (reference t x) m.1)) (is_waiting t) (positions t)))
-    ∙ ap (λ b. filter (λ x. not (ends_in (reference t x) m.1)) (filter (is_waiting t) (positions t))
+    (before ∙ sym (filter_filter (λ x. not (ends_in (name t x) m.1)) (is_waiting t) (positions t)))
+    ∙ ap (λ b. filter (λ x. not (ends_in (name t x) m.1)) (filter (is_waiting t) (positions t))
     ++ cond b (length t ∷ []) []) (is_waiting_last t m)))
 
 -- a count of what came after x, at a test of its command
@@ -137,22 +143,22 @@ count_before p t m x h =
 
 -- How often a command was served after one more moment, and how often well.
 pub done_before : (t : Trace) (m : Moment) (x : ℕ) → x < length t
-    → done (t ++ m ∷ []) x ≡ done t x + cond (serves_in (reference t x) m.1) 1 0
+    → done (t ++ m ∷ []) x ≡ done t x + cond (serves_in (name t x) m.1) 1 0
 unfolding done
-done_before t m x h = count_before (λ k n. serves_in k.reference n.1) t m x h
+done_before t m x h = count_before (λ k n. serves_in (name_on First k.reference) n.1) t m x h
 
 pub good_before : (t : Trace) (m : Moment) (x : ℕ) → x < length t
-    → good (t ++ m ∷ []) x ≡ good t x + cond (serves_in (reference t x) m.1 && is_good m.0) 1 0
+    → good (t ++ m ∷ []) x ≡ good t x + cond (serves_in (name t x) m.1 && is_good m.0) 1 0
 unfolding good
-good_before t m x h = count_before (λ k n. serves_in k.reference n.1 && is_good n.0) t m x h
+good_before t m x h = count_before (λ k n. serves_in (name_on First k.reference) n.1 && is_good n.0) t m x h
 
 pub done_last : (t : Trace) (m : Moment) → done (t ++ m ∷ []) (length t) ≡ 0
 unfolding done
-done_last t m = ap (count_by (λ (n : Moment). serves_in (reference (t ++ m ∷ []) (length t)) n.1)) (drop_last t m)
+done_last t m = ap (count_by (λ (n : Moment). serves_in (name (t ++ m ∷ []) (length t)) n.1)) (drop_last t m)
 
 pub good_last : (t : Trace) (m : Moment) → good (t ++ m ∷ []) (length t) ≡ 0
 unfolding good
-good_last t m = ap (count_by (λ (n : Moment). serves_in (reference (t ++ m ∷ []) (length t)) n.1 && is_good n.0))
+good_last t m = ap (count_by (λ (n : Moment). serves_in (name (t ++ m ∷ []) (length t)) n.1 && is_good n.0))
     (drop_last t m)
 
 -- How often a command was passed after one more moment.

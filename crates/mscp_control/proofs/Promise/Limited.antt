@@ -4,7 +4,7 @@ use Rattle.std.specs.Prelude.{filter, Option, Some, None, is_some}
 use Rattle.std.specs.List.{AllByRecursion}
 use Rattle.mscp_control.specs.Settings.{Settings}
 use Rattle.mscp_control.specs.History.{Trace, Moment, queues, Service, service_in}
-use Rattle.mscp_control.specs.Commands.{reference, waiting, ends_in}
+use Rattle.mscp_control.specs.Commands.{name, waiting, ends_in}
 use Rattle.mscp_control.specs.Passing.{toll, passed}
 use Rattle.mscp_control.specs.Legal.{IsRight}
 use Rattle.mscp_queue.proofs.Lists.{every_weaker, every_kept, every_append, every_parts, every_both}
@@ -12,7 +12,6 @@ use Rattle.mscp_control.proofs.Promise.Grows.{waiting_more}
 use Rattle.mscp_control.proofs.Promise.Waits.{passed_last}
 use Rattle.mscp_control.proofs.Promise.Served.{step_right}
 use Rattle.mscp_control.proofs.Promise.Steady.{Steady}
-use Rattle.mscp_control.proofs.Promise.Queued.{Short}
 use Rattle.mscp_control.proofs.Promise.Figured.{Figured, record_of, tolled, step_toll}
 use Rattle.mscp_control.proofs.Promise.Falls.{Fit}
 use Rattle.mscp_control.proofs.Promise.Fitted.{fit_of, leaves_of}
@@ -61,7 +60,7 @@ limited_quiet : (c : Settings) (t : Trace) (m : Moment) → service_in m.1 ≡ N
     → Limited c (t ++ m ∷ []) (waiting (t ++ m ∷ []))
 limited_quiet c t m e h =
     let t' = t ++ m ∷ [] in
-    let keep : ℕ → Bool = λ x. not (ends_in (reference t x) m.1) in
+    let keep : ℕ → Bool = λ x. not (ends_in (name t x) m.1) in
     let New : ℕ → Type 0 = λ x. passed t' x ≤ c.budget in
     let old : AllByRecursion New (waiting t) =
     every_weaker (λ x. (record_of t' x ≡ record_of t x) × (passed t x ≤ c.budget)) New

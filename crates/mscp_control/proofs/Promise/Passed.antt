@@ -3,25 +3,27 @@ use Rattle.std.proofs.Common.{◌≡◌, ◌≢◌, ℕ, ◌+◌, ◌<◌, ◌�
 use Rattle.std.specs.Prelude.{nat_lt, filter, sum_by, Some}
 use Rattle.std.specs.List.{AllByRecursion}
 use Rattle.std.proofs.lemmas.List.Sums.{sum_by-cons}
-use Rattle.std.proofs.lemmas.Bool.{ne_eqb, eq-eqb, lt-ltb, le-ltb, and_left, and_right}
+use Rattle.std.proofs.lemmas.Bool.{lt-ltb, le-ltb, and_left, and_right}
 use Rattle.mscp_queue.specs.declared.block.Block.{Block}
 use Rattle.mscp_control.specs.Settings.{Settings}
 use Rattle.mscp_control.specs.History.{Trace, Moment, Service, service_in}
-use Rattle.mscp_control.specs.Commands.{reference, waiting, later, starts_in, service_starts}
+use Rattle.mscp_control.specs.Commands.{name, waiting, later, starts_in, service_name, service_starts}
 use Rattle.mscp_control.specs.Passing.{toll, is_unstarted, passed_at, passed}
+use Rattle.mscp_queue.specs.declared.name.Name.{Name}
+use Rattle.mscp_queue.proofs.Named.{is_differ, is_same}
 use Rattle.mscp_queue.proofs.Lists.{every_weaker, every_append, every_from, filter_filter, filter_none, filter_one}
 use Rattle.mscp_control.proofs.Promise.Grows.{passed_more}
 use Rattle.mscp_control.proofs.Promise.Served.{Step}
 
 -- the commands behind x that start
 abbrev pub starters : Trace → Moment → ℕ → List ℕ
-starters t m x = filter (λ z. starts_in (reference t z) m.1) (later t x)
+starters t m x = filter (λ z. starts_in (name t z) m.1) (later t x)
 
 abbrev pub starts_behind : Trace → Moment → ℕ → ℕ → Bool
-starts_behind t m x z = nat_lt x z && starts_in (reference t z) m.1
+starts_behind t m x z = nat_lt x z && starts_in (name t z) m.1
 
 starters_at : (t : Trace) (m : Moment) (x : ℕ) → starters t m x ≡ filter (starts_behind t m x) (waiting t)
-starters_at t m x = filter_filter (λ z. starts_in (reference t z) m.1) (λ z. nat_lt x z) (waiting t)
+starters_at t m x = filter_filter (λ z. starts_in (name t z) m.1) (λ z. nat_lt x z) (waiting t)
 
 passed_by_starters : (t : Trace) (m : Moment) (x : ℕ) (ys : List ℕ) → starters t m x ≡ ys
     → passed (t ++ m ∷ []) x ≡ passed t x + cond (is_unstarted t x) (sum_by (toll t) ys) 0
@@ -37,27 +39,27 @@ unpassed t m x e =
     passed_by_starters t m x [] e ∙ (ap (λ n. passed t x + n) none ∙ omega arith)
 
 -- Where nobody starts, nobody is passed.
-pub none_starts : (t : Trace) (m : Moment) (x : ℕ) → ((r : ℕ) → starts_in r m.1 ≡ false)
+pub none_starts : (t : Trace) (m : Moment) (x : ℕ) → ((r : Name) → starts_in r m.1 ≡ false)
     → passed (t ++ m ∷ []) x ≡ passed t x
-none_starts t m x f = unpassed t m x (filter_none (λ z. starts_in (reference t z) m.1) (later t x)
-    (every_from (λ z. starts_in (reference t z) m.1 ≡ false) (λ z. f (reference t z)) (later t x)))
+none_starts t m x f = unpassed t m x (filter_none (λ z. starts_in (name t z) m.1) (later t x)
+    (every_from (λ z. starts_in (name t z) m.1 ≡ false) (λ z. f (name t z)) (later t x)))
 
-starts_other : (t : Trace) (m : Moment) (s : Service) (y z : ℕ) → service_in m.1 ≡ Some s → s.reference ≡ reference t y
-    → reference t z ≢ reference t y → starts_in (reference t z) m.1 ≡ false
-starts_other t m s y z e r n = ap (service_starts (reference t z)) e
-    ∙ ap (λ b. b && s.started) (ne_eqb s.reference (reference t z) (λ h. n (sym h ∙ r)))
+starts_other : (t : Trace) (m : Moment) (s : Service) (y z : ℕ) → service_in m.1 ≡ Some s → service_name s ≡ name t y
+    → name t z ≢ name t y → starts_in (name t z) m.1 ≡ false
+starts_other t m s y z e r n = ap (service_starts (name t z)) e
+    ∙ ap (λ b. b && s.started) (is_differ (service_name s) (name t z) (λ h. n (sym h ∙ r)))
 
-starts_own : (t : Trace) (m : Moment) (s : Service) (y : ℕ) → service_in m.1 ≡ Some s → s.reference ≡ reference t y
-    → s.started ≡ true → starts_in (reference t y) m.1 ≡ true
-starts_own t m s y e r h = ap (service_starts (reference t y)) e
-    ∙ (ap (λ b. b && s.started) (eq-eqb s.reference (reference t y) r) ∙ h)
+starts_own : (t : Trace) (m : Moment) (s : Service) (y : ℕ) → service_in m.1 ≡ Some s → service_name s ≡ name t y
+    → s.started ≡ true → starts_in (name t y) m.1 ≡ true
+starts_own t m s y e r h = ap (service_starts (name t y)) e
+    ∙ (ap (λ b. b && s.started) (is_same (service_name s) (name t y) r) ∙ h)
 
-behind_other : (t : Trace) (m : Moment) (s : Service) (x y : ℕ) → service_in m.1 ≡ Some s → s.reference ≡ reference t y
-    → (xs : List ℕ) → AllByRecursion (λ z. reference t z ≢ reference t y) xs
+behind_other : (t : Trace) (m : Moment) (s : Service) (x y : ℕ) → service_in m.1 ≡ Some s → service_name s ≡ name t y
+    → (xs : List ℕ) → AllByRecursion (λ z. name t z ≢ name t y) xs
     → AllByRecursion (λ z. starts_behind t m x z ≡ false) xs
 behind_other t m s x y e r xs h =
-    every_weaker (λ z. reference t z ≢ reference t y) (λ z. starts_behind t m x z ≡ false)
-    (λ z n. and_right (nat_lt x z) (starts_in (reference t z) m.1) (starts_other t m s y z e r n)) xs h
+    every_weaker (λ z. name t z ≢ name t y) (λ z. starts_behind t m x z ≡ false)
+    (λ z n. and_right (nat_lt x z) (starts_in (name t z) m.1) (starts_other t m s y z e r n)) xs h
 
 -- A command that isn't earlier than y isn't passed by a step of y.
 pub passed_behind : (c : Settings) (t : Trace) (m : Moment) (s : Service) (k : Block) (y : ℕ) (front back : List ℕ)
@@ -67,7 +69,7 @@ passed_behind c t m s k y front back st x h =
     let P : ℕ → Type 0 = λ z. starts_behind t m x z ≡ false in
     let all : AllByRecursion P (front ++ y ∷ back) =
     every_append P front (y ∷ back) (behind_other t m s x y st.serves.is st.serves.same front a.before) (
-      and_left (nat_lt x y) (starts_in (reference t y) m.1) (le-ltb x y h),
+      and_left (nat_lt x y) (starts_in (name t y) m.1) (le-ltb x y h),
       behind_other t m s x y st.serves.is
           st.serves.same back a.behind,
     ) in
@@ -80,7 +82,7 @@ pub passed_front : (c : Settings) (t : Trace) (m : Moment) (s : Service) (k : Bl
     → passed (t ++ m ∷ []) x ≡ passed t x + toll t y
 passed_front c t m s k y front back st e x h u =
     let a = st.serves.among in
-    let own : starts_behind t m x y ≡ true = ap (λ b. b && starts_in (reference t y) m.1) (lt-ltb x y h)
+    let own : starts_behind t m x y ≡ true = ap (λ b. b && starts_in (name t y) m.1) (lt-ltb x y h)
     ∙ starts_own t m s y st.serves.is st.serves.same e in
     let one : starters t m x ≡ y ∷ [] =
     starters_at t m x ∙ (ap (filter (starts_behind t m x)) a.at.is

@@ -16,13 +16,15 @@ use Rattle.mscp_control.specs.declared.event.Entry.TheVariants as entries
 use Rattle.mscp_control.specs.declared.event.Sent.TheVariants as sents
 use Rattle.mscp_control.specs.Settings.{Settings, IsValid, bound}
 use Rattle.mscp_control.specs.History.{Trace, Moment, answers, moment, positions, sent_bytes, Service, service_in, WhenStarted}
-use Rattle.mscp_control.specs.Commands.{reference, sent_command, weight, is_waiting, waiting, done, left, steps_after}
+use Rattle.mscp_control.specs.Commands.{name, sent_command, weight, is_waiting, waiting, done, left, steps_after, service_name}
 use Rattle.mscp_control.specs.Passing.{passed, is_free}
 use Rattle.mscp_control.specs.Figures.{figure, figure_of}
 use Rattle.mscp_control.specs.Ends.{answer, answer_to, ends_at}
 use Rattle.mscp_control.specs.Account.{ends}
 use Rattle.mscp_control.specs.Legal.{IsRight, IsLegal}
 use Rattle.mscp_control.specs.Headline.{IsFreeStart, Promise, TellsFigure, poll_end}
+use Rattle.mscp_queue.specs.declared.name.Connection.TheVariants.{First}
+use Rattle.mscp_queue.specs.Names.{name_on}
 use Rattle.mscp_queue.proofs.Lists.{every_weaker, every_append, every_both}
 use Rattle.mscp_control.proofs.Promise.Among.{alone, figure_of_one}
 use Rattle.mscp_control.proofs.Promise.Waits.{cut_of, waits_below}
@@ -46,11 +48,11 @@ free_start c t m s r steady e started x w same =
     let y = z.1 in
     let st = z.4 in
     let free = (startable_parts c t y (startable_of c t z.0 s y st.served started)).free in
-    let P : ℕ → Type 0 = λ x. reference t x ≡ s.reference → is_free t x ≡ true in
-    let other : (x : ℕ) → reference t x ≢ reference t y → P x = λ x n h. absurd (n (h ∙ st.serves.same)) in
+    let P : ℕ → Type 0 = λ x. name t x ≡ service_name s → is_free t x ≡ true in
+    let other : (x : ℕ) → name t x ≢ name t y → P x = λ x n h. absurd (n (h ∙ st.serves.same)) in
     let each : AllByRecursion P (waiting t) = subst (AllByRecursion P) (sym st.serves.among.at.is)
-    (every_append P z.2 (y ∷ z.3) (every_weaker (λ x. reference t x ≢ reference t y) P other z.2 st.serves.among.before)
-    ((λ h. free), every_weaker (λ x. reference t x ≢ reference t y) P other z.3 st.serves.among.behind)) in
+    (every_append P z.2 (y ∷ z.3) (every_weaker (λ x. name t x ≢ name t y) P other z.2 st.serves.among.before)
+    ((λ h. free), every_weaker (λ x. name t x ≢ name t y) P other z.3 st.serves.among.behind)) in
     one_of P (waiting t) each x w same
 
 free_starts : (c : Settings) (t : Trace) (m : Moment) → IsRight c t m.0 m.1 → Steady c t
@@ -128,15 +130,16 @@ small c t k x =
 
 -- a poll's own end is its only one
 answered_by : (c : Settings) (t : Trace) (k : Command) (r : ℕ) → k.order ≡ orders.Status r
-    → answer_to c t k ≡ poll_end k r (figure_of c t r) ∷ []
+    → answer_to c t k ≡ poll_end k r (figure_of c t (name_on First r)) ∷ []
 answered_by c t k r e =
     let with_order : Order → Command = λ o. record { reference = k.reference; unit = k.unit; order = o } in
-    ap (λ o. answer_to c t (with_order o)) e ∙ ap (λ o. poll_end (with_order o) r (figure_of c t r) ∷ []) (sym e)
+    ap (λ o. answer_to c t (with_order o)) e
+    ∙ ap (λ o. poll_end (with_order o) r (figure_of c t (name_on First r)) ∷ []) (sym e)
 
 figure_told : (c : Settings) (t : Trace) → Steady c t → (x : ℕ) → Contains (waiting t) x
-    → figure_of c t (reference t x) ≡ figure c t x
+    → figure_of c t (name t x) ≡ figure c t x
 figure_told c t steady x w =
-    let P : ℕ → Type 0 = λ x. figure_of c t (reference t x) ≡ figure c t x in
+    let P : ℕ → Type 0 = λ x. figure_of c t (name t x) ≡ figure c t x in
     one_of P (waiting t) (every_split P (waiting t)
     (λ A y B e. figure_of_one c t y A B (alone t y A B steady.apart (cut_of t A y B e)))) x w
 

@@ -18,7 +18,7 @@ use Rattle.mscp_control.specs.Settings.{Settings, unit_found}
 use Rattle.mscp_control.specs.Arrival.{move_fault, order_fault, fault_of, is_immediate, is_queued}
 use Rattle.mscp_queue.specs.Orders.{order_weight}
 use Rattle.mscp_control.specs.History.{Trace, Moment, queues, sent_bytes}
-use Rattle.mscp_control.specs.Commands.{command, reference, weight, waiting, ends_in}
+use Rattle.mscp_control.specs.Commands.{command, name, weight, waiting, ends_in}
 use Rattle.mscp_control.specs.Account.{balance}
 use Rattle.mscp_control.specs.Legal.{IsRight}
 use Rattle.mscp_queue.proofs.Lists.{every_kept, every_append}
@@ -89,7 +89,7 @@ pub each_queued : (c : Settings) (P : Command → Type 0) → ((k : Command) →
 each_queued c P each t m r h =
     let t' = t ++ m ∷ [] in
     let Q : ℕ → Type 0 = λ x. P (command t' x) in
-    let keep : ℕ → Bool = λ x. not (ends_in (reference t x) m.1) in
+    let keep : ℕ → Bool = λ x. not (ends_in (name t x) m.1) in
     let kept = filter keep (waiting t) in
     let old = same_each P t m kept (every_kept (λ x. x < length t) keep (waiting t) (waiting_below t))
     (every_kept (λ x. P (command t x)) keep (waiting t) h) in

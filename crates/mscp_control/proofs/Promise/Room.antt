@@ -1,9 +1,9 @@
 -- Commands and untaken ends never exceed the credits.
 use Rattle.std.proofs.Common.{◌≡◌, ℕ, zero, suc, ◌+◌, ◌-◌, ◌<◌, ◌≤◌, Bool, true, false, cond, not, List, [], ◌∷◌, ◌++◌, map, length, refl, ap, sym, ◌∙◌, arith, append-nil}
-use Rattle.std.specs.Prelude.{nat_eq, filter, count_by, slice_get, Option, Some, None, is_some, option_map, option_to_list, Ok, Err}
+use Rattle.std.specs.Prelude.{filter, count_by, slice_get, Option, Some, None, is_some, option_map, option_to_list, Ok, Err}
 use Rattle.std.specs.List.{AllByRecursion}
 use Rattle.std.proofs.lemmas.List.{length-append, length-map, length-drop}
-use Rattle.std.proofs.lemmas.Bool.{eqb-true, eq-eqb, true≢false, false≢true}
+use Rattle.std.proofs.lemmas.Bool.{true≢false, false≢true}
 use Rattle.mscp_packet.specs.declared.command.Command.{Command}
 use Rattle.mscp_packet.specs.declared.command.Order.{Order}
 use Rattle.mscp_packet.specs.declared.command.Order.TheVariants as orders
@@ -18,12 +18,16 @@ use Rattle.mscp_control.specs.Settings.{Settings}
 use Rattle.mscp_packet.specs.Commands.{command_of}
 use Rattle.mscp_control.specs.Arrival.{fault_of, is_queued}
 use Rattle.mscp_control.specs.History.{Trace, Moment, collect, queues, takes, Service, service_in}
-use Rattle.mscp_control.specs.Commands.{command, reference, waiting, good, ends_in, aborts}
+use Rattle.mscp_control.specs.Commands.{command, name, reference, waiting, good, ends_in, aborts}
 use Rattle.mscp_queue.specs.Outcomes.{aborted_end}
 use Rattle.mscp_control.specs.Ends.{aborted, aborted_unless, answer, ends_at}
 use Rattle.mscp_control.specs.Account.{ends, untaken, balance}
 use Rattle.mscp_control.specs.Credits.{aborted_reference}
 use Rattle.mscp_control.specs.Legal.{IsRight}
+use Rattle.mscp_queue.specs.declared.name.Connection.TheVariants.{First}
+use Rattle.mscp_queue.specs.declared.name.Name.{Name}
+use Rattle.mscp_queue.specs.Names.{name_on, same_name}
+use Rattle.mscp_queue.proofs.Named.{is_same, same_is}
 use Rattle.mscp_queue.proofs.Lists.{fewer, every_weaker, every_filter, every_from}
 use Rattle.mscp_control.proofs.Promise.Grows.{waiting_more, ends_more, taken_more, untaken_more}
 use Rattle.mscp_control.proofs.Promise.Arrivals.{arrives, taken_when}
@@ -61,16 +65,16 @@ first_of_filter (x ∷ xs) r n h l = ap Some h.0
 
 aborted_rest : (t : Trace) (q : ℕ) (o : Order) (f : Option ℕ) (a : Option ℕ)
     → a ≡ option_map (reference t) (slice_get (aborted_unless t o f) 0)
-    → length (filter (λ x. not (aborts (reference t x) (entries.Sent (Ok (sents.Answered q a))))) (waiting t))
+    → length (filter (λ x. not (aborts (name t x) (entries.Sent (Ok (sents.Answered q a))))) (waiting t))
     + length (aborted_unless t o f) ≤ length (waiting t)
 aborted_rest t q o (Some fault) a e = omega (
   arith,
   fewer
-      (λ x. not (aborts (reference t x) (entries.Sent (Ok (sents.Answered q a))))) (waiting t),
+      (λ x. not (aborts (name t x) (entries.Sent (Ok (sents.Answered q a))))) (waiting t),
 )
 aborted_rest t q (orders.Abort other) None a e =
-    let p : ℕ → Bool = λ x. nat_eq (reference t x) other in
-    let keep : Option ℕ → ℕ → Bool = λ a x. not (aborts (reference t x) (entries.Sent (Ok (sents.Answered q a)))) in
+    let p : ℕ → Bool = λ x. same_name (name t x) (name_on First other) in
+    let keep : Option ℕ → ℕ → Bool = λ a x. not (aborts (name t x) (entries.Sent (Ok (sents.Answered q a)))) in
     let both : (n : ℕ) → length (filter p (waiting t)) ≡ n
     → length (filter (keep a) (waiting t)) + length (filter p (waiting t)) ≤ length (waiting t) =
     λ n. elim n as (λ n. length (filter p (waiting t)) ≡ n
@@ -78,19 +82,19 @@ aborted_rest t q (orders.Abort other) None a e =
       | zero ↦ λ l. omega (arith, l, fewer (keep a) (waiting t))
       | suc n ↦ λ l.
           let each = every_weaker (λ x. Unit {0} × (p x ≡ true)) (λ x. reference t x ≡ other)
-          (λ x h. eqb-true (reference t x) other h.1) (filter p (waiting t))
+          (λ x h. ap (λ (k : Name). k.reference) (same_is (name t x) (name_on First other) h.1)) (filter p (waiting t))
           (every_filter (λ x. Unit {0}) p (waiting t) (every_from (λ x. Unit {0}) (λ x. tt) (waiting t))) in
           let is : a ≡ Some other = e ∙ first_of_filter (filter p (waiting t)) (reference t) other each
           (omega (arith, l)) in
           two_filters (keep a) p (waiting t) (every_from (λ x. p x ≡ true → keep a x ≡ false)
-          (λ x h. ap (λ a. keep a x) is ∙ ap not (eq-eqb other (reference t x)
-          (sym (eqb-true (reference t x) other h)))) (waiting t))
+          (λ x h. ap (λ a. keep a x) is ∙ ap not (is_same (name_on First other) (name t x)
+          (sym (same_is (name t x) (name_on First other) h)))) (waiting t))
     ] in
     both (length (filter p (waiting t))) refl
 aborted_rest t q o None a e = omega (
   arith,
   fewer (λ x.
-      not (aborts (reference t x) (entries.Sent (Ok (sents.Answered q a))))) (waiting t),
+      not (aborts (name t x) (entries.Sent (Ok (sents.Answered q a))))) (waiting t),
 )
 
 answered_length : (c : Settings) (t : Trace) (b : List ℕ)
@@ -107,10 +111,10 @@ abbrev pub Fits : Settings → Trace → Moment → Type 0
 Fits c t m = length (waiting (t ++ m ∷ [])) + length (ends_at c t m) + length (untaken c t) ≤ c.credits
 
 waiting_length : (t : Trace) (m : Moment) → length (waiting (t ++ m ∷ []))
-    ≡ length (filter (λ x. not (ends_in (reference t x) m.1)) (waiting t))
+    ≡ length (filter (λ x. not (ends_in (name t x) m.1)) (waiting t))
     + length (cond (queues m.1) (length t ∷ []) [])
 waiting_length t m = ap length (waiting_more t m) ∙ length-append
-    (filter (λ x. not (ends_in (reference t x) m.1)) (waiting t)) (cond (queues m.1) (length t ∷ []) [])
+    (filter (λ x. not (ends_in (name t x) m.1)) (waiting t)) (cond (queues m.1) (length t ∷ []) [])
 
 -- a moment that queues nothing and makes no end
 still : (c : Settings) (t : Trace) (m : Moment) → Room c t → queues m.1 ≡ false → ends_at c t m ≡ [] → Fits c t m
@@ -121,9 +125,9 @@ still c t m h q e =
       room,
       ap length e,
       waiting_length t m
-          ∙ ap (λ b. length (filter (λ x. not (ends_in (reference t x) m.1)) (waiting t))
+          ∙ ap (λ b. length (filter (λ x. not (ends_in (name t x) m.1)) (waiting t))
           + length (cond b (length t ∷ []) [])) q,
-      fewer (λ x. not (ends_in (reference t x) m.1)) (waiting t),
+      fewer (λ x. not (ends_in (name t x) m.1)) (waiting t),
     )
 
 balance_some : (c : Settings) (t : Trace) → (balance c t ≡ 0 → ⊥)
@@ -166,10 +170,18 @@ fits : (c : Settings) (t : Trace) (event : Event) (entry : Entry) → Room c t �
 fits c t event (entries.Looked list) h st r = still c t (event, entries.Looked list) h refl refl
 fits c t event (entries.Taken taken) h st r = still c t (event, entries.Taken taken) h refl refl
 fits c t event (entries.Stepped reports.Idle) h st r = still c t (event, entries.Stepped reports.Idle) h refl refl
-fits c t event (entries.Stepped (reports.Served reference unit lbn started seek ended)) h st r =
-    served_fits c t (event, entries.Stepped (reports.Served reference unit lbn started seek ended))
-    (record { reference = reference; unit = unit; lbn = lbn; started = started; seek = seek; ended = ended }) h st
-    refl r refl
+fits c t event (entries.Stepped (reports.Served via reference unit lbn started seek ended)) h st r =
+    served_fits c t (event, entries.Stepped (reports.Served via reference unit lbn started seek ended))
+    (record {
+      connection = via;
+      reference = reference;
+      unit = unit;
+      lbn = lbn;
+      started = started;
+      seek = seek;
+      ended = ended;
+    })
+    h st refl r refl
 fits c t event (entries.Sent (Err fault)) h st r = still c t (event, entries.Sent (Err fault)) h refl refl
 fits c t (events.Send b) (entries.Sent (Ok (sents.Queued q))) h st r =
     let m : Moment = (events.Send b, entries.Sent (Ok (sents.Queued q))) in
@@ -178,7 +190,7 @@ fits c t (events.Send b) (entries.Sent (Ok (sents.Queued q))) h st r =
       arith,
       balance_some c t a.taken.free,
       waiting_length t m,
-      fewer (λ x. not (ends_in (reference t x) m.1))
+      fewer (λ x. not (ends_in (name t x) m.1))
           (waiting t),
     )
 fits c t (events.Send b) (entries.Sent (Ok (sents.Answered q o))) h st r =
@@ -232,7 +244,7 @@ room_more c t m r st h =
           let some = o.0 in
           let none = ap length o.1 in
           let one = count ∙ ap (λ b. count_by (λ (n : Moment). takes n.1) t + cond b 1 0) e in
-          let waits = waiting_length t m ∙ ap (λ b. length (filter (λ x. not (ends_in (reference t x) m.1)) (waiting t))
+          let waits = waiting_length t m ∙ ap (λ b. length (filter (λ x. not (ends_in (name t x) m.1)) (waiting t))
           + length (cond b (length t ∷ []) [])) o.2 in
           record {
             taken = omega (arith, one, more, some, untaken_length c t);
@@ -240,7 +252,7 @@ room_more c t m r st h =
               arith,
               room,
               waits,
-              fewer (λ x. not (ends_in (reference t x) m.1)) (waiting t),
+              fewer (λ x. not (ends_in (name t x) m.1)) (waiting t),
               untaken_length
                   c (t ++ m ∷ []),
               untaken_length c t,

@@ -3,7 +3,7 @@ use Rattle.std.proofs.Common.{◌≡◌, ◌≢◌, ℕ, ◌+◌, ◌<◌, Bool,
 use Rattle.std.specs.Prelude.{filter, Option, Some, None, is_some}
 use Rattle.std.specs.List.{AllByRecursion}
 use Rattle.std.proofs.lemmas.List.Elements.{filter-append}
-use Rattle.std.proofs.lemmas.Bool.{ne_eqb, eq-eqb, false≢true}
+use Rattle.std.proofs.lemmas.Bool.{false≢true}
 use Rattle.mscp_queue.specs.declared.block.Block.{Block}
 use Rattle.mscp_queue.specs.declared.report.Report.TheVariants as reports
 use Rattle.mscp_control.specs.declared.event.Event.{Event}
@@ -12,8 +12,11 @@ use Rattle.mscp_control.specs.declared.event.Entry.{Entry}
 use Rattle.mscp_control.specs.declared.event.Entry.TheVariants as entries
 use Rattle.mscp_control.specs.Settings.{Settings}
 use Rattle.mscp_control.specs.History.{Trace, Moment, queues, Service, service_in}
-use Rattle.mscp_control.specs.Commands.{reference, waiting, done, service_is, service_ends, ends_in}
+use Rattle.mscp_control.specs.Commands.{name, waiting, done, service_is, service_name, service_ends, ends_in}
 use Rattle.mscp_control.specs.Legal.{IsRight, IsServed}
+use Rattle.mscp_queue.specs.declared.name.Name.{Name}
+use Rattle.mscp_queue.specs.Names.{name_on}
+use Rattle.mscp_queue.proofs.Named.{is_differ, is_same}
 use Rattle.mscp_queue.proofs.Lists.{every_weaker, every_both, every_parts, filter_all}
 use Rattle.mscp_control.proofs.Promise.Grows.{done_before, waiting_more}
 use Rattle.mscp_control.proofs.Promise.Waits.{Cut, cut, waits_below, waiting_below}
@@ -22,7 +25,7 @@ use Rattle.mscp_control.proofs.Promise.Among.{Alone, alone}
 
 -- ---- what a moment that serves says of the others
 
-pub ends_served : (r : ℕ) (entry : Entry) (s : Service) → service_in entry ≡ Some s
+pub ends_served : (r : Name) (entry : Entry) (s : Service) → service_in entry ≡ Some s
     → ends_in r entry ≡ service_ends r (Some s)
 ends_served r (entries.Stepped report) s e = ap (service_ends r) e
 ends_served r (entries.Sent sent) s e = absurd (false≢true (ap is_some e))
@@ -46,15 +49,15 @@ some_same x y e = ap (some_value x) e
 -- A right moment that serves is a step of a command that may be served.
 pub served_right : (c : Settings) (t : Trace) (event : Event) (entry : Entry) (s : Service) → service_in entry ≡ Some s
     → IsRight c t event entry → (k : Block) × (y : ℕ) × IsServed c t k s y
-served_right c t (events.Step k) (entries.Stepped (reports.Served reference unit lbn started seek ended)) s e h =
+served_right c t (events.Step k) (entries.Stepped (reports.Served via reference unit lbn started seek ended)) s e h =
     (k, h.0, subst (λ (s : Service). IsServed c t k s h.0) (some_same _ s e) h.1)
 served_right c t event (entries.Stepped reports.Idle) s e h = absurd (false≢true (ap is_some e))
 served_right c t event (entries.Sent sent) s e h = absurd (false≢true (ap is_some e))
 served_right c t event (entries.Taken taken) s e h = absurd (false≢true (ap is_some e))
 served_right c t event (entries.Looked list) s e h = absurd (false≢true (ap is_some e))
-served_right c t events.Take (entries.Stepped (reports.Served reference unit lbn started seek ended)) s e h = absurd h
-served_right c t events.Look (entries.Stepped (reports.Served reference unit lbn started seek ended)) s e h = absurd h
-served_right c t (events.Send b) (entries.Stepped (reports.Served reference unit lbn started seek ended)) s e h =
+served_right c t events.Take (entries.Stepped (reports.Served via r u lbn q seek e')) s e h = absurd h
+served_right c t events.Look (entries.Stepped (reports.Served via r u lbn q seek e')) s e h = absurd h
+served_right c t (events.Send b) (entries.Stepped (reports.Served via r u lbn q seek e')) s e h =
     absurd h
 
 -- ---- a step of y
@@ -63,7 +66,7 @@ served_right c t (events.Send b) (entries.Stepped (reports.Served reference unit
 pub record Serves (t : Trace) (m : Moment) (s : Service) (y : ℕ) (front back : List ℕ) : Type 0 where
   pub among : Alone t y front back
   pub is : service_in m.1 ≡ Some s
-  pub same : s.reference ≡ reference t y
+  pub same : service_name s ≡ name t y
 
 -- How the commands that wait change.
 pub record Changes (t : Trace) (t' : Trace) (s : Service) (y : ℕ) (front back : List ℕ) : Type 0 where
@@ -79,29 +82,29 @@ below_parts t y front back k =
     (subst (AllByRecursion (λ x. x < length t)) k.is (waiting_below t)) in
     (p.0, (p.1.0, p.1.1))
 
-kept_other : (t : Trace) (m : Moment) (s : Service) (y x : ℕ) → service_in m.1 ≡ Some s → s.reference ≡ reference t y
-    → reference t x ≢ reference t y → not (ends_in (reference t x) m.1) ≡ true
-kept_other t m s y x e r n = ap not (ends_served (reference t x) m.1 s e
-    ∙ ap (λ b. b && is_some s.ended) (ne_eqb s.reference (reference t x) (λ h. n (sym h ∙ r))))
+kept_other : (t : Trace) (m : Moment) (s : Service) (y x : ℕ) → service_in m.1 ≡ Some s → service_name s ≡ name t y
+    → name t x ≢ name t y → not (ends_in (name t x) m.1) ≡ true
+kept_other t m s y x e r n = ap not (ends_served (name t x) m.1 s e
+    ∙ ap (λ b. b && is_some s.ended) (is_differ (service_name s) (name t x) (λ h. n (sym h ∙ r))))
 
-pub kept_own : (t : Trace) (m : Moment) (s : Service) (y : ℕ) → service_in m.1 ≡ Some s → s.reference ≡ reference t y
-    → not (ends_in (reference t y) m.1) ≡ not (is_some s.ended)
-kept_own t m s y e r = ap not (ends_served (reference t y) m.1 s e
-    ∙ ap (λ b. b && is_some s.ended) (eq-eqb s.reference (reference t y) r))
+pub kept_own : (t : Trace) (m : Moment) (s : Service) (y : ℕ) → service_in m.1 ≡ Some s → service_name s ≡ name t y
+    → not (ends_in (name t y) m.1) ≡ not (is_some s.ended)
+kept_own t m s y e r = ap not (ends_served (name t y) m.1 s e
+    ∙ ap (λ b. b && is_some s.ended) (is_same (service_name s) (name t y) r))
 
-done_other : (t : Trace) (m : Moment) (s : Service) (y x : ℕ) → service_in m.1 ≡ Some s → s.reference ≡ reference t y
-    → x < length t → reference t x ≢ reference t y → done (t ++ m ∷ []) x ≡ done t x
+done_other : (t : Trace) (m : Moment) (s : Service) (y x : ℕ) → service_in m.1 ≡ Some s → service_name s ≡ name t y
+    → x < length t → name t x ≢ name t y → done (t ++ m ∷ []) x ≡ done t x
 done_other t m s y x e r l n =
     done_before t m x l
-    ∙ (ap (λ o. done t x + cond (service_is (reference t x) o) 1 0) e
-    ∙ (ap (λ b. done t x + cond b 1 0) (ne_eqb s.reference (reference t x) (λ h. n (sym h ∙ r))) ∙ omega arith))
+    ∙ (ap (λ o. done t x + cond (service_is (name t x) o) 1 0) e
+    ∙ (ap (λ b. done t x + cond b 1 0) (is_differ (service_name s) (name t x) (λ h. n (sym h ∙ r))) ∙ omega arith))
 
-done_own : (t : Trace) (m : Moment) (s : Service) (y : ℕ) → service_in m.1 ≡ Some s → s.reference ≡ reference t y
+done_own : (t : Trace) (m : Moment) (s : Service) (y : ℕ) → service_in m.1 ≡ Some s → service_name s ≡ name t y
     → y < length t → done (t ++ m ∷ []) y ≡ done t y + 1
 done_own t m s y e r l =
     done_before t m y l
-    ∙ (ap (λ o. done t y + cond (service_is (reference t y) o) 1 0) e
-    ∙ ap (λ b. done t y + cond b 1 0) (eq-eqb s.reference (reference t y) r))
+    ∙ (ap (λ o. done t y + cond (service_is (name t y) o) 1 0) e
+    ∙ ap (λ b. done t y + cond b 1 0) (is_same (service_name s) (name t y) r))
 
 cond_not : (y : ℕ) (back : List ℕ) (b : Bool) → cond (not b) (y ∷ back) back ≡ cond b [] (y ∷ []) ++ back
 cond_not y back true = refl
@@ -111,10 +114,10 @@ pub changes : (t : Trace) (m : Moment) (s : Service) (y : ℕ) (front back : Lis
     → Changes t (t ++ m ∷ []) s y front back
 changes t m s y front back v =
     let a = v.among in
-    let keep : ℕ → Bool = λ x. not (ends_in (reference t x) m.1) in
-    let other : (x : ℕ) → reference t x ≢ reference t y → keep x ≡ true = λ x n. kept_other t m s y x v.is v.same n in
+    let keep : ℕ → Bool = λ x. not (ends_in (name t x) m.1) in
+    let other : (x : ℕ) → name t x ≢ name t y → keep x ≡ true = λ x n. kept_other t m s y x v.is v.same n in
     let below = below_parts t y front back a.at in
-    let still : (x : ℕ) → (reference t x ≢ reference t y) × (x < length t) → done (t ++ m ∷ []) x ≡ done t x =
+    let still : (x : ℕ) → (name t x ≢ name t y) × (x < length t) → done (t ++ m ∷ []) x ≡ done t x =
     λ x h. done_other t m s y x v.is v.same h.1 h.0 in
     record {
       waits =
@@ -124,20 +127,20 @@ changes t m s y front back v =
           ∙ (ap (filter keep) a.at.is
           ∙ (filter-append keep front (y ∷ back)
           ∙ (ap (λ l. l ++ cond (keep y) (y ∷ filter keep back) (filter keep back))
-          (filter_all keep front (every_weaker (λ x. reference t x ≢ reference t y) (λ x. keep x ≡ true) other front
+          (filter_all keep front (every_weaker (λ x. name t x ≢ name t y) (λ x. keep x ≡ true) other front
           a.before))
           ∙ (ap (λ l. front ++ cond (keep y) (y ∷ l) l)
-          (filter_all keep back (every_weaker (λ x. reference t x ≢ reference t y) (λ x. keep x ≡ true) other back
+          (filter_all keep back (every_weaker (λ x. name t x ≢ name t y) (λ x. keep x ≡ true) other back
           a.behind))
           ∙ (ap (λ b. front ++ cond b (y ∷ back) back) (kept_own t m s y v.is v.same)
           ∙ ap (λ l. front ++ l) (cond_not y back (is_some s.ended)))))))));
-      front_done = every_weaker (λ x. (reference t x ≢ reference t y) × (x < length t))
+      front_done = every_weaker (λ x. (name t x ≢ name t y) × (x < length t))
           (λ x. done (t ++ m ∷ []) x ≡ done t x) still front
-          (every_both (λ x. reference t x ≢ reference t y) (λ x. x < length t) front a.before below.0);
+          (every_both (λ x. name t x ≢ name t y) (λ x. x < length t) front a.before below.0);
       own_done = done_own t m s y v.is v.same below.1.0;
-      back_done = every_weaker (λ x. (reference t x ≢ reference t y) × (x < length t))
+      back_done = every_weaker (λ x. (name t x ≢ name t y) × (x < length t))
           (λ x. done (t ++ m ∷ []) x ≡ done t x) still back
-          (every_both (λ x. reference t x ≢ reference t y) (λ x. x < length t) back a.behind below.1.1);
+          (every_both (λ x. name t x ≢ name t y) (λ x. x < length t) back a.behind below.1.1);
     }
 
 -- So each right step is a step of a command among others, which changes so.
@@ -156,5 +159,6 @@ step_right c t m s a e r =
     let v = h.2 in
     let z = cut t y (waits_below t y v.waits) v.waits in
     let among = alone t y z.0 z.1 a z.2 in
-    let serves : Serves t m s y z.0 z.1 = record { among = among; is = e; same = v.reference } in
+    let same : service_name s ≡ name t y = λ i. name_on (v.connection i) (v.reference i) in
+    let serves : Serves t m s y z.0 z.1 = record { among = among; is = e; same = same } in
     (k, y, z.0, z.1, record { served = v; serves = serves; changes = changes t m s y z.0 z.1 serves })

@@ -137,11 +137,11 @@ moment_kinds c t (event, entries.Sent sent) h = sent_kinds c t (sent_bytes event
 moment_kinds c t (event, entries.Taken end) h = tt
 moment_kinds c t (event, entries.Looked list) h = tt
 moment_kinds c t (event, entries.Stepped reports.Idle) h = tt
-moment_kinds c t (events.Step k, entries.Stepped (reports.Served reference unit lbn started seek ended)) (y, s) =
+moment_kinds c t (events.Step k, entries.Stepped (reports.Served via reference unit lbn started seek ended)) (y, s) =
     subst (λ e. AllByRecursion IsOfKind (option_to_list e)) (sym s.ended) (end_kinds c t k y)
-moment_kinds c t (events.Send b, entries.Stepped (reports.Served reference unit lbn started seek ended)) h = absurd h
-moment_kinds c t (events.Take, entries.Stepped (reports.Served reference unit lbn started seek ended)) h = absurd h
-moment_kinds c t (events.Look, entries.Stepped (reports.Served reference unit lbn started seek ended)) h = absurd h
+moment_kinds c t (events.Send b, entries.Stepped (reports.Served via r unit lbn started seek ended)) h = absurd h
+moment_kinds c t (events.Take, entries.Stepped (reports.Served via reference unit lbn started seek ended)) h = absurd h
+moment_kinds c t (events.Look, entries.Stepped (reports.Served via reference unit lbn started seek ended)) h = absurd h
 
 -- ---- all ends
 

@@ -4,6 +4,7 @@ use Rattle.std.specs.Prelude.{nat_eq, nat_lt, flat_map, if◌then◌else◌, Opt
 use Rattle.std.specs.List.{AllByRecursion}
 use Rattle.std.proofs.lemmas.Grind.{flat_map-append}
 use Rattle.std.proofs.lemmas.Bool.{ne_eqb, eq-eqb}
+use Rattle.mscp_queue.proofs.Named.{is_differ, is_same}
 use Rattle.mscp_packet.specs.declared.command.Order.{Order}
 use Rattle.mscp_packet.specs.declared.command.Order.TheVariants as orders
 use Rattle.mscp_packet.specs.declared.end.End.{End}
@@ -13,7 +14,7 @@ use Rattle.mscp_queue.specs.declared.block.Block.{Block}
 use Rattle.mscp_control.specs.Settings.{Settings, unit_shape}
 use Rattle.mscp_queue.specs.Outcomes.{is_success, state_after, head_after}
 use Rattle.mscp_control.specs.History.{Trace, Moment, collect, last_or, Service, service_in}
-use Rattle.mscp_control.specs.Commands.{reference, unit, order, waiting}
+use Rattle.mscp_control.specs.Commands.{name, unit, order, waiting, service_name}
 use Rattle.mscp_control.specs.Units.{states_given, states_ended, states_served, states_at, is_online, cylinder_touched, way, way_started, head_cylinder, head_up, head}
 use Rattle.mscp_queue.proofs.Lists.{every_weaker}
 use Rattle.mscp_control.proofs.Promise.Grows.{last_more}
@@ -75,30 +76,30 @@ if_same false x = refl
 
 -- what a waiting command gives to the unit of this number, where this service comes
 given : Trace → ℕ → Option Service → ℕ → List Bool
-given t u o x = if nat_eq (unit t x) u then states_served (reference t x) (order t x) o else []
+given t u o x = if nat_eq (unit t x) u then states_served (name t x) (order t x) o else []
 
-given_other : (t : Trace) (u x : ℕ) (s : Service) → s.reference ≢ reference t x → given t u (Some s) x ≡ []
+given_other : (t : Trace) (u x : ℕ) (s : Service) → service_name s ≢ name t x → given t u (Some s) x ≡ []
 unfolding given
 given_other t u x s n =
     ap (λ b. if nat_eq (unit t x) u then (if b then states_ended (order t x) s.ended else []) else [])
-    (ne_eqb s.reference (reference t x) n)
+    (is_differ (service_name s) (name t x) n)
     ∙ if_same (nat_eq (unit t x) u) []
 
 -- A step of y gives a state to y's unit alone, and only where it ends y.
 states_step : (t : Trace) (m : Moment) (s : Service) (y u : ℕ) (front back : List ℕ) → Alone t y front back
-    → service_in m.1 ≡ Some s → s.reference ≡ reference t y
+    → service_in m.1 ≡ Some s → service_name s ≡ name t y
     → states_at u t m ≡ (if nat_eq (unit t y) u then states_ended (order t y) s.ended else [])
 unfolding given
 states_step t m s y u front back a e r =
-    let none : (x : ℕ) → reference t x ≢ reference t y → given t u (Some s) x ≡ [] =
+    let none : (x : ℕ) → name t x ≢ name t y → given t u (Some s) x ≡ [] =
     λ x n. given_other t u x s (λ k. n (sym k ∙ r)) in
     ap (λ o. flat_map (given t u o) (waiting t)) e
     ∙ (ap (flat_map (given t u (Some s))) a.at.is
     ∙ (flat_one (given t u (Some s)) front y back
-    (every_weaker (λ x. reference t x ≢ reference t y) (λ x. given t u (Some s) x ≡ []) none front a.before)
-    (every_weaker (λ x. reference t x ≢ reference t y) (λ x. given t u (Some s) x ≡ []) none back a.behind)
+    (every_weaker (λ x. name t x ≢ name t y) (λ x. given t u (Some s) x ≡ []) none front a.before)
+    (every_weaker (λ x. name t x ≢ name t y) (λ x. given t u (Some s) x ≡ []) none back a.behind)
     ∙ ap (λ b. if nat_eq (unit t y) u then (if b then states_ended (order t y) s.ended else []) else [])
-    (eq-eqb s.reference (reference t y) r)))
+    (is_same (service_name s) (name t y) r)))
 
 -- The state that an order gives is that which it leaves.
 last_given : (on : Bool) (order : Order) (status : ℕ)

@@ -1,5 +1,5 @@
 -- The figures never rise at a moment that serves nobody.
-use Rattle.std.proofs.Common.{◌≡◌, ℕ, ◌+◌, ◌-◌, ◌*◌, ◌<◌, ◌≤◌, Bool, true, false, cond, not, ◌&&◌, List, [], ◌∷◌, ◌++◌, length, refl, ap, sym, ◌∙◌, subst, arith}
+use Rattle.std.proofs.Common.{◌≡◌, ℕ, ◌+◌, ◌-◌, ◌<◌, ◌≤◌, Bool, true, false, cond, not, ◌&&◌, List, [], ◌∷◌, ◌++◌, length, refl, ap, sym, ◌∙◌, subst, arith}
 use Rattle.std.specs.Prelude.{filter, sum_by, nat_lt, Contains}
 use Rattle.std.specs.List.{AllByRecursion}
 use Rattle.std.proofs.lemmas.List.{append_assoc}
@@ -7,7 +7,7 @@ use Rattle.std.proofs.lemmas.List.Elements.{filter-append, All-from_recursion, A
 use Rattle.std.proofs.lemmas.List.Sums.{sum_by-cons}
 use Rattle.mscp_control.specs.Settings.{Settings}
 use Rattle.mscp_control.specs.History.{Trace, Moment, queues}
-use Rattle.mscp_control.specs.Commands.{reference, is_waiting, waiting, done, left, in_service, ends_in}
+use Rattle.mscp_control.specs.Commands.{name, is_waiting, waiting, done, left, in_service, ends_in}
 use Rattle.mscp_control.specs.Passing.{passed}
 use Rattle.mscp_control.specs.Figures.{figure}
 use Rattle.mscp_queue.proofs.Lists.{every_weaker, every_parts, every_kept, filter_on}
@@ -67,7 +67,7 @@ new_idle t m e false = refl
 
 -- the figure of a command that stays doesn't rise
 pub rises_not : (c : Settings) (t : Trace) (m : Moment) → Leaves t m → done (t ++ m ∷ []) (length t) ≡ 0
-    → (A : List ℕ) (x : ℕ) (B : List ℕ) → waiting t ≡ A ++ x ∷ B → (b : Bool) → not (ends_in (reference t x) m.1) ≡ b
+    → (A : List ℕ) (x : ℕ) (B : List ℕ) → waiting t ≡ A ++ x ∷ B → (b : Bool) → not (ends_in (name t x) m.1) ≡ b
     → figure c (t ++ m ∷ []) x ≤ figure c t x
 rises_not c t m h d A x B q false k =
     let below = (every_parts (λ z. z < length t) A (x ∷ B)
@@ -75,11 +75,11 @@ rises_not c t m h d A x B q false k =
     let w = (every_parts (λ z. is_waiting t z ≡ true) A (x ∷ B)
     (subst (λ l. AllByRecursion (λ z. is_waiting t z ≡ true) l) q (waiting_waits t))).1.0 in
     let gone : is_waiting (t ++ m ∷ []) x ≡ false =
-    is_waiting_before t m x below ∙ (ap (λ b. b && not (ends_in (reference t x) m.1)) w ∙ k) in
+    is_waiting_before t m x below ∙ (ap (λ b. b && not (ends_in (name t x) m.1)) w ∙ k) in
     omega (arith, figure_gone c (t ++ m ∷ []) x gone)
 rises_not c t m h d A x B q true k =
     let t' = t ++ m ∷ [] in
-    let keep : ℕ → Bool = λ x. not (ends_in (reference t x) m.1) in
+    let keep : ℕ → Bool = λ x. not (ends_in (name t x) m.1) in
     let new : List ℕ = cond (queues m.1) (length t ∷ []) [] in
     let same = every_parts (λ z. record_of t' z ≡ record_of t z) A (x ∷ B)
     (subst (λ l. AllByRecursion (λ z. record_of t' z ≡ record_of t z) l) q h) in
@@ -115,4 +115,4 @@ pub never_rises : (c : Settings) (t : Trace) (m : Moment) → Leaves t m → don
 never_rises c t m h d x k =
     let P : ℕ → Type 0 = λ x. figure c (t ++ m ∷ []) x ≤ figure c t x in
     All-contains P (waiting t) x (All-from_recursion P (waiting t)
-    (every_split P (waiting t) (λ A x B q. rises_not c t m h d A x B q (not (ends_in (reference t x) m.1)) refl))) k
+    (every_split P (waiting t) (λ A x B q. rises_not c t m h d A x B q (not (ends_in (name t x) m.1)) refl))) k

@@ -9,7 +9,7 @@ use Rattle.mscp_queue.specs.declared.block.Block.{Block}
 use Rattle.mscp_control.specs.Settings.{Settings}
 use Rattle.mscp_queue.specs.Orders.{order_weight}
 use Rattle.mscp_control.specs.History.{Trace, Moment, queues, Service, service_in}
-use Rattle.mscp_control.specs.Commands.{reference, unit, order, weight, waiting, done, left, in_service, service_is, ends_in}
+use Rattle.mscp_control.specs.Commands.{name, unit, order, weight, waiting, done, left, in_service, service_is, ends_in}
 use Rattle.mscp_control.specs.Passing.{is_startable}
 use Rattle.mscp_queue.specs.Outcomes.{goes_on, touches, is_good_block}
 use Rattle.mscp_control.specs.Units.{is_online}
@@ -94,14 +94,14 @@ idle_same t t' xs d h = every_weaker (λ x. (done t' x ≡ done t x) × (done t 
 
 pub done_kept : (t : Trace) (m : Moment) (x : ℕ) → service_in m.1 ≡ None → x < length t
     → done (t ++ m ∷ []) x ≡ done t x
-done_kept t m x e l = done_before t m x l ∙ (ap (λ o. done t x + cond (service_is (reference t x) o) 1 0) e
+done_kept t m x e l = done_before t m x l ∙ (ap (λ o. done t x + cond (service_is (name t x) o) 1 0) e
     ∙ omega arith)
 
 quiet : (c : Settings) (t : Trace) (m : Moment) → IsRight c t m.0 m.1 → Steady c t → service_in m.1 ≡ None
     → Steady c (t ++ m ∷ [])
 quiet c t m r s e =
     let t' = t ++ m ∷ [] in
-    let keep : ℕ → Bool = λ x. not (ends_in (reference t x) m.1) in
+    let keep : ℕ → Bool = λ x. not (ends_in (name t x) m.1) in
     let kept = filter keep (waiting t) in
     let below = every_kept (λ x. x < length t) keep (waiting t) (waiting_below t) in
     let same = every_weaker (λ x. x < length t) (λ x. done t' x ≡ done t x) (λ x l. done_kept t m x e l) kept below in

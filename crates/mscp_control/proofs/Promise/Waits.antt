@@ -8,7 +8,7 @@ use Rattle.std.proofs.lemmas.Bool.{le-ltb, lt-ltb, ltb-true, ltb-false, true≢f
 use Rattle.mscp_control.specs.declared.event.Event.TheVariants as events
 use Rattle.mscp_control.specs.declared.event.Entry.TheVariants as entries
 use Rattle.mscp_control.specs.History.{Trace, Moment, moment, positions, queues}
-use Rattle.mscp_control.specs.Commands.{reference, is_waiting, waiting, done, starts_in, ends_in, earlier, later}
+use Rattle.mscp_control.specs.Commands.{name, is_waiting, waiting, done, starts_in, ends_in, earlier, later}
 use Rattle.mscp_control.specs.Passing.{toll, passed_at, passed}
 use Rattle.mscp_queue.specs.Pairs.{Pairs}
 use Rattle.mscp_queue.proofs.Lists.{filter_all, filter_none, pairs_middle, sum_none, every_weaker, every_kept, every_filter, range_below, pairs_range, pairs_filter}
@@ -33,7 +33,7 @@ waiting_rises t = pairs_filter ◌<◌ (is_waiting t) (positions t) (pairs_range
 passed_at_past : (t : Trace) (m : Moment) (x : ℕ) → length t ≤ x → passed_at t m x ≡ 0
 unfolding passed_at
 passed_at_past t m x h = ap (λ b. cond (b && is_waiting t x && nat_eq (done t x) 0)
-    (sum_by (toll t) (filter (λ y. starts_in (reference t y) m.1) (later t x))) 0) (le-ltb x (length t) h)
+    (sum_by (toll t) (filter (λ y. starts_in (name t y) m.1) (later t x))) 0) (le-ltb x (length t) h)
 
 pub passed_past : (t : Trace) (x : ℕ) → length t ≤ x → passed t x ≡ 0
 unfolding passed
@@ -128,7 +128,7 @@ waits_below t y w =
     λ b. elim b as (λ b. nat_lt y (length t) ≡ b → y < length t) [
       | true ↦ λ e. ltb-true y (length t) e
       | false ↦ λ e. absurd (true≢false (sym w ∙ ap
-          (λ (n : Moment). queues n.1 && not (list_any (λ m. ends_in (reference t y) m.1) (drop (y + 1) t)))
+          (λ (n : Moment). queues n.1 && not (list_any (λ m. ends_in (name t y) m.1) (drop (y + 1) t)))
           (get_or_past t y (events.Take, entries.Taken None) (ltb-false y (length t) e))))
     ] in
     both (nat_lt y (length t)) refl

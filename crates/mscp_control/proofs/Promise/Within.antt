@@ -6,7 +6,7 @@ use Rattle.std.proofs.lemmas.List.Elements.{All-from_recursion, recursion_from_A
 use Rattle.std.proofs.lemmas.List.Sums.{sum_by-le}
 use Rattle.mscp_control.specs.Settings.{Settings, bound}
 use Rattle.mscp_control.specs.History.{Trace, Moment, queues, is_step, sent_bytes}
-use Rattle.mscp_control.specs.Commands.{reference, weight, waiting, done, left, steps_after, ends_in}
+use Rattle.mscp_control.specs.Commands.{name, weight, waiting, done, left, steps_after, ends_in}
 use Rattle.mscp_control.specs.Passing.{passed}
 use Rattle.mscp_control.specs.Figures.{figure}
 use Rattle.mscp_control.specs.Account.{balance}
@@ -59,7 +59,7 @@ pub within_more : (c : Settings) (t : Trace) (m : Moment) → IsRight c t m.0 m.
 within_more c t m r f short w =
     let t' = t ++ m ∷ [] in
     let n = length t in
-    let keep : ℕ → Bool = λ x. not (ends_in (reference t x) m.1) in
+    let keep : ℕ → Bool = λ x. not (ends_in (name t x) m.1) in
     let kept = filter keep (waiting t) in
     let New : ℕ → Type 0 = λ x. figure c t' x + steps_after t' x ≤ bound c in
     let Old : ℕ → Type 0 = λ x. (figure c t x + steps_after t x ≤ bound c) × (x < length t) in

@@ -2,7 +2,9 @@
 use Rattle.std.proofs.Common.{◌≡◌, ℕ, true, false, List, [], ◌∷◌, ◌++◌, map, take, refl, ap, arith}
 use Rattle.std.specs.Prelude.{Some, Ok, Err, unwrap_or, replicate}
 use Rattle.std.proofs.lemmas.Bool.{false≢true}
+use Rattle.mscp_queue.specs.Names.{name_on}
 use Rattle.mscp_packet.specs.Commands.{command_of}
+use Rattle.mscp_queue.specs.declared.name.Connection.TheVariants.{First}
 use Rattle.mscp_queue.specs.declared.block.Block.TheVariants.{Good}
 use Rattle.mscp_queue.specs.declared.report.Report.TheVariants as reports
 use Rattle.mscp_queue.specs.declared.upcoming.Upcoming.{Upcoming}
@@ -27,6 +29,7 @@ plain m = Plain m.0 m.1
 -- what is told of a read of one block that had no step
 abbrev one_block : ℕ → ℕ → Upcoming
 one_block r block = record {
+  connection = First;
   command = record { reference = r; unit = 0; order = read 512 block };
   lbn =
       Some block;
@@ -49,7 +52,7 @@ begun_and_aborted =
     ∷ plain (aborted 3 1)
     ∷ Finish 1 Good (Err stale)
     ∷ Begin (Some (one_block 2 0))
-    ∷ Finish 2 Good (Ok (reports.Served 2 0 (Some 0) true 0 (moved 2 0 0 512)))
+    ∷ Finish 2 Good (Ok (reports.Served First 2 0 (Some 0) true 0 (moved 2 0 0 512)))
     ∷ []
 
 begun_legal : IsLegal (settings 8 8) (history begun_and_aborted)
@@ -117,7 +120,7 @@ unfolding moment collect command_of command is_waiting waiting done good passed_
 near_told = (4, refl, refl, refl)
 
 -- and what is finished is that one.
-near_finished : IsBegun (take 10 begun_and_aborted) 2
+near_finished : IsBegun (take 10 begun_and_aborted) (name_on First 2)
 unfolding moment collect command_of command is_waiting waiting done good passed_at passed is_free is_startable startable
     figure figure_of is_online head_cylinder head_up cost swept answer outcome ends untaken balance outstanding arrival
     block_of
@@ -148,7 +151,7 @@ number_again =
     ∷ plain (queued 1 0 (read 512 80))
     ∷ Finish 1 Good (Err stale)
     ∷ Begin (Some (one_block 1 80))
-    ∷ Finish 1 Good (Ok (reports.Served 1 0 (Some 80) true 4 (moved 1 0 0 512)))
+    ∷ Finish 1 Good (Ok (reports.Served First 1 0 (Some 80) true 4 (moved 1 0 0 512)))
     ∷ []
 
 again_legal : IsLegal (settings 8 8) (history number_again)
@@ -184,7 +187,7 @@ unfolding moment collect command_of command is_waiting waiting done good passed_
 new_unbegun upcoming b = false≢true b.waited
 
 -- and what is finished in the end is the new one.
-new_finished : IsBegun (take 12 number_again) 1
+new_finished : IsBegun (take 12 number_again) (name_on First 1)
 unfolding moment collect command_of command is_waiting waiting done good passed_at passed is_free is_startable startable
     figure figure_of is_online head_cylinder head_up cost swept answer outcome ends untaken balance outstanding arrival
     block_of

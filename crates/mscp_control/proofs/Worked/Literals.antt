@@ -1,12 +1,13 @@
 -- Short words for literal runs.
 use Rattle.std.proofs.Common.{ℕ, ◌+◌, ◌*◌, Bool, true, List, [], ◌∷◌, ◌++◌}
-use Rattle.std.specs.Prelude.{replicate, Option, Some, None, Result, Ok, Err}
+use Rattle.std.specs.Prelude.{map, replicate, Option, Some, None, Result, Ok, Err}
 use Rattle.mscp_packet.specs.declared.command.Order.{Order}
 use Rattle.mscp_packet.specs.declared.command.Order.TheVariants as orders
 use Rattle.mscp_packet.specs.declared.command.MoveKind.TheVariants as moves
 use Rattle.mscp_packet.specs.declared.end.End.{End}
 use Rattle.mscp_packet.specs.declared.end.EndBody.TheVariants as bodies
 use Rattle.mscp_packet.specs.Commands.{command_bytes}
+use Rattle.mscp_queue.specs.declared.name.Connection.TheVariants.{First}
 use Rattle.mscp_queue.specs.declared.block.Block.{Block}
 use Rattle.mscp_queue.specs.declared.block.Block.TheVariants.{Good}
 use Rattle.mscp_queue.specs.declared.report.Report.TheVariants as reports
@@ -94,13 +95,14 @@ took_none = (events.Take, entries.Taken None)
 abbrev pub idle : Moment
 idle = (events.Step Good, entries.Stepped reports.Idle)
 
+-- a look that tells these reference numbers and figures, of commands that came by the first connection
 abbrev pub looked : List (ℕ × ℕ) → Moment
-looked l = (events.Look, entries.Looked (record { items = l }))
+looked l = (events.Look, entries.Looked (record { items = map (λ p. (First, p.0, p.1)) l }))
 
 -- a step that serves this reference and unit, touches this block, perhaps starts the command, moves the head
 -- by so many cylinders, and perhaps ends the command
 abbrev pub served : Block → ℕ → ℕ → Option ℕ → Bool → ℕ → Option End → Moment
-served k r u lbn started seek ended = (events.Step k, entries.Stepped (reports.Served r u lbn started seek ended))
+served k r u lbn started seek ended = (events.Step k, entries.Stepped (reports.Served First r u lbn started seek ended))
 
 -- the end of a transfer with this endcode, reference, unit, status and byte count
 abbrev pub moved_by : ℕ → ℕ → ℕ → ℕ → ℕ → Option End

@@ -9,6 +9,8 @@ use Rattle.mscp_packet.specs.declared.end.End.{End}
 use Rattle.mscp_packet.specs.declared.end.EndBody.{EndBody}
 use Rattle.mscp_packet.specs.declared.end.EndBody.TheVariants as bodies
 use Rattle.mscp_packet.specs.Commands.{command_of}
+use Rattle.mscp_queue.specs.declared.name.Connection.{Connection}
+use Rattle.mscp_queue.specs.declared.name.Connection.TheVariants.{First}
 use Rattle.mscp_queue.specs.declared.block.Block.{Block}
 use Rattle.mscp_queue.specs.declared.block.Block.TheVariants.{Good, Bad}
 use Rattle.mscp_control.specs.declared.event.SendFault.TheVariants as faults
@@ -143,7 +145,15 @@ bad_available h =
 -- ---- starts
 
 third : Service
-third = record { reference = 3; unit = 0; lbn = Some 60; started = true; seek = 1; ended = moved 3 0 0 512 }
+third = record {
+  connection = First;
+  reference = 3;
+  unit = 0;
+  lbn = Some 60;
+  started = true;
+  seek = 1;
+  ended = moved 3 0 0 512;
+}
 
 not_third : (y : ℕ) → IsServed (with_budget 5 1) (take 9 passed_once) Good third y → ⊥
 unfolding third moment collect command_of command is_waiting waiting done good passed_at passed is_free is_startable
@@ -180,9 +190,9 @@ unfolding moment collect command_of command is_waiting waiting done good passed_
     taken_byte
 newest_first h = let e : 3 ≡ 2 = ap taken_byte h in omega (arith, e)
 
-first_figure : List (ℕ × ℕ) → ℕ
+first_figure : List (Connection × ℕ × ℕ) → ℕ
 first_figure [] = 0
-first_figure (p ∷ ps) = p.1
+first_figure (p ∷ ps) = p.2
 
 -- A figure isn't the command's own blocks alone.
 own_blocks : IsWrong (with_budget 5 1) (take 6 passed_once) (looked ((1, 1) ∷ (2, 1) ∷ (3, 1) ∷ []))

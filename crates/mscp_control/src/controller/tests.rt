@@ -87,6 +87,7 @@ fn a_bad_block_ends_its_transfer(rt: HostRuntime) {
         body: EndBody::Moved(512),
     };
     let wanted = Report::Served {
+        connection: Connection::First,
         reference: 1,
         unit: 0,
         lbn: Some(1),
@@ -113,6 +114,7 @@ fn a_transfer_on_an_available_unit_touches_nothing(rt: HostRuntime) {
         body: EndBody::Moved(0),
     };
     let wanted = Report::Served {
+        connection: Connection::First,
         reference: 1,
         unit: 0,
         lbn: None,

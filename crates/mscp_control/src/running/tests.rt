@@ -4,7 +4,7 @@ use crate::event::{SendFault, Sent};
 use arrayvec::ArrayVec;
 use linked_list_allocator::LocalHeap;
 use mscp_packet::{End, EndBody};
-use mscp_queue::{Block, FaultStatus, Oldest, Report};
+use mscp_queue::{Block, Connection, FaultStatus, Oldest, Report};
 use std::mem::size_of;
 use std::process::Abort;
 
@@ -113,6 +113,7 @@ fn a_bad_online_leaves_the_unit_available(rt: HostRuntime) {
     let wanted = [
         Entry::Sent(Ok(Sent::Queued(1))),
         Entry::Stepped(Report::Served {
+            connection: Connection::First,
             reference: 1,
             unit: 0,
             lbn: None,
@@ -232,7 +233,7 @@ fn a_long_run_finds_memory_at_balance_0(rt: HostRuntime) {
         .expect(&rt, "memory");
     assert_eq!(rt; entries.len(), 21_001);
     let mut figures = ArrayVec::new();
-    figures.push((1, 17));
+    figures.push((Connection::First, 1, 17));
     let told = b"\x03\0\0\0\0\0\0\0\x82\0\0\0\x01\0\0\0\x11\0\0\0";
     let wanted = [
         Entry::Sent(Ok(Sent::Queued(1))),

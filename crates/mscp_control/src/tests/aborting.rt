@@ -99,7 +99,7 @@ fn no_abort_raises_a_figure(rt: HostRuntime) {
             let after = controller.look();
             assert_eq!(rt; after.len(), 62);
             assert_eq!(rt; controller.balance(), 0);
-            for (reference, figure) in before.as_slice() {
+            for (_, reference, figure) in before.as_slice() {
                 let now = controller.figure(*reference);
                 assert!(rt; now <= *figure, "{reference} after an abort of {other}");
                 assert_eq!(rt; now == 0, *reference == other);

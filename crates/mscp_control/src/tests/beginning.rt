@@ -1,7 +1,10 @@
 // What begin tells, when a finish is stale, and what a reset leaves.
 
 use super::*;
+use crate::Connection;
 use mscp_packet::{Command, End, EndBody, read_end, write_command};
+
+const FIRST: Connection = Connection::First;
 
 /// A READ of unit 0.
 fn read(reference: u32, bytes: u32, block: u32) -> Command {
@@ -75,6 +78,7 @@ fn abort_ended(reference: u32, other: u32) -> End {
 /// The one step of a READ of one block, for which the head crossed so many cylinders.
 fn first_and_last(reference: u32, lbn: u32, seek: u32) -> Report {
     Report::Served {
+        connection: Connection::First,
         reference,
         unit: 0,
         lbn: Some(lbn),
@@ -96,6 +100,7 @@ fn an_abort_of_what_was_begun_is_stale(rt: HostRuntime) {
             let _report = controller.step(Block::Good);
         }
         let begun = Upcoming {
+            connection: Connection::First,
             command,
             lbn: Some(40 + done),
             done,
@@ -141,7 +146,7 @@ fn is_stale(
     rt: &impl Abort,
     controller: &mut Controller<Oldest>,
     reference: u32,
-    figures: &[(u32, u32)],
+    figures: &[(Connection, u32, u32)],
     balance: u32,
 ) {
     let status = FaultStatus::new(0x000B).expect(rt, "a status");
@@ -160,18 +165,36 @@ fn a_stale_finish_changes_nothing(rt: HostRuntime) {
     let mut controller = ready(&rt, Oldest);
     send(&rt, &mut controller, &read(1, 512, 40));
     send(&rt, &mut controller, &read(2, 512, 0));
-    is_stale(&rt, &mut controller, 1, &[(1, 17), (2, 18)], 2);
+    is_stale(
+        &rt,
+        &mut controller,
+        1,
+        &[(FIRST, 1, 17), (FIRST, 2, 18)],
+        2,
+    );
     let begun = controller.begin().expect(&rt, "READ 1");
     assert_eq!(rt; begun.command, read(1, 512, 40));
-    is_stale(&rt, &mut controller, 2, &[(1, 17), (2, 18)], 2);
-    is_stale(&rt, &mut controller, 3, &[(1, 17), (2, 18)], 2);
+    is_stale(
+        &rt,
+        &mut controller,
+        2,
+        &[(FIRST, 1, 17), (FIRST, 2, 18)],
+        2,
+    );
+    is_stale(
+        &rt,
+        &mut controller,
+        3,
+        &[(FIRST, 1, 17), (FIRST, 2, 18)],
+        2,
+    );
     assert_eq!(rt; controller.begin(), Some(begun));
     assert_eq!(rt;
         controller.finish(1, Block::Good),
         Ok(first_and_last(1, 40, 2))
     );
     assert!(rt; controller.take().is_some());
-    is_stale(&rt, &mut controller, 1, &[(2, 17)], 3);
+    is_stale(&rt, &mut controller, 1, &[(FIRST, 2, 17)], 3);
     assert!(rt; controller.begin().is_some());
     controller.reset();
     is_stale(&rt, &mut controller, 2, &[], 4);
@@ -185,6 +208,7 @@ fn a_cheaper_arrival_changes_nothing_that_was_begun(rt: HostRuntime) {
     let mut controller = ready(&rt, Sweep);
     send(&rt, &mut controller, &far);
     let begun = Upcoming {
+        connection: Connection::First,
         command: far,
         lbn: Some(980),
         done: 0,
@@ -221,6 +245,7 @@ fn online_ended() -> End {
 /// The one step of a command that touches no block.
 fn untouched(end: End) -> Report {
     Report::Served {
+        connection: Connection::First,
         reference: end.reference,
         unit: 0,
         lbn: None,
@@ -235,6 +260,7 @@ fn ends_untouched(rt: &impl Abort, command: Command, weight: u32, end: End) {
     let mut controller = controller(rt, Oldest);
     send(rt, &mut controller, &command);
     let begun = Upcoming {
+        connection: Connection::First,
         command,
         lbn: None,
         done: 0,
@@ -352,7 +378,7 @@ fn is_new(rt: &impl Abort, controller: &mut Controller<Sweep>) {
     for command in [read(3, 512, 100), online, read(2, 512, 100)] {
         send(rt, controller, &command);
     }
-    let figures = [(3, 17), (1, 18), (2, 19)];
+    let figures = [(FIRST, 3, 17), (FIRST, 1, 18), (FIRST, 2, 19)];
     assert_eq!(rt; controller.look().as_slice(), figures.as_slice());
     let reports = [
         untouched(read_ended(3, 0x0004, 0)),

@@ -2,6 +2,7 @@ ghost use Rattle.std.specs.Prelude.{◌≡◌};
 ghost use Rattle.mscp_queue.specs.Orders.{first_block};
 
 use super::*;
+use crate::name::Connection;
 use mscp_drive::Unit;
 use mscp_packet::{Command, MoveKind};
 use std::process::Abort;
@@ -17,7 +18,7 @@ fn transfer() -> Record
         unit: 0,
         order: Order::Move(MoveKind::Read, 1024, 199),
     };
-    Record::new(command, 2)
+    Record::new(Connection::First, command, 2)
 }
 
 /// An online unit of 1000 blocks, 20 blocks a cylinder, whose head is on cylinder 10 and goes up.

@@ -9,7 +9,7 @@ ghost use Rattle.mscp_script.specs.Text.{aborted_part, block_word, end_line, end
 use crate::reporting::tail::Tail;
 use crate::totals::Totals;
 use arrayvec::ArrayVec;
-use mscp_control::{Report, SendFault, Sent};
+use mscp_control::{Connection, Report, SendFault, Sent};
 use mscp_packet::End;
 use mscp_text::{put, put_field};
 use std::alloc::AllocError;
@@ -127,6 +127,7 @@ pub fn put_step(out: &mut Vec<u8>, line: &mut Tail, report: &Report) -> Result<(
     match report {
         Report::Idle => put(out, "idle\n"),
         Report::Served {
+            connection: _,
             reference,
             unit,
             lbn,
@@ -150,14 +151,13 @@ pub fn put_step(out: &mut Vec<u8>, line: &mut Tail, report: &Report) -> Result<(
 fn put_figure(
     out: &mut Vec<u8>,
     line: &mut Tail,
-    reference: u32,
-    figure: u32,
+    shown: &(Connection, u32, u32),
 ) -> Result<(), AllocError>
-    ensures { OnOk result (out.new.items ≡ out.old.items ++ figure_line (reference, figure)) }
+    ensures { OnOk result (out.new.items ≡ out.old.items ++ figure_line shown.now) }
 {
     line.begin();
-    line.field(" ", figure);
-    line.field("figure ", reference);
+    line.field(" ", shown.2);
+    line.field("figure ", shown.1);
     out.extend_from_slice(line.bytes())
 }
 
@@ -165,12 +165,12 @@ fn put_figure(
 pub fn put_figures(
     out: &mut Vec<u8>,
     line: &mut Tail,
-    shown: &[(u32, u32)],
+    shown: &[(Connection, u32, u32)],
 ) -> Result<(), AllocError>
     ensures { OnOk result (out.new.items ≡ out.old.items ++ flat_map figure_line shown.now) }
 {
-    for (reference, figure) in shown {
-        put_figure(out, line, *reference, *figure)?;
+    for command in shown {
+        put_figure(out, line, command)?;
     }
     Ok(())
 }

@@ -2,16 +2,21 @@
 use Rattle.std.proofs.Common.{◌≡◌, ℕ, ◌+◌, ◌≤◌, true, false, List, map, take, refl, ap, sym, ◌∙◌, subst}
 use Rattle.std.specs.Prelude.{nat_eq, Some, None, is_some, unwrap_or, Result, Ok, Err}
 use Rattle.std.specs.List.{list_any}
+use Rattle.mscp_queue.specs.declared.name.Connection.TheVariants.{First}
+use Rattle.mscp_queue.specs.declared.name.Name.{Name}
+use Rattle.mscp_queue.specs.Names.{name_on}
+use Rattle.mscp_queue.specs.Records.{name_of}
+use Rattle.mscp_queue.proofs.Placed.{map_map}
 use Rattle.mscp_queue.specs.declared.view.Choice.{Choice}
-use Rattle.mscp_queue.specs.Figures.{figure_of_reference}
+use Rattle.mscp_queue.specs.Figures.{figure_of_name}
 use Rattle.mscp_queue.specs.Kept.{names}
 use Rattle.mscp_control.specs.Settings.{Settings}
-use Rattle.mscp_control.specs.Commands.{name, waiting}
+use Rattle.mscp_control.specs.Commands.{name, reference, waiting}
 use Rattle.mscp_control.specs.Controllers.{KeepsPromise}
 use Rattle.mscp_control.specs.Figures.{figure_of}
 use Rattle.mscp_control.specs.Headline.{Promise}
 use Rattle.mscp_control.specs.History.{Trace}
-use Rattle.mscp_control.specs.Holdings.{Holdings}
+use Rattle.mscp_control.specs.Holdings.{Holdings, numbers}
 use Rattle.mscp_host.specs.declared.news.HostFault.{HostFault}
 use Rattle.mscp_host.specs.declared.news.Poll.{Poll}
 use Rattle.mscp_host.specs.declared.news.Poll.TheVariants as polls
@@ -31,17 +36,21 @@ use Rattle.mscp_sim.proofs.TwoEnds.Turning.{Comes, Turns, heard_at, is_news, kep
 
 -- what the controller tells now of a number
 figure_now : {K : Type 0} (c : Settings) (picks : List Choice → ℕ → Type 0) (t : Trace) (h : Holdings K)
-    (s : Submission) → KeepsPromise picks c (calls_of t) h → (told_now h s).figure ≡ figure_of c t s.reference
+    (s : Submission) → KeepsPromise picks c (calls_of t) h
+    → (told_now h s).figure ≡ figure_of c t (name_on First s.reference)
 figure_now c picks t h s k =
-    ap (λ (d : Settings). figure_of_reference d.budget h.waiting s.reference) k.settings
-    ∙ (k.figure s.reference ∙ ap (λ u. figure_of c u s.reference) (history_of t))
+    ap (λ (d : Settings). figure_of_name d.budget h.waiting (name_on First s.reference)) k.settings
+    ∙ (k.figure (name_on First s.reference) ∙ ap (λ u. figure_of c u (name_on First s.reference)) (history_of t))
 
 some_now : {K : Type 0} (c : Settings) (picks : List Choice → ℕ → Type 0) (t : Trace) (h : Holdings K) (s : Submission)
-    → KeepsPromise picks c (calls_of t) h → (told_now h s).waited ≡ true → 1 ≤ figure_of c t s.reference
+    → KeepsPromise picks c (calls_of t) h → (told_now h s).waited ≡ true → 1 ≤ figure_of c t (name_on First s.reference)
 some_now c picks t h s k w =
     let promise = subst (Promise c) (history_of t) k.promise in
     let waits = subst (λ u. names h.waiting ≡ map (name u) (waiting u)) (history_of t) k.waiting in
-    some_figure c t s.reference promise (ap (list_any (λ x. nat_eq x s.reference)) (sym waits) ∙ w)
+    let numbered : numbers h.waiting ≡ map (reference t) (waiting t) =
+    sym (map_map name_of (λ (n : Name). n.reference) h.waiting)
+    ∙ (ap (map (λ (n : Name). n.reference)) waits ∙ map_map (name t) (λ (n : Name). n.reference) (waiting t)) in
+    some_figure c t s.reference promise (ap (list_any (λ x. nat_eq x s.reference)) (sym numbered) ∙ w)
 
 pub poll_turn : {K : Type 0} {c : Settings} {picks : List Choice → ℕ → Type 0} {picker : K} {talk : Talk} {j : ℕ}
     {a' : Account} {h' : Holdings K} → (x : Comes c picks picker talk j a' h') → (r : ℕ)
@@ -74,7 +83,7 @@ poll_turn {K} {c} {picks} {picker} {talk} {j} {a'} {h'} x r t (Ok (polls.Ask b))
     let fresh = subst (λ (z : Account). list_any (has_reference r) z.outstanding ≡ false) x.at.account y.fresh in
     let so_far = trace_of (take j talk) in
     let now : (told_now x.controller y.about).figure ≡ figure_told c talk j =
-    figure_now c picks so_far x.controller y.about x.keeps ∙ ap (figure_of c so_far) number in
+    figure_now c picks so_far x.controller y.about x.keeps ∙ ap (λ n. figure_of c so_far (name_on First n)) number in
     record {
       tells = record {
         says = heard_at x same;

@@ -7,15 +7,17 @@ use Rattle.std.proofs.lemmas.Bool.{cases_eq, cases_lt, eqb-true, false≢true, t
 use Rattle.std.proofs.lemmas.Bool.Decides.{nat_tests}
 use Rattle.std.proofs.lemmas.List.{length-append, take_all}
 use Rattle.std.proofs.Math.Seq.{take-append_seam}
+use Rattle.mscp_packet.specs.declared.command.Command.{Command}
+use Rattle.mscp_queue.specs.declared.name.Connection.TheVariants.{First}
+use Rattle.mscp_queue.specs.Names.{name_on}
 use Rattle.mscp_control.specs.Settings.{Settings}
 use Rattle.mscp_control.specs.History.{Moment, Trace, is_step, moment, queues}
-use Rattle.mscp_control.specs.Commands.{ends_in, is_waiting, reference, sent_command, waiting}
+use Rattle.mscp_control.specs.Commands.{ends_in, is_waiting, name, reference, sent_command, waiting}
 use Rattle.mscp_control.specs.Figures.{figure, figure_found, figure_of}
 use Rattle.mscp_control.specs.Headline.{Promise}
 use Rattle.mscp_control.specs.declared.event.Event.TheVariants as events
 use Rattle.mscp_control.specs.declared.event.Entry.TheVariants as entries
-use Rattle.mscp_control.proofs.Promise.Grows.{is_waiting_before, is_waiting_last, moment_last}
-use Rattle.mscp_control.proofs.Promise.Apart.{reference_before, reference_last}
+use Rattle.mscp_control.proofs.Promise.Grows.{command_before, command_last, is_waiting_before, is_waiting_last, moment_last}
 use Rattle.mscp_control.proofs.Promise.Waits.{cut, waiting_waits, waits_below}
 use Rattle.mscp_host.specs.Accounts.{Account}
 use Rattle.mscp_queue.proofs.Placed.{found_is}
@@ -177,19 +179,20 @@ trace_at talk m = trace_of (take m talk)
 
 -- what each part of a promised trace has
 part_of : (c : Settings) (t u : Trace) → Promise c (t ++ u) → (x : ℕ) → Contains (waiting t) x
-    → figure_of c t (reference t x) ≡ figure c t x
+    → figure_of c t (name t x) ≡ figure c t x
 part_of c t u p x w =
     let inside : length t ≤ length (t ++ u) = let l = length-append t u in omega (arith, l) in
-    subst (λ v. (x : ℕ) → Contains (waiting v) x → figure_of c v (reference v x) ≡ figure c v x) (take-append_seam t u)
+    subst (λ v. (x : ℕ) → Contains (waiting v) x → figure_of c v (name v x) ≡ figure c v x) (take-append_seam t u)
     (p.own (length t) inside) x w
 
 first_most : (c : Settings) (talk : Talk) (p n : ℕ) → AllKnown c talk → p < length talk
-    → AtMost c (trace_at talk p) n (figure_of c (trace_at talk p) n)
+    → AtMost c (trace_at talk p) n (figure_of c (trace_at talk p) (name_on First n))
 first_most c talk p n known l x w r =
     let t = trace_at talk p in
     let promise = subst (Promise c) (trace_more talk p l) (known p l).promise in
     let own = part_of c t (option_to_list (said talk p).moment) promise x (contains_waiting t x w) in
-    let same : figure_of c t n ≡ figure c t x = ap (figure_of c t) (sym r) ∙ own in
+    let same : figure_of c t (name_on First n) ≡ figure c t x =
+    ap (λ k. figure_of c t (name_on First k)) (sym r) ∙ own in
     omega (arith, same)
 
 -- the promise at its last moment
@@ -221,13 +224,14 @@ most_moment : (c : Settings) (t : Trace) (m : Moment) (n g g' : ℕ) → Promise
     → AtMost c t n g → AtMost c (t ++ m ∷ []) n g'
 most_moment c t m n g g' p new way most x w r =
     let t' = t ++ m ∷ [] in
+    let number : Command → ℕ = λ k. k.reference in
     let size : length t' ≡ length t + 1 = length-append t (m ∷ []) in
     let inside : x < length t' = waits_below t' x w in
     ⊎_elim
     (λ below.
-    let was : (is_waiting t x && not (ends_in (reference t x) m.1)) ≡ true = sym (is_waiting_before t m x below) ∙ w in
+    let was : (is_waiting t x && not (ends_in (name t x) m.1)) ≡ true = sym (is_waiting_before t m x below) ∙ w in
     let waits = (both_true (is_waiting t x) _ was).0 in
-    let named : reference t x ≡ n = sym (reference_before t m x below) ∙ r in
+    let named : reference t x ≡ n = sym (ap number (command_before t m x below)) ∙ r in
     let old = most x waits named in
     let there = contains_waiting t x waits in
     let rises = never_rises_at c t m p x there in
@@ -237,7 +241,7 @@ most_moment c t m n g g' p new way most x w r =
     (λ beyond.
     let last : x ≡ length t = omega (arith, beyond, inside, size) in
     let queued : queues m.1 ≡ true = sym (is_waiting_last t m) ∙ (ap (is_waiting t') (sym last) ∙ w) in
-    absurd (new queued (sym (reference_last t m) ∙ (ap (reference t') (sym last) ∙ r))))
+    absurd (new queued (sym (ap number (command_last t m)) ∙ (ap (reference t') (sym last) ∙ r))))
     (cases_lt x (length t))
 
 -- ---- from poll to poll
@@ -318,10 +322,10 @@ record Waits (c : Settings) (t : Trace) (n : ℕ) : Type 0 where
   pub command : ℕ
   pub waits : is_waiting t command ≡ true
   pub named : reference t command ≡ n
-  pub figure : figure_of c t n ≡ figure c t command
+  pub figure : figure_of c t (name_on First n) ≡ figure c t command
 
 waits_of : (c : Settings) (t : Trace) (n : ℕ) (o : Option ℕ) → find (λ x. nat_eq (reference t x) n) (waiting t) ≡ o
-    → figure_of c t n ≡ figure_found c t o → 1 ≤ figure_found c t o → Waits c t n
+    → figure_of c t (name_on First n) ≡ figure_found c t o → 1 ≤ figure_found c t o → Waits c t n
 waits_of c t n None e f l = absurd (omega (arith, l))
 waits_of c t n (Some x) e f l = record {
   command = x;
@@ -330,7 +334,7 @@ waits_of c t n (Some x) e f l = record {
   figure = f;
 }
 
-waits_at : (c : Settings) (t : Trace) (n : ℕ) → 1 ≤ figure_of c t n → Waits c t n
+waits_at : (c : Settings) (t : Trace) (n : ℕ) → 1 ≤ figure_of c t (name_on First n) → Waits c t n
 unfolding figure_of
 waits_at c t n l = waits_of c t n (find (λ x. nat_eq (reference t x) n) (waiting t)) refl refl l
 
@@ -354,10 +358,11 @@ never_reset c talk known j l st steps =
     let step = steps p less came.about in
     let s : Standing c talk q i =
     sooner c talk q j i (omega (arith, qj)) (record { known = known; inside = l; stands = st.outstanding }) in
-    let g = figure_of c (trace_at talk p) n in
-    let first : st.last ≡ g = sym came.told ∙ ap (λ o. figure_of c (trace_at talk p) (reference_found talk o)) pp in
-    let second : figure_told c talk q ≡ figure_of c (trace_at talk q) n =
-    ap (λ o. figure_of c (trace_at talk q) (reference_found talk o)) pq in
+    let g = figure_of c (trace_at talk p) (name_on First n) in
+    let first : st.last ≡ g =
+    sym came.told ∙ ap (λ o. figure_of c (trace_at talk p) (name_on First (reference_found talk o))) pp in
+    let second : figure_told c talk q ≡ figure_of c (trace_at talk q) (name_on First n) =
+    ap (λ o. figure_of c (trace_at talk q) (name_on First (reference_found talk o))) pq in
     let at_p = first_most c talk p n known (omega (arith, less, ql)) in
     let pk = step.1 in
     let kq = step.2 in

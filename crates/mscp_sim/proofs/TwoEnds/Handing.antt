@@ -11,16 +11,15 @@ use Rattle.mscp_packet.specs.declared.end.EndBody.TheVariants as bodies
 use Rattle.mscp_packet.specs.declared.end.BodyKind.{BodyKind}
 use Rattle.mscp_packet.specs.Commands.{opcode_byte}
 use Rattle.mscp_packet.specs.Ends.{HasBody, IsEnd, end_at, end_length, kind_of_code, reading_with}
-use Rattle.mscp_queue.specs.Names.{end_name}
 use Rattle.mscp_queue.proofs.Lists.{every_weaker, every_both}
-use Rattle.mscp_control.specs.Holdings.{Holdings, outstanding_of}
+use Rattle.mscp_control.specs.Holdings.{Holdings, numbers_ended, outstanding_of}
 use Rattle.mscp_host.specs.declared.submission.Submission.{Submission}
 use Rattle.mscp_host.specs.declared.watch.Watch.{Watch}
 use Rattle.mscp_host.specs.Accounts.{Account, answered, end_in, has_reference, heard, is_about_polled, is_code_of, news_with, outstanding_with, received, polled_is_outstanding, told_in, watch_after, with_told, without}
 use Rattle.mscp_host.proofs.Hearing.{heard_ok}
 use Rattle.mscp_sim.specs.Matches.{Flight, HasFlight, IsAwaited, IsFlight, IsKnown, Matches, commands, times}
 use Rattle.mscp_sim.proofs.TwoEnds.Counting.{length_without, opcode_told, opcode_without, references_told, small_told, small_without, times_append, times_without}
-use Rattle.mscp_sim.proofs.TwoEnds.Matching.{called, counted_names, times_ends}
+use Rattle.mscp_sim.proofs.TwoEnds.Matching.{called, counted_numbers, times_ends}
 
 -- ---- reading
 
@@ -65,21 +64,21 @@ other_commands : (n : ℕ) (cs : List Command) → times n (called cs) ≡ 0
 other_commands n [] z = tt
 other_commands n (c ∷ cs) z = let k = not_first n c.reference (times n (called cs)) z in (k.0, other_commands n cs k.1)
 
-other_ends : (n : ℕ) (us : List End) → times n (map end_name us) ≡ 0
+other_ends : (n : ℕ) (us : List End) → times n (numbers_ended us) ≡ 0
     → AllByRecursion (λ e. nat_eq n e.reference ≡ false) us
 other_ends n [] z = tt
-other_ends n (e ∷ us) z = let k = not_first n e.reference (times n (map end_name us)) z in (k.0, other_ends n us k.1)
+other_ends n (e ∷ us) z = let k = not_first n e.reference (times n (numbers_ended us)) z in (k.0, other_ends n us k.1)
 
 -- no other command has the number of the first end
 pub alone : {K : Type 0} (a : Account) (h : Holdings K) (told : Flight) (e : End) (us : List End) → Matches a h told
     → h.untaken ≡ e ∷ us → (times e.reference (called (commands h.waiting)) ≡ 0)
-    × (times e.reference (map end_name us) ≡ 0)
+    × (times e.reference (numbers_ended us) ≡ 0)
 alone a h told e us m u =
     let n = e.reference in
     let one = m.once n in
-    let all = counted_names n h in
-    let ends : times n (map end_name h.untaken) ≡ 1 + times n (map end_name us) =
-    ap (λ es. times n (map end_name es)) u ∙ times_own n (map end_name us) in
+    let all = counted_numbers n h in
+    let ends : times n (numbers_ended h.untaken) ≡ 1 + times n (numbers_ended us) =
+    ap (λ es. times n (numbers_ended es)) u ∙ times_own n (numbers_ended us) in
     (omega (arith, one, all, ends), omega (arith, one, all, ends))
 
 -- ---- what the first end tells
@@ -90,7 +89,7 @@ status_of w figure body e = rw e (eq-eqb w.polled w.polled refl)
 
 -- the end of the poll in flight comes first, where the first end has its number
 pub first_is : (e : End) (us : List End) (w : Watch) (told : Flight) → (f : IsFlight (e ∷ us) w told)
-    → times e.reference (map end_name us) ≡ 0 → w.reference ≡ e.reference → (f.front ≡ []) × (f.end ≡ e)
+    → times e.reference (numbers_ended us) ≡ 0 → w.reference ≡ e.reference → (f.front ≡ []) × (f.end ≡ e)
 first_is e us w told f z s =
     let Goal : List End → Type 0 = λ front. f.front ≡ front → e ∷ us ≡ front ++ f.end ∷ f.back
     → (f.front ≡ []) × (f.end ≡ e) in
@@ -100,20 +99,20 @@ first_is e us w told f z s =
       | g ∷ gs ↦ λ q p.
           let tail : us ≡ gs ++ f.end ∷ f.back = ap (drop 1) p in
           let named : f.end.reference ≡ e.reference = f.reference ∙ s in
-          let counts : times e.reference (map end_name us) ≡ times e.reference (map end_name (gs ++ f.end ∷ f.back)) =
-          ap (λ xs. times e.reference (map end_name xs)) tail in
-          let some : times e.reference (map end_name (gs ++ f.end ∷ f.back)) ≡ times e.reference (map end_name gs)
-          + (1 + times e.reference (map end_name f.back)) =
+          let counts : times e.reference (numbers_ended us) ≡ times e.reference (numbers_ended (gs ++ f.end ∷ f.back)) =
+          ap (λ xs. times e.reference (numbers_ended xs)) tail in
+          let some : times e.reference (numbers_ended (gs ++ f.end ∷ f.back)) ≡ times e.reference (numbers_ended gs)
+          + (1 + times e.reference (numbers_ended f.back)) =
           times_ends e.reference gs (f.end ∷ f.back)
-          ∙ ap (λ n. times e.reference (map end_name gs) + n)
-          (subst (λ k. times k (f.end.reference ∷ map end_name f.back) ≡ 1 + times k (map end_name f.back)) named
-          (times_own f.end.reference (map end_name f.back))) in
+          ∙ ap (λ n. times e.reference (numbers_ended gs) + n)
+          (subst (λ k. times k (f.end.reference ∷ numbers_ended f.back) ≡ 1 + times k (numbers_ended f.back)) named
+          (times_own f.end.reference (numbers_ended f.back))) in
           absurd (omega (arith, z, counts, some))
     ] in
     cases f.front refl f.split
 
 about_with : (e : End) (us : List End) (w : Watch) (told : Flight) (b : Bool) → nat_eq w.reference e.reference ≡ b
-    → IsFlight (e ∷ us) w told → times e.reference (map end_name us) ≡ 0
+    → IsFlight (e ∷ us) w told → times e.reference (numbers_ended us) ≡ 0
     → is_about_polled (Some w) (if b && nat_eq e.code 0x82 then told_in e.body else None) ≡ true
 about_with e us w told false s f z = refl
 about_with e us w told true s f z =
@@ -123,7 +122,7 @@ about_with e us w told true s f z =
     [ true ↦ status_of w told.figure e.body body | false ↦ refl ]
 
 about : (e : End) (us : List End) (watch : Option Watch) (told : Flight) → HasFlight (e ∷ us) watch told
-    → times e.reference (map end_name us) ≡ 0 → is_about_polled watch (answered watch e) ≡ true
+    → times e.reference (numbers_ended us) ≡ 0 → is_about_polled watch (answered watch e) ≡ true
 about e us None told f z = refl
 about e us (Some w) told f z = about_with e us w told (nat_eq w.reference e.reference) refl f z
 
@@ -248,9 +247,9 @@ taken_out {K} a h told e us m u =
     let s = found_some (find (has_reference n) a.outstanding) own.opcode own.found in
     let apart = alone a h told e us m u in
     let counts : (r : ℕ) → times r (outstanding_of h) ≡ times r (n ∷ []) + times r (outstanding_of h') = λ r.
-    let old = counted_names r h in
-    let now = counted_names r h' in
-    let cut = ap (λ xs. times r (map end_name xs)) u ∙ times_append r (n ∷ []) (map end_name us) in
+    let old = counted_numbers r h in
+    let now = counted_numbers r h' in
+    let cut = ap (λ xs. times r (numbers_ended xs)) u ∙ times_append r (n ∷ []) (numbers_ended us) in
     omega (arith, old, now, cut) in
     record {
       credits = m.credits;

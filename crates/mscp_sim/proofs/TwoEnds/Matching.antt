@@ -7,12 +7,10 @@ use Rattle.std.proofs.lemmas.List.{length-append, map-append}
 use Rattle.mscp_packet.specs.declared.command.Command.{Command}
 use Rattle.mscp_packet.specs.declared.end.End.{End}
 use Rattle.mscp_packet.specs.Commands.{opcode_byte}
-use Rattle.mscp_queue.specs.Names.{end_name}
-use Rattle.mscp_queue.specs.Kept.{names}
 use Rattle.mscp_queue.specs.Orders.{endcode}
 use Rattle.mscp_queue.specs.Records.{Record}
 use Rattle.mscp_queue.proofs.Lists.{every_append, every_parts, every_weaker}
-use Rattle.mscp_control.specs.Holdings.{Holdings, outstanding_of}
+use Rattle.mscp_control.specs.Holdings.{Holdings, numbers, numbers_ended, outstanding_of}
 use Rattle.mscp_host.specs.declared.submission.Submission.{Submission}
 use Rattle.mscp_host.specs.declared.watch.Watch.{Watch}
 use Rattle.mscp_host.specs.Accounts.{Account, is_code_of}
@@ -25,9 +23,9 @@ use Rattle.mscp_sim.proofs.TwoEnds.Counting.{times_append, opcode_pushed}
 abbrev pub called : List Command → List ℕ
 called cs = map (λ c. c.reference) cs
 
-names_called : (rs : List Record) → names rs ≡ called (commands rs)
-names_called [] = refl
-names_called (r ∷ rs) = ap (λ ns. r.command.reference ∷ ns) (names_called rs)
+numbers_called : (rs : List Record) → numbers rs ≡ called (commands rs)
+numbers_called [] = refl
+numbers_called (r ∷ rs) = ap (λ ns. r.command.reference ∷ ns) (numbers_called rs)
 
 length_commands : (rs : List Record) → length (commands rs) ≡ length rs
 length_commands [] = refl
@@ -35,21 +33,22 @@ length_commands (r ∷ rs) = ap (λ n. suc n) (length_commands rs)
 
 -- how often a number stands among the commands that wait and the ends
 abbrev pub counted : ℕ → List Command → List End → ℕ
-counted r cs us = times r (called cs) + times r (map end_name us)
+counted r cs us = times r (called cs) + times r (numbers_ended us)
 
-pub counted_names : {K : Type 0} (r : ℕ) (h : Holdings K)
+pub counted_numbers : {K : Type 0} (r : ℕ) (h : Holdings K)
     → times r (outstanding_of h) ≡ counted r (commands h.waiting) h.untaken
-counted_names r h = times_append r (names h.waiting) (map end_name h.untaken)
-    ∙ ap (λ ns. times r ns + times r (map end_name h.untaken)) (names_called h.waiting)
+counted_numbers r h = times_append r (numbers h.waiting) (numbers_ended h.untaken)
+    ∙ ap (λ ns. times r ns + times r (numbers_ended h.untaken)) (numbers_called h.waiting)
 
 pub times_called : (r : ℕ) (xs ys : List Command) → times r (called (xs ++ ys)) ≡ times r (called xs)
     + times r (called ys)
 times_called r xs ys = ap (times r) (map-append (λ (c : Command). c.reference) xs ys)
     ∙ times_append r (called xs) (called ys)
 
-pub times_ends : (r : ℕ) (xs ys : List End) → times r (map end_name (xs ++ ys)) ≡ times r (map end_name xs)
-    + times r (map end_name ys)
-times_ends r xs ys = ap (times r) (map-append end_name xs ys) ∙ times_append r (map end_name xs) (map end_name ys)
+pub times_ends : (r : ℕ) (xs ys : List End) → times r (numbers_ended (xs ++ ys)) ≡ times r (numbers_ended xs)
+    + times r (numbers_ended ys)
+times_ends r xs ys = ap (times r) (map-append (λ (e : End). e.reference) xs ys)
+    ∙ times_append r (numbers_ended xs) (numbers_ended ys)
 
 -- ---- the flight
 
@@ -74,7 +73,7 @@ pub stays : {K : Type 0} (a : Account) (h h' : Holdings K) (told : Flight) → c
     → h'.untaken ≡ h.untaken → h'.settings ≡ h.settings → Matches a h told → Matches a h' told
 stays {K} a h h' told w u s m =
     let counts : (r : ℕ) → times r (outstanding_of h') ≡ times r (outstanding_of h) =
-    λ r. counted_names r h' ∙ ((λ i. counted r (w i) (u i)) ∙ sym (counted_names r h)) in
+    λ r. counted_numbers r h' ∙ ((λ i. counted r (w i) (u i)) ∙ sym (counted_numbers r h)) in
     let lengths = sym (length_commands h'.waiting) ∙ (ap length w ∙ length_commands h.waiting) in
     record {
       credits = m.credits ∙ ap (λ c. c.credits) (sym s);
@@ -111,11 +110,11 @@ ends_counted {K} r h h' x =
     ∙ ap (λ n. times r (called x.front) + n) (times_called r (x.own ∷ []) x.back)) in
     let new : times r (called (commands h'.waiting)) ≡ times r (called x.front) + times r (called x.back) =
     ap (λ cs. times r (called cs)) x.left ∙ times_called r x.front x.back in
-    let ends : times r (map end_name h'.untaken) ≡ times r (map end_name h.untaken) + own =
-    ap (λ us. times r (map end_name us)) x.ends ∙ (times_ends r h.untaken (x.end ∷ [])
-    ∙ ap (λ n. times r (map end_name h.untaken) + times r (n ∷ [])) x.reference) in
-    let before = counted_names r h in
-    let after = counted_names r h' in
+    let ends : times r (numbers_ended h'.untaken) ≡ times r (numbers_ended h.untaken) + own =
+    ap (λ us. times r (numbers_ended us)) x.ends ∙ (times_ends r h.untaken (x.end ∷ [])
+    ∙ ap (λ n. times r (numbers_ended h.untaken) + times r (n ∷ [])) x.reference) in
+    let before = counted_numbers r h in
+    let after = counted_numbers r h' in
     omega (arith, old, new, ends, before, after)
 
 pub ends_match : {K : Type 0} (a : Account) (h h' : Holdings K) (told : Flight) → Ends h h' → Matches a h told

@@ -13,11 +13,11 @@ use Rattle.mscp_packet.specs.Number.{num}
 use Rattle.mscp_packet.proofs.Commands.{command_bytes_are_messages, command_read}
 use Rattle.mscp_packet.proofs.Kept.{opcode_kept}
 use Rattle.mscp_packet.proofs.Numbers.{four}
-use Rattle.mscp_queue.specs.Kept.{names}
-use Rattle.mscp_queue.specs.Names.{end_name}
-use Rattle.mscp_queue.specs.Figures.{figure_of_reference}
+use Rattle.mscp_queue.specs.declared.name.Connection.TheVariants.{First}
+use Rattle.mscp_queue.specs.Names.{name_on}
+use Rattle.mscp_queue.specs.Figures.{figure_of_name}
 use Rattle.mscp_control.specs.Arrival.{credit_fault, fault_of, holds, is_queued, refusal}
-use Rattle.mscp_control.specs.Holdings.{Holdings, aborting, after_message, answer_to_message, answered_end, arrives, balance_of, with_end, outstanding_of, queued, taken_as}
+use Rattle.mscp_control.specs.Holdings.{Holdings, aborting, after_message, answer_to_message, answered_end, arrives, balance_of, numbers, numbers_ended, with_end, outstanding_of, queued, taken_as}
 use Rattle.mscp_host.specs.declared.news.HostFault.TheVariants as faults
 use Rattle.mscp_host.specs.declared.submission.Submission.{Submission}
 use Rattle.mscp_host.specs.declared.watch.Watch.{Watch}
@@ -241,7 +241,7 @@ found_named p (x ∷ xs) s e =
     ] in
     out (p x) e
 
-any_ends : (n : ℕ) (us : List End) → list_any (λ x. nat_eq x n) (map end_name us)
+any_ends : (n : ℕ) (us : List End) → list_any (λ x. nat_eq x n) (numbers_ended us)
     ≡ list_any (λ e. nat_eq e.reference n) us
 any_ends n [] = refl
 any_ends n (e ∷ us) = ap (λ b. nat_eq e.reference n || b) (any_ends n us)
@@ -253,8 +253,8 @@ second_of false q h e = h
 -- what the poll of this submission is told
 abbrev pub told_now : {K : Type 0} → Holdings K → Submission → Flight
 told_now h s = record {
-  figure = figure_of_reference h.settings.budget h.waiting s.reference;
-  waited = list_any (λ x. nat_eq x s.reference) (names h.waiting);
+  figure = figure_of_name h.settings.budget h.waiting (name_on First s.reference);
+  waited = list_any (λ x. nat_eq x s.reference) (numbers h.waiting);
 }
 
 poll_flight : {K : Type 0} (a : Account) (h : Holdings K) (told : Flight) (r : ℕ) (s : Submission) → Matches a h told
@@ -272,10 +272,10 @@ poll_flight {K} a h told r s m there =
       body = refl;
       ended = λ st wa.
           let all = same_holds a h told s.reference m ∙ there in
-          let either = sym (list_any-append (λ x. nat_eq x s.reference) (names h.waiting) (map end_name h.untaken))
+          let either = sym (list_any-append (λ x. nat_eq x s.reference) (numbers h.waiting) (numbers_ended h.untaken))
           ∙ all in
-          let second = second_of (list_any (λ x. nat_eq x s.reference) (names h.waiting))
-          (list_any (λ x. nat_eq x s.reference) (map end_name h.untaken)) either wa in
+          let second = second_of (list_any (λ x. nat_eq x s.reference) (numbers h.waiting))
+          (list_any (λ x. nat_eq x s.reference) (numbers_ended h.untaken)) either wa in
           subst (λ us. list_any (λ (e : End). nat_eq e.reference s.reference) us ≡ true) (sym (append-nil h.untaken))
           (sym (any_ends s.reference h.untaken) ∙ second);
     }

@@ -1,9 +1,14 @@
 -- A step, an abort and a command that arrives keep the match of host and controller.
-use Rattle.std.proofs.Common.{◌≡◌, ⊎_elim, ℕ, ◌+◌, ◌<◌, Bool, true, false, cond, List, [], ◌∷◌, ◌++◌, map, take, drop, length, refl, ap, sym, ◌∙◌, subst, arith, append-nil}
+use Rattle.std.proofs.Common.{◌≡◌, ⊎_elim, ℕ, ◌+◌, ◌<◌, Bool, true, false, cond, ◌&&◌, List, [], ◌∷◌, ◌++◌, map, take, drop, length, refl, ap, sym, ◌∙◌, subst, arith, append-nil}
 use Rattle.std.specs.Prelude.{find, nat_eq, not, if◌then◌else◌, Option, Some, None, is_some, option_map, option_to_list}
 use Rattle.std.specs.List.{AllByRecursion}
-use Rattle.std.proofs.lemmas.Bool.{eqb-true, false≢true}
+use Rattle.std.proofs.lemmas.Bool.{eq-eqb, false≢true}
 use Rattle.std.proofs.lemmas.List.{length-append, map-append}
+use Rattle.mscp_queue.specs.declared.name.Connection.TheVariants.{First}
+use Rattle.mscp_queue.specs.declared.name.Name.{Name}
+use Rattle.mscp_queue.specs.Names.{name_on, same_connection}
+use Rattle.mscp_queue.proofs.Named.{same_is}
+use Rattle.std.proofs.Math.Bool.{and-false}
 use Rattle.mscp_packet.specs.declared.command.Command.{Command}
 use Rattle.mscp_packet.specs.declared.command.Order.{Order}
 use Rattle.mscp_packet.specs.declared.command.Order.TheVariants as orders
@@ -16,7 +21,7 @@ use Rattle.mscp_queue.specs.declared.drive.Drive.{Drive}
 use Rattle.mscp_queue.specs.declared.view.Choice.{Choice}
 use Rattle.mscp_queue.specs.Lines.{Line}
 use Rattle.mscp_queue.specs.Outcomes.{goes_on, outcome_at}
-use Rattle.mscp_queue.specs.Records.{Record, aborted_record, drive_at, fresh_record, has_reference, left_of, no_record, passed_by, record_at, remains, step_toll, without}
+use Rattle.mscp_queue.specs.Records.{Record, aborted_record, drive_at, fresh_record, has_name, left_of, name_of, no_record, passed_by, record_at, remains, step_toll, without}
 use Rattle.mscp_queue.specs.Serving.{end_given, waiting_after}
 use Rattle.mscp_queue.proofs.Lists.{every_append}
 use Rattle.mscp_queue.proofs.Placed.{Found, cut_at, find_cases, find_none, find_first}
@@ -25,7 +30,7 @@ use Rattle.mscp_host.specs.declared.submission.Submission.{Submission}
 use Rattle.mscp_host.specs.Accounts.{Account, is_code_of}
 use Rattle.mscp_sim.specs.Matches.{Flight, HasOwnEndcode, IsAwaited, IsKnown, Matches, commands, opcode_found, references, times}
 use Rattle.mscp_sim.proofs.TwoEnds.Counting.{opcode_new}
-use Rattle.mscp_sim.proofs.TwoEnds.Matching.{Adds, Ends, Pushes, awaited_more, counted_names, ends_match, known_more, stays, times_called, times_ends}
+use Rattle.mscp_sim.proofs.TwoEnds.Matching.{Adds, Ends, Pushes, awaited_more, counted_numbers, ends_match, known_more, stays, times_called, times_ends}
 
 -- ---- a step
 
@@ -97,7 +102,7 @@ pub steps_match : {K : Type 0} (picks : List Choice → ℕ → Type 0) (a : Acc
     (k : Block) (report : Report) → Steps picks k h report h' → Matches a h told → Matches a h' told
 steps_match {K} picks a h h' told k reports.Idle s m =
     stays a h h' told (ap (λ (l : Line K). commands l.waiting) s.serves.2) (s.ends ∙ append-nil h.untaken) s.settings m
-steps_match {K} picks a h h' told k (reports.Served reference unit lbn started seek end) s m =
+steps_match {K} picks a h h' told k (reports.Served connection reference unit lbn started seek end) s m =
     let place = s.serves.0 in
     let at = s.serves.1 in
     let d = drive_at h.drives h.waiting place in
@@ -116,39 +121,42 @@ steps_match {K} picks a h h' told k (reports.Served reference unit lbn started s
 
 -- none of the number is there, so none is taken out
 none_out : (n : ℕ) (rs : List Record) → times n (map (λ (c : Command). c.reference) (commands rs)) ≡ 0
-    → without n rs ≡ rs
+    → without (name_on First n) rs ≡ rs
 none_out n [] z = refl
 none_out n (r ∷ rs) z =
     let ns = map (λ (c : Command). c.reference) (commands rs) in
-    let out : (b : Bool) → cond b (1 + times n ns) (times n ns) ≡ 0
-    → cond (not b) (r ∷ without n rs) (without n rs) ≡ r ∷ rs =
-    λ b. elim b as (λ b. cond b (1 + times n ns) (times n ns) ≡ 0
-    → cond (not b) (r ∷ without n rs) (without n rs) ≡ r ∷ rs) [
+    let side = same_connection r.connection First in
+    let rest = without (name_on First n) rs in
+    let out : (b : Bool) → cond b (1 + times n ns) (times n ns) ≡ 0 → cond (not (side && b)) (r ∷ rest) rest ≡ r ∷ rs =
+    λ b. elim b as (λ b. cond b (1 + times n ns) (times n ns) ≡ 0 → cond (not (side && b)) (r ∷ rest) rest ≡ r ∷ rs) [
       | true ↦ λ z. absurd (omega (arith, z))
-      | false ↦ λ z. ap (λ qs. r ∷ qs) (none_out n rs z)
+      | false ↦ λ z. ap (λ q. cond (not q) (r ∷ rest) rest) (and-false side) ∙ ap (λ qs. r ∷ qs) (none_out n rs z)
     ] in
     out (nat_eq r.command.reference n) z
 
-all_kept : (n : ℕ) (rs : List Record) → AllByRecursion (λ y. has_reference n y ≡ false) rs → without n rs ≡ rs
+all_kept : (n : ℕ) (rs : List Record) → AllByRecursion (λ y. has_name (name_on First n) y ≡ false) rs
+    → without (name_on First n) rs ≡ rs
 all_kept n [] h = refl
 all_kept n (r ∷ rs) h = rw (h.0) (ap (λ qs. r ∷ qs) (all_kept n rs h.1))
 
 front_kept : (n : ℕ) (front : List Record) (x : Record) (back : List Record)
-    → AllByRecursion (λ y. has_reference n y ≡ false) front → has_reference n x ≡ true → without n back ≡ back
-    → without n (front ++ x ∷ back) ≡ front ++ back
+    → AllByRecursion (λ y. has_name (name_on First n) y ≡ false) front → has_name (name_on First n) x ≡ true
+    → without (name_on First n) back ≡ back
+    → without (name_on First n) (front ++ x ∷ back) ≡ front ++ back
 front_kept n [] x back h e b = rw e b
 front_kept n (y ∷ ys) x back h e b = rw (h.0) (ap (λ rs. y ∷ rs) (front_kept n ys x back h.1 e b))
 
 aborts_found : {K : Type 0} (a : Account) (h : Holdings K) (told : Flight) (n : ℕ) (front : List Record) (x : Record)
-    (back : List Record) → Found (has_reference n) h.waiting front x back → Matches a h told
+    (back : List Record) → Found (has_name (name_on First n)) h.waiting front x back → Matches a h told
     → Matches a (aborting h (orders.Abort n)) told
 aborts_found {K} a h told n front x back f m =
     let command = x.command in
     let cut : commands h.waiting ≡ commands front ++ command ∷ commands back =
     ap commands f.is ∙ map-append (λ (r : Record). r.command) front (x ∷ back) in
-    let named : command.reference ≡ n = eqb-true command.reference n f.passed in
+    let named : command.reference ≡ n =
+    ap (λ (k : Name). k.reference) (same_is (name_of x) (name_on First n) f.passed) in
     let one = m.once n in
-    let counts = counted_names n h in
+    let counts = counted_numbers n h in
     let parts : times n (map (λ (c : Command). c.reference) (commands h.waiting))
     ≡ times n (map (λ (c : Command). c.reference) (commands front))
     + (1 + times n (map (λ (c : Command). c.reference) (commands back))) =
@@ -156,12 +164,13 @@ aborts_found {K} a h told n front x back f m =
     ∙ (times_called n (commands front) (command ∷ commands back)
     ∙ ap (λ b. times n (map (λ (c : Command). c.reference) (commands front))
     + cond b (1 + times n (map (λ (c : Command). c.reference) (commands back)))
-    (times n (map (λ (c : Command). c.reference) (commands back)))) f.passed) in
+    (times n (map (λ (c : Command). c.reference) (commands back)))) (eq-eqb command.reference n named)) in
     let none : times n (map (λ (c : Command). c.reference) (commands back)) ≡ 0 = omega (arith, one, counts, parts) in
-    let out : without n h.waiting ≡ front ++ back =
-    ap (without n) f.is ∙ front_kept n front x back f.before f.passed (none_out n back none) in
-    let found : find (has_reference n) h.waiting ≡ Some x =
-    ap (find (has_reference n)) f.is ∙ find_first (has_reference n) front x back f.before f.passed in
+    let out : without (name_on First n) h.waiting ≡ front ++ back =
+    ap (without (name_on First n)) f.is ∙ front_kept n front x back f.before f.passed (none_out n back none) in
+    let found : find (has_name (name_on First n)) h.waiting ≡ Some x =
+    ap (find (has_name (name_on First n))) f.is
+    ∙ find_first (has_name (name_on First n)) front x back f.before f.passed in
     let ends : Ends h (aborting h (orders.Abort n)) = record {
       front = commands front;
       own = command;
@@ -177,10 +186,11 @@ aborts_found {K} a h told n front x back f m =
     ends_match a h (aborting h (orders.Abort n)) told ends m
 
 aborts_none : {K : Type 0} (a : Account) (h : Holdings K) (told : Flight) (n : ℕ)
-    → AllByRecursion (λ y. has_reference n y ≡ false) h.waiting → Matches a h told
+    → AllByRecursion (λ y. has_name (name_on First n) y ≡ false) h.waiting → Matches a h told
     → Matches a (aborting h (orders.Abort n)) told
 aborts_none {K} a h told n none m =
-    let found : find (has_reference n) h.waiting ≡ None = find_none (has_reference n) h.waiting none in
+    let found : find (has_name (name_on First n)) h.waiting ≡ None =
+    find_none (has_name (name_on First n)) h.waiting none in
     stays a h (aborting h (orders.Abort n)) told (ap commands (all_kept n h.waiting none))
     (ap (λ o. h.untaken ++ option_to_list (option_map aborted_record o)) found ∙ append-nil h.untaken) refl m
 
@@ -188,13 +198,14 @@ pub aborting_matches : {K : Type 0} (a : Account) (h : Holdings K) (told : Fligh
     → Matches a (aborting h order) told
 aborting_matches a h told (orders.Abort n) m =
     ⊎_elim (λ none. aborts_none a h told n none m) (λ some. aborts_found a h told n some.0 some.1 some.2 some.3 m)
-    (find_cases (has_reference n) h.waiting)
+    (find_cases (has_name (name_on First n)) h.waiting)
 aborting_matches a h told order m = stays a h (aborting h order) told refl (append-nil h.untaken) refl m
 
 -- ---- a command arrives
 
-more_called : (r : ℕ) (rs : List Record) (c : Command) → commands (rs ++ fresh_record c ∷ []) ≡ commands rs ++ c ∷ []
-more_called r rs c = map-append (λ (q : Record). q.command) rs (fresh_record c ∷ [])
+more_called : (r : ℕ) (rs : List Record) (c : Command)
+    → commands (rs ++ fresh_record First c ∷ []) ≡ commands rs ++ c ∷ []
+more_called r rs c = map-append (λ (q : Record). q.command) rs (fresh_record First c ∷ [])
 
 new_to_host : {K : Type 0} (a : Account) (h : Holdings K) (told : Flight) (n : ℕ) → Matches a h told
     → times n (outstanding_of h) ≡ 0 → times n (references a.outstanding) ≡ 0
@@ -220,14 +231,14 @@ queued_pushes {K} a a' h told s c x m =
     record {
       adds = x.adds;
       counts = λ r.
-          let old = counted_names r h in
-          let now = counted_names r (queued h c) in
+          let old = counted_numbers r h in
+          let now = counted_numbers r (queued h c) in
           let pushed = ap (λ ds. times r (map (λ (d : Command). d.reference) ds)) cs
           ∙ times_called r (commands h.waiting) (c ∷ []) in
           let same : times r (c.reference ∷ []) ≡ times r (s.reference ∷ []) =
           ap (λ n. times r (n ∷ [])) (sym x.reference) in
           omega (arith, old, now, pushed, same);
-      more = let l = length-append h.waiting (fresh_record c ∷ []) in omega (arith, l);
+      more = let l = length-append h.waiting (fresh_record First c ∷ []) in omega (arith, l);
       settings = refl;
       waits = subst (AllByRecursion (IsKnown (a.outstanding ++ s ∷ []))) (sym cs)
           (every_append (IsKnown (a.outstanding ++ s ∷ [])) (commands h.waiting) (c ∷ [])
@@ -249,8 +260,8 @@ ended_pushes {K} a a' h told s e adds reference code m =
     record {
       adds = adds;
       counts = λ r.
-          let old = counted_names r h in
-          let now = counted_names r (with_end h e) in
+          let old = counted_numbers r h in
+          let now = counted_numbers r (with_end h e) in
           let pushed = times_ends r h.untaken (e ∷ []) in
           let same : times r (e.reference ∷ []) ≡ times r (s.reference ∷ []) = ap (λ n. times r (n ∷ [])) reference in
           omega (arith, old, now, pushed, same);

@@ -5,12 +5,14 @@ use Rattle.std.specs.List.{list_any}
 use Rattle.std.proofs.lemmas.Bool.{false≢true}
 use Rattle.std.proofs.lemmas.Grind.{flat_map-append}
 use Rattle.std.proofs.lemmas.List.{map-append, take_more, take_all}
+use Rattle.mscp_queue.specs.declared.name.Connection.TheVariants.{First}
+use Rattle.mscp_queue.specs.Names.{name_on}
 use Rattle.mscp_queue.specs.declared.view.Choice.{Choice}
 use Rattle.mscp_control.specs.declared.event.Event.{Event}
 use Rattle.mscp_control.specs.declared.event.Entry.{Entry}
 use Rattle.mscp_control.specs.Settings.{Settings}
 use Rattle.mscp_control.specs.History.{Moment, Trace}
-use Rattle.mscp_control.specs.Commands.{name, waiting}
+use Rattle.mscp_control.specs.Commands.{reference, waiting}
 use Rattle.mscp_control.specs.Figures.{figure, figure_found, figure_of}
 use Rattle.mscp_control.specs.Headline.{Promise}
 use Rattle.mscp_control.specs.Holdings.{Answered, Holdings}
@@ -99,10 +101,11 @@ finds {X} f p (x ∷ xs) e =
 
 -- the figure of a number that waits is at least 1
 pub some_figure : (c : Settings) (t : Trace) (n : ℕ) → Promise c t
-    → list_any (λ x. nat_eq x n) (map (name t) (waiting t)) ≡ true → 1 ≤ figure_of c t n
+    → list_any (λ x. nat_eq x n) (map (reference t) (waiting t)) ≡ true
+    → 1 ≤ figure_of c t (name_on First n)
 unfolding figure_of
 some_figure c t n p e =
-    let x = finds (name t) (λ y. nat_eq y n) (waiting t) e in
+    let x = finds (reference t) (λ y. nat_eq y n) (waiting t) e in
     let whole : take (length t) t ≡ t = take_all (length t) t (omega arith) in
     let positive = subst (λ u. (y : ℕ) → Contains (waiting u) y ↔ (1 ≤ figure c u y)) whole
     (p.positive (length t) (omega arith)) in

@@ -2,6 +2,7 @@
 use Rattle.std.proofs.Common.{◌≡◌, ◌≤◌, ℕ, true, false, [], ◌∷◌, ◌++◌, Bool, refl, ap, sym, subst, arith}
 use Rattle.std.specs.Prelude.{Option, Some, None, unwrap_or}
 use Rattle.std.proofs.lemmas.Bool.{eqb-true, false≢true}
+use Rattle.mscp_queue.specs.declared.name.Connection.TheVariants.{First}
 use Rattle.mscp_packet.specs.declared.command.Order.{Order}
 use Rattle.mscp_packet.specs.declared.command.Order.TheVariants as orders
 use Rattle.mscp_packet.specs.declared.end.End.{End}
@@ -39,7 +40,7 @@ asks r = record { turn = turns.Poll r; heard = hears.Asked; moment = Some (answe
 abbrev steps : ℕ → Option ℕ → Bool → ℕ → Option End → Said
 steps r lbn started seek ended = record {
   turn = turns.Step Good;
-  heard = hears.Stepped (reports.Served r 0 lbn started seek ended);
+  heard = hears.Stepped (reports.Served First r 0 lbn started seek ended);
   moment = Some (served Good r 0 lbn started seek ended);
 }
 

@@ -1,5 +1,5 @@
 use super::*;
-use mscp_control::Sweep;
+use mscp_control::{Connection, Sweep};
 use mscp_drive::{Unit, Units};
 use mscp_packet::{End, EndBody, MoveKind, Order};
 use std::process::Abort;
@@ -60,6 +60,7 @@ fn read_end() -> End {
 
 fn served(lbn: u32, started: bool, seek: u32, ended: Option<End>) -> Heard {
     Heard::Stepped(Report::Served {
+        connection: Connection::First,
         reference: 1,
         unit: 0,
         lbn: Some(lbn),
@@ -86,6 +87,7 @@ fn online_told() -> [Heard; 3] {
         },
     };
     let report = Report::Served {
+        connection: Connection::First,
         reference: 9,
         unit: 0,
         lbn: None,

@@ -33,6 +33,8 @@ loop-place-preserved c =
     c.index-records-place.is ∙ get_or_default rs c.loop-place.place _ no_record c.loop-place-test.true in
     let left : c.from-before.result ≡ left_of (record_at rs c.loop-place.place) =
     c.from-before.ensures ∙ (c.left.ensures.value ∙ ap left_of is) in
+    let connection : c.connection.result ≡ (record_at rs c.loop-place.place).connection =
+    c.connection.ensures ∙ ap (λ (r : Record). r.connection) is in
     let reference : c.command.result.reference ≡ (record_at rs c.loop-place.place).command.reference =
     ap (λ (k : Command). k.reference) c.command.ensures ∙ ap (λ (r : Record). r.command.reference) is in
     let figure : c.figure_from-figure.result ≡ figure_at c.args.budget rs c.loop-place.place =

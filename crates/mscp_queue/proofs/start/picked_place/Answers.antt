@@ -1,11 +1,11 @@
 use Rattle.std.proofs.Common.{◌≡◌, ℕ, ◌∙◌, ◌+◌, ◌<◌, List, ap, subst, sym, length, get_or, refl, arith}
 use Rattle.std.specs.Prelude.{IsSome, unwrap_or, Some}
-use Rattle.std.specs.List.{range_with_len}
+use Rattle.std.specs.List.{position, range_with_len}
 use Rattle.std.proofs.lemmas.List.{length-map}
 use Rattle.std.proofs.lemmas.List.FromFn.{get_or-range_with_len, length-range_with_len}
 use Rattle.mscp_queue.specs.declared.drive.Drive.{Drive}
 use Rattle.mscp_queue.specs.declared.view.Choice.{Choice}
-use Rattle.mscp_queue.specs.Records.{Record, drive_at, record_at}
+use Rattle.mscp_queue.specs.Records.{Record, drive_at, has_name, record_at}
 use Rattle.mscp_queue.specs.Views.{AllMayStart, choice_of, choices_at, open_places, view_of}
 use Rattle.mscp_queue.proofs.Nexts.{shown_found}
 use Rattle.mscp_queue.proofs.Starting.{some_place}
@@ -41,7 +41,8 @@ found g c =
     let inside = chosen g c in
     shown_found c.args.budget c.args.drives.now c.args.records.now view c.pick-picked.result _ c.place_of.result
     c.requires.apart shown
-    (omega (arith, ap length c.choices.ensures.value, length_shown g c, inside)) c.place_of.ensures
+    (omega (arith, ap length c.choices.ensures.value, length_shown g c, inside))
+    (c.place_of.ensures ∙ ap (λ n. position (has_name n) c.args.records.now) c.name.ensures)
 
 pub unwrap-requires : goal.unwrap-requires
 unwrap-requires g c = subst IsSome (sym (found g c)) refl

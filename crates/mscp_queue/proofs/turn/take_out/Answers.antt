@@ -3,23 +3,23 @@ use Rattle.std.specs.Prelude.{Some, remove}
 use Rattle.std.specs.List.{position}
 use Rattle.std.proofs.lemmas.List.{get_or_default}
 use Rattle.mscp_queue.specs.Aims.{aims_of}
-use Rattle.mscp_queue.specs.Records.{has_reference, no_record}
+use Rattle.mscp_queue.specs.Records.{has_name, no_record}
 use Rattle.mscp_queue.proofs.Aims.{aim_removed}
 use Rattle.mscp_queue.proofs.Aborts.{Aborts, AbortsNone, aborts_at, aborts_none}
 use Rattle.mscp_queue.proofs.turn.take_out.Goals as goal
 
 -- none is found
-none : (c : goal.After-from_residual) → AbortsNone c.args.reference c.args.waiting.now.items
+none : (c : goal.After-from_residual) → AbortsNone c.args.name c.args.waiting.now.items
 none c =
-    let p = has_reference c.args.reference in
-    aborts_none c.args.reference c.args.waiting.now.items
+    let p = has_name c.args.name in
+    aborts_none c.args.name c.args.waiting.now.items
     (ap (position p) (sym c.as_slice.ensures.value) ∙ (sym c.place_of.ensures ∙ c.in_err-place.was))
 
 -- one is found
-one : (c : goal.After-remove-2) → Aborts c.args.reference c.args.waiting.now.items c.in_ok-place.place
+one : (c : goal.After-remove-2) → Aborts c.args.name c.args.waiting.now.items c.in_ok-place.place
 one c =
-    let p = has_reference c.args.reference in
-    aborts_at c.args.reference c.args.waiting.now.items c.in_ok-place.place c.requires.apart
+    let p = has_name c.args.name in
+    aborts_at c.args.name c.args.waiting.now.items c.in_ok-place.place c.requires.apart
     (ap (position p) (sym c.as_slice.ensures.value) ∙ (sym c.place_of.ensures ∙ c.in_ok-place.was))
 
 pub returns-in_err-place-clause-found : goal.returns-in_err-place-clause-found

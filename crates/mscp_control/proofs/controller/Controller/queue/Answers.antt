@@ -8,5 +8,5 @@ pub push-requires-clause-apart : goal.push-requires-clause-apart
 push-requires-clause-apart g c =
     let K = g.row.K.Denot in
     let reference = c.args.command.now.reference in
-    none_waits c.self.inside.queue.waiting c.self.inside.untaken.items reference
+    none_waits c.self.inside.queue.waiting c.self.inside.untaken.items reference c.self.invariant.alone
     (subst (λ (h : Holdings K). holds (outstanding_of h) reference ≡ false) (sym c.self.view_is) c.requires.new)

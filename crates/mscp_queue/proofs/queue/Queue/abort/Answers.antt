@@ -3,6 +3,7 @@ use Rattle.std.specs.Prelude.{IfSome, option_map}
 use Rattle.mscp_packet.specs.Ends.{IsOfKind}
 use Rattle.mscp_queue.specs.Kept.{ArePassedInOrder, units_of}
 use Rattle.mscp_queue.specs.Lines.{Line, aborting}
+use Rattle.mscp_queue.specs.Names.{name_on}
 use Rattle.mscp_queue.specs.Outcomes.{aborted_end}
 use Rattle.mscp_queue.specs.Records.{aborted_record}
 use Rattle.mscp_queue.specs.Serving.{is_begun}
@@ -16,7 +17,8 @@ pub returns-in_err-aborted-clause-after : goal.returns-in_err-aborted-clause-aft
 returns-in_err-aborted-clause-after g c =
     let K = g.row.K.Denot in
     let q = c.self.inside in
-    let stays = none_aborted q.budget c.args.reference q.waiting.items q.begun c.self.invariant.held.still
+    let gone = name_on c.args.connection c.args.reference in
+    let stays = none_aborted q.budget gone q.waiting.items q.begun c.self.invariant.held.still
     (sym c.take_out.ensures.found ∙ c.in_err-aborted.was) in
     (λ i. record {
       room = q.room;
@@ -28,14 +30,15 @@ returns-in_err-aborted-clause-after g c =
       begun = stays i;
       picker = q.picker;
     })
-    ∙ ap (λ (l : Line K). aborting c.args.reference l) c.self.view_is
+    ∙ ap (λ (l : Line K). aborting gone l) c.self.view_is
 
 -- what was aborted is counted out
 out : (g : Rattle.mscp_queue.proofs.queue.Queue.abort.Given.Over) (c : goal.After-count_sequential g)
     → IsCountedOut c.self.inside.sequential c.count_sequential.result c.take_out.new.waiting.items
 out g c =
     let q = c.self.inside in
-    counted_without c.args.reference q.waiting.items c.take_out.new.waiting.items c.in_ok-aborted.aborted q.sequential
+    let gone = name_on c.args.connection c.args.reference in
+    counted_without gone q.waiting.items c.take_out.new.waiting.items c.in_ok-aborted.aborted q.sequential
     c.count_sequential.result c.self.invariant.held.apart
     (sym c.in_ok-aborted.was ∙ c.take_out.ensures.found) c.take_out.ensures.left c.self.invariant.counted
     c.count_sequential.ensures
@@ -47,11 +50,12 @@ pub invariant_of-self-then-was_begun : goal.invariant_of-self-then-was_begun
 invariant_of-self-then-was_begun g c =
     let K = g.row.K.Denot in
     let q = c.self.inside in
+    let gone = name_on c.args.connection c.args.reference in
     record {
       held =
-          held_aborted q.room q.budget q.longest c.args.reference q.waiting.items c.take_out.new.waiting.items
+          held_aborted q.room q.budget q.longest gone q.waiting.items c.take_out.new.waiting.items
           q.drives.items q.begun q.serving _
-          (ap (λ (l : Line K). is_begun c.args.reference l.begun) c.self.view_is ∙ sym c.if-was_begun.ensures)
+          (ap (λ (l : Line K). is_begun gone l.begun) c.self.view_is ∙ sym c.if-was_begun.ensures)
           c.self.invariant.held c.take_out.ensures.left;
       aimed = c.take_out.ensures.aims (units_of q.drives.items) c.self.invariant.aimed;
       counted = (out g c.before.before.before).counted;
@@ -63,11 +67,12 @@ pub invariant_of-self-else-was_begun : goal.invariant_of-self-else-was_begun
 invariant_of-self-else-was_begun g c =
     let K = g.row.K.Denot in
     let q = c.self.inside in
+    let gone = name_on c.args.connection c.args.reference in
     record {
       held =
-          held_aborted q.room q.budget q.longest c.args.reference q.waiting.items c.take_out.new.waiting.items
+          held_aborted q.room q.budget q.longest gone q.waiting.items c.take_out.new.waiting.items
           q.drives.items q.begun q.serving _
-          (ap (λ (l : Line K). is_begun c.args.reference l.begun) c.self.view_is ∙ sym c.if-was_begun.ensures)
+          (ap (λ (l : Line K). is_begun gone l.begun) c.self.view_is ∙ sym c.if-was_begun.ensures)
           c.self.invariant.held c.take_out.ensures.left;
       aimed = c.take_out.ensures.aims (units_of q.drives.items) c.self.invariant.aimed;
       counted = (out g c.before.before).counted;
@@ -78,10 +83,11 @@ invariant_of-self-else-was_begun g c =
 pub returns-clause-shaped : goal.returns-clause-shaped
 returns-clause-shaped g c =
     let q = c.self.inside in
+    let gone = name_on c.args.connection c.args.reference in
     let r = c.in_ok-aborted.aborted in
     let end : c.aborted_end.result ≡ aborted_end r.command r.good =
     c.aborted_end.ensures ∙ (λ i. aborted_end (c.command.ensures i) (c.done.ensures.good i)) in
     subst IsOfKind (sym end)
     (subst (λ o. IfSome (option_map aborted_record o) IsOfKind) (sym c.take_out.ensures.found ∙ c.in_ok-aborted.was)
-    (aborts_kind q.budget q.longest c.args.reference (units_of q.drives.items) q.waiting.items
+    (aborts_kind q.budget q.longest gone (units_of q.drives.items) q.waiting.items
     c.self.invariant.held.each))

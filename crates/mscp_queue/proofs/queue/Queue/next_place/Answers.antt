@@ -1,7 +1,7 @@
 use Rattle.std.proofs.Common.{ap, subst, ◌∙◌}
 use Rattle.std.specs.List.{position}
 use Rattle.mscp_queue.specs.Lines.{Line}
-use Rattle.mscp_queue.specs.Records.{has_reference}
+use Rattle.mscp_queue.specs.Records.{has_name}
 use Rattle.mscp_queue.proofs.Nexts.{Finds, finds_begun}
 use Rattle.mscp_queue.proofs.queue.Queue.next_place.Goals as goal
 
@@ -12,12 +12,12 @@ found : (g : Rattle.mscp_queue.proofs.queue.Queue.next_place.Given.Over) (c : go
 found g c =
     let K = g.row.K.Denot in
     let q = c.self.inside in
-    let name = c.in-Some.reference in
+    let name = c.in-Some.name in
     subst (λ (l : Line K). Finds (g.K.Picker.picks l.picker) l.budget l.drives l.waiting l.begun c.place_of.result)
     c.self.view_is
     (finds_begun (g.K.Picker.picks q.picker) q.budget q.drives.items q.waiting.items q.begun name c.place_of.result
     c.self.invariant.held.apart c.in-Some.is (c.self.invariant.held.still name c.in-Some.is)
-    (c.place_of.ensures ∙ ap (position (has_reference name)) c.as_slice.ensures.value))
+    (c.place_of.ensures ∙ ap (position (has_name name)) c.as_slice.ensures.value))
 
 pub returns-in-Some-clause-none : goal.returns-in-Some-clause-none
 returns-in-Some-clause-none g c = (found g c).none

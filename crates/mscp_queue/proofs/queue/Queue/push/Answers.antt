@@ -4,7 +4,8 @@ use Rattle.mscp_packet.specs.declared.command.Command.{Command}
 use Rattle.mscp_queue.specs.Aims.{aim_of}
 use Rattle.mscp_queue.specs.Kept.{ArePassedInOrder, IsWaitable, units_of}
 use Rattle.mscp_queue.specs.Lines.{Line}
-use Rattle.mscp_queue.specs.Records.{Record, has_reference}
+use Rattle.mscp_queue.specs.Names.{name_on}
+use Rattle.mscp_queue.specs.Records.{Record, has_name}
 use Rattle.mscp_queue.proofs.Aims.{aims_pushed}
 use Rattle.mscp_queue.proofs.Held.{held_pushed}
 use Rattle.mscp_queue.proofs.Lists.{every_from, pairs_append}
@@ -28,19 +29,20 @@ invariant_of-self g c =
       order =
           c.args.new.order;
     } in
+    let name = name_on c.args.new.connection c.args.new.reference in
     let q = c.self.inside in
     let waits = c.push-2.ensures.items ∙ ap (λ r. q.waiting.items ++ r ∷ []) c.new-record.ensures in
     record {
       held =
           held_pushed q.room q.budget q.longest q.waiting.items c.push-2.new.self.items q.drives.items q.begun
-          q.serving command c.self.invariant.held
+          q.serving c.args.new.connection command c.self.invariant.held
           (subst (λ (l : Line K). length l.waiting < l.room) seen c.requires.room)
           (subst (λ (l : Line K). IsWaitable l.longest (units_of l.drives) command) seen c.requires.waitable)
-          (subst (λ (l : Line K). list_any (has_reference command.reference) l.waiting ≡ false) seen c.requires.apart)
+          (subst (λ (l : Line K). list_any (has_name name) l.waiting ≡ false) seen c.requires.apart)
           waits;
       aimed =
           aims_pushed (units_of q.drives.items) q.waiting.items c.push-2.new.self.items q.aims.items
-          c.push.new.self.items command c.of.result c.self.invariant.aimed
+          c.push.new.self.items c.args.new.connection command c.of.result c.self.invariant.aimed
           (c.of.ensures ∙ ap (λ ds. aim_of (units_of ds) command) c.as_slice.ensures.value) c.push.ensures.items waits;
       counted = counted_pushed q.waiting.items c.push-2.new.self.items c.new-record.result q.sequential
           c.count_sequential.result c.self.invariant.counted c.count_sequential.ensures c.push-2.ensures.items;

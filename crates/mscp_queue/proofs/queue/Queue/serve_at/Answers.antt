@@ -57,7 +57,7 @@ invariant_of-self g c =
     let rs = c.self.inside.waiting.items in
     let ds = c.self.inside.drives.items in
     let place = c.args.place in
-    let s = served g c.before.before.before in
+    let s = served g c.before.before.before.before.before in
     let item = c.index-deref-place.result in
     let slice = c.as_mut_slice.ensures.value in
     let new : c.replace_drive.new.drives ≡ replaced c.command-command.result.unit c.serve-service.result.drive ds =
@@ -97,7 +97,7 @@ invariant_of-self g c =
           });
       aimed = c.leave.ensures.aims (units_of ds) c.self.invariant.aimed
           ∙ ap (λ us. aims_of us c.leave.new.waiting.items) (sym units);
-      counted = (out g c.before.before.before).counted;
+      counted = (out g c.before.before.before.before.before).counted;
       order = passed_left rs c.leave.new.waiting.items place c.step_toll.result c.is_some-ends.result s.servable.inside
           c.leave.ensures.left c.self.invariant.order;
     }

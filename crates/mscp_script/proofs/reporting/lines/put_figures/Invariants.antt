@@ -3,5 +3,5 @@ use Rattle.std.specs.List.{flat_map}
 use Rattle.mscp_script.specs.Text.{figure_line}
 use Rattle.mscp_script.proofs.reporting.lines.put_figures.Given as goal
 
-abbrev pub invariant-loop-reference : goal.invariant-loop-reference
-invariant-loop-reference l = l.out.items ≡ l.initial.out.items ++ flat_map figure_line (take l.reference-index l.shown)
+abbrev pub invariant-loop-command : goal.invariant-loop-command
+invariant-loop-command l = l.out.items ≡ l.initial.out.items ++ flat_map figure_line (take l.command-index l.shown)

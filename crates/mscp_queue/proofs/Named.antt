@@ -1,0 +1,42 @@
+-- Names are the same exactly where both of their parts are.
+use Rattle.std.proofs.Common.{◌≡◌, ◌≢◌, Bool, true, false, ◌&&◌, refl, ap, sym, ◌∙◌, subst}
+use Rattle.std.specs.Prelude.{nat_eq}
+use Rattle.std.proofs.lemmas.Bool.{and_parts, eq-eqb, eqb-true, false≢true, true≢false}
+use Rattle.mscp_queue.specs.declared.name.Connection.{Connection}
+use Rattle.mscp_queue.specs.declared.name.Connection.TheVariants.{First, Second}
+use Rattle.mscp_queue.specs.declared.name.Name.{Name}
+use Rattle.mscp_queue.specs.Names.{name_on, same_connection, same_name}
+
+one_side : (a b : Connection) → same_connection a b ≡ true → a ≡ b
+one_side First First h = refl
+one_side Second Second h = refl
+one_side First Second h = absurd (false≢true h)
+one_side Second First h = absurd (false≢true h)
+
+pub same_is : (x y : Name) → same_name x y ≡ true → x ≡ y
+same_is x y h =
+    let p = and_parts (same_connection x.connection y.connection) (nat_eq x.reference y.reference) h in
+    ap (λ c. name_on c x.reference) (one_side x.connection y.connection p.0)
+    ∙ ap (name_on y.connection) (eqb-true x.reference y.reference p.1)
+
+own_side : (a : Connection) → same_connection a a ≡ true
+own_side First = refl
+own_side Second = refl
+
+itself : (x : Name) → same_name x x ≡ true
+itself x = ap (λ b. b && nat_eq x.reference x.reference) (own_side x.connection) ∙ eq-eqb x.reference x.reference refl
+
+pub is_same : (x y : Name) → x ≡ y → same_name x y ≡ true
+is_same x y e = subst (λ z. same_name x z ≡ true) e (itself x)
+
+pub differ_is : (x y : Name) → same_name x y ≡ false → x ≢ y
+differ_is x y h = λ e. true≢false (sym (is_same x y e) ∙ h)
+
+pub is_differ : (x y : Name) → x ≢ y → same_name x y ≡ false
+is_differ x y d =
+    let both : (b : Bool) → same_name x y ≡ b → same_name x y ≡ false =
+    λ b. elim b as (λ b. same_name x y ≡ b → same_name x y ≡ false) [
+      | true ↦ λ h. absurd (d (same_is x y h))
+      | false ↦ λ h. h
+    ] in
+    both (same_name x y) refl
