@@ -1,11 +1,13 @@
 -- Names are the same exactly where both of their parts are.
-use Rattle.std.proofs.Common.{◌≡◌, ◌≢◌, Bool, true, false, ◌&&◌, refl, ap, sym, ◌∙◌, subst}
+use Rattle.std.proofs.Common.{◌≡◌, ◌≢◌, Bool, true, false, ◌&&◌, ◌||◌, List, [], ◌∷◌, refl, ap, sym, ◌∙◌, subst}
 use Rattle.std.specs.Prelude.{nat_eq}
-use Rattle.std.proofs.lemmas.Bool.{and_parts, eq-eqb, eqb-true, false≢true, true≢false}
+use Rattle.std.proofs.lemmas.Bool.{and_parts, and_right, eq-eqb, eqb-true, false≢true, or_parts, true≢false}
+use Rattle.std.specs.List.{list_any}
 use Rattle.mscp_queue.specs.declared.name.Connection.{Connection}
 use Rattle.mscp_queue.specs.declared.name.Connection.TheVariants.{First, Second}
 use Rattle.mscp_queue.specs.declared.name.Name.{Name}
 use Rattle.mscp_queue.specs.Names.{name_on, same_connection, same_name}
+use Rattle.mscp_queue.specs.Records.{Record, has_name, has_number}
 
 one_side : (a b : Connection) → same_connection a b ≡ true → a ≡ b
 one_side First First h = refl
@@ -40,3 +42,13 @@ is_differ x y d =
       | false ↦ λ h. h
     ] in
     both (same_name x y) refl
+
+-- where none has the number none has the name
+pub unnumbered : (name : Name) (rs : List Record) → list_any (has_number name.reference) rs ≡ false
+    → list_any (has_name name) rs ≡ false
+unnumbered name [] h = refl
+unnumbered name (r ∷ rs) h =
+    let p = or_parts (has_number name.reference r) (list_any (has_number name.reference) rs) h in
+    ap (λ b. b || list_any (has_name name) rs)
+    (and_right (same_connection r.connection name.connection) (has_number name.reference r) p.0)
+    ∙ unnumbered name rs p.1

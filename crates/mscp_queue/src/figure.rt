@@ -3,7 +3,7 @@
 ghost use Rattle.std.specs.Prelude.{◌≡◌, ◌≤◌, ◌<◌, ◌+◌, ◌*◌, ◌^◌, length, filter, sum_by, take, drop, All};
 ghost use Rattle.std.specs.List.{list_any, position};
 ghost use Rattle.mscp_queue.specs.Figures.{figure_at, figure_of_name, figures};
-ghost use Rattle.mscp_queue.specs.Records.{has_name, is_in_service, left_if_serving, left_of};
+ghost use Rattle.mscp_queue.specs.Records.{has_name, has_number, is_in_service, left_if_serving, left_of};
 
 use crate::name::{Connection, Name};
 use crate::record::Record;
@@ -79,15 +79,27 @@ pub(crate) fn place_of(records: &[Record], name: Name) -> Option<usize>
     records.iter().position(|record| record.has_name(name))
 }
 
-/// Whether a record has this name. Nearly always none has, so each is looked at without a branch.
-pub(crate) fn has_any(records: &[Record], name: Name) -> bool
-    ensures { result ≡ list_any (has_name name) records.now }
+/// Whether a record has this reference number, by whichever connection its command came. Nearly always none has, so each
+/// is looked at without a branch.
+fn has_number(records: &[Record], reference: u32) -> bool
+    ensures { result ≡ list_any (has_number reference) records.now }
 {
     let mut found = false;
     for record in records {
-        found |= record.has_name(name);
+        found |= record.command().reference == reference;
     }
     found
+}
+
+/// Whether a record has this name.
+#[tactic(auto, using(crate::proofs::Named::unnumbered))]
+pub(crate) fn has_any(records: &[Record], name: Name) -> bool
+    ensures { result ≡ list_any (has_name name) records.now }
+{
+    if !has_number(records, name.reference) {
+        return false;
+    }
+    records.iter().any(|record| record.has_name(name))
 }
 
 /// The figure of the waiting command of this name, 0 if there is none.

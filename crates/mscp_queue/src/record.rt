@@ -12,8 +12,11 @@ use std::marker::Model;
 /// how many blocks it was passed.
 #[derive(Clone, Copy, Debug, PartialEq, Eq)]
 pub struct Record {
+    // The parts of the command stand beside the connection, in this order, since a record takes 32 bytes so.
+    reference: u32,
+    unit: u16,
     connection: Connection,
-    command: Command,
+    order: Order,
     weight: u32,
     done: u32,
     passed: u32,
@@ -29,7 +32,7 @@ impl Model for Record {
     ghost view = { λ r.
         record {
           connection = r.connection;
-          command = r.command;
+          command = record { reference = r.reference; unit = r.unit; order = r.order };
           weight = r.weight;
           done = r.done;
           good = r.done;
@@ -40,8 +43,10 @@ impl Model for Record {
 
     ghost inverse = { λ t.
         record {
+          reference = t.command.reference;
+          unit = t.command.unit;
           connection = t.connection;
-          command = t.command;
+          order = t.command.order;
           weight = t.weight;
           done = t.done;
           passed = t.passed;
@@ -55,8 +60,10 @@ impl Record {
         ensures { result ≡ fresh_record connection command }
     {
         Record {
+            reference: command.reference,
+            unit: command.unit,
             connection,
-            command,
+            order: command.order,
             weight,
             done: 0,
             passed: 0,
@@ -74,7 +81,11 @@ impl Record {
     pub fn command(&self) -> Command
         ensures { result ≡ self.now.command }
     {
-        self.command
+        Command {
+            reference: self.reference,
+            unit: self.unit,
+            order: self.order,
+        }
     }
 
     /// The name of the command.
@@ -83,7 +94,7 @@ impl Record {
     {
         Name {
             connection: self.connection,
-            reference: self.command.reference,
+            reference: self.reference,
         }
     }
 
@@ -98,7 +109,7 @@ impl Record {
     pub fn is_sequential(&self) -> bool
         ensures { result ≡ is_sequential self.now.command.order }
     {
-        let order = &self.command.order;
+        let order = &self.order;
         matches!(order, Order::Available | Order::Online | Order::SetUnit)
     }
 
@@ -187,12 +198,10 @@ impl Default for Record {
         ensures { result ≡ no_record }
     {
         Record {
+            reference: 0,
+            unit: 0,
             connection: Connection::First,
-            command: Command {
-                reference: 0,
-                unit: 0,
-                order: Order::Online,
-            },
+            order: Order::Online,
             weight: 0,
             done: 0,
             passed: 0,

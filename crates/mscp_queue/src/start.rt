@@ -33,9 +33,9 @@ fn transfer_choice(record: &Record, drive: &Drive, cylinder: u32) -> Choice
 {
     let command = record.command();
     Choice {
-        connection: record.connection(),
         reference: command.reference,
         unit: command.unit,
+        connection: record.connection(),
         class: Class::Free,
         cost: drive.head.cost(&drive.unit, cylinder),
     }
@@ -53,9 +53,9 @@ fn choice_of(record: &Record, drive: &Drive, cylinder: u32) -> Choice
         return transfer_choice(record, drive, cylinder);
     }
     Choice {
-        connection: record.connection(),
         reference: command.reference,
         unit: command.unit,
+        connection: record.connection(),
         class: Class::Sequential,
         cost: 0,
     }

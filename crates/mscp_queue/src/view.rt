@@ -12,12 +12,12 @@ use std::marker::Model;
 /// A command that may start, as a picker sees it.
 #[derive(Clone, Copy, Debug, PartialEq, Eq)]
 pub struct Choice {
-    /// The connection that it came by.
-    pub connection: Connection,
     /// Its reference number.
     pub reference: u32,
     /// The number of its unit.
     pub unit: u16,
+    /// The connection that it came by. It stands here, since a choice takes 16 bytes so, and each is written at a start.
+    pub connection: Connection,
     /// Sequential, or Free for a transfer.
     pub class: Class,
     /// How many cylinders the head of its unit crosses to its first block if it goes on the way it goes, and turns only
@@ -46,9 +46,9 @@ impl Default for Choice {
         ensures { result ≡ record { connection = First; reference = 0; unit = 0; class = Unknown; cost = 0 } }
     {
         Choice {
-            connection: Connection::First,
             reference: 0,
             unit: 0,
+            connection: Connection::First,
             class: Class::Unknown,
             cost: 0,
         }
