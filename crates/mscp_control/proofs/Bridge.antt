@@ -1,5 +1,8 @@
 -- From what a controller holds to the history of its run.
 pub mod Judging
+pub mod Accounts
+pub mod Counting
+pub mod Owning
 pub mod Keeping
 pub mod Held
 pub mod Quiet

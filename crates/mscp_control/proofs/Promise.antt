@@ -1,6 +1,7 @@
 -- What every legal trace promises, from the definitions alone.
 pub mod Grows
 pub mod Waits
+pub mod Sides
 pub mod Arrivals
 pub mod Apart
 pub mod Among
@@ -21,4 +22,5 @@ pub mod Within
 pub mod Shaped
 pub mod Alone
 pub mod Known
+pub mod Others
 pub mod Progress

@@ -3,7 +3,7 @@
 use Rattle.std.specs.Prelude.{◌≡◌, ◌≢◌, ◌⊎◌, ℕ, ◌+◌, ◌<◌, Bool, true, false, ◌||◌, nat_eq, if◌then◌else◌, List, [], ◌∷◌, length, take, drop, flat_map, slice_index_or, Option, Some, None, IfSome, Result, Ok, Err}
 use Rattle.std.specs.List.{list_any}
 use Rattle.mscp_queue.specs.declared.block.Block.{Block}
-use Rattle.mscp_queue.specs.declared.name.Connection.TheVariants.{First}
+use Rattle.mscp_queue.specs.declared.name.Connection.{Connection}
 use Rattle.mscp_queue.specs.declared.name.Name.{Name}
 use Rattle.mscp_queue.specs.declared.report.Report.{Report}
 use Rattle.mscp_queue.specs.declared.upcoming.Upcoming.{Upcoming}
@@ -27,15 +27,15 @@ pub data Call : Type 0 where
   Plain : Event → Entry → Call
   -- a begin, and what it told of the next step
   Begin : Option Upcoming → Call
-  -- the finish of the command of this reference number, whose block had this outcome
-  Finish : ℕ → Block → Result Report Stale → Call
+  -- the finish of the command of this reference number on this connection, whose block had this outcome
+  Finish : Connection → ℕ → Block → Result Report Stale → Call
 
 -- the moments of a call: a finish that isn't stale is a step. One that is, and a begin, are no moment (profile)
 abbrev pub moments_of : Call → List Moment
 moments_of (Plain event entry) = (event, entry) ∷ []
 moments_of (Begin upcoming) = []
-moments_of (Finish reference k (Ok report)) = (events.Step k, entries.Stepped report) ∷ []
-moments_of (Finish reference k (Err stale)) = []
+moments_of (Finish via reference k (Ok report)) = (events.Step k, entries.Stepped report) ∷ []
+moments_of (Finish via reference k (Err stale)) = []
 
 -- the history of calls, oldest first (profile)
 abbrev pub history : List Call → Trace
@@ -56,8 +56,8 @@ upcoming_in call = None
 abbrev pub service_of : Call → Option Service
 service_of (Plain event entry) = service_in entry
 service_of (Begin upcoming) = None
-service_of (Finish reference k (Ok report)) = service_in (entries.Stepped report)
-service_of (Finish reference k (Err stale)) = None
+service_of (Finish via reference k (Ok report)) = service_in (entries.Stepped report)
+service_of (Finish via reference k (Err stale)) = None
 
 -- the call was a step
 abbrev pub steps : Call → Bool
@@ -122,8 +122,8 @@ IsBegun calls name =
 abbrev pub IsRightCall : Settings → List Call → Call → Type 0
 IsRightCall c so_far (Plain event entry) = Unit {0}
 IsRightCall c so_far (Begin upcoming) = IsForetold c (history so_far) upcoming
-IsRightCall c so_far (Finish reference k (Ok report)) = IsBegun so_far (name_on First reference)
-IsRightCall c so_far (Finish reference k (Err stale)) = Unit {0}
+IsRightCall c so_far (Finish via reference k (Ok report)) = IsBegun so_far (name_on via reference)
+IsRightCall c so_far (Finish via reference k (Err stale)) = Unit {0}
 
 -- the step serves what was told: this command and this block, and it is a start exactly if the command had no step
 -- (profile)
@@ -137,7 +137,7 @@ pub record IsAsTold (upcoming : Upcoming) (s : Service) : Type 0 where
 -- the call holds to what was begun: a begin tells the same, a step serves it, and no finish of it is stale (profile)
 abbrev pub HoldsTo : Upcoming → Call → Type 0
 HoldsTo upcoming (Begin again) = again ≡ Some upcoming
-HoldsTo upcoming (Finish reference k (Err stale)) = upcoming_name upcoming ≢ name_on First reference
+HoldsTo upcoming (Finish via reference k (Err stale)) = upcoming_name upcoming ≢ name_on via reference
 HoldsTo upcoming call = IfSome (service_of call) (IsAsTold upcoming)
 
 -- the call holds to all that was begun
@@ -165,7 +165,7 @@ AtEachCall calls R = (i : ℕ) → i < length calls → R (take i calls) (call_a
 abbrev pub AnswersCall : {K : Type 0} → (List Choice → ℕ → Type 0) → Holdings K → Call → Holdings K → Type 0
 AnswersCall picks old (Plain event entry) new = Answers picks old event entry new
 AnswersCall picks old (Begin upcoming) new = Foretells picks old upcoming new
-AnswersCall picks old (Finish reference k answer) new = Finishes picks reference k old answer new
+AnswersCall picks old (Finish via reference k answer) new = Finishes picks (name_on via reference) k old answer new
 
 -- the same of calls, one after the other
 abbrev pub AnsweredCalls : {K : Type 0} → (List Choice → ℕ → Type 0) → Holdings K → List Call → Holdings K → Type 0

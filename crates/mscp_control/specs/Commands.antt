@@ -1,5 +1,5 @@
 -- The commands of a run. A command is the position at which it was queued, so a reference number that is
--- used again names another command.
+-- used again, or on the other connection, names another command.
 use Rattle.std.specs.Prelude.{ℕ, ◌+◌, ◌-◌, Bool, false, not, ◌&&◌, nat_eq, nat_lt, List, drop, filter, count_by, Option, Some, None, is_some, Ok}
 use Rattle.std.specs.List.{list_any, list_all}
 use Rattle.mscp_packet.specs.declared.command.Order.{Order}
@@ -9,11 +9,10 @@ use Rattle.mscp_control.specs.declared.event.Entry.{Entry}
 use Rattle.mscp_control.specs.declared.event.Entry.TheVariants as entries
 use Rattle.mscp_control.specs.declared.event.Sent.TheVariants as sents
 use Rattle.mscp_queue.specs.declared.name.Connection.{Connection}
-use Rattle.mscp_queue.specs.declared.name.Connection.TheVariants.{First}
 use Rattle.mscp_queue.specs.declared.name.Name.{Name}
-use Rattle.mscp_queue.specs.Names.{name_on, same_name}
+use Rattle.mscp_queue.specs.Names.{name_on, same_connection, same_name}
 use Rattle.mscp_queue.specs.Orders.{order_weight}
-use Rattle.mscp_control.specs.History.{Moment, Trace, moment, positions, sent_bytes, is_step, is_good, queues, Service, service_in}
+use Rattle.mscp_control.specs.History.{Moment, Trace, moment, positions, connection_of, sent_bytes, is_step, is_good, queues, Service, service_in}
 
 -- ---- what was asked for
 
@@ -29,9 +28,9 @@ command t x = command_of (sent_bytes (moment t x).0)
 abbrev pub reference : Trace → ℕ → ℕ
 reference t x = (command t x).reference
 
--- the connection that it came by: there is one (manual)
+-- the connection that it came by (manual)
 abbrev pub connection : Trace → ℕ → Connection
-connection t x = First
+connection t x = connection_of (moment t x).0
 
 -- its name, which tells it from the others that wait (manual)
 abbrev pub name : Trace → ℕ → Name
@@ -70,9 +69,9 @@ abbrev pub service_starts : Name → Option Service → Bool
 service_starts n None = false
 service_starts n (Some s) = same_name (service_name s) n && s.started
 
--- the message that was answered aborted the command of this name (manual)
+-- the message that was answered aborted the command of this name, which is of the same connection (manual)
 abbrev pub aborts : Name → Entry → Bool
-aborts n (entries.Sent (Ok (sents.Answered reference (Some other)))) = same_name (name_on First other) n
+aborts n (entries.Sent via (Ok (sents.Answered reference (Some other)))) = same_name (name_on via other) n
 aborts n entry = false
 
 -- the command of this name is served (profile)
@@ -86,7 +85,7 @@ starts_in n entry = service_starts n (service_in entry)
 -- the command of this name ends, by a step or by an abort (manual)
 abbrev pub ends_in : Name → Entry → Bool
 ends_in n (entries.Stepped report) = service_ends n (service_in (entries.Stepped report))
-ends_in n (entries.Sent sent) = aborts n (entries.Sent sent)
+ends_in n (entries.Sent via sent) = aborts n (entries.Sent via sent)
 ends_in n entry = false
 
 -- ---- who waits
@@ -98,6 +97,10 @@ is_waiting t x = queues (moment t x).1 && not (list_any (λ m. ends_in (name t x
 -- the commands that wait, in the order in which they came (manual)
 unfoldable pub waiting : Trace → List ℕ
 waiting t = filter (is_waiting t) (positions t)
+
+-- those of them that came by a connection (manual)
+abbrev pub waiting_by : Connection → Trace → List ℕ
+waiting_by via t = filter (λ x. same_connection (connection t x) via) (waiting t)
 
 -- the commands that wait and came before x (manual)
 abbrev pub earlier : Trace → ℕ → List ℕ

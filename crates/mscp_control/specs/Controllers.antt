@@ -2,11 +2,13 @@
 use Rattle.std.specs.Prelude.{◌≡◌, ℕ, List, map}
 use Rattle.mscp_drive.specs.Shape.{Shape}
 use Rattle.mscp_queue.specs.declared.drive.Drive.{Drive}
+use Rattle.mscp_queue.specs.declared.name.Connection.{Connection}
 use Rattle.mscp_queue.specs.declared.name.Name.{Name}
 use Rattle.mscp_queue.specs.declared.view.Choice.{Choice}
 use Rattle.mscp_queue.specs.Figures.{figure_of_name}
 use Rattle.mscp_queue.specs.Kept.{names}
 use Rattle.mscp_control.specs.Settings.{Settings, IsValid}
+use Rattle.mscp_control.specs.Both.{of}
 use Rattle.mscp_control.specs.Holdings.{Holdings, balance_of, fresh}
 use Rattle.mscp_control.specs.History.{Trace}
 use Rattle.mscp_control.specs.Commands.{name, waiting}
@@ -40,16 +42,16 @@ pub record KeepsPromise {K : Type 0} (picks : List Choice → ℕ → Type 0) (c
   pub swept : Sweeps picks → AtEachCall calls (StartsChosen (IsSwept c))
   -- its settings are those that it was made with (profile)
   pub settings : held.settings ≡ c
-  -- it holds the commands that wait after the history, and the ends that weren't taken (manual)
+  -- it holds the commands that wait after the history, and each connection's ends that weren't taken (manual)
   pub waiting : names held.waiting ≡ map (name (history calls)) (waiting (history calls))
-  pub untaken : held.untaken ≡ untaken c (history calls)
+  pub untaken : (via : Connection) → of via held.untaken ≡ untaken c via (history calls)
   -- the figure that it now tells of a name is that of the history (profile)
   pub figure : (name : Name) → figure_of_name c.budget held.waiting name ≡ figure_of c (history calls) name
   -- its drives are the units with the states and heads of the history, the way that each head goes too (manual, heads
   -- are the profile's)
   pub drives : held.drives ≡ map (drive_now c (history calls)) c.units
-  -- and its balance is that of the history (manual)
-  pub balance : balance_of held ≡ balance c (history calls)
+  -- and the balance of each connection is that of the history (manual)
+  pub balance : (via : Connection) → balance_of via held ≡ balance c via (history calls)
 
 -- the law of a picker: every controller that it picks for keeps the promise, whoever calls it (profile)
 abbrev pub ControllersKeepThePromise : {K : Type 0} → (List Choice → ℕ → Type 0) → K → Type 0

@@ -1,4 +1,4 @@
--- The ends that a run makes, with their contents.
+-- The ends that a run makes, with their contents. Each goes to the connection of its command.
 use Rattle.std.specs.Prelude.{ℕ, if◌then◌else◌, List, [], ◌∷◌, ◌++◌, map, filter, Option, Some, None, option_to_list}
 use Rattle.mscp_packet.specs.declared.command.Order.{Order}
 use Rattle.mscp_packet.specs.declared.command.Order.TheVariants as orders
@@ -10,8 +10,8 @@ use Rattle.mscp_control.specs.Settings.{Settings}
 use Rattle.mscp_control.specs.Arrival.{fault_of}
 use Rattle.mscp_control.specs.Outcomes.{own_end, outcome_of}
 use Rattle.mscp_queue.specs.Outcomes.{aborted_end}
-use Rattle.mscp_queue.specs.declared.name.Connection.TheVariants.{First}
-use Rattle.mscp_queue.specs.Names.{name_on, same_name}
+use Rattle.mscp_queue.specs.declared.name.Connection.{Connection}
+use Rattle.mscp_queue.specs.Names.{name_on, same_connection, same_name}
 use Rattle.mscp_control.specs.History.{Moment, Trace, sent_bytes, answers, Service, service_in}
 use Rattle.mscp_control.specs.Commands.{command, name, unit, waiting, good}
 use Rattle.mscp_control.specs.Figures.{figure_of}
@@ -19,34 +19,35 @@ use Rattle.mscp_control.specs.Units.{is_online}
 
 -- ---- answered when they come
 
--- the figure that an order asks for (manual, "Host Command Timeouts")
-abbrev pub figure_asked : Settings → Trace → Order → ℕ
-figure_asked c t (orders.Status other) = figure_of c t (name_on First other)
-figure_asked c t order = 0
+-- the figure that an order of a connection asks for: that of a command of the same connection (manual, "Host Command
+-- Timeouts")
+abbrev pub figure_asked : Settings → Connection → Trace → Order → ℕ
+figure_asked c via t (orders.Status other) = figure_of c t (name_on via other)
+figure_asked c via t order = 0
 
--- the waiting commands that an order names to be aborted (manual)
-abbrev pub named : Trace → Order → List ℕ
-named t (orders.Abort other) = filter (λ x. same_name (name t x) (name_on First other)) (waiting t)
-named t order = []
+-- the waiting commands that an order of a connection names to be aborted: those of the same connection (manual)
+abbrev pub named : Connection → Trace → Order → List ℕ
+named via t (orders.Abort other) = filter (λ x. same_name (name t x) (name_on via other)) (waiting t)
+named via t order = []
 
 -- the same of an order that is refused with this status, or isn't: what is refused aborts nothing (manual)
-abbrev pub aborted_unless : Trace → Order → Option ℕ → List ℕ
-aborted_unless t order (Some fault) = []
-aborted_unless t order None = named t order
+abbrev pub aborted_unless : Connection → Trace → Order → Option ℕ → List ℕ
+aborted_unless via t order (Some fault) = []
+aborted_unless via t order None = named via t order
 
--- the waiting commands that a message aborts (manual)
-abbrev pub aborted : Settings → Trace → Command → List ℕ
-aborted c t sent = aborted_unless t sent.order (fault_of c sent)
+-- the waiting commands that a message of a connection aborts (manual)
+abbrev pub aborted : Settings → Connection → Trace → Command → List ℕ
+aborted c via t sent = aborted_unless via t sent.order (fault_of c sent)
 
 -- the ends of the commands that a message aborts, and then its own (manual)
-abbrev pub answer_to : Settings → Trace → Command → List End
-answer_to c t sent =
-    map (λ x. aborted_end (command t x) (good t x)) (aborted c t sent)
-    ++ own_end c (is_online t sent.unit) (figure_asked c t sent.order) sent ∷ []
+abbrev pub answer_to : Settings → Connection → Trace → Command → List End
+answer_to c via t sent =
+    map (λ x. aborted_end (command t x) (good t x)) (aborted c via t sent)
+    ++ own_end c (is_online t sent.unit) (figure_asked c via t sent.order) sent ∷ []
 
--- the ends that an answered message makes after t (manual)
-unfoldable pub answer : Settings → Trace → List ℕ → List End
-answer c t b = answer_to c t (command_of b)
+-- the ends that an answered message of a connection makes after t (manual)
+unfoldable pub answer : Settings → Connection → Trace → List ℕ → List End
+answer c via t b = answer_to c via t (command_of b)
 
 -- ---- served
 
@@ -54,13 +55,14 @@ answer c t b = answer_to c t (command_of b)
 unfoldable pub outcome : Settings → Trace → Block → ℕ → End
 outcome c t k y = outcome_of c (is_online t (unit t y)) (command t y) (good t y) k
 
--- the end that a step makes, if it makes one (manual)
-abbrev pub ends_served : Option Service → List End
-ends_served None = []
-ends_served (Some s) = option_to_list s.ended
+-- the end that a step makes for a connection, if it ends a command of it (manual)
+abbrev pub ends_served : Connection → Option Service → List End
+ends_served via None = []
+ends_served via (Some s) = if same_connection s.connection via then option_to_list s.ended else []
 
 -- ---- all of them
 
--- the ends that the moment m, which comes after t, makes (manual)
-abbrev pub ends_at : Settings → Trace → Moment → List End
-ends_at c t m = (if answers m.1 then answer c t (sent_bytes m.0) else []) ++ ends_served (service_in m.1)
+-- the ends that the moment m, which comes after t, makes for a connection (manual)
+abbrev pub ends_at : Settings → Connection → Trace → Moment → List End
+ends_at c via t m =
+    (if answers via m.1 then answer c via t (sent_bytes m.0) else []) ++ ends_served via (service_in m.1)

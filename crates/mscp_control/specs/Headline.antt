@@ -1,9 +1,10 @@
--- The promise of a run, whole, with C credits, a budget of Q blocks and transfers of at most L blocks. For every
--- configuration, picker and list of events, `run` answers a legal trace: untaken and waiting commands never exceed C,
--- none passes a sequential command of its unit, none is passed by more than Q blocks; every waiting command's status
--- figure falls at each step, never rises between steps, and each queued command ends within `(C - 1) * L + Q` steps.
+-- The promise of a run, whole, with room for so many commands, a budget of Q blocks and transfers of at most L blocks.
+-- For every configuration, picker and list of events, `run` answers a legal trace: untaken and waiting commands of each
+-- connection never exceed its credits, none passes a sequential command of its unit, none is passed by more than Q
+-- blocks; every waiting command's status figure falls at each step, never rises between steps, and each queued command
+-- ends within `room * L + Q` steps. What one connection's host sends or takes changes nothing of the other's account.
 -- Nothing here names a picker: whatever it picks of what may start, the promise holds.
-use Rattle.std.specs.Prelude.{◌≡◌, ◌↔◌, ℕ, ◌+◌, ◌<◌, ◌≤◌, true, List, [], ◌∷◌, ◌++◌, length, filter, take, zip, All, Contains, slice_get, Some}
+use Rattle.std.specs.Prelude.{◌≡◌, ◌≢◌, ◌↔◌, ℕ, ◌+◌, ◌<◌, ◌≤◌, true, List, [], ◌∷◌, ◌++◌, length, filter, take, zip, All, Contains, slice_get, Some}
 use Rattle.mscp_packet.specs.declared.command.Command.{Command}
 use Rattle.mscp_packet.specs.declared.command.Order.TheVariants as orders
 use Rattle.mscp_packet.specs.declared.end.End.{End}
@@ -12,15 +13,15 @@ use Rattle.mscp_packet.specs.Ends.{IsOfKind}
 use Rattle.mscp_packet.specs.Statuses.{success}
 use Rattle.mscp_control.specs.declared.event.Event.{Event}
 use Rattle.mscp_control.specs.declared.event.Entry.{Entry}
-use Rattle.mscp_control.specs.Settings.{Settings, IsValid, bound}
-use Rattle.mscp_queue.specs.declared.name.Connection.TheVariants.{First}
+use Rattle.mscp_control.specs.Settings.{Settings, IsValid, bound, credits_of}
+use Rattle.mscp_queue.specs.declared.name.Connection.{Connection}
 use Rattle.mscp_queue.specs.Names.{name_on}
 use Rattle.mscp_queue.specs.Outcomes.{end_with}
-use Rattle.mscp_control.specs.History.{Moment, Trace, moment, answers, is_step, Service, service_in, WhenStarted}
-use Rattle.mscp_control.specs.Commands.{in_service, is_idle, name, service_name, sent_command, waiting, steps_after}
+use Rattle.mscp_control.specs.History.{Moment, Trace, moment, answers, comes_by, is_step, Service, service_in, WhenStarted}
+use Rattle.mscp_control.specs.Commands.{in_service, is_idle, name, service_name, sent_command, waiting, waiting_by, steps_after}
 use Rattle.mscp_control.specs.Passing.{is_free, is_startable, passed}
 use Rattle.mscp_control.specs.Figures.{figure, figure_of}
-use Rattle.mscp_control.specs.Account.{ends, untaken}
+use Rattle.mscp_control.specs.Account.{balance, ends, outstanding, untaken}
 use Rattle.mscp_control.specs.Legal.{IsLegal}
 
 -- ---- words
@@ -48,20 +49,37 @@ IsFreeStart t s = EachWaiting t (λ y. name t y ≡ service_name s → is_free t
 abbrev pub poll_end : Command → ℕ → ℕ → End
 poll_end command reference figure = end_with command success (bodies.Status reference figure)
 
--- where m answers a poll, the ends are those before it and one more: the poll's own, with the figure of the command
--- that it names, 0 where none of that reference number waits (manual, "Host Command Timeouts")
+-- where m answers a poll of a connection, its ends are those before it and one more: the poll's own, with the figure of
+-- the command of that connection that it names, 0 where none of that reference number waits (manual, "Host Command
+-- Timeouts")
 abbrev pub TellsFigure : Settings → Trace → Moment → Trace → Type 0
 TellsFigure c before m after =
-    (reference : ℕ) → answers m.1 ≡ true → (sent_command m).order ≡ orders.Status reference
-    → ends c after ≡ ends c before
-    ++ poll_end (sent_command m) reference (figure_of c before (name_on First reference)) ∷ []
+    (via : Connection) (reference : ℕ) → answers via m.1 ≡ true → (sent_command m).order ≡ orders.Status reference
+    → ends c via after ≡ ends c via before
+    ++ poll_end (sent_command m) reference (figure_of c before (name_on via reference)) ∷ []
+
+-- ---- the other connection
+
+-- the account of this connection's host is as it was
+pub record IsUntouched (c : Settings) (via : Connection) (before after : Trace) : Type 0 where
+  pub balance : balance c via after ≡ balance c via before
+  pub untaken : untaken c via after ≡ untaken c via before
+  pub outstanding : outstanding c via after ≡ outstanding c via before
+
+-- where m comes from a host, the account of the other connection's is as it was
+abbrev pub LeavesOther : Settings → Trace → Moment → Trace → Type 0
+LeavesOther c before m after =
+    (via other : Connection) → comes_by m.0 ≡ Some via → other ≢ via → IsUntouched c other before after
 
 -- ---- the promise
 
 -- what each legal trace promises (profile)
 pub record Promise (c : Settings) (t : Trace) : Type 0 where
-  -- untaken ends and waiting commands never exceed the credits (manual, "Flow Control")
-  pub credits : Always t (λ p. length (waiting p) + length (untaken c p) ≤ c.credits)
+  -- untaken ends and waiting commands of each connection never exceed its credits (manual, "Flow Control")
+  pub credits : Always t (λ p. (via : Connection)
+      → length (waiting_by via p) + length (untaken c via p) ≤ credits_of c via)
+  -- what comes from the host of one connection leaves the account of the other's as it was (profile)
+  pub other : AtEach t (LeavesOther c)
   -- none passes a sequential command of its unit, and a sequential command passes none of its unit (manual, "Command
   -- Categories and Execution Order")
   pub fences : AtEach t (λ before m after. WhenStarted (IsFreeStart before) (service_in m.1))
@@ -88,7 +106,7 @@ pub record Promise (c : Settings) (t : Trace) : Type 0 where
   -- each poll that is answered is told the figure of the command that it names (manual, "Host Command Timeouts")
   pub polled : AtEach t (TellsFigure c)
   -- each end has the body of its endcode (manual, "End Messages")
-  pub shaped : All IsOfKind (ends c t)
+  pub shaped : (via : Connection) → All IsOfKind (ends c via t)
 
 -- what is promised of these events and the entries that a run answers to them (profile)
 pub record Headline (c : Settings) (events : List Event) (entries : List Entry) : Type 0 where

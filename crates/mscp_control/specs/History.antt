@@ -1,9 +1,11 @@
 -- A run as the list of its moments, and what is collected of it by positions.
-use Rattle.std.specs.Prelude.{◌≡◌, ℕ, Bool, true, false, List, [], ◌∷◌, length, take, flat_map, slice_index_or, Option, Some, None, Ok}
+use Rattle.std.specs.Prelude.{◌≡◌, ℕ, Bool, true, false, List, [], ◌∷◌, length, take, flat_map, slice_index_or, Option, Some, None, unwrap_or, Ok}
 use Rattle.std.specs.List.{range_with_len}
 use Rattle.mscp_packet.specs.declared.end.End.{End}
 use Rattle.mscp_queue.specs.declared.block.Block.TheVariants.{Good}
 use Rattle.mscp_queue.specs.declared.name.Connection.{Connection}
+use Rattle.mscp_queue.specs.declared.name.Connection.TheVariants.{First}
+use Rattle.mscp_queue.specs.Names.{same_connection}
 use Rattle.mscp_queue.specs.declared.report.Report.TheVariants as reports
 use Rattle.mscp_control.specs.declared.event.Sent.TheVariants as sents
 use Rattle.mscp_control.specs.declared.event.Event.{Event}
@@ -21,7 +23,7 @@ Trace = List Moment
 
 -- the moment at a position. Past the end it is one that changes nothing (profile)
 unfoldable pub moment : Trace → ℕ → Moment
-moment t i = slice_index_or t i (events.Take, entries.Taken None)
+moment t i = slice_index_or t i (events.Take First, entries.Taken First None)
 
 -- the positions of a trace, in order (profile)
 abbrev pub positions : Trace → List ℕ
@@ -40,8 +42,18 @@ last_or (x ∷ xs) default = last_or xs x
 
 -- the bytes of a message (manual)
 abbrev pub sent_bytes : Event → List ℕ
-sent_bytes (events.Send b) = b.items
+sent_bytes (events.Send via b) = b.items
 sent_bytes event = []
+
+-- the connection whose host made the event, if one did (manual)
+abbrev pub comes_by : Event → Option Connection
+comes_by (events.Send via b) = Some via
+comes_by (events.Take via) = Some via
+comes_by event = None
+
+-- the same, or the first, where no host made it
+abbrev pub connection_of : Event → Connection
+connection_of event = unwrap_or (comes_by event) First
 
 -- the event is a step (profile)
 abbrev pub is_step : Event → Bool
@@ -55,18 +67,18 @@ is_good event = false
 
 -- a message was queued (manual)
 abbrev pub queues : Entry → Bool
-queues (entries.Sent (Ok (sents.Queued reference))) = true
+queues (entries.Sent via (Ok (sents.Queued reference))) = true
 queues entry = false
 
--- a message was answered when it came (manual)
-abbrev pub answers : Entry → Bool
-answers (entries.Sent (Ok (sents.Answered reference aborted))) = true
-answers entry = false
+-- a message of this connection was answered when it came (manual)
+abbrev pub answers : Connection → Entry → Bool
+answers via (entries.Sent other (Ok (sents.Answered reference aborted))) = same_connection other via
+answers via entry = false
 
--- an end was taken (manual)
-abbrev pub takes : Entry → Bool
-takes (entries.Taken (Some b)) = true
-takes entry = false
+-- an end of this connection was taken (manual)
+abbrev pub takes : Connection → Entry → Bool
+takes via (entries.Taken other (Some b)) = same_connection other via
+takes via entry = false
 
 -- what is said of a step that served a command (profile)
 pub record Service : Type 0 where

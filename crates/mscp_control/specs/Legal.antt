@@ -75,11 +75,11 @@ shown c t x = (connection t x, reference t x, figure c t x)
 
 -- after t, this may be answered to the event (manual)
 abbrev pub IsRight : Settings → Trace → Event → Entry → Type 0
-IsRight c t (events.Send b) (entries.Sent sent) = sent ≡ arrival c t b.items
+IsRight c t (events.Send via b) (entries.Sent other sent) = (other ≡ via) × (sent ≡ arrival c via t b.items)
 IsRight c t (events.Step k) (entries.Stepped reports.Idle) = waiting t ≡ []
 IsRight c t (events.Step k) (entries.Stepped report) = IsStep c t k (service_in (entries.Stepped report))
-IsRight c t events.Take (entries.Taken end) =
-    end ≡ option_map (λ e. record { items = end_bytes e }) (slice_get (untaken c t) 0)
+IsRight c t (events.Take via) (entries.Taken other end) =
+    (other ≡ via) × (end ≡ option_map (λ e. record { items = end_bytes e }) (slice_get (untaken c via t) 0))
 IsRight c t events.Look (entries.Looked list) = list.items ≡ map (shown c t) (waiting t)
 IsRight c t event entry = ⊥
 

@@ -9,6 +9,8 @@ pub mod Passing
 pub mod Figures
 pub mod Units
 pub mod Ends
+pub mod Both
+pub mod Accounts
 pub mod Account
 pub mod Credits
 pub mod Legal

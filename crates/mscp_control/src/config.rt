@@ -1,17 +1,18 @@
 // The limits of a controller, and its units.
 
-ghost use Rattle.std.specs.Prelude.{◌≡◌};
+ghost use Rattle.std.specs.Prelude.{◌≡◌, ◌-◌};
 
 #[cfg(test)]
 pub(crate) mod tests;
 
 use mscp_drive::Units;
+use mscp_queue::Connection;
 use std::marker::Model;
 
 /// Why limits are refused: the first that holds, in this order.
 #[derive(Clone, Copy, Debug, PartialEq, Eq)]
 pub enum ConfigFault {
-    /// Credits not 2 to 64.
+    /// The first connection's credits not 2 to 64, the second's not 0 or 2 to 62, or more than 64 of both.
     Credits,
     /// The longest transfer not 1 to 8,388,608 blocks.
     Longest,
@@ -25,6 +26,7 @@ pub enum ConfigFault {
 #[derive(Debug, Drop, PartialEq)]
 pub struct Config {
     credits: u32,
+    second: u32,
     budget: u32,
     longest: u32,
     timeout: u16,
@@ -41,6 +43,7 @@ impl Model for Config {
     ghost view = { λ c.
         record {
           credits = c.credits;
+          second = c.second;
           budget = c.budget;
           longest = c.longest;
           timeout = c.timeout;
@@ -51,6 +54,7 @@ impl Model for Config {
     ghost invariant = { λ c.
         IsValid (record {
           credits = c.credits;
+          second = c.second;
           budget = c.budget;
           longest = c.longest;
           timeout = c.timeout;
@@ -61,6 +65,7 @@ impl Model for Config {
     ghost inverse = { λ s.
         record {
           credits = s.credits;
+          second = s.second;
           budget = s.budget;
           longest = s.longest;
           timeout = s.timeout;
@@ -69,15 +74,23 @@ impl Model for Config {
         } };
 }
 
-impl Config {
-    ghost use Rattle.mscp_control.specs.Settings.{configured, IsValid, Settings};
+/// How many commands may wait of so many credits: one is kept for commands that are answered when they come.
+fn room_for(credits: u32) -> u32
+    ensures { result ≡ credits - 1 }
+{
+    credits.saturating_sub(1)
+}
 
-    /// The limits, if a controller can keep them: `credits` commands and untaken ends at most, each waiting
-    /// command passed by at most `budget` blocks, transfers of at most `longest` blocks, and a controller
-    /// timeout in seconds and a controller identifier, which the host is told. A limit of so many passes is a
-    /// budget of `passes * longest`.
+impl Config {
+    ghost use Rattle.mscp_control.specs.Settings.{configured, credits_of, room, IsValid, Settings};
+
+    /// The limits, if a controller can keep them: `credits` commands and untaken ends of the first connection at most, and
+    /// `second` of the second, each waiting command passed by at most `budget` blocks, transfers of at most `longest`
+    /// blocks, and a controller timeout in seconds and a controller identifier, which hosts are told. If `second` is 0
+    /// there is no second connection. A limit of so many passes is a budget of `passes * longest`.
     pub fn new(
         credits: u32,
+        second: u32,
         budget: u64,
         longest: u32,
         timeout: u16,
@@ -85,12 +98,20 @@ impl Config {
         units: Units,
     ) -> Result<Config, ConfigFault>
         ensures { let s : Settings =
-            record { credits = credits; budget = budget; longest = longest; timeout = timeout; id = id; units = units } in
+            record {
+              credits = credits;
+              second = second;
+              budget = budget;
+              longest = longest;
+              timeout = timeout;
+              id = id;
+              units = units;
+            } in
             result ≡ configured s }
     {
         // The list of the units tells that it is one.
         let _units = units.list();
-        if !(2..=64).contains(&credits) {
+        if !(2..=64).contains(&credits) || second == 1 || second > 64 - credits {
             return Err(ConfigFault::Credits);
         }
         if !(1..=8_388_608).contains(&longest) {
@@ -102,12 +123,14 @@ impl Config {
         let Ok(budget) = u32::try_from(budget) else {
             return Err(ConfigFault::Figure);
         };
-        let bound = u64::from(credits - 1) * u64::from(longest) + u64::from(budget);
+        let room = room_for(credits) + room_for(second);
+        let bound = u64::from(room) * u64::from(longest) + u64::from(budget);
         if bound > u64::from(u32::MAX) {
             return Err(ConfigFault::Figure);
         }
         Ok(Config {
             credits,
+            second,
             budget,
             longest,
             timeout,
@@ -116,12 +139,39 @@ impl Config {
         })
     }
 
-    /// How many commands and untaken ends there may be at once.
+    /// How many commands and untaken ends of the first connection there may be at once.
     pub fn credits(&self) -> u32
         ensures value { result ≡ self.now.credits }
         ensures valid { IsValid self.now }
     {
         self.credits
+    }
+
+    /// How many of the second connection: 0 if there is none.
+    pub fn second(&self) -> u32
+        ensures value { result ≡ self.now.second }
+        ensures valid { IsValid self.now }
+    {
+        self.second
+    }
+
+    /// How many of this connection.
+    pub fn credits_of(&self, connection: Connection) -> u32
+        ensures value { result ≡ credits_of self.now connection }
+        ensures valid { IsValid self.now }
+    {
+        match connection {
+            Connection::First => self.credits,
+            Connection::Second => self.second,
+        }
+    }
+
+    /// How many commands may wait, of both connections.
+    pub fn room(&self) -> u32
+        ensures value { result ≡ room self.now }
+        ensures valid { IsValid self.now }
+    {
+        room_for(self.credits) + room_for(self.second)
     }
 
     /// By how many blocks a waiting command may be passed.

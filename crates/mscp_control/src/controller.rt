@@ -1,7 +1,6 @@
-// A controller: its queue, its untaken ends, and its credits.
+// A controller: its queue, and the account of each connection's host.
 
-ghost use Rattle.std.specs.Prelude.{◌≡◌, ◌+◌, ◌<◌, ◌≤◌, ◌^◌, true, false, [], ◌∷◌, ◌++◌, length, slice_get, IfErr, IfOk, IfSome, None, Some, nat_eq, option_map};
-ghost use Rattle.std.specs.List.{list_any};
+ghost use Rattle.std.specs.Prelude.{◌≡◌, ◌+◌, ◌≤◌, ◌^◌, true, false, length, slice_get, IfErr, IfSome, None, Some};
 ghost use Rattle.mscp_packet.specs.Ends.{IsEnd, IsOfKind};
 ghost use Rattle.mscp_queue.specs.Drives.{is_online_in};
 ghost use Rattle.mscp_queue.specs.Orders.{first_block, order_weight};
@@ -9,12 +8,15 @@ ghost use Rattle.mscp_queue.specs.Figures.{figure_of_name, figures};
 ghost use Rattle.mscp_queue.specs.Names.{name_on};
 ghost use Rattle.mscp_queue.specs.Outcomes.{IsCoded};
 ghost use Rattle.mscp_control.specs.Arrival.{credit_fault, fault_of, holds, is_queued};
-ghost use Rattle.mscp_control.specs.Settings.{IsValid};
-ghost use Rattle.mscp_control.specs.Holdings.{Answers, Finishes, Foretells, IsBalanced, Steps, record_aborted, aborting, after_message, after_take, answer_to_message, answered_end, arrives, balance_of, end_taken, with_end, ends_reported, fresh, outstanding_of, queued, taken_as};
+ghost use Rattle.mscp_control.specs.Accounts.{CanEnd, reported};
+ghost use Rattle.mscp_control.specs.Both.{of};
+ghost use Rattle.mscp_control.specs.Settings.{IsValid, credits_of};
+ghost use Rattle.mscp_control.specs.Holdings.{Answers, Finishes, Foretells, IsBalanced, Steps, aborting, after_message, after_take, answer_to_message, answered_end, arrives, balance_of, end_taken, with_end, fresh, outstanding_of, queued, reference_aborted, taken_as, waiting_on};
 
 #[cfg(test)]
 mod tests;
 
+use crate::account::Accounts;
 use crate::answer::{controller_end, refused_end, unit_status_end};
 use crate::arrival::{is_immediate, judge, may_take_last_credit};
 use crate::config::Config;
@@ -26,24 +28,18 @@ use mscp_packet::{Command, End, EndBody, Order, read_command, write_end};
 use mscp_queue::{Block, Connection, Picker, Queue, Report, Upcoming, Waiting, end_with};
 use std::marker::Model;
 
-/// Whether one of the ends has the reference number.
-fn is_untaken(ends: &[End], reference: u32) -> bool
-    ensures { result ≡ list_any (λ e. nat_eq e.reference reference) ends.now }
-{
-    ends.iter().any(|end| end.reference == reference)
-}
-
-/// Appends the end that a report brings, if it brings one.
-fn keep_end(untaken: &mut ArrayVec<End, 64>, report: &Report)
-    requires { length untaken.old.items + length (ends_reported report.now) ≤ 64 }
-    ensures { untaken.new.items ≡ untaken.old.items ++ ends_reported report.now }
+/// Gives the end that a report brings, if it brings one, to the host of its command's connection.
+fn keep_end(accounts: &mut Accounts, report: &Report)
+    requires { CanEnd report.now accounts.old }
+    ensures { accounts.new ≡ reported report.now accounts.old }
 {
     if let Report::Served {
+        connection,
         ended: Some(end),
         ..
     } = report
     {
-        untaken.push(*end);
+        accounts.leave(*connection, *end);
     }
 }
 
@@ -52,13 +48,14 @@ fn keep_end(untaken: &mut ArrayVec<End, 64>, report: &Report)
 pub struct Controller<K> {
     config: Config,
     queue: Queue<K>,
-    untaken: ArrayVec<End, 64>,
+    accounts: Accounts,
 }
 
-// A clause sees the settings, the waiting commands and the ends that weren't taken, each oldest first, the drives in
-// the order of their units, what was begun, and the picker.
+// A clause sees the settings, the waiting commands and each connection's ends that weren't taken, all oldest first, the
+// drives in the order of their units, what was begun, and the picker.
 impl<K> Model for Controller<K> {
     ghost use Rattle.mscp_control.specs.Holdings.{Holdings};
+    ghost use Rattle.mscp_control.specs.Accounts.{untaken_in};
     ghost use Rattle.mscp_control.specs.Kept.{IsHeld};
 
     ghost Value = { Holdings K };
@@ -67,13 +64,13 @@ impl<K> Model for Controller<K> {
         record {
           settings = h.config;
           waiting = h.queue.waiting;
-          untaken = h.untaken.items;
+          untaken = untaken_in h.accounts;
           drives = h.queue.drives;
           begun = h.queue.begun;
           picker = h.queue.picker;
         } };
 
-    ghost invariant = { λ h. IsHeld h.config h.queue h.untaken.items };
+    ghost invariant = { λ h. IsHeld h.config h.queue h.accounts };
 }
 
 impl<K: Picker> Controller<K> {
@@ -88,7 +85,7 @@ impl<K: Picker> Controller<K> {
         };
         let queue = Queue::new(
             units,
-            config.credits() - 1,
+            config.room(),
             config.budget(),
             config.longest(),
             picker,
@@ -96,7 +93,7 @@ impl<K: Picker> Controller<K> {
         Controller {
             config,
             queue,
-            untaken: ArrayVec::new(),
+            accounts: Accounts::new(),
         }
     }
 
@@ -107,7 +104,7 @@ impl<K: Picker> Controller<K> {
         ensures account { IsBalanced self.new }
     {
         self.queue.reset();
-        self.untaken.clear();
+        self.accounts.clear();
     }
 
     /// Its settings.
@@ -118,30 +115,32 @@ impl<K: Picker> Controller<K> {
         &self.config
     }
 
-    /// How many credits are free: each waiting command and each untaken end holds one (manual, "Flow
-    /// Control").
-    pub fn balance(&self) -> u32
-        ensures value { result ≡ balance_of self.now }
-        ensures account { result + length self.now.waiting + length self.now.untaken ≡ self.now.settings.credits }
+    /// How many credits of the connection are free: each of its waiting commands and of its untaken ends holds one (manual,
+    /// "Flow Control").
+    pub fn balance(&self, connection: Connection) -> u32
+        ensures value { result ≡ balance_of connection self.now }
+        ensures account { result + length (waiting_on connection self.now.waiting)
+            + length (of connection self.now.untaken) ≡ credits_of self.now.settings connection }
+        ensures accounts { IsBalanced self.now }
     {
-        let held = self.queue.len() + self.untaken.len() as u32;
-        self.config.credits().saturating_sub(held)
+        let held = self.accounts.held(connection);
+        self.config.credits_of(connection).saturating_sub(held)
     }
 
-    /// How many commands wait.
-    pub fn waiting(&self) -> u32
-        ensures value { result ≡ length self.now.waiting }
+    /// How many commands of the connection wait.
+    pub fn waiting(&self, connection: Connection) -> u32
+        ensures value { result ≡ length (waiting_on connection self.now.waiting) }
         ensures account { IsBalanced self.now }
     {
-        self.queue.len()
+        self.accounts.waiting(connection)
     }
 
-    /// How many ends weren't taken.
-    pub fn untaken(&self) -> u32
-        ensures value { result ≡ length self.now.untaken }
+    /// How many ends of the connection weren't taken.
+    pub fn untaken(&self, connection: Connection) -> u32
+        ensures value { result ≡ length (of connection self.now.untaken) }
         ensures account { IsBalanced self.now }
     {
-        self.untaken.len() as u32
+        self.accounts.untaken(connection)
     }
 
     /// Whether the unit of this number is online: false where it isn't configured.
@@ -152,14 +151,14 @@ impl<K: Picker> Controller<K> {
         self.queue.is_online(unit)
     }
 
-    /// The figure of the waiting command with the reference number, 0 if there is none: how many steps it
+    /// The figure of the waiting command of the connection with the reference number, 0 if there is none: how many steps it
     /// may still wait, at most.
-    pub fn figure(&self, reference: u32) -> u32
+    pub fn figure(&self, connection: Connection, reference: u32) -> u32
         ensures value { result
-            ≡ figure_of_name self.now.settings.budget self.now.waiting (name_on Connection.First reference) }
+            ≡ figure_of_name self.now.settings.budget self.now.waiting (name_on connection reference) }
         ensures account { IsBalanced self.now }
     {
-        self.queue.figure(Connection::First, reference)
+        self.queue.figure(connection, reference)
     }
 
     /// Connection, reference number and figure of each waiting command, oldest first.
@@ -170,63 +169,65 @@ impl<K: Picker> Controller<K> {
         self.queue.look()
     }
 
-    /// Whether a command with the reference number waits, or has an end that wasn't taken.
+    /// Whether a command of the connection with the reference number waits, or has an end that wasn't taken.
     #[tactic(auto, using(crate::proofs::Bridge::Judging::holds_either))]
-    fn is_outstanding(&self, reference: u32) -> bool
-        ensures { result ≡ holds (outstanding_of self.now) reference }
+    fn is_outstanding(&self, connection: Connection, reference: u32) -> bool
+        ensures { result ≡ holds (outstanding_of connection self.now) reference }
     {
-        let waits = self.queue.contains(Connection::First, reference);
-        let ended = is_untaken(self.untaken.as_slice(), reference);
+        let waits = self.queue.contains(connection, reference);
+        let ended = self.accounts.is_untaken(connection, reference);
         waits || ended
     }
 
-    /// Why a command with this opcode byte and reference number is refused, if it is.
-    fn credit_fault(&self, opcode: u8, reference: u32) -> Option<SendFault>
-        ensures fault { result ≡ credit_fault (balance_of self.now) (outstanding_of self.now) opcode reference }
+    /// Why a command of the connection with this opcode byte and reference number is refused, if it is.
+    fn credit_fault(&self, connection: Connection, opcode: u8, reference: u32) -> Option<SendFault>
+        ensures fault { result
+            ≡ credit_fault (balance_of connection self.now) (outstanding_of connection self.now) opcode reference }
         ensures account { IsBalanced self.now }
     {
-        match self.balance() {
+        match self.balance(connection) {
             0 => Some(SendFault::NoCredit),
             1 if !may_take_last_credit(opcode) => Some(SendFault::LastCredit),
-            _ if self.is_outstanding(reference) => Some(SendFault::Doubled),
+            _ if self.is_outstanding(connection, reference) => Some(SendFault::Doubled),
             _ => None,
         }
     }
 
-    /// Lets a command of this weight wait.
-    fn queue(&mut self, command: &Command, weight: u32)
+    /// Lets a command of this weight wait, which came by the connection.
+    fn queue(&mut self, connection: Connection, command: &Command, weight: u32)
         requires queued { is_queued self.old.settings command.now ≡ true }
         requires weight { weight ≡ order_weight command.now.order }
         requires small { first_block command.now.order + weight ≤ 2 ^ 32 }
-        requires new { holds (outstanding_of self.old) command.now.reference ≡ false }
-        requires free { 2 ≤ balance_of self.old }
-        ensures after { self.new ≡ queued self.old command.now }
+        requires new { holds (outstanding_of connection self.old) command.now.reference ≡ false }
+        requires free { 2 ≤ balance_of connection self.old }
+        ensures after { self.new ≡ queued connection self.old command.now }
         ensures account { IsBalanced self.new }
     {
         self.queue.push(Waiting {
-            connection: Connection::First,
+            connection,
             reference: command.reference,
             unit: command.unit,
             order: command.order,
             weight,
         });
+        self.accounts.come(connection);
     }
 
-    /// Makes an end.
-    fn end(&mut self, end: End)
-        requires free { 1 ≤ balance_of self.old }
+    /// Makes an end for the connection.
+    fn end(&mut self, connection: Connection, end: End)
+        requires free { 1 ≤ balance_of connection self.old }
         requires shaped { IsOfKind end }
-        ensures after { self.new ≡ with_end self.old end }
+        ensures after { self.new ≡ with_end connection self.old end }
         ensures account { IsBalanced self.new }
     {
-        self.untaken.push(end);
+        self.accounts.end(connection, end);
     }
 
     /// The end of a GET UNIT STATUS to a unit that is configured.
-    fn unit_status_end(&self, command: &Command) -> End
+    fn unit_status_end(&self, connection: Connection, command: &Command) -> End
         requires order { command.now.order ≡ Order.UnitStatus }
         requires sound { fault_of self.now.settings command.now ≡ None }
-        ensures { result ≡ answered_end self.now command.now }
+        ensures { result ≡ answered_end connection self.now command.now }
     {
         match self.config.units().find(command.unit) {
             Some(unit) => unit_status_end(command, unit, self.queue.is_online(command.unit)),
@@ -234,73 +235,73 @@ impl<K: Picker> Controller<K> {
         }
     }
 
-    /// The end of an answered command that isn't refused.
-    fn answered_end(&self, command: &Command) -> End
+    /// The end of an answered command of the connection that isn't refused.
+    fn answered_end(&self, connection: Connection, command: &Command) -> End
         requires { fault_of self.now.settings command.now ≡ None }
-        ensures { result ≡ answered_end self.now command.now }
+        ensures { result ≡ answered_end connection self.now command.now }
     {
         match command.order {
             Order::Abort(other) => end_with(command, SUCCESS, EndBody::Abort(other)),
             Order::Status(other) => {
-                let figure = self.figure(other);
+                let figure = self.figure(connection, other);
                 end_with(command, SUCCESS, EndBody::Status { other, figure })
             }
-            Order::UnitStatus => self.unit_status_end(command),
+            Order::UnitStatus => self.unit_status_end(connection, command),
             Order::SetController(_) => controller_end(command, &self.config),
             _ => refused_end(command, SUCCESS),
         }
     }
 
-    /// Ends the waiting command that the order names to be aborted, if there is one, and tells its reference number.
-    fn abort(&mut self, order: &Order) -> Option<u32>
-        ensures reference { result ≡ option_map (λ r. r.command.reference) (record_aborted self.old.waiting order.now) }
-        ensures after { self.new ≡ aborting self.old order.now }
-        ensures balance { balance_of self.new ≡ balance_of self.old }
+    /// Ends the waiting command that an order of the connection names to be aborted, if there is one, and tells its
+    /// reference number.
+    fn abort(&mut self, connection: Connection, order: &Order) -> Option<u32>
+        ensures reference { result ≡ reference_aborted connection self.old.waiting order.now }
+        ensures after { self.new ≡ aborting connection self.old order.now }
+        ensures balance { balance_of connection self.new ≡ balance_of connection self.old }
     {
         let Order::Abort(other) = order else {
             return None;
         };
-        let end = self.queue.abort(Connection::First, *other)?;
-        self.untaken.push(end);
+        let end = self.queue.abort(connection, *other)?;
+        self.accounts.leave(connection, end);
         Some(end.reference)
     }
 
-    /// Answers a command at once that isn't refused: the end of one that it aborts stands before its own. Tells the
-    /// reference number of that one.
-    fn answer_now(&mut self, command: &Command) -> Option<u32>
+    /// Answers a command of the connection at once that isn't refused: the end of one that it aborts stands before its own.
+    /// Tells the reference number of that one.
+    fn answer_now(&mut self, connection: Connection, command: &Command) -> Option<u32>
         requires sound { fault_of self.old.settings command.now ≡ None }
-        requires free { 1 ≤ balance_of self.old }
+        requires free { 1 ≤ balance_of connection self.old }
         requires coded { IsCoded command.now.order }
-        ensures aborted { result
-            ≡ option_map (λ r. r.command.reference) (record_aborted self.old.waiting command.now.order) }
-        ensures after { self.new
-            ≡ with_end (aborting self.old command.now.order) (answered_end self.old command.now) }
+        ensures aborted { result ≡ reference_aborted connection self.old.waiting command.now.order }
+        ensures after { self.new ≡ with_end connection (aborting connection self.old command.now.order)
+            (answered_end connection self.old command.now) }
         ensures account { IsBalanced self.new }
     {
-        let own = self.answered_end(command);
-        let aborted = self.abort(&command.order);
-        self.end(own);
+        let own = self.answered_end(connection, command);
+        let aborted = self.abort(connection, &command.order);
+        self.end(connection, own);
         aborted
     }
 
-    /// Queues a command that isn't refused for want of credit, or answers it at once.
-    fn arrive(&mut self, command: Command) -> Sent
-        requires free { 1 ≤ balance_of self.old }
-        requires spare { is_queued self.old.settings command ≡ true → 2 ≤ balance_of self.old }
-        requires new { holds (outstanding_of self.old) command.reference ≡ false }
+    /// Queues a command of the connection that isn't refused for want of credit, or answers it at once.
+    fn arrive(&mut self, connection: Connection, command: Command) -> Sent
+        requires free { 1 ≤ balance_of connection self.old }
+        requires spare { is_queued self.old.settings command ≡ true → 2 ≤ balance_of connection self.old }
+        requires new { holds (outstanding_of connection self.old) command.reference ≡ false }
         requires coded { IsCoded command.order }
-        ensures sent { result ≡ taken_as self.old command }
-        ensures after { self.new ≡ arrives self.old command }
+        ensures sent { result ≡ taken_as connection self.old command }
+        ensures after { self.new ≡ arrives connection self.old command }
         ensures account { IsBalanced self.new }
     {
         let aborted = match judge(&self.config, &command) {
             Ok(weight) if !is_immediate(&command.order) => {
-                self.queue(&command, weight);
+                self.queue(connection, &command, weight);
                 return Sent::Queued(command.reference);
             }
-            Ok(_) => self.answer_now(&command),
+            Ok(_) => self.answer_now(connection, &command),
             Err(status) => {
-                self.end(refused_end(&command, status));
+                self.end(connection, refused_end(&command, status));
                 None
             }
         };
@@ -310,34 +311,32 @@ impl<K: Picker> Controller<K> {
         }
     }
 
-    /// Takes a message in, or says why not: the first of the faults that holds. A refusal changes nothing.
-    pub fn send(&mut self, b: &[u8]) -> Result<Sent, SendFault>
-        ensures answer { result ≡ answer_to_message self.old b.now }
-        ensures after { self.new ≡ after_message self.old b.now }
+    /// Takes a message of the connection's host in, or says why not: the first of the faults that holds. A refusal changes
+    /// nothing. If there is no second connection, each message of its that isn't too short or too long has no credit.
+    pub fn send(&mut self, connection: Connection, b: &[u8]) -> Result<Sent, SendFault>
+        ensures answer { result ≡ answer_to_message connection self.old b.now }
+        ensures after { self.new ≡ after_message connection self.old b.now }
         ensures unchanged { IfErr result (λ fault. self.new ≡ self.old) }
         ensures account { IsBalanced self.new }
     {
         // The account is one of the settings, also where a message is refused for its size.
         let _ = &self.config;
         let command = read_command(b)?;
-        match self.credit_fault(command.opcode(), command.reference) {
+        match self.credit_fault(connection, command.opcode(), command.reference) {
             Some(fault) => Err(fault),
-            None => Ok(self.arrive(command)),
+            None => Ok(self.arrive(connection, command)),
         }
     }
 
-    /// Takes the oldest end that wasn't taken, as bytes, if there is one. They are a message of that end.
-    pub fn take(&mut self) -> Option<ArrayVec<u8, 48>>
-        ensures answer { result ≡ end_taken self.old }
-        ensures reads_back { (end : End) → slice_get self.old.untaken 0 ≡ Some end
+    /// Takes the oldest end of the connection that wasn't taken, as bytes, if there is one. They are a message of that end.
+    pub fn take(&mut self, connection: Connection) -> Option<ArrayVec<u8, 48>>
+        ensures answer { result ≡ end_taken connection self.old }
+        ensures reads_back { (end : End) → slice_get (of connection self.old.untaken) 0 ≡ Some end
             → IfSome result (λ b. IsEnd b.items end) }
-        ensures after { self.new ≡ after_take self.old }
+        ensures after { self.new ≡ after_take connection self.old }
         ensures account { IsBalanced self.new }
     {
-        if self.untaken.is_empty() {
-            return None;
-        }
-        let end = self.untaken.remove(0);
+        let end = self.accounts.take(connection)?;
         Some(write_end(&end))
     }
 
@@ -352,14 +351,16 @@ impl<K: Picker> Controller<K> {
         self.queue.begin()
     }
 
-    /// The step of the command with this reference number, where it is begun: its block had this outcome. Else it is stale:
-    /// nothing changes, and the block counts for nothing. A command is known by its number alone. So who begins anew after
-    /// a step, an ABORT or a reset must let no finish of an older begin come any more: the number may be the same.
-    pub fn finish(&mut self, reference: u32, block: Block) -> Result<Report, Stale>
-        ensures finish { Finishes (K.picks self.old.picker) reference block self.old result self.new }
+    /// The step of the connection's command with this reference number, where it is begun: its block had this outcome. Else
+    /// it is stale: nothing changes, and the block counts for nothing. A command is known by its connection and its number
+    /// alone. So who begins anew after a step, an ABORT or a reset must let no finish of an older begin come any more: the
+    /// number may be the same.
+    pub fn finish(&mut self, connection: Connection, reference: u32, block: Block) -> Result<Report, Stale>
+        ensures finish {
+            Finishes (K.picks self.old.picker) (name_on connection reference) block self.old result self.new }
         ensures account { IsBalanced self.new }
     {
-        if self.queue.is_begun(Connection::First, reference) {
+        if self.queue.is_begun(connection, reference) {
             Ok(self.step(block))
         } else {
             Err(Stale)
@@ -373,7 +374,7 @@ impl<K: Picker> Controller<K> {
         ensures account { IsBalanced self.new }
     {
         let report = self.queue.serve(block);
-        keep_end(&mut self.untaken, &report);
+        keep_end(&mut self.accounts, &report);
         report
     }
 
@@ -382,8 +383,10 @@ impl<K: Picker> Controller<K> {
         ensures { Answers (K.picks self.old.picker) self.old event.now result self.new }
     {
         match event {
-            Event::Send(message) => Entry::Sent(self.send(message.as_slice())),
-            Event::Take => Entry::Taken(self.take()),
+            Event::Send(connection, message) => {
+                Entry::Sent(*connection, self.send(*connection, message.as_slice()))
+            }
+            Event::Take(connection) => Entry::Taken(*connection, self.take(*connection)),
             Event::Step(block) => Entry::Stepped(self.step(*block)),
             Event::Look => Entry::Looked(self.look()),
         }

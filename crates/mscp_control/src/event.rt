@@ -11,11 +11,11 @@ pub enum SendFault {
     Short,
     /// Over 64 bytes.
     Long,
-    /// The balance is 0.
+    /// The connection's balance is 0.
     NoCredit,
-    /// The balance is 1, and the class of the opcode byte isn't Immediate.
+    /// The connection's balance is 1, and the class of the opcode byte isn't Immediate.
     LastCredit,
-    /// A command with this reference number waits, or its end wasn't taken.
+    /// A command of the connection with this reference number waits, or its end wasn't taken.
     Doubled,
 }
 
@@ -33,7 +33,7 @@ impl From<PacketFault> for SendFault {
     }
 }
 
-/// Why a step can't be finished: no command of its reference number is begun. Nothing is changed.
+/// Why a step can't be finished: no command of its connection and reference number is begun. Nothing is changed.
 #[derive(Clone, Copy, Debug, PartialEq, Eq)]
 pub struct Stale;
 
@@ -52,10 +52,10 @@ pub enum Sent {
 /// What comes to a controller.
 #[derive(Debug, PartialEq, Drop)]
 pub enum Event {
-    /// A message of the host.
-    Send(ArrayVec<u8, 64>),
-    /// The host takes the oldest end.
-    Take,
+    /// A message of the connection's host.
+    Send(Connection, ArrayVec<u8, 64>),
+    /// The connection's host takes its oldest end.
+    Take(Connection),
     /// The drive serves one block, with this outcome.
     Step(Block),
     /// The figures of all waiting commands are asked for.
@@ -65,10 +65,10 @@ pub enum Event {
 /// What a controller answers to an event.
 #[derive(Debug, PartialEq, Drop)]
 pub enum Entry {
-    /// What became of the message, or why it was refused.
-    Sent(Result<Sent, SendFault>),
-    /// The oldest end that wasn't taken before, as bytes.
-    Taken(Option<ArrayVec<u8, 48>>),
+    /// What became of the message of the connection, or why it was refused.
+    Sent(Connection, Result<Sent, SendFault>),
+    /// The connection's oldest end that wasn't taken before, as bytes.
+    Taken(Connection, Option<ArrayVec<u8, 48>>),
     /// What the step did.
     Stepped(Report),
     /// Connection, reference number and figure of each waiting command, oldest first.

@@ -1,6 +1,7 @@
 //! A disk controller: its credits, its ends, and whole runs of it, over a queue that any picker may pick from.
 #![tactic(auto)]
 
+mod account;
 mod answer;
 mod arrival;
 mod config;

@@ -9,7 +9,7 @@ use Rattle.mscp_queue.specs.declared.name.Name.{Name}
 use Rattle.mscp_queue.specs.Names.{name_on, same_connection, same_name}
 use Rattle.mscp_queue.specs.Records.{Record, has_name, has_number}
 
-one_side : (a b : Connection) → same_connection a b ≡ true → a ≡ b
+pub one_side : (a b : Connection) → same_connection a b ≡ true → a ≡ b
 one_side First First h = refl
 one_side Second Second h = refl
 one_side First Second h = absurd (false≢true h)
@@ -21,7 +21,7 @@ same_is x y h =
     ap (λ c. name_on c x.reference) (one_side x.connection y.connection p.0)
     ∙ ap (name_on y.connection) (eqb-true x.reference y.reference p.1)
 
-own_side : (a : Connection) → same_connection a a ≡ true
+pub own_side : (a : Connection) → same_connection a a ≡ true
 own_side First = refl
 own_side Second = refl
 
@@ -52,3 +52,9 @@ unnumbered name (r ∷ rs) h =
     ap (λ b. b || list_any (has_name name) rs)
     (and_right (same_connection r.connection name.connection) (has_number name.reference r) p.0)
     ∙ unnumbered name rs p.1
+
+pub other_side : (a b : Connection) → same_connection a b ≡ false → same_connection b a ≡ false
+other_side First First h = h
+other_side First Second h = h
+other_side Second First h = h
+other_side Second Second h = h

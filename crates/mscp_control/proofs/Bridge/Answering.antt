@@ -5,7 +5,7 @@ use Rattle.mscp_queue.specs.declared.view.Choice.{Choice}
 use Rattle.mscp_control.specs.declared.event.Event.{Event}
 use Rattle.mscp_control.specs.declared.event.Entry.{Entry}
 use Rattle.mscp_control.specs.Holdings.{Answered, Answers, Holdings}
-use Rattle.mscp_control.proofs.Bridge.Keeping.{owner_kept}
+use Rattle.mscp_control.proofs.Bridge.Owning.{owner_kept}
 
 -- one more answer, behind the others
 answered_push : {K : Type 0} (picks : List Choice → ℕ → Type 0) (h m h' : Holdings K) (es : List Event)

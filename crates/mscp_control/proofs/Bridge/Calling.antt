@@ -11,7 +11,7 @@ use Rattle.mscp_queue.specs.declared.upcoming.Upcoming.{Upcoming}
 use Rattle.mscp_queue.specs.declared.view.Choice.{Choice}
 use Rattle.mscp_queue.specs.Lines.{Line}
 use Rattle.mscp_queue.specs.declared.name.Name.{Name}
-use Rattle.mscp_queue.specs.declared.name.Connection.TheVariants.{First}
+use Rattle.mscp_queue.specs.declared.name.Connection.{Connection}
 use Rattle.mscp_queue.specs.Names.{name_on, same_name}
 use Rattle.mscp_queue.specs.Orders.{order_weight}
 use Rattle.mscp_queue.specs.Outcomes.{block_touched}
@@ -30,12 +30,12 @@ use Rattle.mscp_control.specs.History.{Trace, Moment, Service, is_step, service_
 use Rattle.mscp_control.specs.Commands.{connection, ends_in, is_waiting, name, unit, waiting}
 use Rattle.mscp_control.specs.Units.{is_online}
 use Rattle.mscp_control.specs.Legal.{IsLegal, IsPick, IsServed, block_of}
-use Rattle.mscp_control.specs.Holdings.{Answers, Finishes, Holdings, Steps, record_aborted, aborting, answered_end, balance_of, begun_after, with_end, fresh, held_unless, outstanding_of, queued, sent_unless}
+use Rattle.mscp_control.specs.Holdings.{Answers, Finishes, Holdings, Steps, reference_aborted, aborting, answered_end, balance_of, begun_after, with_end, fresh, held_unless, outstanding_of, queued, sent_unless}
 use Rattle.mscp_control.specs.Calls.{AnsweredCalls, AnswersCall, AtEachCall, Begin, Call, Finish, HoldsToBegun, IsAsTold, IsBegun, IsBegunSince, IsChosen, IsRightCall, Plain, StartsChosen, foretold, history, start_of, upcoming_name}
 use Rattle.mscp_queue.proofs.Named.{differ_is, same_is}
 use Rattle.mscp_queue.proofs.Placed.{each_push}
 use Rattle.mscp_control.proofs.Promise.Among.{one_waits}
-use Rattle.mscp_control.proofs.Promise.Grows.{command_before, is_waiting_before}
+use Rattle.mscp_control.proofs.Promise.Grows.{command_before, connection_before, is_waiting_before}
 use Rattle.mscp_control.proofs.Promise.States.{is_online_kept}
 use Rattle.mscp_control.proofs.Promise.Steady.{done_kept}
 use Rattle.mscp_control.proofs.Promise.Waits.{waits_below}
@@ -43,7 +43,7 @@ use Rattle.mscp_control.proofs.Bridge.Aborting.{begun_left}
 use Rattle.mscp_control.proofs.Bridge.Begun.{Held, Turned, none_waits, Holds, history_more, holds_on, nothing_stepped, name_begun}
 use Rattle.mscp_control.proofs.Bridge.Following.{none_held, turns}
 use Rattle.mscp_control.proofs.Bridge.Held.{held_of}
-use Rattle.mscp_control.proofs.Bridge.Keeping.{owner_kept, unbegun_kept}
+use Rattle.mscp_control.proofs.Bridge.Owning.{owner_kept, unbegun_kept}
 use Rattle.mscp_control.proofs.Bridge.Legals.{legal_more}
 use Rattle.mscp_control.proofs.Bridge.Sending.{Agrees}
 use Rattle.mscp_control.proofs.Bridge.Stepped.{Turns}
@@ -67,8 +67,9 @@ foretold_kept t m y e l = λ i.
     let k = command_before t m y l in
     let b = block_kept t m y e l in
     let d = done_kept t m y e l in
+    let v = connection_before t m y l in
     record {
-      connection = connection t y;
+      connection = v i;
       command = k i;
       lbn = b i;
       done = d i;
@@ -111,17 +112,20 @@ quiet c picks calls event entry h h' turn legal e s left none holds =
     }
 
 -- what is begun after a message
-begun_unless : {K : Type 0} (h : Holdings K) (t : Trace) (k : Command) (n : Name) (y : ℕ) (o : Option SendFault)
+begun_unless : {K : Type 0} (via : Connection) (h : Holdings K) (t : Trace) (k : Command) (n : Name) (y : ℕ) (o : Option SendFault)
     → h.waiting ≡ map (held_of t) (waiting t) → h.begun ≡ Some n → is_waiting t y ≡ true → name t y ≡ n
-    → (held_unless h k o).begun ≡ (if not (ends_in n (entries.Sent (sent_unless h k o))) then Some n else None)
-begun_unless h t k n y (Some fault) e b w own = b
-begun_unless {K} h t k n y None e b w own =
-    let told = option_map (λ (r : Record). r.command.reference) (record_aborted h.waiting k.order) in
-    elim (is_queued h.settings k) as (λ q. (if q then queued h k
-    else with_end (aborting h k.order) (answered_end h k)).begun
-    ≡ (if not (ends_in n (entries.Sent (Ok (if q then sents.Queued k.reference else sents.Answered k.reference told))))
-    then Some n else None))
-    [ true ↦ b | false ↦ ap (λ o. begun_after o k.order) b ∙ begun_left k.reference t h.waiting n y k.order e w own ]
+    → (held_unless via h k o).begun
+    ≡ (if not (ends_in n (entries.Sent via (sent_unless via h k o))) then Some n else None)
+begun_unless via h t k n y (Some fault) e b w own = b
+begun_unless {K} via h t k n y None e b w own =
+    let told = reference_aborted via h.waiting k.order in
+    elim (is_queued h.settings k) as (λ q. (if q then queued via h k
+    else with_end via (aborting via h k.order) (answered_end via h k)).begun
+    ≡ (if not (ends_in n (entries.Sent via (Ok (if q then sents.Queued k.reference
+    else sents.Answered k.reference told)))) then Some n else None)) [
+      | true ↦ b
+      | false ↦ ap (λ o. begun_after via o k.order) b ∙ begun_left via k.reference t h.waiting n y k.order e w own
+    ]
 
 -- ---- a step
 
@@ -217,21 +221,21 @@ plain : {K : Type 0} (picks : List Choice → ℕ → Type 0) (calls : List Call
     (h h' : Holdings K) → IsValid h.settings → Agrees h.settings (history calls) h → IsLegal h.settings (history calls)
     → Holds h.settings picks calls h.begun → Answers picks h event entry h'
     → Turned h.settings picks calls (Plain event entry) h'
-plain {K} picks calls (events.Send message) (entries.Sent sent) h h' v a legal b r =
+plain {K} picks calls (events.Send via message) (entries.Sent other sent) h h' v a legal b r =
     let t = history calls in
     let k = command_of message.items in
-    let o = refusal (balance_of h) (outstanding_of h) message.items in
-    let left : IsLeft h h' t (entries.Sent sent) = λ n y e w own.
-    ap (λ (x : Holdings K). x.begun) r.1 ∙ (begun_unless h t k n y o a.follows.waits e w own
-    ∙ ap (λ s. if not (ends_in n (entries.Sent s)) then Some n else None) (sym r.0)) in
-    quiet h.settings picks calls (events.Send message) (entries.Sent sent) h h'
-    (turns picks h h' t (events.Send message) (entries.Sent sent) v a r) legal refl refl left
-    (λ n. unbegun_kept picks h h' (events.Send message) (entries.Sent sent) n r) b
-plain {K} picks calls events.Take (entries.Taken end) h h' v a legal b r =
-    quiet h.settings picks calls events.Take (entries.Taken end) h h'
-    (turns picks h h' (history calls) events.Take (entries.Taken end) v a r) legal refl refl
-    (λ n y e w own. ap (λ (x : Holdings K). x.begun) r.1 ∙ e)
-    (λ n. unbegun_kept picks h h' events.Take (entries.Taken end) n r) b
+    let o = refusal (balance_of via h) (outstanding_of via h) message.items in
+    let left : IsLeft h h' t (entries.Sent other sent) = λ n y e w own.
+    ap (λ (x : Holdings K). x.begun) r.2 ∙ (begun_unless via h t k n y o a.follows.waits e w own
+    ∙ (λ i. if not (ends_in n (entries.Sent (sym r.0 i) (sym r.1 i))) then Some n else None)) in
+    quiet h.settings picks calls (events.Send via message) (entries.Sent other sent) h h'
+    (turns picks h h' t (events.Send via message) (entries.Sent other sent) v a r) legal refl refl left
+    (λ n. unbegun_kept picks h h' (events.Send via message) (entries.Sent other sent) n r) b
+plain {K} picks calls (events.Take via) (entries.Taken other end) h h' v a legal b r =
+    quiet h.settings picks calls (events.Take via) (entries.Taken other end) h h'
+    (turns picks h h' (history calls) (events.Take via) (entries.Taken other end) v a r) legal refl refl
+    (λ n y e w own. ap (λ (x : Holdings K). x.begun) r.2 ∙ e)
+    (λ n. unbegun_kept picks h h' (events.Take via) (entries.Taken other end) n r) b
 plain picks calls (events.Step k) (entries.Stepped report) h h' v a legal b r =
     stepped h.settings picks calls k report h h' h.begun a legal (refl, b)
     (turns picks h h' (history calls) (events.Step k) (entries.Stepped report) v a r) r
@@ -240,50 +244,50 @@ plain {K} picks calls events.Look (entries.Looked list) h h' v a legal b r =
     (turns picks h h' (history calls) events.Look (entries.Looked list) v a r) legal refl refl
     (λ n y e w own. ap (λ (x : Holdings K). x.begun) r.1 ∙ e)
     (λ n. unbegun_kept picks h h' events.Look (entries.Looked list) n r) b
-plain picks calls (events.Send message) (entries.Taken end) h h' v a legal b r = absurd r
-plain picks calls (events.Send message) (entries.Stepped report) h h' v a legal b r = absurd r
-plain picks calls (events.Send message) (entries.Looked list) h h' v a legal b r = absurd r
-plain picks calls events.Take (entries.Sent sent) h h' v a legal b r = absurd r
-plain picks calls events.Take (entries.Stepped report) h h' v a legal b r = absurd r
-plain picks calls events.Take (entries.Looked list) h h' v a legal b r = absurd r
-plain picks calls (events.Step k) (entries.Sent sent) h h' v a legal b r = absurd r
-plain picks calls (events.Step k) (entries.Taken end) h h' v a legal b r = absurd r
+plain picks calls (events.Send via message) (entries.Taken other end) h h' v a legal b r = absurd r
+plain picks calls (events.Send via message) (entries.Stepped report) h h' v a legal b r = absurd r
+plain picks calls (events.Send via message) (entries.Looked list) h h' v a legal b r = absurd r
+plain picks calls (events.Take via) (entries.Sent other sent) h h' v a legal b r = absurd r
+plain picks calls (events.Take via) (entries.Stepped report) h h' v a legal b r = absurd r
+plain picks calls (events.Take via) (entries.Looked list) h h' v a legal b r = absurd r
+plain picks calls (events.Step k) (entries.Sent other sent) h h' v a legal b r = absurd r
+plain picks calls (events.Step k) (entries.Taken other end) h h' v a legal b r = absurd r
 plain picks calls (events.Step k) (entries.Looked list) h h' v a legal b r = absurd r
-plain picks calls events.Look (entries.Sent sent) h h' v a legal b r = absurd r
-plain picks calls events.Look (entries.Taken end) h h' v a legal b r = absurd r
+plain picks calls events.Look (entries.Sent other sent) h h' v a legal b r = absurd r
+plain picks calls events.Look (entries.Taken other end) h h' v a legal b r = absurd r
 plain picks calls events.Look (entries.Stepped report) h h' v a legal b r = absurd r
 
 -- ---- a finish
 
-begun_as : (c : Settings) (picks : List Choice → ℕ → Type 0) (calls : List Call) (number : ℕ) (o : Option Name)
-    → is_begun (name_on First number) o ≡ true → Holds c picks calls o → IsBegun calls (name_on First number)
-begun_as c picks calls number None e b = absurd (false≢true e)
-begun_as c picks calls number (Some n) e b = (b.0, b.1, b.2, b.3.is, b.3.own ∙ same_is n (name_on First number) e)
+begun_as : (c : Settings) (picks : List Choice → ℕ → Type 0) (calls : List Call) (via : Connection) (number : ℕ) (o : Option Name)
+    → is_begun (name_on via number) o ≡ true → Holds c picks calls o → IsBegun calls (name_on via number)
+begun_as c picks calls via number None e b = absurd (false≢true e)
+begun_as c picks calls via number (Some n) e b = (b.0, b.1, b.2, b.3.is, b.3.own ∙ same_is n (name_on via number) e)
 
 -- what is begun is of this number, or isn't
-only_begun : (c : Settings) (picks : List Choice → ℕ → Type 0) (calls : List Call) (number : ℕ) (o : Option Name)
-    (q : Bool) → is_begun (name_on First number) o ≡ q → Holds c picks calls o → (up : Upcoming) (y j : ℕ)
+only_begun : (c : Settings) (picks : List Choice → ℕ → Type 0) (calls : List Call) (via : Connection) (number : ℕ) (o : Option Name)
+    (q : Bool) → is_begun (name_on via number) o ≡ q → Holds c picks calls o → (up : Upcoming) (y j : ℕ)
     → IsBegunSince calls up y j
-    → same_name (upcoming_name up) (name_on First number) ≡ q
-only_begun c picks calls number None q e b up y j is = absurd (b up y j is)
-only_begun c picks calls number (Some n) q e b up y j is =
-    ap (λ k. same_name k (name_on First number)) (ap upcoming_name (b.3.only up y j is).1 ∙ b.3.own) ∙ e
+    → same_name (upcoming_name up) (name_on via number) ≡ q
+only_begun c picks calls via number None q e b up y j is = absurd (b up y j is)
+only_begun c picks calls via number (Some n) q e b up y j is =
+    ap (λ k. same_name k (name_on via number)) (ap upcoming_name (b.3.only up y j is).1 ∙ b.3.own) ∙ e
 
-finish : {K : Type 0} (picks : List Choice → ℕ → Type 0) (calls : List Call) (number : ℕ) (k : Block)
+finish : {K : Type 0} (picks : List Choice → ℕ → Type 0) (calls : List Call) (via : Connection) (number : ℕ) (k : Block)
     (answer : Result Report Stale) (h h' : Holdings K) → IsValid h.settings → Agrees h.settings (history calls) h
-    → IsLegal h.settings (history calls) → Holds h.settings picks calls h.begun → Finishes picks number k h answer h'
-    → Turned h.settings picks calls (Finish number k answer) h'
-finish picks calls number k (Ok report) h h' v a legal b r =
+    → IsLegal h.settings (history calls) → Holds h.settings picks calls h.begun → Finishes picks (name_on via number) k h answer h'
+    → Turned h.settings picks calls (Finish via number k answer) h'
+finish picks calls via number k (Ok report) h h' v a legal b r =
     let c = h.settings in
     let step = stepped c picks calls k report h h' h.begun a legal (refl, b)
     (turns picks h h' (history calls) (events.Step k) (entries.Stepped report) v a r.1) r.1 in
-    let call = Finish number k (Ok report) in
+    let call = Finish via number k (Ok report) in
     let same : history (calls ++ Plain (events.Step k) (entries.Stepped report) ∷ []) ≡ history (calls ++ call ∷ []) =
     history_more calls (Plain (events.Step k) (entries.Stepped report)) ∙ sym (history_more calls call) in
     record {
       legal = subst (IsLegal c) same step.legal;
       agrees = subst (λ u. Agrees c u h') same step.agrees;
-      right = begun_as c picks calls number h.begun r.0 b;
+      right = begun_as c picks calls via number h.begun r.0 b;
       begun = step.begun;
       picked = step.picked;
       holds = subst (Holds c picks (calls ++ call ∷ []))
@@ -291,18 +295,18 @@ finish picks calls number k (Ok report) h h' v a legal b r =
           (turns picks h h' (history calls) (events.Step k) (entries.Stepped report) v a r.1) r.1))
           (nothing_stepped calls call refl refl);
     }
-finish {K} picks calls number k (Err stale) h h' v a legal b r =
+finish {K} picks calls via number k (Err stale) h h' v a legal b r =
     let c = h.settings in
     let t = history calls in
-    let call = Finish number k (Err stale) in
+    let call = Finish via number k (Err stale) in
     let same : history (calls ++ call ∷ []) ≡ t = history_more calls call ∙ append-nil t in
     let held = ap (λ (x : Holdings K). x.begun) r.1 in
     record {
       legal = subst (IsLegal c) (sym same) legal;
       agrees = subst (λ u. Agrees c u h') (sym same) (subst (Agrees c t) (sym r.1) a);
       right = tt;
-      begun = λ up y j is. differ_is (upcoming_name up) (name_on First number)
-          (only_begun c picks calls number h.begun false r.0 b up y j is);
+      begun = λ up y j is. differ_is (upcoming_name up) (name_on via number)
+          (only_begun c picks calls via number h.begun false r.0 b up y j is);
       picked = tt;
       holds = holds_on c picks calls call h.begun h'.begun refl refl (λ y w. ap (λ u. foretold u y) same)
           (λ n y e w own. held ∙ (e ∙ ap (λ b. if b then Some n else None) (sym (ap (λ u. is_waiting u y) same ∙ w))))
@@ -316,14 +320,14 @@ turned : {K : Type 0} (picks : List Choice → ℕ → Type 0) (calls : List Cal
     → Holds h.settings picks calls h.begun → AnswersCall picks h call h' → Turned h.settings picks calls call h'
 turned picks calls (Plain event entry) h h' v a legal b r = plain picks calls event entry h h' v a legal b r
 turned picks calls (Begin upcoming) h h' v a legal b r = begin picks calls upcoming h h' a legal b r
-turned picks calls (Finish number k answer) h h' v a legal b r = finish picks calls number k answer h h' v a legal b r
+turned picks calls (Finish via number k answer) h h' v a legal b r = finish picks calls via number k answer h h' v a legal b r
 
 settings_kept : {K : Type 0} (picks : List Choice → ℕ → Type 0) (h h' : Holdings K) (call : Call)
     → AnswersCall picks h call h' → h'.settings ≡ h.settings
 settings_kept picks h h' (Plain event entry) r = (owner_kept picks h h' event entry r).0
 settings_kept picks h h' (Begin upcoming) r = r.settings
-settings_kept picks h h' (Finish number k (Ok report)) r = r.1.settings
-settings_kept {K} picks h h' (Finish number k (Err stale)) r = ap (λ (x : Holdings K). x.settings) r.1
+settings_kept picks h h' (Finish via number k (Ok report)) r = r.1.settings
+settings_kept {K} picks h h' (Finish via number k (Err stale)) r = ap (λ (x : Holdings K). x.settings) r.1
 
 -- what is known after each part of the calls
 pub record Knows {K : Type 0} (c : Settings) (picks : List Choice → ℕ → Type 0) (calls : List Call) (h : Holdings K) :

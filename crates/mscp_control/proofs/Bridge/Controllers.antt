@@ -9,8 +9,9 @@ use Rattle.mscp_queue.specs.Kept.{names}
 use Rattle.mscp_queue.proofs.Placed.{map_map}
 use Rattle.mscp_control.specs.declared.event.Event.{Event}
 use Rattle.mscp_control.specs.declared.event.Entry.{Entry}
-use Rattle.mscp_control.specs.Settings.{Settings, IsValid}
-use Rattle.mscp_control.specs.Holdings.{Answered, Holdings, fresh}
+use Rattle.mscp_control.specs.Settings.{Settings, IsValid, credits_of}
+use Rattle.mscp_control.specs.Both.{of}
+use Rattle.mscp_control.specs.Holdings.{Answered, Holdings, fresh, waiting_on}
 use Rattle.mscp_control.specs.Runs.{IsRun}
 use Rattle.mscp_control.specs.Legal.{IsPick}
 use Rattle.mscp_control.specs.Sweeping.{IsSwept, Sweeps}
@@ -87,6 +88,6 @@ keeps_promise c picks picker calls h v r =
       untaken = f.ends;
       figure = λ name. ap (λ ws. figure_of_name c.budget ws name) f.waits ∙ figure_of_held c t name;
       drives = k.agrees.driven.drives;
-      balance = ap (λ (s : Settings). s.credits - (length h.waiting + length h.untaken)) k.settings
-          ∙ balance_held c t h.waiting h.untaken f;
+      balance = λ via. ap (λ (s : Settings). credits_of s via - (length (waiting_on via h.waiting) + length (of via h.untaken)))
+          k.settings ∙ balance_held c via t h.waiting h.untaken f;
     }

@@ -9,6 +9,7 @@ use Rattle.mscp_queue.specs.declared.name.Name.{Name}
 use Rattle.mscp_queue.specs.Names.{same_name}
 use Rattle.mscp_queue.specs.Records.{Record, has_name, is_in_service, left_of, record_at, no_record}
 use Rattle.mscp_control.specs.Settings.{Settings}
+use Rattle.mscp_control.specs.Both.{Both, of}
 use Rattle.mscp_control.specs.History.{Trace}
 use Rattle.mscp_control.specs.Commands.{command, connection, name, reference, weight, waiting, done, good, left, in_service}
 use Rattle.mscp_control.specs.Passing.{passed}
@@ -32,11 +33,11 @@ held_of t x = record {
       passed t x;
 }
 
--- The records are those of the waiting commands, and the ends those that weren't taken.
-pub record Follows (c : Settings) (t : Trace) (ws : List Record) (us : List End) : Type 0 where
+-- The records are those of the waiting commands, and each connection's ends those that weren't taken.
+pub record Follows (c : Settings) (t : Trace) (ws : List Record) (us : Both (List End)) : Type 0 where
   pub known : Known c t
   pub waits : ws ≡ map (held_of t) (waiting t)
-  pub ends : us ≡ untaken c t
+  pub ends : (via : Connection) → of via us ≡ untaken c via t
 
 -- ---- figures
 

@@ -1,38 +1,77 @@
--- What each event keeps of what a controller holds.
-use Rattle.std.proofs.Common.{◌≡◌, ℕ, zero, suc, ◌+◌, ◌<◌, ◌≤◌, true, false, not, List, [], ◌∷◌, ◌++◌, map, length, take, drop, ap, refl, sym, subst, ◌∙◌, arith}
-use Rattle.std.specs.Prelude.{if◌then◌else◌, option_to_list, Option, Some, None, IfSome}
+-- What each call keeps of what a controller holds.
+use Rattle.std.proofs.Common.{◌≡◌, ℕ, ◌+◌, ◌-◌, ◌<◌, ◌≤◌, Bool, true, false, cond, List, [], ◌∷◌, ◌++◌, map, length, drop, ap, refl, sym, subst, ◌∙◌, arith}
+use Rattle.std.specs.Prelude.{if◌then◌else◌, option_to_list, slice_get, Option, Some, None, IfSome, is_some}
+use Rattle.std.proofs.lemmas.Bool.{false≢true}
 use Rattle.std.specs.List.{AllByRecursion}
-use Rattle.std.proofs.lemmas.List.{length-append, length-drop, length-map, length-take-le}
-use Rattle.std.proofs.lemmas.List.Elements.{All-from_recursion}
-use Rattle.mscp_queue.specs.declared.name.Name.{Name}
+use Rattle.std.proofs.lemmas.List.{length-append, length-drop}
+use Rattle.mscp_packet.specs.declared.command.Command.{Command}
 use Rattle.mscp_packet.specs.declared.end.End.{End}
 use Rattle.mscp_packet.specs.Ends.{IsOfKind}
 use Rattle.mscp_drive.specs.Shape.{Shape}
 use Rattle.mscp_queue.specs.declared.block.Block.{Block}
+use Rattle.mscp_queue.specs.declared.name.Connection.{Connection}
+use Rattle.mscp_queue.specs.declared.name.Connection.TheVariants.{First, Second}
+use Rattle.mscp_queue.specs.declared.name.Name.{Name}
 use Rattle.mscp_queue.specs.declared.report.Report.{Report}
 use Rattle.mscp_queue.specs.declared.report.Report.TheVariants as reports
 use Rattle.mscp_queue.specs.declared.view.Choice.{Choice}
-use Rattle.mscp_queue.specs.declared.name.Connection.TheVariants.{First}
 use Rattle.mscp_queue.specs.Drives.{fresh_drive}
 use Rattle.mscp_queue.specs.Kept.{units_of}
 use Rattle.mscp_queue.specs.Lines as lines
 use Rattle.mscp_queue.specs.Lines.{Line, Serves}
-use Rattle.mscp_queue.specs.Records.{Record, drive_at, has_name, no_record, step_toll, passed_by, record_at, remains}
-use Rattle.mscp_queue.specs.Serving.{end_given, end_in}
-use Rattle.mscp_queue.proofs.Lists.{every_append, every_kept}
-use Rattle.mscp_control.specs.Settings.{Settings, IsValid, room}
-use Rattle.mscp_packet.specs.declared.command.Command.{Command}
-use Rattle.mscp_packet.specs.declared.command.Order.{Order}
-use Rattle.mscp_packet.specs.declared.command.Order.TheVariants as orders
-use Rattle.mscp_packet.specs.Commands.{command_of}
-use Rattle.mscp_control.specs.declared.event.SendFault.{SendFault}
-use Rattle.mscp_control.specs.declared.event.Event.{Event}
-use Rattle.mscp_control.specs.declared.event.Event.TheVariants as events
-use Rattle.mscp_control.specs.declared.event.Entry.{Entry}
-use Rattle.mscp_control.specs.declared.event.Entry.TheVariants as entries
-use Rattle.mscp_control.specs.Arrival.{refusal, is_queued}
-use Rattle.mscp_control.specs.Holdings.{Answers, Holdings, aborting, answered_end, balance_of, begun_after, with_end, ends_reported, held_unless, line_of, outstanding_of, queued}
-use Rattle.mscp_control.specs.Kept.{IsHeld}
+use Rattle.mscp_queue.specs.Names.{name_on, same_connection}
+use Rattle.mscp_queue.specs.Records.{Record, fresh_record, without}
+use Rattle.mscp_queue.specs.Serving.{begun_without, end_in}
+use Rattle.mscp_queue.proofs.Lists.{every_append}
+use Rattle.mscp_queue.proofs.Named.{own_side}
+use Rattle.mscp_control.specs.declared.account.Account.{Account}
+use Rattle.mscp_control.specs.declared.account.Accounts.{Accounts}
+use Rattle.mscp_control.specs.Accounts.{CanEnd, account, come, ended, fresh, left, put_account, reported, taken, untaken_in}
+use Rattle.mscp_control.specs.Settings.{Settings, IsValid, credits_of, room}
+use Rattle.mscp_control.specs.Holdings.{ends_reported, waiting_on}
+use Rattle.mscp_control.specs.Both.{of}
+use Rattle.mscp_control.specs.Kept.{IsAccount, IsHeld}
+use Rattle.mscp_control.proofs.Bridge.Accounts.{each_account, of_more, reported_at, seen_left, seen_of}
+use Rattle.mscp_control.proofs.Bridge.Counting.{count_stepped, other_count, own_count, push_count}
+use Rattle.mscp_control.proofs.Bridge.Owning.{stays}
+use Rattle.mscp_control.proofs.Promise.Served.{some_same}
+use Rattle.mscp_control.proofs.Promise.Sides.{sides_length}
+
+-- ---- the accounts
+
+-- the limits and the units stay
+pub record IsStill {K : Type 0} (old new : Line K) : Type 0 where
+  pub room : new.room ≡ old.room
+  pub budget : new.budget ≡ old.budget
+  pub longest : new.longest ≡ old.longest
+  pub units : units_of new.drives ≡ units_of old.drives
+
+held_like : {K : Type 0} {c : Settings} {old new : Line K} {a a' : Accounts} → IsHeld c old a → IsStill old new
+    → ((via : Connection) → IsAccount c new.waiting via (account via a')) → IsHeld c new a'
+held_like h s e = record {
+  valid = h.valid;
+  account = e;
+  same_room = s.room ∙ h.same_room;
+  same_budget = s.budget ∙ h.same_budget;
+  same_longest = s.longest ∙ h.same_longest;
+  units = s.units ∙ h.units;
+}
+
+still_by : {K : Type 0} {old new : Line K} (ws : List Record) (o : Option Name)
+    → new ≡ record old { waiting = ws; begun = o } → IsStill old new
+still_by {K} ws o e = record {
+  room = ap (λ (l : Line K). l.room) e;
+  budget = ap (λ (l : Line K). l.budget) e;
+  longest = ap (λ (l : Line K). l.longest) e;
+  units = ap (λ (l : Line K). units_of l.drives) e;
+}
+
+-- an account of which nothing changes, where as many of its commands wait
+account_stays : {c : Settings} {ws ws' : List Record} {via : Connection} {own : Account}
+    → IsAccount c ws via own → length (waiting_on via ws') ≡ length (waiting_on via ws) → IsAccount c ws' via own
+account_stays h e =
+    let counted = h.counted in
+    record { counted = omega (arith, counted, e); covered = h.covered; fits = h.fits; shaped = h.shaped }
 
 -- ---- nothing came
 
@@ -40,272 +79,242 @@ units_fresh : (us : List Shape) → units_of (map fresh_drive us) ≡ us
 units_fresh [] = refl
 units_fresh (u ∷ us) = ap (λ vs. u ∷ vs) (units_fresh us)
 
+fresh_account : (c : Settings) (via : Connection) → IsAccount c [] via fresh
+fresh_account c via = record { counted = refl; covered = omega arith; fits = omega arith; shaped = tt }
+
 pub held_fresh : {K : Type 0} (c : Settings) (units : List Shape) (room' budget longest : ℕ) (picker : K)
-    (line : Line K) (us : List End) → IsValid c → units ≡ c.units → room' ≡ room c → budget ≡ c.budget
-    → longest ≡ c.longest → line ≡ lines.fresh units room' budget longest picker → us ≡ [] → IsHeld c line us
-held_fresh {K} c units room' budget longest picker line us v u r p l e n =
-    let some = v.some_credits in
-    let all : IsHeld c (lines.fresh units room' budget longest picker) us = record {
+    (line : Line K) (a : Accounts) → IsValid c → units ≡ c.units → room' ≡ room c → budget ≡ c.budget
+    → longest ≡ c.longest → line ≡ lines.fresh units room' budget longest picker
+    → a ≡ record { first = fresh; second = fresh } → IsHeld c line a
+held_fresh {K} c units room' budget longest picker line a v u r p l e n =
+    let none : (via : Connection) → IsAccount c [] via (account via (record { first = fresh; second = fresh })) =
+    λ via. elim via as (λ via. IsAccount c [] via (account via (record { first = fresh; second = fresh })))
+    [ First ↦ fresh_account c First | Second ↦ fresh_account c Second ] in
+    let all : IsHeld c (lines.fresh units room' budget longest picker) (record { first = fresh; second = fresh }) =
+    record {
       valid = v;
-      covered = omega (arith, ap length n);
-      shaped = subst (AllByRecursion IsOfKind) (sym n) tt;
-      fits = omega arith;
+      account = none;
       same_room = r;
       same_budget = p;
       same_longest = l;
       units = units_fresh units ∙ u;
-      alone = tt;
     } in
-    subst (λ (q : Line K). IsHeld c q us) (sym e) all
+    subst (λ (q : Line K). IsHeld c q a) (sym e)
+    (subst (IsHeld c (lines.fresh units room' budget longest picker)) (sym n) all)
 
 -- ---- a step
 
-remains_count : (r : Record) (e : Option End) → length (remains r e) + length (option_to_list e) ≡ 1
-remains_count r None = omega arith
-remains_count r (Some end) = omega arith
-
--- where a command ends, one less waits
-count_after : (n place : ℕ) (r : Record) (rs : List Record) (e : Option End) → place < length rs
-    → length (map (passed_by n) (take place rs) ++ (remains r e ++ drop (place + 1) rs)) + length (option_to_list e)
-    ≡ length rs
-count_after n place r rs e l =
-    let A = take place rs in
-    let B = drop (place + 1) rs in
-    omega (
-      arith,
-      remains_count r e,
-      length-append (map (passed_by n) A) (remains r e ++ B),
-      length-map A (passed_by n),
-      length-append (remains r e) B,
-      length-take-le place rs (omega arith),
-      length-drop (place + 1) rs,
-    )
-
--- the waiting commands and the ends that a step brings are as many as waited
-pub count_stepped : {K : Type 0} (picks : List Choice → ℕ → Type 0) (k : Block) (old : Line K) (report : Report)
-    (new : Line K) → Serves picks k old report new
-    → length new.waiting + length (ends_reported report) ≡ length old.waiting
-count_stepped {K} picks k old reports.Idle new h = let same = ap (λ (l : Line K). length l.waiting) h.2 in
-    omega (arith, same)
-count_stepped {K} picks k old (reports.Served connection reference unit lbn started seek ended) new h =
-    let place = h.0 in
-    let s = h.1 in
-    let r = record_at old.waiting place in
-    let e = end_given k (drive_at old.drives old.waiting place) r in
-    let ends : ends_reported (reports.Served connection reference unit lbn started seek ended) ≡ option_to_list e =
-    ap ends_reported s.told in
-    omega (
-      arith,
-      ap (λ (l : Line K). length l.waiting) s.left,
-      ap length ends,
-      count_after (step_toll r) place r
-          old.waiting e s.next.servable.inside,
-    )
-
--- ---- each came by the first connection
-
-abbrev IsFirst : Record → Type 0
-IsFirst r = r.connection ≡ First
-
-first_passed : (n : ℕ) (rs : List Record) → AllByRecursion IsFirst rs → AllByRecursion IsFirst (map (passed_by n) rs)
-first_passed n [] h = tt
-first_passed n (r ∷ rs) h = (h.0, first_passed n rs h.1)
-
-first_remains : (r : Record) (e : Option End) → IsFirst r → AllByRecursion IsFirst (remains r e)
-first_remains r None h = (h, tt)
-first_remains r (Some end) h = tt
-
-first_taken : (place : ℕ) (rs : List Record) → AllByRecursion IsFirst rs → AllByRecursion IsFirst (take place rs)
-first_taken zero rs h = tt
-first_taken (suc place) [] h = tt
-first_taken (suc place) (r ∷ rs) h = (h.0, first_taken place rs h.1)
-
-first_dropped : (place : ℕ) (rs : List Record) → AllByRecursion IsFirst rs → AllByRecursion IsFirst (drop place rs)
-first_dropped zero rs h = h
-first_dropped (suc place) [] h = tt
-first_dropped (suc place) (r ∷ rs) h = first_dropped place rs h.1
-
-first_stepped : {K : Type 0} (picks : List Choice → ℕ → Type 0) (k : Block) (old : Line K) (report : Report)
-    (new : Line K) → AllByRecursion IsFirst old.waiting → Serves picks k old report new
-    → AllByRecursion IsFirst new.waiting
-first_stepped {K} picks k old reports.Idle new f h =
-    subst (λ (l : Line K). AllByRecursion IsFirst l.waiting) (sym h.2) f
-first_stepped {K} picks k old (reports.Served connection reference unit lbn started seek ended) new f h =
-    let place = h.0 in
-    let s = h.1 in
-    let r = record_at old.waiting place in
-    let front = map (passed_by (step_toll r)) (take place old.waiting) in
-    let own = remains r (end_given k (drive_at old.drives old.waiting place) r) in
-    let is : IsFirst r = All-from_recursion IsFirst old.waiting f place no_record s.next.servable.inside in
-    subst (λ (l : Line K). AllByRecursion IsFirst l.waiting) (sym s.left)
-    (every_append IsFirst front (own ++ drop (place + 1) old.waiting)
-    (first_passed (step_toll r) (take place old.waiting) (first_taken place old.waiting f))
-    (every_append IsFirst own (drop (place + 1) old.waiting) (first_remains r _ is)
-    (first_dropped (place + 1) old.waiting f)))
-
--- and the limits and the picker stay
-pub stays : {K : Type 0} (picks : List Choice → ℕ → Type 0) (k : Block) (old : Line K) (report : Report) (new : Line K)
-    → Serves picks k old report new
-    → (new.room ≡ old.room) × (new.budget ≡ old.budget) × (new.longest ≡ old.longest) × (new.picker ≡ old.picker)
-stays {K} picks k old reports.Idle new h = (
-  ap (λ (l : Line K). l.room) h.2,
-  ap (λ (l : Line K). l.budget) h.2,
-  ap (λ (l : Line K). l.longest) h.2,
-  ap
-      (λ (l : Line K). l.picker) h.2,
-)
-stays {K} picks k old (reports.Served connection reference unit lbn started seek ended) new h =
-    let e = h.1.left in (
-      ap (λ (l : Line K). l.room) e,
-      ap (λ (l : Line K). l.budget) e,
-      ap (λ (l : Line K). l.longest) e,
-      ap
-          (λ (l : Line K). l.picker) e,
-    )
-
 -- the ends that a step brings are of their kind
-reported_kinds : (report : Report) → IfSome (end_in report) IsOfKind → AllByRecursion IsOfKind (ends_reported report)
-reported_kinds reports.Idle h = tt
-reported_kinds (reports.Served connection reference unit lbn started seek None) h = tt
-reported_kinds (reports.Served connection reference unit lbn started seek (Some end)) h = (h, tt)
+kind_either : (here : Bool) (end : End) → IsOfKind end → AllByRecursion IsOfKind (if here then end ∷ [] else [])
+kind_either true end h = (h, tt)
+kind_either false end h = tt
+
+reported_kinds : (via : Connection) (report : Report) → IfSome (end_in report) IsOfKind
+    → AllByRecursion IsOfKind (ends_reported via report)
+reported_kinds via reports.Idle h = tt
+reported_kinds via (reports.Served here reference unit lbn started seek None) h =
+    elim (same_connection here via) as (λ b. AllByRecursion IsOfKind (if b then option_to_list {X = End} None else []))
+    [ true ↦ tt | false ↦ tt ]
+reported_kinds via (reports.Served here reference unit lbn started seek (Some end)) h =
+    kind_either (same_connection here via) end h
+
+few_of : (c : Settings) (via : Connection) → IsValid c → credits_of c via ≤ 64
+few_of c First v = let few = v.few_credits in omega (arith, few)
+few_of c Second v = let few = v.few_credits in omega (arith, few)
+
+-- there is room for the end that a step brings, and its command is counted
+pub can_end : {K : Type 0} (c : Settings) (picks : List Choice → ℕ → Type 0) (k : Block) (old : Line K)
+    (report : Report) (new : Line K) (a : Accounts) → IsHeld c old a → Serves picks k old report new → CanEnd report a
+can_end c picks k old reports.Idle new a h s = tt
+can_end c picks k old (reports.Served via reference unit lbn started seek None) new a h s = tt
+can_end c picks k old (reports.Served via reference unit lbn started seek (Some end)) new a h s =
+    let count = count_stepped via picks k old (reports.Served via reference unit lbn started seek (Some end)) new s in
+    let one = ap (λ b. length (if b then end ∷ [] else [])) (own_side via) in
+    let counted = (h.account via).counted in
+    let covered = (h.account via).covered in
+    (omega (arith, count, one, counted), omega (arith, count, one, counted, covered, few_of c via h.valid))
 
 pub held_stepped : {K : Type 0} (c : Settings) (picks : List Choice → ℕ → Type 0) (k : Block) (old : Line K)
-    (report : Report) (new : Line K) (us us' : List End) → IsHeld c old us → Serves picks k old report new
-    → units_of new.drives ≡ units_of old.drives → IfSome (end_in report) IsOfKind → us' ≡ us ++ ends_reported report
-    → IsHeld c new us'
-held_stepped {K} c picks k old report new us us' h s u kind e =
-    let count = count_stepped picks k old report new s in
+    (report : Report) (new : Line K) (a : Accounts) → IsHeld c old a → Serves picks k old report new
+    → units_of new.drives ≡ units_of old.drives → IfSome (end_in report) IsOfKind → IsHeld c new (reported report a)
+held_stepped {K} c picks k old report new a h s u kind =
     let same = stays picks k old report new s in
-    let covered = h.covered in
-    let fits = h.fits in
+    held_like h (record { room = same.0; budget = same.1; longest = same.2; units = u })
+    (λ via.
+    let own = h.account via in
+    let count = count_stepped via picks k old report new s in
+    let more = reported_at via report a (can_end c picks k old report new a h s) in
+    let waiting = more.waiting in
+    let counted = own.counted in
+    let covered = own.covered in
+    let fits = own.fits in
     record {
-      valid = h.valid;
-      covered = omega (arith, count, ap length e, length-append us (ends_reported report));
-      shaped = subst (AllByRecursion IsOfKind) (sym e)
-          (every_append IsOfKind us (ends_reported report) h.shaped (reported_kinds report kind));
-      fits = omega (arith, count);
-      same_room = same.0 ∙ h.same_room;
-      same_budget = same.1 ∙ h.same_budget;
-      same_longest = same.2 ∙ h.same_longest;
-      units = u ∙ h.units;
-      alone = first_stepped picks k old report new h.alone s;
-    }
+      counted = omega (arith, count, waiting, counted);
+      covered = omega (arith, waiting, covered, ap length more.untaken,
+      length-append (account via a).untaken.items (ends_reported via report));
+      fits = omega (arith, waiting, fits);
+      shaped = subst (AllByRecursion IsOfKind) (sym more.untaken)
+          (every_append IsOfKind (account via a).untaken.items (ends_reported via report) own.shaped
+          (reported_kinds via report kind));
+    })
 
--- the same after an abort, which leaves one command less and makes its end
-pub held_aborted : {K : Type 0} {c : Settings} {old new : Line K} {us us' : List End} (name : Name) (end : End)
-    → IsHeld c old us → new ≡ lines.aborting name old → length new.waiting + 1 ≡ length old.waiting → IsOfKind end
-    → us' ≡ us ++ end ∷ [] → IsHeld c new us'
-held_aborted {K} {c} {old} {new} {us} {us'} name end h e count kind more =
-    let covered = h.covered in
-    let fits = h.fits in
-    record {
-      valid = h.valid;
-      covered = omega (arith, count, ap length more, length-append us (end ∷ []));
-      shaped = subst (AllByRecursion IsOfKind) (sym more)
-          (every_append IsOfKind us (end ∷ []) h.shaped (kind, tt));
-      fits = omega (arith, count);
-      same_room = ap (λ (l : Line K). l.room) e ∙ h.same_room;
-      same_budget = ap (λ (l : Line K). l.budget) e ∙ h.same_budget;
-      same_longest = ap (λ (l : Line K). l.longest) e ∙ h.same_longest;
-      units = ap (λ (l : Line K). units_of l.drives) e ∙ h.units;
-      alone = subst (λ (l : Line K). AllByRecursion IsFirst l.waiting) (sym e)
-          (every_kept IsFirst (λ r. not (has_name name r)) old.waiting h.alone);
-    }
+-- ---- a message
 
--- there is room for the end that a step brings
-pub end_fits : {K : Type 0} (c : Settings) (picks : List Choice → ℕ → Type 0) (k : Block) (old : Line K)
-    (report : Report) (new : Line K) (us : List End) → IsHeld c old us → Serves picks k old report new
-    → length us + length (ends_reported report) ≤ 64
-end_fits {K} c picks k old report new us h s =
-    let count = count_stepped picks k old report new s in
-    let covered = h.covered in
-    let few = h.valid.few_credits in
-    omega (arith, count)
+-- one more command waits
+pub held_queued : {K : Type 0} {c : Settings} {old new : Line K} {a : Accounts} (via : Connection) (k : Command)
+    → IsHeld c old a → new ≡ lines.pushed old via k
+    → 2 ≤ credits_of c via - (length (waiting_on via old.waiting) + length (account via a).untaken.items)
+    → IsHeld c new (put_account via (come (account via a)) a)
+held_queued {K} {c} {old} {new} {a} via k h e free =
+    let own = h.account via in
+    let counted = own.counted in
+    let ws = old.waiting ++ fresh_record via k ∷ [] in
+    let more = push_count via via old.waiting k ∙ ap (λ b. length (waiting_on via old.waiting) + cond b 1 0)
+    (own_side via) in
+    let own' : IsAccount c ws via (come (account via a)) = record {
+      counted = omega (arith, counted, more);
+      covered = omega (arith, counted, free);
+      fits = omega (arith, counted, free);
+      shaped = own.shaped;
+    } in
+    held_like h (still_by ws old.begun e)
+    (subst (λ (l : Line K). (via' : Connection)
+    → IsAccount c l.waiting via' (account via' (put_account via (come (account via a)) a))) (sym e)
+    (each_account (IsAccount c ws) via (come (account via a)) a own'
+    (λ other d. account_stays (h.account other) (push_count via other old.waiting k
+    ∙ (ap (λ b. length (waiting_on other old.waiting) + cond b 1 0) d ∙ omega arith)))))
 
--- ---- any event
+-- an end is made
+pub held_ended : {K : Type 0} {c : Settings} {line : Line K} {a : Accounts} (via : Connection) (end : End)
+    → IsHeld c line a
+    → 1 ≤ credits_of c via - (length (waiting_on via line.waiting) + length (account via a).untaken.items)
+    → IsOfKind end → IsHeld c line (put_account via (ended end (account via a)) a)
+held_ended {K} {c} {line} {a} via end h free kind =
+    let own = h.account via in
+    let counted = own.counted in
+    let items = (account via a).untaken.items in
+    held_like h (record { room = refl; budget = refl; longest = refl; units = refl })
+    (each_account (IsAccount c line.waiting) via (ended end (account via a)) a
+    (record {
+      counted = counted;
+      covered = omega (arith, counted, free, length-append items (end ∷ []));
+      fits = own.fits;
+      shaped = every_append IsOfKind items (end ∷ []) own.shaped (kind, tt);
+    })
+    (λ other d. h.account other))
 
--- the settings and the picker are the same
-abbrev pub IsSameOwner : {K : Type 0} → Holdings K → Holdings K → Type 0
-IsSameOwner h h' = (h'.settings ≡ h.settings) × (h'.picker ≡ h.picker)
+-- an end is taken, if there is one
+rest_kinds : (es : List End) → AllByRecursion IsOfKind es → AllByRecursion IsOfKind (drop 1 es)
+rest_kinds [] h = tt
+rest_kinds (e ∷ es) h = h.1
 
-owner_unless : {K : Type 0} (h : Holdings K) (command : Command) (o : Option SendFault)
-    → IsSameOwner h (held_unless h command o)
-owner_unless h command (Some fault) = (refl, refl)
-owner_unless h command None = elim (is_queued h.settings command) as
-    (λ b. IsSameOwner h (if b then queued h command else with_end (aborting h command.order) (answered_end h command)))
-    [ true ↦ (refl, refl) | false ↦ (refl, refl) ]
+pub held_taken : {K : Type 0} {c : Settings} {line : Line K} {a : Accounts} (via : Connection) → IsHeld c line a
+    → IsHeld c line (put_account via (taken (account via a)) a)
+held_taken {K} {c} {line} {a} via h =
+    let own = h.account via in
+    let covered = own.covered in
+    let items = (account via a).untaken.items in
+    held_like h (record { room = refl; budget = refl; longest = refl; units = refl })
+    (each_account (IsAccount c line.waiting) via (taken (account via a)) a
+    (record {
+      counted = own.counted;
+      covered = omega (arith, covered, length-drop 1 items);
+      fits = own.fits;
+      shaped = rest_kinds items own.shaped;
+    })
+    (λ other d. h.account other))
 
--- no event changes the settings or the picker
-pub owner_kept : {K : Type 0} (picks : List Choice → ℕ → Type 0) (h h' : Holdings K) (event : Event) (entry : Entry)
-    → Answers picks h event entry h' → IsSameOwner h h'
-owner_kept {K} picks h h' (events.Send message) (entries.Sent sent) r =
-    subst (λ (x : Holdings K). IsSameOwner h x) (sym r.1)
-    (owner_unless h (command_of message.items) (refusal (balance_of h) (outstanding_of h) message.items))
-owner_kept {K} picks h h' events.Take (entries.Taken end) r =
-    subst (λ (x : Holdings K). IsSameOwner h x) (sym r.1) (refl, refl)
-owner_kept picks h h' (events.Step k) (entries.Stepped report) r =
-    (r.settings, (stays picks k (line_of h) report (line_of h') r.serves).3)
-owner_kept {K} picks h h' events.Look (entries.Looked list) r =
-    subst (λ (x : Holdings K). IsSameOwner h x) (sym r.1) (refl, refl)
-owner_kept picks h h' (events.Send message) (entries.Taken end) r = absurd r
-owner_kept picks h h' (events.Send message) (entries.Stepped report) r = absurd r
-owner_kept picks h h' (events.Send message) (entries.Looked list) r = absurd r
-owner_kept picks h h' events.Take (entries.Sent sent) r = absurd r
-owner_kept picks h h' events.Take (entries.Stepped report) r = absurd r
-owner_kept picks h h' events.Take (entries.Looked list) r = absurd r
-owner_kept picks h h' (events.Step k) (entries.Sent sent) r = absurd r
-owner_kept picks h h' (events.Step k) (entries.Taken end) r = absurd r
-owner_kept picks h h' (events.Step k) (entries.Looked list) r = absurd r
-owner_kept picks h h' events.Look (entries.Sent sent) r = absurd r
-owner_kept picks h h' events.Look (entries.Taken end) r = absurd r
-owner_kept picks h h' events.Look (entries.Stepped report) r = absurd r
+-- ---- an abort
 
--- ---- nothing is begun
+-- there is room for the end of an aborted command, and the command is counted
+pub can_leave : {K : Type 0} {c : Settings} {old new : Line K} {a : Accounts} (via : Connection) (n : ℕ)
+    → IsHeld c old a → new ≡ lines.aborting (name_on via n) old → length new.waiting + 1 ≡ length old.waiting
+    → (1 ≤ (account via a).waiting) × (length (account via a).untaken.items < 64)
+can_leave {K} {c} {old} {new} {a} via n h e count =
+    let less = own_count via n old.waiting (sym (ap (λ (l : Line K). length l.waiting + 1) e) ∙ count) in
+    let counted = (h.account via).counted in
+    let covered = (h.account via).covered in
+    (omega (arith, less, counted), omega (arith, less, counted, covered, few_of c via h.valid))
 
-begun_after_none : (o : Order) → begun_after None o ≡ None
-begun_after_none (orders.Abort other) = refl
-begun_after_none (orders.Status other) = refl
-begun_after_none orders.UnitStatus = refl
-begun_after_none (orders.SetController version) = refl
-begun_after_none orders.Available = refl
-begun_after_none orders.Online = refl
-begun_after_none orders.SetUnit = refl
-begun_after_none (orders.Move kind count block) = refl
-begun_after_none (orders.Invalid opcode status) = refl
+pub held_aborted : {K : Type 0} {c : Settings} {old new : Line K} {a : Accounts} (via : Connection) (n : ℕ) (end : End)
+    → IsHeld c old a → new ≡ lines.aborting (name_on via n) old → length new.waiting + 1 ≡ length old.waiting
+    → IsOfKind end → IsHeld c new (put_account via (left end (account via a)) a)
+held_aborted {K} {c} {old} {new} {a} via n end h e count kind =
+    let ws = without (name_on via n) old.waiting in
+    let own = h.account via in
+    let items = (account via a).untaken.items in
+    let less = own_count via n old.waiting (sym (ap (λ (l : Line K). length l.waiting + 1) e) ∙ count) in
+    let counted = own.counted in
+    let covered = own.covered in
+    let fits = own.fits in
+    let own' : IsAccount c ws via (left end (account via a)) = record {
+      counted = omega (arith, counted, less);
+      covered = omega (arith, counted, covered, less, length-append items (end ∷ []));
+      fits = omega (arith, fits);
+      shaped = every_append IsOfKind items (end ∷ []) own.shaped (kind, tt);
+    } in
+    held_like h (still_by ws (begun_without (name_on via n) old.begun) e)
+    (subst (λ (l : Line K). (via' : Connection)
+    → IsAccount c l.waiting via' (account via' (put_account via (left end (account via a)) a))) (sym e)
+    (each_account (IsAccount c ws) via (left end (account via a)) a own'
+    (λ other d. account_stays (h.account other) (other_count via other n old.waiting d))))
 
-unbegun_unless : {K : Type 0} (h : Holdings K) (command : Command) (o : Option SendFault) → h.begun ≡ None
-    → (held_unless h command o).begun ≡ None
-unbegun_unless h command (Some fault) n = n
-unbegun_unless {K} h command None n =
-    elim (is_queued h.settings command) as (λ b. (if b then queued h command
-    else with_end (aborting h command.order) (answered_end h command)).begun ≡ None)
-    [ true ↦ n | false ↦ ap (λ b. begun_after b command.order) n ∙ begun_after_none command.order ]
+-- ---- credits that are seen
 
-unbegun_stepped : {K : Type 0} (picks : List Choice → ℕ → Type 0) (k : Block) (old : Line K) (report : Report)
-    (new : Line K) → old.begun ≡ None → Serves picks k old report new → new.begun ≡ None
-unbegun_stepped {K} picks k old reports.Idle new n h = ap (λ (l : Line K). l.begun) h.2 ∙ n
-unbegun_stepped {K} picks k old (reports.Served connection reference unit lbn started seek ended) new n h =
-    ap (λ (l : Line K). l.begun) h.1.left
+-- so many credits are free, whether the ends are seen or held
+pub free_seen : (c : Settings) (ws : List Record) (via : Connection) (n : ℕ) (a : Accounts)
+    → n ≤ credits_of c via - (length (waiting_on via ws) + length (of via (untaken_in a)))
+    → n ≤ credits_of c via - (length (waiting_on via ws) + length (account via a).untaken.items)
+free_seen c ws via n a h =
+    subst (λ es. n ≤ credits_of c via - (length (waiting_on via ws) + length es)) (seen_of via a) h
 
--- no event begins a command
-pub unbegun_kept : {K : Type 0} (picks : List Choice → ℕ → Type 0) (h h' : Holdings K) (event : Event) (entry : Entry)
-    → h.begun ≡ None → Answers picks h event entry h' → h'.begun ≡ None
-unbegun_kept {K} picks h h' (events.Send message) (entries.Sent sent) n r =
-    ap (λ (x : Holdings K). x.begun) r.1 ∙ unbegun_unless h (command_of message.items)
-    (refusal (balance_of h) (outstanding_of h) message.items) n
-unbegun_kept {K} picks h h' events.Take (entries.Taken end) n r = ap (λ (x : Holdings K). x.begun) r.1 ∙ n
-unbegun_kept picks h h' (events.Step k) (entries.Stepped report) n r =
-    unbegun_stepped picks k (line_of h) report (line_of h') n r.serves
-unbegun_kept {K} picks h h' events.Look (entries.Looked list) n r = ap (λ (x : Holdings K). x.begun) r.1 ∙ n
-unbegun_kept picks h h' (events.Send message) (entries.Taken end) n r = absurd r
-unbegun_kept picks h h' (events.Send message) (entries.Stepped report) n r = absurd r
-unbegun_kept picks h h' (events.Send message) (entries.Looked list) n r = absurd r
-unbegun_kept picks h h' events.Take (entries.Sent sent) n r = absurd r
-unbegun_kept picks h h' events.Take (entries.Stepped report) n r = absurd r
-unbegun_kept picks h h' events.Take (entries.Looked list) n r = absurd r
-unbegun_kept picks h h' (events.Step k) (entries.Sent sent) n r = absurd r
-unbegun_kept picks h h' (events.Step k) (entries.Taken end) n r = absurd r
-unbegun_kept picks h h' (events.Step k) (entries.Looked list) n r = absurd r
-unbegun_kept picks h h' events.Look (entries.Sent sent) n r = absurd r
-unbegun_kept picks h h' events.Look (entries.Taken end) n r = absurd r
-unbegun_kept picks h h' events.Look (entries.Stepped report) n r = absurd r
+-- where a connection has two credits free, there is room for one more
+pub room_left : {K : Type 0} {c : Settings} {line : Line K} {a : Accounts} (via : Connection) → IsHeld c line a
+    → 2 ≤ credits_of c via - (length (waiting_on via line.waiting) + length (account via a).untaken.items)
+    → length line.waiting < line.room
+room_left {K} {c} {line} {a} First h free =
+    let other = (h.account Second).fits in
+    let counted = (h.account Second).counted in
+    let room = h.same_room in
+    omega (arith, free, other, counted, room, sides_length (λ (r : Record). r.connection) line.waiting)
+room_left {K} {c} {line} {a} Second h free =
+    let other = (h.account First).fits in
+    let counted = (h.account First).counted in
+    let room = h.same_room in
+    omega (arith, free, other, counted, room, sides_length (λ (r : Record). r.connection) line.waiting)
+
+-- the account of each connection
+pub balanced : {K : Type 0} {c : Settings} {line : Line K} {a : Accounts} → IsHeld c line a → (via : Connection)
+    → credits_of c via - (length (waiting_on via line.waiting) + length (of via (untaken_in a)))
+    + length (waiting_on via line.waiting) + length (of via (untaken_in a)) ≡ credits_of c via
+balanced {K} {c} {line} {a} h via =
+    let counted = (h.account via).counted in
+    let covered = (h.account via).covered in
+    omega (arith, counted, covered, ap length (seen_of via a))
+
+-- what a connection's commands and ends hold is at most 64
+pub held_small : {K : Type 0} {c : Settings} {line : Line K} {a : Accounts} → IsHeld c line a → (via : Connection)
+    → (account via a).waiting + length (account via a).untaken.items ≤ 64
+held_small {K} {c} {line} {a} h via = let covered = (h.account via).covered in omega (arith, covered, few_of c via h.valid)
+
+-- an abort leaves the credits that are free as they were: its end takes the place of its command
+pub balance_left : {K : Type 0} (c : Settings) (old new : Line K) (a a' : Accounts) (via : Connection) (n : ℕ) (end : End)
+    → new ≡ lines.aborting (name_on via n) old → length new.waiting + 1 ≡ length old.waiting
+    → a' ≡ put_account via (left end (account via a)) a
+    → credits_of c via - (length (waiting_on via new.waiting) + length (of via (untaken_in a')))
+    ≡ credits_of c via - (length (waiting_on via old.waiting) + length (of via (untaken_in a)))
+balance_left {K} c old new a a' via n end e count more =
+    let less = own_count via n old.waiting (sym (ap (λ (l : Line K). length l.waiting + 1) e) ∙ count) in
+    omega (
+      arith,
+      less,
+      ap (λ (l : Line K). length (waiting_on via l.waiting)) e,
+      ap (λ (x : Accounts). length (of via (untaken_in x))) more,
+      ap length (ap (of via) (seen_left via end a) ∙ (of_more via (untaken_in a) (end ∷ []))),
+      length-append (of via (untaken_in a)) (end ∷ []),
+    )
+
+-- an end that is taken has the body of its endcode
+pub taken_kind : (es : List End) (e : End) → slice_get es 0 ≡ Some e → AllByRecursion IsOfKind es → IsOfKind e
+taken_kind [] e q h = absurd (false≢true (ap is_some q))
+taken_kind (x ∷ xs) e q h = subst IsOfKind (some_same x e q) h.0

@@ -3,6 +3,7 @@ use Rattle.std.proofs.Common.{◌≡◌, ℕ, ◌<◌, true, ◌||◌, List, [],
 use Rattle.std.specs.Prelude.{nat_eq, None}
 use Rattle.std.proofs.lemmas.List.{append_assoc}
 use Rattle.mscp_queue.specs.declared.block.Block.{Block}
+use Rattle.mscp_queue.specs.declared.name.Connection.TheVariants.{First}
 use Rattle.mscp_control.specs.Settings.{Settings}
 use Rattle.mscp_control.specs.History.{Trace, Moment, moment, Service, service_in, WhenStarted}
 use Rattle.mscp_control.specs.Commands.{connection, reference, service_name, unit, is_waiting, done, in_service}
@@ -23,7 +24,7 @@ each_more : (R : Trace → Moment → Type 0) (t : Trace) (m : Moment)
     → ((i : ℕ) → i < length t → R (take i t) (moment t i)) → R t m
     → (i : ℕ) → i < length (t ++ m ∷ []) → R (take i (t ++ m ∷ [])) (moment (t ++ m ∷ []) i)
 unfolding moment
-each_more R t m l r = each_push (events.Take, entries.Taken None) R t m l r
+each_more R t m l r = each_push (events.Take First, entries.Taken First None) R t m l r
 
 -- One more right moment.
 pub legal_more : (c : Settings) (t : Trace) (m : Moment) → IsLegal c t → IsRight c t m.0 m.1 → IsLegal c (t ++ m ∷ [])

@@ -5,19 +5,20 @@ use Rattle.std.specs.List.{AllByRecursion}
 use Rattle.std.proofs.lemmas.List.{drop-drop, map-append}
 use Rattle.mscp_packet.specs.declared.end.End.{End}
 use Rattle.mscp_packet.specs.Commands.{command_of}
-use Rattle.mscp_queue.specs.declared.name.Connection.TheVariants.{First}
+use Rattle.mscp_queue.specs.declared.name.Connection.{Connection}
 use Rattle.mscp_queue.specs.declared.name.Name.{Name}
 use Rattle.mscp_queue.specs.Records.{Record, fresh_record, name_of}
 use Rattle.mscp_control.specs.Settings.{Settings}
+use Rattle.mscp_control.specs.Both.{Both, of}
 use Rattle.mscp_queue.specs.Orders.{order_weight}
-use Rattle.mscp_control.specs.History.{Trace, Moment, queues, sent_bytes, is_good, takes, service_in}
+use Rattle.mscp_control.specs.History.{Trace, Moment, connection_of, queues, sent_bytes, is_good, takes, service_in}
 use Rattle.mscp_control.specs.Commands.{name, waiting, done, good, service_is, service_starts, ends_in}
 use Rattle.mscp_control.specs.Passing.{passed}
 use Rattle.mscp_control.specs.Ends.{ends_at}
 use Rattle.mscp_control.specs.Account.{ends, untaken}
 use Rattle.mscp_control.specs.Legal.{IsRight}
 use Rattle.mscp_queue.proofs.Lists.{every_kept, every_weaker, every_from, filter_all}
-use Rattle.mscp_control.proofs.Promise.Grows.{command_before, command_last, done_last, good_before, good_last, waiting_more, taken_more, ends_more}
+use Rattle.mscp_control.proofs.Promise.Grows.{command_before, command_last, connection_before, connection_last, done_last, good_before, good_last, waiting_more, taken_more, ends_more}
 use Rattle.mscp_control.proofs.Promise.Waits.{waiting_below, passed_last}
 use Rattle.mscp_control.proofs.Promise.Steady.{done_kept}
 use Rattle.mscp_control.proofs.Promise.Passed.{none_starts}
@@ -38,8 +39,9 @@ pub held_same : (t : Trace) (m : Moment) (x : ℕ) → x < length t → done (t 
     → held_of (t ++ m ∷ []) x ≡ held_of t x
 held_same t m x l d g p = λ i.
     let k = command_before t m x l in
+    let v = connection_before t m x l in
     record {
-      connection = First;
+      connection = v i;
       command = k i;
       weight = order_weight (k i).order;
       done = d i;
@@ -78,9 +80,10 @@ records_kept t t' xs k = map_on (held_of t') (held_of t) xs k
 -- ---- nobody comes
 
 -- What is held after a moment that serves nobody and queues nobody: the records of the commands that it doesn't end.
-pub follows_left : (c : Settings) (t : Trace) (m : Moment) (ws ws' : List Record) (us us' : List End) → 1 ≤ c.longest
-    → IsRight c t m.0 m.1 → service_in m.1 ≡ None → queues m.1 ≡ false
-    → ws' ≡ filter (λ r. not (ends_in (name_of r) m.1)) ws → us' ≡ untaken c (t ++ m ∷ []) → Follows c t ws us
+pub follows_left : (c : Settings) (t : Trace) (m : Moment) (ws ws' : List Record) (us us' : Both (List End))
+    → 1 ≤ c.longest → IsRight c t m.0 m.1 → service_in m.1 ≡ None → queues m.1 ≡ false
+    → ws' ≡ filter (λ r. not (ends_in (name_of r) m.1)) ws → ((via : Connection) → of via us' ≡ untaken c via (t ++ m ∷ []))
+    → Follows c t ws us
     → Follows c (t ++ m ∷ []) ws' us'
 follows_left c t m ws ws' us us' l r unserved n left e f =
     let t' = t ++ m ∷ [] in
@@ -100,14 +103,15 @@ follows_left c t m ws ws' us us' l r unserved n left e f =
 -- ---- a command comes
 
 record_new : (t : Trace) (m : Moment)
-    → held_of (t ++ m ∷ []) (length t) ≡ fresh_record First (command_of (sent_bytes m.0))
+    → held_of (t ++ m ∷ []) (length t) ≡ fresh_record (connection_of m.0) (command_of (sent_bytes m.0))
 record_new t m = λ i.
     let k = command_last t m in
+    let v = connection_last t m in
     let d = done_last t m in
     let g = good_last t m in
     let p = passed_last t m in
     record {
-      connection = First;
+      connection = v i;
       command = k i;
       weight = order_weight (k i).order;
       done = d i;
@@ -116,10 +120,10 @@ record_new t m = λ i.
     }
 
 -- What is held after a command was queued: its record comes last.
-pub follows_queued : (c : Settings) (t : Trace) (m : Moment) (ws : List Record) (us us' : List End) → 1 ≤ c.longest
-    → IsRight c t m.0 m.1 → IsQuiet m → queues m.1 ≡ true
-    → us' ≡ untaken c (t ++ m ∷ []) → Follows c t ws us
-    → Follows c (t ++ m ∷ []) (ws ++ fresh_record First (command_of (sent_bytes m.0)) ∷ []) us'
+pub follows_queued : (c : Settings) (t : Trace) (m : Moment) (ws : List Record) (us us' : Both (List End))
+    → 1 ≤ c.longest → IsRight c t m.0 m.1 → IsQuiet m → queues m.1 ≡ true
+    → ((via : Connection) → of via us' ≡ untaken c via (t ++ m ∷ [])) → Follows c t ws us
+    → Follows c (t ++ m ∷ []) (ws ++ fresh_record (connection_of m.0) (command_of (sent_bytes m.0)) ∷ []) us'
 follows_queued c t m ws us us' l r q n e f =
     let t' = t ++ m ∷ [] in
     let x = length t in
@@ -129,7 +133,7 @@ follows_queued c t m ws us us' l r q n e f =
     record {
       known = known_more c l t m r f.known;
       waits =
-          ap (λ ys. ys ++ fresh_record First (command_of (sent_bytes m.0)) ∷ [])
+          ap (λ ys. ys ++ fresh_record (connection_of m.0) (command_of (sent_bytes m.0)) ∷ [])
           (f.waits ∙ sym (records_kept t t' (waiting t) k))
           ∙ (ap (λ y. map (held_of t') (waiting t) ++ y ∷ []) (sym (record_new t m))
           ∙ (sym (map-append (held_of t') (waiting t) (x ∷ [])) ∙ ap (map (held_of t')) (sym same)));
@@ -139,13 +143,13 @@ follows_queued c t m ws us us' l r q n e f =
 -- ---- an end is taken
 
 -- Where an end is taken, the others stay.
-pub untaken_taken : (c : Settings) (t : Trace) (m : Moment) → takes m.1 ≡ true → ends_at c t m ≡ []
-    → untaken c (t ++ m ∷ []) ≡ drop 1 (untaken c t)
+pub untaken_taken : (c : Settings) (via : Connection) (t : Trace) (m : Moment) → takes via m.1 ≡ true
+    → ends_at c via t m ≡ [] → untaken c via (t ++ m ∷ []) ≡ drop 1 (untaken c via t)
 unfolding untaken
-untaken_taken c t m e n =
-    let k = count_by (λ (n : Moment). takes n.1) t in
-    let one : count_by (λ (n : Moment). takes n.1) (t ++ m ∷ []) ≡ k + 1 =
-    taken_more t m ∙ ap (λ b. k + cond b 1 0) e in
-    let same : ends c (t ++ m ∷ []) ≡ ends c t = ends_more c t m
-    ∙ (ap (λ l. ends c t ++ l) n ∙ append-nil (ends c t)) in
-    ap (λ j. drop j (ends c (t ++ m ∷ []))) one ∙ (ap (drop (k + 1)) same ∙ sym (drop-drop 1 k (ends c t)))
+untaken_taken c via t m e n =
+    let k = count_by (λ (n : Moment). takes via n.1) t in
+    let one : count_by (λ (n : Moment). takes via n.1) (t ++ m ∷ []) ≡ k + 1 =
+    taken_more via t m ∙ ap (λ b. k + cond b 1 0) e in
+    let same : ends c via (t ++ m ∷ []) ≡ ends c via t = ends_more c via t m
+    ∙ (ap (λ l. ends c via t ++ l) n ∙ append-nil (ends c via t)) in
+    ap (λ j. drop j (ends c via (t ++ m ∷ []))) one ∙ (ap (drop (k + 1)) same ∙ sym (drop-drop 1 k (ends c via t)))

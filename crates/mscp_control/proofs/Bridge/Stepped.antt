@@ -17,7 +17,9 @@ use Rattle.mscp_queue.specs.declared.view.Choice.{Choice}
 use Rattle.mscp_queue.specs.Drives.{drive_of, replaced}
 use Rattle.mscp_queue.specs.Lines.{Line, ServesAt}
 use Rattle.mscp_queue.specs.declared.name.Name.{Name}
-use Rattle.mscp_queue.specs.Names.{same_name}
+use Rattle.mscp_queue.specs.declared.name.Connection.{Connection}
+use Rattle.mscp_queue.specs.declared.name.Connection.TheVariants.{First, Second}
+use Rattle.mscp_queue.specs.Names.{same_connection, same_name}
 use Rattle.mscp_queue.specs.Orders.{order_weight}
 use Rattle.mscp_queue.specs.Outcomes.{goes_on, is_good_block, touches}
 use Rattle.mscp_queue.specs.Records.{Record, advanced, step_toll, passed_by, record_at, remains}
@@ -26,6 +28,7 @@ use Rattle.mscp_queue.specs.Serving.{IsNext, drive_after, end_given, report_of, 
 use Rattle.mscp_control.specs.declared.event.Event.TheVariants as events
 use Rattle.mscp_control.specs.declared.event.Entry.TheVariants as entries
 use Rattle.mscp_control.specs.Settings.{Settings, IsValid}
+use Rattle.mscp_control.specs.Both.{Both, of}
 use Rattle.mscp_control.specs.History.{Trace, Moment, is_good, service_in, WhenStarted}
 use Rattle.mscp_control.specs.Commands.{connection, name, reference, service_name, unit, order, is_waiting, waiting, weight, done, good, left, serves_in}
 use Rattle.mscp_control.specs.Passing.{passed}
@@ -34,10 +37,10 @@ use Rattle.mscp_control.specs.Units.{is_online}
 use Rattle.mscp_control.specs.Ends.{outcome}
 use Rattle.mscp_control.specs.Account.{untaken}
 use Rattle.mscp_control.specs.Legal.{IsPick, IsRight, block_of, end_of, IsServed, seek_to}
-use Rattle.mscp_control.specs.Holdings.{Holdings, ends_reported, line_of}
+use Rattle.mscp_control.specs.Holdings.{Holdings, ends_after, ends_reported, line_of}
 use Rattle.mscp_queue.proofs.Named.{is_same}
 use Rattle.mscp_queue.proofs.Lists.{every_mapped, every_weaker, every_both, every_from, every_parts}
-use Rattle.mscp_control.proofs.Promise.Grows.{command_before, done_before, good_before, untaken_more}
+use Rattle.mscp_control.proofs.Promise.Grows.{command_before, connection_before, done_before, good_before, untaken_more}
 use Rattle.mscp_control.proofs.Promise.Waits.{cut_of, waiting_below, waiting_waits}
 use Rattle.mscp_control.proofs.Promise.Apart.{Apart}
 use Rattle.mscp_control.proofs.Promise.Among.{alone}
@@ -143,8 +146,9 @@ held_passed : (t : Trace) (m : Moment) (x n : ℕ) → x < length t → done (t 
     → held_of (t ++ m ∷ []) x ≡ passed_by n (held_of t x)
 held_passed t m x n l d g p = λ i.
     let k = command_before t m x l in
+    let v = connection_before t m x l in
     record {
-      connection = connection t x;
+      connection = v i;
       command = k i;
       weight = order_weight (k i).order;
       done = d i;
@@ -232,11 +236,12 @@ held_own c t k y A B st e =
     let m = serving c t k y in
     let l = (below_parts t y A B st.serves.among.at).1.0 in
     let q = command_before t m y l in
+    let v = connection_before t m y l in
     let d = st.changes.own_done in
     let g = good_own c t k y l e in
     let p = passed_behind c t m (service_by c t k y) k y A B st y (omega arith) in
     λ i. record {
-      connection = connection t y;
+      connection = v i;
       command = q i;
       weight = order_weight (q i).order;
       done = d i;
@@ -325,10 +330,16 @@ unstarted_front c picks t place ds rs begun e n held u =
     (every_parts (λ x. passings.is_unstarted t x ≡ true) (take place W) (waiting_at t place ∷ drop (place + 1) W)
     (subst (AllByRecursion (λ x. passings.is_unstarted t x ≡ true)) (cut_at t place held.inside) all)).0
 
+-- the ends of a connection after a report
+pub of_after : (via : Connection) (us : Both (List End)) (report : Report)
+    → of via (ends_after us report) ≡ of via us ++ ends_reported via report
+of_after First us report = refl
+of_after Second us report = refl
+
 -- A step of the record at a place.
 pub turns_at : {K : Type 0} (picks : List Choice → ℕ → Type 0) (h h' : Holdings K) (t : Trace) (k : Block)
     (report : Report) (place : ℕ) → IsValid h.settings → Agrees h.settings t h
-    → ServesAt picks k (line_of h) report (line_of h') place → h'.untaken ≡ h.untaken ++ ends_reported report
+    → ServesAt picks k (line_of h) report (line_of h') place → h'.untaken ≡ ends_after h.untaken report
     → Turns h.settings picks t (events.Step k, entries.Stepped report) h.begun h'
 turns_at {K} picks h h' t k report place v a s u =
     let c = h.settings in
@@ -357,10 +368,10 @@ turns_at {K} picks h h' t k report place v a s u =
     ap (λ (l : Line K). l.waiting) s.left ∙ (ap (λ ws.
     waiting_after k (drive_of h.drives (record_at h.waiting place).command.unit) ws place) f.waits
     ∙ waiting_served c t k place (drive_of h.drives (record_at h.waiting place).command.unit) apart n at idle) in
-    let ends : h'.untaken ≡ untaken c t' =
-    u ∙ ((λ i. f.ends i ++ ends_reported (told i))
-    ∙ (ap (λ o. untaken c t ++ option_to_list o) (end_held c t k y)
-    ∙ sym (untaken_more c t m refl f.known.room.taken))) in
+    let ends : (via : Connection) → of via h'.untaken ≡ untaken c via t' = λ via.
+    ap (of via) u ∙ (of_after via h.untaken report ∙ ((λ i. f.ends via i ++ ends_reported via (told i))
+    ∙ (ap (λ o. untaken c via t ++ (if same_connection (connection t y) via then option_to_list o else []))
+    (end_held c t k y) ∙ sym (untaken_more c via t m refl (f.known.room.taken via))))) in
     let drives : h'.drives ≡ replaced (unit t y) (drive_after k (drive_by c t (unit t y)) (held_of t y)) h.drives =
     ap (λ (l : Line K). l.drives) s.left ∙ (λ i. replaced (own i).command.unit (drive_after k (at i) (own i))
     h.drives) in

@@ -8,6 +8,7 @@ use Rattle.mscp_queue.specs.declared.name.Name.{Name}
 use Rattle.mscp_queue.specs.Records.{Record, name_of}
 use Rattle.mscp_queue.specs.Serving.{IsNext, upcoming_of}
 use Rattle.mscp_control.specs.Settings.{Settings}
+use Rattle.mscp_control.specs.Both.{of}
 use Rattle.mscp_control.specs.History.{Trace}
 use Rattle.mscp_control.specs.Commands.{is_waiting, name, unit, waiting}
 use Rattle.mscp_control.specs.Legal.{IsLegal, IsPick, block_of}
@@ -29,8 +30,7 @@ agrees_same {K} c t h h' a e u =
       follows = record {
         known = a.follows.known;
         waits = ap (λ (l : Line K). l.waiting) e ∙ a.follows.waits;
-        ends =
-            u ∙ a.follows.ends;
+        ends = λ via. ap (of via) u ∙ a.follows.ends via;
       };
       driven = subst (Driven c t) (sym (ap (λ (l : Line K). l.drives) e)) a.driven;
     }

@@ -2,22 +2,21 @@
 use Rattle.std.proofs.Common.{◌≡◌, ◌≢◌, ℕ, ◌<◌, Bool, true, false, cond, not, List, [], ◌∷◌, ◌++◌, map, length, refl, ap, sym, ◌∙◌, subst, append-nil}
 use Rattle.std.specs.Prelude.{nat_eq, filter}
 use Rattle.std.specs.List.{AllByRecursion}
-use Rattle.std.proofs.lemmas.Bool.{or_parts, eqb-false}
-use Rattle.mscp_packet.specs.declared.command.Command.{Command}
+use Rattle.std.proofs.lemmas.Bool.{or_parts, eqb-false, true≢false}
 use Rattle.mscp_packet.specs.declared.end.End.{End}
 use Rattle.mscp_control.specs.Settings.{Settings}
 use Rattle.mscp_packet.specs.Commands.{command_of}
 use Rattle.mscp_control.specs.Arrival.{holds}
-use Rattle.mscp_control.specs.History.{Trace, Moment, queues, sent_bytes}
-use Rattle.mscp_control.specs.Commands.{name, reference, waiting, ends_in}
+use Rattle.mscp_control.specs.History.{Trace, Moment, connection_of, queues, sent_bytes}
+use Rattle.mscp_control.specs.Commands.{connection, name, reference, waiting, waiting_by, ends_in}
 use Rattle.mscp_control.specs.Account.{untaken, outstanding}
 use Rattle.mscp_control.specs.Legal.{IsRight}
-use Rattle.mscp_queue.specs.declared.name.Connection.TheVariants.{First}
 use Rattle.mscp_queue.specs.declared.name.Name.{Name}
-use Rattle.mscp_queue.specs.Names.{name_on}
+use Rattle.mscp_queue.specs.Names.{name_on, same_connection}
 use Rattle.mscp_queue.specs.Pairs.{Pairs}
+use Rattle.mscp_queue.proofs.Named.{own_side}
 use Rattle.mscp_queue.proofs.Lists.{every_kept, every_weaker, pairs_filter, pairs_append}
-use Rattle.mscp_control.proofs.Promise.Grows.{command_last, name_before, waiting_more}
+use Rattle.mscp_control.proofs.Promise.Grows.{command_last, connection_last, name_before, waiting_more}
 use Rattle.mscp_control.proofs.Promise.Waits.{waiting_below}
 use Rattle.mscp_control.proofs.Promise.Arrivals.{queued_right}
 
@@ -26,10 +25,10 @@ Apart t xs = Pairs (λ x y. name t x ≢ name t y) xs
 
 -- the name of what a moment queues
 abbrev pub queued_name : Moment → Name
-queued_name m = name_on First (command_of (sent_bytes m.0)).reference
+queued_name m = name_on (connection_of m.0) (command_of (sent_bytes m.0)).reference
 
 pub name_last : (t : Trace) (m : Moment) → name (t ++ m ∷ []) (length t) ≡ queued_name m
-name_last t m = ap (λ (k : Command). name_on First k.reference) (command_last t m)
+name_last t m = λ i. name_on (connection_last t m i) (command_last t m i).reference
 
 apart_from : (t : Trace) (m : Moment) (x : ℕ) (xs : List ℕ) → x < length t → AllByRecursion (λ y. y < length t) xs
     → AllByRecursion (λ y. name t x ≢ name t y) xs
@@ -60,16 +59,34 @@ new_apart t m (x ∷ xs) h a = (
       h.1 a.1,
 )
 
+-- what holds of each that passes a test
+each_passed : (P : ℕ → Type 0) (p : ℕ → Bool) (xs : List ℕ) → AllByRecursion P (filter p xs)
+    → AllByRecursion (λ x. p x ≡ true → P x) xs
+each_passed P p [] h = tt
+each_passed P p (x ∷ xs) h =
+    let both : (b : Bool) → p x ≡ b → AllByRecursion P (cond b (x ∷ filter p xs) (filter p xs))
+    → AllByRecursion (λ x. p x ≡ true → P x) (x ∷ xs) =
+    λ b. elim b as (λ b. p x ≡ b → AllByRecursion P (cond b (x ∷ filter p xs) (filter p xs))
+    → AllByRecursion (λ x. p x ≡ true → P x) (x ∷ xs)) [
+      | true ↦ λ e k. ((λ q. k.0), each_passed P p xs k.1)
+      | false ↦ λ e k. ((λ q. absurd (true≢false (sym q ∙ e))), each_passed P p xs k)
+    ] in
+    both (p x) refl h
+
 -- a queued command has a new name
 pub new_name : (c : Settings) (t : Trace) (m : Moment) → IsRight c t m.0 m.1 → queues m.1 ≡ true
     → AllByRecursion (λ x. name t x ≢ queued_name m) (waiting t)
 unfolding outstanding command_of
 new_name c t m r q =
     let new = (command_of (sent_bytes m.0)).reference in
-    every_weaker (λ x. reference t x ≢ new) (λ x. name t x ≢ queued_name m)
-    (λ x n e. n (ap (λ (k : Name). k.reference) e)) (waiting t)
-    (not_held (reference t) (waiting t) (map (λ (e : End). e.reference) (untaken c t)) new
-    (queued_right c t m.0 m.1 q r).taken.new)
+    let via = connection_of m.0 in
+    let on : ℕ → Bool = λ x. same_connection (connection t x) via in
+    every_weaker (λ x. on x ≡ true → reference t x ≢ new) (λ x. name t x ≢ queued_name m)
+    (λ x n e. n (ap (λ (k : Name). same_connection k.connection via) e ∙ own_side via)
+    (ap (λ (k : Name). k.reference) e)) (waiting t)
+    (each_passed (λ x. reference t x ≢ new) on (waiting t)
+    (not_held (reference t) (waiting_by via t) (map (λ (e : End). e.reference) (untaken c via t)) new
+    (queued_right c t m.0 m.1 q r).taken.new))
 
 -- A legal moment keeps the names apart.
 pub apart_more : (c : Settings) (t : Trace) (m : Moment) → IsRight c t m.0 m.1 → Apart t (waiting t)

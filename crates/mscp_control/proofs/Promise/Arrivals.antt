@@ -11,12 +11,13 @@ use Rattle.mscp_control.specs.declared.event.Event.{Event}
 use Rattle.mscp_control.specs.declared.event.Event.TheVariants as events
 use Rattle.mscp_control.specs.declared.event.Entry.{Entry}
 use Rattle.mscp_control.specs.declared.event.Entry.TheVariants as entries
+use Rattle.mscp_queue.specs.declared.name.Connection.{Connection}
 use Rattle.mscp_control.specs.Settings.{Settings}
 use Rattle.mscp_packet.specs.Number.{num}
 use Rattle.mscp_packet.specs.Opcodes.{class, is_immediate_class}
 use Rattle.mscp_packet.specs.Commands.{command_of}
 use Rattle.mscp_control.specs.Arrival.{is_queued, holds, refusal}
-use Rattle.mscp_control.specs.History.{Trace, queues, sent_bytes}
+use Rattle.mscp_control.specs.History.{Trace, connection_of, queues, sent_bytes}
 use Rattle.mscp_control.specs.Credits.{aborted_reference, taken_in, taken_unless, arrival}
 use Rattle.mscp_control.specs.Account.{balance, outstanding}
 use Rattle.mscp_control.specs.Legal.{IsRight}
@@ -55,53 +56,53 @@ sent_or : Sent → Result Sent SendFault → Sent
 sent_or s (Ok r) = r
 sent_or s (Err f) = s
 
-unless_ok : (c : Settings) (t : Trace) (command : Command) (s : Sent) (o : Option SendFault)
-    → Ok s ≡ taken_unless c t command o → (o ≡ None) × (s ≡ taken_in c t command)
+unless_ok : (c : Settings) (via : Connection) (t : Trace) (command : Command) (s : Sent) (o : Option SendFault)
+    → Ok s ≡ taken_unless c via t command o → (o ≡ None) × (s ≡ taken_in c via t command)
 unfolding sent_or
-unless_ok c t command s None h = (refl, ap (sent_or s) h)
-unless_ok c t command s (Some fault) h = absurd (true≢false (ap is_ok h))
+unless_ok c via t command s None h = (refl, ap (sent_or s) h)
+unless_ok c via t command s (Some fault) h = absurd (true≢false (ap is_ok h))
 
-pub record Arrives (c : Settings) (t : Trace) (b : List ℕ) (s : Sent) : Type 0 where
-  pub taken : IsTaken (balance c t) (outstanding c t) b
-  pub is : s ≡ taken_in c t (command_of b)
+pub record Arrives (c : Settings) (via : Connection) (t : Trace) (b : List ℕ) (s : Sent) : Type 0 where
+  pub taken : IsTaken (balance c via t) (outstanding c via t) b
+  pub is : s ≡ taken_in c via t (command_of b)
 
-pub arrives : (c : Settings) (t : Trace) (b : List ℕ) (s : Sent) → Ok s ≡ arrival c t b → Arrives c t b s
+pub arrives : (c : Settings) (via : Connection) (t : Trace) (b : List ℕ) (s : Sent) → Ok s ≡ arrival c via t b → Arrives c via t b s
 unfolding arrival
-arrives c t b s h =
-    let u = unless_ok c t (command_of b) s (refusal (balance c t) (outstanding c t) b) h in
-    record { taken = refusal_none (balance c t) (outstanding c t) b u.0; is = u.1 }
+arrives c via t b s h =
+    let u = unless_ok c via t (command_of b) s (refusal (balance c via t) (outstanding c via t) b) h in
+    record { taken = refusal_none (balance c via t) (outstanding c via t) b u.0; is = u.1 }
 
 is_queue : Sent → Bool
 is_queue (sents.Queued r) = true
 is_queue (sents.Answered r a) = false
 
 -- what is known of a message that was queued
-pub record Queues (c : Settings) (t : Trace) (b : List ℕ) : Type 0 where
-  pub taken : IsTaken (balance c t) (outstanding c t) b
+pub record Queues (c : Settings) (via : Connection) (t : Trace) (b : List ℕ) : Type 0 where
+  pub taken : IsTaken (balance c via t) (outstanding c via t) b
   pub waits : is_queued c (command_of b) ≡ true
 
 -- what a command becomes, if it is queued or isn't
-abbrev pub taken_when : Settings → Trace → Command → Bool → Sent
-taken_when c t command q =
-    if q then sents.Queued command.reference else sents.Answered command.reference (aborted_reference c t command)
+abbrev pub taken_when : Settings → Connection → Trace → Command → Bool → Sent
+taken_when c via t command q =
+    if q then sents.Queued command.reference else sents.Answered command.reference (aborted_reference c via t command)
 
-queue_of : (c : Settings) (t : Trace) (command : Command) (r : ℕ) → sents.Queued r ≡ taken_in c t command
+queue_of : (c : Settings) (via : Connection) (t : Trace) (command : Command) (r : ℕ) → sents.Queued r ≡ taken_in c via t command
     → is_queued c command ≡ true
 unfolding is_queue
-queue_of c t command r h =
+queue_of c via t command r h =
     let both : (q : Bool) → is_queued c command ≡ q → is_queued c command ≡ true =
     λ q. elim q as (λ q. is_queued c command ≡ q → is_queued c command ≡ true) [
       | true ↦ λ e. e
-      | false ↦ λ e. absurd (true≢false (ap is_queue (h ∙ ap (taken_when c t command) e)))
+      | false ↦ λ e. absurd (true≢false (ap is_queue (h ∙ ap (taken_when c via t command) e)))
     ] in
     both (is_queued c command) refl
 
 pub queued_right : (c : Settings) (t : Trace) (event : Event) (entry : Entry) → queues entry ≡ true
-    → IsRight c t event entry → Queues c t (sent_bytes event)
-queued_right c t (events.Send b) (entries.Sent (Ok (sents.Queued r))) q h =
-    let a = arrives c t b.items (sents.Queued r) h in
-    record { taken = a.taken; waits = queue_of c t (command_of b.items) r a.is }
-queued_right c t (events.Step k) (entries.Sent (Ok (sents.Queued r))) q h = absurd h
-queued_right c t events.Take (entries.Sent (Ok (sents.Queued r))) q h = absurd h
-queued_right c t events.Look (entries.Sent (Ok (sents.Queued r))) q h = absurd h
+    → IsRight c t event entry → Queues c (connection_of event) t (sent_bytes event)
+queued_right c t (events.Send via b) (entries.Sent other (Ok (sents.Queued r))) q h =
+    let a = arrives c via t b.items (sents.Queued r) h.1 in
+    record { taken = a.taken; waits = queue_of c via t (command_of b.items) r a.is }
+queued_right c t (events.Step k) (entries.Sent other (Ok (sents.Queued r))) q h = absurd h
+queued_right c t (events.Take via) (entries.Sent other (Ok (sents.Queued r))) q h = absurd h
+queued_right c t events.Look (entries.Sent other (Ok (sents.Queued r))) q h = absurd h
 queued_right c t event entry q h = absurd (false≢true q)

@@ -12,11 +12,12 @@ use Rattle.mscp_control.specs.declared.event.Event.TheVariants as events
 use Rattle.mscp_control.specs.declared.event.Entry.TheVariants as entries
 use Rattle.mscp_packet.specs.Commands.{command_of}
 use Rattle.mscp_control.specs.Settings.{Settings}
-use Rattle.mscp_control.specs.History.{Trace, Moment, moment, positions, collect, last_or, queues, sent_bytes, is_good, is_step, takes}
-use Rattle.mscp_control.specs.Commands.{command, name, is_waiting, waiting, done, good, steps_after, serves_in, ends_in}
+use Rattle.mscp_control.specs.History.{Trace, Moment, moment, positions, collect, connection_of, last_or, queues, sent_bytes, is_good, is_step, takes}
+use Rattle.mscp_control.specs.Commands.{command, connection, name, is_waiting, waiting, done, good, steps_after, serves_in, ends_in}
 use Rattle.mscp_control.specs.Passing.{passed_at, passed}
 use Rattle.mscp_control.specs.Ends.{ends_at}
 use Rattle.mscp_control.specs.Account.{ends, untaken}
+use Rattle.mscp_queue.specs.declared.name.Connection.{Connection}
 use Rattle.mscp_queue.specs.declared.name.Connection.TheVariants.{First}
 use Rattle.mscp_queue.specs.declared.name.Name.{Name}
 use Rattle.mscp_queue.specs.Names.{name_on}
@@ -24,11 +25,11 @@ use Rattle.mscp_queue.proofs.Lists.{filter_on, filter_filter, sum_on, flat_on, e
 
 pub moment_before : (t : Trace) (m : Moment) (x : ℕ) → x < length t → moment (t ++ m ∷ []) x ≡ moment t x
 unfolding moment
-moment_before t m x h = get_or_append_left t (m ∷ []) (events.Take, entries.Taken None) x h
+moment_before t m x h = get_or_append_left t (m ∷ []) (events.Take First, entries.Taken First None) x h
 
 pub moment_last : (t : Trace) (m : Moment) → moment (t ++ m ∷ []) (length t) ≡ m
 unfolding moment
-moment_last t m = get_or_at t m [] (events.Take, entries.Taken None) (length t) refl
+moment_last t m = get_or_at t m [] (events.Take First, entries.Taken First None) (length t) refl
 
 pub positions_more : (t : Trace) (m : Moment) → positions (t ++ m ∷ []) ≡ positions t ++ length t ∷ []
 positions_more t m = ap (range_with_len 0) (length_push t m) ∙ range_more (length t)
@@ -73,8 +74,15 @@ pub command_last : (t : Trace) (m : Moment) → command (t ++ m ∷ []) (length 
 unfolding command
 command_last t m = ap (λ (n : Moment). command_of (sent_bytes n.0)) (moment_last t m)
 
+pub connection_before : (t : Trace) (m : Moment) (x : ℕ) → x < length t
+    → connection (t ++ m ∷ []) x ≡ connection t x
+connection_before t m x h = ap (λ (n : Moment). connection_of n.0) (moment_before t m x h)
+
+pub connection_last : (t : Trace) (m : Moment) → connection (t ++ m ∷ []) (length t) ≡ connection_of m.0
+connection_last t m = ap (λ (n : Moment). connection_of n.0) (moment_last t m)
+
 pub name_before : (t : Trace) (m : Moment) (x : ℕ) → x < length t → name (t ++ m ∷ []) x ≡ name t x
-name_before t m x h = ap (λ (k : Command). name_on First k.reference) (command_before t m x h)
+name_before t m x h = λ i. name_on (connection_before t m x h i) (command_before t m x h i).reference
 
 pub drop_before : (t : Trace) (m : Moment) (x : ℕ) → x < length t
     → drop (x + 1) (t ++ m ∷ []) ≡ drop (x + 1) t ++ m ∷ []
@@ -132,25 +140,25 @@ waiting_more t m =
     ∙ ap (λ b. filter (λ x. not (ends_in (name t x) m.1)) (filter (is_waiting t) (positions t))
     ++ cond b (length t ∷ []) []) (is_waiting_last t m)))
 
--- a count of what came after x, at a test of its command
-count_before : (p : Command → Moment → Bool) (t : Trace) (m : Moment) (x : ℕ) → x < length t
-    → count_by (p (command (t ++ m ∷ []) x)) (drop (x + 1) (t ++ m ∷ [])) ≡ count_by (p (command t x)) (drop (x + 1) t)
-    + cond (p (command t x) m) 1 0
+-- a count of what came after x, at a test of its name
+count_before : (p : Name → Moment → Bool) (t : Trace) (m : Moment) (x : ℕ) → x < length t
+    → count_by (p (name (t ++ m ∷ []) x)) (drop (x + 1) (t ++ m ∷ [])) ≡ count_by (p (name t x)) (drop (x + 1) t)
+    + cond (p (name t x) m) 1 0
 count_before p t m x h =
-    ap (λ (k : Command). count_by (p k) (drop (x + 1) (t ++ m ∷ []))) (command_before t m x h)
-    ∙ (ap (count_by (p (command t x))) (drop_before t m x h)
-    ∙ sum_by_push (λ (n : Moment). cond (p (command t x) n) 1 0) (drop (x + 1) t) m)
+    ap (λ (k : Name). count_by (p k) (drop (x + 1) (t ++ m ∷ []))) (name_before t m x h)
+    ∙ (ap (count_by (p (name t x))) (drop_before t m x h)
+    ∙ sum_by_push (λ (n : Moment). cond (p (name t x) n) 1 0) (drop (x + 1) t) m)
 
 -- How often a command was served after one more moment, and how often well.
 pub done_before : (t : Trace) (m : Moment) (x : ℕ) → x < length t
     → done (t ++ m ∷ []) x ≡ done t x + cond (serves_in (name t x) m.1) 1 0
 unfolding done
-done_before t m x h = count_before (λ k n. serves_in (name_on First k.reference) n.1) t m x h
+done_before t m x h = count_before (λ k n. serves_in k n.1) t m x h
 
 pub good_before : (t : Trace) (m : Moment) (x : ℕ) → x < length t
     → good (t ++ m ∷ []) x ≡ good t x + cond (serves_in (name t x) m.1 && is_good m.0) 1 0
 unfolding good
-good_before t m x h = count_before (λ k n. serves_in (name_on First k.reference) n.1 && is_good n.0) t m x h
+good_before t m x h = count_before (λ k n. serves_in k n.1 && is_good n.0) t m x h
 
 pub done_last : (t : Trace) (m : Moment) → done (t ++ m ∷ []) (length t) ≡ 0
 unfolding done
@@ -181,24 +189,26 @@ passed_more t m x =
 -- ---- ends
 
 -- The ends after one more moment: those before, and those that it makes.
-pub ends_more : (c : Settings) (t : Trace) (m : Moment) → ends c (t ++ m ∷ []) ≡ ends c t ++ ends_at c t m
+pub ends_more : (c : Settings) (via : Connection) (t : Trace) (m : Moment)
+    → ends c via (t ++ m ∷ []) ≡ ends c via t ++ ends_at c via t m
 unfolding ends
-ends_more c t m = collect_more (ends_at c) t m
+ends_more c via t m = collect_more (ends_at c via) t m
 
-pub taken_more : (t : Trace) (m : Moment) → count_by (λ n. takes n.1) (t ++ m ∷ []) ≡ count_by (λ n. takes n.1) t
-    + cond (takes m.1) 1 0
-taken_more t m = sum_by_push (λ (n : Moment). cond (takes n.1) 1 0) t m
+pub taken_more : (via : Connection) (t : Trace) (m : Moment) → count_by (λ n. takes via n.1) (t ++ m ∷ [])
+    ≡ count_by (λ n. takes via n.1) t + cond (takes via m.1) 1 0
+taken_more via t m = sum_by_push (λ (n : Moment). cond (takes via n.1) 1 0) t m
 
 -- Where nothing is taken, the ends that it makes come behind the untaken ones.
-pub untaken_more : (c : Settings) (t : Trace) (m : Moment) → takes m.1 ≡ false
-    → count_by (λ n. takes n.1) t ≤ length (ends c t) → untaken c (t ++ m ∷ []) ≡ untaken c t ++ ends_at c t m
+pub untaken_more : (c : Settings) (via : Connection) (t : Trace) (m : Moment) → takes via m.1 ≡ false
+    → count_by (λ n. takes via n.1) t ≤ length (ends c via t)
+    → untaken c via (t ++ m ∷ []) ≡ untaken c via t ++ ends_at c via t m
 unfolding untaken
-untaken_more c t m e h =
-    let k = count_by (λ (n : Moment). takes n.1) t in
-    let same : count_by (λ (n : Moment). takes n.1) (t ++ m ∷ []) ≡ k =
-    taken_more t m ∙ (ap (λ b. k + cond b 1 0) e ∙ omega arith) in
-    ap (λ n. drop n (ends c (t ++ m ∷ []))) same ∙ (ap (drop k) (ends_more c t m)
-    ∙ drop-append-le k (ends c t) (ends_at c t m) h)
+untaken_more c via t m e h =
+    let k = count_by (λ (n : Moment). takes via n.1) t in
+    let same : count_by (λ (n : Moment). takes via n.1) (t ++ m ∷ []) ≡ k =
+    taken_more via t m ∙ (ap (λ b. k + cond b 1 0) e ∙ omega arith) in
+    ap (λ n. drop n (ends c via (t ++ m ∷ []))) same ∙ (ap (drop k) (ends_more c via t m)
+    ∙ drop-append-le k (ends c via t) (ends_at c via t m) h)
 
 -- ---- steps
 

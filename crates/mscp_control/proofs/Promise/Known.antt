@@ -4,6 +4,7 @@ use Rattle.std.specs.Prelude.{None}
 use Rattle.std.proofs.lemmas.List.{take_more}
 use Rattle.mscp_control.specs.declared.event.Event.TheVariants as events
 use Rattle.mscp_control.specs.declared.event.Entry.TheVariants as entries
+use Rattle.mscp_queue.specs.declared.name.Connection.TheVariants.{First}
 use Rattle.mscp_control.specs.Settings.{Settings}
 use Rattle.mscp_control.specs.History.{Trace, Moment, moment}
 use Rattle.mscp_control.specs.Commands.{waiting}
@@ -18,7 +19,7 @@ use Rattle.mscp_control.proofs.Promise.Within.{Within, within_more}
 -- a part of a run, and the moment after it
 pub more_at : (t : Trace) (i : ℕ) → i < length t → take (i + 1) t ≡ take i t ++ moment t i ∷ []
 unfolding moment
-more_at t i h = take_more t i (events.Take, entries.Taken None) h
+more_at t i h = take_more t i (events.Take First, entries.Taken First None) h
 
 -- What holds of the empty run, and is kept by right moments, holds after every part of a legal run.
 pub by_moments : (c : Settings) (P : Trace → Type 0) → P []
@@ -50,7 +51,7 @@ known_more c l t m r k =
       room = room_more c t m r k.steady k.room;
       short = short;
       limited = limited_more c t m r k.steady k.limited;
-      within = within_more c t m r (falling c t m r k.steady) short k.within;
+      within = within_more c t m r k.room (falling c t m r k.steady) short k.within;
     }
 
 pub known : (c : Settings) → 1 ≤ c.longest → (t : Trace) → IsLegal c t → (i : ℕ) → i ≤ length t → Known c (take i t)

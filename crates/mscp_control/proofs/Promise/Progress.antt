@@ -1,6 +1,6 @@
 -- Each legal trace keeps its promise.
 use Rattle.std.proofs.Common.{◌≡◌, ◌≢◌, ℕ, zero, suc, ◌+◌, ◌<◌, ◌≤◌, Bool, true, false, cond, List, [], ◌∷◌, ◌++◌, take, get_or, length, refl, ap, sym, ◌∙◌, subst, append-nil, arith}
-use Rattle.std.specs.Prelude.{filter, Option, Some, None, Contains, Ok, Err}
+use Rattle.std.specs.Prelude.{filter, if◌then◌else◌, Option, Some, None, Contains, Ok, Err}
 use Rattle.std.proofs.lemmas.Bool.{false≢true}
 use Rattle.mscp_control.proofs.Promise.Alone.{oldest_starts, one_served}
 use Rattle.mscp_control.proofs.Promise.Shaped.{shaped}
@@ -22,8 +22,8 @@ use Rattle.mscp_control.specs.Figures.{figure, figure_of}
 use Rattle.mscp_control.specs.Ends.{answer, answer_to, ends_at}
 use Rattle.mscp_control.specs.Account.{ends}
 use Rattle.mscp_control.specs.Legal.{IsRight, IsLegal}
-use Rattle.mscp_control.specs.Headline.{IsFreeStart, Promise, TellsFigure, poll_end}
-use Rattle.mscp_queue.specs.declared.name.Connection.TheVariants.{First}
+use Rattle.mscp_control.specs.Headline.{IsFreeStart, LeavesOther, Promise, TellsFigure, poll_end}
+use Rattle.mscp_queue.specs.declared.name.Connection.{Connection}
 use Rattle.mscp_queue.specs.Names.{name_on}
 use Rattle.mscp_queue.proofs.Lists.{every_weaker, every_append, every_both}
 use Rattle.mscp_control.proofs.Promise.Among.{alone, figure_of_one}
@@ -33,6 +33,7 @@ use Rattle.mscp_control.proofs.Promise.Starts.{startable_of, startable_parts}
 use Rattle.mscp_control.proofs.Promise.Steady.{Steady}
 use Rattle.mscp_control.proofs.Promise.Falls.{figure_gone, figure_left, every_split}
 use Rattle.mscp_control.proofs.Promise.Falling.{falling}
+use Rattle.mscp_control.proofs.Promise.Others.{leaves_other}
 use Rattle.mscp_control.proofs.Promise.Known.{Known, known, more_at}
 
 -- what holds of each that waits, of one of them
@@ -129,12 +130,12 @@ small c t k x =
 -- ---- polls
 
 -- a poll's own end is its only one
-answered_by : (c : Settings) (t : Trace) (k : Command) (r : ℕ) → k.order ≡ orders.Status r
-    → answer_to c t k ≡ poll_end k r (figure_of c t (name_on First r)) ∷ []
-answered_by c t k r e =
+answered_by : (c : Settings) (via : Connection) (t : Trace) (k : Command) (r : ℕ) → k.order ≡ orders.Status r
+    → answer_to c via t k ≡ poll_end k r (figure_of c t (name_on via r)) ∷ []
+answered_by c via t k r e =
     let with_order : Order → Command = λ o. record { reference = k.reference; unit = k.unit; order = o } in
-    ap (λ o. answer_to c t (with_order o)) e
-    ∙ ap (λ o. poll_end (with_order o) r (figure_of c t (name_on First r)) ∷ []) (sym e)
+    ap (λ o. answer_to c via t (with_order o)) e
+    ∙ ap (λ o. poll_end (with_order o) r (figure_of c t (name_on via r)) ∷ []) (sym e)
 
 figure_told : (c : Settings) (t : Trace) → Steady c t → (x : ℕ) → Contains (waiting t) x
     → figure_of c t (name t x) ≡ figure c t x
@@ -144,19 +145,22 @@ figure_told c t steady x w =
     (λ A y B e. figure_of_one c t y A B (alone t y A B steady.apart (cut_of t A y B e)))) x w
 
 -- what is answered at once makes the ends of its answer
-ends_answered : (c : Settings) (t : Trace) (event : Event) (entry : Entry) → answers entry ≡ true
-    → ends_at c t (event, entry) ≡ answer c t (sent_bytes event)
-ends_answered c t event (entries.Sent (Ok (sents.Answered r aborted))) h = append-nil (answer c t (sent_bytes event))
-ends_answered c t event (entries.Sent (Ok (sents.Queued r))) h = absurd (false≢true h)
-ends_answered c t event (entries.Sent (Err fault)) h = absurd (false≢true h)
-ends_answered c t event (entries.Taken end) h = absurd (false≢true h)
-ends_answered c t event (entries.Stepped report) h = absurd (false≢true h)
-ends_answered c t event (entries.Looked list) h = absurd (false≢true h)
+ends_answered : (c : Settings) (via : Connection) (t : Trace) (event : Event) (entry : Entry)
+    → answers via entry ≡ true → ends_at c via t (event, entry) ≡ answer c via t (sent_bytes event)
+ends_answered c via t event (entries.Sent other (Ok (sents.Answered r aborted))) h =
+    let own = answer c via t (sent_bytes event) in
+    ap (λ b. (if b then own else []) ++ []) h ∙ append-nil own
+ends_answered c via t event (entries.Sent other (Ok (sents.Queued r))) h = absurd (false≢true h)
+ends_answered c via t event (entries.Sent other (Err fault)) h = absurd (false≢true h)
+ends_answered c via t event (entries.Taken other end) h = absurd (false≢true h)
+ends_answered c via t event (entries.Stepped report) h = absurd (false≢true h)
+ends_answered c via t event (entries.Looked list) h = absurd (false≢true h)
 
 told : (c : Settings) (t : Trace) (m : Moment) → TellsFigure c t m (t ++ m ∷ [])
 unfolding answer
-told c t m r a e =
-    ends_more c t m ∙ ap (λ l. ends c t ++ l) (ends_answered c t m.0 m.1 a ∙ answered_by c t (sent_command m) r e)
+told c t m via r a e =
+    ends_more c via t m
+    ∙ ap (λ l. ends c via t ++ l) (ends_answered c via t m.0 m.1 a ∙ answered_by c via t (sent_command m) r e)
 
 -- ---- the promise
 
@@ -167,6 +171,8 @@ progress c t valid legal =
     let fall = λ (i : ℕ) (h : i < length t). falling c (take i t) (moment t i) (legal i h) (before i h).steady in
     record {
       credits = λ i h. (at i h).room.room;
+      other = λ i h. subst (LeavesOther c (take i t) (moment t i)) (sym (more_at t i h))
+          (leaves_other c (take i t) (moment t i) (legal i h) (before i h).room);
       fences = λ i h. free_starts c (take i t) (moment t i) (legal i h) (before i h).steady;
       one_served = λ i h. one_served (take i t) (waiting (take i t)) (at i h).steady.single;
       oldest_starts = λ i h x. oldest_starts c (take i t) x;
@@ -182,5 +188,5 @@ progress c t valid legal =
       own = λ i h x w. figure_told c (take i t) (at i h).steady x w;
       polled = λ i h. subst (TellsFigure c (take i t) (moment t i)) (sym (more_at t i h))
           (told c (take i t) (moment t i));
-      shaped = shaped c t legal;
+      shaped = λ via. shaped c via t legal;
     }

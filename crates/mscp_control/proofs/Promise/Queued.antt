@@ -14,6 +14,7 @@ use Rattle.mscp_packet.specs.Commands.{order_with, command_of}
 use Rattle.mscp_drive.specs.Shape.{Shape}
 use Rattle.mscp_drive.specs.Extent.{blocks}
 use Rattle.mscp_drive.specs.Extent as extent
+use Rattle.mscp_queue.specs.declared.name.Connection.{Connection}
 use Rattle.mscp_control.specs.Settings.{Settings, unit_found}
 use Rattle.mscp_control.specs.Arrival.{move_fault, order_fault, fault_of, is_immediate, is_queued}
 use Rattle.mscp_queue.specs.Orders.{order_weight}
@@ -148,6 +149,6 @@ two_of n false i z h =
     both (nat_eq n 1) refl h
 
 -- Where a command is queued, two credits are free.
-pub two_free : (c : Settings) (t : Trace) (b : List ℕ) → Queues c t b → 2 ≤ balance c t
-two_free c t b q = two_of (balance c t) (is_immediate_class (class (slice_index b 8)))
+pub two_free : (c : Settings) (via : Connection) (t : Trace) (b : List ℕ) → Queues c via t b → 2 ≤ balance c via t
+two_free c via t b q = two_of (balance c via t) (is_immediate_class (class (slice_index b 8)))
     (class_queued c b (queued_open c (command_of b) q.waits)) q.taken.free q.taken.last

@@ -28,14 +28,14 @@ use Rattle.mscp_control.proofs.Promise.Among.{Alone, alone}
 pub ends_served : (r : Name) (entry : Entry) (s : Service) → service_in entry ≡ Some s
     → ends_in r entry ≡ service_ends r (Some s)
 ends_served r (entries.Stepped report) s e = ap (service_ends r) e
-ends_served r (entries.Sent sent) s e = absurd (false≢true (ap is_some e))
-ends_served r (entries.Taken taken) s e = absurd (false≢true (ap is_some e))
+ends_served r (entries.Sent to sent) s e = absurd (false≢true (ap is_some e))
+ends_served r (entries.Taken to taken) s e = absurd (false≢true (ap is_some e))
 ends_served r (entries.Looked list) s e = absurd (false≢true (ap is_some e))
 
 pub queues_served : (entry : Entry) (s : Service) → service_in entry ≡ Some s → queues entry ≡ false
 queues_served (entries.Stepped report) s e = refl
-queues_served (entries.Sent sent) s e = absurd (false≢true (ap is_some e))
-queues_served (entries.Taken taken) s e = absurd (false≢true (ap is_some e))
+queues_served (entries.Sent to sent) s e = absurd (false≢true (ap is_some e))
+queues_served (entries.Taken to taken) s e = absurd (false≢true (ap is_some e))
 queues_served (entries.Looked list) s e = absurd (false≢true (ap is_some e))
 
 some_value : {X : Type 0} → X → Option X → X
@@ -52,12 +52,12 @@ pub served_right : (c : Settings) (t : Trace) (event : Event) (entry : Entry) (s
 served_right c t (events.Step k) (entries.Stepped (reports.Served via reference unit lbn started seek ended)) s e h =
     (k, h.0, subst (λ (s : Service). IsServed c t k s h.0) (some_same _ s e) h.1)
 served_right c t event (entries.Stepped reports.Idle) s e h = absurd (false≢true (ap is_some e))
-served_right c t event (entries.Sent sent) s e h = absurd (false≢true (ap is_some e))
-served_right c t event (entries.Taken taken) s e h = absurd (false≢true (ap is_some e))
+served_right c t event (entries.Sent to sent) s e h = absurd (false≢true (ap is_some e))
+served_right c t event (entries.Taken to taken) s e h = absurd (false≢true (ap is_some e))
 served_right c t event (entries.Looked list) s e h = absurd (false≢true (ap is_some e))
-served_right c t events.Take (entries.Stepped (reports.Served via r u lbn q seek e')) s e h = absurd h
+served_right c t (events.Take from) (entries.Stepped (reports.Served via r u lbn q seek e')) s e h = absurd h
 served_right c t events.Look (entries.Stepped (reports.Served via r u lbn q seek e')) s e h = absurd h
-served_right c t (events.Send b) (entries.Stepped (reports.Served via r u lbn q seek e')) s e h =
+served_right c t (events.Send from b) (entries.Stepped (reports.Served via r u lbn q seek e')) s e h =
     absurd h
 
 -- ---- a step of y

@@ -13,6 +13,7 @@ use Rattle.mscp_packet.specs.declared.command.Order.{Order}
 use Rattle.mscp_packet.specs.declared.command.Order.TheVariants as orders
 use Rattle.mscp_packet.specs.Opcodes.{least, row_of, opcode_of, opcodes}
 use Rattle.mscp_packet.specs.Commands.{command_of, order_with, parameters}
+use Rattle.mscp_packet.specs.declared.end.End.{End}
 use Rattle.mscp_packet.specs.Ends.{IsOfKind, kind_of_body, kind_of_code}
 use Rattle.mscp_packet.specs.Statuses.{invalid_length}
 use Rattle.mscp_queue.specs.declared.block.Block.{Block}
@@ -24,6 +25,8 @@ use Rattle.mscp_queue.proofs.Lists.{every_append}
 use Rattle.mscp_queue.proofs.Placed.{found_is}
 use Rattle.mscp_control.specs.declared.event.Event.TheVariants as events
 use Rattle.mscp_control.specs.declared.event.Entry.TheVariants as entries
+use Rattle.mscp_queue.specs.declared.name.Connection.{Connection}
+use Rattle.mscp_queue.specs.Names.{same_connection}
 use Rattle.mscp_control.specs.Settings.{Settings, unit_shape}
 use Rattle.mscp_control.specs.Outcomes.{answer_body, own_end, own_end_with}
 use Rattle.mscp_control.specs.History.{Moment, Trace, moment, positions, collect, sent_bytes, answers}
@@ -108,11 +111,11 @@ aborted_kinds : (t : Trace) (xs : List ℕ) → AllByRecursion IsOfKind (map (λ
 aborted_kinds t [] = tt
 aborted_kinds t (x ∷ xs) = (aborted_kind (command t x) (good t x) (command_coded t x), aborted_kinds t xs)
 
-answer_kinds : (c : Settings) (t : Trace) (b : List ℕ) → AllByRecursion IsOfKind (answer c t b)
+answer_kinds : (c : Settings) (via : Connection) (t : Trace) (b : List ℕ) → AllByRecursion IsOfKind (answer c via t b)
 unfolding answer
-answer_kinds c t b =
-    every_append IsOfKind (map (λ x. aborted_end (command t x) (good t x)) (aborted c t (command_of b))) _
-    (aborted_kinds t (aborted c t (command_of b))) (own_kind c _ _ (command_of b) (coded b), tt)
+answer_kinds c via t b =
+    every_append IsOfKind (map (λ x. aborted_end (command t x) (good t x)) (aborted c via t (command_of b))) _
+    (aborted_kinds t (aborted c via t (command_of b))) (own_kind c _ _ (command_of b) (coded b), tt)
 
 outcome_kind : (c : Settings) (t : Trace) (k : Block) (y : ℕ) → IsOfKind (outcome c t k y)
 unfolding outcome
@@ -127,21 +130,30 @@ end_kinds c t k y =
       | false ↦ (outcome_kind c t k y, tt)
     ]
 
-sent_kinds : (c : Settings) (t : Trace) (b : List ℕ) (answered : Bool)
-    → AllByRecursion IsOfKind ((if answered then answer c t b else []) ++ [])
-sent_kinds c t b true = every_append IsOfKind (answer c t b) [] (answer_kinds c t b) tt
-sent_kinds c t b false = tt
+sent_kinds : (c : Settings) (via : Connection) (t : Trace) (b : List ℕ) (answered : Bool)
+    → AllByRecursion IsOfKind ((if answered then answer c via t b else []) ++ [])
+sent_kinds c via t b true = every_append IsOfKind (answer c via t b) [] (answer_kinds c via t b) tt
+sent_kinds c via t b false = tt
 
-moment_kinds : (c : Settings) (t : Trace) (m : Moment) → IsRight c t m.0 m.1 → AllByRecursion IsOfKind (ends_at c t m)
-moment_kinds c t (event, entries.Sent sent) h = sent_kinds c t (sent_bytes event) (answers (entries.Sent sent))
-moment_kinds c t (event, entries.Taken end) h = tt
-moment_kinds c t (event, entries.Looked list) h = tt
-moment_kinds c t (event, entries.Stepped reports.Idle) h = tt
-moment_kinds c t (events.Step k, entries.Stepped (reports.Served via reference unit lbn started seek ended)) (y, s) =
-    subst (λ e. AllByRecursion IsOfKind (option_to_list e)) (sym s.ended) (end_kinds c t k y)
-moment_kinds c t (events.Send b, entries.Stepped (reports.Served via r unit lbn started seek ended)) h = absurd h
-moment_kinds c t (events.Take, entries.Stepped (reports.Served via reference unit lbn started seek ended)) h = absurd h
-moment_kinds c t (events.Look, entries.Stepped (reports.Served via reference unit lbn started seek ended)) h = absurd h
+served_kinds : (here : Bool) (ended : Option End) → AllByRecursion IsOfKind (option_to_list ended)
+    → AllByRecursion IsOfKind (if here then option_to_list ended else [])
+served_kinds true ended h = h
+served_kinds false ended h = tt
+
+moment_kinds : (c : Settings) (via : Connection) (t : Trace) (m : Moment) → IsRight c t m.0 m.1
+    → AllByRecursion IsOfKind (ends_at c via t m)
+moment_kinds c via t (event, entries.Sent other sent) h =
+    sent_kinds c via t (sent_bytes event) (answers via (entries.Sent other sent))
+moment_kinds c via t (event, entries.Taken other end) h = tt
+moment_kinds c via t (event, entries.Looked list) h = tt
+moment_kinds c via t (event, entries.Stepped reports.Idle) h = tt
+moment_kinds c via t (events.Step k, entries.Stepped (reports.Served other reference unit lbn started seek ended))
+    (y, s) =
+    served_kinds (same_connection other via) ended
+    (subst (λ e. AllByRecursion IsOfKind (option_to_list e)) (sym s.ended) (end_kinds c t k y))
+moment_kinds c via t (events.Send o b, entries.Stepped (reports.Served other r unit lbn started seek ended)) h = absurd h
+moment_kinds c via t (events.Take o, entries.Stepped (reports.Served other r unit lbn started seek ended)) h = absurd h
+moment_kinds c via t (events.Look, entries.Stepped (reports.Served other r unit lbn started seek ended)) h = absurd h
 
 -- ---- all ends
 
@@ -156,10 +168,10 @@ every_range : (P : ℕ → Type 0) (a n : ℕ) → ((i : ℕ) → i < a + n → 
 every_range P a zero h = tt
 every_range P a (suc n) h = (h a (omega arith), every_range P (a + 1) n (λ i q. h i (omega (arith, q))))
 
-pub shaped : (c : Settings) (t : Trace) → IsLegal c t → All IsOfKind (ends c t)
+pub shaped : (c : Settings) (via : Connection) (t : Trace) → IsLegal c t → All IsOfKind (ends c via t)
 unfolding ends collect
-shaped c t l =
-    All-from_recursion IsOfKind (ends c t)
-    (every_flat IsOfKind (λ i. ends_at c (take i t) (moment t i)) (positions t)
-    (every_range (λ i. AllByRecursion IsOfKind (ends_at c (take i t) (moment t i))) 0 (length t)
-    (λ i q. moment_kinds c (take i t) (moment t i) (l i (omega (arith, q))))))
+shaped c via t l =
+    All-from_recursion IsOfKind (ends c via t)
+    (every_flat IsOfKind (λ i. ends_at c via (take i t) (moment t i)) (positions t)
+    (every_range (λ i. AllByRecursion IsOfKind (ends_at c via (take i t) (moment t i))) 0 (length t)
+    (λ i q. moment_kinds c via (take i t) (moment t i) (l i (omega (arith, q))))))

@@ -7,6 +7,7 @@ use Rattle.std.proofs.lemmas.List.Elements.{filter-append}
 use Rattle.std.proofs.lemmas.Bool.{le-ltb, lt-ltb, ltb-true, ltb-false, true≢false}
 use Rattle.mscp_control.specs.declared.event.Event.TheVariants as events
 use Rattle.mscp_control.specs.declared.event.Entry.TheVariants as entries
+use Rattle.mscp_queue.specs.declared.name.Connection.TheVariants.{First}
 use Rattle.mscp_control.specs.History.{Trace, Moment, moment, positions, queues}
 use Rattle.mscp_control.specs.Commands.{name, is_waiting, waiting, done, starts_in, ends_in, earlier, later}
 use Rattle.mscp_control.specs.Passing.{toll, passed_at, passed}
@@ -129,6 +130,6 @@ waits_below t y w =
       | true ↦ λ e. ltb-true y (length t) e
       | false ↦ λ e. absurd (true≢false (sym w ∙ ap
           (λ (n : Moment). queues n.1 && not (list_any (λ m. ends_in (name t y) m.1) (drop (y + 1) t)))
-          (get_or_past t y (events.Take, entries.Taken None) (ltb-false y (length t) e))))
+          (get_or_past t y (events.Take First, entries.Taken First None) (ltb-false y (length t) e))))
     ] in
     both (nat_lt y (length t)) refl

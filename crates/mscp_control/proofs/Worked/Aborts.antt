@@ -32,14 +32,14 @@ pub in_service_legal : IsLegal (settings 5 2) in_service
 unfolding moment collect command_of command is_waiting waiting done good passed_at passed is_free is_startable startable
     figure figure_of is_online head_cylinder head_up answer outcome ends untaken balance outstanding arrival block_of
 in_service_legal = legal_from (settings 5 2) in_service (
-  refl,
+  (refl, refl),
   (
     by_serving 0 refl refl refl,
     (
-      refl,
+      (refl, refl),
       (
-        refl,
-        (by_serving 3 refl refl refl, (refl, (refl, (refl, (refl, tt))))),
+        (refl, refl),
+        (by_serving 3 refl refl refl, ((refl, refl), ((refl, refl), ((refl, refl), ((refl, refl), tt))))),
       ),
     ),
   ),
@@ -63,16 +63,16 @@ pub passer_legal : IsLegal (settings 5 1) passer
 unfolding moment collect command_of command is_waiting waiting done good passed_at passed is_free is_startable startable
     figure figure_of is_online head_cylinder head_up answer outcome ends untaken balance outstanding arrival block_of
 passer_legal = legal_from (settings 5 1) passer (
-  refl,
+  (refl, refl),
   (
     by_serving 0 refl refl refl,
     (
-      refl,
+      (refl, refl),
       (
-        refl,
+        (refl, refl),
         (
-          refl,
-          (refl, (by_serving 4 refl refl refl, (refl, (refl, (refl, tt))))),
+          (refl, refl),
+          (refl, (by_serving 4 refl refl refl, (refl, ((refl, refl), (refl, tt))))),
         ),
       ),
     ),
@@ -102,16 +102,16 @@ pub spent_legal : IsLegal (with_budget 5 4) spent
 unfolding moment collect command_of command is_waiting waiting done good passed_at passed is_free is_startable startable
     figure figure_of is_online head_cylinder head_up answer outcome ends untaken balance outstanding arrival block_of
 spent_legal = legal_from (with_budget 5 4) spent (
-  refl,
+  (refl, refl),
   (
     by_serving 0 refl refl refl,
     (
-      refl,
+      (refl, refl),
       (
-        refl,
+        (refl, refl),
         (
-          refl,
-          (refl, (by_serving 4 refl refl refl, (refl, (refl, (refl, tt))))),
+          (refl, refl),
+          (refl, (by_serving 4 refl refl refl, (refl, ((refl, refl), (refl, tt))))),
         ),
       ),
     ),
@@ -141,16 +141,16 @@ pub overtaken_legal : IsLegal (settings 5 1) overtaken
 unfolding moment collect command_of command is_waiting waiting done good passed_at passed is_free is_startable startable
     figure figure_of is_online head_cylinder head_up answer outcome ends untaken balance outstanding arrival block_of
 overtaken_legal = legal_from (settings 5 1) overtaken (
-  refl,
+  (refl, refl),
   (
     by_serving 0 refl refl refl,
     (
-      refl,
+      (refl, refl),
       (
-        refl,
+        (refl, refl),
         (
-          refl,
-          (by_serving 4 refl refl refl, (refl, (refl, (refl, (refl, tt))))),
+          (refl, refl),
+          (by_serving 4 refl refl refl, (refl, ((refl, refl), (refl, ((refl, refl), tt))))),
         ),
       ),
     ),
@@ -169,7 +169,7 @@ nobody =
 pub nobody_legal : IsLegal (settings 4 2) nobody
 unfolding moment collect command_of command is_waiting waiting done good passed_at passed is_free is_startable startable
     figure figure_of is_online head_cylinder head_up answer outcome ends untaken balance outstanding arrival block_of
-nobody_legal = legal_from (settings 4 2) nobody (refl, (refl, (refl, (refl, tt))))
+nobody_legal = legal_from (settings 4 2) nobody ((refl, refl), ((refl, refl), ((refl, refl), ((refl, refl), tt))))
 
 -- A fence that is aborted before it starts, and an ABORT that names another unit than its command's: commands are found
 -- by their reference numbers alone.
@@ -189,6 +189,6 @@ pub fence_legal : IsLegal (settings 5 2) fence
 unfolding moment collect command_of command is_waiting waiting done good passed_at passed is_free is_startable startable
     figure figure_of is_online head_cylinder head_up answer outcome ends untaken balance outstanding arrival block_of
 fence_legal = legal_from (settings 5 2) fence (
-  refl,
-  (by_serving 0 refl refl refl, (refl, (refl, (refl, (refl, (refl, (refl, (refl, (refl, tt))))))))),
+  (refl, refl),
+  (by_serving 0 refl refl refl, ((refl, refl), ((refl, refl), ((refl, refl), (refl, ((refl, refl), (refl, ((refl, refl), ((refl, refl), tt))))))))),
 )

@@ -50,9 +50,9 @@ begun_and_aborted =
     ∷ plain (queued 2 0 (read 512 0))
     ∷ Begin (Some (one_block 1 60))
     ∷ plain (aborted 3 1)
-    ∷ Finish 1 Good (Err stale)
+    ∷ Finish First 1 Good (Err stale)
     ∷ Begin (Some (one_block 2 0))
-    ∷ Finish 2 Good (Ok (reports.Served First 2 0 (Some 0) true 0 (moved 2 0 0 512)))
+    ∷ Finish First 2 Good (Ok (reports.Served First 2 0 (Some 0) true 0 (moved 2 0 0 512)))
     ∷ []
 
 begun_legal : IsLegal (settings 8 8) (history begun_and_aborted)
@@ -60,7 +60,7 @@ unfolding moment collect command_of command is_waiting waiting done good passed_
     figure figure_of is_online head_cylinder head_up cost swept answer outcome ends untaken balance outstanding arrival
     block_of
 begun_legal = legal_from (settings 8 8) (history begun_and_aborted)
-    (refl, (by_serving 0 refl refl refl, (refl, (refl, (refl, (refl, (by_serving 4 refl refl refl, tt)))))))
+    ((refl, refl), (by_serving 0 refl refl refl, ((refl, refl), ((refl, refl), ((refl, refl), ((refl, refl), (by_serving 4 refl refl refl, tt)))))))
 
 -- It is told of the far one,
 far_told : IsForetold (settings 8 8) (history (take 4 begun_and_aborted)) (Some (one_block 1 60))
@@ -102,7 +102,7 @@ other_block_unserved h = let e = ap (λ o. unwrap_or o 1) (h (one_block 1 60) 3 
     absurd (omega (arith, e))
 
 -- and no finish of the far one may be stale.
-far_not_stale : HoldsToBegun (take 6 begun_and_aborted) (Finish 1 Good (Err stale)) → ⊥
+far_not_stale : HoldsToBegun (take 6 begun_and_aborted) (Finish First 1 Good (Err stale)) → ⊥
 far_not_stale h = h (one_block 1 60) 3 4 far_begun refl
 
 -- Once it is aborted it is begun no more,
@@ -149,9 +149,9 @@ number_again =
     take 8 begun_and_aborted
     ++ plain (took (1 ∷ 0 ∷ 0 ∷ 0 ∷ 0 ∷ 0 ∷ 0 ∷ 0 ∷ 0xA1 ∷ 0 ∷ 2 ∷ replicate 21 0))
     ∷ plain (queued 1 0 (read 512 80))
-    ∷ Finish 1 Good (Err stale)
+    ∷ Finish First 1 Good (Err stale)
     ∷ Begin (Some (one_block 1 80))
-    ∷ Finish 1 Good (Ok (reports.Served First 1 0 (Some 80) true 4 (moved 1 0 0 512)))
+    ∷ Finish First 1 Good (Ok (reports.Served First 1 0 (Some 80) true 4 (moved 1 0 0 512)))
     ∷ []
 
 again_legal : IsLegal (settings 8 8) (history number_again)
@@ -159,14 +159,14 @@ unfolding moment collect command_of command is_waiting waiting done good passed_
     figure figure_of is_online head_cylinder head_up cost swept answer outcome ends untaken balance outstanding arrival
     block_of
 again_legal = legal_from (settings 8 8) (history number_again) (
-  refl,
+  (refl, refl),
   (
     by_serving 0 refl refl refl,
     (
-      refl,
+      (refl, refl),
       (
-        refl,
-        (refl, (refl, (refl, (refl, (by_serving 7 refl refl refl, tt))))),
+        (refl, refl),
+        ((refl, refl), ((refl, refl), ((refl, refl), ((refl, refl), (by_serving 7 refl refl refl, tt))))),
       ),
     ),
   ),

@@ -31,8 +31,8 @@ pub empty_legal : IsLegal (settings 4 2) empty
 unfolding moment collect command_of command is_waiting waiting done good passed_at passed is_free is_startable startable
     figure figure_of is_online head_cylinder head_up answer outcome ends untaken balance outstanding arrival block_of
 empty_legal = legal_from (settings 4 2) empty (
-  refl,
-  (by_serving 0 refl refl refl, (refl, (refl, (refl, (by_serving 3 refl refl refl, (refl, tt)))))),
+  (refl, refl),
+  (by_serving 0 refl refl refl, ((refl, refl), ((refl, refl), (refl, (by_serving 3 refl refl refl, ((refl, refl), tt)))))),
 )
 
 -- A byte past a block takes a step of its own.
@@ -49,16 +49,16 @@ pub partial_legal : IsLegal (settings 4 2) partial
 unfolding moment collect command_of command is_waiting waiting done good passed_at passed is_free is_startable startable
     figure figure_of is_online head_cylinder head_up answer outcome ends untaken balance outstanding arrival block_of
 partial_legal = legal_from (settings 4 2) partial (
-  refl,
+  (refl, refl),
   (
     by_serving 0 refl refl refl,
     (
-      refl,
+      (refl, refl),
       (
-        refl,
+        (refl, refl),
         (
           by_serving 3 refl refl refl,
-          (by_serving 3 refl refl refl, (refl, tt)),
+          (by_serving 3 refl refl refl, ((refl, refl), tt)),
         ),
       ),
     ),
@@ -78,7 +78,7 @@ last_block =
 pub last_block_legal : IsLegal (settings 4 2) last_block
 unfolding moment collect command_of command is_waiting waiting done good passed_at passed is_free is_startable startable
     figure figure_of is_online head_cylinder head_up answer outcome ends untaken balance outstanding arrival block_of
-last_block_legal = legal_from (settings 4 2) last_block (refl, (refl, (refl, (refl, (refl, tt)))))
+last_block_legal = legal_from (settings 4 2) last_block ((refl, refl), ((refl, refl), ((refl, refl), ((refl, refl), ((refl, refl), tt)))))
 
 -- A transfer as long as may be is queued, and a longer one refused.
 abbrev pub longest : Trace
@@ -91,7 +91,7 @@ longest =
 pub longest_legal : IsLegal (settings 4 2) longest
 unfolding moment collect command_of command is_waiting waiting done good passed_at passed is_free is_startable startable
     figure figure_of is_online head_cylinder head_up answer outcome ends untaken balance outstanding arrival block_of
-longest_legal = legal_from (settings 4 2) longest (refl, (refl, (refl, tt)))
+longest_legal = legal_from (settings 4 2) longest ((refl, refl), ((refl, refl), ((refl, refl), tt)))
 
 -- A bad block ends its transfer with its status, and the blocks before it count.
 abbrev pub bad_block : Trace
@@ -107,14 +107,14 @@ pub bad_block_legal : IsLegal (settings 4 2) bad_block
 unfolding moment collect command_of command is_waiting waiting done good passed_at passed is_free is_startable startable
     figure figure_of is_online head_cylinder head_up answer outcome ends untaken balance outstanding arrival block_of
 bad_block_legal = legal_from (settings 4 2) bad_block (
-  refl,
+  (refl, refl),
   (
     by_serving 0 refl refl refl,
     (
-      refl,
+      (refl, refl),
       (
-        refl,
-        (by_serving 3 refl refl refl, (by_serving 3 refl refl refl, (refl, tt))),
+        (refl, refl),
+        (by_serving 3 refl refl refl, (by_serving 3 refl refl refl, ((refl, refl), tt))),
       ),
     ),
   ),
@@ -142,28 +142,28 @@ pub each_transfer_legal : IsLegal (settings 4 2) each_transfer
 unfolding moment collect command_of command is_waiting waiting done good passed_at passed is_free is_startable startable
     figure figure_of is_online head_cylinder head_up answer outcome ends untaken balance outstanding arrival block_of
 each_transfer_legal = legal_from (settings 4 2) each_transfer (
-  refl,
+  (refl, refl),
   (
     by_serving 0 refl refl refl,
     (
-      refl,
+      (refl, refl),
       (
-        refl,
+        (refl, refl),
         (
           by_serving 3 refl refl refl,
           (
-            refl,
+            (refl, refl),
             (
-              refl,
+              (refl, refl),
               (
                 by_serving 6 refl refl refl,
                 (
-                  refl,
+                  (refl, refl),
                   (
-                    refl,
+                    (refl, refl),
                     (
                       by_serving 9 refl refl refl,
-                      (refl, (refl, (by_serving 12 refl refl refl, (refl, tt)))),
+                      ((refl, refl), ((refl, refl), (by_serving 12 refl refl refl, ((refl, refl), tt)))),
                     ),
                   ),
                 ),

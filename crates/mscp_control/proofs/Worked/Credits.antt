@@ -11,6 +11,7 @@ use Rattle.mscp_control.specs.Passing.{passed_at, passed, is_free, is_startable,
 use Rattle.mscp_control.specs.Figures.{figure, figure_of}
 use Rattle.mscp_control.specs.Units.{is_online, head_cylinder, head_up}
 use Rattle.mscp_control.specs.Ends.{answer, outcome}
+use Rattle.mscp_queue.specs.declared.name.Connection.TheVariants.{First}
 use Rattle.mscp_control.specs.Account.{ends, untaken, balance, outstanding}
 use Rattle.mscp_control.specs.Credits.{arrival}
 use Rattle.mscp_control.specs.Legal.{IsLegal, block_of}
@@ -31,10 +32,10 @@ last_credit =
 pub last_credit_legal : IsLegal (settings 2 2) last_credit
 unfolding moment collect command_of command is_waiting waiting done good passed_at passed is_free is_startable startable
     figure figure_of is_online head_cylinder head_up answer outcome ends untaken balance outstanding arrival block_of
-last_credit_legal = legal_from (settings 2 2) last_credit (refl, (refl, (refl, (refl, (refl, (refl, tt))))))
+last_credit_legal = legal_from (settings 2 2) last_credit ((refl, refl), ((refl, refl), ((refl, refl), ((refl, refl), ((refl, refl), ((refl, refl), tt))))))
 
 -- One end is left.
-last_credit_balance : balance (settings 2 2) last_credit ≡ 0
+last_credit_balance : balance (settings 2 2) First last_credit ≡ 0
 unfolding moment collect command_of command is_waiting waiting done good passed_at passed is_free is_startable startable
     figure figure_of is_online head_cylinder head_up answer outcome ends untaken balance outstanding arrival block_of
 last_credit_balance = refl
@@ -54,7 +55,7 @@ doubled =
 pub doubled_legal : IsLegal (settings 4 2) doubled
 unfolding moment collect command_of command is_waiting waiting done good passed_at passed is_free is_startable startable
     figure figure_of is_online head_cylinder head_up answer outcome ends untaken balance outstanding arrival block_of
-doubled_legal = legal_from (settings 4 2) doubled (refl, (refl, (refl, (refl, (refl, tt)))))
+doubled_legal = legal_from (settings 4 2) doubled ((refl, refl), ((refl, refl), ((refl, refl), ((refl, refl), ((refl, refl), tt)))))
 
 -- A message of 11 bytes is too short and one of 65 too long, and neither costs a credit.
 abbrev pub lengths : Trace
@@ -66,10 +67,10 @@ lengths =
 pub lengths_legal : IsLegal (settings 4 2) lengths
 unfolding moment collect command_of command is_waiting waiting done good passed_at passed is_free is_startable startable
     figure figure_of is_online head_cylinder head_up answer outcome ends untaken balance outstanding arrival block_of
-lengths_legal = legal_from (settings 4 2) lengths (refl, (refl, tt))
+lengths_legal = legal_from (settings 4 2) lengths ((refl, refl), ((refl, refl), tt))
 
 -- All credits are there.
-lengths_balance : balance (settings 4 2) lengths ≡ 4
+lengths_balance : balance (settings 4 2) First lengths ≡ 4
 unfolding moment collect command_of command is_waiting waiting done good passed_at passed is_free is_startable startable
     figure figure_of is_online head_cylinder head_up answer outcome ends untaken balance outstanding arrival block_of
 lengths_balance = refl
@@ -85,7 +86,7 @@ nothing =
 pub nothing_legal : IsLegal (settings 4 2) nothing
 unfolding moment collect command_of command is_waiting waiting done good passed_at passed is_free is_startable startable
     figure figure_of is_online head_cylinder head_up answer outcome ends untaken balance outstanding arrival block_of
-nothing_legal = legal_from (settings 4 2) nothing (refl, (refl, (refl, tt)))
+nothing_legal = legal_from (settings 4 2) nothing (refl, ((refl, refl), (refl, tt)))
 
 -- Which messages the last credit is kept from is told by the opcode byte alone: an unknown opcode is refused, and a
 -- poll that is too short is taken.
@@ -100,4 +101,4 @@ by_opcode =
 pub by_opcode_legal : IsLegal (settings 2 2) by_opcode
 unfolding moment collect command_of command is_waiting waiting done good passed_at passed is_free is_startable startable
     figure figure_of is_online head_cylinder head_up answer outcome ends untaken balance outstanding arrival block_of
-by_opcode_legal = legal_from (settings 2 2) by_opcode (refl, (refl, (refl, (refl, tt))))
+by_opcode_legal = legal_from (settings 2 2) by_opcode ((refl, refl), ((refl, refl), ((refl, refl), ((refl, refl), tt))))

@@ -35,21 +35,21 @@ pub up_and_down_legal : IsLegal (settings 8 8) up_and_down
 unfolding moment collect command_of command is_waiting waiting done good passed_at passed is_free is_startable startable
     figure figure_of is_online head_cylinder head_up answer outcome ends untaken balance outstanding arrival block_of
 up_and_down_legal = legal_from (settings 8 8) up_and_down (
-  refl,
+  (refl, refl),
   (
     by_serving 0 refl refl refl,
     (
-      refl,
+      (refl, refl),
       (
-        refl,
+        (refl, refl),
         (
           by_serving 3 refl refl refl,
           (
-            refl,
+            (refl, refl),
             (
-              refl,
+              (refl, refl),
               (
-                refl,
+                (refl, refl),
                 (by_serving 6 refl refl refl, (by_serving 7 refl refl refl, (by_serving 5 refl refl refl, tt))),
               ),
             ),
@@ -93,16 +93,16 @@ pub carried_legal : IsLegal (settings 8 8) carried
 unfolding moment collect command_of command is_waiting waiting done good passed_at passed is_free is_startable startable
     figure figure_of is_online head_cylinder head_up answer outcome ends untaken balance outstanding arrival block_of
 carried_legal = legal_from (settings 8 8) carried (
-  refl,
+  (refl, refl),
   (
     by_serving 0 refl refl refl,
     (
-      refl,
+      (refl, refl),
       (
-        refl,
+        (refl, refl),
         (
           by_serving 3 refl refl refl,
-          (refl, (by_serving 5 refl refl refl, (by_serving 5 refl refl refl, tt))),
+          ((refl, refl), (by_serving 5 refl refl refl, (by_serving 5 refl refl refl, tt))),
         ),
       ),
     ),
@@ -133,7 +133,7 @@ pub bad_touched_legal : IsLegal (settings 4 2) bad_touched
 unfolding moment collect command_of command is_waiting waiting done good passed_at passed is_free is_startable startable
     figure figure_of is_online head_cylinder head_up answer outcome ends untaken balance outstanding arrival block_of
 bad_touched_legal = legal_from (settings 4 2) bad_touched
-    (refl, (by_serving 0 refl refl refl, (refl, (refl, (by_serving 3 refl refl refl, tt)))))
+    ((refl, refl), (by_serving 0 refl refl refl, ((refl, refl), ((refl, refl), (by_serving 3 refl refl refl, tt)))))
 
 -- The head is there.
 bad_touched_head : head (settings 4 2) bad_touched 0 ≡ record { cylinder = 40; up = true }
@@ -175,25 +175,25 @@ pub two_heads_legal : IsLegal (two_units 8 2) two_heads
 unfolding moment collect command_of command is_waiting waiting done good passed_at passed is_free is_startable startable
     figure figure_of is_online head_cylinder head_up answer outcome ends untaken balance outstanding arrival block_of
 two_heads_legal = legal_from (two_units 8 2) two_heads (
-  refl,
+  (refl, refl),
   (
-    refl,
+    (refl, refl),
     (
       by_serving 0 refl refl refl,
       (
         by_serving 1 refl refl refl,
         (
-          refl,
+          (refl, refl),
           (
-            refl,
+            (refl, refl),
             (
-              refl,
+              (refl, refl),
               (
-                refl,
+                (refl, refl),
                 (
-                  refl,
+                  (refl, refl),
                   (
-                    refl,
+                    (refl, refl),
                     (
                       by_serving 9 refl refl refl,
                       (by_serving 6 refl refl refl, (by_serving 7 refl refl refl, (by_serving 8 refl refl refl, tt))),

@@ -39,6 +39,7 @@ shape number = record {
 abbrev pub settings_of : List Shape → ℕ → ℕ → Settings
 settings_of units credits budget = record {
   credits = credits;
+  second = 0;
   budget = budget;
   longest = 8;
   timeout = 60;
@@ -64,33 +65,33 @@ abbrev pub read : ℕ → ℕ → Order
 read count block = orders.Move moves.Read count block
 
 abbrev pub message : ℕ → ℕ → Order → Event
-message r u o = events.Send (record { items = command_bytes (record { reference = r; unit = u; order = o }) })
+message r u o = events.Send First (record { items = command_bytes (record { reference = r; unit = u; order = o }) })
 
 abbrev pub raw : List ℕ → Result Sent SendFault → Moment
-raw b answer = (events.Send (record { items = b }), entries.Sent answer)
+raw b answer = (events.Send First (record { items = b }), entries.Sent First answer)
 
 abbrev pub queued : ℕ → ℕ → Order → Moment
-queued r u o = (message r u o, entries.Sent (Ok (sents.Queued r)))
+queued r u o = (message r u o, entries.Sent First (Ok (sents.Queued r)))
 
 abbrev pub answered : ℕ → ℕ → Order → Moment
-answered r u o = (message r u o, entries.Sent (Ok (sents.Answered r None)))
+answered r u o = (message r u o, entries.Sent First (Ok (sents.Answered r None)))
 
 -- an ABORT, to this unit, of the command of another reference number, which waits
 abbrev pub aborted_from : ℕ → ℕ → ℕ → Moment
-aborted_from u r other = (message r u (orders.Abort other), entries.Sent (Ok (sents.Answered r (Some other))))
+aborted_from u r other = (message r u (orders.Abort other), entries.Sent First (Ok (sents.Answered r (Some other))))
 
 -- the same to unit 0
 abbrev pub aborted : ℕ → ℕ → Moment
 aborted r other = aborted_from 0 r other
 
 abbrev pub refused : ℕ → ℕ → Order → SendFault → Moment
-refused r u o fault = (message r u o, entries.Sent (Err fault))
+refused r u o fault = (message r u o, entries.Sent First (Err fault))
 
 abbrev pub took : List ℕ → Moment
-took b = (events.Take, entries.Taken (Some (record { items = b })))
+took b = (events.Take First, entries.Taken First (Some (record { items = b })))
 
 abbrev pub took_none : Moment
-took_none = (events.Take, entries.Taken None)
+took_none = (events.Take First, entries.Taken First None)
 
 abbrev pub idle : Moment
 idle = (events.Step Good, entries.Stepped reports.Idle)

@@ -31,14 +31,14 @@ pub in_order_legal : IsLegal (settings 5 0) in_order
 unfolding moment collect command_of command is_waiting waiting done good passed_at passed is_free is_startable startable
     figure figure_of is_online head_cylinder head_up answer outcome ends untaken balance outstanding arrival block_of
 in_order_legal = legal_from (settings 5 0) in_order (
-  refl,
+  (refl, refl),
   (
     by_serving 0 refl refl refl,
     (
-      refl,
+      (refl, refl),
       (
-        refl,
-        (refl, (refl, (by_serving 3 refl refl refl, (by_serving 4 refl refl refl, (by_serving 5 refl refl refl, tt))))),
+        (refl, refl),
+        ((refl, refl), ((refl, refl), (by_serving 3 refl refl refl, (by_serving 4 refl refl refl, (by_serving 5 refl refl refl, tt))))),
       ),
     ),
   ),
@@ -76,17 +76,17 @@ pub passed_once_legal : IsLegal (with_budget 5 1) passed_once
 unfolding moment collect command_of command is_waiting waiting done good passed_at passed is_free is_startable startable
     figure figure_of is_online head_cylinder head_up answer outcome ends untaken balance outstanding arrival block_of
 passed_once_legal = legal_from (with_budget 5 1) passed_once (
-  refl,
+  (refl, refl),
   (
     by_serving 0 refl refl refl,
     (
-      refl,
+      (refl, refl),
       (
-        refl,
+        (refl, refl),
         (
-          refl,
+          (refl, refl),
           (
-            refl,
+            (refl, refl),
             (
               refl,
               (
@@ -135,14 +135,14 @@ pub passed_twice_legal : IsLegal (with_budget 5 2) passed_twice
 unfolding moment collect command_of command is_waiting waiting done good passed_at passed is_free is_startable startable
     figure figure_of is_online head_cylinder head_up answer outcome ends untaken balance outstanding arrival block_of
 passed_twice_legal = legal_from (with_budget 5 2) passed_twice (
-  refl,
+  (refl, refl),
   (
     by_serving 0 refl refl refl,
     (
-      refl,
+      (refl, refl),
       (
-        refl,
-        (refl, (refl, (by_serving 4 refl refl refl, (by_serving 5 refl refl refl, (by_serving 3 refl refl refl, tt))))),
+        (refl, refl),
+        ((refl, refl), ((refl, refl), (by_serving 4 refl refl refl, (by_serving 5 refl refl refl, (by_serving 3 refl refl refl, tt))))),
       ),
     ),
   ),
@@ -176,14 +176,14 @@ pub passed_each_legal : IsLegal (with_budget 8 1) passed_each
 unfolding moment collect command_of command is_waiting waiting done good passed_at passed is_free is_startable startable
     figure figure_of is_online head_cylinder head_up answer outcome ends untaken balance outstanding arrival block_of
 passed_each_legal = legal_from (with_budget 8 1) passed_each (
-  refl,
+  (refl, refl),
   (
     by_serving 0 refl refl refl,
     (
-      refl,
+      (refl, refl),
       (
-        refl,
-        (refl, (refl, (refl, (by_serving 6 refl refl refl, (by_serving 3 refl refl refl, tt))))),
+        (refl, refl),
+        ((refl, refl), ((refl, refl), ((refl, refl), (by_serving 6 refl refl refl, (by_serving 3 refl refl refl, tt))))),
       ),
     ),
   ),
@@ -216,7 +216,7 @@ pub overtaken_legal : IsLegal (settings 5 1) overtaken
 unfolding moment collect command_of command is_waiting waiting done good passed_at passed is_free is_startable startable
     figure figure_of is_online head_cylinder head_up answer outcome ends untaken balance outstanding arrival block_of
 overtaken_legal = legal_from (settings 5 1) overtaken
-    (refl, (by_serving 0 refl refl refl, (refl, (refl, (refl, (refl, (by_serving 4 refl refl refl, (refl, tt))))))))
+    ((refl, refl), (by_serving 0 refl refl refl, ((refl, refl), ((refl, refl), ((refl, refl), (refl, (by_serving 4 refl refl refl, (refl, tt))))))))
 
 -- Where a command is in service, none may start.
 overtaken_startable : startable (settings 5 1) (take 7 overtaken) ≡ []

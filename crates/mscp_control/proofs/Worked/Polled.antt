@@ -10,6 +10,7 @@ use Rattle.mscp_control.specs.Passing.{passed_at, passed, is_free, is_startable,
 use Rattle.mscp_control.specs.Figures.{figure, figure_of}
 use Rattle.mscp_control.specs.Units.{is_online, head_cylinder, head_up}
 use Rattle.mscp_control.specs.Ends.{answer, outcome}
+use Rattle.mscp_queue.specs.declared.name.Connection.TheVariants.{First}
 use Rattle.mscp_control.specs.Account.{ends, untaken, balance, outstanding}
 use Rattle.mscp_control.specs.Credits.{arrival}
 use Rattle.mscp_control.specs.Legal.{IsLegal, block_of}
@@ -34,16 +35,16 @@ pub polled_legal : IsLegal (settings 4 0) polled
 unfolding moment collect command_of command is_waiting waiting done good passed_at passed is_free is_startable startable
     figure figure_of is_online head_cylinder head_up answer outcome ends untaken balance outstanding arrival block_of
 polled_legal = legal_from (settings 4 0) polled (
-  refl,
+  (refl, refl),
   (
     by_serving 0 refl refl refl,
     (
-      refl,
+      (refl, refl),
       (
-        refl,
+        (refl, refl),
         (
-          refl,
-          (refl, (by_serving 3 refl refl refl, (refl, (refl, (by_serving 3 refl refl refl, (refl, tt)))))),
+          (refl, refl),
+          ((refl, refl), (by_serving 3 refl refl refl, ((refl, refl), ((refl, refl), (by_serving 3 refl refl refl, ((refl, refl), tt)))))),
         ),
       ),
     ),
@@ -74,16 +75,16 @@ pub watched_legal : IsLegal (settings 4 2) watched
 unfolding moment collect command_of command is_waiting waiting done good passed_at passed is_free is_startable startable
     figure figure_of is_online head_cylinder head_up answer outcome ends untaken balance outstanding arrival block_of
 watched_legal = legal_from (settings 4 2) watched (
-  refl,
+  (refl, refl),
   (
     by_serving 0 refl refl refl,
     (
-      refl,
+      (refl, refl),
       (
-        refl,
+        (refl, refl),
         (
-          refl,
-          (refl, (by_serving 3 refl refl refl, (refl, (by_serving 3 refl refl refl, (refl, tt))))),
+          (refl, refl),
+          ((refl, refl), (by_serving 3 refl refl refl, (refl, (by_serving 3 refl refl refl, ((refl, refl), tt))))),
         ),
       ),
     ),
@@ -97,7 +98,7 @@ unfolding moment collect command_of command is_waiting waiting done good passed_
 watched_figure = refl
 
 -- Where everything was taken all credits are back.
-watched_balance : balance (settings 4 2) watched ≡ 4
+watched_balance : balance (settings 4 2) First watched ≡ 4
 unfolding moment collect command_of command is_waiting waiting done good passed_at passed is_free is_startable startable
     figure figure_of is_online head_cylinder head_up answer outcome ends untaken balance outstanding arrival block_of
 watched_balance = refl
@@ -112,7 +113,7 @@ unknown_polled =
 pub unknown_polled_legal : IsLegal (settings 4 2) unknown_polled
 unfolding moment collect command_of command is_waiting waiting done good passed_at passed is_free is_startable startable
     figure figure_of is_online head_cylinder head_up answer outcome ends untaken balance outstanding arrival block_of
-unknown_polled_legal = legal_from (settings 4 2) unknown_polled (refl, (refl, tt))
+unknown_polled_legal = legal_from (settings 4 2) unknown_polled ((refl, refl), ((refl, refl), tt))
 
 -- A reference number that is used again names another command, which starts anew.
 abbrev pub used_again : Trace
@@ -132,18 +133,18 @@ pub used_again_legal : IsLegal (settings 4 2) used_again
 unfolding moment collect command_of command is_waiting waiting done good passed_at passed is_free is_startable startable
     figure figure_of is_online head_cylinder head_up answer outcome ends untaken balance outstanding arrival block_of
 used_again_legal = legal_from (settings 4 2) used_again (
-  refl,
+  (refl, refl),
   (
     by_serving 0 refl refl refl,
     (
-      refl,
+      (refl, refl),
       (
-        refl,
+        (refl, refl),
         (
           by_serving 3 refl refl refl,
           (
             by_serving 3 refl refl refl,
-            (refl, (refl, (refl, (by_serving 7 refl refl refl, (refl, tt))))),
+            ((refl, refl), ((refl, refl), (refl, (by_serving 7 refl refl refl, (refl, tt))))),
           ),
         ),
       ),

@@ -32,7 +32,7 @@ pub twice_online_legal : IsLegal (settings 4 2) twice_online
 unfolding moment collect command_of command is_waiting waiting done good passed_at passed is_free is_startable startable
     figure figure_of is_online head_cylinder head_up answer outcome ends untaken balance outstanding arrival block_of
 twice_online_legal = legal_from (settings 4 2) twice_online
-    (refl, (by_serving 0 refl refl refl, (refl, (refl, (by_serving 3 refl refl refl, (refl, tt))))))
+    ((refl, refl), (by_serving 0 refl refl refl, ((refl, refl), ((refl, refl), (by_serving 3 refl refl refl, ((refl, refl), tt))))))
 
 -- The unit stays online.
 twice_online_stays : is_online twice_online 0 ≡ true
@@ -64,20 +64,20 @@ pub made_available_legal : IsLegal (settings 5 2) made_available
 unfolding moment collect command_of command is_waiting waiting done good passed_at passed is_free is_startable startable
     figure figure_of is_online head_cylinder head_up answer outcome ends untaken balance outstanding arrival block_of
 made_available_legal = legal_from (settings 5 2) made_available (
-  refl,
+  (refl, refl),
   (
-    refl,
+    (refl, refl),
     (
-      refl,
+      (refl, refl),
       (
-        refl,
+        (refl, refl),
         (
           by_serving 0 refl refl refl,
           (
             by_serving 1 refl refl refl,
             (
               by_serving 2 refl refl refl,
-              (by_serving 3 refl refl refl, (refl, (refl, (refl, (refl, tt))))),
+              (by_serving 3 refl refl refl, ((refl, refl), ((refl, refl), ((refl, refl), ((refl, refl), tt))))),
             ),
           ),
         ),
@@ -127,20 +127,20 @@ pub available_before_bad_legal : IsLegal (settings 5 2) available_before_bad
 unfolding moment collect command_of command is_waiting waiting done good passed_at passed is_free is_startable startable
     figure figure_of is_online head_cylinder head_up answer outcome ends untaken balance outstanding arrival block_of
 available_before_bad_legal = legal_from (settings 5 2) available_before_bad (
-  refl,
+  (refl, refl),
   (
-    refl,
+    (refl, refl),
     (
-      refl,
+      (refl, refl),
       (
-        refl,
+        (refl, refl),
         (
           by_serving 0 refl refl refl,
           (
             by_serving 1 refl refl refl,
             (
               by_serving 2 refl refl refl,
-              (by_serving 3 refl refl refl, (refl, (refl, (refl, (refl, tt))))),
+              (by_serving 3 refl refl refl, ((refl, refl), ((refl, refl), ((refl, refl), ((refl, refl), tt))))),
             ),
           ),
         ),
@@ -172,7 +172,7 @@ pub bad_online_legal : IsLegal (settings 4 2) bad_online
 unfolding moment collect command_of command is_waiting waiting done good passed_at passed is_free is_startable startable
     figure figure_of is_online head_cylinder head_up answer outcome ends untaken balance outstanding arrival block_of
 bad_online_legal = legal_from (settings 4 2) bad_online
-    (refl, (by_serving 0 refl refl refl, (refl, (refl, (refl, tt)))))
+    ((refl, refl), (by_serving 0 refl refl refl, ((refl, refl), ((refl, refl), ((refl, refl), tt)))))
 
 -- The unit is available.
 bad_online_state : is_online bad_online 0 ≡ false
@@ -197,7 +197,7 @@ pub bad_available_legal : IsLegal (settings 4 2) bad_available
 unfolding moment collect command_of command is_waiting waiting done good passed_at passed is_free is_startable startable
     figure figure_of is_online head_cylinder head_up answer outcome ends untaken balance outstanding arrival block_of
 bad_available_legal = legal_from (settings 4 2) bad_available
-    (refl, (by_serving 0 refl refl refl, (refl, (refl, (by_serving 3 refl refl refl, (refl, (refl, (refl, tt))))))))
+    ((refl, refl), (by_serving 0 refl refl refl, ((refl, refl), ((refl, refl), (by_serving 3 refl refl refl, ((refl, refl), ((refl, refl), ((refl, refl), tt))))))))
 
 -- The unit is online.
 bad_available_state : is_online bad_available 0 ≡ true
@@ -217,7 +217,7 @@ unit_asked =
 pub unit_asked_legal : IsLegal (settings 4 2) unit_asked
 unfolding moment collect command_of command is_waiting waiting done good passed_at passed is_free is_startable startable
     figure figure_of is_online head_cylinder head_up answer outcome ends untaken balance outstanding arrival block_of
-unit_asked_legal = legal_from (settings 4 2) unit_asked (refl, (refl, tt))
+unit_asked_legal = legal_from (settings 4 2) unit_asked ((refl, refl), ((refl, refl), tt))
 
 -- The same of a unit that is online, with another status.
 abbrev pub unit_asked_online : Trace
@@ -233,7 +233,7 @@ pub unit_asked_online_legal : IsLegal (settings 4 2) unit_asked_online
 unfolding moment collect command_of command is_waiting waiting done good passed_at passed is_free is_startable startable
     figure figure_of is_online head_cylinder head_up answer outcome ends untaken balance outstanding arrival block_of
 unit_asked_online_legal = legal_from (settings 4 2) unit_asked_online
-    (refl, (by_serving 0 refl refl refl, (refl, (refl, (refl, tt)))))
+    ((refl, refl), (by_serving 0 refl refl refl, ((refl, refl), ((refl, refl), ((refl, refl), tt)))))
 
 -- SET UNIT CHARACTERISTICS tells of a unit that is available, and leaves it so.
 abbrev pub unit_set : Trace
@@ -255,7 +255,7 @@ unit_set =
 pub unit_set_legal : IsLegal (settings 4 2) unit_set
 unfolding moment collect command_of command is_waiting waiting done good passed_at passed is_free is_startable startable
     figure figure_of is_online head_cylinder head_up answer outcome ends untaken balance outstanding arrival block_of
-unit_set_legal = legal_from (settings 4 2) unit_set (refl, (by_serving 0 refl refl refl, (refl, tt)))
+unit_set_legal = legal_from (settings 4 2) unit_set ((refl, refl), (by_serving 0 refl refl refl, ((refl, refl), tt)))
 
 -- The unit is available.
 unit_set_state : is_online unit_set 0 ≡ false

@@ -158,27 +158,27 @@ unfolding moment collect command_of command is_waiting waiting done good passed_
     figure figure_of is_online head_cylinder head_up cost swept answer outcome ends untaken balance outstanding arrival
     block_of
 as_far_legal = legal_from (settings 8 8) as_far (
-  refl,
+  (refl, refl),
   (
     by_serving 0 refl refl refl,
     (
-      refl,
+      (refl, refl),
       (
-        refl,
+        (refl, refl),
         (
           by_serving 3 refl refl refl,
           (
-            refl,
+            (refl, refl),
             (
               by_serving 5 refl refl refl,
               (
                 by_serving 5 refl refl refl,
                 (
-                  refl,
+                  (refl, refl),
                   (
-                    refl,
+                    (refl, refl),
                     (
-                      refl,
+                      (refl, refl),
                       (
                         by_serving 9 refl refl refl,
                         (by_serving 10 refl refl refl, (by_serving 8 refl refl refl, tt)),

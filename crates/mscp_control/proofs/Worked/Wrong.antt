@@ -39,13 +39,13 @@ IsWrong c t m = IsRight c t m.0 m.1 → ⊥
 last_credit_taken : IsWrong (settings 2 2) (take 1 last_credit) (queued 2 0 (read 512 0))
 unfolding moment collect command_of command is_waiting waiting done good passed_at passed is_free is_startable startable
     figure figure_of is_online head_cylinder head_up answer outcome ends untaken balance outstanding arrival block_of
-last_credit_taken h = true≢false (ap is_ok h)
+last_credit_taken h = true≢false (ap is_ok h.1)
 
 -- Where a credit is free a poll isn't refused.
 refused_always : IsWrong (settings 2 2) [] (refused 1 0 (orders.Status 1) faults.NoCredit)
 unfolding moment collect command_of command is_waiting waiting done good passed_at passed is_free is_startable startable
     figure figure_of is_online head_cylinder head_up answer outcome ends untaken balance outstanding arrival block_of
-refused_always h = false≢true (ap is_ok h)
+refused_always h = false≢true (ap is_ok h.1)
 
 -- ---- steps of the one command that was queued
 
@@ -188,7 +188,7 @@ newest_first : IsWrong (settings 4 2) (answered 2 0 (orders.Status 77) ∷ answe
 unfolding moment collect command_of command is_waiting waiting done good passed_at passed is_free is_startable startable
     figure figure_of is_online head_cylinder head_up answer outcome ends untaken balance outstanding arrival block_of
     taken_byte
-newest_first h = let e : 3 ≡ 2 = ap taken_byte h in omega (arith, e)
+newest_first h = let e : 3 ≡ 2 = ap taken_byte h.1 in omega (arith, e)
 
 first_figure : List (Connection × ℕ × ℕ) → ℕ
 first_figure [] = 0

@@ -7,5 +7,5 @@ invariant_of-self g c =
     let h = c.self.inside in
     let k = c.self.invariant in
     held_fresh h.config (units_of h.queue.drives) h.queue.room h.queue.budget h.queue.longest h.queue.picker
-    c.reset.new.self c.clear.new.self.items k.valid k.units k.same_room k.same_budget k.same_longest
+    c.reset.new.self c.clear.new.self k.valid k.units k.same_room k.same_budget k.same_longest
     c.reset.ensures c.clear.ensures

@@ -12,28 +12,30 @@ use Rattle.mscp_control.proofs.controller.Controller.send.Goals as goal
 pub returns-in-None-clause-answer : goal.returns-in-None-clause-answer
 returns-in-None-clause-answer g c =
     let h = c.args.self.now in
+    let via = c.args.connection in
     let b = c.args.b.now in
     let command = c.in_ok-command.command in
-    let free : refusal (balance_of h) (outstanding_of h) b ≡ None =
-    taken (balance_of h) (outstanding_of h) b command c.in_ok-command.ensures.command
-    (ap (λ n. credit_fault (balance_of h) (outstanding_of h) n command.reference)
+    let free : refusal (balance_of via h) (outstanding_of via h) b ≡ None =
+    taken (balance_of via h) (outstanding_of via h) b command c.in_ok-command.ensures.command
+    (ap (λ n. credit_fault (balance_of via h) (outstanding_of via h) n command.reference)
     (sym (c.opcode.ensures ∙ c.in_ok-command.ensures.opcode))
     ∙ (sym c.credit_fault.ensures.fault ∙ c.in-None.is)) in
-    ap Ok (c.arrive.ensures.sent ∙ ap (taken_as h) (command_is b command c.in_ok-command.ensures.command))
-    ∙ sym (ap (sent_unless h (command_of b)) free)
+    ap Ok (c.arrive.ensures.sent ∙ ap (taken_as via h) (command_is b command c.in_ok-command.ensures.command))
+    ∙ sym (ap (sent_unless via h (command_of b)) free)
 
 pub returns-in-None-clause-after : goal.returns-in-None-clause-after
 returns-in-None-clause-after g c =
     let h = c.args.self.now in
+    let via = c.args.connection in
     let b = c.args.b.now in
     let command = c.in_ok-command.command in
-    let free : refusal (balance_of h) (outstanding_of h) b ≡ None =
-    taken (balance_of h) (outstanding_of h) b command c.in_ok-command.ensures.command
-    (ap (λ n. credit_fault (balance_of h) (outstanding_of h) n command.reference)
+    let free : refusal (balance_of via h) (outstanding_of via h) b ≡ None =
+    taken (balance_of via h) (outstanding_of via h) b command c.in_ok-command.ensures.command
+    (ap (λ n. credit_fault (balance_of via h) (outstanding_of via h) n command.reference)
     (sym (c.opcode.ensures ∙ c.in_ok-command.ensures.opcode))
     ∙ (sym c.credit_fault.ensures.fault ∙ c.in-None.is)) in
-    c.arrive.ensures.after ∙ ap (arrives h) (command_is b command c.in_ok-command.ensures.command)
-    ∙ sym (ap (held_unless h (command_of b)) free)
+    c.arrive.ensures.after ∙ ap (arrives via h) (command_is b command c.in_ok-command.ensures.command)
+    ∙ sym (ap (held_unless via h (command_of b)) free)
 
 pub arrive-requires-clause-coded : goal.arrive-requires-clause-coded
 arrive-requires-clause-coded g c =
