@@ -8,9 +8,10 @@ use Rattle.mscp_reader.specs.declared.fault.Cause.TheVariants as causes
 use Rattle.mscp_reader.specs.declared.fault.ScriptFault.{ScriptFault}
 use Rattle.mscp_reader.specs.declared.fault.ReadFault.{ReadFault}
 use Rattle.mscp_reader.specs.declared.fault.ReadFault.TheVariants as faults
+use Rattle.mscp_control.specs.Both.{Both}
 use Rattle.mscp_control.specs.Settings.{Settings}
 use Rattle.mscp_control.specs.declared.event.Event.{Event}
-use Rattle.mscp_reader.specs.Grammar.{Place, next_unless_skipped, Begins, HasBudget, HasCredits, HasPassing, HasLongest, HasTimeout, HasUnits, HasGone, IsInHeader, said_at, next, after_line, limit, limits, first_units, unit_or_go}
+use Rattle.mscp_reader.specs.Grammar.{Place, next_unless_skipped, Begins, HasBudget, HasCredits, HasPassing, HasLongest, HasTimeout, HasUnits, HasGone, IsInHeader, said_at, next, after_line, credits, limit, limits, first_units, unit_or_go}
 use Rattle.mscp_reader.specs.Outcome.{Fails, Sets, Leads, budget_of, in_line, limited, lines_outcome, onward, all_read}
 use Rattle.mscp_reader.specs.declared.header.Limit.{Limit}
 use Rattle.mscp_reader.specs.declared.header.Limit.TheVariants as ways
@@ -104,21 +105,21 @@ pub gives_same : {Y Z : Type 0} (make : Y → Z) (r read : Result Y Cause) → r
 gives_same make (Ok x) read e = rw (← e) refl
 gives_same make (Err cause) read e = rw (← e) refl
 
-pub sets_credits : Sets Begins (codes "credits") 4294967295 HasCredits
+pub next_credits : (words : List (List ℕ)) → next Begins words ≡ credits words
 unfolding next
-sets_credits = (tt, λ words. refl)
+next_credits words = refl
 
-pub next_limit : (c : ℕ) (words : List (List ℕ)) → next (HasCredits c) words ≡ limit c words
+pub next_limit : (c : Both ℕ) (words : List (List ℕ)) → next (HasCredits c) words ≡ limit c words
 unfolding next
 next_limit c words = refl
 
-pub sets_longest : (c : ℕ) (l : Limit)
+pub sets_longest : (c : Both ℕ) (l : Limit)
     → Sets (limited c l) (codes "longest") 4294967295 (λ n. HasLongest c (budget_of l n) n)
 unfolding next
 sets_longest c (ways.Budget blocks) = (tt, λ words. refl)
 sets_longest c (ways.Passing passes) = (tt, λ words. refl)
 
-pub sets_timeout : (c q l : ℕ) → Sets (HasLongest c q l) (codes "timeout") 65535 (λ t. HasTimeout (limits c q l t))
+pub sets_timeout : (c : Both ℕ) (q l : ℕ) → Sets (HasLongest c q l) (codes "timeout") 65535 (λ t. HasTimeout (limits c q l t))
 unfolding next
 sets_timeout c q l = (tt, λ words. refl)
 

@@ -23,6 +23,7 @@ use Rattle.mscp_reader.specs.declared.events.Request.TheVariants as requests
 use Rattle.mscp_reader.specs.declared.fault.Cause.{Cause}
 use Rattle.mscp_reader.specs.declared.fault.Cause.TheVariants as causes
 use Rattle.mscp_reader.specs.declared.plain.Plain.{Plain}
+use Rattle.mscp_queue.specs.declared.name.Connection.TheVariants.{First}
 use Rattle.mscp_control.specs.Settings.{Settings}
 use Rattle.mscp_control.specs.declared.event.Event.{Event}
 use Rattle.mscp_reader.proofs.Outcomes.{speaks}
@@ -191,7 +192,7 @@ narrow_is word v h small = narrow_case (digits_value 10 word) v (is_numeral word
 
 pub transfer_asks : (kind : MoveKind) (xs ys zs us vs : List ℕ) (r u c b : ℕ) → CutsWord wide r xs ys
     → CutsWord narrow u ys zs → CutsWord wide c zs us → CutsWord wide b us vs
-    → Asks (forms.Transfer kind) (sent r u (orders.Move kind c b)) xs vs
+    → Asks (forms.Transfer kind) (sent First r u (orders.Move kind c b)) xs vs
 unfolding asked
 transfer_asks kind xs ys zs us vs r u c b p q s t = (
   p.0 ∷ q.0 ∷ s.0 ∷ t.0 ∷ [],
@@ -200,7 +201,7 @@ transfer_asks kind xs ys zs us vs r u c b p q s t = (
 )
 
 pub other_asks : (order : Order) (xs ys zs : List ℕ) (r u : ℕ) → CutsWord wide r xs ys → CutsWord narrow u ys zs
-    → Asks (forms.Plain order) (sent r u order) xs zs
+    → Asks (forms.Plain order) (sent First r u order) xs zs
 unfolding asked
 other_asks order xs ys zs r u p q = (
   p.0 ∷ q.0 ∷ [],
@@ -210,7 +211,7 @@ other_asks order xs ys zs r u p q = (
 )
 
 pub poll_asks : (xs ys zs : List ℕ) (r o : ℕ) → CutsWord wide r xs ys → CutsWord wide o ys zs
-    → Asks forms.Status (sent r 0 (orders.Status o)) xs zs
+    → Asks forms.Status (sent First r 0 (orders.Status o)) xs zs
 unfolding asked
 poll_asks xs ys zs r o p q = (p.0 ∷ q.0 ∷ [], rw (p.1, q.1) refl, λ more behind e. p.2 _ behind (q.2 more behind e))
 
@@ -221,7 +222,7 @@ steps_asks xs ys n p low high =
     let fits : steps_in n ≡ Ok n = grind (arith, nat_tests) in
     (p.0 ∷ [], rw (p.1, fits) refl, λ more behind e. p.2 more behind e)
 
-pub take_asks : (xs : List ℕ) → Asks forms.Take requests.Take xs xs
+pub take_asks : (xs : List ℕ) → Asks forms.Take (requests.Take First) xs xs
 unfolding asked
 take_asks xs = ([], refl, λ more behind e. e)
 

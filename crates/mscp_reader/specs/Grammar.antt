@@ -3,6 +3,7 @@ use Rattle.std.specs.Prelude.{◌≡◌, ℕ, ◌+◌, ◌*◌, ◌<◌, ◌≤�
 use Rattle.std.specs.List.{list_all}
 use Rattle.std.specs.Str.{bytes_eq}
 use Rattle.mscp_drive.specs.Shape.{Shape}
+use Rattle.mscp_control.specs.Both.{Both}
 use Rattle.mscp_control.specs.Settings.{Settings, configured}
 use Rattle.mscp_control.specs.declared.config.ConfigFault.{ConfigFault}
 use Rattle.mscp_control.specs.declared.event.Event.{Event}
@@ -19,6 +20,18 @@ use Rattle.mscp_reader.specs.declared.fault.ScriptFault.{ScriptFault}
 unfoldable pub setting : List ℕ → ℕ → List (List ℕ) → Result ℕ Cause
 setting name most [] = Err causes.Word
 setting name most (word ∷ fields) = if bytes_eq word name then (one fields >>= number most) else Err causes.Word
+
+-- the credits of these fields: those of the first connection, and those of the second, which has none where nothing is
+-- said (profile)
+unfoldable pub credits_of : List (List ℕ) → Result (Both ℕ) Cause
+credits_of (a ∷ []) = do
+  first ← wide a
+  Ok (record { first = first; second = 0 })
+credits_of (a ∷ b ∷ []) = do
+  first ← wide a
+  second ← wide b
+  Ok (record { first = first; second = second })
+credits_of fields = Err causes.Count
 
 -- no size of a unit is zero (profile)
 abbrev pub has_sizes : Shape → Bool
@@ -68,18 +81,25 @@ valid (Err fault) = Err causes.Config
 -- a unit has to come, a unit or `go` may come, and events may come, after these.
 pub data Place : Type 0 where
   Begins : Place
-  HasCredits : (credits : ℕ) → Place
-  HasBudget : (credits budget : ℕ) → Place
-  HasPassing : (credits passing : ℕ) → Place
-  HasLongest : (credits budget longest : ℕ) → Place
+  HasCredits : (credits : Both ℕ) → Place
+  HasBudget : (credits : Both ℕ) (budget : ℕ) → Place
+  HasPassing : (credits : Both ℕ) (passing : ℕ) → Place
+  HasLongest : (credits : Both ℕ) (budget longest : ℕ) → Place
   HasTimeout : (settings : Settings) → Place
   HasUnits : (settings : Settings) → Place
   HasGone : (settings : Settings) (events : List Event) → Place
 
 -- settings of no unit yet, of a controller with identifier 1 (profile)
-abbrev pub limits : ℕ → ℕ → ℕ → ℕ → Settings
-limits credits budget longest timeout =
-    record { credits = credits; budget = budget; longest = longest; timeout = timeout; id = 1; units = [] }
+abbrev pub limits : Both ℕ → ℕ → ℕ → ℕ → Settings
+limits credits budget longest timeout = record {
+  credits = credits.first;
+  second = credits.second;
+  budget = budget;
+  longest = longest;
+  timeout = timeout;
+  id = 1;
+  units = [];
+}
 
 -- units with the one of these fields
 unfoldable pub more_units : List Shape → List (List ℕ) → Result (List Shape) Cause
@@ -123,8 +143,14 @@ by_number made fields = do
   value ← number 4294967295 text
   Ok (made value)
 
+-- the line of the credits (profile)
+unfoldable pub credits : List (List ℕ) → Result Place Cause
+credits [] = Err causes.Word
+credits (word ∷ fields) =
+    if bytes_eq word (codes "credits") then (credits_of fields >>= λ all. Ok (HasCredits all)) else Err causes.Word
+
 -- the line of the budget, in blocks or in passes by the longest transfer (profile)
-unfoldable pub limit : ℕ → List (List ℕ) → Result Place Cause
+unfoldable pub limit : Both ℕ → List (List ℕ) → Result Place Cause
 limit credits [] = Err causes.Word
 limit credits (word ∷ fields) =
     if bytes_eq word (codes "budget") then by_number (HasBudget credits) fields else (
@@ -132,10 +158,8 @@ limit credits (word ∷ fields) =
 
 -- where a line of these words leads (profile)
 unfoldable pub next : Place → List (List ℕ) → Result Place Cause
-next Begins words = do
-  credits ← setting (codes "credits") 4294967295 words
-  Ok (HasCredits credits)
-next (HasCredits credits) words = limit credits words
+next Begins words = credits words
+next (HasCredits all) words = limit all words
 next (HasBudget credits budget) words = do
   longest ← setting (codes "longest") 4294967295 words
   Ok (HasLongest credits budget longest)

@@ -1,12 +1,14 @@
 -- The meaning of a script as one function, for the loops of its reader.
 use Rattle.std.specs.Prelude.{◌≡◌, ℕ, ◌+◌, ◌*◌, nat_lt, if◌then◌else◌, List, [], ◌∷◌, length, Option, Some, None, Result, Ok, Err}
 use Rattle.mscp_drive.specs.Shape.{Shape}
+use Rattle.mscp_control.specs.Both.{Both}
 use Rattle.mscp_control.specs.Settings.{Settings}
 use Rattle.mscp_control.specs.declared.event.Event.{Event}
 use Rattle.mscp_text.specs.Steps.{◌>>=◌}
 use Rattle.mscp_reader.specs.Lexical.{lines}
 use Rattle.mscp_reader.specs.Grammar.{Place, Begins, HasBudget, HasPassing, HasUnits, HasGone, IsInHeader, setting, next, after_line}
 use Rattle.mscp_reader.specs.declared.script.Script.{Script}
+use Rattle.mscp_reader.specs.declared.header.Credits.{Credits}
 use Rattle.mscp_reader.specs.declared.header.Limits.{Limits}
 use Rattle.mscp_reader.specs.declared.header.Limit.{Limit}
 use Rattle.mscp_reader.specs.declared.header.Limit.TheVariants as limits
@@ -70,15 +72,20 @@ abbrev pub budget_of : Limit → ℕ → ℕ
 budget_of (limits.Budget blocks) longest = blocks
 budget_of (limits.Passing passes) longest = passes * longest
 
+-- credits as they are read
+abbrev pub both_of : Credits → Both ℕ
+both_of credits = record { first = credits.first; second = credits.second }
+
 -- where the line of a limit leads
-abbrev pub limited : ℕ → Limit → Place
+abbrev pub limited : Both ℕ → Limit → Place
 limited credits (limits.Budget blocks) = HasBudget credits blocks
 limited credits (limits.Passing passes) = HasPassing credits passes
 
 -- the settings of limits and of units
 abbrev pub settled : Limits → List Shape → Settings
 settled l units = record {
-  credits = l.credits;
+  credits = l.credits.first;
+  second = l.credits.second;
   budget = budget_of l.limit l.longest;
   longest = l.longest;
   timeout = l.timeout;

@@ -2,6 +2,7 @@
 use Rattle.std.specs.Prelude.{◌≡◌, ℕ, ◌≤◌, ◌&&◌, nat_le, Bool, true, false, List, [], ◌∷◌, ◌++◌, length, take, Result, Ok}
 use Rattle.std.specs.List.{list_all}
 use Rattle.std.specs.Str.Parse.{digits_value}
+use Rattle.mscp_queue.specs.declared.name.Connection.TheVariants.{First}
 use Rattle.mscp_reader.specs.Lexical.{is_comment, is_digit, is_printed, words}
 use Rattle.mscp_reader.specs.Requests.{asked, request}
 use Rattle.mscp_reader.specs.declared.fault.Cause.{Cause}
@@ -14,10 +15,10 @@ use Rattle.mscp_reader.specs.declared.plain.Plain.TheVariants as plains
 abbrev pub is_letter : ℕ → Bool
 is_letter b = nat_le 97 b && nat_le b 122
 
--- what a plain line asks for, as a request of any line
+-- what a plain line asks for, as a request of any line: no plain line names the second connection
 abbrev pub plain_request : Plain → Request
-plain_request (plains.Send command) = requests.Send command
-plain_request plains.Take = requests.Take
+plain_request (plains.Send command) = requests.Send First command
+plain_request plains.Take = requests.Take First
 plain_request plains.Look = requests.Look
 plain_request (plains.Steps count) = requests.Steps count
 
@@ -44,7 +45,7 @@ CutsWord meaning value old new = (word : List ℕ) × (meaning word ≡ Ok value
 
 -- fields were cut off by which a line of this form asks for this
 abbrev pub Asks : Form → Request → List ℕ → List ℕ → Type 0
-Asks form what old new = (fields : List (List ℕ)) × (asked form fields ≡ Ok what) × Cuts old fields new
+Asks form what old new = (fields : List (List ℕ)) × (asked First form fields ≡ Ok what) × Cuts old fields new
 
 -- bytes begin with this many digits, 10 at most, and this is their value
 pub record IsNumeral (number digits : ℕ) (bytes : List ℕ) : Type 0 where

@@ -1,11 +1,13 @@
 -- What a line after the header asks for.
-use Rattle.std.specs.Prelude.{ℕ, if◌then◌else◌, List, [], ◌∷◌, replicate, codes, Option, Some, None, Result, Ok, Err}
+use Rattle.std.specs.Prelude.{ℕ, Bool, true, false, if◌then◌else◌, List, [], ◌∷◌, replicate, codes, Option, Some, None, Result, Ok, Err}
 use Rattle.std.specs.Str.{bytes_eq}
 use Rattle.mscp_packet.specs.Commands.{command_bytes}
 use Rattle.mscp_packet.specs.declared.command.Order.{Order}
 use Rattle.mscp_packet.specs.declared.command.Order.TheVariants as orders
 use Rattle.mscp_packet.specs.declared.command.MoveKind.TheVariants as moves
 use Rattle.mscp_queue.specs.declared.block.Block.TheVariants.{Good, Bad}
+use Rattle.mscp_queue.specs.declared.name.Connection.{Connection}
+use Rattle.mscp_queue.specs.declared.name.Connection.TheVariants.{First, Second}
 use Rattle.mscp_control.specs.declared.event.Event.{Event}
 use Rattle.mscp_control.specs.declared.event.Event.TheVariants as events
 use Rattle.mscp_text.specs.Steps.{◌>>=◌}
@@ -64,9 +66,9 @@ form_of word =
 
 -- ---- the fields
 
--- a command that the host sends
-abbrev pub sent : ℕ → ℕ → Order → Request
-sent reference unit order = requests.Send (record { reference = reference; unit = unit; order = order })
+-- a command that the host of a connection sends
+abbrev pub sent : Connection → ℕ → ℕ → Order → Request
+sent via reference unit order = requests.Send via (record { reference = reference; unit = unit; order = order })
 
 -- a request that has no fields
 abbrev pub alone : Request → List (List ℕ) → Result Request Cause
@@ -74,67 +76,85 @@ alone request fields = do
   f ← none fields
   Ok request
 
--- what a line of this form asks for by these fields (profile)
-unfoldable pub asked : Form → List (List ℕ) → Result Request Cause
-asked (forms.Transfer kind) fields = do
+-- what a line of this form asks for by these fields, where it is of the host of this connection, if it is of one
+-- (profile)
+unfoldable pub asked : Connection → Form → List (List ℕ) → Result Request Cause
+asked via (forms.Transfer kind) fields = do
   f ← four fields
   reference ← wide f.0
   unit ← narrow f.1
   count ← wide f.2
   block ← wide f.3
-  Ok (sent reference unit (orders.Move kind count block))
-asked (forms.Plain order) fields = do
+  Ok (sent via reference unit (orders.Move kind count block))
+asked via (forms.Plain order) fields = do
   f ← two fields
   reference ← wide f.0
   unit ← narrow f.1
-  Ok (sent reference unit order)
-asked forms.SetController fields = do
+  Ok (sent via reference unit order)
+asked via forms.SetController fields = do
   f ← one fields
   reference ← wide f
-  Ok (sent reference 0 (orders.SetController 0))
-asked forms.Abort fields = do
+  Ok (sent via reference 0 (orders.SetController 0))
+asked via forms.Abort fields = do
   f ← two fields
   reference ← wide f.0
   other ← wide f.1
-  Ok (sent reference 0 (orders.Abort other))
-asked forms.Status fields = do
+  Ok (sent via reference 0 (orders.Abort other))
+asked via forms.Status fields = do
   f ← two fields
   reference ← wide f.0
   other ← wide f.1
-  Ok (sent reference 0 (orders.Status other))
-asked forms.Packet fields = do
+  Ok (sent via reference 0 (orders.Status other))
+asked via forms.Packet fields = do
   f ← one fields
   bytes ← message f
-  Ok (requests.Packet (record { items = bytes }))
-asked forms.Step fields = do
+  Ok (requests.Packet via (record { items = bytes }))
+asked via forms.Step fields = do
   f ← one fields
   n ← wide f
   count ← steps_in n
   Ok (requests.Steps count)
-asked forms.Bad fields = do
+asked via forms.Bad fields = do
   f ← one fields
   n ← status f
   code ← bad_in n
   Ok (requests.Bad code)
-asked forms.Take fields = alone requests.Take fields
-asked forms.Look fields = alone requests.Look fields
+asked via forms.Take fields = alone (requests.Take via) fields
+asked via forms.Look fields = alone requests.Look fields
 
--- what a line of this form, if it is one, asks for
-abbrev pub asked_if : Option Form → List (List ℕ) → Result Request Cause
-asked_if None fields = Err causes.Word
-asked_if (Some form) fields = asked form fields
+-- a line of this form is of a host: something is sent or taken (profile)
+abbrev pub is_of_host : Form → Bool
+is_of_host forms.Step = false
+is_of_host forms.Bad = false
+is_of_host forms.Look = false
+is_of_host form = true
 
--- what the words of a line ask for (profile)
+-- what a line of this form asks for behind the word `second`: it has to be of a host (profile)
+abbrev pub asked_of_second : Option Form → List (List ℕ) → Result Request Cause
+asked_of_second None fields = Err causes.Word
+asked_of_second (Some form) fields = if is_of_host form then asked Second form fields else Err causes.Word
+
+-- what the words behind the word `second` ask for (profile)
+unfoldable pub second_request : List (List ℕ) → Result Request Cause
+second_request [] = Err causes.Count
+second_request (word ∷ fields) = asked_of_second (form_of word) fields
+
+-- what a line of this form asks for, or of no form, with this first word
+abbrev pub asked_if : Option Form → List ℕ → List (List ℕ) → Result Request Cause
+asked_if (Some form) word fields = asked First form fields
+asked_if None word fields = if bytes_eq word (codes "second") then second_request fields else Err causes.Word
+
+-- what the words of a line ask for. The first connection isn't named (profile)
 unfoldable pub request : List (List ℕ) → Result Request Cause
 request [] = Err causes.Word
-request (word ∷ fields) = asked_if (form_of word) fields
+request (word ∷ fields) = asked_if (form_of word) word fields
 
 -- ---- its events
 
 abbrev pub events_of : Request → List Event
-events_of (requests.Send command) = events.Send (record { items = command_bytes command }) ∷ []
-events_of (requests.Packet bytes) = events.Send bytes ∷ []
-events_of requests.Take = events.Take ∷ []
+events_of (requests.Send via command) = events.Send via (record { items = command_bytes command }) ∷ []
+events_of (requests.Packet via bytes) = events.Send via bytes ∷ []
+events_of (requests.Take via) = events.Take via ∷ []
 events_of requests.Look = events.Look ∷ []
 events_of (requests.Steps count) = replicate count (events.Step Good)
 events_of (requests.Bad code) = events.Step (Bad code) ∷ []

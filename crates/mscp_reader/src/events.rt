@@ -14,7 +14,7 @@ use crate::lines::{Line, Lines};
 use crate::numbers::{message, narrow, status, wide};
 use crate::words::Words;
 use arrayvec::ArrayVec;
-use mscp_control::{Block, Event, FaultStatus, OutOfMemory};
+use mscp_control::{Block, Connection, Event, FaultStatus, OutOfMemory};
 use mscp_packet::{Command, MoveKind, Order, write_command};
 use std::alloc::Global;
 
@@ -49,15 +49,24 @@ pub enum Form {
     Look,
 }
 
+impl Form {
+    /// Whether a line of this form is of a host: something is sent or taken.
+    fn is_of_host(self) -> bool
+        ensures { result ≡ requests.is_of_host self }
+    {
+        !matches!(self, Form::Step | Form::Bad | Form::Look)
+    }
+}
+
 /// What a line asks for.
 #[derive(Debug, Drop)]
 pub enum Request {
-    /// The host sends this command.
-    Send(Command),
-    /// The host sends these bytes.
-    Packet(ArrayVec<u8, 64>),
-    /// The host takes an end.
-    Take,
+    /// The connection's host sends this command.
+    Send(Connection, Command),
+    /// The connection's host sends these bytes.
+    Packet(Connection, ArrayVec<u8, 64>),
+    /// The connection's host takes an end.
+    Take(Connection),
     /// The drive serves so many good blocks.
     Steps(u32),
     /// The drive serves a bad block.
@@ -132,10 +141,23 @@ fn read_request(mut words: Words<'_>) -> Result<Request, Cause>
     let Some(word) = words.next_word() else {
         return Err(Cause::Word);
     };
-    let Some(form) = form_of(word) else {
-        return Err(Cause::Word);
-    };
-    read_fields(form, words)
+    match (form_of(word), word) {
+        (Some(form), _) => read_fields(Connection::First, form, words),
+        (None, b"second") => read_second(words),
+        (None, _) => Err(Cause::Word),
+    }
+}
+
+/// What the line asks for in which these words stand behind the word `second`.
+#[tactic(auto, unfolding(crate::specs::Requests::second_request))]
+fn read_second(mut words: Words<'_>) -> Result<Request, Cause>
+    ensures { result ≡ requests.second_request (lexical.words words.entry.rest.now) }
+{
+    let word = words.next_field()?;
+    match form_of(word) {
+        Some(form) if form.is_of_host() => read_fields(Connection::Second, form, words),
+        _ => Err(Cause::Word),
+    }
 }
 
 /// The form of the line of this first word. It is made part of its callers, which look at the form next.
@@ -166,21 +188,21 @@ pub fn form_of(word: &[u8]) -> Option<Form>
     }
 }
 
-/// What a line of this form asks for by these fields.
+/// What a line of this form asks for by these fields, of the connection's host where it is of a host.
 #[tactic(auto, unfolding(crate::specs::Requests::asked))]
-fn read_fields(form: Form, words: Words<'_>) -> Result<Request, Cause>
-    ensures { result ≡ requests.asked form (lexical.words words.entry.rest.now) }
+fn read_fields(connection: Connection, form: Form, words: Words<'_>) -> Result<Request, Cause>
+    ensures { result ≡ requests.asked connection form (lexical.words words.entry.rest.now) }
 {
     match form {
-        Form::Transfer(kind) => read_transfer(kind, words),
-        Form::Plain(order) => read_plain(order, words),
-        Form::SetController => read_controller(words),
-        Form::Abort => read_abort(words),
-        Form::Status => read_status(words),
-        Form::Packet => read_packet(words),
+        Form::Transfer(kind) => read_transfer(connection, kind, words),
+        Form::Plain(order) => read_plain(connection, order, words),
+        Form::SetController => read_controller(connection, words),
+        Form::Abort => read_abort(connection, words),
+        Form::Status => read_status(connection, words),
+        Form::Packet => read_packet(connection, words),
         Form::Step => read_steps(words),
         Form::Bad => read_bad(words),
-        Form::Take => alone(Request::Take, words),
+        Form::Take => alone(Request::Take(connection), words),
         Form::Look => alone(Request::Look, words),
     }
 }
@@ -195,81 +217,94 @@ fn alone(request: Request, words: Words<'_>) -> Result<Request, Cause>
 
 /// A transfer: its reference number, its unit, how many bytes, and the first block.
 #[tactic(auto, unfolding(crate::specs::Requests::asked))]
-fn read_transfer(kind: MoveKind, words: Words<'_>) -> Result<Request, Cause>
-    ensures { result ≡ requests.asked (Form.Transfer kind) (lexical.words words.entry.rest.now) }
+fn read_transfer(
+    connection: Connection,
+    kind: MoveKind,
+    words: Words<'_>,
+) -> Result<Request, Cause>
+    ensures { result ≡ requests.asked connection (Form.Transfer kind) (lexical.words words.entry.rest.now) }
 {
     let (reference, unit, count, block) = words.four()?;
-    Ok(Request::Send(Command {
+    let command = Command {
         reference: wide(reference)?,
         unit: narrow(unit)?,
         order: Order::Move(kind, wide(count)?, wide(block)?),
-    }))
+    };
+    Ok(Request::Send(connection, command))
 }
 
 /// Another command to a unit: its reference number, and its unit.
 #[tactic(auto, unfolding(crate::specs::Requests::asked))]
-fn read_plain(order: Order, words: Words<'_>) -> Result<Request, Cause>
-    ensures { result ≡ requests.asked (Form.Plain order) (lexical.words words.entry.rest.now) }
+fn read_plain(
+    connection: Connection,
+    order: Order,
+    words: Words<'_>,
+) -> Result<Request, Cause>
+    ensures { result ≡ requests.asked connection (Form.Plain order) (lexical.words words.entry.rest.now) }
 {
     let (reference, unit) = words.two()?;
-    Ok(Request::Send(Command {
+    let command = Command {
         reference: wide(reference)?,
         unit: narrow(unit)?,
         order,
-    }))
+    };
+    Ok(Request::Send(connection, command))
 }
 
 /// A SET CONTROLLER CHARACTERISTICS: its reference number.
 #[tactic(auto, unfolding(crate::specs::Requests::asked))]
-fn read_controller(words: Words<'_>) -> Result<Request, Cause>
-    ensures { result ≡ requests.asked Form.SetController (lexical.words words.entry.rest.now) }
+fn read_controller(connection: Connection, words: Words<'_>) -> Result<Request, Cause>
+    ensures { result ≡ requests.asked connection Form.SetController (lexical.words words.entry.rest.now) }
 {
     let reference = words.one()?;
-    Ok(Request::Send(Command {
+    let command = Command {
         reference: wide(reference)?,
         unit: 0,
         order: Order::SetController(0),
-    }))
+    };
+    Ok(Request::Send(connection, command))
 }
 
 /// An abort: its reference number, and that of the command to be aborted.
 #[tactic(auto, unfolding(crate::specs::Requests::asked))]
-fn read_abort(words: Words<'_>) -> Result<Request, Cause>
-    ensures { result ≡ requests.asked Form.Abort (lexical.words words.entry.rest.now) }
+fn read_abort(connection: Connection, words: Words<'_>) -> Result<Request, Cause>
+    ensures { result ≡ requests.asked connection Form.Abort (lexical.words words.entry.rest.now) }
 {
     let (reference, other) = words.two()?;
-    Ok(Request::Send(Command {
+    let command = Command {
         reference: wide(reference)?,
         unit: 0,
         order: Order::Abort(wide(other)?),
-    }))
+    };
+    Ok(Request::Send(connection, command))
 }
 
 /// A poll: its reference number, and that of the command that it is about.
 #[tactic(auto, unfolding(crate::specs::Requests::asked))]
-fn read_status(words: Words<'_>) -> Result<Request, Cause>
-    ensures { result ≡ requests.asked Form.Status (lexical.words words.entry.rest.now) }
+fn read_status(connection: Connection, words: Words<'_>) -> Result<Request, Cause>
+    ensures { result ≡ requests.asked connection Form.Status (lexical.words words.entry.rest.now) }
 {
     let (reference, other) = words.two()?;
-    Ok(Request::Send(Command {
+    let command = Command {
         reference: wide(reference)?,
         unit: 0,
         order: Order::Status(wide(other)?),
-    }))
+    };
+    Ok(Request::Send(connection, command))
 }
 
 /// A message as it is.
 #[tactic(auto, unfolding(crate::specs::Requests::asked))]
-fn read_packet(words: Words<'_>) -> Result<Request, Cause>
-    ensures { result ≡ requests.asked Form.Packet (lexical.words words.entry.rest.now) }
+fn read_packet(connection: Connection, words: Words<'_>) -> Result<Request, Cause>
+    ensures { result ≡ requests.asked connection Form.Packet (lexical.words words.entry.rest.now) }
 {
-    Ok(Request::Packet(message(words.one()?)?))
+    Ok(Request::Packet(connection, message(words.one()?)?))
 }
 
 /// So many steps: at least one.
 #[tactic(auto, unfolding(crate::specs::Requests::asked))]
 fn read_steps(words: Words<'_>) -> Result<Request, Cause>
-    ensures { result ≡ requests.asked Form.Step (lexical.words words.entry.rest.now) }
+    ensures { result ≡ requests.asked Connection.First Form.Step (lexical.words words.entry.rest.now) }
 {
     let count = wide(words.one()?)?;
     if !(1..=MOST_STEPS).contains(&count) {
@@ -281,7 +316,7 @@ fn read_steps(words: Words<'_>) -> Result<Request, Cause>
 /// A bad block of this status.
 #[tactic(auto, unfolding(crate::specs::Requests::asked))]
 fn read_bad(words: Words<'_>) -> Result<Request, Cause>
-    ensures { result ≡ requests.asked Form.Bad (lexical.words words.entry.rest.now) }
+    ensures { result ≡ requests.asked Connection.First Form.Bad (lexical.words words.entry.rest.now) }
 {
     let code = status(words.one()?)?;
     match FaultStatus::new(code) {
@@ -306,8 +341,11 @@ fn event_count(request: &Request) -> usize
     ensures { result ≡ length (requests.events_of request.now) }
 {
     match request {
-        Request::Send(_) | Request::Packet(_) | Request::Take | Request::Look | Request::Bad(_) =>
-            1,
+        Request::Send(..)
+        | Request::Packet(..)
+        | Request::Take(_)
+        | Request::Look
+        | Request::Bad(_) => 1,
         Request::Steps(count) => *count as usize,
     }
 }
@@ -317,9 +355,11 @@ fn add_events(events: &mut Vec<Event>, request: Request) -> Result<(), OutOfMemo
     ensures { OnOk result (events.new.items ≡ events.old.items ++ requests.events_of request) }
 {
     match request {
-        Request::Send(command) => events.push(Event::Send(command_message(&command)))?,
-        Request::Packet(bytes) => events.push(Event::Send(bytes))?,
-        Request::Take => events.push(Event::Take)?,
+        Request::Send(connection, command) => {
+            events.push(Event::Send(connection, command_message(&command)))?;
+        }
+        Request::Packet(connection, bytes) => events.push(Event::Send(connection, bytes))?,
+        Request::Take(connection) => events.push(Event::Take(connection))?,
         Request::Look => events.push(Event::Look)?,
         Request::Bad(code) => events.push(Event::Step(Block::Bad(code)))?,
         Request::Steps(count) => {

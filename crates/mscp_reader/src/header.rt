@@ -8,7 +8,8 @@ ghost use Rattle.mscp_text.specs.Steps.{Gives};
 ghost use Rattle.mscp_reader.specs.Lexical as lexical;
 ghost use Rattle.mscp_reader.specs.Grammar as grammar;
 ghost use Rattle.mscp_reader.specs.Grammar.{Place, Begins, HasCredits, HasTimeout, HasUnits, HasGone};
-ghost use Rattle.mscp_reader.specs.Outcome.{Sets, Leads, budget_of, in_line, limited, rest_outcome, settled, place_after};
+ghost use Rattle.mscp_control.specs.Both.{Both};
+ghost use Rattle.mscp_reader.specs.Outcome.{Sets, Leads, both_of, budget_of, in_line, limited, rest_outcome, settled, place_after};
 
 use crate::fault::{Cause, ScriptFault};
 use crate::lines::Lines;
@@ -33,10 +34,17 @@ enum Limit {
     Passing(u32),
 }
 
+/// The credits of each connection. The second has none where there is none.
+#[derive(Clone, Copy, Debug)]
+struct Credits {
+    first: u32,
+    second: u32,
+}
+
 /// The limits of a header.
 #[derive(Clone, Copy, Debug)]
 struct Limits {
-    credits: u32,
+    credits: Credits,
     limit: Limit,
     longest: u32,
     timeout: u16,
@@ -64,7 +72,7 @@ fn read_limits(lines: &mut Lines<'_>) -> Result<Limits, ScriptFault>
     ensures leads { Leads (λ limits. HasTimeout (settled limits [])) (rest_outcome lines.old.number Begins
         lines.old.rest.now) lines.new.number lines.new.rest.now result }
 {
-    let credits = read_setting(lines, b"credits", 4_294_967_295)?;
+    let credits = read_credits(lines)?;
     let limit = read_limit(lines)?;
     let longest = read_setting(lines, b"longest", 4_294_967_295)?;
     let timeout = read_setting(lines, b"timeout", 65_535)?;
@@ -74,6 +82,16 @@ fn read_limits(lines: &mut Lines<'_>) -> Result<Limits, ScriptFault>
         longest,
         timeout: timeout as u16,
     })
+}
+
+/// Reads the line of the credits.
+fn read_credits(lines: &mut Lines<'_>) -> Result<Credits, ScriptFault>
+    ensures fault { IfErr result (λ fault. 1 ≤ fault.line) }
+    ensures leads { Leads (λ all. HasCredits (both_of all)) (rest_outcome lines.old.number Begins lines.old.rest.now)
+        lines.new.number lines.new.rest.now result }
+{
+    let line = lines.header_line()?;
+    ScriptFault::at(line.number, credits_of(line.words))
 }
 
 /// Reads the line of this word and of a number that is at most so much.
@@ -90,7 +108,7 @@ fn read_setting(lines: &mut Lines<'_>, name: &[u8], most: u32) -> Result<u32, Sc
 /// Reads the line of the budget.
 fn read_limit(lines: &mut Lines<'_>) -> Result<Limit, ScriptFault>
     ensures fault { IfErr result (λ fault. 1 ≤ fault.line) }
-    ensures leads { (credits : ℕ) → Leads (limited credits) (rest_outcome lines.old.number (HasCredits credits)
+    ensures leads { (all : Both ℕ) → Leads (limited all) (rest_outcome lines.old.number (HasCredits all)
         lines.old.rest.now) lines.new.number lines.new.rest.now result }
 {
     let line = lines.header_line()?;
@@ -145,10 +163,40 @@ fn setting(mut words: Words<'_>, name: &[u8], most: u32) -> Result<u32, Cause>
     number(most, words.one()?)
 }
 
+/// The credits of a line, whose first word is `credits`.
+#[tactic(auto, unfolding(crate::specs::Grammar::credits))]
+fn credits_of(mut words: Words<'_>) -> Result<Credits, Cause>
+    ensures { Gives (λ all. HasCredits (both_of all)) result (grammar.credits (lexical.words words.entry.rest.now)) }
+{
+    match words.next_word() {
+        Some(b"credits") => credit_fields(words),
+        _ => Err(Cause::Word),
+    }
+}
+
+/// The credits of these fields: of the first connection, and of the second, if it is named.
+#[tactic(auto, unfolding(crate::specs::Grammar::credits_of))]
+fn credit_fields(mut words: Words<'_>) -> Result<Credits, Cause>
+    ensures { Gives both_of result (grammar.credits_of (lexical.words words.entry.rest.now)) }
+{
+    let first = words.next_field()?;
+    let Some(second) = words.next_word() else {
+        return Ok(Credits {
+            first: wide(first)?,
+            second: 0,
+        });
+    };
+    words.none()?;
+    Ok(Credits {
+        first: wide(first)?,
+        second: wide(second)?,
+    })
+}
+
 /// The limit of a line, whose first word is `budget` or `passing`.
 #[tactic(auto, unfolding(crate::specs::Grammar::limit))]
 fn limit_of(mut words: Words<'_>) -> Result<Limit, Cause>
-    ensures { (credits : ℕ) → Gives (limited credits) result (grammar.limit credits (lexical.words words.entry.rest.now)) }
+    ensures { (all : Both ℕ) → Gives (limited all) result (grammar.limit all (lexical.words words.entry.rest.now)) }
 {
     match words.next_word() {
         Some(b"budget") => Ok(Limit::Budget(number(4_294_967_295, words.one()?)?)),
@@ -263,7 +311,8 @@ fn configured(limits: Limits, units: &ArrayVec<Unit, 16>) -> Result<Config, Caus
         return Err(Cause::Unit);
     };
     match Config::new(
-        limits.credits,
+        limits.credits.first,
+        limits.credits.second,
         budget_of(limits.limit, limits.longest),
         limits.longest,
         limits.timeout,

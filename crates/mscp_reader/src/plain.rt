@@ -3,6 +3,7 @@
 
 ghost use Rattle.std.specs.Prelude.{◌≡◌, ◌≤◌, [], true, not, position, take, length, IfSome};
 ghost use Rattle.std.specs.List.{list_all};
+ghost use Rattle.mscp_queue.specs.declared.name.Connection.TheVariants.{First};
 ghost use Rattle.mscp_reader.specs.Lexical as lexical;
 ghost use Rattle.mscp_reader.specs.Requests as requests;
 ghost use Rattle.mscp_reader.specs.Plain.{Asks, CutsWord, Ends, IsNumeral, IsPlain, is_letter, plain_request};
@@ -11,12 +12,12 @@ use crate::events::{Form, MOST_STEPS, Request, form_of};
 use crate::numbers::MOST_DIGITS;
 use mscp_packet::{Command, MoveKind, Order};
 
-/// What a plain line asks for.
+/// What a plain line asks for. It doesn't name the second connection.
 #[derive(Clone, Copy, Debug)]
 pub enum Plain {
-    /// The host sends this command.
+    /// The first connection's host sends this command.
     Send(Command),
-    /// The host takes an end.
+    /// The first connection's host takes an end.
     Take,
     /// The figures of all waiting commands are asked for.
     Look,
@@ -111,7 +112,7 @@ impl<'a> Fields<'a> {
 
     /// Cuts off the fields of a transfer.
     fn transfer(&mut self, kind: MoveKind) -> Option<Command>
-        ensures { IfSome result (λ command. Asks (Form.Transfer kind) (Request.Send command) self.old.rest.now
+        ensures { IfSome result (λ command. Asks (Form.Transfer kind) (Request.Send First command) self.old.rest.now
             self.new.rest.now) }
     {
         let reference = self.wide()?;
@@ -127,7 +128,7 @@ impl<'a> Fields<'a> {
 
     /// Cuts off the fields of another command to a unit.
     fn other(&mut self, order: Order) -> Option<Command>
-        ensures { IfSome result (λ command. Asks (Form.Plain order) (Request.Send command) self.old.rest.now
+        ensures { IfSome result (λ command. Asks (Form.Plain order) (Request.Send First command) self.old.rest.now
             self.new.rest.now) }
     {
         let reference = self.wide()?;
@@ -141,7 +142,7 @@ impl<'a> Fields<'a> {
 
     /// Cuts off the fields of a poll.
     fn poll(&mut self) -> Option<Command>
-        ensures { IfSome result (λ command. Asks Form.Status (Request.Send command) self.old.rest.now
+        ensures { IfSome result (λ command. Asks Form.Status (Request.Send First command) self.old.rest.now
             self.new.rest.now) }
     {
         let reference = self.wide()?;

@@ -105,7 +105,7 @@ impl<'a> Words<'a> {
     }
 
     /// Cuts off the next word, which is needed.
-    fn next_field(&mut self) -> Result<&'a [u8], Cause>
+    pub fn next_field(&mut self) -> Result<&'a [u8], Cause>
         ensures { MatchResult result (λ word. lexical.words self.old.rest.now ≡ word.now ∷ lexical.words
             self.new.rest.now) (λ cause. (cause ≡ Cause.Count) × (lexical.words self.old.rest.now ≡ [])) }
     {
