@@ -62,22 +62,30 @@ impl Reporter {
         self.totals.count
     }
 
-    /// Reports what became of a message.
-    pub fn sent(&mut self, sent: &Result<Sent, SendFault>) -> Result<(), OutOfMemory>
+    /// Reports what became of a message of the connection.
+    pub fn sent(
+        &mut self,
+        connection: Connection,
+        sent: &Result<Sent, SendFault>,
+    ) -> Result<(), OutOfMemory>
         requires { self.old.count + 1 < 2 ^ 64 }
-        ensures { OnOk result (self.new ≡ with_entry self.old (entries.Sent sent.now)) }
+        ensures { OnOk result (self.new ≡ with_entry self.old (entries.Sent connection sent.now)) }
     {
-        put_sent(&mut self.out, &mut self.line, sent)?;
+        put_sent(&mut self.out, &mut self.line, connection, sent)?;
         self.totals.add_sent(sent);
         Ok(())
     }
 
-    /// Reports an end that was taken, or that there was none.
-    pub fn taken(&mut self, end: &Option<ArrayVec<u8, 48>>) -> Result<(), OutOfMemory>
+    /// Reports an end of the connection that was taken, or that there was none.
+    pub fn taken(
+        &mut self,
+        connection: Connection,
+        end: &Option<ArrayVec<u8, 48>>,
+    ) -> Result<(), OutOfMemory>
         requires { self.old.count + 1 < 2 ^ 64 }
-        ensures { OnOk result (self.new ≡ with_entry self.old (entries.Taken end.now)) }
+        ensures { OnOk result (self.new ≡ with_entry self.old (entries.Taken connection end.now)) }
     {
-        put_taken(&mut self.out, &mut self.line, end)?;
+        put_taken(&mut self.out, &mut self.line, connection, end)?;
         self.totals.add_other();
         Ok(())
     }
@@ -111,8 +119,8 @@ impl Reporter {
         ensures { OnOk result (self.new ≡ with_entry self.old entry.now) }
     {
         match entry {
-            Entry::Sent(sent) => self.sent(sent),
-            Entry::Taken(end) => self.taken(end),
+            Entry::Sent(connection, sent) => self.sent(*connection, sent),
+            Entry::Taken(connection, end) => self.taken(*connection, end),
             Entry::Stepped(report) => self.stepped(report),
             Entry::Looked(shown) => self.looked(shown),
         }

@@ -11,7 +11,7 @@ ghost use Rattle.mscp_script.specs.Running.{Meets, Ran};
 ghost use Rattle.mscp_script.specs.Text.{finished, reported};
 
 use crate::reporting::Reporter;
-use mscp_control::{Block, Config, Controller, OutOfMemory, Sweep};
+use mscp_control::{Block, Config, Connection, Controller, OutOfMemory, Sweep};
 use mscp_packet::write_command;
 use mscp_reader::{Plain, Request};
 use std::alloc::Global;
@@ -43,22 +43,22 @@ impl Run {
         self.reporter.count()
     }
 
-    /// The host sends this message.
-    fn send(&mut self, message: &[u8]) -> Result<(), OutOfMemory>
+    /// The connection's host sends this message.
+    fn send(&mut self, connection: Connection, message: &[u8]) -> Result<(), OutOfMemory>
         requires { self.old.reporter.count + 1 < 2 ^ 64 }
-        ensures { OnOk result (Ran self.old self.new (events.Send (record { items = message.now }))) }
+        ensures { OnOk result (Ran self.old self.new (events.Send connection (record { items = message.now }))) }
     {
-        let sent = self.controller.send(message);
-        self.reporter.sent(&sent)
+        let sent = self.controller.send(connection, message);
+        self.reporter.sent(connection, &sent)
     }
 
-    /// The host takes an end.
-    fn take(&mut self) -> Result<(), OutOfMemory>
+    /// The connection's host takes an end.
+    fn take(&mut self, connection: Connection) -> Result<(), OutOfMemory>
         requires { self.old.reporter.count + 1 < 2 ^ 64 }
-        ensures { OnOk result (Ran self.old self.new events.Take) }
+        ensures { OnOk result (Ran self.old self.new (events.Take connection)) }
     {
-        let end = self.controller.take();
-        self.reporter.taken(&end)
+        let end = self.controller.take(connection);
+        self.reporter.taken(connection, &end)
     }
 
     /// The drive serves one block, with this outcome.
@@ -99,9 +99,11 @@ impl Run {
             ≡ self.old.reporter.count + length (events_of request.now)) }
     {
         match request {
-            Request::Send(command) => self.send(write_command(command).as_slice()),
-            Request::Packet(bytes) => self.send(bytes.as_slice()),
-            Request::Take => self.take(),
+            Request::Send(connection, command) => {
+                self.send(*connection, write_command(command).as_slice())
+            }
+            Request::Packet(connection, bytes) => self.send(*connection, bytes.as_slice()),
+            Request::Take(connection) => self.take(*connection),
             Request::Look => self.look(),
             Request::Steps(count) => self.steps(*count),
             Request::Bad(code) => self.step(Block::Bad(*code)),
@@ -116,8 +118,10 @@ impl Run {
             ≡ self.old.reporter.count + length (events_of (plain_request plain))) }
     {
         match plain {
-            Plain::Send(command) => self.send(write_command(&command).as_slice()),
-            Plain::Take => self.take(),
+            Plain::Send(command) => {
+                self.send(Connection::First, write_command(&command).as_slice())
+            }
+            Plain::Take => self.take(Connection::First),
             Plain::Look => self.look(),
             Plain::Steps(count) => self.steps(count),
         }

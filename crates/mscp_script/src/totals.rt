@@ -25,6 +25,7 @@ pub struct Totals {
 }
 
 impl Totals {
+    ghost use Rattle.mscp_queue.specs.declared.name.Connection.{Connection};
     ghost use Rattle.mscp_control.specs.declared.event.Entry.TheVariants as entries;
     ghost use Rattle.mscp_script.specs.Counted.{IsCounted};
 
@@ -48,7 +49,7 @@ impl Totals {
     /// Counts what became of a message.
     pub fn add_sent(&mut self, sent: &Result<Sent, SendFault>)
         requires { self.old.count + 1 < 2 ^ 64 }
-        ensures { IsCounted self.old self.new (entries.Sent sent.now) }
+        ensures { (via : Connection) → IsCounted self.old self.new (entries.Sent via sent.now) }
     {
         let (queued, ended) = match sent {
             Ok(Sent::Queued(_)) => (1, 0),

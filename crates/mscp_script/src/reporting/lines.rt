@@ -4,7 +4,7 @@
 ghost use Rattle.std.specs.Prelude.{◌≡◌, ◌+◌, ◌≤◌, ◌++◌, length, codes, OnOk};
 ghost use Rattle.std.specs.List.{flat_map};
 ghost use Rattle.mscp_control.specs.declared.event.Entry.TheVariants as entries;
-ghost use Rattle.mscp_script.specs.Text.{aborted_part, block_word, end_line, ended_part, entry_lines, figure_line, last_line, refusal_word, sent_line, step_line};
+ghost use Rattle.mscp_script.specs.Text.{aborted_part, block_word, connection_word, end_line, ended_part, entry_lines, figure_line, last_line, refusal_word, sent_line, step_line};
 
 use crate::reporting::tail::Tail;
 use crate::totals::Totals;
@@ -13,6 +13,16 @@ use mscp_control::{Connection, Report, SendFault, Sent};
 use mscp_packet::End;
 use mscp_text::{put, put_field};
 use std::alloc::AllocError;
+
+/// Puts in front that a line is of the second connection, if it is.
+fn put_connection(line: &mut Tail, connection: Connection)
+    requires { 7 + length line.old ≤ 108 }
+    ensures { line.new ≡ connection_word connection ++ line.old }
+{
+    if connection == Connection::Second {
+        line.words("second ");
+    }
+}
 
 /// The word of a refusal.
 fn refused(fault: SendFault) -> &'static str
@@ -29,7 +39,7 @@ fn refused(fault: SendFault) -> &'static str
 
 /// Puts in front that an ABORT ended a command, if it did.
 fn put_aborted(line: &mut Tail, aborted: Option<u32>)
-    requires { 19 + length line.old ≤ 101 }
+    requires { 19 + length line.old ≤ 108 }
     ensures value { line.new ≡ aborted_part aborted ++ line.old }
     ensures short { length line.new ≤ 19 + length line.old }
 {
@@ -41,7 +51,8 @@ fn put_aborted(line: &mut Tail, aborted: Option<u32>)
 /// Puts the line of a message that was taken in before its line feed.
 fn put_taken_in(line: &mut Tail, sent: Sent)
     requires { line.old ≡ codes "\n" }
-    ensures { line.new ≡ sent_line sent }
+    ensures value { line.new ≡ sent_line sent }
+    ensures short { length line.new ≤ 101 }
 {
     match sent {
         Sent::Queued(reference) => line.field("queued ", reference),
@@ -52,13 +63,14 @@ fn put_taken_in(line: &mut Tail, sent: Sent)
     }
 }
 
-/// Appends the line of a message: what became of it, or why it is refused.
+/// Appends the line of a message of the connection: what became of it, or why it is refused.
 pub fn put_sent(
     out: &mut Vec<u8>,
     line: &mut Tail,
+    connection: Connection,
     sent: &Result<Sent, SendFault>,
 ) -> Result<(), AllocError>
-    ensures { OnOk result (out.new.items ≡ out.old.items ++ entry_lines (entries.Sent sent.now)) }
+    ensures { OnOk result (out.new.items ≡ out.old.items ++ entry_lines (entries.Sent connection sent.now)) }
 {
     line.begin();
     match sent {
@@ -68,37 +80,34 @@ pub fn put_sent(
             line.words("refused ");
         }
     }
+    put_connection(line, connection);
     out.extend_from_slice(line.bytes())
 }
 
-/// Appends the line of an end that was taken.
-fn put_end(out: &mut Vec<u8>, line: &mut Tail, bytes: &[u8]) -> Result<(), AllocError>
-    requires { length bytes.now ≤ 48 }
-    ensures { OnOk result (out.new.items ≡ out.old.items ++ end_line bytes.now) }
-{
-    line.begin();
-    line.hex(bytes);
-    line.words("end ");
-    out.extend_from_slice(line.bytes())
-}
-
-/// Appends the line of an end that was taken, or of none.
+/// Appends the line of an end of the connection that was taken, or of none.
 pub fn put_taken(
     out: &mut Vec<u8>,
     line: &mut Tail,
+    connection: Connection,
     end: &Option<ArrayVec<u8, 48>>,
 ) -> Result<(), AllocError>
-    ensures { OnOk result (out.new.items ≡ out.old.items ++ entry_lines (entries.Taken end.now)) }
+    ensures { OnOk result (out.new.items ≡ out.old.items ++ entry_lines (entries.Taken connection end.now)) }
 {
+    line.begin();
     match end {
-        Some(bytes) => put_end(out, line, bytes.as_slice()),
-        None => put(out, "none\n"),
+        Some(bytes) => {
+            line.hex(bytes.as_slice());
+            line.words("end ");
+        }
+        None => line.words("none"),
     }
+    put_connection(line, connection);
+    out.extend_from_slice(line.bytes())
 }
 
 /// Puts in front what a step did with a block.
 fn put_block(line: &mut Tail, lbn: Option<u32>)
-    requires { 10 + length line.old ≤ 101 }
+    requires { 10 + length line.old ≤ 108 }
     ensures value { line.new ≡ block_word lbn ++ line.old }
     ensures short { length line.new ≤ 10 + length line.old }
 {
@@ -110,7 +119,7 @@ fn put_block(line: &mut Tail, lbn: Option<u32>)
 
 /// Puts in front the status of the end that a step brought.
 fn put_ended(line: &mut Tail, ended: &Option<End>)
-    requires { 11 + length line.old ≤ 101 }
+    requires { 11 + length line.old ≤ 108 }
     ensures value { line.new ≡ ended_part ended.now ++ line.old }
     ensures short { length line.new ≤ 11 + length line.old }
 {
@@ -127,7 +136,7 @@ pub fn put_step(out: &mut Vec<u8>, line: &mut Tail, report: &Report) -> Result<(
     match report {
         Report::Idle => put(out, "idle\n"),
         Report::Served {
-            connection: _,
+            connection,
             reference,
             unit,
             lbn,
@@ -142,6 +151,7 @@ pub fn put_step(out: &mut Vec<u8>, line: &mut Tail, report: &Report) -> Result<(
             line.words(" block ");
             line.field(" unit ", u32::from(*unit));
             line.field("serve ", *reference);
+            put_connection(line, *connection);
             out.extend_from_slice(line.bytes())
         }
     }
@@ -158,6 +168,7 @@ fn put_figure(
     line.begin();
     line.field(" ", shown.2);
     line.field("figure ", shown.1);
+    put_connection(line, shown.0);
     out.extend_from_slice(line.bytes())
 }
 

@@ -8,8 +8,8 @@ use hex::encode_to_slice;
 use itoa::write_digits;
 use std::marker::Model;
 
-/// How many bytes the longest line has: that of an end of 48 bytes.
-const ROOM: usize = 101;
+/// How many bytes the longest line has: that of an end of 48 bytes of the second connection.
+const ROOM: usize = 108;
 
 /// The end of a line, which grows to the front, since the digits of a number are found from the last on. So a line is
 /// appended to a report in one piece. It is kept from line to line, since a new room would have to be cleared for each.
@@ -27,7 +27,7 @@ impl Model for Tail {
 
     ghost view = { λ t. drop t.start t.room };
 
-    ghost invariant = { λ t. t.start ≤ 101 };
+    ghost invariant = { λ t. t.start ≤ 108 };
 }
 
 impl Tail {
@@ -54,7 +54,7 @@ impl Tail {
     /// Puts words in front.
     #[inline]
     pub fn words(&mut self, words: &str)
-        requires { length words.now + length self.old ≤ 101 }
+        requires { length words.now + length self.old ≤ 108 }
         ensures { self.new ≡ words.now ++ self.old }
     {
         let end = self.start;
@@ -65,7 +65,7 @@ impl Tail {
     /// Puts the decimal digits of a number in front.
     #[inline]
     pub fn number(&mut self, number: u32)
-        requires { 10 + length self.old ≤ 101 }
+        requires { 10 + length self.old ≤ 108 }
         ensures value { self.new ≡ decimal number ++ self.old }
         ensures short { length self.new ≤ 10 + length self.old }
     {
@@ -75,7 +75,7 @@ impl Tail {
     /// Puts words and then a number in front.
     #[inline]
     pub fn field(&mut self, words: &str, number: u32)
-        requires { length words.now + (10 + length self.old) ≤ 101 }
+        requires { length words.now + (10 + length self.old) ≤ 108 }
         ensures value { self.new ≡ words.now ++ (decimal number ++ self.old) }
         ensures short { length self.new ≤ length words.now + (10 + length self.old) }
     {
@@ -86,7 +86,7 @@ impl Tail {
     /// Puts bytes in front, each as two lower case hexadecimal digits.
     #[inline]
     pub fn hex(&mut self, bytes: &[u8])
-        requires { 2 * length bytes.now + length self.old ≤ 101 }
+        requires { 2 * length bytes.now + length self.old ≤ 108 }
         ensures value { self.new ≡ encode_lower bytes.now ++ self.old }
         ensures long { length self.new ≡ 2 * length bytes.now + length self.old }
     {

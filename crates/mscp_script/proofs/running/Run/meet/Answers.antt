@@ -7,14 +7,14 @@ use Rattle.mscp_script.proofs.running.Run.meet.Goals as goal
 pub returns-in-Send-clause-met : goal.returns-in-Send-clause-met
 returns-in-Send-clause-met c =
     let sent = subst (λ b. OnOk c.send.result (Ran c.args.self.now c.send.new.self
-    (events.Send (record { items = b })))) (c.as_slice.ensures.value ∙ c.write_command.ensures.bytes)
+    (events.Send c.in-Send.connection (record { items = b })))) (c.as_slice.ensures.value ∙ c.write_command.ensures.bytes)
     c.send.ensures in
     rw c.in-Send.is (meets_ok c.send.result _ _ _ sent)
 
 pub returns-in-Packet-clause-met : goal.returns-in-Packet-clause-met
 returns-in-Packet-clause-met c =
     let sent = subst (λ b. OnOk c.send-in-Packet.result
-    (Ran c.args.self.now c.send-in-Packet.new.self (events.Send (record { items = b }))))
+    (Ran c.args.self.now c.send-in-Packet.new.self (events.Send c.in-Packet.connection (record { items = b }))))
     c.as_slice-in-Packet.ensures.value c.send-in-Packet.ensures in
     rw c.in-Packet.is (meets_ok c.send-in-Packet.result _ _ _ sent)
 

@@ -1,4 +1,5 @@
 use Rattle.std.proofs.Common.{OnOk, ◌∙◌, subst}
+use Rattle.mscp_queue.specs.declared.name.Connection.TheVariants.{First}
 use Rattle.mscp_control.specs.declared.event.Event.TheVariants as events
 use Rattle.mscp_script.specs.Running.{Ran}
 use Rattle.mscp_script.proofs.Growing.{meets_ok}
@@ -7,7 +8,7 @@ use Rattle.mscp_script.proofs.running.Run.meet_plain.Goals as goal
 pub returns-in-Send-clause-met : goal.returns-in-Send-clause-met
 returns-in-Send-clause-met c =
     let sent = subst (λ b. OnOk c.send.result (Ran c.args.self.now c.send.new.self
-    (events.Send (record { items = b })))) (c.as_slice.ensures.value ∙ c.write_command.ensures.bytes)
+    (events.Send First (record { items = b })))) (c.as_slice.ensures.value ∙ c.write_command.ensures.bytes)
     c.send.ensures in
     rw c.in-Send.is (meets_ok c.send.result _ _ _ sent)
 

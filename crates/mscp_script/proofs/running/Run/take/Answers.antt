@@ -1,7 +1,8 @@
+use Rattle.std.proofs.Common.{refl}
 use Rattle.mscp_control.specs.declared.event.Entry.TheVariants as entries
 use Rattle.mscp_script.proofs.Growing.{ran_on}
 use Rattle.mscp_script.proofs.running.Run.take.Goals as goal
 
 pub returns : goal.returns
-returns c = ran_on c.taken.result _ _ _ (entries.Taken c.take-end.result)
-    (c.take-end.ensures.answer, c.take-end.ensures.after) c.taken.ensures
+returns c = ran_on c.taken.result _ _ _ (entries.Taken c.args.connection c.take-end.result)
+    (refl, c.take-end.ensures.answer, c.take-end.ensures.after) c.taken.ensures
