@@ -355,9 +355,13 @@ impl<K: Picker> Controller<K> {
     /// it is stale: nothing changes, and the block counts for nothing. A command is known by its connection and its number
     /// alone. So who begins anew after a step, an ABORT or a reset must let no finish of an older begin come any more: the
     /// number may be the same.
-    pub fn finish(&mut self, connection: Connection, reference: u32, block: Block) -> Result<Report, Stale>
-        ensures finish {
-            Finishes (K.picks self.old.picker) (name_on connection reference) block self.old result self.new }
+    pub fn finish(
+        &mut self,
+        connection: Connection,
+        reference: u32,
+        block: Block,
+    ) -> Result<Report, Stale>
+        ensures finish { Finishes (K.picks self.old.picker) (name_on connection reference) block self.old result self.new }
         ensures account { IsBalanced self.new }
     {
         if self.queue.is_begun(connection, reference) {

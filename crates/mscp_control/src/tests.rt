@@ -3,12 +3,13 @@
 
 mod aborting;
 mod beginning;
+mod connections;
 mod emulator;
 mod picking;
 
 use crate::{
-    Block, Config, Controller, FaultStatus, Oldest, Picker, Report, SendFault, Sent, Stale, Sweep,
-    Upcoming, View,
+    Block, Config, Connection, Controller, FaultStatus, Oldest, Picker, Report, SendFault, Sent,
+    Stale, Sweep, Upcoming, View,
 };
 use arrayvec::ArrayVec;
 use mscp_drive::{Unit, Units};
@@ -23,7 +24,7 @@ fn controller<K: Picker>(rt: &impl Abort, picker: K) -> Controller<K> {
     let units = Units::new(&[unit])
         .ok()
         .expect(rt, "1 to 16 units, numbers that rise");
-    let config = Config::new(4, 16, 8, 60, 1, units)
+    let config = Config::new(4, 0, 16, 8, 60, 1, units)
         .ok()
         .expect(rt, "limits that a controller can keep");
     Controller::new(config, picker)

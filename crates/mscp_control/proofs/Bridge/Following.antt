@@ -75,16 +75,22 @@ takes_when : {K : Type 0} (via : Connection) (h : Holdings K) (t : Trace) → 1 
 takes_when {K} via h t l a [] e =
     let c = h.settings in
     let m = taking via None in
-    let r : IsRight c t m.0 m.1 = (refl, ap (λ us. option_map (λ e. record { items = end_bytes e }) (slice_get us 0))
-    (sym e ∙ a.follows.ends via)) in
+    let r : IsRight c t m.0 m.1 = (
+      refl,
+      ap (λ us. option_map (λ e. record { items = end_bytes e }) (slice_get us 0))
+          (sym e ∙ a.follows.ends via),
+    ) in
     subst (λ (us : Both (List End)). Sends c t m (record h { untaken = us })) (sym (put_same via h.untaken e))
     (quiet h h t m l (record { unserved = refl; kept = λ r. refl }) refl refl refl
     (λ other. ends_stay other h t m refl a refl) a r)
 takes_when via h t l a (u ∷ us) e =
     let c = h.settings in
     let m = taking via (Some u) in
-    let r : IsRight c t m.0 m.1 = (refl, ap (λ us. option_map (λ e. record { items = end_bytes e }) (slice_get us 0))
-    (sym e ∙ a.follows.ends via)) in
+    let r : IsRight c t m.0 m.1 = (
+      refl,
+      ap (λ us. option_map (λ e. record { items = end_bytes e }) (slice_get us 0))
+          (sym e ∙ a.follows.ends via),
+    ) in
     quiet h (after_take via h) t m l (record { unserved = refl; kept = λ r. refl }) refl refl refl
     (all_held via h t u a) a r
 

@@ -150,8 +150,13 @@ held_stepped {K} c picks k old report new a h s u kind =
     let fits = own.fits in
     record {
       counted = omega (arith, count, waiting, counted);
-      covered = omega (arith, waiting, covered, ap length more.untaken,
-      length-append (account via a).untaken.items (ends_reported via report));
+      covered = omega (
+        arith,
+        waiting,
+        covered,
+        ap length more.untaken,
+        length-append (account via a).untaken.items (ends_reported via report),
+      );
       fits = omega (arith, waiting, fits);
       shaped = subst (AllByRecursion IsOfKind) (sym more.untaken)
           (every_append IsOfKind (account via a).untaken.items (ends_reported via report) own.shaped

@@ -333,8 +333,7 @@ took_one : (c : Settings) (via : Connection) (t : Trace) (event : Event) (entry 
     → IsRight c t event entry
     → (0 < length (untaken c via t)) × (ends_at c via t (event, entry) ≡ []) × (queues_by via (event, entry) ≡ false)
 took_one c via t (events.Take own) (entries.Taken other (Some b)) q h =
-    let side : own ≡ via = sym h.0 ∙ one_side other via q in
-    (
+    let side : own ≡ via = sym h.0 ∙ one_side other via q in (
       some_first (untaken c via t) _ (sym (ap is_some (h.1 ∙ ap (λ s. option_map (λ e. record { items = end_bytes e })
           (slice_get (untaken c s t) 0)) side))),
       refl,
@@ -387,8 +386,12 @@ left_more c via t m r st h =
           let fit = f.room in
           record {
             taken = omega (arith, none, more, taken);
-            room = omega (arith, fit, ap length (untaken_more c via t m e taken)
-                ∙ length-append (untaken c via t) (ends_at c via t m));
+            room = omega (
+              arith,
+              fit,
+              ap length (untaken_more c via t m e taken)
+                  ∙ length-append (untaken c via t) (ends_at c via t m),
+            );
             spare = f.spare;
           }
     ] in

@@ -21,7 +21,7 @@ fn poll(reference: u32, other: u32) -> Command {
 }
 
 fn send(controller: &mut Controller<Oldest>, command: &Command) -> Result<Sent, SendFault> {
-    controller.send(write_command(command).as_slice())
+    controller.send(Connection::First, write_command(command).as_slice())
 }
 
 /// Brings unit 0 online, and takes the end.
@@ -33,15 +33,21 @@ fn bring_online(rt: &impl Abort, controller: &mut Controller<Oldest>) {
     };
     assert_eq!(rt; send(controller, &online), Ok(Sent::Queued(900)));
     let _report = controller.step(Block::Good);
-    assert!(rt; controller.take().is_some());
+    assert!(rt; controller.take(Connection::First).is_some());
 }
 
 #[test]
 fn messages_of_a_wrong_length_change_nothing(rt: HostRuntime) {
     let mut controller = Controller::new(config(&rt, 4, 0), Oldest);
-    assert_eq!(rt; controller.send(&[0; 11]), Err(SendFault::Short));
-    assert_eq!(rt; controller.send(&[0; 65]), Err(SendFault::Long));
-    assert_eq!(rt; controller.balance(), 4);
+    assert_eq!(rt;
+        controller.send(Connection::First, &[0; 11]),
+        Err(SendFault::Short)
+    );
+    assert_eq!(rt;
+        controller.send(Connection::First, &[0; 65]),
+        Err(SendFault::Long)
+    );
+    assert_eq!(rt; controller.balance(Connection::First), 4);
 }
 
 #[test]
@@ -64,9 +70,9 @@ fn the_last_credit_is_kept_for_immediate_commands(rt: HostRuntime) {
     let end = [
         3, 0, 0, 0, 0, 0, 0, 0, 0x82, 0, 0, 0, 1, 0, 0, 0, 0x11, 0, 0, 0,
     ];
-    let taken = controller.take().expect(&rt, "an end");
+    let taken = controller.take(Connection::First).expect(&rt, "an end");
     assert_eq!(rt; taken.as_slice(), end.as_slice());
-    assert_eq!(rt; controller.balance(), 1);
+    assert_eq!(rt; controller.balance(Connection::First), 1);
 }
 
 #[test]
@@ -75,7 +81,7 @@ fn a_bad_block_ends_its_transfer(rt: HostRuntime) {
     bring_online(&rt, &mut controller);
     let sent = send(&mut controller, &transfer(1, 1024, 0));
     assert_eq!(rt; sent, Ok(Sent::Queued(1)));
-    assert_eq!(rt; controller.figure(1), 18);
+    assert_eq!(rt; controller.figure(Connection::First, 1), 18);
     let _first = controller.step(Block::Good);
     let status = FaultStatus::new(0x000B).expect(&rt, "a status");
     let report = controller.step(Block::Bad(status));
@@ -96,7 +102,7 @@ fn a_bad_block_ends_its_transfer(rt: HostRuntime) {
         ended: Some(end),
     };
     assert_eq!(rt; report, wanted);
-    assert_eq!(rt; controller.figure(1), 0);
+    assert_eq!(rt; controller.figure(Connection::First, 1), 0);
 }
 
 #[test]

@@ -11,12 +11,16 @@ use std::process::Abort;
 #[test]
 fn run_finds_memory(rt: HostRuntime) {
     let config = config(&rt, 4, 2);
-    let events = [Event::Take, Event::Step(Block::Good), Event::Look];
+    let events = [
+        Event::Take(Connection::First),
+        Event::Step(Block::Good),
+        Event::Look,
+    ];
     let entries = run(rt.alloc(), config, Oldest, &events)
         .ok()
         .expect(&rt, "memory");
     let wanted = [
-        Entry::Taken(None),
+        Entry::Taken(Connection::First, None),
         Entry::Stepped(Report::Idle),
         Entry::Looked(ArrayVec::new()),
     ];
@@ -26,15 +30,18 @@ fn run_finds_memory(rt: HostRuntime) {
 fn sent(rt: &impl Abort, bytes: &[u8]) -> Event {
     let mut message = ArrayVec::new();
     message.try_extend_from_slice(bytes).expect(rt, "room");
-    Event::Send(message)
+    Event::Send(Connection::First, message)
 }
 
 /// A message that got its end at once.
 fn answered(reference: u32) -> Entry {
-    Entry::Sent(Ok(Sent::Answered {
-        reference,
-        aborted: None,
-    }))
+    Entry::Sent(
+        Connection::First,
+        Ok(Sent::Answered {
+            reference,
+            aborted: None,
+        }),
+    )
 }
 
 /// A poll of command 9, which isn't there.
@@ -58,10 +65,10 @@ fn a_short_message_costs_no_credit(rt: HostRuntime) {
         .ok()
         .expect(&rt, "memory");
     let wanted = [
-        Entry::Sent(Err(SendFault::Short)),
+        Entry::Sent(Connection::First, Err(SendFault::Short)),
         answered(1),
         answered(2),
-        Entry::Sent(Err(SendFault::NoCredit)),
+        Entry::Sent(Connection::First, Err(SendFault::NoCredit)),
     ];
     assert_eq!(rt; entries.as_slice(), wanted.as_slice());
 }
@@ -70,7 +77,7 @@ fn a_short_message_costs_no_credit(rt: HostRuntime) {
 fn taken(rt: &impl Abort, bytes: &[u8]) -> Entry {
     let mut end = ArrayVec::new();
     end.try_extend_from_slice(bytes).expect(rt, "room");
-    Entry::Taken(Some(end))
+    Entry::Taken(Connection::First, Some(end))
 }
 
 #[test]
@@ -79,9 +86,9 @@ fn a_bad_online_leaves_the_unit_available(rt: HostRuntime) {
     let events = [
         sent(&rt, &[1, 0, 0, 0, 0, 0, 0, 0, 9, 0, 0, 0]),
         Event::Step(Block::Bad(bad)),
-        Event::Take,
+        Event::Take(Connection::First),
         sent(&rt, &[2, 0, 0, 0, 0, 0, 0, 0, 3, 0, 0, 0]),
-        Event::Take,
+        Event::Take(Connection::First),
     ];
     let online = End {
         reference: 1,
@@ -111,7 +118,7 @@ fn a_bad_online_leaves_the_unit_available(rt: HostRuntime) {
         .ok()
         .expect(&rt, "memory");
     let wanted = [
-        Entry::Sent(Ok(Sent::Queued(1))),
+        Entry::Sent(Connection::First, Ok(Sent::Queued(1))),
         Entry::Stepped(Report::Served {
             connection: Connection::First,
             reference: 1,
@@ -140,13 +147,13 @@ fn commands_that_are_not_valid_are_answered_at_once(rt: HostRuntime) {
     short[8] = 0x21;
     let events = [
         sent(&rt, b"\x05\0\0\0\0\0\0\0\x13\0\0\0"),
-        Event::Take,
+        Event::Take(Connection::First),
         sent(&rt, &no_unit),
-        Event::Take,
+        Event::Take(Connection::First),
         sent(&rt, &short),
-        Event::Take,
+        Event::Take(Connection::First),
         sent(&rt, b"\x01\0\0\0\0\0\0\0\x04\0\0\0\x01\0"),
-        Event::Take,
+        Event::Take(Connection::First),
     ];
     let mut offline = [0; 32];
     offline[0] = 6;
@@ -182,7 +189,7 @@ fn commands_that_are_not_valid_are_answered_at_once(rt: HostRuntime) {
 fn a_poll_of_a_number_that_is_not_there_is_answered_by_zero(rt: HostRuntime) {
     let events = [
         sent(&rt, b"\x02\0\0\0\0\0\0\0\x02\0\0\0\x4d\0\0\0"),
-        Event::Take,
+        Event::Take(Connection::First),
     ];
     let entries = run(rt.alloc(), config(&rt, 4, 2), Oldest, &events)
         .ok()
@@ -194,7 +201,10 @@ fn a_poll_of_a_number_that_is_not_there_is_answered_by_zero(rt: HostRuntime) {
 
 #[test]
 fn a_host_is_told_of_its_controller(rt: HostRuntime) {
-    let events = [sent(&rt, b"\x01\0\0\0\0\0\0\0\x04\0\0\0\0\0"), Event::Take];
+    let events = [
+        sent(&rt, b"\x01\0\0\0\0\0\0\0\x04\0\0\0\0\0"),
+        Event::Take(Connection::First),
+    ];
     let mut told = [0; 28];
     told[0] = 1;
     told[8] = 0x84;
@@ -220,7 +230,10 @@ fn polls(rt: &impl Abort, alloc: Global, count: usize) -> Vec<Event> {
         let poll = sent(rt, b"\x03\0\0\0\0\0\0\0\x02\0\0\0\x01\0\0\0");
         events.push(poll).ok().expect(rt, "memory");
         events.push(Event::Look).ok().expect(rt, "memory");
-        events.push(Event::Take).ok().expect(rt, "memory");
+        events
+            .push(Event::Take(Connection::First))
+            .ok()
+            .expect(rt, "memory");
     }
     events
 }
@@ -236,7 +249,7 @@ fn a_long_run_finds_memory_at_balance_0(rt: HostRuntime) {
     figures.push((Connection::First, 1, 17));
     let told = b"\x03\0\0\0\0\0\0\0\x82\0\0\0\x01\0\0\0\x11\0\0\0";
     let wanted = [
-        Entry::Sent(Ok(Sent::Queued(1))),
+        Entry::Sent(Connection::First, Ok(Sent::Queued(1))),
         answered(3),
         Entry::Looked(figures),
         taken(&rt, told),

@@ -1,7 +1,7 @@
 // What an ABORT leaves of the figures of all others.
 
 use super::Newest;
-use crate::{Block, Config, Controller, Sent};
+use crate::{Block, Config, Connection, Controller, Sent};
 use mscp_drive::{Unit, Units};
 use mscp_packet::{Command, MoveKind, Order, write_command};
 use std::process::Abort;
@@ -18,7 +18,7 @@ fn controller(rt: &impl Abort) -> Controller<Newest> {
     let units = Units::new(&[unit(rt, 0), unit(rt, 1), unit(rt, 2), unit(rt, 3)])
         .ok()
         .expect(rt, "numbers that rise");
-    let config = Config::new(64, 24, 8, 60, 1, units)
+    let config = Config::new(64, 0, 24, 8, 60, 1, units)
         .ok()
         .expect(rt, "limits");
     Controller::new(config, Newest)
@@ -26,7 +26,7 @@ fn controller(rt: &impl Abort) -> Controller<Newest> {
 
 fn send(rt: &impl Abort, controller: &mut Controller<Newest>, command: &Command) -> Sent {
     controller
-        .send(write_command(command).as_slice())
+        .send(Connection::First, write_command(command).as_slice())
         .ok()
         .expect(rt, "credit")
 }
@@ -61,7 +61,7 @@ fn full(rt: &impl Abort, steps: u32) -> Controller<Newest> {
         };
         let _queued = send(rt, &mut controller, &online);
         let _report = controller.step(Block::Good);
-        assert!(rt; controller.take().is_some());
+        assert!(rt; controller.take(Connection::First).is_some());
     }
     for reference in 1..64 {
         assert_eq!(rt;
@@ -98,9 +98,9 @@ fn no_abort_raises_a_figure(rt: HostRuntime) {
             );
             let after = controller.look();
             assert_eq!(rt; after.len(), 62);
-            assert_eq!(rt; controller.balance(), 0);
+            assert_eq!(rt; controller.balance(Connection::First), 0);
             for (_, reference, figure) in before.as_slice() {
-                let now = controller.figure(*reference);
+                let now = controller.figure(Connection::First, *reference);
                 assert!(rt; now <= *figure, "{reference} after an abort of {other}");
                 assert_eq!(rt; now == 0, *reference == other);
             }

@@ -25,7 +25,11 @@ fn abort(reference: u32, other: u32) -> Command {
 }
 
 fn send<K: Picker>(rt: &impl Abort, controller: &mut Controller<K>, command: &Command) {
-    assert!(rt; controller.send(write_command(command).as_slice()).is_ok());
+    assert!(rt;
+        controller
+            .send(Connection::First, write_command(command).as_slice())
+            .is_ok()
+    );
 }
 
 /// Brings the unit online, and takes the end.
@@ -37,7 +41,7 @@ fn bring_online<K: Picker>(rt: &impl Abort, controller: &mut Controller<K>, unit
     };
     send(rt, controller, &online);
     let _report = controller.step(Block::Good);
-    assert!(rt; controller.take().is_some());
+    assert!(rt; controller.take(Connection::First).is_some());
 }
 
 /// A controller whose unit 0 is online.
@@ -49,7 +53,7 @@ fn ready<K: Picker>(rt: &impl Abort, picker: K) -> Controller<K> {
 
 /// The oldest end that wasn't taken.
 fn taken<K: Picker>(rt: &impl Abort, controller: &mut Controller<K>) -> End {
-    let bytes = controller.take().expect(rt, "an end");
+    let bytes = controller.take(Connection::First).expect(rt, "an end");
     read_end(bytes.as_slice()).ok().expect(rt, "an end's bytes")
 }
 
@@ -109,23 +113,26 @@ fn an_abort_of_what_was_begun_is_stale(rt: HostRuntime) {
         assert_eq!(rt; controller.begin(), Some(begun));
         let abort = write_command(&abort(2, 1));
         assert_eq!(rt;
-            controller.send(abort.as_slice()),
+            controller.send(Connection::First, abort.as_slice()),
             Ok(Sent::Answered {
                 reference: 2,
                 aborted: Some(1)
             })
         );
-        assert_eq!(rt; controller.finish(1, Block::Good), Err(Stale));
+        assert_eq!(rt;
+            controller.finish(Connection::First, 1, Block::Good),
+            Err(Stale)
+        );
         assert!(rt; controller.look().is_empty());
-        assert_eq!(rt; controller.balance(), 2);
+        assert_eq!(rt; controller.balance(Connection::First), 2);
         assert_eq!(rt; controller.begin(), None);
         assert_eq!(rt;
             taken(&rt, &mut controller),
             read_ended(1, 0x0002, 512 * done)
         );
         assert_eq!(rt; taken(&rt, &mut controller), abort_ended(2, 1));
-        assert!(rt; controller.take().is_none());
-        assert_eq!(rt; controller.balance(), 4);
+        assert!(rt; controller.take(Connection::First).is_none());
+        assert_eq!(rt; controller.balance(Connection::First), 4);
     }
 }
 
@@ -136,7 +143,10 @@ fn a_stale_block_moves_no_head(rt: HostRuntime) {
     send(&rt, &mut controller, &read(1, 512, 40));
     assert!(rt; controller.begin().is_some());
     send(&rt, &mut controller, &abort(2, 1));
-    assert_eq!(rt; controller.finish(1, Block::Good), Err(Stale));
+    assert_eq!(rt;
+        controller.finish(Connection::First, 1, Block::Good),
+        Err(Stale)
+    );
     send(&rt, &mut controller, &read(3, 512, 40));
     assert_eq!(rt; controller.step(Block::Good), first_and_last(3, 40, 2));
 }
@@ -151,10 +161,13 @@ fn is_stale(
 ) {
     let status = FaultStatus::new(0x000B).expect(rt, "a status");
     for block in [Block::Good, Block::Bad(status)] {
-        assert_eq!(rt; controller.finish(reference, block), Err(Stale));
+        assert_eq!(rt;
+            controller.finish(Connection::First, reference, block),
+            Err(Stale)
+        );
         assert_eq!(rt; controller.look().as_slice(), figures);
-        assert_eq!(rt; controller.balance(), balance);
-        assert!(rt; controller.take().is_none());
+        assert_eq!(rt; controller.balance(Connection::First), balance);
+        assert!(rt; controller.take(Connection::First).is_none());
     }
 }
 
@@ -190,10 +203,10 @@ fn a_stale_finish_changes_nothing(rt: HostRuntime) {
     );
     assert_eq!(rt; controller.begin(), Some(begun));
     assert_eq!(rt;
-        controller.finish(1, Block::Good),
+        controller.finish(Connection::First, 1, Block::Good),
         Ok(first_and_last(1, 40, 2))
     );
-    assert!(rt; controller.take().is_some());
+    assert!(rt; controller.take(Connection::First).is_some());
     is_stale(&rt, &mut controller, 1, &[(FIRST, 2, 17)], 3);
     assert!(rt; controller.begin().is_some());
     controller.reset();
@@ -267,7 +280,10 @@ fn ends_untouched(rt: &impl Abort, command: Command, weight: u32, end: End) {
         weight,
     };
     assert_eq!(rt; controller.begin(), Some(begun));
-    assert_eq!(rt; controller.finish(1, Block::Good), Ok(untouched(end)));
+    assert_eq!(rt;
+        controller.finish(Connection::First, 1, Block::Good),
+        Ok(untouched(end))
+    );
     assert_eq!(rt; taken(rt, &mut controller), end);
     assert_eq!(rt; controller.begin(), None);
 }
@@ -308,7 +324,7 @@ fn full<K: Picker>(rt: &impl Abort, picker: K) -> Controller<K> {
     let units = Units::new(&[zero, one, two, three])
         .ok()
         .expect(rt, "numbers that rise");
-    let config = Config::new(64, 24, 8, 60, 1, units)
+    let config = Config::new(64, 0, 24, 8, 60, 1, units)
         .ok()
         .expect(rt, "limits");
     let mut controller = Controller::new(config, picker);
@@ -318,7 +334,7 @@ fn full<K: Picker>(rt: &impl Abort, picker: K) -> Controller<K> {
     for reference in 1..64 {
         send(rt, &mut controller, &one_of_many(reference));
     }
-    assert_eq!(rt; controller.balance(), 1);
+    assert_eq!(rt; controller.balance(Connection::First), 1);
     controller
 }
 
@@ -366,9 +382,9 @@ fn begin_tells_what_the_step_reports(rt: HostRuntime) {
 /// crosses five cylinders: block 100 is on cylinder 5.
 fn is_new(rt: &impl Abort, controller: &mut Controller<Sweep>) {
     assert_eq!(rt; controller.config().credits(), 4);
-    assert_eq!(rt; controller.balance(), 4);
+    assert_eq!(rt; controller.balance(Connection::First), 4);
     assert!(rt; controller.look().is_empty());
-    assert!(rt; controller.take().is_none());
+    assert!(rt; controller.take(Connection::First).is_none());
     assert_eq!(rt; controller.begin(), None);
     let online = Command {
         reference: 1,
@@ -401,7 +417,7 @@ fn a_reset_controller_is_new(rt: HostRuntime) {
     assert!(rt; used.step(Block::Good) != Report::Idle);
     send(&rt, &mut used, &read(3, 512, 0));
     assert!(rt; used.begin().is_some());
-    assert_eq!(rt; used.balance(), 1);
+    assert_eq!(rt; used.balance(Connection::First), 1);
     used.reset();
     is_new(&rt, &mut used);
     is_new(&rt, &mut controller(&rt, Sweep));

@@ -30,7 +30,7 @@ fn place_in(message: &[u8]) -> u32 {
 impl<K: Picker> Machine<K> {
     /// The port got a message from the host.
     fn on_message(&mut self, message: &[u8]) -> Result<(), SendFault> {
-        let sent = self.controller.send(message)?;
+        let sent = self.controller.send(Connection::First, message)?;
         self.note(sent, message);
         Ok(())
     }
@@ -136,7 +136,9 @@ impl<K: Picker> Machine<K> {
     /// command was aborted in the meantime.
     fn finish(&mut self, job: &Job, block: Block) -> Result<Report, Stale> {
         let command = job.upcoming.command;
-        let report = self.controller.finish(command.reference, block)?;
+        let report = self
+            .controller
+            .finish(Connection::First, command.reference, block)?;
         let read = matches!(command.order, Order::Move(MoveKind::Read, ..));
         if read && block == Block::Good && job.upcoming.lbn.is_some() {
             let place = self.place_of(command.reference);
@@ -200,7 +202,7 @@ fn online_machine<K: Picker>(rt: &impl Abort, picker: K) -> Machine<K> {
     let online = message(900, Order::Online);
     assert_eq!(rt; machine.on_message(online.as_slice()), Ok(()));
     assert!(rt; machine.on_turn().is_some());
-    assert!(rt; machine.controller.take().is_some());
+    assert!(rt; machine.controller.take(Connection::First).is_some());
     assert!(rt; machine.on_turn().is_none());
     machine
 }
@@ -222,7 +224,10 @@ fn transfer(opcode: u8, reference: u8, bytes: u16, block: u8, place: u16) -> [u8
 
 /// Reference number, status and body of the oldest end that wasn't taken.
 fn end<K: Picker>(rt: &impl Abort, machine: &mut Machine<K>) -> (u32, u16, EndBody) {
-    let bytes = machine.controller.take().expect(rt, "an end");
+    let bytes = machine
+        .controller
+        .take(Connection::First)
+        .expect(rt, "an end");
     let end = read_end(bytes.as_slice()).ok().expect(rt, "an end's bytes");
     (end.reference, end.status, end.body)
 }
@@ -241,7 +246,7 @@ fn data_go_to_the_disk_and_come_back(rt: HostRuntime) {
     assert_eq!(rt; machine.on_message(&write), Err(SendFault::Doubled));
     let read = transfer(33, 2, 1024, 10, 2048);
     assert_eq!(rt; machine.on_message(&read), Ok(()));
-    assert_eq!(rt; machine.controller.figure(1), 18);
+    assert_eq!(rt; machine.controller.figure(Connection::First, 1), 18);
     for block in [10, 11] {
         let report = machine.on_turn().expect(&rt, "the WRITE");
         assert_eq!(rt; served(&report), Some((1, 0, Some(block))));
@@ -343,7 +348,7 @@ fn what_was_aborted_meanwhile_leaves_the_memory_alone(rt: HostRuntime) {
     assert!(rt; are_all(&machine.memory, 7));
     assert_eq!(rt; end(&rt, &mut machine), (1, 0x0002, EndBody::Moved(0)));
     assert_eq!(rt; end(&rt, &mut machine), (2, 0, EndBody::Abort(1)));
-    assert!(rt; machine.controller.take().is_none());
+    assert!(rt; machine.controller.take(Connection::First).is_none());
     assert!(rt; machine.buffers.is_empty());
 }
 
@@ -358,7 +363,7 @@ fn a_reset_forgets_what_the_machine_had(rt: HostRuntime) {
     let block = machine.work(&mut job);
     assert_eq!(rt; machine.finish(&job, block), Err(Stale));
     assert!(rt; machine.on_turn().is_none());
-    assert!(rt; machine.controller.take().is_none());
+    assert!(rt; machine.controller.take(Connection::First).is_none());
     assert!(rt; machine.buffers.is_empty());
 }
 

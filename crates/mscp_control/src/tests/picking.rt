@@ -1,7 +1,7 @@
 // Who is served, under one picker and under another.
 
 use super::Newest;
-use crate::{Block, Config, Controller, Oldest, Picker, Report};
+use crate::{Block, Config, Connection, Controller, Oldest, Picker, Report};
 use mscp_drive::{Unit, Units};
 use mscp_packet::{Command, MoveKind, Order, write_command};
 use std::process::Abort;
@@ -20,7 +20,7 @@ fn controller<K: Picker>(rt: &impl Abort, budget: u64, picker: K) -> Controller<
     let units = Units::new(&[unit(rt, 0), unit(rt, 1)])
         .ok()
         .expect(rt, "numbers that rise");
-    let config = Config::new(8, budget, 8, 60, 1, units)
+    let config = Config::new(8, 0, budget, 8, 60, 1, units)
         .ok()
         .expect(rt, "limits");
     let mut controller = Controller::new(config, picker);
@@ -30,9 +30,13 @@ fn controller<K: Picker>(rt: &impl Abort, budget: u64, picker: K) -> Controller<
             unit: number,
             order: Order::Online,
         };
-        assert!(rt; controller.send(write_command(&online).as_slice()).is_ok());
+        assert!(rt;
+            controller
+                .send(Connection::First, write_command(&online).as_slice())
+                .is_ok()
+        );
         let _report = controller.step(Block::Good);
-        assert!(rt; controller.take().is_some());
+        assert!(rt; controller.take(Connection::First).is_some());
     }
     controller
 }
@@ -48,7 +52,11 @@ fn read(reference: u32, unit: u16, block: u32) -> Command {
 
 fn send<K: Picker>(rt: &impl Abort, controller: &mut Controller<K>, commands: &[Command]) {
     for command in commands {
-        assert!(rt; controller.send(write_command(command).as_slice()).is_ok());
+        assert!(rt;
+            controller
+                .send(Connection::First, write_command(command).as_slice())
+                .is_ok()
+        );
     }
 }
 

@@ -2,7 +2,7 @@
 
 use crate::read_script;
 use arrayvec::ArrayVec;
-use mscp_control::{Block, Config, Event, FaultStatus};
+use mscp_control::{Block, Config, Connection, Event, FaultStatus};
 use mscp_drive::{Unit, Units};
 use std::alloc::Global;
 use std::process::Abort;
@@ -16,7 +16,7 @@ fn config(rt: &impl Abort) -> Config {
         .ok()
         .expect(rt, "no size is zero");
     let units = Units::new(&[unit]).ok().expect(rt, "a list of units");
-    Config::new(4, 0, 8, 60, 1, units).ok().expect(rt, "limits")
+    Config::new(4, 0, 0, 8, 60, 1, units).ok().expect(rt, "limits")
 }
 
 /// How the fault of a script is printed.
@@ -39,7 +39,7 @@ fn joined(rt: &impl Abort, alloc: Global, parts: &[&str]) -> String {
 fn sent(rt: &impl Abort, bytes: &[u8]) -> Event {
     let mut message = ArrayVec::new();
     message.try_extend_from_slice(bytes).expect(rt, "room");
-    Event::Send(message)
+    Event::Send(Connection::First, message)
 }
 
 fn bad(rt: &impl Abort, status: u16) -> Event {
@@ -66,13 +66,13 @@ fn reads_a_header_and_events(rt: HostRuntime) -> Result<(), Fail> {
             b"\x01\0\0\0\0\0\0\0\x21\0\0\0\0\x04\0\0\0\0\0\0\0\0\0\0\0\0\0\0\x05\0\0\0",
         ),
         sent(&rt, b"\x02\0\0\0\0\0\0\0\x02\0\0\0\x01\0\0\0"),
-        Event::Take,
+        Event::Take(Connection::First),
         Event::Step(Block::Good),
         sent(&rt, b"\x03\0\0\0\0\0\0\0\x02\0\0\0\x01\0\0\0"),
-        Event::Take,
+        Event::Take(Connection::First),
         Event::Step(Block::Good),
         Event::Step(Block::Good),
-        Event::Take,
+        Event::Take(Connection::First),
         sent(&rt, b"\x04\0\0\0\x07\0\0\0\x09\0\0\0"),
         sent(&rt, b"\x05\0\0\0\x07\0\0\0\x08\0\0\0"),
         sent(&rt, b"\x06\0\0\0\x07\0\0\0\x0a\0\0\0"),
