@@ -36,10 +36,14 @@ fn joined(rt: &impl Abort, alloc: Global, parts: &[&str]) -> String {
     all
 }
 
-fn sent(rt: &impl Abort, bytes: &[u8]) -> Event {
+fn sent_by(rt: &impl Abort, connection: Connection, bytes: &[u8]) -> Event {
     let mut message = ArrayVec::new();
     message.try_extend_from_slice(bytes).expect(rt, "room");
-    Event::Send(Connection::First, message)
+    Event::Send(connection, message)
+}
+
+fn sent(rt: &impl Abort, bytes: &[u8]) -> Event {
+    sent_by(rt, Connection::First, bytes)
 }
 
 fn bad(rt: &impl Abort, status: u16) -> Event {
@@ -111,13 +115,18 @@ fn tells_the_first_fault(rt: HostRuntime) {
         ("Credits 4\n", "line 1: word"),
         ("credit 4\n", "line 1: word"),
         ("credits\n", "line 1: count"),
-        ("credits 4 x\n", "line 1: count"),
+        ("credits 4 x\n", "line 1: number"),
+        ("credits 4 4294967296\n", "line 1: number"),
+        ("credits 4 4 4\n", "line 1: count"),
+        ("credits x 4 4\n", "line 1: count"),
+        ("credits 4 4\n", "line 2: header"),
+        ("second credits 4\n", "line 1: word"),
         ("credits x\n", "line 1: number"),
         ("credits +4\n", "line 1: number"),
         ("credits 4294967296\n", "line 1: number"),
         ("credits 4294967300\n", "line 1: number"),
         ("credits 99999999999\n", "line 1: number"),
-        ("credits x y\n", "line 1: count"),
+        ("credits x y\n", "line 1: number"),
         ("credits 00000000004\n", "line 1: number"),
         ("credits 0000000004\n", "line 2: header"),
         ("credits 4294967295\n", "line 2: header"),
@@ -172,6 +181,10 @@ fn tells_the_fault_of_a_unit_or_of_limits(rt: HostRuntime) {
     let limits = [
         "credits 1\npassing 0\nlongest 8\ntimeout 60\n",
         "credits 65\npassing 0\nlongest 8\ntimeout 60\n",
+        "credits 4 1\npassing 0\nlongest 8\ntimeout 60\n",
+        "credits 3 62\npassing 0\nlongest 8\ntimeout 60\n",
+        "credits 64 2\npassing 0\nlongest 8\ntimeout 60\n",
+        "credits 4 4294967295\npassing 0\nlongest 8\ntimeout 60\n",
         "credits 260\npassing 0\nlongest 8\ntimeout 60\n",
         "credits 64\npassing 449\nlongest 8388608\ntimeout 60\n",
         "credits 64\npassing 512\nlongest 8388608\ntimeout 60\n",
@@ -187,6 +200,37 @@ fn tells_the_fault_of_a_unit_or_of_limits(rt: HostRuntime) {
         let found = fault_text(&rt, rt.alloc(), all.as_bytes());
         assert_eq!(rt; found.as_str(), "line 6: config", "of {text:?}");
     }
+}
+
+// Lines of the second connection's host, and its credits.
+#[test]
+fn reads_lines_of_the_second_connection(rt: HostRuntime) -> Result<(), Fail> {
+    let cases = [
+        ("credits 4\n", 4, 0),
+        ("credits 4 0\n", 4, 0),
+        ("credits 2 62\n", 2, 62),
+        ("credits 62 2\n", 62, 2),
+    ];
+    let rest = "passing 0\nlongest 8\ntimeout 60\nunit 0 10 2 1 1000\ngo\n";
+    let lines = "second read 1 0 1024 5\n second  packet  0aFF \nsecond take\ntake\n";
+    let wanted = [
+        sent_by(
+            &rt,
+            Connection::Second,
+            b"\x01\0\0\0\0\0\0\0\x21\0\0\0\0\x04\0\0\0\0\0\0\0\0\0\0\0\0\0\0\x05\0\0\0",
+        ),
+        sent_by(&rt, Connection::Second, b"\x0a\xff"),
+        Event::Take(Connection::Second),
+        Event::Take(Connection::First),
+    ];
+    for (credits, first, second) in cases {
+        let all = joined(&rt, rt.alloc(), &[credits, rest, lines]);
+        let script = read_script(rt.alloc(), all.as_bytes())?;
+        assert_eq!(rt; script.config.credits(), first, "of {credits:?}");
+        assert_eq!(rt; script.config.second(), second, "of {credits:?}");
+        assert_eq!(rt; script.events.as_slice(), wanted.as_slice());
+    }
+    Ok(())
 }
 
 // A count of passes is a budget of so many of the longest transfer.
@@ -259,6 +303,19 @@ fn takes_sixteen_units(rt: HostRuntime) -> Result<(), Fail> {
 #[test]
 fn tells_the_fault_of_an_event(rt: HostRuntime) {
     let cases = [
+        ("second\n", "line 7: count"),
+        ("second second take\n", "line 7: word"),
+        ("second step 1\n", "line 7: word"),
+        ("second bad 0008\n", "line 7: word"),
+        ("second look\n", "line 7: word"),
+        ("second look 1\n", "line 7: word"),
+        ("second go\n", "line 7: word"),
+        ("second credits 4\n", "line 7: word"),
+        ("second take 1\n", "line 7: count"),
+        ("second read 1 0 512\n", "line 7: count"),
+        ("second read x 0 512 0\n", "line 7: number"),
+        ("second packet 012\n", "line 7: hex"),
+        ("seconds take\n", "line 7: word"),
         ("step 0", "line 7: number"),
         ("step 1001", "line 7: number"),
         ("step", "line 7: count"),
