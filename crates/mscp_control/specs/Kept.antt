@@ -12,8 +12,8 @@ use Rattle.mscp_control.specs.Accounts.{account}
 use Rattle.mscp_control.specs.Holdings.{waiting_on}
 use Rattle.mscp_control.specs.Settings.{Settings, IsValid, credits_of, room, room_of}
 
--- the account counts the waiting commands that came by this connection, the credits cover them and its untaken ends, one
--- credit is kept for commands that are answered when they come, and each of those ends has the body of its endcode
+-- the account counts the waiting commands that came by this connection, the credits cover them and its untaken ends,
+-- one credit is kept for commands that are answered when they come, and each of those ends has the body of its endcode
 pub record IsAccount (c : Settings) (rs : List Record) (via : Connection) (own : Account) : Type 0 where
   pub counted : own.waiting ≡ length (waiting_on via rs)
   pub covered : own.waiting + length own.untaken.items ≤ credits_of c via

@@ -23,7 +23,8 @@ abbrev pub credits_of : Settings → Connection → ℕ
 credits_of c First = c.credits
 credits_of c Second = c.second
 
--- how many commands of a connection may wait: one credit is kept for commands that are answered when they come (profile)
+-- how many commands of a connection may wait: one credit is kept for commands that are answered when they come
+-- (profile)
 abbrev pub room_of : Settings → Connection → ℕ
 room_of c via = credits_of c via - 1
 

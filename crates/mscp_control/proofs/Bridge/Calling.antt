@@ -1,6 +1,6 @@
 -- Every call of a controller that somebody holds is answered right, and what was begun is held to.
 use Rattle.std.proofs.Common.{◌≡◌, inl, inr, ℕ, ◌<◌, Bool, true, false, not, ◌&&◌, ◌||◌, List, [], ◌∷◌, ◌++◌, map, take, length, refl, ap, sym, ◌∙◌, subst, append_assoc, append-nil, arith}
-use Rattle.std.specs.Prelude.{IfSome, if◌then◌else◌, nat_eq, option_map, Option, Some, None, Result, Ok, Err}
+use Rattle.std.specs.Prelude.{IfSome, if◌then◌else◌, nat_eq, Option, Some, None, Result, Ok, Err}
 use Rattle.std.proofs.lemmas.Bool.{false≢true}
 use Rattle.mscp_packet.specs.declared.command.Command.{Command}
 use Rattle.mscp_packet.specs.Commands.{command_of}
@@ -15,7 +15,6 @@ use Rattle.mscp_queue.specs.declared.name.Connection.{Connection}
 use Rattle.mscp_queue.specs.Names.{name_on, same_name}
 use Rattle.mscp_queue.specs.Orders.{order_weight}
 use Rattle.mscp_queue.specs.Outcomes.{block_touched}
-use Rattle.mscp_queue.specs.Records.{Record}
 use Rattle.mscp_queue.specs.Serving.{is_begun}
 use Rattle.mscp_control.specs.declared.event.Event.{Event}
 use Rattle.mscp_control.specs.declared.event.Event.TheVariants as events
@@ -27,7 +26,7 @@ use Rattle.mscp_control.specs.declared.event.Stale.{Stale}
 use Rattle.mscp_control.specs.Settings.{Settings, IsValid}
 use Rattle.mscp_control.specs.Arrival.{is_queued, refusal}
 use Rattle.mscp_control.specs.History.{Trace, Moment, Service, is_step, service_in}
-use Rattle.mscp_control.specs.Commands.{connection, ends_in, is_waiting, name, unit, waiting}
+use Rattle.mscp_control.specs.Commands.{ends_in, is_waiting, name, unit, waiting}
 use Rattle.mscp_control.specs.Units.{is_online}
 use Rattle.mscp_control.specs.Legal.{IsLegal, IsPick, IsServed, block_of}
 use Rattle.mscp_control.specs.Holdings.{Answers, Finishes, Holdings, Steps, reference_aborted, aborting, answered_end, balance_of, begun_after, with_end, fresh, held_unless, outstanding_of, queued, sent_unless}

@@ -1,6 +1,6 @@
 -- How many commands of each connection wait.
 use Rattle.std.proofs.Common.{◌≡◌, ℕ, ◌+◌, ◌<◌, Bool, true, false, cond, not, ◌&&◌, List, [], ◌∷◌, ◌++◌, map, length, take, drop, ap, refl, ◌∙◌, arith}
-use Rattle.std.specs.Prelude.{filter, if◌then◌else◌, nat_eq, option_to_list, Option, Some, None}
+use Rattle.std.specs.Prelude.{if◌then◌else◌, nat_eq, option_to_list, Option, Some, None}
 use Rattle.std.proofs.Math.Bool.{and-false}
 use Rattle.std.proofs.lemmas.Bool.{true≢false}
 use Rattle.std.proofs.lemmas.List.{length-append}

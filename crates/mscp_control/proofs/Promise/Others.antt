@@ -1,14 +1,13 @@
 -- What comes from the host of one connection leaves the account of the other's as it was.
-use Rattle.std.proofs.Common.{◌≡◌, ◌≢◌, ℕ, ◌+◌, ◌-◌, ◌<◌, ◌≤◌, Bool, true, false, not, List, [], ◌∷◌, ◌++◌, map, length, refl, ap, sym, ◌∙◌, append-nil}
-use Rattle.std.specs.Prelude.{filter, nat_eq, ◌&&◌, if◌then◌else◌, cond, Option, Some, None, is_some, Ok, Err}
-use Rattle.std.specs.List.{AllByRecursion}
-use Rattle.std.proofs.lemmas.Bool.{true≢false, false≢true}
+use Rattle.std.proofs.Common.{◌≡◌, ◌≢◌, ℕ, ◌-◌, ◌<◌, Bool, true, false, not, [], ◌∷◌, ◌++◌, map, length, refl, ap, sym, ◌∙◌, append-nil}
+use Rattle.std.specs.Prelude.{filter, nat_eq, ◌&&◌, if◌then◌else◌, cond, Some, None, is_some, Ok, Err}
+use Rattle.std.proofs.lemmas.Bool.{true≢false}
 use Rattle.mscp_packet.specs.declared.command.Command.{Command}
 use Rattle.mscp_packet.specs.declared.end.End.{End}
 use Rattle.mscp_queue.specs.declared.name.Connection.{Connection}
 use Rattle.mscp_queue.specs.declared.name.Name.{Name}
 use Rattle.mscp_queue.specs.declared.report.Report.TheVariants as reports
-use Rattle.mscp_queue.specs.Names.{name_on, same_connection}
+use Rattle.mscp_queue.specs.Names.{same_connection}
 use Rattle.mscp_queue.proofs.Lists.{every_from, every_filter, every_weaker, every_kept, filter_all}
 use Rattle.mscp_queue.proofs.Named.{one_side}
 use Rattle.mscp_queue.proofs.Placed.{map_on}

@@ -1,9 +1,8 @@
-use Rattle.std.proofs.Common.{◌≡◌, ◌≤◌, false, subst, sym, ap, ◌∙◌, arith}
+use Rattle.std.proofs.Common.{◌≡◌, ◌≤◌, false, subst, sym}
 use Rattle.mscp_control.specs.Arrival.{holds}
 use Rattle.mscp_control.specs.Holdings.{Holdings, balance_of, outstanding_of}
 use Rattle.mscp_control.proofs.Bridge.Judging.{none_waits}
-use Rattle.mscp_control.proofs.Bridge.Accounts.{seen_of}
-use Rattle.mscp_control.proofs.Bridge.Keeping.{free_seen, held_queued, room_left}
+use Rattle.mscp_control.proofs.Bridge.Keeping.{free_seen, room_left}
 use Rattle.mscp_control.proofs.controller.Controller.queue.Goals as goal
 
 pub push-requires-clause-room : goal.push-requires-clause-room

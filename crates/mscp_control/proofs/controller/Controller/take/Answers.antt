@@ -1,6 +1,5 @@
 use Rattle.std.proofs.Common.{◌≡◌, ◌∙◌, ap, subst, sym}
-use Rattle.std.specs.Prelude.{slice_get, Some}
-use Rattle.mscp_packet.specs.declared.end.End.{End}
+use Rattle.std.specs.Prelude.{slice_get}
 use Rattle.mscp_packet.specs.Ends.{IsEnd}
 use Rattle.mscp_control.specs.Both.{of}
 use Rattle.mscp_control.specs.Holdings.{Holdings}
