@@ -119,7 +119,8 @@ unfolding next
 sets_longest c (ways.Budget blocks) = (tt, λ words. refl)
 sets_longest c (ways.Passing passes) = (tt, λ words. refl)
 
-pub sets_timeout : (c : Both ℕ) (q l : ℕ) → Sets (HasLongest c q l) (codes "timeout") 65535 (λ t. HasTimeout (limits c q l t))
+pub sets_timeout : (c : Both ℕ) (q l : ℕ)
+    → Sets (HasLongest c q l) (codes "timeout") 65535 (λ t. HasTimeout (limits c q l t))
 unfolding next
 sets_timeout c q l = (tt, λ words. refl)
 

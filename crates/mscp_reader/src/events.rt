@@ -217,11 +217,7 @@ fn alone(request: Request, words: Words<'_>) -> Result<Request, Cause>
 
 /// A transfer: its reference number, its unit, how many bytes, and the first block.
 #[tactic(auto, unfolding(crate::specs::Requests::asked))]
-fn read_transfer(
-    connection: Connection,
-    kind: MoveKind,
-    words: Words<'_>,
-) -> Result<Request, Cause>
+fn read_transfer(connection: Connection, kind: MoveKind, words: Words<'_>) -> Result<Request, Cause>
     ensures { result ≡ requests.asked connection (Form.Transfer kind) (lexical.words words.entry.rest.now) }
 {
     let (reference, unit, count, block) = words.four()?;
@@ -235,11 +231,7 @@ fn read_transfer(
 
 /// Another command to a unit: its reference number, and its unit.
 #[tactic(auto, unfolding(crate::specs::Requests::asked))]
-fn read_plain(
-    connection: Connection,
-    order: Order,
-    words: Words<'_>,
-) -> Result<Request, Cause>
+fn read_plain(connection: Connection, order: Order, words: Words<'_>) -> Result<Request, Cause>
     ensures { result ≡ requests.asked connection (Form.Plain order) (lexical.words words.entry.rest.now) }
 {
     let (reference, unit) = words.two()?;
