@@ -40,7 +40,8 @@ apart_held t [] a = tt
 apart_held t (x ∷ xs) a = (names_from t x xs a.0, apart_held t xs a.1)
 
 -- the records of those that an order names
-named_held : (via : Connection) (t : Trace) (ws : List Record) (o : Order) → Apart t (waiting t) → ws ≡ map (held_of t) (waiting t)
+named_held : (via : Connection) (t : Trace) (ws : List Record) (o : Order) → Apart t (waiting t)
+    → ws ≡ map (held_of t) (waiting t)
     → map (held_of t) (named via t o) ≡ option_to_list (record_aborted via ws o)
 named_held via t ws (orders.Abort other) a e =
     sym (filter_map_of (held_of t) (has_name (name_on via other)) (waiting t))
@@ -100,7 +101,8 @@ first_held t (x ∷ xs) None e = absurd (omega (arith, ap length e))
 first_held t (x ∷ xs) (Some r) e = ap (λ rs. Some (first_reference rs)) e
 
 -- the reference number that is told
-pub reference_told : (c : Settings) (via : Connection) (t : Trace) (ws : List Record) (k : Command) → Apart t (waiting t)
+pub reference_told : (c : Settings) (via : Connection) (t : Trace) (ws : List Record) (k : Command)
+    → Apart t (waiting t)
     → ws ≡ map (held_of t) (waiting t)
     → option_map (reference t) (slice_get (history.aborted c via t k) 0)
     ≡ reference_aborted via ws k.order
@@ -163,7 +165,8 @@ left_by via q other ws =
     ∙ ap (λ o. filter (λ r. not (ends o r)) ws) (sym (ap (find p) f.is ∙ find_first p A y B f.before f.passed)))
     (find_cases p ws)
 
-none_left : (via : Connection) (q : ℕ) (ws : List Record) → ws ≡ filter (λ r. not (ends_in (name_of r) (Answer via q None))) ws
+none_left : (via : Connection) (q : ℕ) (ws : List Record)
+    → ws ≡ filter (λ r. not (ends_in (name_of r) (Answer via q None))) ws
 none_left via q ws = sym (filter_all (λ r. not (ends_in (name_of r) (Answer via q None))) ws
     (every_from (λ r. not (ends_in (name_of r) (Answer via q None)) ≡ not false) (λ r. refl) ws))
 
@@ -195,7 +198,8 @@ abbrev Left : Connection → ℕ → List Record → Name → Order → Type 0
 Left via q ws n o = begun_after via (Some n) o ≡ (if not (ends_in n
     (Answer via q (reference_aborted via ws o))) then Some n else None)
 
-abort_left : (via : Connection) (q other : ℕ) (t : Trace) (ws : List Record) (n : Name) (y : ℕ) → ws ≡ map (held_of t) (waiting t)
+abort_left : (via : Connection) (q other : ℕ) (t : Trace) (ws : List Record) (n : Name) (y : ℕ)
+    → ws ≡ map (held_of t) (waiting t)
     → is_waiting t y ≡ true → name t y ≡ n → Left via q ws n (orders.Abort other)
 abort_left via q other t ws n y e w own =
     let p = has_name (name_on via other) in

@@ -111,7 +111,8 @@ quiet c picks calls event entry h h' turn legal e s left none holds =
     }
 
 -- what is begun after a message
-begun_unless : {K : Type 0} (via : Connection) (h : Holdings K) (t : Trace) (k : Command) (n : Name) (y : ℕ) (o : Option SendFault)
+begun_unless : {K : Type 0} (via : Connection) (h : Holdings K) (t : Trace) (k : Command) (n : Name) (y : ℕ)
+    (o : Option SendFault)
     → h.waiting ≡ map (held_of t) (waiting t) → h.begun ≡ Some n → is_waiting t y ≡ true → name t y ≡ n
     → (held_unless via h k o).begun
     ≡ (if not (ends_in n (entries.Sent via (sent_unless via h k o))) then Some n else None)
@@ -258,13 +259,15 @@ plain picks calls events.Look (entries.Stepped report) h h' v a legal b r = absu
 
 -- ---- a finish
 
-begun_as : (c : Settings) (picks : List Choice → ℕ → Type 0) (calls : List Call) (via : Connection) (number : ℕ) (o : Option Name)
+begun_as : (c : Settings) (picks : List Choice → ℕ
+    → Type 0) (calls : List Call) (via : Connection) (number : ℕ) (o : Option Name)
     → is_begun (name_on via number) o ≡ true → Holds c picks calls o → IsBegun calls (name_on via number)
 begun_as c picks calls via number None e b = absurd (false≢true e)
 begun_as c picks calls via number (Some n) e b = (b.0, b.1, b.2, b.3.is, b.3.own ∙ same_is n (name_on via number) e)
 
 -- what is begun is of this number, or isn't
-only_begun : (c : Settings) (picks : List Choice → ℕ → Type 0) (calls : List Call) (via : Connection) (number : ℕ) (o : Option Name)
+only_begun : (c : Settings) (picks : List Choice → ℕ
+    → Type 0) (calls : List Call) (via : Connection) (number : ℕ) (o : Option Name)
     (q : Bool) → is_begun (name_on via number) o ≡ q → Holds c picks calls o → (up : Upcoming) (y j : ℕ)
     → IsBegunSince calls up y j
     → same_name (upcoming_name up) (name_on via number) ≡ q
@@ -274,7 +277,8 @@ only_begun c picks calls via number (Some n) q e b up y j is =
 
 finish : {K : Type 0} (picks : List Choice → ℕ → Type 0) (calls : List Call) (via : Connection) (number : ℕ) (k : Block)
     (answer : Result Report Stale) (h h' : Holdings K) → IsValid h.settings → Agrees h.settings (history calls) h
-    → IsLegal h.settings (history calls) → Holds h.settings picks calls h.begun → Finishes picks (name_on via number) k h answer h'
+    → IsLegal h.settings (history calls) → Holds h.settings picks calls h.begun
+    → Finishes picks (name_on via number) k h answer h'
     → Turned h.settings picks calls (Finish via number k answer) h'
 finish picks calls via number k (Ok report) h h' v a legal b r =
     let c = h.settings in
@@ -319,7 +323,8 @@ turned : {K : Type 0} (picks : List Choice → ℕ → Type 0) (calls : List Cal
     → Holds h.settings picks calls h.begun → AnswersCall picks h call h' → Turned h.settings picks calls call h'
 turned picks calls (Plain event entry) h h' v a legal b r = plain picks calls event entry h h' v a legal b r
 turned picks calls (Begin upcoming) h h' v a legal b r = begin picks calls upcoming h h' a legal b r
-turned picks calls (Finish via number k answer) h h' v a legal b r = finish picks calls via number k answer h h' v a legal b r
+turned picks calls (Finish via number k answer) h h' v a legal b r =
+    finish picks calls via number k answer h h' v a legal b r
 
 settings_kept : {K : Type 0} (picks : List Choice → ℕ → Type 0) (h h' : Holdings K) (call : Call)
     → AnswersCall picks h call h' → h'.settings ≡ h.settings

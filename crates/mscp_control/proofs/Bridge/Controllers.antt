@@ -88,6 +88,7 @@ keeps_promise c picks picker calls h v r =
       untaken = f.ends;
       figure = λ name. ap (λ ws. figure_of_name c.budget ws name) f.waits ∙ figure_of_held c t name;
       drives = k.agrees.driven.drives;
-      balance = λ via. ap (λ (s : Settings). credits_of s via - (length (waiting_on via h.waiting) + length (of via h.untaken)))
+      balance = λ via. ap (λ (s : Settings). credits_of s via - (length (waiting_on via h.waiting) + length
+          (of via h.untaken)))
           k.settings ∙ balance_held c via t h.waiting h.untaken f;
     }

@@ -25,7 +25,8 @@ waiting_held : (rs : List Record) (via : Connection) (reference : ℕ)
 waiting_held [] via reference = refl
 waiting_held (r ∷ rs) via reference =
     let rest = waiting_held rs via reference in
-    elim (same_connection r.connection via) as (λ b. holds (numbers (cond b (r ∷ waiting_on via rs) (waiting_on via rs)))
+    elim (same_connection r.connection via) as (λ b. holds (numbers (cond b (r ∷ waiting_on via rs)
+    (waiting_on via rs)))
     reference ≡ ((b && nat_eq r.command.reference reference) || list_any (has_name (name_on via reference)) rs))
     [ true ↦ ap (λ b. nat_eq r.command.reference reference || b) rest | false ↦ rest ]
 

@@ -300,10 +300,15 @@ balanced {K} {c} {line} {a} h via =
 -- what a connection's commands and ends hold is at most 64
 pub held_small : {K : Type 0} {c : Settings} {line : Line K} {a : Accounts} → IsHeld c line a → (via : Connection)
     → (account via a).waiting + length (account via a).untaken.items ≤ 64
-held_small {K} {c} {line} {a} h via = let covered = (h.account via).covered in omega (arith, covered, few_of c via h.valid)
+held_small {K} {c} {line} {a} h via = let covered = (h.account via).covered in omega (
+  arith,
+  covered,
+  few_of c via h.valid,
+)
 
 -- an abort leaves the credits that are free as they were: its end takes the place of its command
-pub balance_left : {K : Type 0} (c : Settings) (old new : Line K) (a a' : Accounts) (via : Connection) (n : ℕ) (end : End)
+pub balance_left : {K : Type 0} (c : Settings) (old new : Line K) (a a' : Accounts) (via : Connection) (n : ℕ)
+    (end : End)
     → new ≡ lines.aborting (name_on via n) old → length new.waiting + 1 ≡ length old.waiting
     → a' ≡ put_account via (left end (account via a)) a
     → credits_of c via - (length (waiting_on via new.waiting) + length (of via (untaken_in a')))

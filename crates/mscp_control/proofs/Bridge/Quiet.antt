@@ -82,7 +82,8 @@ records_kept t t' xs k = map_on (held_of t') (held_of t) xs k
 -- What is held after a moment that serves nobody and queues nobody: the records of the commands that it doesn't end.
 pub follows_left : (c : Settings) (t : Trace) (m : Moment) (ws ws' : List Record) (us us' : Both (List End))
     → 1 ≤ c.longest → IsRight c t m.0 m.1 → service_in m.1 ≡ None → queues m.1 ≡ false
-    → ws' ≡ filter (λ r. not (ends_in (name_of r) m.1)) ws → ((via : Connection) → of via us' ≡ untaken c via (t ++ m ∷ []))
+    → ws' ≡ filter (λ r. not (ends_in (name_of r) m.1)) ws → ((via : Connection)
+    → of via us' ≡ untaken c via (t ++ m ∷ []))
     → Follows c t ws us
     → Follows c (t ++ m ∷ []) ws' us'
 follows_left c t m ws ws' us us' l r unserved n left e f =

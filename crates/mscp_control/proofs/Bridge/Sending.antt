@@ -284,7 +284,8 @@ sends_taken : {K : Type 0} (via : Connection) (h : Holdings K) (t : Trace) (b : 
     (if q then queued via h k else answered_holds via h k)
 sends_taken via h t b l f none true q =
     let c = h.settings in
-    waits via h t b l f (ap Ok (taken_as_queued c via t (command_of b.items) q) ∙ arrival_when c via t b.items None none)
+    waits via h t b l f (ap Ok (taken_as_queued c via t
+    (command_of b.items) q) ∙ arrival_when c via t b.items None none)
 sends_taken via h t b l f none false q =
     let c = h.settings in
     answered via h t b l f (ap Ok (taken_as_answered via h t (command_of b.items) f.follows q)

@@ -66,7 +66,8 @@ pub record Arrives (c : Settings) (via : Connection) (t : Trace) (b : List ℕ) 
   pub taken : IsTaken (balance c via t) (outstanding c via t) b
   pub is : s ≡ taken_in c via t (command_of b)
 
-pub arrives : (c : Settings) (via : Connection) (t : Trace) (b : List ℕ) (s : Sent) → Ok s ≡ arrival c via t b → Arrives c via t b s
+pub arrives : (c : Settings) (via : Connection) (t : Trace) (b : List ℕ) (s : Sent) → Ok s ≡ arrival c via t b
+    → Arrives c via t b s
 unfolding arrival
 arrives c via t b s h =
     let u = unless_ok c via t (command_of b) s (refusal (balance c via t) (outstanding c via t) b) h in
@@ -86,7 +87,8 @@ abbrev pub taken_when : Settings → Connection → Trace → Command → Bool �
 taken_when c via t command q =
     if q then sents.Queued command.reference else sents.Answered command.reference (aborted_reference c via t command)
 
-queue_of : (c : Settings) (via : Connection) (t : Trace) (command : Command) (r : ℕ) → sents.Queued r ≡ taken_in c via t command
+queue_of : (c : Settings) (via : Connection) (t : Trace) (command : Command) (r : ℕ)
+    → sents.Queued r ≡ taken_in c via t command
     → is_queued c command ≡ true
 unfolding is_queue
 queue_of c via t command r h =

@@ -108,7 +108,8 @@ same_waits c via t m f =
     ∙ (append-nil (filter keep (waiting_by via t))
     ∙ filter_all keep (waiting_by via t)
     (every_weaker (λ x. Unit {0} × (on x ≡ true)) (λ x. keep x ≡ true) (λ x h. ap not (f.kept (name t x) h.1))
-    (waiting_by via t) (every_filter (λ x. Unit {0}) on (waiting t) (every_from (λ x. Unit {0}) (λ x. tt) (waiting t))))))
+    (waiting_by via t) (every_filter (λ x. Unit {0}) on (waiting t) (every_from (λ x. Unit {0}) (λ x. tt)
+    (waiting t))))))
 
 untouched : (c : Settings) (via : Connection) (t : Trace) (m : Moment) → Room c t → IsForeign c via t m
     → IsUntouched c via t (t ++ m ∷ [])

@@ -255,7 +255,8 @@ queued_fits c via t m b h k e =
     let keep : ℕ → Bool = λ x. not (ends_in (name t x) m.1) in
     let few = fewer keep (waiting_by via t) in
     let one : length (cond (queues_by via m) (length t ∷ []) []) ≤ 1 =
-    elim (queues_by via m) as (λ b. length (cond b (length t ∷ []) []) ≤ 1) [ true ↦ omega arith | false ↦ omega arith ] in
+    elim (queues_by via m) as (λ b. length (cond b (length t ∷ []) []) ≤ 1)
+    [ true ↦ omega arith | false ↦ omega arith ] in
     let more = waiting_by_length via t m in
     record { room = omega (arith, free, few, one, more, ap length e); spare = omega (arith, free, few, one, more) }
 
@@ -291,7 +292,8 @@ sent_fits c via own t b (sents.Answered q a) h r true e =
     let side = one_side own via e in
     subst (λ s. Fits c via t (events.Send s b, Answer s q a)) (sym side)
     (answered_fits c via t (events.Send via b) q a h (subst Right side r)
-    (ap (λ here. (if here then answer c via t b.items else []) ++ []) (own_side via) ∙ append-nil (answer c via t b.items)))
+    (ap (λ here. (if here then answer c via t b.items else []) ++ []) (own_side via)
+    ∙ append-nil (answer c via t b.items)))
 sent_fits c via own t b (sents.Answered q a) h r false e =
     still c via t (events.Send own b, Answer own q a) h refl
     (ap (λ here. (if here then answer c via t b.items else []) ++ []) e)
@@ -300,7 +302,10 @@ fits : (c : Settings) (via : Connection) (t : Trace) (event : Event) (entry : En
     → IsRight c t event entry → Fits c via t (event, entry)
 fits c via t event (entries.Looked list) h st r = still c via t (event, entries.Looked list) h refl refl
 fits c via t event (entries.Taken other taken) h st r = still c via t (event, entries.Taken other taken) h refl refl
-fits c via t event (entries.Stepped reports.Idle) h st r = still c via t (event, entries.Stepped reports.Idle) h refl refl
+fits c via t event (entries.Stepped reports.Idle) h st r = still c via t (
+  event,
+  entries.Stepped reports.Idle,
+) h refl refl
 fits c via t event (entries.Stepped (reports.Served other reference unit lbn started seek ended)) h st r =
     served_fits c via t (event, entries.Stepped (reports.Served other reference unit lbn started seek ended))
     (record {

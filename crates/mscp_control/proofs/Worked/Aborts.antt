@@ -190,5 +190,32 @@ unfolding moment collect command_of command is_waiting waiting done good passed_
     figure figure_of is_online head_cylinder head_up answer outcome ends untaken balance outstanding arrival block_of
 fence_legal = legal_from (settings 5 2) fence (
   (refl, refl),
-  (by_serving 0 refl refl refl, ((refl, refl), ((refl, refl), ((refl, refl), (refl, ((refl, refl), (refl, ((refl, refl), ((refl, refl), tt))))))))),
+  (
+    by_serving 0 refl refl refl,
+    (
+      (refl, refl),
+      (
+        (refl, refl),
+        (
+          (refl, refl),
+          (
+            refl,
+            (
+              (refl, refl),
+              (
+                refl,
+                (
+                  (
+                    refl,
+                    refl,
+                  ),
+                  ((refl, refl), tt),
+                ),
+              ),
+            ),
+          ),
+        ),
+      ),
+    ),
+  ),
 )

@@ -59,8 +59,25 @@ begun_legal : IsLegal (settings 8 8) (history begun_and_aborted)
 unfolding moment collect command_of command is_waiting waiting done good passed_at passed is_free is_startable startable
     figure figure_of is_online head_cylinder head_up cost swept answer outcome ends untaken balance outstanding arrival
     block_of
-begun_legal = legal_from (settings 8 8) (history begun_and_aborted)
-    ((refl, refl), (by_serving 0 refl refl refl, ((refl, refl), ((refl, refl), ((refl, refl), ((refl, refl), (by_serving 4 refl refl refl, tt)))))))
+begun_legal = legal_from (settings 8 8) (history begun_and_aborted) (
+  (refl, refl),
+  (
+    by_serving 0 refl refl refl,
+    (
+      (refl, refl),
+      (
+        (refl, refl),
+        (
+          (refl, refl),
+          (
+            (refl, refl),
+            (by_serving 4 refl refl refl, tt),
+          ),
+        ),
+      ),
+    ),
+  ),
+)
 
 -- It is told of the far one,
 far_told : IsForetold (settings 8 8) (history (take 4 begun_and_aborted)) (Some (one_block 1 60))

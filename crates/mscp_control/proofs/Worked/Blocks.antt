@@ -32,7 +32,25 @@ unfolding moment collect command_of command is_waiting waiting done good passed_
     figure figure_of is_online head_cylinder head_up answer outcome ends untaken balance outstanding arrival block_of
 empty_legal = legal_from (settings 4 2) empty (
   (refl, refl),
-  (by_serving 0 refl refl refl, ((refl, refl), ((refl, refl), (refl, (by_serving 3 refl refl refl, ((refl, refl), tt)))))),
+  (
+    by_serving 0 refl refl refl,
+    (
+      (refl, refl),
+      (
+        (refl, refl),
+        (
+          refl,
+          (
+            by_serving 3 refl refl refl,
+            (
+              (refl, refl),
+              tt,
+            ),
+          ),
+        ),
+      ),
+    ),
+  ),
 )
 
 -- A byte past a block takes a step of its own.
@@ -78,7 +96,19 @@ last_block =
 pub last_block_legal : IsLegal (settings 4 2) last_block
 unfolding moment collect command_of command is_waiting waiting done good passed_at passed is_free is_startable startable
     figure figure_of is_online head_cylinder head_up answer outcome ends untaken balance outstanding arrival block_of
-last_block_legal = legal_from (settings 4 2) last_block ((refl, refl), ((refl, refl), ((refl, refl), ((refl, refl), ((refl, refl), tt)))))
+last_block_legal = legal_from (settings 4 2) last_block (
+  (refl, refl),
+  (
+    (refl, refl),
+    (
+      (refl, refl),
+      (
+        (refl, refl),
+        ((refl, refl), tt),
+      ),
+    ),
+  ),
+)
 
 -- A transfer as long as may be is queued, and a longer one refused.
 abbrev pub longest : Trace

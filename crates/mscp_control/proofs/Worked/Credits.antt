@@ -32,7 +32,22 @@ last_credit =
 pub last_credit_legal : IsLegal (settings 2 2) last_credit
 unfolding moment collect command_of command is_waiting waiting done good passed_at passed is_free is_startable startable
     figure figure_of is_online head_cylinder head_up answer outcome ends untaken balance outstanding arrival block_of
-last_credit_legal = legal_from (settings 2 2) last_credit ((refl, refl), ((refl, refl), ((refl, refl), ((refl, refl), ((refl, refl), ((refl, refl), tt))))))
+last_credit_legal = legal_from (settings 2 2) last_credit (
+  (refl, refl),
+  (
+    (refl, refl),
+    (
+      (refl, refl),
+      (
+        (
+          refl,
+          refl,
+        ),
+        ((refl, refl), ((refl, refl), tt)),
+      ),
+    ),
+  ),
+)
 
 -- One end is left.
 last_credit_balance : balance (settings 2 2) First last_credit ≡ 0
@@ -55,7 +70,19 @@ doubled =
 pub doubled_legal : IsLegal (settings 4 2) doubled
 unfolding moment collect command_of command is_waiting waiting done good passed_at passed is_free is_startable startable
     figure figure_of is_online head_cylinder head_up answer outcome ends untaken balance outstanding arrival block_of
-doubled_legal = legal_from (settings 4 2) doubled ((refl, refl), ((refl, refl), ((refl, refl), ((refl, refl), ((refl, refl), tt)))))
+doubled_legal = legal_from (settings 4 2) doubled (
+  (refl, refl),
+  (
+    (refl, refl),
+    (
+      (refl, refl),
+      (
+        (refl, refl),
+        ((refl, refl), tt),
+      ),
+    ),
+  ),
+)
 
 -- A message of 11 bytes is too short and one of 65 too long, and neither costs a credit.
 abbrev pub lengths : Trace

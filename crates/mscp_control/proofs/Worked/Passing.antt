@@ -38,7 +38,19 @@ in_order_legal = legal_from (settings 5 0) in_order (
       (refl, refl),
       (
         (refl, refl),
-        ((refl, refl), ((refl, refl), (by_serving 3 refl refl refl, (by_serving 4 refl refl refl, (by_serving 5 refl refl refl, tt))))),
+        (
+          (refl, refl),
+          (
+            (refl, refl),
+            (
+              by_serving 3 refl refl refl,
+              (
+                by_serving 4 refl refl refl,
+                (by_serving 5 refl refl refl, tt),
+              ),
+            ),
+          ),
+        ),
       ),
     ),
   ),
@@ -142,7 +154,19 @@ passed_twice_legal = legal_from (with_budget 5 2) passed_twice (
       (refl, refl),
       (
         (refl, refl),
-        ((refl, refl), ((refl, refl), (by_serving 4 refl refl refl, (by_serving 5 refl refl refl, (by_serving 3 refl refl refl, tt))))),
+        (
+          (refl, refl),
+          (
+            (refl, refl),
+            (
+              by_serving 4 refl refl refl,
+              (
+                by_serving 5 refl refl refl,
+                (by_serving 3 refl refl refl, tt),
+              ),
+            ),
+          ),
+        ),
       ),
     ),
   ),
@@ -183,7 +207,22 @@ passed_each_legal = legal_from (with_budget 8 1) passed_each (
       (refl, refl),
       (
         (refl, refl),
-        ((refl, refl), ((refl, refl), ((refl, refl), (by_serving 6 refl refl refl, (by_serving 3 refl refl refl, tt))))),
+        (
+          (refl, refl),
+          (
+            (refl, refl),
+            (
+              (refl, refl),
+              (
+                by_serving 6 refl refl refl,
+                (
+                  by_serving 3 refl refl refl,
+                  tt,
+                ),
+              ),
+            ),
+          ),
+        ),
       ),
     ),
   ),
@@ -215,8 +254,25 @@ overtaken =
 pub overtaken_legal : IsLegal (settings 5 1) overtaken
 unfolding moment collect command_of command is_waiting waiting done good passed_at passed is_free is_startable startable
     figure figure_of is_online head_cylinder head_up answer outcome ends untaken balance outstanding arrival block_of
-overtaken_legal = legal_from (settings 5 1) overtaken
-    ((refl, refl), (by_serving 0 refl refl refl, ((refl, refl), ((refl, refl), ((refl, refl), (refl, (by_serving 4 refl refl refl, (refl, tt))))))))
+overtaken_legal = legal_from (settings 5 1) overtaken (
+  (refl, refl),
+  (
+    by_serving 0 refl refl refl,
+    (
+      (refl, refl),
+      (
+        (refl, refl),
+        (
+          (refl, refl),
+          (
+            refl,
+            (by_serving 4 refl refl refl, (refl, tt)),
+          ),
+        ),
+      ),
+    ),
+  ),
+)
 
 -- Where a command is in service, none may start.
 overtaken_startable : startable (settings 5 1) (take 7 overtaken) ≡ []

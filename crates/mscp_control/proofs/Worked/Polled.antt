@@ -44,7 +44,22 @@ polled_legal = legal_from (settings 4 0) polled (
         (refl, refl),
         (
           (refl, refl),
-          ((refl, refl), (by_serving 3 refl refl refl, ((refl, refl), ((refl, refl), (by_serving 3 refl refl refl, ((refl, refl), tt)))))),
+          (
+            (refl, refl),
+            (
+              by_serving 3 refl refl refl,
+              (
+                (refl, refl),
+                (
+                  (refl, refl),
+                  (
+                    by_serving 3 refl refl refl,
+                    ((refl, refl), tt),
+                  ),
+                ),
+              ),
+            ),
+          ),
         ),
       ),
     ),

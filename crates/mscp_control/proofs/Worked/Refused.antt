@@ -33,7 +33,19 @@ invalid =
 pub invalid_legal : IsLegal (settings 5 2) invalid
 unfolding moment collect command_of command is_waiting waiting done good passed_at passed is_free is_startable startable
     figure figure_of is_online head_cylinder head_up answer outcome ends untaken balance outstanding arrival block_of
-invalid_legal = legal_from (settings 5 2) invalid ((refl, refl), ((refl, refl), ((refl, refl), ((refl, refl), ((refl, refl), ((refl, refl), ((refl, refl), ((refl, refl), tt))))))))
+invalid_legal = legal_from (settings 5 2) invalid (
+  (refl, refl),
+  (
+    (refl, refl),
+    (
+      (refl, refl),
+      (
+        (refl, refl),
+        ((refl, refl), ((refl, refl), ((refl, refl), ((refl, refl), tt)))),
+      ),
+    ),
+  ),
+)
 
 -- Messages that are too short for their opcode have its endcode, and do nothing: number 0, which stands for the number
 -- that they don't have, is neither aborted nor polled.
@@ -52,7 +64,19 @@ too_short =
 pub too_short_legal : IsLegal (settings 5 2) too_short
 unfolding moment collect command_of command is_waiting waiting done good passed_at passed is_free is_startable startable
     figure figure_of is_online head_cylinder head_up answer outcome ends untaken balance outstanding arrival block_of
-too_short_legal = legal_from (settings 5 2) too_short ((refl, refl), ((refl, refl), ((refl, refl), ((refl, refl), ((refl, refl), ((refl, refl), ((refl, refl), (refl, tt))))))))
+too_short_legal = legal_from (settings 5 2) too_short (
+  (refl, refl),
+  (
+    (refl, refl),
+    (
+      (refl, refl),
+      (
+        (refl, refl),
+        ((refl, refl), ((refl, refl), ((refl, refl), (refl, tt)))),
+      ),
+    ),
+  ),
+)
 
 -- Commands to a unit that is not configured. That is found before a block past the unit.
 abbrev pub no_unit : Trace
@@ -74,7 +98,34 @@ unfolding moment collect command_of command is_waiting waiting done good passed_
     figure figure_of is_online head_cylinder head_up answer outcome ends untaken balance outstanding arrival block_of
 no_unit_legal = legal_from (settings 4 2) no_unit (
   (refl, refl),
-  ((refl, refl), ((refl, refl), ((refl, refl), ((refl, refl), ((refl, refl), ((refl, refl), ((refl, refl), ((refl, refl), ((refl, refl), tt))))))))),
+  (
+    (refl, refl),
+    (
+      (refl, refl),
+      (
+        (refl, refl),
+        (
+          (refl, refl),
+          (
+            (refl, refl),
+            (
+              (refl, refl),
+              (
+                (refl, refl),
+                (
+                  (
+                    refl,
+                    refl,
+                  ),
+                  ((refl, refl), tt),
+                ),
+              ),
+            ),
+          ),
+        ),
+      ),
+    ),
+  ),
 )
 
 -- A host is told of its controller: a timeout of 60 seconds, and identifier 1.

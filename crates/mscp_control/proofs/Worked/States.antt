@@ -31,8 +31,28 @@ twice_online =
 pub twice_online_legal : IsLegal (settings 4 2) twice_online
 unfolding moment collect command_of command is_waiting waiting done good passed_at passed is_free is_startable startable
     figure figure_of is_online head_cylinder head_up answer outcome ends untaken balance outstanding arrival block_of
-twice_online_legal = legal_from (settings 4 2) twice_online
-    ((refl, refl), (by_serving 0 refl refl refl, ((refl, refl), ((refl, refl), (by_serving 3 refl refl refl, ((refl, refl), tt))))))
+twice_online_legal = legal_from (settings 4 2) twice_online (
+  (refl, refl),
+  (
+    by_serving 0 refl refl refl,
+    (
+      (refl, refl),
+      (
+        (refl, refl),
+        (
+          by_serving 3 refl refl refl,
+          (
+            (
+              refl,
+              refl,
+            ),
+            tt,
+          ),
+        ),
+      ),
+    ),
+  ),
+)
 
 -- The unit stays online.
 twice_online_stays : is_online twice_online 0 ≡ true
@@ -196,8 +216,28 @@ bad_available =
 pub bad_available_legal : IsLegal (settings 4 2) bad_available
 unfolding moment collect command_of command is_waiting waiting done good passed_at passed is_free is_startable startable
     figure figure_of is_online head_cylinder head_up answer outcome ends untaken balance outstanding arrival block_of
-bad_available_legal = legal_from (settings 4 2) bad_available
-    ((refl, refl), (by_serving 0 refl refl refl, ((refl, refl), ((refl, refl), (by_serving 3 refl refl refl, ((refl, refl), ((refl, refl), ((refl, refl), tt))))))))
+bad_available_legal = legal_from (settings 4 2) bad_available (
+  (refl, refl),
+  (
+    by_serving 0 refl refl refl,
+    (
+      (refl, refl),
+      (
+        (refl, refl),
+        (
+          by_serving 3 refl refl refl,
+          (
+            (
+              refl,
+              refl,
+            ),
+            ((refl, refl), ((refl, refl), tt)),
+          ),
+        ),
+      ),
+    ),
+  ),
+)
 
 -- The unit is online.
 bad_available_state : is_online bad_available 0 ≡ true

@@ -22,4 +22,5 @@ returns-clause-reads_back g c = λ end e.
     let seen = ap (λ (h : Holdings K). of via h.untaken) (sym c.self.view_is) ∙ seen_of via c.self.inside.accounts in
     let same : own ≡ end = some_same own end (c.in_ok-end.ensures.end ∙ (ap (λ es. slice_get es 0) (sym seen) ∙ e)) in
     subst (IsEnd c.write_end.result.items) same
-    (c.write_end.ensures.reads_back (taken_kind _ own (sym c.in_ok-end.ensures.end) (c.self.invariant.account via).shaped))
+    (c.write_end.ensures.reads_back (taken_kind _ own (sym c.in_ok-end.ensures.end)
+    (c.self.invariant.account via).shaped))

@@ -7,8 +7,8 @@ use Rattle.mscp_script.proofs.running.Run.meet.Goals as goal
 pub returns-in-Send-clause-met : goal.returns-in-Send-clause-met
 returns-in-Send-clause-met c =
     let sent = subst (λ b. OnOk c.send.result (Ran c.args.self.now c.send.new.self
-    (events.Send c.in-Send.connection (record { items = b })))) (c.as_slice.ensures.value ∙ c.write_command.ensures.bytes)
-    c.send.ensures in
+    (events.Send c.in-Send.connection (record { items = b }))))
+    (c.as_slice.ensures.value ∙ c.write_command.ensures.bytes) c.send.ensures in
     rw c.in-Send.is (meets_ok c.send.result _ _ _ sent)
 
 pub returns-in-Packet-clause-met : goal.returns-in-Packet-clause-met
