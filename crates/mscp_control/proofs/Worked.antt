@@ -11,3 +11,4 @@ pub mod Sweep
 pub mod Aborts
 pub mod Begins
 pub mod Wrong
+pub mod Connections
