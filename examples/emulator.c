@@ -5,7 +5,9 @@
  *
  * The first part is the emulator, which examples/driver.c uses too. The second, main and what it calls, is a host that
  * tries it: it writes blocks in an order that the sweep chooses, reads them back, polls after each step, and aborts a
- * command that the drive has in work. */
+ * command that the drive has in work.
+ *
+ * It serves one connection, the first: its controller has no credits for a second. two_hosts.c serves two. */
 #include "emulator.h"
 #include <stdlib.h>
 #include <string.h>
