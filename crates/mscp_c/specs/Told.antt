@@ -129,7 +129,8 @@ report_told (Served connection reference unit lbn started seek ended) out = reco
 
 -- ---- figures
 
--- the figures of the waiting commands, and that of the connection's command of this reference number, 0 where none waits
+-- the figures of the waiting commands, and that of the connection's command of this reference number, 0 where none
+-- waits
 abbrev pub figures_in : Held → List (Connection × ℕ × ℕ)
 figures_in h = figures h.settings.budget h.waiting
 
