@@ -38,7 +38,7 @@ pub extern "C" fn mscp_look_at(handle: &mut Handle, out: &mut [FigureOut]) -> i3
 pub extern "C" fn mscp_figure(handle: &mut Handle, connection: u32, reference: u32) -> i64
     ensures value { is_made handle.old ≡ true → IfSome (connection_given connection) (λ via.
         result ≡ pos (figure_in handle.old.held via reference)) }
-    ensures refused { is_made handle.old ≡ true → connection_given connection ≡ None → result ≡ BAD_CONNECTION }
+    ensures no_connection { is_made handle.old ≡ true → connection_given connection ≡ None → result ≡ BAD_CONNECTION }
     ensures same { handle.new ≡ handle.old }
     ensures call { is_made handle.old ≡ true
         → AnswersHandle handle.old (calls.Figure connection reference result) handle.new }
@@ -58,7 +58,7 @@ pub extern "C" fn mscp_figure(handle: &mut Handle, connection: u32, reference: u
 pub extern "C" fn mscp_waiting(handle: &mut Handle, connection: u32) -> i64
     ensures value { is_made handle.old ≡ true → IfSome (connection_given connection) (λ via.
         result ≡ pos (length (waiting_on via handle.old.held.waiting))) }
-    ensures refused { is_made handle.old ≡ true → connection_given connection ≡ None → result ≡ BAD_CONNECTION }
+    ensures no_connection { is_made handle.old ≡ true → connection_given connection ≡ None → result ≡ BAD_CONNECTION }
     ensures same { handle.new ≡ handle.old }
     ensures call { is_made handle.old ≡ true → AnswersHandle handle.old (calls.Waiting connection result) handle.new }
     ensures unmade { is_made handle.old ≡ false → result ≡ NOT_MADE }
@@ -77,7 +77,7 @@ pub extern "C" fn mscp_waiting(handle: &mut Handle, connection: u32) -> i64
 pub extern "C" fn mscp_untaken(handle: &mut Handle, connection: u32) -> i64
     ensures value { is_made handle.old ≡ true → IfSome (connection_given connection) (λ via.
         result ≡ pos (length (of via handle.old.held.untaken))) }
-    ensures refused { is_made handle.old ≡ true → connection_given connection ≡ None → result ≡ BAD_CONNECTION }
+    ensures no_connection { is_made handle.old ≡ true → connection_given connection ≡ None → result ≡ BAD_CONNECTION }
     ensures same { handle.new ≡ handle.old }
     ensures call { is_made handle.old ≡ true → AnswersHandle handle.old (calls.Untaken connection result) handle.new }
     ensures unmade { is_made handle.old ≡ false → result ≡ NOT_MADE }
@@ -110,7 +110,7 @@ pub extern "C" fn mscp_is_online(handle: &mut Handle, unit: u16) -> i32
 pub extern "C" fn mscp_balance(handle: &mut Handle, connection: u32) -> i64
     ensures value { is_made handle.old ≡ true → IfSome (connection_given connection) (λ via.
         result ≡ pos (balance_of via handle.old.held)) }
-    ensures refused { is_made handle.old ≡ true → connection_given connection ≡ None → result ≡ BAD_CONNECTION }
+    ensures no_connection { is_made handle.old ≡ true → connection_given connection ≡ None → result ≡ BAD_CONNECTION }
     ensures same { handle.new ≡ handle.old }
     ensures call { is_made handle.old ≡ true → AnswersHandle handle.old (calls.Balance connection result) handle.new }
     ensures unmade { is_made handle.old ≡ false → result ≡ NOT_MADE }

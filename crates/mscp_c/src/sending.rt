@@ -28,7 +28,7 @@ pub extern "C" fn mscp_send_at(
         result ≡ send_code (answer_to_message via handle.old.held message.now)) }
     ensures told { is_made handle.old ≡ true → IfSome (connection_given connection) (λ via.
         out.new ≡ sent_told (answer_to_message via handle.old.held message.now) out.old) }
-    ensures refused { is_made handle.old ≡ true → connection_given connection ≡ None
+    ensures no_connection { is_made handle.old ≡ true → connection_given connection ≡ None
         → (result ≡ BAD_CONNECTION) × (handle.new ≡ handle.old) × (out.new ≡ out.old) }
     ensures call { is_made handle.old ≡ true
         → AnswersHandle handle.old (calls.Send connection message.now out.old result out.new) handle.new }
@@ -54,7 +54,7 @@ pub extern "C" fn mscp_take(handle: &mut Handle, connection: u32, out: &mut Pack
         result ≡ take_code (end_taken via handle.old.held)) }
     ensures told { is_made handle.old ≡ true → IfSome (connection_given connection) (λ via.
         TakeTold (end_taken via handle.old.held) out.old out.new) }
-    ensures refused { is_made handle.old ≡ true → connection_given connection ≡ None
+    ensures no_connection { is_made handle.old ≡ true → connection_given connection ≡ None
         → (result ≡ BAD_CONNECTION) × (handle.new ≡ handle.old) × (out.new ≡ out.old) }
     ensures call { is_made handle.old ≡ true
         → AnswersHandle handle.old (calls.Take connection out.old result out.new) handle.new }

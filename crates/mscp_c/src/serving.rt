@@ -41,9 +41,9 @@ pub extern "C" fn mscp_finish(
     ensures finish { is_made handle.old ≡ true → IfSome (connection_given connection) (λ via.
         IfSome (block_told status) (λ k.
         TellsFinish via reference k handle.old out.old result handle.new out.new)) }
-    ensures refused { is_made handle.old ≡ true → connection_given connection ≡ None
+    ensures no_connection { is_made handle.old ≡ true → connection_given connection ≡ None
         → (result ≡ BAD_CONNECTION) × (handle.new ≡ handle.old) × (out.new ≡ out.old) }
-    ensures bad_block { is_made handle.old ≡ true → IfSome (connection_given connection) (λ via.
+    ensures refused { is_made handle.old ≡ true → IfSome (connection_given connection) (λ via.
         block_told status ≡ None → (result ≡ BAD_STATUS) × (handle.new ≡ handle.old) × (out.new ≡ out.old)) }
     ensures call { is_made handle.old ≡ true
         → AnswersHandle handle.old (calls.Finish connection reference status out.old result out.new) handle.new }
