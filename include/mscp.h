@@ -317,8 +317,8 @@ int32_t mscp_host_submit_at(struct mscp_host *host, const uint8_t *message, size
 int32_t mscp_host_receive_at(struct mscp_host *host, const uint8_t *bytes, size_t length, struct mscp_news *news);
 
 /* ---- the controller. Each call but mscp_init answers MSCP_NOT_MADE where there is none. Then each of a connection
- * answers MSCP_BAD_CONNECTION where its number is no enum mscp_connection, and nothing changes. A second connection that
- * has no credits takes no message in, and has no ends. */
+ * answers MSCP_BAD_CONNECTION where its number is no enum mscp_connection, and nothing changes. A second connection
+ * that has no credits takes no message in, and has no ends. */
 
 /* Makes a controller in the handle's memory: of these limits, of so many units in rising order of their numbers, served
  * by a picker of enum mscp_picker. MSCP_DONE, or the first fault in this order: those of the memory (-11 to -15),

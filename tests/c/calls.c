@@ -32,15 +32,12 @@ static void inits_of_wrong_numbers(void)
         struct mscp_limits limits;
         int32_t status;
     } cases[] = {
-        {{1, 16, 1, 0, 8, 60}, MSCP_BAD_CREDITS},          {{1, 16, 65, 0, 8, 60}, MSCP_BAD_CREDITS},
-        {{1, 16, 3, 62, 8, 60}, MSCP_BAD_CREDITS},         {{1, 16, 4, 1, 8, 60}, MSCP_BAD_CREDITS},
-        {{1, 16, 64, 2, 8, 60}, MSCP_BAD_CREDITS},         {{1, 16, 0, 4, 8, 60}, MSCP_BAD_CREDITS},
-        {{1, 16, 4, UINT32_MAX, 8, 60}, MSCP_BAD_CREDITS}, {{1, 16, 4, UINT32_MAX - 3, 8, 60}, MSCP_BAD_CREDITS},
-        {{1, 16, 4, 0, 0, 60}, MSCP_BAD_LONGEST},          {{1, 16, 4, 0, 8388609, 60}, MSCP_BAD_LONGEST},
-        {{1, 16, 4, 0, 8, 0}, MSCP_BAD_TIMEOUT},           {{1, 16, 4, 0, 8, 256}, MSCP_BAD_TIMEOUT},
-        {{1, 4294967272u, 4, 0, 8, 60}, MSCP_BAD_BOUND},   {{1, UINT64_MAX, 4, 0, 8, 60}, MSCP_BAD_BOUND},
-        {{1, 4294967296u, 4, 0, 8, 60}, MSCP_BAD_BOUND},   {{1, 0, 0, 0, 0, 0}, MSCP_BAD_CREDITS},
-        {{1, 4294967264u, 4, 2, 8, 60}, MSCP_BAD_BOUND},
+        {{1, 16, 1, 0, 8, 60}, MSCP_BAD_CREDITS},        {{1, 16, 65, 0, 8, 60}, MSCP_BAD_CREDITS},
+        {{1, 16, 4, 0, 0, 60}, MSCP_BAD_LONGEST},        {{1, 16, 4, 0, 8388609, 60}, MSCP_BAD_LONGEST},
+        {{1, 16, 4, 0, 8, 0}, MSCP_BAD_TIMEOUT},         {{1, 16, 4, 0, 8, 256}, MSCP_BAD_TIMEOUT},
+        {{1, 4294967272u, 4, 0, 8, 60}, MSCP_BAD_BOUND}, {{1, UINT64_MAX, 4, 0, 8, 60}, MSCP_BAD_BOUND},
+        {{1, 4294967296u, 4, 0, 8, 60}, MSCP_BAD_BOUND}, {{1, 4294967264u, 4, 2, 8, 60}, MSCP_BAD_BOUND},
+        {{1, 0, 0, 0, 0, 0}, MSCP_BAD_CREDITS},
     };
     for (size_t i = 0; i < COUNT(cases); i++)
         is("limits", mscp_init(mscp, &cases[i].limits, &UNIT, 1, MSCP_SWEEP), cases[i].status);
