@@ -7,11 +7,8 @@ static const struct mscp_limits LIMITS = {1, 16, 4, 0, 8, 60};
 
 /* ---- inits */
 
-static void inits_of_wrong_numbers(void)
+static void wrong_units(struct mscp *mscp)
 {
-    size_t size = MSCP_HEAD + mscp_size();
-    void *memory = memory_of(size);
-    struct mscp *mscp = mscp_in_memory(memory, size);
     struct mscp_unit units[17];
     is("no picker", mscp_init(mscp, &LIMITS, &UNIT, 1, 2), MSCP_BAD_PICKER);
     is("no units", mscp_init(mscp, &LIMITS, &UNIT, 0, MSCP_SWEEP), MSCP_NO_UNITS);
@@ -28,6 +25,10 @@ static void inits_of_wrong_numbers(void)
         unit.size = i == 3 ? 0 : 1000;
         is("a size of 0", mscp_init(mscp, &LIMITS, &unit, 1, MSCP_SWEEP), MSCP_ZERO_TRACK - i);
     }
+}
+
+static void wrong_limits(struct mscp *mscp)
+{
     const struct {
         struct mscp_limits limits;
         int32_t status;
@@ -41,7 +42,16 @@ static void inits_of_wrong_numbers(void)
     };
     for (size_t i = 0; i < COUNT(cases); i++)
         is("limits", mscp_init(mscp, &cases[i].limits, &UNIT, 1, MSCP_SWEEP), cases[i].status);
+}
+
+static void inits_of_wrong_numbers(void)
+{
+    size_t size = MSCP_HEAD + mscp_size();
+    void *memory = memory_of(size);
+    struct mscp *mscp = mscp_in_memory(memory, size);
     struct mscp_limits largest = LIMITS;
+    wrong_units(mscp);
+    wrong_limits(mscp);
     largest.budget = 4294967271u; /* 3 * 8 less than 2^32 - 1 */
     is("the largest bound", mscp_init(mscp, &largest, &UNIT, 1, MSCP_SWEEP), MSCP_DONE);
     largest.second = 2;
