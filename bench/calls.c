@@ -61,8 +61,8 @@ static struct mscp *fresh(const struct load *load)
         return mscp;
     for (uint32_t i = 0; i < load->units; i++) {
         uint8_t online[12] = {0, 0, 0, 0, (uint8_t)i, 0, 0, 0, MSCP_ONLINE};
-        if (mscp_send(mscp, online, sizeof online, &sent) != MSCP_QUEUED || mscp_step(mscp, 0, &report) != MSCP_DONE ||
-            mscp_take(mscp, &end) != MSCP_DONE)
+        if (mscp_send(mscp, MSCP_CONNECTION_FIRST, online, sizeof online, &sent) != MSCP_QUEUED ||
+            mscp_step(mscp, 0, &report) != MSCP_DONE || mscp_take(mscp, MSCP_CONNECTION_FIRST, &end) != MSCP_DONE)
             break;
     }
     return mscp;
@@ -77,13 +77,13 @@ static uint32_t from_c(const struct load *load)
     struct mscp_packet end;
     uint32_t sum = 0;
     for (uint32_t round = 1; round < load->depth; round++)
-        (void)!mscp_send(mscp, messages[round], 32, &sent);
+        (void)!mscp_send(mscp, MSCP_CONNECTION_FIRST, messages[round], 32, &sent);
     for (uint32_t round = load->depth; round < load->depth + ROUNDS; round++) {
-        (void)!mscp_send(mscp, messages[round % MESSAGES], 32, &sent);
+        (void)!mscp_send(mscp, MSCP_CONNECTION_FIRST, messages[round % MESSAGES], 32, &sent);
         for (uint32_t block = 0; block < load->blocks; block++)
             if (mscp_step(mscp, 0, &report) == MSCP_DONE)
                 sum += report.seek;
-        if (mscp_take(mscp, &end) == MSCP_DONE)
+        if (mscp_take(mscp, MSCP_CONNECTION_FIRST, &end) == MSCP_DONE)
             sum += end.bytes[0];
     }
     return sum;

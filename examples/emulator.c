@@ -5,7 +5,9 @@
  *
  * The first part is the emulator, which examples/driver.c uses too. The second, main and what it calls, is a host that
  * tries it: it writes blocks in an order that the sweep chooses, reads them back, polls after each step, and aborts a
- * command that the drive has in work. */
+ * command that the drive has in work.
+ *
+ * It serves one connection, the first: its controller has no credits for a second. two_hosts.c serves two. */
 #include "emulator.h"
 #include <stdlib.h>
 #include <string.h>
@@ -128,7 +130,7 @@ static bool receive_one(struct emulator *emulator)
 {
     const struct posted *slot = &emulator->commands[0];
     struct mscp_sent sent;
-    switch (mscp_send(emulator->mscp, slot->message, slot->length, &sent)) {
+    switch (mscp_send(emulator->mscp, MSCP_CONNECTION_FIRST, slot->message, slot->length, &sent)) {
     case MSCP_QUEUED:
         keep(emulator, sent.reference, slot->address);
         return true;
@@ -156,7 +158,7 @@ void emulator_receive(struct emulator *emulator)
 void emulator_deliver(struct emulator *emulator)
 {
     while (emulator->ends_count < EMULATOR_RING &&
-           mscp_take(emulator->mscp, &emulator->ends[emulator->ends_count]) == MSCP_DONE)
+           mscp_take(emulator->mscp, MSCP_CONNECTION_FIRST, &emulator->ends[emulator->ends_count]) == MSCP_DONE)
         emulator->ends_count++;
 }
 
@@ -224,7 +226,7 @@ bool emulator_begin(struct emulator *emulator, struct job *job)
 bool emulator_finish(struct emulator *emulator, struct job *job)
 {
     struct mscp_report report;
-    if (mscp_finish(emulator->mscp, job->next.reference, job->status, &report) != MSCP_DONE)
+    if (mscp_finish(emulator->mscp, MSCP_CONNECTION_FIRST, job->next.reference, job->status, &report) != MSCP_DONE)
         return false;
     if (job->next.opcode == MSCP_READ && report.touched && job->status == 0) {
         size_t bytes;

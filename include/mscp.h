@@ -40,7 +40,7 @@ extern "C" {
 #define MSCP_VERSION UINT32_C(0x000500)
 uint32_t mscp_version(void);
 
-#define MSCP_CREDITS_MAX 64u  /* commands that wait and ends that weren't taken, together */
+#define MSCP_CREDITS_MAX 64u  /* commands that wait and ends that weren't taken, of both connections together */
 #define MSCP_UNITS_MAX 16u    /* units of a controller */
 #define MSCP_MESSAGE_MIN 12u  /* bytes of a message */
 #define MSCP_MESSAGE_MAX 64u
@@ -86,10 +86,18 @@ enum mscp_status {
     MSCP_MANY_UNITS = -25,    /* there are more than 16 */
     MSCP_UNITS_FALL = -26,    /* a unit's number isn't above that of the one before it */
     MSCP_NO_UNITS = -27,      /* there is none */
-    MSCP_BAD_CREDITS = -28,   /* the credits aren't 2 to 64 */
+    MSCP_BAD_CREDITS = -28,   /* the credits aren't 2 to 64, or those of the second 1, or those of both over 64 */
     MSCP_BAD_LONGEST = -29,   /* the longest transfer isn't 1 to 8388608 blocks */
     MSCP_BAD_TIMEOUT = -30,   /* the timeout isn't 1 to 255 seconds */
-    MSCP_BAD_BOUND = -31      /* (credits - 1) * longest + budget doesn't fit 32 bits */
+    MSCP_BAD_BOUND = -31,     /* the bound of figures doesn't fit 32 bits: see struct mscp_limits */
+
+    MSCP_BAD_CONNECTION = -32 /* no enum mscp_connection */
+};
+
+/* By which connection a host talks to the controller. Each has its own credits, ends and reference numbers. */
+enum mscp_connection {
+    MSCP_CONNECTION_FIRST = 0,
+    MSCP_CONNECTION_SECOND = 1 /* there where the limits have credits for it */
 };
 
 /* Which of the commands that may start is started. */
@@ -126,14 +134,16 @@ struct mscp_unit {
     uint16_t cylinder; /* in groups */
 };
 
-/* The limits of a controller: no command waits for more than (credits - 1) * longest + budget steps. Where a later
- * command starts before a waiting one, that costs the budget of the waiting one all the steps that the later one takes:
- * its blocks, 1 where it has none. It may start only if no budget is overdrawn. So that later commands may go first
- * so many times, each time with a longest transfer, the budget is (uint64_t)times * longest. */
+/* The limits of a controller: no command waits for more than (credits - 1) * longest + budget steps, and with a second
+ * connection for no more than (credits - 1 + second - 1) * longest + budget. Where a later command starts before a
+ * waiting one, of either connection, that costs the budget of the waiting one all the steps that the later one takes:
+ * its blocks, 1 where it has none. It may start only if no budget is overdrawn. So that later commands may go first so
+ * many times, each time with a longest transfer, the budget is (uint64_t)times * longest. */
 struct mscp_limits {
     uint64_t id;      /* of the controller, which the host is told */
     uint64_t budget;  /* the blocks that later commands may have in all that start before a waiting command */
-    uint32_t credits; /* commands that wait and ends that weren't taken, together: 2 to 64 */
+    uint32_t credits; /* of the first connection: commands that wait and ends that weren't taken, together: 2 to 64 */
+    uint32_t second;  /* of the second: 2 to 62, or 0 where there is none. Both together have up to 64 */
     uint32_t longest; /* the longest transfer in blocks: 1 to 8388608 */
     uint16_t timeout; /* in seconds, which the host is told: 1 to 255 */
 };
@@ -178,6 +188,7 @@ struct mscp_upcoming {
     uint16_t unit;
     uint8_t opcode;
     uint8_t touches;    /* whether the step touches a block: with 0 bytes it touches the first, but moves nothing */
+    uint8_t connection; /* of the command, an enum mscp_connection */
 };
 
 /* What a step did. */
@@ -190,12 +201,14 @@ struct mscp_report {
     uint8_t touched;    /* whether it touched a block */
     uint8_t started;    /* whether it was the command's first step */
     uint8_t ended;      /* whether the command ended: its end can be taken */
+    uint8_t connection; /* of the command, an enum mscp_connection */
 };
 
 /* A waiting command. */
 struct mscp_waiting {
     uint32_t reference;
-    uint32_t figure; /* how many steps it may still wait, at most */
+    uint32_t figure;    /* how many steps it may still wait, at most */
+    uint8_t connection; /* that it came by, an enum mscp_connection */
 };
 
 /* What a received end says: of MSCP_ENDED all but the figure, of MSCP_FIRST and MSCP_PROGRESS the figure. The rest is
@@ -219,7 +232,7 @@ size_t mscp_host_align(void);
 
 /* At least those sizes, for memory that is there from the start, as
  * static uint64_t memory[(MSCP_HEAD + MSCP_SIZE) / sizeof(uint64_t)]; */
-#define MSCP_SIZE 8560u
+#define MSCP_SIZE 11664u
 #define MSCP_HOST_SIZE 1056u
 
 /* The bytes of a handle, at the head of the memory. */
@@ -297,12 +310,15 @@ static inline struct mscp_host *mscp_host_moved(void *memory)
  * _at. */
 int32_t mscp_init_at(struct mscp *mscp, const struct mscp_limits *limits, const struct mscp_unit *units, size_t count,
                      uint32_t picker);
-int32_t mscp_send_at(struct mscp *mscp, const uint8_t *message, size_t length, struct mscp_sent *sent);
+int32_t mscp_send_at(struct mscp *mscp, uint32_t connection, const uint8_t *message, size_t length,
+                     struct mscp_sent *sent);
 int32_t mscp_look_at(const struct mscp *mscp, struct mscp_waiting *list, size_t room);
 int32_t mscp_host_submit_at(struct mscp_host *host, const uint8_t *message, size_t length);
 int32_t mscp_host_receive_at(struct mscp_host *host, const uint8_t *bytes, size_t length, struct mscp_news *news);
 
-/* ---- the controller. Each call but mscp_init answers MSCP_NOT_MADE where there is none. */
+/* ---- the controller. Each call but mscp_init answers MSCP_NOT_MADE where there is none. Then each of a connection
+ * answers MSCP_BAD_CONNECTION where its number is no enum mscp_connection, and nothing changes. A second connection
+ * that has no credits takes no message in, and has no ends. */
 
 /* Makes a controller in the handle's memory: of these limits, of so many units in rising order of their numbers, served
  * by a picker of enum mscp_picker. MSCP_DONE, or the first fault in this order: those of the memory (-11 to -15),
@@ -321,46 +337,54 @@ static inline int32_t mscp_init(struct mscp *mscp, const struct mscp_limits *lim
  * that weren't taken are gone. MSCP_DONE. */
 MSCP_MUST_USE int32_t mscp_reset(struct mscp *mscp);
 
-/* Takes a message of the host in. MSCP_QUEUED or MSCP_ANSWERED, and then `sent` is filled; or the first that holds of
- * MSCP_SHORT, MSCP_LONG, MSCP_NO_CREDIT, MSCP_LAST_CREDIT and MSCP_DOUBLED. A message that names no valid command is no
- * fault: it gets an end that says why. */
+/* Takes a message of the connection's host in. MSCP_QUEUED or MSCP_ANSWERED, and then `sent` is filled; or the first
+ * that holds of MSCP_SHORT, MSCP_LONG, MSCP_NO_CREDIT, MSCP_LAST_CREDIT and MSCP_DOUBLED. A message that names no valid
+ * command is no fault: it gets an end that says why. An ABORT and a GET COMMAND STATUS name a command of the same
+ * connection. */
 MSCP_MUST_USE
-static inline int32_t mscp_send(struct mscp *mscp, const uint8_t *message, size_t length, struct mscp_sent *sent)
+static inline int32_t mscp_send(struct mscp *mscp, uint32_t connection, const uint8_t *message, size_t length,
+                                struct mscp_sent *sent)
 {
     const uint8_t none = 0;
-    return mscp_send_at(mscp, length == 0 ? &none : message, length, sent);
+    return mscp_send_at(mscp, connection, length == 0 ? &none : message, length, sent);
 }
 
-/* Takes the oldest end that wasn't taken, which frees its credit. MSCP_DONE, or MSCP_NOTHING where there is none. */
-MSCP_MUST_USE int32_t mscp_take(struct mscp *mscp, struct mscp_packet *end);
+/* Takes the connection's oldest end that wasn't taken, which frees its credit. MSCP_DONE, or MSCP_NOTHING where there
+ * is none. */
+MSCP_MUST_USE int32_t mscp_take(struct mscp *mscp, uint32_t connection, struct mscp_packet *end);
 
 /* What the next step serves. MSCP_DONE, or MSCP_NOTHING where no command waits. The choice is kept: until a step, an
  * ABORT of that command or a reset this answers the same. It changes nothing that any other call tells. */
 MSCP_MUST_USE int32_t mscp_begin(struct mscp *mscp, struct mscp_upcoming *upcoming);
 
-/* The step of the command that is begun, if that has this reference number. Its block had this status: 0 for a good
- * one, and with another the command ends. MSCP_DONE, or the first that holds of MSCP_BAD_STATUS and MSCP_STALE (the
- * command isn't begun, or not any more). Have one block at a time in work: a command is known by its number alone. */
-MSCP_MUST_USE int32_t mscp_finish(struct mscp *mscp, uint32_t reference, uint16_t status, struct mscp_report *report);
+/* The step of the command that is begun, if that is of this connection and has this reference number. Its block had
+ * this status: 0 for a good one, and with another the command ends. MSCP_DONE, or the first that holds of
+ * MSCP_BAD_STATUS and MSCP_STALE (the command isn't begun, or not any more). Have one block at a time in work: a
+ * command is known by its connection and its number alone. */
+MSCP_MUST_USE int32_t mscp_finish(struct mscp *mscp, uint32_t connection, uint32_t reference, uint16_t status,
+                                  struct mscp_report *report);
 
 /* mscp_begin and mscp_finish in one: serves what was begun, or what the picker picks. MSCP_DONE, or the first that
  * holds of MSCP_BAD_STATUS and MSCP_NOTHING (no command waits). */
 MSCP_MUST_USE int32_t mscp_step(struct mscp *mscp, uint16_t status, struct mscp_report *report);
 
-/* The figures of the waiting commands, oldest first, as many as there is room for. How many wait: 0 to 63. */
+/* The figures of the waiting commands of both connections, oldest first, as many as there is room for. How many wait: 0
+ * to 63. */
 static inline int32_t mscp_look(const struct mscp *mscp, struct mscp_waiting *list, size_t room)
 {
-    struct mscp_waiting none = {0, 0};
+    struct mscp_waiting none = {0, 0, 0};
     return mscp_look_at(mscp, room == 0 ? &none : list, room);
 }
 
-/* How many steps the waiting command of this reference number may still wait, at most; 0 where none waits of it. */
-int64_t mscp_figure(const struct mscp *mscp, uint32_t reference);
+/* How many steps the connection's waiting command of this reference number may still wait, at most; 0 where none waits
+ * of it. */
+int64_t mscp_figure(const struct mscp *mscp, uint32_t connection, uint32_t reference);
 
-/* How many commands wait: 0 to 63. How many ends weren't taken, and how many credits are free: 0 to 64. */
-int64_t mscp_waiting(const struct mscp *mscp);
-int64_t mscp_untaken(const struct mscp *mscp);
-int64_t mscp_balance(const struct mscp *mscp);
+/* Of the connection, how many commands wait: 0 to 63. How many ends weren't taken, and how many credits are free: 0 to
+ * 64. */
+int64_t mscp_waiting(const struct mscp *mscp, uint32_t connection);
+int64_t mscp_untaken(const struct mscp *mscp, uint32_t connection);
+int64_t mscp_balance(const struct mscp *mscp, uint32_t connection);
 
 /* Whether the unit of this number is online: 1, or 0 where it isn't, or isn't configured. */
 int32_t mscp_is_online(const struct mscp *mscp, uint16_t unit);
@@ -439,10 +463,11 @@ static inline const char *mscp_status_text(int64_t status)
     case MSCP_MANY_UNITS: return "more than 16 units";
     case MSCP_UNITS_FALL: return "units whose numbers don't rise";
     case MSCP_NO_UNITS: return "no unit";
-    case MSCP_BAD_CREDITS: return "credits that aren't 2 to 64";
+    case MSCP_BAD_CREDITS: return "credits that aren't 2 to 64, or over 64 of both connections";
     case MSCP_BAD_LONGEST: return "a longest transfer that isn't 1 to 8388608 blocks";
     case MSCP_BAD_TIMEOUT: return "a timeout that isn't 1 to 255 seconds";
-    case MSCP_BAD_BOUND: return "(credits - 1) * longest + budget doesn't fit 32 bits";
+    case MSCP_BAD_BOUND: return "a bound of figures that doesn't fit 32 bits";
+    case MSCP_BAD_CONNECTION: return "no connection of this number";
     default: return "unknown status";
     }
 }

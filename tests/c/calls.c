@@ -1,17 +1,14 @@
-/* Each call of mscp.h, with good input and with bad; tests/c/memory.c has those about memory. Prints what is wrong, and
- * ends with 1 where something is. */
+/* Each call of mscp.h, with good input and with bad; tests/c/memory.c has those about memory, and tests/c/connections.c
+ * those about two connections. Prints what is wrong, and ends with 1 where something is. */
 #include "trying.h"
 
 static const struct mscp_unit UNIT = {1, 1000, 0, 1, 0, 10, 2, 1};
-static const struct mscp_limits LIMITS = {1, 16, 4, 8, 60};
+static const struct mscp_limits LIMITS = {1, 16, 4, 0, 8, 60};
 
 /* ---- inits */
 
-static void inits_of_wrong_numbers(void)
+static void wrong_units(struct mscp *mscp)
 {
-    size_t size = MSCP_HEAD + mscp_size();
-    void *memory = memory_of(size);
-    struct mscp *mscp = mscp_in_memory(memory, size);
     struct mscp_unit units[17];
     is("no picker", mscp_init(mscp, &LIMITS, &UNIT, 1, 2), MSCP_BAD_PICKER);
     is("no units", mscp_init(mscp, &LIMITS, &UNIT, 0, MSCP_SWEEP), MSCP_NO_UNITS);
@@ -28,21 +25,39 @@ static void inits_of_wrong_numbers(void)
         unit.size = i == 3 ? 0 : 1000;
         is("a size of 0", mscp_init(mscp, &LIMITS, &unit, 1, MSCP_SWEEP), MSCP_ZERO_TRACK - i);
     }
+}
+
+static void wrong_limits(struct mscp *mscp)
+{
     const struct {
         struct mscp_limits limits;
         int32_t status;
     } cases[] = {
-        {{1, 16, 1, 8, 60}, MSCP_BAD_CREDITS},         {{1, 16, 65, 8, 60}, MSCP_BAD_CREDITS},
-        {{1, 16, 4, 0, 60}, MSCP_BAD_LONGEST},         {{1, 16, 4, 8388609, 60}, MSCP_BAD_LONGEST},
-        {{1, 16, 4, 8, 0}, MSCP_BAD_TIMEOUT},          {{1, 16, 4, 8, 256}, MSCP_BAD_TIMEOUT},
-        {{1, 4294967272u, 4, 8, 60}, MSCP_BAD_BOUND},  {{1, UINT64_MAX, 4, 8, 60}, MSCP_BAD_BOUND},
-        {{1, 4294967296u, 4, 8, 60}, MSCP_BAD_BOUND},  {{1, 0, 0, 0, 0}, MSCP_BAD_CREDITS},
+        {{1, 16, 1, 0, 8, 60}, MSCP_BAD_CREDITS},        {{1, 16, 65, 0, 8, 60}, MSCP_BAD_CREDITS},
+        {{1, 16, 4, 0, 0, 60}, MSCP_BAD_LONGEST},        {{1, 16, 4, 0, 8388609, 60}, MSCP_BAD_LONGEST},
+        {{1, 16, 4, 0, 8, 0}, MSCP_BAD_TIMEOUT},         {{1, 16, 4, 0, 8, 256}, MSCP_BAD_TIMEOUT},
+        {{1, 4294967272u, 4, 0, 8, 60}, MSCP_BAD_BOUND}, {{1, UINT64_MAX, 4, 0, 8, 60}, MSCP_BAD_BOUND},
+        {{1, 4294967296u, 4, 0, 8, 60}, MSCP_BAD_BOUND}, {{1, 4294967264u, 4, 2, 8, 60}, MSCP_BAD_BOUND},
+        {{1, 0, 0, 0, 0, 0}, MSCP_BAD_CREDITS},
     };
     for (size_t i = 0; i < COUNT(cases); i++)
         is("limits", mscp_init(mscp, &cases[i].limits, &UNIT, 1, MSCP_SWEEP), cases[i].status);
+}
+
+static void inits_of_wrong_numbers(void)
+{
+    size_t size = MSCP_HEAD + mscp_size();
+    void *memory = memory_of(size);
+    struct mscp *mscp = mscp_in_memory(memory, size);
     struct mscp_limits largest = LIMITS;
+    wrong_units(mscp);
+    wrong_limits(mscp);
     largest.budget = 4294967271u; /* 3 * 8 less than 2^32 - 1 */
     is("the largest bound", mscp_init(mscp, &largest, &UNIT, 1, MSCP_SWEEP), MSCP_DONE);
+    largest.second = 2;
+    largest.budget -= 8;
+    mscp = mscp_in_memory(memory, size);
+    is("the largest bound of two", mscp_init(mscp, &largest, &UNIT, 1, MSCP_SWEEP), MSCP_DONE);
     mscp = mscp_in_memory(memory, size);
     is("after all of them", mscp_init(mscp, &LIMITS, &UNIT, 1, MSCP_SWEEP), MSCP_DONE);
     is("twice", mscp_init(mscp, &LIMITS, &UNIT, 1, MSCP_SWEEP), MSCP_MADE);
@@ -67,16 +82,16 @@ static void calls_before_init(void)
     } out, before;
     memset(&out, 0xA5, sizeof out);
     memset(&before, 0xA5, sizeof before);
-    is("send", mscp_send(mscp, command(1, MSCP_ONLINE, 0, 0), 32, &out.sent), MSCP_NOT_MADE);
-    is("take", mscp_take(mscp, &out.packet), MSCP_NOT_MADE);
+    is("send", mscp_send(mscp, FIRST, command(1, MSCP_ONLINE, 0, 0), 32, &out.sent), MSCP_NOT_MADE);
+    is("take", mscp_take(mscp, FIRST, &out.packet), MSCP_NOT_MADE);
     is("begin", mscp_begin(mscp, &out.upcoming), MSCP_NOT_MADE);
-    is("finish", mscp_finish(mscp, 1, 0, &out.report), MSCP_NOT_MADE);
+    is("finish", mscp_finish(mscp, FIRST, 1, 0, &out.report), MSCP_NOT_MADE);
     is("step", mscp_step(mscp, 0, &out.report), MSCP_NOT_MADE);
     is("look", mscp_look(mscp, &out.figure, 1), MSCP_NOT_MADE);
-    is("figure", mscp_figure(mscp, 1), MSCP_NOT_MADE);
-    is("balance", mscp_balance(mscp), MSCP_NOT_MADE);
-    is("waiting", mscp_waiting(mscp), MSCP_NOT_MADE);
-    is("untaken", mscp_untaken(mscp), MSCP_NOT_MADE);
+    is("figure", mscp_figure(mscp, FIRST, 1), MSCP_NOT_MADE);
+    is("balance", mscp_balance(mscp, FIRST), MSCP_NOT_MADE);
+    is("waiting", mscp_waiting(mscp, FIRST), MSCP_NOT_MADE);
+    is("untaken", mscp_untaken(mscp, FIRST), MSCP_NOT_MADE);
     is("is_online", mscp_is_online(mscp, 0), MSCP_NOT_MADE);
     is("reset", mscp_reset(mscp), MSCP_NOT_MADE);
     struct mscp_host host = mscp_host_over(memory, size);
@@ -108,7 +123,7 @@ static void bring_online(struct mscp *mscp)
     struct mscp_sent sent;
     struct mscp_report report;
     struct mscp_packet end;
-    is("online", mscp_send(mscp, command(1, MSCP_ONLINE, 0, 0), 12, &sent), MSCP_QUEUED);
+    is("online", mscp_send(mscp, FIRST, command(1, MSCP_ONLINE, 0, 0), 12, &sent), MSCP_QUEUED);
     is("its number", sent.reference, 1);
     is("it isn't yet", mscp_is_online(mscp, 0), 0);
     is("step", mscp_step(mscp, 0, &report), MSCP_DONE);
@@ -116,10 +131,10 @@ static void bring_online(struct mscp *mscp)
     is("it ended", report.ended, 1);
     is("now it is", mscp_is_online(mscp, 0), 1);
     is("another isn't", mscp_is_online(mscp, 1), 0);
-    is("take", mscp_take(mscp, &end), MSCP_DONE);
+    is("take", mscp_take(mscp, FIRST, &end), MSCP_DONE);
     is("its length", end.length, 44);
     is("its endcode", end.bytes[8], 0x89);
-    is("take none", mscp_take(mscp, &end), MSCP_NOTHING);
+    is("take none", mscp_take(mscp, FIRST, &end), MSCP_NOTHING);
 }
 
 static void messages_that_are_refused(void)
@@ -127,28 +142,28 @@ static void messages_that_are_refused(void)
     static const uint8_t zeros[65];
     struct mscp *mscp = controller();
     struct mscp_sent sent = {7, 7, 1};
-    struct mscp_waiting waiting[2] = {{7, 7}, {7, 7}};
-    is("short", mscp_send(mscp, zeros, 11, &sent), MSCP_SHORT);
-    is("long", mscp_send(mscp, zeros, 65, &sent), MSCP_LONG);
-    is("the longest", mscp_send(mscp, zeros, 64, &sent), MSCP_ANSWERED);
+    struct mscp_waiting waiting[2] = {{7, 7, 7}, {7, 7, 7}};
+    is("short", mscp_send(mscp, FIRST, zeros, 11, &sent), MSCP_SHORT);
+    is("long", mscp_send(mscp, FIRST, zeros, 65, &sent), MSCP_LONG);
+    is("the longest", mscp_send(mscp, FIRST, zeros, 64, &sent), MSCP_ANSWERED);
     is("aborted", sent.has_aborted, 0);
-    is("number 0 again", mscp_send(mscp, zeros, 12, &sent), MSCP_DOUBLED);
-    is("a second", mscp_send(mscp, command(1, MSCP_READ, 512, 0), 32, &sent), MSCP_QUEUED);
-    is("a third", mscp_send(mscp, command(2, MSCP_READ, 512, 0), 32, &sent), MSCP_QUEUED);
-    is("balance", mscp_balance(mscp), 1);
-    is("waiting", mscp_waiting(mscp), 2);
-    is("untaken", mscp_untaken(mscp), 1);
+    is("number 0 again", mscp_send(mscp, FIRST, zeros, 12, &sent), MSCP_DOUBLED);
+    is("a second", mscp_send(mscp, FIRST, command(1, MSCP_READ, 512, 0), 32, &sent), MSCP_QUEUED);
+    is("a third", mscp_send(mscp, FIRST, command(2, MSCP_READ, 512, 0), 32, &sent), MSCP_QUEUED);
+    is("balance", mscp_balance(mscp, FIRST), 1);
+    is("waiting", mscp_waiting(mscp, FIRST), 2);
+    is("untaken", mscp_untaken(mscp, FIRST), 1);
     is("look with less room", mscp_look(mscp, waiting, 1), 2);
     is("looked", waiting[0].reference == 1 && waiting[0].figure == 17 && waiting[1].reference == 7, 1);
     sent.reference = 7;
-    is("the last", mscp_send(mscp, command(3, MSCP_READ, 512, 0), 32, &sent), MSCP_LAST_CREDIT);
+    is("the last", mscp_send(mscp, FIRST, command(3, MSCP_READ, 512, 0), 32, &sent), MSCP_LAST_CREDIT);
     is("what was told", sent.reference, 7);
-    is("a poll", mscp_send(mscp, command(3, MSCP_GET_COMMAND_STATUS, 2, 0), 16, &sent), MSCP_ANSWERED);
-    is("none is left", mscp_send(mscp, command(4, MSCP_GET_COMMAND_STATUS, 2, 0), 16, &sent), MSCP_NO_CREDIT);
-    is("balance", mscp_balance(mscp), 0);
+    is("a poll", mscp_send(mscp, FIRST, command(3, MSCP_GET_COMMAND_STATUS, 2, 0), 16, &sent), MSCP_ANSWERED);
+    is("none is left", mscp_send(mscp, FIRST, command(4, MSCP_GET_COMMAND_STATUS, 2, 0), 16, &sent), MSCP_NO_CREDIT);
+    is("balance", mscp_balance(mscp, FIRST), 0);
     is("reset", mscp_reset(mscp), MSCP_DONE);
-    is("balance after it", mscp_balance(mscp), 4);
-    is("waiting after it", mscp_waiting(mscp) + mscp_untaken(mscp), 0);
+    is("balance after it", mscp_balance(mscp, FIRST), 4);
+    is("waiting after it", mscp_waiting(mscp, FIRST) + mscp_untaken(mscp, FIRST), 0);
     free(mscp);
 }
 
@@ -157,22 +172,22 @@ static void a_read_that_is_polled(void)
     struct mscp *mscp = controller();
     struct mscp_sent sent;
     struct mscp_packet end;
-    struct mscp_upcoming next = {7, 7, 7, 7, 7, 7, 7, 7};
-    struct mscp_report report = {7, 7, 7, 7, 7, 7, 7, 7};
-    struct mscp_waiting figures[2] = {{7, 7}, {7, 7}};
+    struct mscp_upcoming next = {7, 7, 7, 7, 7, 7, 7, 7, 7};
+    struct mscp_report report = {7, 7, 7, 7, 7, 7, 7, 7, 7};
+    struct mscp_waiting figures[2] = {{7, 7, 7}, {7, 7, 7}};
     bring_online(mscp);
     is("begin of nothing", mscp_begin(mscp, &next), MSCP_NOTHING);
     is("step of nothing", mscp_step(mscp, 0, &report), MSCP_NOTHING);
     is("what was told", next.lbn == 7 && report.lbn == 7, 1);
-    is("finish of nothing", mscp_finish(mscp, 2, 0, &report), MSCP_STALE);
-    is("a bad finish of nothing", mscp_finish(mscp, 2, 4, &report), MSCP_BAD_STATUS);
+    is("finish of nothing", mscp_finish(mscp, FIRST, 2, 0, &report), MSCP_STALE);
+    is("a bad finish of nothing", mscp_finish(mscp, FIRST, 2, 4, &report), MSCP_BAD_STATUS);
     is("a bad step of nothing", mscp_step(mscp, 4, &report), MSCP_BAD_STATUS);
-    is("read", mscp_send(mscp, command(2, MSCP_READ, 1000, 40), 32, &sent), MSCP_QUEUED);
-    is("poll", mscp_send(mscp, command(3, MSCP_GET_COMMAND_STATUS, 2, 0), 16, &sent), MSCP_ANSWERED);
-    is("take", mscp_take(mscp, &end), MSCP_DONE);
+    is("read", mscp_send(mscp, FIRST, command(2, MSCP_READ, 1000, 40), 32, &sent), MSCP_QUEUED);
+    is("poll", mscp_send(mscp, FIRST, command(3, MSCP_GET_COMMAND_STATUS, 2, 0), 16, &sent), MSCP_ANSWERED);
+    is("take", mscp_take(mscp, FIRST, &end), MSCP_DONE);
     is("its figure", number(end.bytes + 16, 4), 18);
-    is("figure", mscp_figure(mscp, 2), 18);
-    is("figure of none", mscp_figure(mscp, 3), 0);
+    is("figure", mscp_figure(mscp, FIRST, 2), 18);
+    is("figure of none", mscp_figure(mscp, FIRST, 3), 0);
     is("look", mscp_look(mscp, figures, 2), 1);
     is("looked", figures[0].reference == 2 && figures[0].figure == 18 && figures[1].figure == 7, 1);
     is("look with no room", mscp_look(mscp, figures, 0), 1);
@@ -180,15 +195,15 @@ static void a_read_that_is_polled(void)
     is("begin", mscp_begin(mscp, &next), MSCP_DONE);
     is("what comes", next.reference == 2 && next.opcode == MSCP_READ && next.unit == 0 && next.bytes == 1000, 1);
     is("which block", next.touches && next.lbn == 40 && next.done == 0 && next.weight == 2, 1);
-    is("another's finish", mscp_finish(mscp, 3, 0, &report), MSCP_STALE);
-    is("a bad status", mscp_finish(mscp, 2, 4, &report), MSCP_BAD_STATUS);
-    is("finish", mscp_finish(mscp, 2, 0, &report), MSCP_DONE);
+    is("another's finish", mscp_finish(mscp, FIRST, 3, 0, &report), MSCP_STALE);
+    is("a bad status", mscp_finish(mscp, FIRST, 2, 4, &report), MSCP_BAD_STATUS);
+    is("finish", mscp_finish(mscp, FIRST, 2, 0, &report), MSCP_DONE);
     is("what was done", report.reference == 2 && report.touched && report.lbn == 40 && report.seek == 2, 1);
     is("it goes on", report.started && !report.ended, 1);
-    is("finish again", mscp_finish(mscp, 2, 0, &report), MSCP_STALE);
+    is("finish again", mscp_finish(mscp, FIRST, 2, 0, &report), MSCP_STALE);
     is("a bad block", mscp_step(mscp, 0xE8, &report), MSCP_DONE);
     is("it ended", report.ended && report.status == 0xE8 && report.lbn == 41 && !report.started, 1);
-    is("take", mscp_take(mscp, &end), MSCP_DONE);
+    is("take", mscp_take(mscp, FIRST, &end), MSCP_DONE);
     is("its end", end.length == 32 && end.bytes[8] == 0xA1 && number(end.bytes + 10, 2) == 0xE8, 1);
     is("bytes of good blocks", number(end.bytes + 12, 4), 512);
     free(mscp);
@@ -203,14 +218,14 @@ static void an_abort_in_between(void)
     struct mscp_upcoming next;
     struct mscp_report report;
     bring_online(mscp);
-    is("write", mscp_send(mscp, command(2, MSCP_WRITE, 512, 40), 32, &sent), MSCP_QUEUED);
+    is("write", mscp_send(mscp, FIRST, command(2, MSCP_WRITE, 512, 40), 32, &sent), MSCP_QUEUED);
     is("begin", mscp_begin(mscp, &next), MSCP_DONE);
-    is("abort", mscp_send(mscp, command(3, MSCP_ABORT, 2, 0), 16, &sent), MSCP_ANSWERED);
+    is("abort", mscp_send(mscp, FIRST, command(3, MSCP_ABORT, 2, 0), 16, &sent), MSCP_ANSWERED);
     is("of it", sent.has_aborted && sent.aborted == 2 && sent.reference == 3, 1);
-    is("finish", mscp_finish(mscp, 2, 0, &report), MSCP_STALE);
-    is("its end first", mscp_take(mscp, &end) == MSCP_DONE && number(end.bytes, 4) == 2, 1);
+    is("finish", mscp_finish(mscp, FIRST, 2, 0, &report), MSCP_STALE);
+    is("its end first", mscp_take(mscp, FIRST, &end) == MSCP_DONE && number(end.bytes, 4) == 2, 1);
     is("aborted", number(end.bytes + 10, 2), 2);
-    is("then that of the abort", mscp_take(mscp, &end) == MSCP_DONE && number(end.bytes, 4) == 3, 1);
+    is("then that of the abort", mscp_take(mscp, FIRST, &end) == MSCP_DONE && number(end.bytes, 4) == 3, 1);
     free(mscp);
 }
 
@@ -225,8 +240,8 @@ static void pickers(void)
         struct mscp_upcoming next;
         is("init", mscp_init(&handle, &LIMITS, &UNIT, 1, picker), MSCP_DONE);
         bring_online(&handle);
-        is("far", mscp_send(&handle, command(2, MSCP_READ, 512, 900), 32, &sent), MSCP_QUEUED);
-        is("near", mscp_send(&handle, command(3, MSCP_READ, 512, 0), 32, &sent), MSCP_QUEUED);
+        is("far", mscp_send(&handle, FIRST, command(2, MSCP_READ, 512, 900), 32, &sent), MSCP_QUEUED);
+        is("near", mscp_send(&handle, FIRST, command(3, MSCP_READ, 512, 0), 32, &sent), MSCP_QUEUED);
         is("begin", mscp_begin(&handle, &next), MSCP_DONE);
         is("who starts", next.reference, picker == MSCP_SWEEP ? 3 : 2);
         free(memory);

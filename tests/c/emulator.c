@@ -98,7 +98,7 @@ static void several_blocks_a_turn(void)
     is("two blocks", post(21, MSCP_READ, 2 * MSCP_BLOCK, 40, 0), true);
     is("no more than asked", emulator_serve(&disk, 3), 3);
     is("no end yet", disk.ends_count, 0);
-    is("its figure", mscp_figure(disk.mscp, 20), 2);
+    is("its figure", mscp_figure(disk.mscp, FIRST, 20), 2);
     is("all that is left", emulator_serve(&disk, 128), 4);
     expect("five blocks", 20, 0, 5 * MSCP_BLOCK);
     expect("two blocks", 21, 0, 2 * MSCP_BLOCK);
@@ -117,7 +117,7 @@ static uint32_t fill(void)
         emulator_turn(&disk);
     }
     is("ends in the ring", disk.ends_count, EMULATOR_RING);
-    is("balance", mscp_balance(disk.mscp), 0);
+    is("balance", mscp_balance(disk.mscp, FIRST), 0);
     return posted;
 }
 
@@ -152,7 +152,7 @@ static void reset_of_full_rings(void)
     is("nothing to do", emulator_turn(&disk), false);
     is("no end", emulator_next(&disk, &end), false);
     is("no buffer", disk.buffers_count, 0);
-    is("balance", mscp_balance(disk.mscp), EMULATOR_CREDITS);
+    is("balance", mscp_balance(disk.mscp, FIRST), EMULATOR_CREDITS);
 }
 
 int main(int words, char **word)

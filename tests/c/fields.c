@@ -10,7 +10,7 @@ static const struct mscp_unit UNITS[2] = {
 };
 /* What waits may be passed by 3355443200 blocks. */
 static const struct mscp_limits LIMITS = {
-    .id = UINT64_C(0x8182838485868788), .budget = 3355443200u, .credits = 64, .longest = 8388608, .timeout = 161,
+    .id = UINT64_C(0x8182838485868788), .budget = 3355443200u, .credits = 2, .second = 62, .longest = 8388608, .timeout = 161,
 };
 static const uint32_t FIGURE = 3355443202u; /* the budget, and the two blocks of the command's own */
 
@@ -18,6 +18,7 @@ static uint64_t memory[(MSCP_HEAD + MSCP_SIZE) / sizeof(uint64_t)];
 static uint64_t host_memory[(MSCP_HEAD + MSCP_HOST_SIZE) / sizeof(uint64_t)];
 static struct mscp *mscp;
 static struct mscp_host *host;
+static uint32_t via; /* the connection of all calls */
 
 static const uint8_t *to_unit(uint32_t reference, uint8_t opcode, uint32_t first, uint32_t block)
 {
@@ -33,7 +34,7 @@ static struct mscp_packet end_of(uint32_t reference, uint8_t opcode, uint16_t st
     struct mscp_report report;
     while (mscp_step(mscp, 0, &report) == MSCP_DONE)
         continue;
-    is("an end", mscp_take(mscp, &end), MSCP_DONE);
+    is("an end", mscp_take(mscp, via, &end), MSCP_DONE);
     is("its length", end.length, length);
     is("its reference number", number(end.bytes, 4), reference);
     is("its unit", number(end.bytes + 4, 2), 0x4142);
@@ -57,7 +58,7 @@ static void unit_status(void)
 {
     struct mscp_packet end;
     struct mscp_sent sent;
-    is("send", mscp_send(mscp, to_unit(0x01020304, MSCP_GET_UNIT_STATUS, 0, 0), 12, &sent), MSCP_ANSWERED);
+    is("send", mscp_send(mscp, via, to_unit(0x01020304, MSCP_GET_UNIT_STATUS, 0, 0), 12, &sent), MSCP_ANSWERED);
     end = end_of(0x01020304, MSCP_GET_UNIT_STATUS, 0x0004, MSCP_PACKET_MAX);
     is("unit identifier", number(end.bytes + 20, 4), 0x15161718);
     is("its high half", number(end.bytes + 24, 4), 0x11121314);
@@ -71,7 +72,7 @@ static void controller_characteristics(void)
 {
     struct mscp_packet end;
     struct mscp_sent sent;
-    is("send", mscp_send(mscp, to_unit(5, MSCP_SET_CONTROLLER_CHARACTERISTICS, 0, 0), 18, &sent), MSCP_ANSWERED);
+    is("send", mscp_send(mscp, via, to_unit(5, MSCP_SET_CONTROLLER_CHARACTERISTICS, 0, 0), 18, &sent), MSCP_ANSWERED);
     end = end_of(5, MSCP_SET_CONTROLLER_CHARACTERISTICS, 0, 28);
     is("timeout", number(end.bytes + 16, 2), 161);
     is("controller identifier", number(end.bytes + 20, 4), 0x85868788);
@@ -83,12 +84,12 @@ static void online(void)
     struct mscp_packet end;
     struct mscp_sent sent;
     struct mscp_upcoming next;
-    is("send", mscp_send(mscp, to_unit(6, MSCP_ONLINE, 0, 0), 12, &sent), MSCP_QUEUED);
+    is("send", mscp_send(mscp, via, to_unit(6, MSCP_ONLINE, 0, 0), 12, &sent), MSCP_QUEUED);
     is("begin", mscp_begin(mscp, &next), MSCP_DONE);
     is("no bytes", next.bytes, 0);
     is("no block", next.touches == 0 && next.lbn == 0, 1);
     is("one step", next.done == 0 && next.weight == 1, 1);
-    is("whose", next.reference == 6 && next.unit == 0x4142 && next.opcode == MSCP_ONLINE, 1);
+    is("whose", next.reference == 6 && next.unit == 0x4142 && next.opcode == MSCP_ONLINE && next.connection == via, 1);
     end = end_of(6, MSCP_ONLINE, 0, 44);
     is("unit identifier", number(end.bytes + 20, 4), 0x15161718);
     is("its high half", number(end.bytes + 24, 4), 0x11121314);
@@ -106,17 +107,17 @@ static void figures(void)
     struct mscp_news news = {7, 7, 7, 7, 7, 7};
     const uint8_t *read = to_unit(0x0A0B0C0D, MSCP_READ, MSCP_BLOCK + 1, 40000);
     is("submit", mscp_host_submit(host, read, 32), MSCP_DONE);
-    is("send", mscp_send(mscp, read, 32, &sent), MSCP_QUEUED);
+    is("send", mscp_send(mscp, via, read, 32, &sent), MSCP_QUEUED);
     is("its number", sent.reference == 0x0A0B0C0D && sent.aborted == 0 && sent.has_aborted == 0, 1);
-    is("figure", mscp_figure(mscp, 0x0A0B0C0D), FIGURE);
+    is("figure", mscp_figure(mscp, via, 0x0A0B0C0D), FIGURE);
     is("look", mscp_look(mscp, list, 1), 1);
-    is("looked", list[0].reference == 0x0A0B0C0D && list[0].figure == FIGURE, 1);
+    is("looked", list[0].reference == 0x0A0B0C0D && list[0].figure == FIGURE && list[0].connection == via, 1);
     is("poll", mscp_host_poll(host, 0x0E0F1011, &poll), MSCP_DONE);
     is("its length", poll.length, 16);
     is("its number", number(poll.bytes, 4), 0x0E0F1011);
     is("whom it polls", number(poll.bytes + 12, 4), 0x0A0B0C0D);
-    is("send", mscp_send(mscp, poll.bytes, poll.length, &sent), MSCP_ANSWERED);
-    is("take", mscp_take(mscp, &end), MSCP_DONE);
+    is("send", mscp_send(mscp, via, poll.bytes, poll.length, &sent), MSCP_ANSWERED);
+    is("take", mscp_take(mscp, via, &end), MSCP_DONE);
     is("whom it tells of", number(end.bytes + 12, 4), 0x0A0B0C0D);
     is("its figure", number(end.bytes + 16, 4), FIGURE);
     is("receive", mscp_host_receive(host, end.bytes, end.length, &news), MSCP_FIRST);
@@ -135,13 +136,14 @@ static void steps(void)
     is("whose", next.reference == 0x0A0B0C0D && next.unit == 0x4142 && next.opcode == MSCP_READ, 1);
     is("what", next.bytes == MSCP_BLOCK + 1 && next.lbn == 40000 && next.touches == 1, 1);
     is("how far", next.done == 0 && next.weight == 2, 1);
-    is("finish", mscp_finish(mscp, 0x0A0B0C0D, 0, &report), MSCP_DONE);
-    is("whose", report.reference == 0x0A0B0C0D && report.unit == 0x4142, 1);
+    is("by which", next.connection, via);
+    is("finish", mscp_finish(mscp, via, 0x0A0B0C0D, 0, &report), MSCP_DONE);
+    is("whose", report.reference == 0x0A0B0C0D && report.unit == 0x4142 && report.connection == via, 1);
     is("what", report.lbn == 40000 && report.touched == 1 && report.seek == 40000 / 1113, 1);
     is("how far", report.started == 1 && report.ended == 0 && report.status == 0, 1);
     is("begin", mscp_begin(mscp, &next), MSCP_DONE);
     is("how far", next.done == 1 && next.lbn == 40001, 1);
-    is("finish", mscp_finish(mscp, 0x0A0B0C0D, 0x1234 | 8, &report), MSCP_DONE);
+    is("finish", mscp_finish(mscp, via, 0x0A0B0C0D, 0x1234 | 8, &report), MSCP_DONE);
     is("how far", report.started == 0 && report.ended == 1 && report.status == (0x1234 | 8), 1);
     is("what", report.lbn == 40001 && report.touched == 1 && report.seek == 0, 1);
     end = end_of(0x0A0B0C0D, MSCP_READ, 0x1234 | 8, 32);
@@ -171,7 +173,7 @@ static void opcodes(void)
     };
     struct mscp_sent sent;
     for (size_t i = 0; i < COUNT(cases); i++) {
-        is("send", mscp_send(mscp, to_unit(50 + (uint32_t)i, cases[i].opcode, 512, 0), 32, &sent) > 0, 1);
+        is("send", mscp_send(mscp, via, to_unit(50 + (uint32_t)i, cases[i].opcode, 512, 0), 32, &sent) > 0, 1);
         end_of(50 + (uint32_t)i, cases[i].opcode, 0, cases[i].length);
     }
 }
@@ -188,34 +190,39 @@ static void limits(void)
         units[i] = UNITS[1];
         units[i].number = i;
     }
+    via = FIRST;
     mscp = mscp_in_memory(memory, sizeof memory);
+    limits.second = 0;
     limits.credits = MSCP_CREDITS_MAX + 1;
     is("credits", mscp_init(mscp, &limits, units, MSCP_UNITS_MAX, MSCP_OLDEST), MSCP_BAD_CREDITS);
     limits.credits = MSCP_CREDITS_MAX;
     is("units", mscp_init(mscp, &limits, units, MSCP_UNITS_MAX + 1, MSCP_OLDEST), MSCP_MANY_UNITS);
     is("just so many", mscp_init(mscp, &limits, units, MSCP_UNITS_MAX, MSCP_OLDEST), MSCP_DONE);
-    is("balance", mscp_balance(mscp), MSCP_CREDITS_MAX);
-    is("short", mscp_send(mscp, message, MSCP_MESSAGE_MIN - 1, &sent), MSCP_SHORT);
-    is("not short", mscp_send(mscp, message, MSCP_MESSAGE_MIN, &sent), MSCP_ANSWERED);
+    is("balance", mscp_balance(mscp, via), MSCP_CREDITS_MAX);
+    is("short", mscp_send(mscp, via, message, MSCP_MESSAGE_MIN - 1, &sent), MSCP_SHORT);
+    is("not short", mscp_send(mscp, via, message, MSCP_MESSAGE_MIN, &sent), MSCP_ANSWERED);
     message[0] = 1;
-    is("long", mscp_send(mscp, message, MSCP_MESSAGE_MAX + 1, &sent), MSCP_LONG);
-    is("not long", mscp_send(mscp, message, MSCP_MESSAGE_MAX, &sent), MSCP_ANSWERED);
-    is("send", mscp_send(mscp, command(2, MSCP_READ, MSCP_BLOCK, 0), 32, &sent), MSCP_QUEUED);
+    is("long", mscp_send(mscp, via, message, MSCP_MESSAGE_MAX + 1, &sent), MSCP_LONG);
+    is("not long", mscp_send(mscp, via, message, MSCP_MESSAGE_MAX, &sent), MSCP_ANSWERED);
+    is("send", mscp_send(mscp, via, command(2, MSCP_READ, MSCP_BLOCK, 0), 32, &sent), MSCP_QUEUED);
     is("a block", mscp_begin(mscp, &next) == MSCP_DONE && next.weight == 1, 1);
     is("reset", mscp_reset(mscp), MSCP_DONE);
-    is("send", mscp_send(mscp, command(2, MSCP_READ, MSCP_BLOCK + 1, 0), 32, &sent), MSCP_QUEUED);
+    is("send", mscp_send(mscp, via, command(2, MSCP_READ, MSCP_BLOCK + 1, 0), 32, &sent), MSCP_QUEUED);
     is("over a block", mscp_begin(mscp, &next) == MSCP_DONE && next.weight == 2, 1);
 }
 
 int main(void)
 {
-    sizes();
-    unit_status();
-    controller_characteristics();
-    online();
-    figures();
-    steps();
-    opcodes();
+    for (via = FIRST; via <= SECOND; via++) {
+        sizes();
+        is("credits", mscp_balance(mscp, via), via == FIRST ? 2 : 62);
+        unit_status();
+        controller_characteristics();
+        online();
+        figures();
+        steps();
+        opcodes();
+    }
     limits();
     return wrong;
 }

@@ -4,7 +4,7 @@
 #include <stdbool.h>
 
 static const struct mscp_unit UNIT = {1, 1000, 0, 1, 0, 10, 2, 1};
-static const struct mscp_limits LIMITS = {1, 16, 4, 8, 60};
+static const struct mscp_limits LIMITS = {1, 16, 4, 0, 8, 60};
 
 static int32_t init(struct mscp *mscp)
 {
@@ -49,7 +49,7 @@ static void inits_of_no_room(void)
         is(cases[i].what, mscp_host_init(&host, 4), cases[i].status);
         struct mscp *head = mscp_in_memory(cases[i].memory, MSCP_HEAD + size - cases[i].less);
         is(cases[i].what, init(head), cases[i].status);
-        is(cases[i].what, mscp_balance(head), MSCP_NOT_MADE);
+        is(cases[i].what, mscp_balance(head, FIRST), MSCP_NOT_MADE);
         struct mscp_host *top = mscp_host_in_memory(cases[i].memory, MSCP_HEAD + mscp_host_size() - cases[i].less);
         is(cases[i].what, mscp_host_init(top, 4), cases[i].status);
         is(cases[i].what, mscp_host_balance(top), MSCP_NOT_MADE);
@@ -80,11 +80,11 @@ static void marks(void)
     is("a controller for a host", mscp_host_init(host, 4), MSCP_NO_HANDLE);
     is("a controller is no host", mscp_host_balance(host), MSCP_NOT_MADE);
     host = mscp_host_in_memory(memory, size);
-    is("what lay there is forgotten", mscp_balance(mscp), MSCP_NOT_MADE);
+    is("what lay there is forgotten", mscp_balance(mscp, FIRST), MSCP_NOT_MADE);
     is("a host's room for a controller", init(mscp), MSCP_NO_HANDLE);
     is("init of a host", mscp_host_init(host, 4), MSCP_DONE);
     is("a host for a controller", init(mscp), MSCP_NO_HANDLE);
-    is("a host is no controller", mscp_balance(mscp), MSCP_NOT_MADE);
+    is("a host is no controller", mscp_balance(mscp, FIRST), MSCP_NOT_MADE);
     is("a host's handle anew", mscp_host_init(mscp_host_in_memory(memory, size), 3), MSCP_DONE);
     is("it is another", mscp_host_balance(host), 3);
     free(memory);
@@ -111,7 +111,7 @@ static void moves(bool beside)
     struct mscp_upcoming next;
     struct mscp_report report;
     is("init", init(mscp), MSCP_DONE);
-    is("online", mscp_send(mscp, command(1, MSCP_ONLINE, 0, 0), 32, &sent), MSCP_QUEUED);
+    is("online", mscp_send(mscp, FIRST, command(1, MSCP_ONLINE, 0, 0), 32, &sent), MSCP_QUEUED);
     is("begin", mscp_begin(mscp, &next), MSCP_DONE);
     memory = move(memory, size);
     if (beside) {
@@ -122,7 +122,7 @@ static void moves(bool beside)
     }
     is("where it is", mscp->at == (char *)memory + head && mscp->address == (uintptr_t)memory + head, 1);
     is("begin again", mscp_begin(mscp, &next) == MSCP_DONE && next.reference == 1, 1);
-    is("finish", mscp_finish(mscp, 1, 0, &report) == MSCP_DONE && report.ended, 1);
+    is("finish", mscp_finish(mscp, FIRST, 1, 0, &report) == MSCP_DONE && report.ended, 1);
     is("online", mscp_is_online(mscp, 0), 1);
     free(memory);
 }

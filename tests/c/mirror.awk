@@ -1,6 +1,6 @@
 # Prints a C file that compiles only where mscp.h says what the sources say: each struct with its fields, their places
-# and types; each call with its parameters; and the numbers of statuses, pickers, opcodes, marks and of the version.
-# tests/library names the sources.
+# and types; each call with its parameters; and the numbers of statuses, pickers, connections, opcodes, marks and of the
+# version. tests/library names the sources.
 #
 # A call's handle is const where the contract has the clause `same`. Types are compared by _Generic. A field that only
 # the header has is one without an initializer, of which the compiler warns, as of an enumerator that a switch lacks.
@@ -138,6 +138,11 @@ in_call { call = call $0 " " }
     gsub(/Some\(Policy::|\),/, "", picker)
     enumerator_is("picker", toupper(picker), $1)
 }
+/^ +[0-9]+ => Some\(Connection::[A-Za-z]+\),$/ {
+    connection = $3
+    gsub(/Some\(Connection::|\),/, "", connection)
+    enumerator_is("connection", "CONNECTION_" toupper(connection), $1)
+}
 /^ +Opcode::.* => Line::new\([0-9]+,/ {
     byte = $3
     gsub(/[^0-9]/, "", byte)
@@ -155,7 +160,8 @@ END {
     for (enum in cases)
         print "int is_" enum "(enum mscp_" enum " it)\n{\n    switch (it) {\n   " cases[enum] \
             "\n        return 1;\n    }\n    return 0;\n}"
-    if (structs != 10 || calls < 23 || marks != 2 || length(cases["picker"]) == 0 || length(cases["opcode"]) == 0) {
+    if (structs != 10 || calls < 23 || marks != 2 || length(cases["picker"]) == 0 || length(cases["opcode"]) == 0 ||
+        length(cases["connection"]) == 0) {
         print "mirror.awk: " structs " structs, " calls " calls, " marks " marks" >"/dev/stderr"
         exit 1
     }

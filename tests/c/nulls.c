@@ -24,9 +24,9 @@ int32_t init_seen(struct mscp *mscp, const struct mscp_limits *limits, const str
     return mscp != NULL && limits != NULL && picker == 3 ? see(units, count) : 0;
 }
 
-int32_t send_seen(struct mscp *mscp, const uint8_t *message, size_t length, struct mscp_sent *sent)
+int32_t send_seen(struct mscp *mscp, uint32_t connection, const uint8_t *message, size_t length, struct mscp_sent *sent)
 {
-    return mscp != NULL && sent != NULL ? see(message, length) : 0;
+    return mscp != NULL && connection == 7 && sent != NULL ? see(message, length) : 0;
 }
 
 int32_t look_seen(const struct mscp *mscp, struct mscp_waiting *list, size_t room)
@@ -62,12 +62,12 @@ int main(void)
     struct mscp_news news;
     uint8_t bytes[2] = {0, 0};
     passes("init", mscp_init(&mscp, &limits, units, 2, 3), units, 2);
-    passes("send", mscp_send(&mscp, bytes, 2, &sent), bytes, 2);
+    passes("send", mscp_send(&mscp, 7, bytes, 2, &sent), bytes, 2);
     passes("look", mscp_look(&mscp, list, 2), list, 2);
     passes("submit", mscp_host_submit(&host, bytes, 2), bytes, 2);
     passes("receive", mscp_host_receive(&host, bytes, 2, &news), bytes, 2);
     passes("init of none", mscp_init(&mscp, &limits, NULL, 0, 3), NULL, 0);
-    passes("send of none", mscp_send(&mscp, NULL, 0, &sent), NULL, 0);
+    passes("send of none", mscp_send(&mscp, 7, NULL, 0, &sent), NULL, 0);
     passes("look at none", mscp_look(&mscp, NULL, 0), NULL, 0);
     passes("submit of none", mscp_host_submit(&host, NULL, 0), NULL, 0);
     passes("receive of none", mscp_host_receive(&host, NULL, 0, &news), NULL, 0);

@@ -21,7 +21,7 @@ static unsigned char stack[1 << 16];
 static ucontext_t home, there;
 static struct mscp *mscp;
 static struct mscp_host *host;
-static const struct mscp_limits LIMITS = {1, 16, 64, 8, 60};
+static const struct mscp_limits LIMITS = {1, 16, 64, 0, 8, 60};
 static struct mscp_unit units[16];
 static volatile int64_t answered; /* by the last call */
 
@@ -36,17 +36,17 @@ static void run(int call)
     static struct mscp_waiting figures[64];
     static struct mscp_news news;
     switch (call) {
-    case SEND: answered = mscp_send(mscp, read, 32, &sent); break;
+    case SEND: answered = mscp_send(mscp, MSCP_CONNECTION_FIRST, read, 32, &sent); break;
     case BEGIN: answered = mscp_begin(mscp, &upcoming); break;
-    case FINISH: answered = mscp_finish(mscp, upcoming.reference, 0, &report); break;
+    case FINISH: answered = mscp_finish(mscp, MSCP_CONNECTION_FIRST, upcoming.reference, 0, &report); break;
     case STEP: answered = mscp_step(mscp, 0, &report); break;
-    case TAKE: answered = mscp_take(mscp, &packet); break;
+    case TAKE: answered = mscp_take(mscp, MSCP_CONNECTION_FIRST, &packet); break;
     case LOOK: answered = mscp_look(mscp, figures, 64); break;
-    case FIGURE: answered = mscp_figure(mscp, 63); break;
-    case WAITING: answered = mscp_waiting(mscp); break;
-    case UNTAKEN: answered = mscp_untaken(mscp); break;
+    case FIGURE: answered = mscp_figure(mscp, MSCP_CONNECTION_FIRST, 63); break;
+    case WAITING: answered = mscp_waiting(mscp, MSCP_CONNECTION_FIRST); break;
+    case UNTAKEN: answered = mscp_untaken(mscp, MSCP_CONNECTION_FIRST); break;
     case IS_ONLINE: answered = mscp_is_online(mscp, 0); break;
-    case BALANCE: answered = mscp_balance(mscp); break;
+    case BALANCE: answered = mscp_balance(mscp, MSCP_CONNECTION_FIRST); break;
     case RESET: answered = mscp_reset(mscp); break;
     case SUBMIT: answered = mscp_host_submit(host, read, 32); break;
     case POLL: answered = mscp_host_poll(host, 99, &packet); break;
@@ -95,15 +95,15 @@ static void prepare(void)
     host = mscp_host_in_memory(&host_room, sizeof host_room);
     must(mscp_init(mscp, &LIMITS, units, 16, MSCP_SWEEP), MSCP_DONE);
     must(mscp_host_init(host, 64), MSCP_DONE);
-    must(mscp_send(mscp, message, 32, &sent), MSCP_QUEUED);
+    must(mscp_send(mscp, MSCP_CONNECTION_FIRST, message, 32, &sent), MSCP_QUEUED);
     must(mscp_step(mscp, 0, &report), MSCP_DONE);
-    must(mscp_take(mscp, &end), MSCP_DONE);
+    must(mscp_take(mscp, MSCP_CONNECTION_FIRST, &end), MSCP_DONE);
     message[8] = MSCP_READ;
     message[13] = 16;
     for (uint8_t i = 1; i <= 62; i++) {
         message[0] = i;
         message[4] = i % 16;
-        must(mscp_send(mscp, message, 32, &sent), MSCP_QUEUED);
+        must(mscp_send(mscp, MSCP_CONNECTION_FIRST, message, 32, &sent), MSCP_QUEUED);
         must(mscp_host_submit(host, message, 32), MSCP_DONE);
     }
 }

@@ -19,7 +19,7 @@ static void serve(void)
     struct mscp_packet end;
     if (mscp_step(mscp, 0, &report) == MSCP_DONE)
         steps++;
-    if (mscp_take(mscp, &end) == MSCP_DONE) {
+    if (mscp_take(mscp, FIRST, &end) == MSCP_DONE) {
         is("a good READ", end.length == 32 && end.bytes[8] == 0xA1 && number(end.bytes + 10, 2) == 0, 1);
         ended[end.bytes[3] % THREADS]++;
     }
@@ -30,12 +30,12 @@ static void take_turn(uint32_t thread)
 {
     struct mscp_sent sent;
     uint32_t reference = thread << 24 | turn;
-    int32_t status = mscp_send(mscp, command(reference, MSCP_READ, 1024, turn * 7 % 900), 32, &sent);
+    int32_t status = mscp_send(mscp, FIRST, command(reference, MSCP_READ, 1024, turn * 7 % 900), 32, &sent);
     is("queued, or no credit", status == MSCP_QUEUED || status == MSCP_LAST_CREDIT, 1);
     if (status == MSCP_QUEUED)
         queued[thread]++;
     serve();
-    is("balance", mscp_balance(mscp) + mscp_waiting(mscp) + mscp_untaken(mscp), CREDITS);
+    is("balance", mscp_balance(mscp, FIRST) + mscp_waiting(mscp, FIRST) + mscp_untaken(mscp, FIRST), CREDITS);
 }
 
 static void *run(void *own)
@@ -58,15 +58,15 @@ static void bring_online(void)
     struct mscp_sent sent;
     struct mscp_report report;
     struct mscp_packet end;
-    is("online", mscp_send(mscp, command(1, MSCP_ONLINE, 0, 0), 12, &sent), MSCP_QUEUED);
+    is("online", mscp_send(mscp, FIRST, command(1, MSCP_ONLINE, 0, 0), 12, &sent), MSCP_QUEUED);
     is("step", mscp_step(mscp, 0, &report), MSCP_DONE);
-    is("take", mscp_take(mscp, &end), MSCP_DONE);
+    is("take", mscp_take(mscp, FIRST, &end), MSCP_DONE);
 }
 
 int main(void)
 {
     static const struct mscp_unit UNIT = {1, 1000, 0, 1, 0, 10, 2, 1};
-    static const struct mscp_limits LIMITS = {1, 16, CREDITS, 8, 60};
+    static const struct mscp_limits LIMITS = {1, 16, CREDITS, 0, 8, 60};
     static uint64_t memory[(MSCP_HEAD + MSCP_SIZE) / sizeof(uint64_t)];
     pthread_t threads[THREADS];
     uint32_t numbers[THREADS];
@@ -80,7 +80,7 @@ int main(void)
     }
     for (uint32_t i = 0; i < THREADS; i++)
         pthread_join(threads[i], NULL);
-    while (mscp_waiting(mscp) + mscp_untaken(mscp) > 0)
+    while (mscp_waiting(mscp, FIRST) + mscp_untaken(mscp, FIRST) > 0)
         serve();
     uint32_t all = 0;
     for (uint32_t i = 0; i < THREADS; i++) {

@@ -8,6 +8,9 @@
 
 #define COUNT(list) (sizeof(list) / sizeof((list)[0]))
 
+/* The connections. */
+enum { FIRST = MSCP_CONNECTION_FIRST, SECOND = MSCP_CONNECTION_SECOND };
+
 /* Whether something was wrong: the program's status. */
 static int wrong;
 

@@ -11,10 +11,10 @@ void calls(struct mscp *mscp, struct mscp_host *host, const struct mscp_limits *
 {
     mscp_init(mscp, limits, units, 1, MSCP_SWEEP);
     mscp_reset(mscp);
-    mscp_send(mscp, bytes, 12, sent);
-    mscp_take(mscp, packet);
+    mscp_send(mscp, MSCP_CONNECTION_FIRST, bytes, 12, sent);
+    mscp_take(mscp, MSCP_CONNECTION_FIRST, packet);
     mscp_begin(mscp, upcoming);
-    mscp_finish(mscp, 1, 0, report);
+    mscp_finish(mscp, MSCP_CONNECTION_FIRST, 1, 0, report);
     mscp_step(mscp, 0, report);
     mscp_host_init(host, 2);
     mscp_host_submit(host, bytes, 12);

@@ -1,36 +1,45 @@
 -- Calls on a handle are calls of the controller that its memory holds.
-use Rattle.std.proofs.Common.{◌≡◌, ℕ, List, [], ◌∷◌, ◌++◌, length, refl, ap, sym, ◌∙◌, subst, append_assoc, append-nil}
-use Rattle.std.specs.Prelude.{ℤ, pos, MatchOption, Option, Some, None, Ok, Err}
+use Rattle.std.proofs.Common.{◌≡◌, ℕ, List, [], ◌∷◌, ◌++◌, length, map, refl, ap, sym, ◌∙◌, subst, append_assoc, append-nil}
+use Rattle.std.specs.Prelude.{ℤ, pos, filter, MatchOption, Option, Some, None, Ok, Err}
 use Rattle.std.proofs.lemmas.List.{length-map}
 use Rattle.arrayvec.specs.ArrayVec.{ArrayVec}
-use Rattle.mscp_queue.specs.declared.name.Connection.TheVariants.{First}
-use Rattle.mscp_queue.specs.Names.{name_on}
 use Rattle.mscp_queue.specs.declared.name.Connection.{Connection}
+use Rattle.mscp_queue.specs.declared.name.Name.{Name}
+use Rattle.mscp_queue.specs.Names.{name_on, same_connection}
 use Rattle.mscp_queue.specs.declared.block.Block.{Block}
 use Rattle.mscp_queue.specs.declared.drive.Drive.{Drive}
 use Rattle.mscp_queue.specs.declared.view.Choice.{Choice}
 use Rattle.mscp_queue.specs.Drives.{is_online_in}
 use Rattle.mscp_queue.specs.Figures.{figure_of_name}
 use Rattle.mscp_queue.specs.Lines.{Line}
-use Rattle.mscp_queue.specs.Records.{name_of}
+use Rattle.mscp_queue.specs.Records.{Record, name_of}
+use Rattle.mscp_queue.proofs.Placed.{filter_map_of}
 use Rattle.mscp_control.specs.declared.event.Event.TheVariants as events
 use Rattle.mscp_control.specs.declared.event.Entry.TheVariants as entries
 use Rattle.mscp_control.specs.Settings.{Settings, IsValid}
-use Rattle.mscp_control.specs.Holdings.{Holdings, answer_to_message, end_taken, fresh}
-use Rattle.mscp_control.specs.Commands.{name, waiting}
+use Rattle.mscp_control.specs.Account.{balance, untaken}
+use Rattle.mscp_control.specs.Both.{of}
+use Rattle.mscp_control.specs.Figures.{figure_of}
+use Rattle.mscp_control.specs.History.{Trace}
+use Rattle.mscp_control.specs.Holdings.{Holdings, answer_to_message, balance_of, end_taken, fresh, waiting_on}
+use Rattle.mscp_control.specs.Commands.{connection, name, waiting, waiting_by}
 use Rattle.mscp_control.specs.Calls as calls
 use Rattle.mscp_control.specs.Calls.{AnsweredCalls, AnswersCall, Call, history}
 use Rattle.mscp_control.specs.Controllers.{ControllersKeepThePromise}
-use Rattle.mscp_control.proofs.Bridge.Keeping.{owner_kept}
+use Rattle.mscp_control.proofs.Bridge.Owning.{owner_kept}
 use Rattle.mscp_memory.specs.declared.controller.handle.Handle.{Handle}
 use Rattle.mscp_memory.specs.declared.policy.Policy.{Policy}
 use Rattle.mscp_memory.specs.ControllerRoom.{Held}
 use Rattle.mscp_memory.specs.Policies.{PolicyPicks}
+use Rattle.mscp_c.specs.declared.outs.PacketOut.{PacketOut}
 use Rattle.mscp_c.specs.declared.outs.ReportOut.{ReportOut}
-use Rattle.mscp_c.specs.Told.{block_told, figures_in, flag}
+use Rattle.mscp_c.specs.declared.outs.SentOut.{SentOut}
+use Rattle.mscp_c.specs.declared.status.TheConstants.{BAD_CONNECTION, BAD_STATUS}
+use Rattle.mscp_c.specs.Given.{connection_given}
+use Rattle.mscp_c.specs.Told.{block_told, figure_in, figures_in, flag}
 use Rattle.mscp_c.specs.Served.{TellsFinish, TellsStep}
 use Rattle.mscp_c.specs.HandleCalls as made
-use Rattle.mscp_c.specs.HandleCalls.{AnsweredByHandle, AnswersHandle, HandleCall, HandlesKeepThePromise, RefusesStatus, Tells, TellsAll, TellsFinished, TellsRefused, TellsStepped}
+use Rattle.mscp_c.specs.HandleCalls.{AnsweredByHandle, AnswersFinish, AnswersHandle, AnswersOf, AnswersSend, AnswersTake, HandleCall, HandlesKeepThePromise, Refuses, Tells, TellsAll, TellsBlock, TellsFinished, TellsRefused, TellsSent, TellsStepped, TellsTaken}
 
 -- ---- one more call of a controller
 
@@ -46,9 +55,9 @@ picker_kept : {K : Type 0} (picks : List Choice → ℕ → Type 0) (old : Holdi
 picker_kept picks old (calls.Plain event entry) new r = (owner_kept picks old new event entry r).1
 picker_kept {K} picks old (calls.Begin None) new r = ap (λ (l : Line K). l.picker) r.begins.2
 picker_kept {K} picks old (calls.Begin (Some upcoming)) new r = ap (λ (l : Line K). l.picker) r.begins.1.left
-picker_kept picks old (calls.Finish reference k (Ok report)) new r =
+picker_kept picks old (calls.Finish via reference k (Ok report)) new r =
     (owner_kept picks old new (events.Step k) (entries.Stepped report) r.1).1
-picker_kept {K} picks old (calls.Finish reference k (Err stale)) new r = ap (λ (h : Holdings K). h.picker) r.1
+picker_kept {K} picks old (calls.Finish via reference k (Err stale)) new r = ap (λ (h : Holdings K). h.picker) r.1
 
 -- ---- what is known of a handle after calls of its controller
 
@@ -80,66 +89,137 @@ follows_same c policy so_far h h' f e = subst (Follows c policy (so_far ++ [])) 
 
 -- ---- a call on a handle
 
-finished : (c : Settings) (policy : Policy) (so_far : List Call) (h h' : Handle) (reference block : ℕ)
-    (before : ReportOut) (status : ℤ) (after : ReportOut) (o : Option Block) → block_told block ≡ o
-    → MatchOption o (RefusesStatus h before status h' after) (λ k. TellsFinish reference k h before status h' after)
-    → Follows c policy so_far h → Goes c policy so_far (made.Finish reference block before status after) h'
-finished c policy so_far h h' reference block before status after None e r f = record {
-  next = [];
-  tells = subst (λ o. MatchOption o (TellsRefused before status after [])
-      (λ k. TellsFinished reference k before status after [])) (sym e) (refl, r.0, r.2);
-  follows = follows_same c policy so_far h h' f r.1;
-}
-finished c policy so_far h h' reference block before status after (Some k) e r f =
-    let call : Call = calls.Finish reference k r.answer in
+-- a number that is none is refused, and nothing is told
+refused : {Out : Type 0} (c : Settings) (policy : Policy) (so_far : List Call) (h h' : Handle) (call : HandleCall)
+    (code : ℤ) (before : Out) (status : ℤ) (after : Out) → Refuses code h before status h' after
+    → Follows c policy so_far h → (TellsRefused code before status after [] → Tells c so_far call [])
+    → Goes c policy so_far call h'
+refused c policy so_far h h' call code before status after r f tell =
+    record { next = []; tells = tell (refl, r.0, r.2); follows = follows_same c policy so_far h h' f r.1 }
+
+sent : (c : Settings) (policy : Policy) (so_far : List Call) (h h' : Handle) (number : ℕ) (message : List ℕ)
+    (before : SentOut) (status : ℤ) (after : SentOut) (o : Option Connection) → connection_given number ≡ o
+    → MatchOption o (Refuses BAD_CONNECTION h before status h' after)
+    (λ via. AnswersSend via h message before status after h')
+    → Follows c policy so_far h → Goes c policy so_far (made.Send number message before status after) h'
+sent c policy so_far h h' number message before status after None e r f =
+    refused c policy so_far h h' (made.Send number message before status after) BAD_CONNECTION before status after r f
+    (subst (λ o. MatchOption o (TellsRefused BAD_CONNECTION before status after [])
+    (λ via. TellsSent via message before status after [])) (sym e))
+sent c policy so_far h h' number message before status after (Some via) e r f =
+    let answer = answer_to_message via h.held message in
+    let call : Call = calls.Plain (events.Send via (record { items = message })) (entries.Sent via answer) in
     record {
       next = call ∷ [];
-      tells = subst (λ o. MatchOption o (TellsRefused before status after (call ∷ []))
-          (λ k. TellsFinished reference k before status after (call ∷ []))) (sym e) (r.answer, refl, r.code, r.told);
-      follows = follows_more c policy so_far h h' call f r.finish;
+      tells = subst (λ o. MatchOption o (TellsRefused BAD_CONNECTION before status after (call ∷ []))
+          (λ via. TellsSent via message before status after (call ∷ []))) (sym e) (answer, refl, r.1, r.2);
+      follows =
+          follows_more c policy so_far h h' call f (refl, refl, ap (λ (x : Handle). x.held) r.0);
     }
+
+taken : (c : Settings) (policy : Policy) (so_far : List Call) (h h' : Handle) (number : ℕ)
+    (before : PacketOut) (status : ℤ) (after : PacketOut) (o : Option Connection) → connection_given number ≡ o
+    → MatchOption o (Refuses BAD_CONNECTION h before status h' after)
+    (λ via. AnswersTake via h before status after h')
+    → Follows c policy so_far h → Goes c policy so_far (made.Take number before status after) h'
+taken c policy so_far h h' number before status after None e r f =
+    refused c policy so_far h h' (made.Take number before status after) BAD_CONNECTION before status after r f
+    (subst (λ o. MatchOption o (TellsRefused BAD_CONNECTION before status after [])
+    (λ via. TellsTaken via before status after [])) (sym e))
+taken c policy so_far h h' number before status after (Some via) e r f =
+    let end = end_taken via h.held in
+    let call : Call = calls.Plain (events.Take via) (entries.Taken via end) in
+    record {
+      next = call ∷ [];
+      tells = subst (λ o. MatchOption o (TellsRefused BAD_CONNECTION before status after (call ∷ []))
+          (λ via. TellsTaken via before status after (call ∷ []))) (sym e) (end, refl, r.1, r.2);
+      follows =
+          follows_more c policy so_far h h' call f (refl, refl, ap (λ (x : Handle). x.held) r.0);
+    }
+
+-- of a connection a block is finished, or its status is none
+finished_on : (c : Settings) (policy : Policy) (so_far : List Call) (h h' : Handle) (call : HandleCall)
+    (via : Connection) (reference block : ℕ) (before : ReportOut) (status : ℤ) (after : ReportOut)
+    (o : Option Block) → block_told block ≡ o
+    → MatchOption o (Refuses BAD_STATUS h before status h' after)
+    (λ k. TellsFinish via reference k h before status h' after)
+    → Follows c policy so_far h
+    → ((next : List Call) → TellsBlock via reference block before status after next → Tells c so_far call next)
+    → Goes c policy so_far call h'
+finished_on c policy so_far h h' call via reference block before status after None e r f tell =
+    refused c policy so_far h h' call BAD_STATUS before status after r f
+    (λ t. tell [] (subst (λ o. MatchOption o (TellsRefused BAD_STATUS before status after [])
+    (λ k. TellsFinished via reference k before status after [])) (sym e) t))
+finished_on c policy so_far h h' call via reference block before status after (Some k) e r f tell =
+    let own : Call = calls.Finish via reference k r.answer in
+    record {
+      next = own ∷ [];
+      tells = tell (own ∷ []) (subst (λ o. MatchOption o (TellsRefused BAD_STATUS before status after (own ∷ []))
+          (λ k. TellsFinished via reference k before status after (own ∷ []))) (sym e)
+          (r.answer, refl, r.code, r.told));
+      follows = follows_more c policy so_far h h' own f r.finish;
+    }
+
+finished : (c : Settings) (policy : Policy) (so_far : List Call) (h h' : Handle) (number reference block : ℕ)
+    (before : ReportOut) (status : ℤ) (after : ReportOut) (o : Option Connection) → connection_given number ≡ o
+    → MatchOption o (Refuses BAD_CONNECTION h before status h' after)
+    (λ via. AnswersFinish via h reference block before status after h')
+    → Follows c policy so_far h → Goes c policy so_far (made.Finish number reference block before status after) h'
+finished c policy so_far h h' number reference block before status after None e r f =
+    refused c policy so_far h h' (made.Finish number reference block before status after) BAD_CONNECTION before status
+    after r f (subst (λ o. MatchOption o (TellsRefused BAD_CONNECTION before status after [])
+    (λ via. TellsBlock via reference block before status after [])) (sym e))
+finished c policy so_far h h' number reference block before status after (Some via) e r f =
+    finished_on c policy so_far h h' (made.Finish number reference block before status after) via reference block before
+    status after (block_told block) refl r f
+    (λ next. subst (λ o. MatchOption o (TellsRefused BAD_CONNECTION before status after next)
+    (λ via. TellsBlock via reference block before status after next)) (sym e))
 
 stepped : (c : Settings) (policy : Policy) (so_far : List Call) (h h' : Handle) (block : ℕ) (before : ReportOut)
     (status : ℤ) (after : ReportOut) (o : Option Block) → block_told block ≡ o
-    → MatchOption o (RefusesStatus h before status h' after) (λ k. TellsStep k h before status h' after)
+    → MatchOption o (Refuses BAD_STATUS h before status h' after) (λ k. TellsStep k h before status h' after)
     → Follows c policy so_far h → Goes c policy so_far (made.Step block before status after) h'
-stepped c policy so_far h h' block before status after None e r f = record {
-  next = [];
-  tells = subst (λ o. MatchOption o (TellsRefused before status after []) (λ k. TellsStepped k before status after []))
-      (sym e) (refl, r.0, r.2);
-  follows = follows_same c policy so_far h h' f r.1;
-}
+stepped c policy so_far h h' block before status after None e r f =
+    refused c policy so_far h h' (made.Step block before status after) BAD_STATUS before status after r f
+    (subst (λ o. MatchOption o (TellsRefused BAD_STATUS before status after [])
+    (λ k. TellsStepped k before status after [])) (sym e))
 stepped c policy so_far h h' block before status after (Some k) e r f =
     let call : Call = calls.Plain (events.Step k) (entries.Stepped r.report) in
     record {
       next = call ∷ [];
-      tells = subst (λ o. MatchOption o (TellsRefused before status after (call ∷ []))
+      tells = subst (λ o. MatchOption o (TellsRefused BAD_STATUS before status after (call ∷ []))
           (λ k. TellsStepped k before status after (call ∷ []))) (sym e) (r.report, refl, r.code, r.told);
       follows = follows_more c policy so_far h h' call f r.step;
     }
+
+-- the commands of a connection that wait, counted by their names
+named_on : (via : Connection) (rs : List Record) → length (waiting_on via rs)
+    ≡ length (filter (λ (n : Name). same_connection n.connection via) (map name_of rs))
+named_on via rs = sym (ap length (filter_map_of name_of (λ (n : Name). same_connection n.connection via) rs)
+    ∙ length-map (waiting_on via rs) name_of)
+
+named_by : (via : Connection) (t : Trace) (xs : List ℕ)
+    → length (filter (λ x. same_connection (connection t x) via) xs)
+    ≡ length (filter (λ (n : Name). same_connection n.connection via) (map (name t) xs))
+named_by via t xs = sym (ap length (filter_map_of (name t) (λ (n : Name). same_connection n.connection via) xs)
+    ∙ length-map (filter (λ x. same_connection (connection t x) via) xs) (name t))
+
+-- an answer of each connection is that of another count, where they are the same
+answers_same : (number : ℕ) (answer : ℤ) (value other : Connection → ℕ) → ((via : Connection) → value via ≡ other via)
+    → AnswersOf number value answer → AnswersOf number other answer
+answers_same number answer value other same r =
+    elim (connection_given number) as (λ o. MatchOption o (answer ≡ BAD_CONNECTION) (λ via. answer ≡ pos (value via))
+    → MatchOption o (answer ≡ BAD_CONNECTION) (λ via. answer ≡ pos (other via)))
+    [ None ↦ λ a. a | Some via ↦ λ a. a ∙ ap pos (same via) ] r
 
 -- what is told of the controller as it is: the calls on it so far tell that too
 goes : (c : Settings) (policy : Policy) → ControllersKeepThePromise (PolicyPicks policy) policy → IsValid c
     → (so_far : List Call) (h h' : Handle) (call : HandleCall) → Follows c policy so_far h → AnswersHandle h call h'
     → Goes c policy so_far call h'
-goes c policy law valid so_far h h' (made.Send message before status after) f r =
-    let sent = answer_to_message h.held message in
-    let call : Call = calls.Plain (events.Send (record { items = message })) (entries.Sent sent) in
-    record {
-      next = call ∷ [];
-      tells = (sent, refl, r.1, r.2);
-      follows =
-          follows_more c policy so_far h h' call f (refl, ap (λ (x : Handle). x.held) r.0);
-    }
-goes c policy law valid so_far h h' (made.Take before status after) f r =
-    let end = end_taken h.held in
-    let call : Call = calls.Plain events.Take (entries.Taken end) in
-    record {
-      next = call ∷ [];
-      tells = (end, refl, r.1, r.2);
-      follows =
-          follows_more c policy so_far h h' call f (refl, ap (λ (x : Handle). x.held) r.0);
-    }
+goes c policy law valid so_far h h' (made.Send number message before status after) f r =
+    sent c policy so_far h h' number message before status after (connection_given number) refl r f
+goes c policy law valid so_far h h' (made.Take number before status after) f r =
+    taken c policy so_far h h' number before status after (connection_given number) refl r f
 goes c policy law valid so_far h h' (made.Begin before status after) f r =
     let call : Call = calls.Begin r.upcoming in
     record {
@@ -148,8 +228,8 @@ goes c policy law valid so_far h h' (made.Begin before status after) f r =
       follows =
           follows_more c policy so_far h h' call f r.begin;
     }
-goes c policy law valid so_far h h' (made.Finish reference block before status after) f r =
-    finished c policy so_far h h' reference block before status after (block_told block) refl r f
+goes c policy law valid so_far h h' (made.Finish number reference block before status after) f r =
+    finished c policy so_far h h' number reference block before status after (connection_given number) refl r f
 goes c policy law valid so_far h h' (made.Step block before status after) f r =
     stepped c policy so_far h h' block before status after (block_told block) refl r f
 goes c policy law valid so_far h h' (made.Look before status after) f r =
@@ -161,28 +241,31 @@ goes c policy law valid so_far h h' (made.Look before status after) f r =
       follows =
           follows_more c policy so_far h h' call f (refl, ap (λ (x : Handle). x.held) r.2);
     }
-goes c policy law valid so_far h h' (made.Figure reference answer) f r =
+goes c policy law valid so_far h h' (made.Figure number reference answer) f r =
     let k = law c so_far h.held valid f.called in
-    let figure = (λ i. figure_of_name (k.settings i).budget h.held.waiting (name_on First reference))
-    ∙ k.figure (name_on First reference) in
-    record { next = []; tells = (refl, r.0 ∙ ap pos figure); follows = follows_same c policy so_far h h' f r.1 }
-goes c policy law valid so_far h h' (made.Balance answer) f r =
+    let told = answers_same number answer (λ via. figure_in h.held via reference)
+    (λ via. figure_of c (history so_far) (name_on via reference))
+    (λ via. (λ i. figure_of_name (k.settings i).budget h.held.waiting (name_on via reference))
+    ∙ k.figure (name_on via reference)) r.0 in
+    record { next = []; tells = (refl, told); follows = follows_same c policy so_far h h' f r.1 }
+goes c policy law valid so_far h h' (made.Balance number answer) f r =
     let k = law c so_far h.held valid f.called in
-    record { next = []; tells = (refl, r.0 ∙ ap pos k.balance); follows = follows_same c policy so_far h h' f r.1 }
-goes c policy law valid so_far h h' (made.Waiting answer) f r =
+    let told = answers_same number answer (λ via. balance_of via h.held) (λ via. balance c via (history so_far))
+    k.balance r.0 in
+    record { next = []; tells = (refl, told); follows = follows_same c policy so_far h h' f r.1 }
+goes c policy law valid so_far h h' (made.Waiting number answer) f r =
     let k = law c so_far h.held valid f.called in
-    let many : length h.held.waiting ≡ length (waiting (history so_far)) =
-    sym (length-map h.held.waiting name_of)
-    ∙ (ap length k.waiting ∙ length-map (waiting (history so_far)) (name (history so_far))) in
-    record { next = []; tells = (refl, r.0 ∙ ap pos many); follows = follows_same c policy so_far h h' f r.1 }
-goes c policy law valid so_far h h' (made.Untaken answer) f r =
+    let t = history so_far in
+    let told = answers_same number answer (λ via. length (waiting_on via h.held.waiting))
+    (λ via. length (waiting_by via t)) (λ via. named_on via h.held.waiting
+    ∙ (ap (λ ns. length (filter (λ (n : Name). same_connection n.connection via) ns)) k.waiting
+    ∙ sym (named_by via t (waiting t)))) r.0 in
+    record { next = []; tells = (refl, told); follows = follows_same c policy so_far h h' f r.1 }
+goes c policy law valid so_far h h' (made.Untaken number answer) f r =
     let k = law c so_far h.held valid f.called in
-    record {
-      next = [];
-      tells = (refl, r.0 ∙ ap (λ us. pos (length us)) k.untaken);
-      follows =
-          follows_same c policy so_far h h' f r.1;
-    }
+    let told = answers_same number answer (λ via. length (of via h.held.untaken))
+    (λ via. length (untaken c via (history so_far))) (λ via. ap length (k.untaken via)) r.0 in
+    record { next = []; tells = (refl, told); follows = follows_same c policy so_far h h' f r.1 }
 goes c policy law valid so_far h h' (made.Online unit answer) f r =
     let k = law c so_far h.held valid f.called in
     record {

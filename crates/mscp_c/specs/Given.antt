@@ -4,6 +4,8 @@ use Rattle.mscp_drive.specs.Shape.{Shape}
 use Rattle.mscp_drive.specs.declared.unit.UnitFault.{UnitFault}
 use Rattle.mscp_drive.specs.declared.unit.UnitFault.TheVariants.{ZeroTrack, ZeroGroup, ZeroCylinder, ZeroSize}
 use Rattle.mscp_drive.specs.declared.units.UnitsFault.TheVariants.{TooMany, NotAscending, Empty}
+use Rattle.mscp_queue.specs.declared.name.Connection.{Connection}
+use Rattle.mscp_queue.specs.declared.name.Connection.TheVariants as connections
 use Rattle.mscp_control.specs.Settings.{Settings}
 use Rattle.mscp_memory.specs.declared.policy.Policy.{Policy}
 use Rattle.mscp_memory.specs.declared.policy.Policy.TheVariants as policies
@@ -16,6 +18,11 @@ use Rattle.mscp_c.specs.declared.units.InitFault.TheVariants as faults
 abbrev pub policy_given : ℕ → Option Policy
 policy_given number =
     if nat_eq number 0 then Some policies.Oldest else (if nat_eq number 1 then Some policies.Sweep else None)
+
+-- the connection of this number, if it is one
+abbrev pub connection_given : ℕ → Option Connection
+connection_given number =
+    if nat_eq number 0 then Some connections.First else (if nat_eq number 1 then Some connections.Second else None)
 
 -- the unit of these numbers
 abbrev pub unit_given : UnitIn → Shape
@@ -34,6 +41,7 @@ unit_given u = record {
 abbrev pub settings_given : Limits → List UnitIn → Settings
 settings_given l us = record {
   credits = l.credits;
+  second = l.second;
   budget = l.budget;
   longest = l.longest;
   timeout = l.timeout;

@@ -1,7 +1,6 @@
 -- What somebody calls from C who holds a handle on a controller, what is told, and what is promised of it.
 use Rattle.std.specs.Prelude.{◌≡◌, ℕ, ℤ, pos, List, [], ◌∷◌, ◌++◌, length, map, Option, MatchOption, Result}
 use Rattle.arrayvec.specs.ArrayVec.{ArrayVec}
-use Rattle.mscp_queue.specs.declared.name.Connection.TheVariants.{First}
 use Rattle.mscp_queue.specs.Names.{name_on}
 use Rattle.mscp_queue.specs.declared.name.Connection.{Connection}
 use Rattle.mscp_queue.specs.declared.block.Block.{Block}
@@ -14,8 +13,9 @@ use Rattle.mscp_control.specs.declared.event.SendFault.{SendFault}
 use Rattle.mscp_control.specs.declared.event.Sent.{Sent}
 use Rattle.mscp_control.specs.declared.event.Stale.{Stale}
 use Rattle.mscp_control.specs.Settings.{Settings, IsValid}
-use Rattle.mscp_control.specs.Holdings.{after_message, after_take, answer_to_message, balance_of, end_taken, fresh}
-use Rattle.mscp_control.specs.Commands.{waiting}
+use Rattle.mscp_control.specs.Both.{of}
+use Rattle.mscp_control.specs.Holdings.{after_message, after_take, answer_to_message, balance_of, end_taken, fresh, waiting_on}
+use Rattle.mscp_control.specs.Commands.{waiting_by}
 use Rattle.mscp_control.specs.Account.{untaken, balance}
 use Rattle.mscp_control.specs.Figures.{figure_of}
 use Rattle.mscp_control.specs.Calls as calls
@@ -26,12 +26,13 @@ use Rattle.mscp_memory.specs.declared.policy.Policy.{Policy}
 use Rattle.mscp_memory.specs.ControllerHandles.{with_held}
 use Rattle.mscp_memory.specs.ControllerRoom.{Held}
 use Rattle.mscp_memory.specs.Policies.{PolicyPicks}
-use Rattle.mscp_c.specs.declared.status.TheConstants.{BAD_STATUS}
+use Rattle.mscp_c.specs.declared.status.TheConstants.{BAD_CONNECTION, BAD_STATUS}
 use Rattle.mscp_c.specs.declared.outs.SentOut.{SentOut}
 use Rattle.mscp_c.specs.declared.outs.PacketOut.{PacketOut}
 use Rattle.mscp_c.specs.declared.outs.UpcomingOut.{UpcomingOut}
 use Rattle.mscp_c.specs.declared.outs.ReportOut.{ReportOut}
 use Rattle.mscp_c.specs.declared.outs.FigureOut.{FigureOut}
+use Rattle.mscp_c.specs.Given.{connection_given}
 use Rattle.mscp_c.specs.Told.{TakeTold, begin_code, block_told, figure_in, figures_in, figures_told, flag, report_code, report_told, send_code, sent_told, take_code, upcoming_told}
 use Rattle.mscp_c.specs.Served.{TellsBegin, TellsFinish, TellsStep, finish_code, finish_told}
 
@@ -40,49 +41,77 @@ use Rattle.mscp_c.specs.Served.{TellsBegin, TellsFinish, TellsStep, finish_code,
 -- a call on a handle: what was passed; what the out-pointer pointed to, if there is one; the status or number that was
 -- answered; and what the out-pointer points to then (profile)
 pub data HandleCall : Type 0 where
-  -- the bytes of a message
-  Send : List ℕ → SentOut → ℤ → SentOut → HandleCall
-  Take : PacketOut → ℤ → PacketOut → HandleCall
+  -- the number of a connection, and the bytes of a message
+  Send : ℕ → List ℕ → SentOut → ℤ → SentOut → HandleCall
+  -- the number of a connection
+  Take : ℕ → PacketOut → ℤ → PacketOut → HandleCall
   Begin : UpcomingOut → ℤ → UpcomingOut → HandleCall
-  -- a reference number, and the status of its block
-  Finish : ℕ → ℕ → ReportOut → ℤ → ReportOut → HandleCall
+  -- the number of a connection, a reference number, and the status of its block
+  Finish : ℕ → ℕ → ℕ → ReportOut → ℤ → ReportOut → HandleCall
   -- the status of a block
   Step : ℕ → ReportOut → ℤ → ReportOut → HandleCall
   Look : List FigureOut → ℤ → List FigureOut → HandleCall
-  -- a reference number
-  Figure : ℕ → ℤ → HandleCall
-  Balance : ℤ → HandleCall
-  Waiting : ℤ → HandleCall
-  Untaken : ℤ → HandleCall
+  -- the number of a connection, and a reference number
+  Figure : ℕ → ℕ → ℤ → HandleCall
+  -- the number of a connection
+  Balance : ℕ → ℤ → HandleCall
+  Waiting : ℕ → ℤ → HandleCall
+  Untaken : ℕ → ℤ → HandleCall
   -- the number of a unit
   Online : ℕ → ℤ → HandleCall
 
--- a block's status that is none is refused, and nothing changes
-abbrev pub RefusesStatus : Handle → ReportOut → ℤ → Handle → ReportOut → Type 0
-RefusesStatus old before status new after = (status ≡ BAD_STATUS) × (new ≡ old) × (after ≡ before)
+-- a number that is no connection, or no status of a block, is refused with this status, and nothing changes
+abbrev pub Refuses : {Out : Type 0} → ℤ → Handle → Out → ℤ → Handle → Out → Type 0
+Refuses code old before status new after = (status ≡ code) × (new ≡ old) × (after ≡ before)
+
+-- what this is of the connection of a number is answered, or that the number is none
+abbrev pub AnswersOf : ℕ → (Connection → ℕ) → ℤ → Type 0
+AnswersOf number value answer =
+    MatchOption (connection_given number) (answer ≡ BAD_CONNECTION) (λ via. answer ≡ pos (value via))
+
+-- what a message of a connection answers, and what is there then
+abbrev pub AnswersSend : Connection → Handle → List ℕ → SentOut → ℤ → SentOut → Handle → Type 0
+AnswersSend via old message before status after new =
+    (new ≡ with_held old (after_message via old.held message))
+    × (status ≡ send_code (answer_to_message via old.held message))
+    × (after ≡ sent_told (answer_to_message via old.held message) before)
+
+-- the same of a take
+abbrev pub AnswersTake : Connection → Handle → PacketOut → ℤ → PacketOut → Handle → Type 0
+AnswersTake via old before status after new =
+    (new ≡ with_held old (after_take via old.held))
+    × (status ≡ take_code (end_taken via old.held)) × TakeTold (end_taken via old.held) before after
+
+-- the same of a finish
+abbrev pub AnswersFinish : Connection → Handle → ℕ → ℕ → ReportOut → ℤ → ReportOut → Handle → Type 0
+AnswersFinish via old reference block before status after new =
+    MatchOption (block_told block) (Refuses BAD_STATUS old before status new after)
+    (λ k. TellsFinish via reference k old before status new after)
 
 -- what a call on a handle that was made answers, and what is there then
 abbrev pub AnswersHandle : Handle → HandleCall → Handle → Type 0
-AnswersHandle old (Send message before status after) new =
-    (new ≡ with_held old (after_message old.held message))
-    × (status ≡ send_code (answer_to_message old.held message))
-    × (after ≡ sent_told (answer_to_message old.held message) before)
-AnswersHandle old (Take before status after) new =
-    (new ≡ with_held old (after_take old.held))
-    × (status ≡ take_code (end_taken old.held)) × TakeTold (end_taken old.held) before after
+AnswersHandle old (Send number message before status after) new =
+    MatchOption (connection_given number) (Refuses BAD_CONNECTION old before status new after)
+    (λ via. AnswersSend via old message before status after new)
+AnswersHandle old (Take number before status after) new =
+    MatchOption (connection_given number) (Refuses BAD_CONNECTION old before status new after)
+    (λ via. AnswersTake via old before status after new)
 AnswersHandle old (Begin before status after) new = TellsBegin old before status new after
-AnswersHandle old (Finish reference block before status after) new =
-    MatchOption (block_told block) (RefusesStatus old before status new after)
-    (λ k. TellsFinish reference k old before status new after)
+AnswersHandle old (Finish number reference block before status after) new =
+    MatchOption (connection_given number) (Refuses BAD_CONNECTION old before status new after)
+    (λ via. AnswersFinish via old reference block before status after new)
 AnswersHandle old (Step block before status after) new =
-    MatchOption (block_told block) (RefusesStatus old before status new after)
+    MatchOption (block_told block) (Refuses BAD_STATUS old before status new after)
     (λ k. TellsStep k old before status new after)
 AnswersHandle old (Look before status after) new =
     (status ≡ pos (length (figures_in old.held))) × (after ≡ figures_told (figures_in old.held) before) × (new ≡ old)
-AnswersHandle old (Figure reference answer) new = (answer ≡ pos (figure_in old.held reference)) × (new ≡ old)
-AnswersHandle old (Balance answer) new = (answer ≡ pos (balance_of old.held)) × (new ≡ old)
-AnswersHandle old (Waiting answer) new = (answer ≡ pos (length old.held.waiting)) × (new ≡ old)
-AnswersHandle old (Untaken answer) new = (answer ≡ pos (length old.held.untaken)) × (new ≡ old)
+AnswersHandle old (Figure number reference answer) new =
+    AnswersOf number (λ via. figure_in old.held via reference) answer × (new ≡ old)
+AnswersHandle old (Balance number answer) new = AnswersOf number (λ via. balance_of via old.held) answer × (new ≡ old)
+AnswersHandle old (Waiting number answer) new =
+    AnswersOf number (λ via. length (waiting_on via old.held.waiting)) answer × (new ≡ old)
+AnswersHandle old (Untaken number answer) new =
+    AnswersOf number (λ via. length (of via old.held.untaken)) answer × (new ≡ old)
 AnswersHandle old (Online unit answer) new = (answer ≡ pos (flag (is_online_in old.held.drives unit))) × (new ≡ old)
 
 -- the same of calls, one after the other
@@ -92,15 +121,32 @@ AnsweredByHandle old (call ∷ more) new = (next : Handle) × AnswersHandle old 
 
 -- ---- what they tell
 
--- the status of the block was refused, and nothing was told
-abbrev pub TellsRefused : ReportOut → ℤ → ReportOut → List Call → Type 0
-TellsRefused before status after next = (next ≡ []) × (status ≡ BAD_STATUS) × (after ≡ before)
+-- a number was refused with this status, and nothing was told
+abbrev pub TellsRefused : {Out : Type 0} → ℤ → Out → ℤ → Out → List Call → Type 0
+TellsRefused code before status after next = (next ≡ []) × (status ≡ code) × (after ≡ before)
+
+-- it was that of this connection, and what became of a message, or an end, is told
+abbrev pub TellsSent : Connection → List ℕ → SentOut → ℤ → SentOut → List Call → Type 0
+TellsSent via message before status after next =
+    (sent : Result Sent SendFault)
+    × (next ≡ calls.Plain (events.Send via (record { items = message })) (entries.Sent via sent) ∷ [])
+    × (status ≡ send_code sent) × (after ≡ sent_told sent before)
+
+abbrev pub TellsTaken : Connection → PacketOut → ℤ → PacketOut → List Call → Type 0
+TellsTaken via before status after next =
+    (end : Option (ArrayVec ℕ)) × (next ≡ calls.Plain (events.Take via) (entries.Taken via end) ∷ [])
+    × (status ≡ take_code end) × TakeTold end before after
 
 -- it was that of this block, and a finish or a step is told
-abbrev pub TellsFinished : ℕ → Block → ReportOut → ℤ → ReportOut → List Call → Type 0
-TellsFinished reference k before status after next =
-    (answer : Result Report Stale) × (next ≡ calls.Finish reference k answer ∷ [])
+abbrev pub TellsFinished : Connection → ℕ → Block → ReportOut → ℤ → ReportOut → List Call → Type 0
+TellsFinished via reference k before status after next =
+    (answer : Result Report Stale) × (next ≡ calls.Finish via reference k answer ∷ [])
     × (status ≡ finish_code answer) × (after ≡ finish_told answer before)
+
+abbrev pub TellsBlock : Connection → ℕ → ℕ → ReportOut → ℤ → ReportOut → List Call → Type 0
+TellsBlock via reference block before status after next =
+    MatchOption (block_told block) (TellsRefused BAD_STATUS before status after next)
+    (λ k. TellsFinished via reference k before status after next)
 
 abbrev pub TellsStepped : Block → ReportOut → ℤ → ReportOut → List Call → Type 0
 TellsStepped k before status after next =
@@ -110,30 +156,32 @@ TellsStepped k before status after next =
 -- after these calls of a controller the call on its handle is the next of them, or is none and tells what is so after
 -- their history: status, numbers and out-struct tell what the controller answers (profile)
 abbrev pub Tells : Settings → List Call → HandleCall → List Call → Type 0
-Tells c so_far (Send message before status after) next =
-    (sent : Result Sent SendFault)
-    × (next ≡ calls.Plain (events.Send (record { items = message })) (entries.Sent sent) ∷ [])
-    × (status ≡ send_code sent) × (after ≡ sent_told sent before)
-Tells c so_far (Take before status after) next =
-    (end : Option (ArrayVec ℕ)) × (next ≡ calls.Plain events.Take (entries.Taken end) ∷ [])
-    × (status ≡ take_code end) × TakeTold end before after
+Tells c so_far (Send number message before status after) next =
+    MatchOption (connection_given number) (TellsRefused BAD_CONNECTION before status after next)
+    (λ via. TellsSent via message before status after next)
+Tells c so_far (Take number before status after) next =
+    MatchOption (connection_given number) (TellsRefused BAD_CONNECTION before status after next)
+    (λ via. TellsTaken via before status after next)
 Tells c so_far (Begin before status after) next =
     (upcoming : Option Upcoming) × (next ≡ calls.Begin upcoming ∷ [])
     × (status ≡ begin_code upcoming) × (after ≡ upcoming_told upcoming before)
-Tells c so_far (Finish reference block before status after) next =
-    MatchOption (block_told block) (TellsRefused before status after next)
-    (λ k. TellsFinished reference k before status after next)
+Tells c so_far (Finish number reference block before status after) next =
+    MatchOption (connection_given number) (TellsRefused BAD_CONNECTION before status after next)
+    (λ via. TellsBlock via reference block before status after next)
 Tells c so_far (Step block before status after) next =
-    MatchOption (block_told block) (TellsRefused before status after next)
+    MatchOption (block_told block) (TellsRefused BAD_STATUS before status after next)
     (λ k. TellsStepped k before status after next)
 Tells c so_far (Look before status after) next =
     (list : ArrayVec (Connection × ℕ × ℕ)) × (next ≡ calls.Plain events.Look (entries.Looked list) ∷ [])
     × (status ≡ pos (length list.items)) × (after ≡ figures_told list.items before)
-Tells c so_far (Figure reference answer) next =
-    (next ≡ []) × (answer ≡ pos (figure_of c (history so_far) (name_on First reference)))
-Tells c so_far (Balance answer) next = (next ≡ []) × (answer ≡ pos (balance c (history so_far)))
-Tells c so_far (Waiting answer) next = (next ≡ []) × (answer ≡ pos (length (waiting (history so_far))))
-Tells c so_far (Untaken answer) next = (next ≡ []) × (answer ≡ pos (length (untaken c (history so_far))))
+Tells c so_far (Figure number reference answer) next =
+    (next ≡ []) × AnswersOf number (λ via. figure_of c (history so_far) (name_on via reference)) answer
+Tells c so_far (Balance number answer) next =
+    (next ≡ []) × AnswersOf number (λ via. balance c via (history so_far)) answer
+Tells c so_far (Waiting number answer) next =
+    (next ≡ []) × AnswersOf number (λ via. length (waiting_by via (history so_far))) answer
+Tells c so_far (Untaken number answer) next =
+    (next ≡ []) × AnswersOf number (λ via. length (untaken c via (history so_far))) answer
 Tells c so_far (Online unit answer) next =
     (next ≡ []) × (answer ≡ pos (flag (is_online_in (map (drive_now c (history so_far)) c.units) unit)))
 

@@ -1,8 +1,10 @@
 -- What comes of a begin, a finish and a step. The picker leaves a choice, so each is a relation.
 use Rattle.std.specs.Prelude.{◌≡◌, ℕ, ℤ, Option, Result, Ok, Err}
 use Rattle.mscp_queue.specs.declared.block.Block.{Block}
+use Rattle.mscp_queue.specs.declared.name.Connection.{Connection}
 use Rattle.mscp_queue.specs.declared.report.Report.{Report}
 use Rattle.mscp_queue.specs.declared.upcoming.Upcoming.{Upcoming}
+use Rattle.mscp_queue.specs.Names.{name_on}
 use Rattle.mscp_control.specs.declared.event.Stale.{Stale}
 use Rattle.mscp_control.specs.Holdings as controllers
 use Rattle.mscp_memory.specs.declared.controller.handle.Handle.{Handle}
@@ -41,10 +43,10 @@ finish_told (Ok report) out = report_told report out
 finish_told (Err stale) out = out
 
 -- they tell a finish that the controller may make
-pub record TellsFinish (reference : ℕ) (k : Block)
+pub record TellsFinish (via : Connection) (reference : ℕ) (k : Block)
     (old : Handle) (before : ReportOut) (status : ℤ) (new : Handle) (after : ReportOut) : Type 0 where
   pub answer : Result Report Stale
-  pub finish : controllers.Finishes (PolicyPicks old.held.picker) reference k old.held answer new.held
+  pub finish : controllers.Finishes (PolicyPicks old.held.picker) (name_on via reference) k old.held answer new.held
   pub rest : new ≡ with_held old new.held
   pub code : status ≡ finish_code answer
   pub told : after ≡ finish_told answer before

@@ -6,7 +6,7 @@ use Rattle.mscp_packet.specs.declared.command.Order.TheVariants as orders
 use Rattle.mscp_packet.specs.declared.end.End.{End}
 use Rattle.mscp_packet.specs.Commands.{opcode_byte}
 use Rattle.mscp_queue.specs.declared.name.Connection.{Connection}
-use Rattle.mscp_queue.specs.declared.name.Connection.TheVariants.{First}
+use Rattle.mscp_queue.specs.declared.name.Connection.TheVariants.{First, Second}
 use Rattle.mscp_queue.specs.Names.{name_on}
 use Rattle.mscp_queue.specs.declared.block.Block.{Block}
 use Rattle.mscp_queue.specs.declared.block.Block.TheVariants.{Good, Bad}
@@ -30,6 +30,11 @@ use Rattle.mscp_c.specs.Statuses.{send_fault_code}
 abbrev pub flag : Bool → ℕ
 flag true = 1
 flag false = 0
+
+-- a connection as a number
+abbrev pub connection_told : Connection → ℕ
+connection_told First = 0
+connection_told Second = 1
 
 -- ---- a message
 
@@ -88,6 +93,7 @@ upcoming_told (Some u) out = record {
   unit = u.command.unit;
   opcode = opcode_byte u.command.order;
   touches = flag (is_some u.lbn);
+  connection = connection_told u.connection;
 }
 
 -- ---- a step
@@ -118,20 +124,22 @@ report_told (Served connection reference unit lbn started seek ended) out = reco
   touched = flag (is_some lbn);
   started = flag started;
   ended = flag (is_some ended);
+  connection = connection_told connection;
 }
 
 -- ---- figures
 
--- the figures of the waiting commands, and that of the command of this reference number, 0 where none waits
+-- the figures of the waiting commands, and that of the connection's command of this reference number, 0 where none
+-- waits
 abbrev pub figures_in : Held → List (Connection × ℕ × ℕ)
 figures_in h = figures h.settings.budget h.waiting
 
-abbrev pub figure_in : Held → ℕ → ℕ
-figure_in h reference = figure_of_name h.settings.budget h.waiting (name_on First reference)
+abbrev pub figure_in : Held → Connection → ℕ → ℕ
+figure_in h via reference = figure_of_name h.settings.budget h.waiting (name_on via reference)
 
--- a reference number and a figure
+-- a connection, a reference number and a figure
 abbrev pub figure_told : (Connection × ℕ × ℕ) → FigureOut
-figure_told f = record { reference = f.1; figure = f.2 }
+figure_told f = record { reference = f.1; figure = f.2; connection = connection_told f.0 }
 
 -- as many of the figures as there is room for, and then what was there
 abbrev pub figures_told : List (Connection × ℕ × ℕ) → List FigureOut → List FigureOut

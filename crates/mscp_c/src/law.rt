@@ -7,10 +7,11 @@ ghost use Rattle.mscp_c.specs.HandleCalls.{HandlesKeepThePromise};
 ghost use Rattle.mscp_c.specs.Statuses.{minus};
 
 use crate::status::{
-    ANSWERED, BAD_BOUND, BAD_CREDITS, BAD_LONGEST, BAD_PICKER, BAD_STATUS, BAD_TIMEOUT, BUSY, DONE,
-    DOUBLED, ENDED, FIRST, LAST_CREDIT, LATE, LONG, LOST, MADE, MANY_UNITS, MISALIGNED, NO_CREDIT,
-    NO_HANDLE, NO_MEMORY, NO_UNITS, NOT_MADE, NOTHING, PROGRESS, QUEUED, RESET, SHORT, SMALL,
-    STALE, UNITS_FALL, UNKNOWN, UNREADABLE, ZERO_CYLINDER, ZERO_GROUP, ZERO_SIZE, ZERO_TRACK,
+    ANSWERED, BAD_BOUND, BAD_CONNECTION, BAD_CREDITS, BAD_LONGEST, BAD_PICKER, BAD_STATUS,
+    BAD_TIMEOUT, BUSY, DONE, DOUBLED, ENDED, FIRST, LAST_CREDIT, LATE, LONG, LOST, MADE,
+    MANY_UNITS, MISALIGNED, NO_CREDIT, NO_HANDLE, NO_MEMORY, NO_UNITS, NOT_MADE, NOTHING, PROGRESS,
+    QUEUED, RESET, SHORT, SMALL, STALE, UNITS_FALL, UNKNOWN, UNREADABLE, ZERO_CYLINDER, ZERO_GROUP,
+    ZERO_SIZE, ZERO_TRACK,
 };
 use mscp_control::controllers_keep_the_promise;
 use mscp_memory::Policy;
@@ -27,8 +28,8 @@ pub fn made_handles_are_valid(handle: &mut Handle)
 
 /// Calls on a handle, one after the other from an init or a reset on, are calls of a controller, with all that is promised
 /// of one that somebody holds: the messages, takes, looks, begins, finishes and steps are those calls, in their order, and
-/// statuses and out-structs tell what the controller answers. Figures, the balance, how many commands wait, how many ends
-/// weren't taken and who is online are those of the history so far.
+/// statuses and out-structs tell what the controller answers. Figures, and of each connection the balance, how many
+/// commands wait and how many ends weren't taken, and who is online, are those of the history so far.
 pub fn handles_keep_the_promise(policy: Policy)
     ensures { HandlesKeepThePromise policy }
 {
@@ -75,4 +76,5 @@ pub fn statuses_are_these()
     ensures bad_longest { BAD_LONGEST ≡ minus 29 }
     ensures bad_timeout { BAD_TIMEOUT ≡ minus 30 }
     ensures bad_bound { BAD_BOUND ≡ minus 31 }
+    ensures bad_connection { BAD_CONNECTION ≡ minus 32 }
 {}

@@ -55,6 +55,7 @@ fn init(
     let units = units_of(units)?;
     match Config::new(
         limits.credits,
+        limits.second,
         limits.budget,
         limits.longest,
         limits.timeout,

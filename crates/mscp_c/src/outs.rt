@@ -30,6 +30,7 @@ pub struct UpcomingOut {
     pub unit: u16,
     pub opcode: u8,
     pub touches: u8,
+    pub connection: u8,
 }
 
 /// What a step did.
@@ -44,14 +45,16 @@ pub struct ReportOut {
     pub touched: u8,
     pub started: u8,
     pub ended: u8,
+    pub connection: u8,
 }
 
-/// A waiting command's reference number and figure.
+/// A waiting command's reference number, figure and connection.
 #[repr(C)]
 #[derive(Clone, Copy)]
 pub struct FigureOut {
     pub reference: u32,
     pub figure: u32,
+    pub connection: u8,
 }
 
 /// What a received end says: of a command that ended its end, and of a poll the figure. The rest is 0.

@@ -1,16 +1,19 @@
 // The calls that change nothing.
 
-ghost use Rattle.std.specs.Prelude.{◌≡◌, true, false, pos, length};
+ghost use Rattle.std.specs.Prelude.{◌≡◌, true, false, pos, length, IfSome, None};
 ghost use Rattle.mscp_queue.specs.Drives.{is_online_in};
-ghost use Rattle.mscp_control.specs.Holdings.{balance_of};
+ghost use Rattle.mscp_control.specs.Both.{of};
+ghost use Rattle.mscp_control.specs.Holdings.{balance_of, waiting_on};
 ghost use Rattle.mscp_memory.specs.ControllerHandles.{is_made};
+ghost use Rattle.mscp_c.specs.Given.{connection_given};
 ghost use Rattle.mscp_c.specs.HandleCalls as calls;
 ghost use Rattle.mscp_c.specs.HandleCalls.{AnswersHandle};
 ghost use Rattle.mscp_c.specs.Told.{figure_in, figures_in, figures_told, flag};
 
 use crate::outs::FigureOut;
-use crate::status::NOT_MADE;
+use crate::status::{BAD_CONNECTION, NOT_MADE};
 use crate::telling::{flag, tell_figures};
+use crate::units::connection_of;
 use mscp_memory::controller::{Handle, is_made, lend};
 
 /// The figures of the waiting commands, oldest first, as many as there is room for: how many wait.
@@ -30,46 +33,62 @@ pub extern "C" fn mscp_look_at(handle: &mut Handle, out: &mut [FigureOut]) -> i3
     list.len() as i32
 }
 
-/// The figure of a waiting command, 0 where none waits of that reference number.
+/// The figure of a waiting command of the connection, 0 where none waits of that reference number.
 #[unsafe(no_mangle)]
-pub extern "C" fn mscp_figure(handle: &mut Handle, reference: u32) -> i64
-    ensures value { is_made handle.old ≡ true → result ≡ pos (figure_in handle.old.held reference) }
+pub extern "C" fn mscp_figure(handle: &mut Handle, connection: u32, reference: u32) -> i64
+    ensures value { is_made handle.old ≡ true → IfSome (connection_given connection) (λ via.
+        result ≡ pos (figure_in handle.old.held via reference)) }
+    ensures no_connection { is_made handle.old ≡ true → connection_given connection ≡ None → result ≡ BAD_CONNECTION }
     ensures same { handle.new ≡ handle.old }
-    ensures call { is_made handle.old ≡ true → AnswersHandle handle.old (calls.Figure reference result) handle.new }
+    ensures call { is_made handle.old ≡ true
+        → AnswersHandle handle.old (calls.Figure connection reference result) handle.new }
     ensures unmade { is_made handle.old ≡ false → result ≡ NOT_MADE }
 {
     if !is_made(handle) {
         return i64::from(NOT_MADE);
     }
-    i64::from(lend(handle).figure(reference))
+    let Some(connection) = connection_of(connection) else {
+        return i64::from(BAD_CONNECTION);
+    };
+    i64::from(lend(handle).figure(connection, reference))
 }
 
-/// How many commands wait.
+/// How many commands of the connection wait.
 #[unsafe(no_mangle)]
-pub extern "C" fn mscp_waiting(handle: &mut Handle) -> i64
-    ensures value { is_made handle.old ≡ true → result ≡ pos (length handle.old.held.waiting) }
+pub extern "C" fn mscp_waiting(handle: &mut Handle, connection: u32) -> i64
+    ensures value { is_made handle.old ≡ true → IfSome (connection_given connection) (λ via.
+        result ≡ pos (length (waiting_on via handle.old.held.waiting))) }
+    ensures no_connection { is_made handle.old ≡ true → connection_given connection ≡ None → result ≡ BAD_CONNECTION }
     ensures same { handle.new ≡ handle.old }
-    ensures call { is_made handle.old ≡ true → AnswersHandle handle.old (calls.Waiting result) handle.new }
+    ensures call { is_made handle.old ≡ true → AnswersHandle handle.old (calls.Waiting connection result) handle.new }
     ensures unmade { is_made handle.old ≡ false → result ≡ NOT_MADE }
 {
     if !is_made(handle) {
         return i64::from(NOT_MADE);
     }
-    i64::from(lend(handle).waiting())
+    let Some(connection) = connection_of(connection) else {
+        return i64::from(BAD_CONNECTION);
+    };
+    i64::from(lend(handle).waiting(connection))
 }
 
-/// How many ends weren't taken.
+/// How many ends of the connection weren't taken.
 #[unsafe(no_mangle)]
-pub extern "C" fn mscp_untaken(handle: &mut Handle) -> i64
-    ensures value { is_made handle.old ≡ true → result ≡ pos (length handle.old.held.untaken) }
+pub extern "C" fn mscp_untaken(handle: &mut Handle, connection: u32) -> i64
+    ensures value { is_made handle.old ≡ true → IfSome (connection_given connection) (λ via.
+        result ≡ pos (length (of via handle.old.held.untaken))) }
+    ensures no_connection { is_made handle.old ≡ true → connection_given connection ≡ None → result ≡ BAD_CONNECTION }
     ensures same { handle.new ≡ handle.old }
-    ensures call { is_made handle.old ≡ true → AnswersHandle handle.old (calls.Untaken result) handle.new }
+    ensures call { is_made handle.old ≡ true → AnswersHandle handle.old (calls.Untaken connection result) handle.new }
     ensures unmade { is_made handle.old ≡ false → result ≡ NOT_MADE }
 {
     if !is_made(handle) {
         return i64::from(NOT_MADE);
     }
-    i64::from(lend(handle).untaken())
+    let Some(connection) = connection_of(connection) else {
+        return i64::from(BAD_CONNECTION);
+    };
+    i64::from(lend(handle).untaken(connection))
 }
 
 /// Whether the unit of this number is online: not where it isn't configured.
@@ -86,16 +105,21 @@ pub extern "C" fn mscp_is_online(handle: &mut Handle, unit: u16) -> i32
     i32::from(flag(lend(handle).is_online(unit)))
 }
 
-/// How many credits are free.
+/// How many credits of the connection are free.
 #[unsafe(no_mangle)]
-pub extern "C" fn mscp_balance(handle: &mut Handle) -> i64
-    ensures value { is_made handle.old ≡ true → result ≡ pos (balance_of handle.old.held) }
+pub extern "C" fn mscp_balance(handle: &mut Handle, connection: u32) -> i64
+    ensures value { is_made handle.old ≡ true → IfSome (connection_given connection) (λ via.
+        result ≡ pos (balance_of via handle.old.held)) }
+    ensures no_connection { is_made handle.old ≡ true → connection_given connection ≡ None → result ≡ BAD_CONNECTION }
     ensures same { handle.new ≡ handle.old }
-    ensures call { is_made handle.old ≡ true → AnswersHandle handle.old (calls.Balance result) handle.new }
+    ensures call { is_made handle.old ≡ true → AnswersHandle handle.old (calls.Balance connection result) handle.new }
     ensures unmade { is_made handle.old ≡ false → result ≡ NOT_MADE }
 {
     if !is_made(handle) {
         return i64::from(NOT_MADE);
     }
-    i64::from(lend(handle).balance())
+    let Some(connection) = connection_of(connection) else {
+        return i64::from(BAD_CONNECTION);
+    };
+    i64::from(lend(handle).balance(connection))
 }

@@ -2,14 +2,16 @@
 
 ghost use Rattle.std.specs.Prelude.{◌≡◌, true, false, IfSome, None};
 ghost use Rattle.mscp_memory.specs.ControllerHandles.{is_made};
+ghost use Rattle.mscp_c.specs.Given.{connection_given};
 ghost use Rattle.mscp_c.specs.HandleCalls as calls;
 ghost use Rattle.mscp_c.specs.HandleCalls.{AnswersHandle};
 ghost use Rattle.mscp_c.specs.Told.{block_told};
 ghost use Rattle.mscp_c.specs.Served.{TellsBegin, TellsFinish, TellsStep};
 
 use crate::outs::{ReportOut, UpcomingOut};
-use crate::status::{BAD_STATUS, NOT_MADE, STALE};
+use crate::status::{BAD_CONNECTION, BAD_STATUS, NOT_MADE, STALE};
 use crate::telling::{block_of, tell_report, tell_upcoming};
+use crate::units::connection_of;
 use mscp_memory::controller::{Handle, is_made, lend};
 
 /// What the next step serves.
@@ -27,30 +29,37 @@ pub extern "C" fn mscp_begin(handle: &mut Handle, out: &mut UpcomingOut) -> i32
     tell_upcoming(out, &upcoming)
 }
 
-/// The step of the command of this reference number, where it is begun: its block had this status.
+/// The step of the connection's command of this reference number, where it is begun: its block had this status.
 #[unsafe(no_mangle)]
 pub extern "C" fn mscp_finish(
     handle: &mut Handle,
+    connection: u32,
     reference: u32,
     status: u16,
     out: &mut ReportOut,
 ) -> i32
-    ensures finish { is_made handle.old ≡ true → IfSome (block_told status) (λ k.
-        TellsFinish reference k handle.old out.old result handle.new out.new) }
-    ensures refused { is_made handle.old ≡ true → block_told status ≡ None
-        → (result ≡ BAD_STATUS) × (handle.new ≡ handle.old) × (out.new ≡ out.old) }
+    ensures finish { is_made handle.old ≡ true → IfSome (connection_given connection) (λ via.
+        IfSome (block_told status) (λ k.
+        TellsFinish via reference k handle.old out.old result handle.new out.new)) }
+    ensures no_connection { is_made handle.old ≡ true → connection_given connection ≡ None
+        → (result ≡ BAD_CONNECTION) × (handle.new ≡ handle.old) × (out.new ≡ out.old) }
+    ensures refused { is_made handle.old ≡ true → IfSome (connection_given connection) (λ via.
+        block_told status ≡ None → (result ≡ BAD_STATUS) × (handle.new ≡ handle.old) × (out.new ≡ out.old)) }
     ensures call { is_made handle.old ≡ true
-        → AnswersHandle handle.old (calls.Finish reference status out.old result out.new) handle.new }
+        → AnswersHandle handle.old (calls.Finish connection reference status out.old result out.new) handle.new }
     ensures unmade { is_made handle.old ≡ false
         → (result ≡ NOT_MADE) × (handle.new ≡ handle.old) × (out.new ≡ out.old) }
 {
     if !is_made(handle) {
         return NOT_MADE;
     }
+    let Some(connection) = connection_of(connection) else {
+        return BAD_CONNECTION;
+    };
     let Some(block) = block_of(status) else {
         return BAD_STATUS;
     };
-    match lend(handle).finish(reference, block) {
+    match lend(handle).finish(connection, reference, block) {
         Ok(report) => tell_report(out, &report),
         Err(_) => STALE,
     }

@@ -89,6 +89,9 @@ pub(crate) const BAD_TIMEOUT: i32 = -30;
 
 pub(crate) const BAD_BOUND: i32 = -31;
 
+/// No connection has this number.
+pub(crate) const BAD_CONNECTION: i32 = -32;
+
 /// The status of memory that is no room.
 pub(crate) fn room_code(fault: RoomFault) -> i32
     ensures { result ≡ room_code fault }

@@ -1,7 +1,7 @@
 // How what a call answers is told.
 
 ghost use Rattle.std.specs.Prelude.{◌≡◌};
-ghost use Rattle.mscp_c.specs.Told.{PacketTold, begin_code, block_told, bytes_of, flag, figures_told, report_code, report_told, send_code, sent_told, upcoming_told};
+ghost use Rattle.mscp_c.specs.Told.{PacketTold, begin_code, block_told, bytes_of, connection_told, flag, figures_told, report_code, report_told, send_code, sent_told, upcoming_told};
 
 use crate::outs::{FigureOut, PacketOut, ReportOut, SentOut, UpcomingOut};
 use crate::status::{ANSWERED, DONE, NOTHING, QUEUED, send_fault_code};
@@ -14,6 +14,16 @@ pub(crate) fn flag(holds: bool) -> u8
     ensures { result ≡ flag holds }
 {
     if holds { 1 } else { 0 }
+}
+
+/// A connection as a number.
+fn number_of(connection: Connection) -> u8
+    ensures { result ≡ connection_told connection }
+{
+    match connection {
+        Connection::First => 0,
+        Connection::Second => 1,
+    }
 }
 
 /// Tells what became of a message.
@@ -78,6 +88,7 @@ pub(crate) fn tell_upcoming(out: &mut UpcomingOut, upcoming: &Option<Upcoming>) 
         unit: upcoming.command.unit,
         opcode: upcoming.command.opcode(),
         touches: flag(upcoming.lbn.is_some()),
+        connection: number_of(upcoming.connection),
     };
     DONE
 }
@@ -90,7 +101,7 @@ pub(crate) fn tell_report(out: &mut ReportOut, report: &Report) -> i32
     match *report {
         Report::Idle => NOTHING,
         Report::Served {
-            connection: _,
+            connection,
             reference,
             unit,
             lbn,
@@ -110,6 +121,7 @@ pub(crate) fn tell_report(out: &mut ReportOut, report: &Report) -> i32
                 touched: flag(lbn.is_some()),
                 started: flag(started),
                 ended: flag(ended.is_some()),
+                connection: number_of(connection),
             };
             DONE
         }
@@ -125,6 +137,7 @@ pub(crate) fn tell_figures(out: &mut [FigureOut], list: &[(Connection, u32, u32)
         out[i] = FigureOut {
             reference: list[i].1,
             figure: list[i].2,
+            connection: number_of(list[i].0),
         };
     }
 }

@@ -1,10 +1,10 @@
 // What a program in C gives for a controller.
 
 ghost use Rattle.std.specs.Prelude.{◌≡◌};
-ghost use Rattle.mscp_c.specs.Given.{UnitAnswers, policy_given, units_answer};
+ghost use Rattle.mscp_c.specs.Given.{UnitAnswers, connection_given, policy_given, units_answer};
 
 use arrayvec::ArrayVec;
-use mscp_control::ConfigFault;
+use mscp_control::{ConfigFault, Connection};
 use mscp_drive::{Unit, UnitFault, Units, UnitsFault};
 use mscp_memory::{Policy, RoomFault};
 
@@ -15,6 +15,7 @@ pub struct Limits {
     pub id: u64,
     pub budget: u64,
     pub credits: u32,
+    pub second: u32,
     pub longest: u32,
     pub timeout: u16,
 }
@@ -55,6 +56,17 @@ pub(crate) fn policy_of(number: u32) -> Option<Policy>
     match number {
         0 => Some(Policy::Oldest),
         1 => Some(Policy::Sweep),
+        _ => None,
+    }
+}
+
+/// The connection of this number: 0 the first, 1 the second.
+pub(crate) fn connection_of(number: u32) -> Option<Connection>
+    ensures { result ≡ connection_given number }
+{
+    match number {
+        0 => Some(Connection::First),
+        1 => Some(Connection::Second),
         _ => None,
     }
 }
