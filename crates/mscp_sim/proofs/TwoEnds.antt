@@ -1,5 +1,5 @@
--- Two hosts and a controller that talk: what each keeps of the others, and what the talk so far says of all. What is said
--- of one host is said of a connection, and a turn of the other leaves it as it was.
+-- Two hosts and a controller that talk: what each keeps of the others, and what the talk so far says of all. What is
+-- said of a host is said of its connection, and a turn of the other leaves it as it was.
 pub mod Counting
 pub mod Codes
 pub mod Sides
@@ -24,6 +24,8 @@ pub mod Turning
 pub mod Sent
 pub mod Asking
 pub mod News
+pub mod Taken
+pub mod Figured
 pub mod Between
 pub mod Talked
 mod Worked

@@ -1,5 +1,5 @@
--- One turn after the other, and what the hosts and the controller keep and hold then. The functions of `conversing` that
--- aren't public are told by these.
+-- One turn after the other, and what the hosts and the controller keep and hold then. The functions of `conversing`
+-- that aren't public are told by these.
 use Rattle.std.specs.Prelude.{◌≡◌, ℕ, ◌<◌, ◌^◌, List, [], ◌∷◌, ◌++◌, map, slice_get, Option, Some, None}
 use Rattle.arrayvec.specs.ArrayVec.{ArrayVec}
 use Rattle.mscp_packet.specs.declared.end.End.{End}

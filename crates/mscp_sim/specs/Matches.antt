@@ -1,4 +1,5 @@
--- What the host of a connection and a controller keep of each other, as long as each message and each end comes through.
+-- What the host of a connection and a controller keep of each other, as long as each message and each end comes
+-- through.
 use Rattle.std.specs.Prelude.{◌≡◌, ℕ, ◌+◌, ◌<◌, ◌≤◌, ◌^◌, Bool, true, false, nat_eq, if◌then◌else◌, List, [], ◌∷◌, ◌++◌, length, map, find, Option, Some, None, option_map}
 use Rattle.std.specs.List.{AllByRecursion, list_any}
 use Rattle.mscp_packet.specs.declared.end.End.{End}

@@ -55,15 +55,18 @@ find_false p [] h = refl
 find_false p (x ∷ xs) h = ap (λ b. cond b (Some x) (find p xs)) (h x) ∙ find_false p xs h
 
 pub none_handed : (via : Connection) (talk : Talk) (j : ℕ) → NoEnd via talk j → handed_over via talk j ≡ None
-none_handed via talk j n = find_false (λ i. hands_over via (reference talk i) (said talk j).moment) (outstanding via talk j)
+none_handed via talk j n = find_false (λ i. hands_over via (reference talk i) (said talk j).moment)
+    (outstanding via talk j)
     (λ i. n (reference talk i))
 
-outstanding_same : (via : Connection) (talk : Talk) (j i : ℕ) → NoEnd via talk j → is_outstanding via talk (j + 1) i ≡ is_outstanding via talk j i
+outstanding_same : (via : Connection) (talk : Talk) (j i : ℕ) → NoEnd via talk j
+    → is_outstanding via talk (j + 1) i ≡ is_outstanding via talk j i
 outstanding_same via talk j i n =
     let no : (nat_lt i j && hands_over via (reference talk i) (said talk j).moment) ≡ false =
     ap (λ b. nat_lt i j && b) (n (reference talk i)) ∙ and-false (nat_lt i j) in
     ap (λ b. sends via (said talk i) && not b) (any_more via talk j i
-    ∙ (ap (λ b. list_any (is_ended via talk i) (before j) || b) no ∙ or-false (list_any (is_ended via talk i) (before j))))
+    ∙ (ap (λ b. list_any (is_ended via talk i) (before j) || b) no
+    ∙ or-false (list_any (is_ended via talk i) (before j))))
 
 pub all_stay : (via : Connection) (talk : Talk) (j : ℕ) → NoEnd via talk j
     → filter (λ i. not (ends_now via talk j i)) (outstanding via talk j) ≡ outstanding via talk j
@@ -100,8 +103,8 @@ watch_same via talk j (Some p) n = ap (λ b. Some (record
     (stands_same via talk j (asked_for via talk p) n)
 
 -- nothing is sent either
-pub account_quiet : (c : Settings) (via : Connection) (talk : Talk) (j : ℕ) → NoEnd via talk j → sends via (said talk j) ≡ false
-    → account_at c via talk (j + 1) ≡ account_at c via talk j
+pub account_quiet : (c : Settings) (via : Connection) (talk : Talk) (j : ℕ) → NoEnd via talk j
+    → sends via (said talk j) ≡ false → account_at c via talk (j + 1) ≡ account_at c via talk j
 account_quiet c via talk j n s =
     let outs : outstanding via talk (j + 1) ≡ outstanding via talk j =
     outstanding_more via talk j ∙ ((λ i. all_stay via talk j n i ++ cond (s i) (j ∷ []) [])
@@ -120,7 +123,8 @@ pub outs_sent : (via : Connection) (talk : Talk) (j : ℕ) → NoEnd via talk j 
 outs_sent via talk j n s = outstanding_more via talk j ∙ (λ i. all_stay via talk j n i ++ cond (s i) (j ∷ []) [])
 
 subs_sent : (c : Settings) (via : Connection) (talk : Talk) (j : ℕ) → NoEnd via talk j → sends via (said talk j) ≡ true
-    → map (submission_at c via talk (j + 1)) (outstanding via talk (j + 1)) ≡ map (submission_at c via talk j) (outstanding via talk j)
+    → map (submission_at c via talk (j + 1)) (outstanding via talk (j + 1))
+    ≡ map (submission_at c via talk j) (outstanding via talk j)
     ++ record {
       reference = reference talk j;
       unit = unit_named talk j (said talk j).turn;
@@ -145,8 +149,8 @@ or_nothing : (o : Option ℕ) → option_or o None ≡ o
 or_nothing None = refl
 or_nothing (Some x) = refl
 
-pub account_submitted : (c : Settings) (via : Connection) (talk : Talk) (j : ℕ) (command : Command) (sent : Sent) → NoEnd via talk j
-    → (said talk j).turn ≡ turns.Submit via command → (said talk j).heard ≡ hears.Submitted sent
+pub account_submitted : (c : Settings) (via : Connection) (talk : Talk) (j : ℕ) (command : Command) (sent : Sent)
+    → NoEnd via talk j → (said talk j).turn ≡ turns.Submit via command → (said talk j).heard ≡ hears.Submitted sent
     → account_at c via talk (j + 1) ≡ submitted (account_at c via talk j) command
 account_submitted c via talk j command sent n t h =
     let s = sends_own via (said talk j) (ap (is_turn_of via) t ∙ own_side via) (ap is_sent h) in
@@ -159,7 +163,8 @@ account_submitted c via talk j command sent n t h =
     } ≡ submission_of command =
     ap (λ u. record { reference = reference_in u; unit = unit_named talk j u; opcode = opcode_in u; told = None })
     t in
-    let subs = subs_sent c via talk j n s ∙ ap (λ x. map (submission_at c via talk j) (outstanding via talk j) ++ x ∷ []) new in
+    let subs = subs_sent c via talk j n s
+    ∙ ap (λ x. map (submission_at c via talk j) (outstanding via talk j) ++ x ∷ []) new in
     let p : ℕ → Bool = λ p. is_asked via (said talk p) in
     let flight : in_flight via talk (j + 1) ≡ in_flight via talk j =
     ap (find p) (outs_sent via talk j n s) ∙ (find-append p (outstanding via talk j) (j ∷ [])
@@ -178,7 +183,8 @@ find_map {X} f p (x ∷ xs) = elim (p (f x)) as (λ b. cond b (Some (f x)) (find
 
 pub oldest_is : (c : Settings) (via : Connection) (talk : Talk) (j : ℕ)
     → oldest (account_at c via talk j) ≡ option_map (submission_at c via talk j) (asked_for via talk j)
-oldest_is c via talk j = find_map (submission_at c via talk j) (λ s. not (is_immediate s.opcode)) (outstanding via talk j)
+oldest_is c via talk j = find_map (submission_at c via talk j) (λ s. not (is_immediate s.opcode))
+    (outstanding via talk j)
 
 pub unit_same : (talk : Talk) (i : ℕ) (turn : Turn) → not (is_immediate (opcode_in turn)) ≡ true
     → unit_in turn ≡ unit_named talk i turn
@@ -191,16 +197,17 @@ pub record Polls (c : Settings) (via : Connection) (talk : Talk) (j : ℕ) (s : 
   pub found : asked_for via talk j ≡ Some command
   pub is : s ≡ submission_at c via talk j command
 
-polls_when : (c : Settings) (via : Connection) (talk : Talk) (j : ℕ) (s : Submission) (o : Option ℕ) → asked_for via talk j ≡ o
-    → option_map (submission_at c via talk j) o ≡ Some s → Polls c via talk j s
+polls_when : (c : Settings) (via : Connection) (talk : Talk) (j : ℕ) (s : Submission) (o : Option ℕ)
+    → asked_for via talk j ≡ o → option_map (submission_at c via talk j) o ≡ Some s → Polls c via talk j s
 polls_when c via talk j s None q e = absurd (false≢true (ap is_some e))
 polls_when c via talk j s (Some i) q e = record { command = i; found = q; is = ap (λ o. unwrap_or o s) (sym e) }
 
-pub polls_of : (c : Settings) (via : Connection) (talk : Talk) (j : ℕ) (s : Submission) → oldest (account_at c via talk j) ≡ Some s
-    → Polls c via talk j s
+pub polls_of : (c : Settings) (via : Connection) (talk : Talk) (j : ℕ) (s : Submission)
+    → oldest (account_at c via talk j) ≡ Some s → Polls c via talk j s
 polls_of c via talk j s e = polls_when c via talk j s (asked_for via talk j) refl (sym (oldest_is c via talk j) ∙ e)
 
-pub no_flight : (via : Connection) (talk : Talk) (j : ℕ) (o : Option ℕ) → is_some (option_map (watch_at via talk j) o) ≡ false → o ≡ None
+pub no_flight : (via : Connection) (talk : Talk) (j : ℕ) (o : Option ℕ)
+    → is_some (option_map (watch_at via talk j) o) ≡ false → o ≡ None
 no_flight via talk j None e = refl
 no_flight via talk j (Some p) e = absurd (true≢false e)
 
@@ -230,7 +237,8 @@ account_asked c via talk j r s n t h w o =
     } ≡ submission_of (poll_of r s) =
     ap (λ u. record { reference = reference_in u; unit = unit_named talk j u; opcode = opcode_in u; told = None })
     t ∙ ap (λ u. record { reference = r; unit = u; opcode = 0x02; told = None }) unit in
-    let subs = subs_sent c via talk j n sent ∙ ap (λ x. map (submission_at c via talk j) (outstanding via talk j) ++ x ∷ []) new in
+    let subs = subs_sent c via talk j n sent
+    ∙ ap (λ x. map (submission_at c via talk j) (outstanding via talk j) ++ x ∷ []) new in
     let p : ℕ → Bool = λ p. is_asked via (said talk p) in
     let idle : in_flight via talk j ≡ None = no_flight via talk j (in_flight via talk j) w in
     let flight : in_flight via talk (j + 1) ≡ Some j =

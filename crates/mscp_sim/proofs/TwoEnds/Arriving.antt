@@ -30,8 +30,8 @@ use Rattle.mscp_sim.proofs.TwoEnds.Matching.{Adds, Ends, Pushes, awaited_more, c
 -- ---- an abort
 
 -- none of the number is there, so none is taken out
-none_out : (via : Connection) (n : ℕ) (rs : List Record) → times n (map (λ (c : Command). c.reference) (commands rs)) ≡ 0
-    → without (name_on via n) rs ≡ rs
+none_out : (via : Connection) (n : ℕ) (rs : List Record) → times n (map (λ (c : Command). c.reference) (commands rs))
+    ≡ 0 → without (name_on via n) rs ≡ rs
 none_out via n [] z = refl
 none_out via n (r ∷ rs) z =
     let ns = map (λ (c : Command). c.reference) (commands rs) in

@@ -1,27 +1,23 @@
 -- Where a step lies between two polls about one command, the second is told less.
-use Rattle.std.proofs.Common.{◌≡◌, ◌⊎◌, inl, inr, ⊎_elim, ℕ, zero, suc, ◌+◌, ◌-◌, ◌<◌, ◌≤◌, Bool, true, false, cond, List, [], ◌∷◌, ◌++◌, take, length, refl, ap, sym, ◌∙◌, subst, arith, append-nil}
-use Rattle.std.specs.Prelude.{find, flat_map, nat_eq, nat_lt, not, ◌&&◌, ◌||◌, Contains, Option, Some, None, is_some, option_to_list, unwrap_or}
+use Rattle.std.proofs.Common.{◌≡◌, inl, inr, ⊎_elim, ℕ, zero, suc, ◌+◌, ◌-◌, ◌<◌, ◌≤◌, Bool, true, false, cond, List, [], ◌∷◌, ◌++◌, take, length, refl, ap, sym, ◌∙◌, subst, arith, append-nil}
+use Rattle.std.specs.Prelude.{flat_map, nat_eq, nat_lt, not, ◌&&◌, ◌||◌, Option, Some, None, is_some, option_to_list, unwrap_or}
 use Rattle.std.specs.List.{AllByRecursion, list_any}
 use Rattle.std.proofs.Math.Bool.{and-false, or-true}
 use Rattle.std.proofs.lemmas.Bool.{cases_eq, cases_lt, eqb-true, false≢true, true≢false}
 use Rattle.std.proofs.lemmas.Bool.Decides.{nat_tests}
-use Rattle.std.proofs.lemmas.List.{length-append, take_all}
-use Rattle.std.proofs.Math.Seq.{take-append_seam}
 use Rattle.mscp_queue.specs.declared.name.Connection.{Connection}
 use Rattle.mscp_queue.specs.declared.name.Name.{Name}
-use Rattle.mscp_queue.specs.Names.{name_on, same_connection, same_name}
-use Rattle.mscp_queue.proofs.Named.{own_side, same_is}
+use Rattle.mscp_queue.specs.Names.{name_on, same_connection}
+use Rattle.mscp_queue.proofs.Named.{own_side}
 use Rattle.mscp_control.specs.Settings.{Settings}
-use Rattle.mscp_control.specs.History.{Moment, Trace, connection_of, is_step, moment, queues}
+use Rattle.mscp_control.specs.History.{Moment, Trace, connection_of, is_step, queues}
 use Rattle.mscp_control.specs.Both.{Both}
 use Rattle.mscp_control.proofs.Promise.Sides.{queues_by}
-use Rattle.mscp_control.specs.Commands.{ends_in, is_waiting, name, sent_command, waiting}
-use Rattle.mscp_control.specs.Figures.{figure, figure_found, figure_of}
+use Rattle.mscp_control.specs.Commands.{sent_command}
+use Rattle.mscp_control.specs.Figures.{figure, figure_of}
 use Rattle.mscp_control.specs.Headline.{Promise}
 use Rattle.mscp_control.specs.declared.event.Event.TheVariants as events
 use Rattle.mscp_control.specs.declared.event.Entry.TheVariants as entries
-use Rattle.mscp_control.proofs.Promise.Grows.{command_last, connection_last, name_before, is_waiting_before, is_waiting_last, moment_last}
-use Rattle.mscp_control.proofs.Promise.Waits.{cut, waiting_waits, waits_below}
 use Rattle.mscp_host.specs.Accounts.{Account}
 use Rattle.mscp_queue.proofs.Placed.{found_is}
 use Rattle.mscp_sim.specs.declared.conversing.Turn.{Turn}
@@ -29,6 +25,7 @@ use Rattle.mscp_sim.specs.declared.conversing.Turn.TheVariants as turns
 use Rattle.mscp_sim.specs.Talks as talks
 use Rattle.mscp_sim.specs.Talks.{Talk, accounts_at, answers_of, is_asked, asks_about, before, handed_over, hands_over, is_ended, is_it, is_outstanding, last_of, outstanding, asked_for, reference_found, said, sends, figure_told, trace_of}
 use Rattle.mscp_sim.specs.TwoEnds.{IsHeard, IsStepTurn, Stands, StepsSincePolls}
+use Rattle.mscp_sim.proofs.TwoEnds.Figured.{AtMost, contains_waiting, most_moment, part_of, waits_at}
 use Rattle.mscp_sim.proofs.TwoEnds.Outstanding.{any_more, before_below, both_true, found_below, found_stands}
 use Rattle.mscp_sim.proofs.TwoEnds.Receiving.{found_all, outstanding_found}
 use Rattle.mscp_sim.proofs.TwoEnds.Singled.{any_before, none_found}
@@ -59,7 +56,8 @@ came_from : (c : Settings) (via : Connection) (talk : Talk) (j i l : ℕ) (ks : 
 came_from c via talk j i l [] h e = absurd (false≢true (ap is_some e))
 came_from c via talk j i l (k ∷ ks) h e =
     let rest = flat_map (λ k. answers_of c via talk i (handed_over via talk k)) ks in
-    let Goal : Option ℕ → Type 0 = λ o. handed_over via talk k ≡ o → last_of (answers_of c via talk i o ++ rest) ≡ Some l
+    let Goal : Option ℕ → Type 0 = λ o. handed_over via talk k ≡ o → last_of (answers_of c via talk i o ++ rest)
+    ≡ Some l
     → Came c via talk j i l in
     let of : (o : Option ℕ) → Goal o =
     λ o. elim o as Goal [
@@ -73,7 +71,8 @@ came_from c via talk j i l (k ∷ ks) h e =
             | true ↦ λ a.
                 let tail : (ys : List ℕ) → rest ≡ ys → last_of (figure_told c via talk p ∷ ys) ≡ Some l
                 → Came c via talk j i l =
-                λ ys. elim ys as (λ ys. rest ≡ ys → last_of (figure_told c via talk p ∷ ys) ≡ Some l → Came c via talk j i l) [
+                λ ys. elim ys as (λ ys. rest ≡ ys → last_of (figure_told c via talk p ∷ ys) ≡ Some l
+                    → Came c via talk j i l) [
                   | [] ↦ λ r f. record {
                     turn = k;
                     poll = p;
@@ -98,17 +97,21 @@ weaker_and true true q e = e
 weaker_and true false q e = refl
 weaker_and false p q e = e
 
-stood_one : (via : Connection) (talk : Talk) (m i : ℕ) → is_outstanding via talk (m + 1) i ≡ true → is_outstanding via talk m i ≡ true
+stood_one : (via : Connection) (talk : Talk) (m i : ℕ) → is_outstanding via talk (m + 1) i ≡ true
+    → is_outstanding via talk m i ≡ true
 stood_one via talk m i e =
     weaker_and (sends via (said talk i)) (list_any (is_ended via talk i) (before m)) (is_ended via talk i m)
     (sym (ap (λ b. sends via (said talk i) && not b) (any_more via talk m i)) ∙ e)
 
-stood_by : (via : Connection) (talk : Talk) (m i d : ℕ) → is_outstanding via talk (m + d) i ≡ true → is_outstanding via talk m i ≡ true
-stood_by via talk m i zero e = let same : m + 0 ≡ m = omega arith in subst (λ k. is_outstanding via talk k i ≡ true) same e
+stood_by : (via : Connection) (talk : Talk) (m i d : ℕ) → is_outstanding via talk (m + d) i ≡ true
+    → is_outstanding via talk m i ≡ true
+stood_by via talk m i zero e = let same : m + 0
+    ≡ m = omega arith in subst (λ k. is_outstanding via talk k i ≡ true) same e
 stood_by via talk m i (suc d) e = let same : m + suc d ≡ m + d + 1 = omega arith in
     stood_by via talk m i d (stood_one via talk (m + d) i (subst (λ k. is_outstanding via talk k i ≡ true) same e))
 
-stood : (via : Connection) (talk : Talk) (m j i : ℕ) → m ≤ j → is_outstanding via talk j i ≡ true → is_outstanding via talk m i ≡ true
+stood : (via : Connection) (talk : Talk) (m j i : ℕ) → m ≤ j → is_outstanding via talk j i ≡ true
+    → is_outstanding via talk m i ≡ true
 stood via talk m j i l e = let same : j ≡ m + (j - m) = omega (arith, l) in
     stood_by via talk m i (j - m) (subst (λ k. is_outstanding via talk k i ≡ true) same e)
 
@@ -125,7 +128,8 @@ any_there q (x ∷ xs) k e h =
     out (nat_eq x k) refl h
 
 -- a command whose end was handed over is outstanding no more
-gone : (via : Connection) (talk : Talk) (j k p : ℕ) → k < j → handed_over via talk k ≡ Some p → is_outstanding via talk j p ≡ false
+gone : (via : Connection) (talk : Talk) (j k p : ℕ) → k < j → handed_over via talk k ≡ Some p
+    → is_outstanding via talk j p ≡ false
 gone via talk j k p l e =
     let below = found_below via talk k p _ e in
     let after : nat_lt p k ≡ true = grind (arith, nat_tests, below) in
@@ -165,32 +169,12 @@ order_of c via talk j k p q known l m first second =
 
 -- ---- figures
 
-contains_in : (A : List ℕ) (x : ℕ) (B : List ℕ) → Contains (A ++ x ∷ B) x
-contains_in [] x B = (0, omega arith, refl)
-contains_in (a ∷ A) x B = let rest = contains_in A x B in let l = rest.1 in (suc rest.0, omega (arith, l), rest.2)
-
-contains_waiting : (t : Trace) (x : ℕ) → is_waiting t x ≡ true → Contains (waiting t) x
-contains_waiting t x w = let k = cut t x (waits_below t x w) w in
-    subst (λ xs. Contains xs x) (sym k.2.is) (contains_in k.0 x k.1)
-
--- no figure of a waiting command of this name is over g
-abbrev AtMost : Settings → Trace → Name → ℕ → Type 0
-AtMost c t n g = (x : ℕ) → is_waiting t x ≡ true → name t x ≡ n → figure c t x ≤ g
-
 -- the name of the command i of a connection
 abbrev own_name : Connection → Talk → ℕ → Name
 own_name via talk i = name_on via (talks.reference talk i)
 
 abbrev trace_at : Talk → ℕ → Trace
 trace_at talk m = trace_of (take m talk)
-
--- what each part of a promised trace has
-part_of : (c : Settings) (t u : Trace) → Promise c (t ++ u) → (x : ℕ) → Contains (waiting t) x
-    → figure_of c t (name t x) ≡ figure c t x
-part_of c t u p x w =
-    let inside : length t ≤ length (t ++ u) = let l = length-append t u in omega (arith, l) in
-    subst (λ v. (x : ℕ) → Contains (waiting v) x → figure_of c v (name v x) ≡ figure c v x) (take-append_seam t u)
-    (p.own (length t) inside) x w
 
 first_most : (c : Settings) (talk : Talk) (p : ℕ) (n : Name) → AllKnown c talk → p < length talk
     → AtMost c (trace_at talk p) n (figure_of c (trace_at talk p) n)
@@ -201,56 +185,6 @@ first_most c talk p n known l x w r =
     let same : figure_of c t n ≡ figure c t x = ap (figure_of c t) (sym r) ∙ own in
     omega (arith, same)
 
--- the promise at its last moment
-never_rises_at : (c : Settings) (t : Trace) (m : Moment) → Promise c (t ++ m ∷ []) → (x : ℕ) → Contains (waiting t) x
-    → figure c (t ++ m ∷ []) x ≤ figure c t x
-never_rises_at c t m p x w =
-    let size : length (t ++ m ∷ []) ≡ length t + 1 = length-append t (m ∷ []) in
-    let all : take (length t + 1) (t ++ m ∷ []) ≡ t ++ m ∷ [] =
-    take_all (length t + 1) (t ++ m ∷ []) (omega (arith, size)) in
-    subst (λ v. figure c v x ≤ figure c t x) all
-    (subst (λ v. (y : ℕ) → Contains (waiting v) y → figure c (take (length t + 1) (t ++ m ∷ [])) y ≤ figure c v y)
-    (take-append_seam t (m ∷ [])) (p.never_rises (length t) (omega (arith, size))) x w)
-
-falls_at : (c : Settings) (t : Trace) (m : Moment) → Promise c (t ++ m ∷ []) → is_step m.0 ≡ true → (x : ℕ)
-    → Contains (waiting t) x → figure c (t ++ m ∷ []) x < figure c t x
-falls_at c t m p s x w =
-    let size : length (t ++ m ∷ []) ≡ length t + 1 = length-append t (m ∷ []) in
-    let all : take (length t + 1) (t ++ m ∷ []) ≡ t ++ m ∷ [] =
-    take_all (length t + 1) (t ++ m ∷ []) (omega (arith, size)) in
-    let step : is_step (moment (t ++ m ∷ []) (length t)).0 ≡ true =
-    ap (λ (n : Moment). is_step n.0) (moment_last t m) ∙ s in
-    subst (λ v. figure c v x < figure c t x) all
-    (subst (λ v. (y : ℕ) → Contains (waiting v) y → figure c (take (length t + 1) (t ++ m ∷ [])) y < figure c v y)
-    (take-append_seam t (m ∷ [])) (p.falls (length t) (omega (arith, size)) step) x w)
-
--- a moment raises no figure, and a step lowers each
-most_moment : (c : Settings) (t : Trace) (m : Moment) (n : Name) (g g' : ℕ) → Promise c (t ++ m ∷ [])
-    → (queues m.1 ≡ true → name_on (connection_of m.0) (sent_command m).reference ≡ n → ⊥) → (g' ≡ g) ⊎ ((is_step m.0 ≡ true) × (g' ≡ g - 1))
-    → AtMost c t n g → AtMost c (t ++ m ∷ []) n g'
-most_moment c t m n g g' p new way most x w r =
-    let t' = t ++ m ∷ [] in
-    let size : length t' ≡ length t + 1 = length-append t (m ∷ []) in
-    let inside : x < length t' = waits_below t' x w in
-    ⊎_elim
-    (λ below.
-    let was : (is_waiting t x && not (ends_in (name t x) m.1)) ≡ true = sym (is_waiting_before t m x below) ∙ w in
-    let waits = (both_true (is_waiting t x) _ was).0 in
-    let named : name t x ≡ n = sym (name_before t m x below) ∙ r in
-    let old = most x waits named in
-    let there = contains_waiting t x waits in
-    let rises = never_rises_at c t m p x there in
-    ⊎_elim (λ same. omega (arith, old, rises, same))
-    (λ step. let falls = falls_at c t m p step.0 x there in let less = step.1 in
-    omega (arith, old, falls, less)) way)
-    (λ beyond.
-    let last : x ≡ length t = omega (arith, beyond, inside, size) in
-    let queued : queues m.1 ≡ true = sym (is_waiting_last t m) ∙ (ap (is_waiting t') (sym last) ∙ w) in
-    let named : name t' (length t) ≡ name_on (connection_of m.0) (sent_command m).reference =
-    λ i. name_on (connection_last t m i) (command_last t m i).reference in
-    absurd (new queued (sym named ∙ (ap (name t') (sym last) ∙ r))))
-    (cases_lt x (length t))
-
 -- ---- from poll to poll
 
 -- the command i is outstanding before turn m, and each turn is known
@@ -259,7 +193,8 @@ record Standing (c : Settings) (via : Connection) (talk : Talk) (m i : ℕ) : Ty
   pub inside : m < length talk
   pub stands : is_outstanding via talk m i ≡ true
 
-sooner : (c : Settings) (via : Connection) (talk : Talk) (m q i : ℕ) → m ≤ q → Standing c via talk q i → Standing c via talk m i
+sooner : (c : Settings) (via : Connection) (talk : Talk) (m q i : ℕ) → m ≤ q → Standing c via talk q i
+    → Standing c via talk m i
 sooner c via talk m q i l s = let inside = s.inside in
     record { known = s.known; inside = omega (arith, l, inside); stands = stood via talk m q i l s.stands }
 
@@ -272,8 +207,8 @@ new_name c via talk m i n s b e q same =
     let own : queues_by via n ≡ true = (λ i. q i && same_connection (by i) via) ∙ own_side via in
     ((s.known m s.inside).tells.on via).new n e own i b s.stands (ap (λ (k : Name). k.reference) same)
 
-most_same_with : (c : Settings) (via : Connection) (talk : Talk) (m i g : ℕ) (o : Option Moment) → Standing c via talk m i → i < m
-    → (said talk m).moment ≡ o → AtMost c (trace_at talk m) (own_name via talk i) g
+most_same_with : (c : Settings) (via : Connection) (talk : Talk) (m i g : ℕ) (o : Option Moment)
+    → Standing c via talk m i → i < m → (said talk m).moment ≡ o → AtMost c (trace_at talk m) (own_name via talk i) g
     → AtMost c (trace_at talk m ++ option_to_list o) (own_name via talk i) g
 most_same_with c via talk m i g None s b e most =
     subst (λ t. AtMost c t (own_name via talk i) g) (sym (append-nil (trace_at talk m))) most
@@ -281,7 +216,8 @@ most_same_with c via talk m i g (Some n) s b e most =
     let k = s.known m s.inside in
     let promise = subst (λ o. Promise c (trace_at talk m ++ option_to_list o)) e
     (subst (Promise c) (trace_more talk m s.inside) k.promise) in
-    most_moment c (trace_at talk m) n (own_name via talk i) g g promise (new_name c via talk m i n s b e) (inl refl) most
+    most_moment c (trace_at talk m) n (own_name via talk i) g g promise (new_name c via talk m i n s b e)
+    (inl refl) most
 
 -- a turn raises no figure of a command that is outstanding
 most_same : (c : Settings) (via : Connection) (talk : Talk) (m i g : ℕ) → Standing c via talk m i → i < m
@@ -298,8 +234,8 @@ step_moment talk m a a' (turns.Poll via n) w r = absurd w
 step_moment talk m a a' (turns.Take via) w r = absurd w
 
 -- a step lowers it
-most_step : (c : Settings) (via : Connection) (talk : Talk) (m i g : ℕ) → Standing c via talk m i → i < m → IsStepTurn (said talk m).turn
-    → AtMost c (trace_at talk m) (own_name via talk i) g
+most_step : (c : Settings) (via : Connection) (talk : Talk) (m i g : ℕ) → Standing c via talk m i → i < m
+    → IsStepTurn (said talk m).turn → AtMost c (trace_at talk m) (own_name via talk i) g
     → AtMost c (trace_at talk (m + 1)) (own_name via talk i) (g - 1)
 most_step c via talk m i g s b w most =
     let k = s.known m s.inside in
@@ -321,8 +257,8 @@ most_by c via talk m q i g (suc d) s e b most =
     (most_same c via talk (m + d) i g (sooner c via talk (m + d) q i (omega (arith, e)) s) (omega (arith, b))
     (most_by c via talk m q i g d s (omega (arith, e)) b most))
 
-most_until : (c : Settings) (via : Connection) (talk : Talk) (m n q i g : ℕ) → Standing c via talk q i → m ≤ n → n ≤ q → i < m
-    → AtMost c (trace_at talk m) (own_name via talk i) g → AtMost c (trace_at talk n) (own_name via talk i) g
+most_until : (c : Settings) (via : Connection) (talk : Talk) (m n q i g : ℕ) → Standing c via talk q i → m ≤ n → n ≤ q
+    → i < m → AtMost c (trace_at talk m) (own_name via talk i) g → AtMost c (trace_at talk n) (own_name via talk i) g
 most_until c via talk m n q i g s a e b most =
     let same : m + (n - m) ≡ n = omega (arith, a) in
     subst (λ k. AtMost c (trace_at talk k) (own_name via talk i) g) same
@@ -332,29 +268,8 @@ it_is : (i : ℕ) (o : Option ℕ) → is_it i o ≡ true → o ≡ Some i
 it_is i None e = absurd (false≢true e)
 it_is i (Some x) e = ap Some (eqb-true x i e)
 
--- a figure that is at least 1 is that of a waiting command
-record Waits (c : Settings) (t : Trace) (n : Name) : Type 0 where
-  pub command : ℕ
-  pub waits : is_waiting t command ≡ true
-  pub named : name t command ≡ n
-  pub figure : figure_of c t n ≡ figure c t command
-
-waits_of : (c : Settings) (t : Trace) (n : Name) (o : Option ℕ) → find (λ x. same_name (name t x) n) (waiting t) ≡ o
-    → figure_of c t n ≡ figure_found c t o → 1 ≤ figure_found c t o → Waits c t n
-waits_of c t n None e f l = absurd (omega (arith, l))
-waits_of c t n (Some x) e f l = record {
-  command = x;
-  waits = found_all (λ y. is_waiting t y ≡ true) _ (waiting t) x (waiting_waits t) e;
-  named = same_is (name t x) n (found_is (λ y. same_name (name t y) n) (waiting t) x e);
-  figure = f;
-}
-
-waits_at : (c : Settings) (t : Trace) (n : Name) → 1 ≤ figure_of c t n → Waits c t n
-unfolding figure_of
-waits_at c t n l = waits_of c t n (find (λ x. same_name (name t x) n) (waiting t)) refl refl l
-
-pub never_reset : (c : Settings) (via : Connection) (talk : Talk) → AllKnown c talk → (j : ℕ) → j < length talk → (st : Stands c via talk j)
-    → StepsSincePolls via talk st.command st.poll → ⊥
+pub never_reset : (c : Settings) (via : Connection) (talk : Talk) → AllKnown c talk → (j : ℕ) → j < length talk
+    → (st : Stands c via talk j) → StepsSincePolls via talk st.command st.poll → ⊥
 never_reset c via talk known j l st steps =
     let i = st.command in
     let q = st.poll in
@@ -382,7 +297,8 @@ never_reset c via talk known j l st steps =
     let pk = step.1 in
     let kq = step.2 in
     let at_k = most_until c via talk p step.0 q i g s (omega (arith, pk)) (omega (arith, kq)) ip at_p in
-    let after = most_step c via talk step.0 i g (sooner c via talk step.0 q i (omega (arith, kq)) s) (omega (arith, ip, pk))
+    let after = most_step c via talk step.0 i g (sooner c via talk step.0 q i (omega (arith, kq)) s)
+    (omega (arith, ip, pk))
     step.3 at_k in
     let at_q = most_until c via talk (step.0 + 1) q q i (g - 1) s (omega (arith, kq)) (omega arith)
     (omega (arith, ip, pk)) after in
@@ -394,8 +310,9 @@ never_reset c via talk known j l st steps =
     omega (arith, low, fig, high, first, second, some)
 
 -- the answer of the poll q about the command i doesn't stand where a step lies between it and each one before
-pub never_stands : (c : Settings) (via : Connection) (talk : Talk) → AllKnown c talk → (j : ℕ) → j < length talk → (i q : ℕ)
-    → handed_over via talk j ≡ Some q → asks_about via talk i q ≡ true → StepsSincePolls via talk i q → Stands c via talk j → ⊥
+pub never_stands : (c : Settings) (via : Connection) (talk : Talk) → AllKnown c talk → (j : ℕ) → j < length talk
+    → (i q : ℕ) → handed_over via talk j ≡ Some q → asks_about via talk i q ≡ true → StepsSincePolls via talk i q
+    → Stands c via talk j → ⊥
 never_stands c via talk known j l i q h a steps st =
     let poll : q ≡ st.poll = ap (λ o. unwrap_or o q) (sym h ∙ st.handed) in
     let at : is_it i (asked_for via talk q) ≡ true = (both_true (is_asked via (said talk q)) _ a).1 in

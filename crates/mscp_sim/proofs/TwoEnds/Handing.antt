@@ -73,9 +73,10 @@ other_ends n [] z = tt
 other_ends n (e ∷ us) z = let k = not_first n e.reference (times n (numbers_ended us)) z in (k.0, other_ends n us k.1)
 
 -- no other command has the number of the first end
-pub alone : {K : Type 0} (via : Connection) (a : Account) (h : Holdings K) (told : Flight) (e : End) (us : List End) → Matches via a h told
-    → of via h.untaken ≡ e ∷ us → (times e.reference (called (commands (waiting_on via h.waiting))) ≡ 0)
-    × (times e.reference (numbers_ended us) ≡ 0)
+pub alone : {K : Type 0} (via : Connection) (a : Account) (h : Holdings K) (told : Flight) (e : End) (us : List End)
+    → Matches via a h told → of via h.untaken ≡ e ∷ us
+    → (times e.reference (called (commands (waiting_on via h.waiting))) ≡ 0) × (times e.reference (numbers_ended us)
+    ≡ 0)
 alone via a h told e us m u =
     let n = e.reference in
     let one = m.once n in
@@ -135,8 +136,8 @@ found_some None k e = absurd (false≢true (ap is_some e))
 found_some (Some s) k e = (s, refl, ap (λ o. unwrap_or o k) e)
 
 -- the host takes the first end for that of one of its commands
-pub first_heard : {K : Type 0} (via : Connection) (a : Account) (h : Holdings K) (told : Flight) (e : End) (us : List End) (b : List ℕ)
-    → Matches via a h told → of via h.untaken ≡ e ∷ us → IsEnd b e
+pub first_heard : {K : Type 0} (via : Connection) (a : Account) (h : Holdings K) (told : Flight) (e : End)
+    (us : List End) (b : List ℕ) → Matches via a h told → of via h.untaken ≡ e ∷ us → IsEnd b e
     → heard a b ≡ (Ok (news_with a e (answered a.watch e)), received a e)
 first_heard {K} via a h told e us b m u i =
     let ends = subst (AllByRecursion (IsAwaited a.outstanding)) u m.ends in
@@ -153,8 +154,8 @@ length_told n f (x ∷ xs) = elim (nat_eq x.reference n) as
     (λ b. length (cond b (record x { told = Some f } ∷ xs) (x ∷ with_told n f xs)) ≡ suc (length xs))
     [ true ↦ refl | false ↦ ap (λ k. suc k) (length_told n f xs) ]
 
-told_match : {K : Type 0} (via : Connection) (a : Account) (h : Holdings K) (told : Flight) (n f : ℕ) → Matches via a h told
-    → Matches via (record a { outstanding = with_told n f a.outstanding }) h told
+told_match : {K : Type 0} (via : Connection) (a : Account) (h : Holdings K) (told : Flight) (n f : ℕ)
+    → Matches via a h told → Matches via (record a { outstanding = with_told n f a.outstanding }) h told
 told_match via a h told n f m =
     let xs = with_told n f a.outstanding in
     record {
@@ -178,8 +179,8 @@ told_match via a h told n f m =
 abbrev outstanding_told : Account → Option (ℕ × ℕ) → Account
 outstanding_told a o = record a { outstanding = outstanding_with a o }
 
-told_if : {K : Type 0} (via : Connection) (a : Account) (h : Holdings K) (told : Flight) (o : Option (ℕ × ℕ)) → Matches via a h told
-    → Matches via (outstanding_told a o) h told
+told_if : {K : Type 0} (via : Connection) (a : Account) (h : Holdings K) (told : Flight) (o : Option (ℕ × ℕ))
+    → Matches via a h told → Matches via (outstanding_told a o) h told
 told_if via a h told None m = m
 told_if {K} via a h told (Some t) m =
     elim (polled_is_outstanding a.watch) as (λ b. Matches via
@@ -234,14 +235,11 @@ flight_after e us None told f = tt
 flight_after e us (Some w) told f = flight_with e us w told (nat_eq w.reference e.reference)
     (nat_eq w.polled e.reference) refl refl f
 
-taken_out : {K : Type 0} (via : Connection) (a : Account) (h : Holdings K) (told : Flight) (e : End) (us : List End) → Matches via a h told
-    → of via h.untaken ≡ e ∷ us
-    → Matches via (record {
-      credits = a.credits;
-      outstanding = without e.reference a.outstanding;
-      watch =
-          watch_after a.watch e.reference;
-    }) (record h { untaken = put via us h.untaken }) told
+taken_out : {K : Type 0} (via : Connection) (a : Account) (h : Holdings K) (told : Flight) (e : End) (us : List End)
+    → Matches via a h told → of via h.untaken ≡ e ∷ us
+    → Matches via
+    (record { credits = a.credits; outstanding = without e.reference a.outstanding; watch = watch_after a.watch
+    e.reference; }) (record h { untaken = put via us h.untaken }) told
 taken_out {K} via a h told e us m u =
     let n = e.reference in
     let h' : Holdings K = record h { untaken = put via us h.untaken } in
@@ -276,8 +274,10 @@ taken_out {K} via a h told e us m u =
       small = small_without n a.outstanding m.small;
       waits = every_weaker (λ c. IsKnown a.outstanding c × (nat_eq n c.reference ≡ false))
           (IsKnown (without n a.outstanding)) (λ c k.
-          (opcode_without c.reference n (opcode_byte c.order) a.outstanding k.1 k.0.0, k.0.1)) (commands (waiting_on via h.waiting))
-          (every_both (IsKnown a.outstanding) (λ c. nat_eq n c.reference ≡ false) (commands (waiting_on via h.waiting)) m.waits
+          (opcode_without c.reference n (opcode_byte c.order) a.outstanding k.1 k.0.0, k.0.1))
+              (commands (waiting_on via h.waiting))
+          (every_both (IsKnown a.outstanding) (λ c. nat_eq n c.reference ≡ false)
+              (commands (waiting_on via h.waiting)) m.waits
           (other_commands n (commands (waiting_on via h.waiting)) apart.0));
       ends = subst (AllByRecursion (IsAwaited (without n a.outstanding))) (sym left)
           (every_weaker (λ x. IsAwaited a.outstanding x × (nat_eq n x.reference ≡ false))
@@ -293,7 +293,8 @@ taken_out {K} via a h told e us m u =
           (flight_after e us a.watch told (subst (λ xs. HasFlight xs a.watch told) u m.flight));
     }
 
-pub received_match : {K : Type 0} (via : Connection) (a : Account) (h : Holdings K) (told : Flight) (e : End) (us : List End)
-    → Matches via a h told → of via h.untaken ≡ e ∷ us → Matches via (received a e) (record h { untaken = put via us h.untaken }) told
+pub received_match : {K : Type 0} (via : Connection) (a : Account) (h : Holdings K) (told : Flight) (e : End)
+    (us : List End) → Matches via a h told → of via h.untaken ≡ e ∷ us → Matches via (received a e)
+    (record h { untaken = put via us h.untaken }) told
 received_match via a h told e us m u = taken_out via (outstanding_told a (answered a.watch e)) h told e us
     (told_if via a h told (answered a.watch e) m) u

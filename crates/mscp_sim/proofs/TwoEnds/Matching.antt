@@ -72,12 +72,14 @@ flight_on us (Some w) told e f = record {
 -- ---- the commands stay where they are
 
 -- nothing that a match asks for is changed
-pub stays : {K : Type 0} (via : Connection) (a : Account) (h h' : Holdings K) (told : Flight) → commands (waiting_on via h'.waiting) ≡ commands (waiting_on via h.waiting)
-    → (of via h'.untaken) ≡ (of via h.untaken) → h'.settings ≡ h.settings → Matches via a h told → Matches via a h' told
+pub stays : {K : Type 0} (via : Connection) (a : Account) (h h' : Holdings K) (told : Flight)
+    → commands (waiting_on via h'.waiting) ≡ commands (waiting_on via h.waiting) → of via h'.untaken ≡ of via h.untaken
+    → h'.settings ≡ h.settings → Matches via a h told → Matches via a h' told
 stays {K} via a h h' told w u s m =
     let counts : (r : ℕ) → times r (outstanding_of via h') ≡ times r (outstanding_of via h) =
     λ r. counted_numbers r via h' ∙ ((λ i. counted r (w i) (u i)) ∙ sym (counted_numbers r via h)) in
-    let lengths = sym (length_commands (waiting_on via h'.waiting)) ∙ (ap length w ∙ length_commands (waiting_on via h.waiting)) in
+    let lengths = sym (length_commands (waiting_on via h'.waiting))
+    ∙ (ap length w ∙ length_commands (waiting_on via h.waiting)) in
     record {
       credits = m.credits ∙ ap (λ c. credits_of c via) (sym s);
       many = m.many ∙ (λ i. sym lengths i + length (sym u i));
@@ -99,7 +101,7 @@ pub record Ends {K : Type 0} (via : Connection) (h h' : Holdings K) : Type 0 whe
   pub end : End
   pub waited : commands (waiting_on via h.waiting) ≡ front ++ own ∷ back
   pub left : commands (waiting_on via h'.waiting) ≡ front ++ back
-  pub ends : (of via h'.untaken) ≡ (of via h.untaken) ++ end ∷ []
+  pub ends : of via h'.untaken ≡ of via h.untaken ++ end ∷ []
   pub reference : end.reference ≡ own.reference
   pub code : end.code ≡ endcode own.order
   pub settings : h'.settings ≡ h.settings
@@ -108,10 +110,12 @@ ends_counted : {K : Type 0} (r : ℕ) (via : Connection) (h h' : Holdings K) →
     → times r (outstanding_of via h') ≡ times r (outstanding_of via h)
 ends_counted {K} r via h h' x =
     let own = times r (x.own.reference ∷ []) in
-    let old : times r (called (commands (waiting_on via h.waiting))) ≡ times r (called x.front) + (own + times r (called x.back)) =
+    let old : times r (called (commands (waiting_on via h.waiting)))
+    ≡ times r (called x.front) + (own + times r (called x.back)) =
     ap (λ cs. times r (called cs)) x.waited ∙ (times_called r x.front (x.own ∷ x.back)
     ∙ ap (λ n. times r (called x.front) + n) (times_called r (x.own ∷ []) x.back)) in
-    let new : times r (called (commands (waiting_on via h'.waiting))) ≡ times r (called x.front) + times r (called x.back) =
+    let new : times r (called (commands (waiting_on via h'.waiting)))
+    ≡ times r (called x.front) + times r (called x.back) =
     ap (λ cs. times r (called cs)) x.left ∙ times_called r x.front x.back in
     let ends : times r (numbers_ended (of via h'.untaken)) ≡ times r (numbers_ended (of via h.untaken)) + own =
     ap (λ us. times r (numbers_ended us)) x.ends ∙ (times_ends r (of via h.untaken) (x.end ∷ [])
@@ -120,17 +124,19 @@ ends_counted {K} r via h h' x =
     let after = counted_numbers r via h' in
     omega (arith, old, new, ends, before, after)
 
-pub ends_match : {K : Type 0} (via : Connection) (a : Account) (h h' : Holdings K) (told : Flight) → Ends via h h' → Matches via a h told
-    → Matches via a h' told
+pub ends_match : {K : Type 0} (via : Connection) (a : Account) (h h' : Holdings K) (told : Flight) → Ends via h h'
+    → Matches via a h told → Matches via a h' told
 ends_match {K} via a h h' told x m =
-    let counts : (r : ℕ) → times r (outstanding_of via h') ≡ times r (outstanding_of via h) = λ r. ends_counted r via h h' x in
+    let counts : (r : ℕ)
+    → times r (outstanding_of via h') ≡ times r (outstanding_of via h) = λ r. ends_counted r via h h' x in
     let waited = subst (AllByRecursion (IsKnown a.outstanding)) x.waited m.waits in
     let parts = every_parts (IsKnown a.outstanding) x.front (x.own ∷ x.back) waited in
     let before : length (waiting_on via h.waiting) ≡ length x.front + suc (length x.back) =
     sym (length_commands (waiting_on via h.waiting)) ∙ (ap length x.waited ∙ length-append x.front (x.own ∷ x.back)) in
     let after : length (waiting_on via h'.waiting) ≡ length x.front + length x.back =
     sym (length_commands (waiting_on via h'.waiting)) ∙ (ap length x.left ∙ length-append x.front x.back) in
-    let ends : length (of via h'.untaken) ≡ length (of via h.untaken) + 1 = ap length x.ends ∙ length-append (of via h.untaken) (x.end ∷ []) in
+    let ends : length (of via h'.untaken) ≡ length (of via h.untaken) + 1 = ap length x.ends
+    ∙ length-append (of via h.untaken) (x.end ∷ []) in
     let known = parts.1.0 in
     let awaited : IsAwaited a.outstanding x.end = record {
       opcode = opcode_byte x.own.order;
@@ -147,7 +153,8 @@ ends_match {K} via a h h' told x m =
           (every_append (IsKnown a.outstanding) x.front x.back parts.0 parts.1.1);
       ends = subst (AllByRecursion (IsAwaited a.outstanding)) (sym x.ends)
           (every_append (IsAwaited a.outstanding) (of via h.untaken) (x.end ∷ []) m.ends (awaited, tt));
-      flight = subst (λ us. HasFlight us a.watch told) (sym x.ends) (flight_on (of via h.untaken) a.watch told x.end m.flight);
+      flight = subst (λ us. HasFlight us a.watch told) (sym x.ends)
+          (flight_on (of via h.untaken) a.watch told x.end m.flight);
     }
 
 -- ---- a command arrives
@@ -178,7 +185,8 @@ pub record Pushes {K : Type 0} (via : Connection) (a a' : Account) (h h' : Holdi
   pub adds : Adds via a a' h s
   pub open adds use *
   pub counts : (r : ℕ) → times r (outstanding_of via h') ≡ times r (outstanding_of via h) + times r (s.reference ∷ [])
-  pub more : length (waiting_on via h'.waiting) + length (of via h'.untaken) ≡ length (waiting_on via h.waiting) + length (of via h.untaken) + 1
+  pub more : length (waiting_on via h'.waiting) + length (of via h'.untaken)
+      ≡ length (waiting_on via h.waiting) + length (of via h.untaken) + 1
   pub settings : h'.settings ≡ h.settings
   pub waits : AllByRecursion (IsKnown (a.outstanding ++ s ∷ [])) (commands (waiting_on via h'.waiting))
   pub ends : AllByRecursion (IsAwaited (a.outstanding ++ s ∷ [])) (of via h'.untaken)
@@ -192,8 +200,9 @@ once_pushed r n t l z =
     ] in
     both (nat_eq n r) refl
 
-pub pushes_match : {K : Type 0} (via : Connection) (a a' : Account) (h h' : Holdings K) (s : Submission) (told told' : Flight)
-    → Pushes via a a' h h' s → Matches via a h told → HasFlight (of via h'.untaken) a'.watch told' → Matches via a' h' told'
+pub pushes_match : {K : Type 0} (via : Connection) (a a' : Account) (h h' : Holdings K) (s : Submission)
+    (told told' : Flight) → Pushes via a a' h h' s → Matches via a h told → HasFlight (of via h'.untaken) a'.watch told'
+    → Matches via a' h' told'
 pushes_match {K} via a a' h h' s told told' x m f =
     record {
       credits = x.credits ∙ (m.credits ∙ ap (λ c. credits_of c via) (sym x.settings));
@@ -212,7 +221,8 @@ pushes_match {K} via a a' h h' s told told' x m f =
           (λ e. ap (λ n. times n (outstanding_of via h)) e ∙ x.new));
       small = subst (AllByRecursion IsSmall) (sym x.outstanding)
           (every_append IsSmall a.outstanding (s ∷ []) m.small (x.small, tt));
-      waits = subst (λ xs. AllByRecursion (IsKnown xs) (commands (waiting_on via h'.waiting))) (sym x.outstanding) x.waits;
+      waits = subst (λ xs. AllByRecursion (IsKnown xs) (commands (waiting_on via h'.waiting)))
+          (sym x.outstanding) x.waits;
       ends = subst (λ xs. AllByRecursion (IsAwaited xs) (of via h'.untaken)) (sym x.outstanding) x.ends;
       flight = f;
     }

@@ -1,23 +1,14 @@
--- A turn in which an end is handed over: what the host says of it.
+-- An end that is handed over: what the host says of it.
 use Rattle.std.proofs.Common.{◌≡◌, ◌↔◌, ℕ, ◌<◌, ◌≤◌, Bool, true, false, List, ◌∷◌, refl, ap, sym, ◌∙◌, subst, arith}
-use Rattle.std.specs.Prelude.{find, nat_eq, nat_lt, ◌&&◌, if◌then◌else◌, slice_get, Option, Some, None, is_some, option_map, unwrap_or, Result, Ok, Err}
+use Rattle.std.specs.Prelude.{find, nat_eq, nat_lt, ◌&&◌, if◌then◌else◌, Option, Some, None, is_some, option_map, unwrap_or, Result, Ok, Err}
 use Rattle.std.specs.List.{AllByRecursion, list_any}
 use Rattle.std.proofs.lemmas.Bool.{eqb-true, eq-eqb, false≢true, true_from_ne_false, true≢false}
 use Rattle.std.proofs.lemmas.Bool.Decides.{nat_tests}
-use Rattle.arrayvec.specs.ArrayVec.{ArrayVec}
 use Rattle.mscp_packet.specs.declared.end.End.{End}
 use Rattle.mscp_packet.specs.declared.end.EndBody.TheVariants as bodies
-use Rattle.mscp_packet.specs.Ends.{IsEnd}
 use Rattle.mscp_queue.specs.declared.name.Connection.{Connection}
-use Rattle.mscp_queue.specs.declared.view.Choice.{Choice}
-use Rattle.mscp_control.specs.declared.event.Event.TheVariants as events
-use Rattle.mscp_control.specs.declared.event.Entry.TheVariants as entries
 use Rattle.mscp_control.specs.Settings.{Settings}
-use Rattle.mscp_control.specs.Both.{Both, of, put}
-use Rattle.mscp_control.specs.Holdings.{Holdings, after_take, end_taken}
-use Rattle.mscp_packet.specs.Number.{num}
-use Rattle.mscp_queue.specs.Names.{same_connection}
-use Rattle.mscp_queue.proofs.Named.{one_side, own_side}
+use Rattle.mscp_control.specs.Holdings.{Holdings}
 use Rattle.mscp_host.specs.declared.news.HostFault.{HostFault}
 use Rattle.mscp_host.specs.declared.news.News.{News}
 use Rattle.mscp_host.specs.declared.news.News.TheVariants as news
@@ -25,23 +16,18 @@ use Rattle.mscp_host.specs.declared.submission.Submission.{Submission}
 use Rattle.mscp_host.specs.Accounts as host
 use Rattle.mscp_host.specs.Accounts.{Account, answered, has_reference, heard, last_told, news_of_figure, news_with, received, told_of}
 use Rattle.mscp_queue.proofs.Placed.{found_is}
-use Rattle.mscp_sim.specs.declared.conversing.Turn.TheVariants as turns
 use Rattle.mscp_sim.specs.declared.conversing.Heard.{Heard}
 use Rattle.mscp_sim.specs.declared.conversing.Heard.TheVariants as hears
 use Rattle.mscp_sim.specs.Matches.{HasFlight, IsAwaited, IsFlight, Matches}
-use Rattle.mscp_sim.specs.Talks.{Talk, account_at, asks_about, is_asked, is_poll, is_sent, handed_over, hands_over, in_flight, is_it, is_outstanding, last_answer, outstanding, asked_for, reference, reference_found, said, sends, polled_is_outstanding, submission_at, figure_told, watch_at}
-use Rattle.mscp_sim.specs.Conversing.{IsSound, AnswersTurn}
-use Rattle.mscp_sim.specs.TwoEnds.{IsHanded, Stands}
-use Rattle.mscp_sim.proofs.TwoEnds.Accounting.{NoEnd, find_map, none_handed, unasked, unsent}
+use Rattle.mscp_sim.specs.Talks.{Talk, account_at, is_asked, handed_over, hands_over, in_flight, is_it, is_outstanding, last_answer, outstanding, asked_for, reference, reference_found, said, sends, polled_is_outstanding, submission_at, figure_told, watch_at}
+use Rattle.mscp_sim.specs.TwoEnds.{Stands}
+use Rattle.mscp_sim.proofs.TwoEnds.Accounting.{find_map}
 use Rattle.mscp_sim.proofs.TwoEnds.Handing.{alone, first_is}
 use Rattle.mscp_sim.proofs.TwoEnds.Outstanding.{both_true, found_below}
-use Rattle.mscp_sim.proofs.TwoEnds.Received.{account_received, flight_back, one_received}
 use Rattle.mscp_sim.proofs.TwoEnds.Receiving.{Gives, once_at, outstanding_found, own_flight, poll_asks}
 use Rattle.mscp_sim.proofs.TwoEnds.Singled.{flip, only_one}
-use Rattle.mscp_sim.proofs.TwoEnds.Taking.{Handed, taken_none, taken_some}
-use Rattle.mscp_sim.proofs.TwoEnds.Foreign.{foreign_take}
-use Rattle.mscp_sim.proofs.TwoEnds.Sides.{each_side, of_other, of_put, put_own}
-use Rattle.mscp_sim.proofs.TwoEnds.Turning.{Comes, Side, Turns, TurnsOn, is_news, never_idle, no_news, not_lost, queues_in, quiet, turns_of, unqueued}
+use Rattle.mscp_sim.proofs.TwoEnds.Taking.{Handed}
+use Rattle.mscp_sim.proofs.TwoEnds.Turning.{Side}
 
 -- ---- which command was it
 
@@ -58,7 +44,7 @@ found_poll c via talk j e k h (Some p) f q = (
 )
 
 -- what is known of the turn
-gives : {K : Type 0} {c : Settings} {via : Connection} {talk : Talk} {j : ℕ} {a : Account} {h : Holdings K} {b : List ℕ}
+pub gives : {K : Type 0} {c : Settings} {via : Connection} {talk : Talk} {j : ℕ} {a : Account} {h : Holdings K} {b : List ℕ}
     → (s : Side c via talk j a h) → (out : Handed via a h s.told b)
     → ((r : ℕ) → hands_over via r (said talk j).moment ≡ nat_eq out.end.reference r) → sends via (said talk j) ≡ false
     → Gives c via talk j out.end
@@ -72,7 +58,8 @@ gives {K} {c} {via} {talk} {j} {a} {h} s out hands silent =
     (ap (option_map (λ (s : Submission). s.opcode))
     (sym (find_map (submission_at c via talk j) (has_reference e.reference) (outstanding via talk j))) ∙ own.found) in
     let p = poll.0 in
-    let found = found_is (λ i. hands_over via (reference talk i) (said talk j).moment) (outstanding via talk j) p poll.1 in
+    let found = found_is (λ i. hands_over via (reference talk i) (said talk j).moment)
+    (outstanding via talk j) p poll.1 in
     let named : reference talk p ≡ e.reference =
     sym (eqb-true e.reference (reference talk p) (sym (hands (reference talk p)) ∙ found)) in
     record {
@@ -85,7 +72,8 @@ gives {K} {c} {via} {talk} {j} {a} {h} s out hands silent =
       named = named;
       tells = λ f.
           let w = watch_at via talk j p in
-          let flight : IsFlight es w s.told = subst (λ w. HasFlight es w s.told) (ap (option_map (watch_at via talk j)) f)
+          let flight : IsFlight es w s.told = subst (λ w. HasFlight es w s.told)
+              (ap (option_map (watch_at via talk j)) f)
           (subst (λ xs. HasFlight xs (account_at c via talk j).watch s.told) out.untaken m.flight) in
           let first = first_is e out.rest w s.told flight
           (alone via (account_at c via talk j) h s.told e out.rest m out.untaken).1 named in
@@ -110,15 +98,15 @@ is_reset news.Reset = true
 is_reset n = false
 
 -- the news that is heard
-abbrev news_in : Heard → News
+abbrev pub news_in : Heard → News
 news_in (hears.News n) = n
 news_in heard = news.Late
 
-abbrev news_or : Result News HostFault → News → News
+abbrev pub news_or : Result News HostFault → News → News
 news_or (Ok n) other = n
 news_or (Err fault) other = other
 
-reset_is : (n : News) → is_reset n ≡ true → n ≡ news.Reset
+pub reset_is : (n : News) → is_reset n ≡ true → n ≡ news.Reset
 reset_is news.Reset e = refl
 reset_is (news.Ended e) h = absurd (false≢true h)
 reset_is (news.Progress f) h = absurd (false≢true h)
@@ -126,38 +114,42 @@ reset_is (news.First f) h = absurd (false≢true h)
 reset_is news.Late h = absurd (false≢true h)
 reset_is news.Lost h = absurd (false≢true h)
 
-stands_it : (via : Connection) (talk : Talk) (j x : ℕ) (o : Option ℕ) → is_it x o ≡ true → is_outstanding via talk j x ≡ true
-    → polled_is_outstanding via talk j o ≡ true
+pub stands_it : (via : Connection) (talk : Talk) (j x : ℕ) (o : Option ℕ) → is_it x o ≡ true
+    → is_outstanding via talk j x ≡ true → polled_is_outstanding via talk j o ≡ true
 stands_it via talk j x None h m = absurd (false≢true h)
 stands_it via talk j x (Some i) h m = ap (is_outstanding via talk j) (eqb-true i x h) ∙ m
 
 -- what is known of what is heard
-record IsSaid (c : Settings) (via : Connection) (talk : Talk) (j : ℕ) (n : News) : Type 0 where
+pub record IsSaid (c : Settings) (via : Connection) (talk : Talk) (j : ℕ) (n : News) : Type 0 where
   pub not_lost : is_lost n ≡ false
   pub resets : (is_reset n ≡ true) ↔ Stands c via talk j
 
 -- where the answer stands, the end is that of the poll in flight
-its_poll : (c : Settings) (via : Connection) (talk : Talk) (j : ℕ) (e : End) (g : Gives c via talk j e) → (st : Stands c via talk j)
-    → st.poll ≡ g.poll
+its_poll : (c : Settings) (via : Connection) (talk : Talk) (j : ℕ) (e : End) (g : Gives c via talk j e)
+    → (st : Stands c via talk j) → st.poll ≡ g.poll
 its_poll c via talk j e g st = ap (λ o. unwrap_or o st.poll) (sym st.handed ∙ g.found)
 
-in_flight_then : (c : Settings) (via : Connection) (talk : Talk) (j : ℕ) (e : End) (g : Gives c via talk j e) → Stands c via talk j
-    → in_flight via talk j ≡ Some g.poll
+in_flight_then : (c : Settings) (via : Connection) (talk : Talk) (j : ℕ) (e : End) (g : Gives c via talk j e)
+    → Stands c via talk j → in_flight via talk j ≡ Some g.poll
 in_flight_then c via talk j e g st =
     let asked = (both_true (is_asked via (said talk st.poll)) (is_it st.command (asked_for via talk st.poll))
     st.about).0 in
     poll_asks c via talk j e g (ap (λ p. is_asked via (said talk p)) (sym (its_poll c via talk j e g st)) ∙ asked)
 
 -- a command's own end says no more than that it ended
-said_ended : (c : Settings) (via : Connection) (talk : Talk) (j : ℕ) (e : End) → (Stands c via talk j → ⊥) → IsSaid c via talk j (news.Ended e)
-said_ended c via talk j e never = record { not_lost = refl; resets = (λ q. absurd (false≢true q), λ st. absurd (never st)) }
+said_ended : (c : Settings) (via : Connection) (talk : Talk) (j : ℕ) (e : End) → (Stands c via talk j → ⊥)
+    → IsSaid c via talk j (news.Ended e)
+said_ended c via talk j e never =
+    record { not_lost = refl; resets = (λ q. absurd (false≢true q), λ st. absurd (never st)) }
 
-said_late : (c : Settings) (via : Connection) (talk : Talk) (j : ℕ) → (Stands c via talk j → ⊥) → IsSaid c via talk j news.Late
-said_late c via talk j never = record { not_lost = refl; resets = (λ q. absurd (false≢true q), λ st. absurd (never st)) }
+said_late : (c : Settings) (via : Connection) (talk : Talk) (j : ℕ) → (Stands c via talk j → ⊥)
+    → IsSaid c via talk j news.Late
+said_late c via talk j never =
+    record { not_lost = refl; resets = (λ q. absurd (false≢true q), λ st. absurd (never st)) }
 
 said_figure : (c : Settings) (via : Connection) (talk : Talk) (j f : ℕ) (last : Option ℕ) → 1 ≤ f
-    → (Stands c via talk j → (l : ℕ) × (last ≡ Some l) × (l ≤ f)) → ((l : ℕ) → last ≡ Some l → l ≤ f → Stands c via talk j)
-    → IsSaid c via talk j (news_of_figure last f)
+    → (Stands c via talk j → (l : ℕ) × (last ≡ Some l) × (l ≤ f))
+    → ((l : ℕ) → last ≡ Some l → l ≤ f → Stands c via talk j) → IsSaid c via talk j (news_of_figure last f)
 said_figure c via talk j f None some from to =
     let no : nat_eq f 0 ≡ false = grind (arith, nat_tests, some) in
     rw no (record {
@@ -204,10 +196,11 @@ told_last c via talk j i e g f =
     ∙ ap (λ o. told_of (option_map (submission_at c via talk j) o)) found
 
 -- what is said of the answer of the poll in flight, whose command is o
-said_answer : (c : Settings) (via : Connection) (talk : Talk) (j : ℕ) (e : End) (g : Gives c via talk j e) → in_flight via talk j ≡ Some g.poll
-    → (o : Option ℕ) → asked_for via talk g.poll ≡ o → (b : Bool) → polled_is_outstanding via talk j o ≡ b
-    → (b ≡ true → 1 ≤ figure_told c via talk g.poll)
-    → IsSaid c via talk j (if b then news_of_figure (last_told (account_at c via talk j).outstanding (reference_found talk o))
+said_answer : (c : Settings) (via : Connection) (talk : Talk) (j : ℕ) (e : End) (g : Gives c via talk j e)
+    → in_flight via talk j ≡ Some g.poll → (o : Option ℕ) → asked_for via talk g.poll ≡ o → (b : Bool)
+    → polled_is_outstanding via talk j o ≡ b → (b ≡ true → 1 ≤ figure_told c via talk g.poll)
+    → IsSaid c via talk j
+    (if b then news_of_figure (last_told (account_at c via talk j).outstanding (reference_found talk o))
     (figure_told c via talk g.poll) else news.Late)
 said_answer c via talk j e g q None r true t some = absurd (false≢true t)
 said_answer c via talk j e g q (Some i) r true t some =
@@ -224,7 +217,11 @@ said_answer c via talk j e g q (Some i) r true t some =
     let poll : st.poll ≡ p = its_poll c via talk j e g st in
     let same : i ≡ st.command = eqb-true i st.command
     (ap (is_it st.command) (sym (ap (asked_for via talk) poll ∙ r)) ∙ about) in
-    (st.last, ap (last_answer c via talk j) same ∙ st.told, subst (λ k. st.last ≤ figure_told c via talk k) poll st.not_less))
+    (
+      st.last,
+      ap (last_answer c via talk j) same ∙ st.told,
+      subst (λ k. st.last ≤ figure_told c via talk k) poll st.not_less,
+    ))
     (λ l k m.
     let asked : is_asked via (said talk p) ≡ true =
     found_is (λ x. is_asked via (said talk x)) (outstanding via talk j) p q in
@@ -243,13 +240,14 @@ said_answer c via talk j e g q o r false t some =
     let about = (both_true (is_asked via (said talk st.poll)) (is_it st.command (asked_for via talk st.poll))
     st.about).1 in
     let poll : st.poll ≡ g.poll = its_poll c via talk j e g st in
-    true≢false (sym (stands_it via talk j st.command o (ap (is_it st.command) (sym (ap (asked_for via talk) poll ∙ r)) ∙ about)
+    true≢false
+    (sym (stands_it via talk j st.command o (ap (is_it st.command) (sym (ap (asked_for via talk) poll ∙ r)) ∙ about)
     st.outstanding) ∙ t))
 
-said_flight : (c : Settings) (via : Connection) (talk : Talk) (j p : ℕ) (e : End) (g : Gives c via talk j e) → in_flight via talk j ≡ Some p
-    → (b : Bool) → nat_eq (reference talk p) e.reference ≡ b
-    → IsSaid c via talk j (news_with (account_at c via talk j) e
-    (if b && nat_eq e.code 0x82 then host.told_in e.body else None))
+said_flight : (c : Settings) (via : Connection) (talk : Talk) (j p : ℕ) (e : End) (g : Gives c via talk j e)
+    → in_flight via talk j ≡ Some p → (b : Bool) → nat_eq (reference talk p) e.reference ≡ b
+    → IsSaid c via talk j
+    (news_with (account_at c via talk j) e (if b && nat_eq e.code 0x82 then host.told_in e.body else None))
 said_flight c via talk j p e g q true n =
     let own = own_flight c via talk j e p g q (eqb-true (reference talk p) e.reference n) in
     let tells = g.tells own in
@@ -263,137 +261,9 @@ said_flight c via talk j p e g q false n =
     let same : p ≡ g.poll = ap (λ o. unwrap_or o p) (sym q ∙ in_flight_then c via talk j e g st) in
     true≢false (sym (eq-eqb (reference talk p) e.reference (ap (reference talk) same ∙ g.named)) ∙ n))
 
-said_with : (c : Settings) (via : Connection) (talk : Talk) (j : ℕ) (e : End) (g : Gives c via talk j e) (o : Option ℕ) → in_flight via talk j ≡ o
+pub said_with : (c : Settings) (via : Connection) (talk : Talk) (j : ℕ) (e : End) (g : Gives c via talk j e) (o : Option ℕ)
+    → in_flight via talk j ≡ o
     → IsSaid c via talk j (news_with (account_at c via talk j) e (answered (option_map (watch_at via talk j) o) e))
 said_with c via talk j e g None q = said_ended c via talk j e
     (λ st. true≢false (ap is_some (sym (in_flight_then c via talk j e g st) ∙ q)))
 said_with c via talk j e g (Some p) q = said_flight c via talk j p e g q (nat_eq (reference talk p) e.reference) refl
-
--- ---- the turn
-
-take_none : {K : Type 0} {c : Settings} {picks : List Choice → ℕ → Type 0} {picker : K} {talk : Talk} {j : ℕ}
-    {a' : Both Account} {h' : Holdings K} → (x : Comes c picks picker talk j a' h') → (via : Connection)
-    → (k : Account) → (said talk j).moment ≡ Some (events.Take via, entries.Taken via None)
-    → IsHanded (of via x.hosts) None (said talk j).heard k → a' ≡ put via k x.hosts → Turns c picks picker talk j a' h'
-take_none {K} {c} {picks} {picker} {talk} {j} {a'} {h'} x via k m s p =
-    let answers = subst (λ o. AnswersTurn picks x.controller o h') m x.says.1 in
-    let n : (other : Connection) → NoEnd other talk j = λ other r. ap (hands_over other r) m in
-    let kept : a' ≡ x.hosts = p ∙ (ap (λ y. put via y x.hosts) s.1 ∙ put_own via x.hosts) in
-    let match : (other : Connection) → Matches other (of other x.hosts) (after_take via x.controller)
-    (x.at.side other).told =
-    each_side (λ other. Matches other (of other x.hosts) (after_take via x.controller) (x.at.side other).told) via
-    (taken_none via (of via x.hosts) x.controller (x.at.side via).told (sym answers.1) (x.at.side via).match)
-    (λ other d. foreign_take via other (of other x.hosts) x.controller (x.at.side other).told d
-    (x.at.side other).match) in
-    turns_of x (no_news c talk j n (ap is_news s.0)) (not_lost talk j (ap is_news s.0))
-    (λ other. quiet c other talk j (of other x.hosts) (of other a') x.controller h' (x.at.side other)
-    (record {
-      unqueued = ap (queues_in other) m;
-      no_end = n other;
-      unsent = unsent other (said talk j) (ap is_sent s.0);
-    }) (ap (of other) kept)
-    (subst (λ (y : Holdings K). Matches other (of other x.hosts) y (x.at.side other).told) (sym answers.2)
-    (match other)))
-
--- what is known of the turn that hands over these bytes: the end, and what is said of it
-record Takes {K : Type 0} (c : Settings) (via : Connection) (talk : Talk) (j : ℕ) (n : News) (a' : Account)
-    (h' : Holdings K) : Type 0 where
-  pub said : IsSaid c via talk j n
-  pub turns : TurnsOn c via talk j a' h'
-
-take_side : {K : Type 0} (c : Settings) (via : Connection) (talk : Talk) (j : ℕ) (a a' : Account) (h h' : Holdings K)
-    (b : ArrayVec ℕ) (n : News) → (x : Side c via talk j a h)
-    → (said talk j).moment ≡ Some (events.Take via, entries.Taken via (Some b))
-    → (said talk j).heard ≡ hears.News n → heard a b.items ≡ (Ok n, a') → end_taken via h ≡ Some b
-    → ((e : End) → slice_get (of via h.untaken) 0 ≡ Some e → IsEnd b.items e) → h' ≡ after_take via h
-    → Takes c via talk j n a' h'
-take_side {K} c via talk j a a' h h' b n x m said_news hears taken sound after =
-    let out = taken_some via a h x.told b taken sound x.match in
-    let e = out.end in
-    let message : IsEnd b.items e = sound e (ap (λ xs. slice_get xs 0) out.untaken) in
-    let hands : (r : ℕ) → hands_over via r (said talk j).moment ≡ nat_eq e.reference r =
-    λ r. ap (hands_over via r) m ∙ (λ i. own_side via i && nat_eq (sym message.reference i) r) in
-    let g = gives x out hands (unsent via (said talk j) (ap is_sent said_news)) in
-    let both = sym hears ∙ out.heard in
-    let left : a' ≡ received a e = ap (λ p. p.1) both in
-    let news : n ≡ news_with (account_at c via talk j) e (answered (account_at c via talk j).watch e) =
-    ap (λ p. news_or p.0 n) both
-    ∙ ap (λ (y : Account). news_with y e (answered y.watch e)) x.account in
-    record {
-      said = subst (IsSaid c via talk j) (sym news) (said_with c via talk j e g (in_flight via talk j) refl);
-      turns = record {
-        tells = record {
-          new = unqueued via talk j (ap (queues_in via) m);
-          idle = never_idle via talk j (unasked via (said talk j) (ap is_poll said_news));
-          some = λ p i f about st.
-              let this : p ≡ g.poll = ap (λ o. unwrap_or o p) (sym f ∙ g.found) in
-              let parts = both_true (is_asked via (said talk g.poll)) (is_it i (asked_for via talk g.poll))
-              (subst (λ q. asks_about via talk i q ≡ true) this about) in
-              subst (λ q. 1 ≤ figure_told c via talk q) (sym this)
-              ((g.tells (poll_asks c via talk j e g parts.0)).some
-              (stands_it via talk j i (asked_for via talk g.poll) parts.1 st));
-        };
-        next = record {
-          account = left ∙ (ap (λ y. received y e) x.account ∙ sym (account_received c via talk j e g));
-          told = x.told;
-          match = subst (λ (y : Account). Matches via y h' x.told) (sym left)
-              (subst (λ (y : Holdings K). Matches via (received a e) y x.told) (sym after) out.match);
-          one = one_received c via talk j e g;
-          flight = λ p f. x.flight p (flight_back c via talk j e p g f);
-        };
-      };
-    }
-
--- an end of a connection is none of the other
-no_end_of_other : (via other : Connection) (talk : Talk) (j : ℕ) (b : ArrayVec ℕ) → same_connection via other ≡ false
-    → (said talk j).moment ≡ Some (events.Take via, entries.Taken via (Some b)) → NoEnd other talk j
-no_end_of_other via other talk j b d m r = ap (hands_over other r) m ∙ ap (λ q. q && nat_eq (num b.items 0 4) r) d
-
--- what stands is of the connection whose end is handed over
-stands_own : (c : Settings) (via other : Connection) (talk : Talk) (j : ℕ) (b : ArrayVec ℕ)
-    → (said talk j).moment ≡ Some (events.Take via, entries.Taken via (Some b)) → Stands c other talk j
-    → Stands c via talk j
-stands_own c via other talk j b m st =
-    let both : (q : Bool) → same_connection via other ≡ q → Stands c via talk j =
-    λ q. elim q as (λ q. same_connection via other ≡ q → Stands c via talk j) [
-      | true ↦ λ e. subst (λ v. Stands c v talk j) (sym (one_side via other e)) st
-      | false ↦ λ d.
-          let none = none_handed other talk j (no_end_of_other via other talk j b d m) in
-          absurd (false≢true (ap is_some (sym none ∙ st.handed)))
-    ] in
-    both (same_connection via other) refl
-
-take_some : {K : Type 0} {c : Settings} {picks : List Choice → ℕ → Type 0} {picker : K} {talk : Talk} {j : ℕ}
-    {a' : Both Account} {h' : Holdings K} → (x : Comes c picks picker talk j a' h') → (via : Connection)
-    → (k : Account) (b : ArrayVec ℕ) → (said talk j).turn ≡ turns.Take via
-    → (said talk j).moment ≡ Some (events.Take via, entries.Taken via (Some b))
-    → IsHanded (of via x.hosts) (Some b) (said talk j).heard k → a' ≡ put via k x.hosts
-    → Turns c picks picker talk j a' h'
-take_some {K} {c} {picks} {picker} {talk} {j} {a'} {h'} x via k b t m s p =
-    let n = s.0 in
-    let sound = subst (λ u. IsSound x.controller u (said talk j).moment) t x.says.2 in
-    let answers = subst (λ o. AnswersTurn picks x.controller o h') m x.says.1 in
-    let own = take_side c via talk j (of via x.hosts) k x.controller h' b n (x.at.side via) m s.1 s.2 (sym answers.1)
-    (λ e f. sound b e m f) answers.2 in
-    turns_of x (
-      λ q. (via, own.said.resets.0 (ap (λ o. is_reset (news_in o)) (sym s.1 ∙ q))),
-      λ st. s.1 ∙ ap hears.News (reset_is n (own.said.resets.1 (stands_own c via st.0 talk j b m st.1))),
-    ) (λ q. true≢false (sym (ap (λ o. is_lost (news_in o)) (sym s.1 ∙ q)) ∙ own.said.not_lost))
-    (each_side (λ other. TurnsOn c other talk j (of other a') h') via
-    (subst (λ (y : Account). TurnsOn c via talk j y h') (sym (ap (of via) p ∙ of_put via k x.hosts)) own.turns)
-    (λ other d. quiet c other talk j (of other x.hosts) (of other a') x.controller h' (x.at.side other)
-    (record {
-      unqueued = ap (queues_in other) m;
-      no_end = no_end_of_other via other talk j b d m;
-      unsent = unsent other (said talk j) (ap is_sent s.1);
-    }) (ap (of other) p ∙ of_other via other k x.hosts d)
-    (subst (λ (y : Holdings K). Matches other (of other x.hosts) y (x.at.side other).told) (sym answers.2)
-    (foreign_take via other (of other x.hosts) x.controller (x.at.side other).told d (x.at.side other).match))))
-
-pub take_turn : {K : Type 0} {c : Settings} {picks : List Choice → ℕ → Type 0} {picker : K} {talk : Talk} {j : ℕ}
-    {a' : Both Account} {h' : Holdings K} → (x : Comes c picks picker talk j a' h') → (via : Connection)
-    → (said talk j).turn ≡ turns.Take via → (end : Option (ArrayVec ℕ)) → (k : Account)
-    → (said talk j).moment ≡ Some (events.Take via, entries.Taken via end)
-    → IsHanded (of via x.hosts) end (said talk j).heard k → a' ≡ put via k x.hosts → Turns c picks picker talk j a' h'
-take_turn x via t None k m s p = take_none x via k m s p
-take_turn x via t (Some b) k m s p = take_some x via k b t m s p

@@ -80,7 +80,8 @@ pub outstanding_below : (via : Connection) (talk : Talk) (j : ℕ) → AllByRecu
 unfolding outstanding
 outstanding_below via talk j = every_kept (λ i. i < j) (is_outstanding via talk j) (before j) (before_below j)
 
-pub outstanding_are : (via : Connection) (talk : Talk) (j : ℕ) → AllByRecursion (λ i. is_outstanding via talk j i ≡ true) (outstanding via talk j)
+pub outstanding_are : (via : Connection) (talk : Talk) (j : ℕ)
+    → AllByRecursion (λ i. is_outstanding via talk j i ≡ true) (outstanding via talk j)
 unfolding outstanding
 outstanding_are via talk j = passes_test (is_outstanding via talk j) (before j)
 
@@ -92,24 +93,28 @@ outstanding_more via talk j =
     let q : ℕ → Bool = λ i. not (ends_now via talk j i) in
     let old : filter p (before j) ≡ filter (λ i. is_outstanding via talk j i && q i) (before j) =
     filter_on p (λ i. is_outstanding via talk j i && q i) (before j)
-    (every_weaker (λ i. i < j) (λ i. p i ≡ (is_outstanding via talk j i && q i)) (λ i l. stays_if via talk j i l) (before j)
+    (every_weaker (λ i. i < j) (λ i. p i ≡ (is_outstanding via talk j i && q i)) (λ i l. stays_if via talk j i l)
+    (before j)
     (before_below j)) in
     ap (filter p) (range_more j)
     ∙ (filter_append p (before j) (j ∷ [])
-    ∙ (λ i. (old ∙ sym (filter_filter q (is_outstanding via talk j) (before j))) i ++ cond (new_if via talk j i) (j ∷ []) []))
+    ∙ (λ i. (old ∙ sym (filter_filter q (is_outstanding via talk j) (before j))) i
+    ++ cond (new_if via talk j i) (j ∷ []) []))
 
 -- ---- answers
 
 pub answers_more : (c : Settings) (via : Connection) (talk : Talk) (j i : ℕ)
-    → answers_about c via talk (j + 1) i ≡ answers_about c via talk j i ++ answers_of c via talk i (handed_over via talk j)
+    → answers_about c via talk (j + 1) i ≡ answers_about c via talk j i
+    ++ answers_of c via talk i (handed_over via talk j)
 answers_more c via talk j i =
     let f : ℕ → List ℕ = λ k. answers_of c via talk i (handed_over via talk k) in
     ap (flat_map f) (range_more j) ∙ (flat_map-append f (before j) (j ∷ [])
     ∙ ap (λ xs. answers_about c via talk j i ++ xs) (append-nil (f j)))
 
 -- the last answer stays where this turn brings none
-pub last_same : (c : Settings) (via : Connection) (talk : Talk) (j i : ℕ) → answers_of c via talk i (handed_over via talk j) ≡ []
-    → last_answer c via talk (j + 1) i ≡ last_answer c via talk j i
+pub last_same : (c : Settings) (via : Connection) (talk : Talk) (j i : ℕ)
+    → answers_of c via talk i (handed_over via talk j) ≡ [] → last_answer c via talk (j + 1) i
+    ≡ last_answer c via talk j i
 last_same c via talk j i e = ap last_of (answers_more c via talk j i
     ∙ (ap (λ xs. answers_about c via talk j i ++ xs) e ∙ append-nil (answers_about c via talk j i)))
 
@@ -122,8 +127,8 @@ last_of_push [] y = refl
 last_of_push (x ∷ xs) y = ap Some (last_push xs x y)
 
 -- and else it is what the turn brings
-pub last_new : (c : Settings) (via : Connection) (talk : Talk) (j i f : ℕ) → answers_of c via talk i (handed_over via talk j) ≡ f ∷ []
-    → last_answer c via talk (j + 1) i ≡ Some f
+pub last_new : (c : Settings) (via : Connection) (talk : Talk) (j i f : ℕ)
+    → answers_of c via talk i (handed_over via talk j) ≡ f ∷ [] → last_answer c via talk (j + 1) i ≡ Some f
 last_new c via talk j i f e = ap last_of (answers_more c via talk j i ∙ ap (λ xs. answers_about c via talk j i ++ xs) e)
     ∙ last_of_push (answers_about c via talk j i) f
 
@@ -139,7 +144,8 @@ found_holds p P (y ∷ ys) x h e =
     ] in
     out (p y) e
 
-pub found_below : (via : Connection) (talk : Talk) (j x : ℕ) (p : ℕ → Bool) → find p (outstanding via talk j) ≡ Some x → x < j
+pub found_below : (via : Connection) (talk : Talk) (j x : ℕ) (p : ℕ → Bool) → find p (outstanding via talk j) ≡ Some x
+    → x < j
 found_below via talk j x p e = found_holds p (λ i. i < j) (outstanding via talk j) x (outstanding_below via talk j) e
 
 pub found_stands : (via : Connection) (talk : Talk) (j x : ℕ) (p : ℕ → Bool) → find p (outstanding via talk j) ≡ Some x
@@ -152,14 +158,15 @@ not_it : (j : ℕ) (o : Option ℕ) → ((x : ℕ) → o ≡ Some x → x < j) �
 not_it j None h = refl
 not_it j (Some x) h = let l = h x refl in grind (arith, nat_tests, l)
 
-untold_of : (c : Settings) (via : Connection) (talk : Talk) (j k : ℕ) → k < j → (o : Option ℕ) → handed_over via talk k ≡ o
-    → answers_of c via talk j o ≡ []
+untold_of : (c : Settings) (via : Connection) (talk : Talk) (j k : ℕ) → k < j → (o : Option ℕ)
+    → handed_over via talk k ≡ o → answers_of c via talk j o ≡ []
 untold_of c via talk j k l None e = refl
 untold_of c via talk j k l (Some p) e =
     let below : p < k = found_below via talk k p _ e in
     let no : is_it j (asked_for via talk p) ≡ false = not_it j (asked_for via talk p)
     (λ x q. let m = found_below via talk p x _ q in omega (arith, l, below, m)) in
-    elim (is_asked via (said talk p)) as (λ b. cond (b && is_it j (asked_for via talk p)) (figure_told c via talk p ∷ []) []
+    elim (is_asked via (said talk p)) as
+    (λ b. cond (b && is_it j (asked_for via talk p)) (figure_told c via talk p ∷ []) []
     ≡ []) [ true ↦ rw no refl | false ↦ refl ]
 
 untold_in : (c : Settings) (via : Connection) (talk : Talk) (j : ℕ) (ks : List ℕ) → AllByRecursion (λ k. k < j) ks

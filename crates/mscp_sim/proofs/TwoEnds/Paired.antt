@@ -76,7 +76,7 @@ answer r f = record { reference = r; unit = 0; code = 0x82; status = 0; body = b
 
 -- ---- the talk
 
--- unit 0 comes online, each host has a READ 1 of two blocks, and each polls it as 10. The first host is handed its answer
+-- unit 0 comes online, each host has a READ 1 of two blocks, and each polls it as 10. Then each is handed its answer
 abbrev paired : Talk
 paired =
     submits First 9 orders.Online

@@ -25,9 +25,10 @@ pub flight_quiet : (via : Connection) (talk : Talk) (j : ℕ) → NoEnd via talk
     → in_flight via talk (j + 1) ≡ in_flight via talk j
 flight_quiet via talk j n s = ap (find (asking via talk)) (outs_quiet via talk j n s)
 
-pub one_quiet : (via : Connection) (talk : Talk) (j : ℕ) → NoEnd via talk j → sends via (said talk j) ≡ false → OnePoll via talk j
-    → OnePoll via talk (j + 1)
-one_quiet via talk j n s o = subst (λ xs. AllByRecursion (λ p. asking via talk p ≡ true → find (asking via talk) xs ≡ Some p) xs)
+pub one_quiet : (via : Connection) (talk : Talk) (j : ℕ) → NoEnd via talk j → sends via (said talk j) ≡ false
+    → OnePoll via talk j → OnePoll via talk (j + 1)
+one_quiet via talk j n s o = subst
+    (λ xs. AllByRecursion (λ p. asking via talk p ≡ true → find (asking via talk) xs ≡ Some p) xs)
     (sym (outs_quiet via talk j n s)) o
 
 or_left : (o : Option ℕ) (p : ℕ) (r : Option ℕ) → o ≡ Some p → option_or o r ≡ Some p
@@ -51,7 +52,8 @@ pub one_submitted : (via : Connection) (talk : Talk) (j : ℕ) → NoEnd via tal
 one_submitted via talk j n s a o =
     let P : ℕ → Type 0 = λ p. asking via talk p ≡ true → in_flight via talk (j + 1) ≡ Some p in
     subst (AllByRecursion P) (sym (outs_sent via talk j n s))
-    (every_append P (outstanding via talk j) (j ∷ []) (every_weaker (λ p. asking via talk p ≡ true → in_flight via talk j ≡ Some p)
+    (every_append P (outstanding via talk j) (j ∷ [])
+    (every_weaker (λ p. asking via talk p ≡ true → in_flight via talk j ≡ Some p)
     P (λ p h q. flight_submitted via talk j n s a ∙ h q) (outstanding via talk j) o)
     (λ q. absurd (true≢false (sym q ∙ a)), tt))
 
@@ -60,7 +62,8 @@ pub flight_asked : (via : Connection) (talk : Talk) (j : ℕ) → NoEnd via talk
     → is_asked via (said talk j) ≡ true → in_flight via talk j ≡ None → in_flight via talk (j + 1) ≡ Some j
 flight_asked via talk j n s a e =
     ap (find (asking via talk)) (outs_sent via talk j n s)
-    ∙ (find-append (asking via talk) (outstanding via talk j) (j ∷ []) ∙ (λ k. option_or (e k) (cond (a k) (Some j) None)))
+    ∙ (find-append (asking via talk) (outstanding via talk j) (j ∷ [])
+    ∙ (λ k. option_or (e k) (cond (a k) (Some j) None)))
 
 pub one_asked : (via : Connection) (talk : Talk) (j : ℕ) → NoEnd via talk j → sends via (said talk j) ≡ true
     → is_asked via (said talk j) ≡ true → in_flight via talk j ≡ None → OnePoll via talk (j + 1)

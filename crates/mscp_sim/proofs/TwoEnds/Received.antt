@@ -35,14 +35,15 @@ left_subs c via talk j e g =
     subst (λ xs. times e.reference xs ≤ 1) (sym (references_at c via talk (j + 1) j (outstanding via talk j)))
     (once_at c via talk j e.reference e g) in
     without_kept e.reference all once
-    ∙ (filter_map_of (submission_at c via talk (j + 1)) (λ s. not (nat_eq e.reference s.reference)) (outstanding via talk j)
+    ∙ (filter_map_of (submission_at c via talk (j + 1)) (λ s. not (nat_eq e.reference s.reference))
+    (outstanding via talk j)
     ∙ ap (map (submission_at c via talk (j + 1))) (sym (outs_after c via talk j e g)))
 
 -- ---- the poll in flight
 
 -- the poll in flight was answered
-flight_gone : (c : Settings) (via : Connection) (talk : Talk) (j : ℕ) (e : End) (p : ℕ) → Gives c via talk j e → in_flight via talk j ≡ Some p
-    → nat_eq (reference talk p) e.reference ≡ true → in_flight via talk (j + 1) ≡ None
+flight_gone : (c : Settings) (via : Connection) (talk : Talk) (j : ℕ) (e : End) (p : ℕ) → Gives c via talk j e
+    → in_flight via talk j ≡ Some p → nat_eq (reference talk p) e.reference ≡ true → in_flight via talk (j + 1) ≡ None
 flight_gone c via talk j e p g q n =
     ap (find (λ x. is_asked via (said talk x))) (outs_after c via talk j e g)
     ∙ find_none_kept (λ x. is_asked via (said talk x)) (keep talk e) (outstanding via talk j)
@@ -52,15 +53,16 @@ flight_gone c via talk j e p g q n =
     ∙ (ap (λ o. nat_eq (reference talk (unwrap_or o x)) e.reference) (sym (h a) ∙ q) ∙ n))) (outstanding via talk j)
     g.one)
 
-flight_kept : (c : Settings) (via : Connection) (talk : Talk) (j : ℕ) (e : End) (p : ℕ) → Gives c via talk j e → in_flight via talk j ≡ Some p
-    → nat_eq (reference talk p) e.reference ≡ false → in_flight via talk (j + 1) ≡ Some p
+flight_kept : (c : Settings) (via : Connection) (talk : Talk) (j : ℕ) (e : End) (p : ℕ) → Gives c via talk j e
+    → in_flight via talk j ≡ Some p → nat_eq (reference talk p) e.reference ≡ false
+    → in_flight via talk (j + 1) ≡ Some p
 flight_kept c via talk j e p g q n =
     ap (find (λ x. is_asked via (said talk x))) (outs_after c via talk j e g)
     ∙ find_kept (λ x. is_asked via (said talk x)) (keep talk e) (outstanding via talk j) p q
     (ap not (flip e.reference (reference talk p) ∙ n))
 
-flight_none : (c : Settings) (via : Connection) (talk : Talk) (j : ℕ) (e : End) → Gives c via talk j e → in_flight via talk j ≡ None
-    → in_flight via talk (j + 1) ≡ None
+flight_none : (c : Settings) (via : Connection) (talk : Talk) (j : ℕ) (e : End) → Gives c via talk j e
+    → in_flight via talk j ≡ None → in_flight via talk (j + 1) ≡ None
 flight_none c via talk j e g q =
     ap (find (λ x. is_asked via (said talk x))) (outs_after c via talk j e g)
     ∙ find_none_kept (λ x. is_asked via (said talk x)) (keep talk e) (outstanding via talk j)
@@ -72,8 +74,8 @@ flight_none c via talk j e g q =
 abbrev watch_of : ℕ → ℕ → Bool → Watch
 watch_of reference polled outstanding = record { reference = reference; polled = polled; is_outstanding = outstanding }
 
-stands_after : (c : Settings) (via : Connection) (talk : Talk) (j : ℕ) (e : End) (p : ℕ) (o : Option ℕ) → Gives c via talk j e → p < j
-    → ((i : ℕ) → o ≡ Some i → i < p)
+stands_after : (c : Settings) (via : Connection) (talk : Talk) (j : ℕ) (e : End) (p : ℕ) (o : Option ℕ)
+    → Gives c via talk j e → p < j → ((i : ℕ) → o ≡ Some i → i < p)
     → let w = watch_of (reference talk p) (reference_found talk o) in
     Some (w (polled_is_outstanding via talk (j + 1) o))
     ≡ (if nat_eq (reference_found talk o) e.reference then Some (w false)
@@ -97,7 +99,8 @@ stands_after c via talk j e p (Some i) g l b =
       | false ↦ ap (λ s. Some (w s)) (and-true (is_outstanding via talk j i))
     ]
 
-watch_left : (c : Settings) (via : Connection) (talk : Talk) (j : ℕ) (e : End) (o : Option ℕ) → Gives c via talk j e → in_flight via talk j ≡ o
+watch_left : (c : Settings) (via : Connection) (talk : Talk) (j : ℕ) (e : End) (o : Option ℕ) → Gives c via talk j e
+    → in_flight via talk j ≡ o
     → option_map (watch_at via talk (j + 1)) (in_flight via talk (j + 1))
     ≡ watch_after (option_map (watch_at via talk j) o) e.reference
 watch_left c via talk j e None g q = ap (option_map (watch_at via talk (j + 1))) (flight_none c via talk j e g q)
@@ -113,7 +116,8 @@ watch_left c via talk j e (Some p) g q =
     else Some w))) [
       | true ↦ λ n. ap (option_map (watch_at via talk (j + 1))) (flight_gone c via talk j e p g q n)
       | false ↦ λ n. ap (option_map (watch_at via talk (j + 1))) (flight_kept c via talk j e p g q n)
-          ∙ stands_after c via talk j e p (asked_for via talk p) g (found_below via talk j p _ q) (λ i f. found_below via talk p i _ f)
+          ∙ stands_after c via talk j e p (asked_for via talk p) g (found_below via talk j p _ q)
+              (λ i f. found_below via talk p i _ f)
     ] in
     both (nat_eq (reference talk p) e.reference) refl
 
@@ -122,12 +126,15 @@ pub account_received : (c : Settings) (via : Connection) (talk : Talk) (j : ℕ)
 account_received c via talk j e g =
     let subs : map (submission_at c via talk (j + 1)) (outstanding via talk (j + 1))
     ≡ without e.reference (outstanding_with (account_at c via talk j) (answered (account_at c via talk j).watch e)) =
-    sym (ap (without e.reference) (all_told c via talk j e g (in_flight via talk j) refl) ∙ left_subs c via talk j e g) in
-    λ i. record { credits = credits_of c via; outstanding = subs i; watch = watch_left c via talk j e (in_flight via talk j) g refl i }
+    sym (ap (without e.reference) (all_told c via talk j e g (in_flight via talk j) refl)
+    ∙ left_subs c via talk j e g) in
+    let watch = watch_left c via talk j e (in_flight via talk j) g refl in
+    λ i. record { credits = credits_of c via; outstanding = subs i; watch = watch i }
 
 -- ---- one poll
 
-pub one_received : (c : Settings) (via : Connection) (talk : Talk) (j : ℕ) (e : End) → Gives c via talk j e → OnePoll via talk (j + 1)
+pub one_received : (c : Settings) (via : Connection) (talk : Talk) (j : ℕ) (e : End) → Gives c via talk j e
+    → OnePoll via talk (j + 1)
 one_received c via talk j e g =
     subst (AllByRecursion (λ x. is_asked via (said talk x) ≡ true → in_flight via talk (j + 1) ≡ Some x))
     (sym (outs_after c via talk j e g))

@@ -49,7 +49,8 @@ references_at c via talk j k xs = map_map (submission_at c via talk j) (λ (s : 
 
 pub once_at : (c : Settings) (via : Connection) (talk : Talk) (j r : ℕ) (e : End) → Gives c via talk j e
     → times r (map (reference talk) (outstanding via talk j)) ≤ 1
-once_at c via talk j r e g = subst (λ xs. times r xs ≤ 1) (references_at c via talk j j (outstanding via talk j)) (g.once r)
+once_at c via talk j r e g = subst (λ xs. times r xs ≤ 1) (references_at c via talk j j (outstanding via talk j))
+    (g.once r)
 
 pub outs_after : (c : Settings) (via : Connection) (talk : Talk) (j : ℕ) (e : End) → Gives c via talk j e
     → outstanding via talk (j + 1) ≡ filter (keep talk e) (outstanding via talk j)
@@ -101,8 +102,9 @@ gone_is via talk j x (Some i) t m = differs i x (λ z. true≢false (sym m ∙ (
 -- ---- whose end it is
 
 -- the command that a test finds, and that has the number of the end, is the one whose end it is
-same_poll : (c : Settings) (via : Connection) (talk : Talk) (j : ℕ) (e : End) (q : ℕ → Bool) (x : ℕ) → (g : Gives c via talk j e)
-    → find q (outstanding via talk j) ≡ Some x → reference talk x ≡ e.reference → x ≡ g.poll
+same_poll : (c : Settings) (via : Connection) (talk : Talk) (j : ℕ) (e : End) (q : ℕ → Bool) (x : ℕ)
+    → (g : Gives c via talk j e) → find q (outstanding via talk j) ≡ Some x → reference talk x ≡ e.reference
+    → x ≡ g.poll
 same_poll c via talk j e q x g f r =
     let only = only_one (reference talk) q (outstanding via talk j) x (once_at c via talk j (reference talk x) e g) f in
     let named : find (λ i. hands_over via (reference talk i) (said talk j).moment) (outstanding via talk j) ≡ Some x =
@@ -111,13 +113,14 @@ same_poll c via talk j e q x g f r =
     ap (λ o. unwrap_or o x) (sym named ∙ g.found)
 
 -- two outstanding commands of one number are one
-same_command : (c : Settings) (via : Connection) (talk : Talk) (j : ℕ) (e : End) (p q : ℕ → Bool) (x y : ℕ) → Gives c via talk j e
-    → find p (outstanding via talk j) ≡ Some x → find q (outstanding via talk j) ≡ Some y → reference talk x ≡ reference talk y
-    → x ≡ y
+same_command : (c : Settings) (via : Connection) (talk : Talk) (j : ℕ) (e : End) (p q : ℕ → Bool) (x y : ℕ)
+    → Gives c via talk j e → find p (outstanding via talk j) ≡ Some x → find q (outstanding via talk j) ≡ Some y
+    → reference talk x ≡ reference talk y → x ≡ y
 same_command c via talk j e p q x y g f h r =
     let one = only_one (reference talk) p (outstanding via talk j) x (once_at c via talk j (reference talk x) e g) f in
     let two = only_one (reference talk) q (outstanding via talk j) y (once_at c via talk j (reference talk y) e g) h in
-    ap (λ o. unwrap_or o x) (sym one ∙ (ap (λ n. find (λ i. nat_eq n (reference talk i)) (outstanding via talk j)) r ∙ two))
+    ap (λ o. unwrap_or o x)
+    (sym one ∙ (ap (λ n. find (λ i. nat_eq n (reference talk i)) (outstanding via talk j)) r ∙ two))
 
 -- the poll in flight is that one, where it has the number of the end
 pub own_flight : (c : Settings) (via : Connection) (talk : Talk) (j : ℕ) (e : End) (p : ℕ) → (g : Gives c via talk j e)
@@ -140,8 +143,9 @@ nothing_asked : (c : Settings) (via : Connection) (talk : Talk) (j i : ℕ) (e :
 nothing_asked c via talk j i e g a = ap (answers_of c via talk i) g.found
     ∙ ap (λ b. cond (b && is_it i (asked_for via talk g.poll)) (figure_told c via talk g.poll ∷ []) []) a
 
-subs_kept : (c : Settings) (via : Connection) (talk : Talk) (j : ℕ) (xs : List ℕ) → AllByRecursion (TellsNothing c via talk j) xs
-    → map (submission_at c via talk (j + 1)) xs ≡ map (submission_at c via talk j) xs
+subs_kept : (c : Settings) (via : Connection) (talk : Talk) (j : ℕ) (xs : List ℕ)
+    → AllByRecursion (TellsNothing c via talk j) xs → map (submission_at c via talk (j + 1)) xs
+    ≡ map (submission_at c via talk j) xs
 subs_kept c via talk j xs h =
     map_on (submission_at c via talk (j + 1)) (submission_at c via talk j) xs
     (every_weaker (TellsNothing c via talk j) (λ i. submission_at c via talk (j + 1) i ≡ submission_at c via talk j i)
@@ -154,7 +158,8 @@ subs_kept c via talk j xs h =
     }) (last_same c via talk j i n)) xs h)
 
 -- where the end is that of a poll about the command i
-one_told : (c : Settings) (via : Connection) (talk : Talk) (j i f : ℕ) → answers_of c via talk i (handed_over via talk j) ≡ f ∷ []
+one_told : (c : Settings) (via : Connection) (talk : Talk) (j i f : ℕ)
+    → answers_of c via talk i (handed_over via talk j) ≡ f ∷ []
     → submission_at c via talk (j + 1) i ≡ record (submission_at c via talk j i) { told = Some f }
 one_told c via talk j i f n = ap (λ t. record {
   reference = reference talk i;
@@ -166,11 +171,13 @@ one_told c via talk j i f n = ap (λ t. record {
 
 -- of each command: it has the number n and is told f, or it has another and is told nothing
 abbrev IsTold : Settings → Connection → Talk → ℕ → ℕ → ℕ → ℕ → Type 0
-IsTold c via talk j n f i = (nat_eq (reference talk i) n ≡ true → answers_of c via talk i (handed_over via talk j) ≡ f ∷ [])
+IsTold c via talk j n f i = (nat_eq (reference talk i) n ≡ true → answers_of c via talk i (handed_over via talk j)
+    ≡ f ∷ [])
     × (nat_eq (reference talk i) n ≡ false → TellsNothing c via talk j i)
 
-none_told : (c : Settings) (via : Connection) (talk : Talk) (j n f : ℕ) (xs : List ℕ) → AllByRecursion (IsTold c via talk j n f) xs
-    → times n (map (reference talk) xs) ≡ 0 → AllByRecursion (TellsNothing c via talk j) xs
+none_told : (c : Settings) (via : Connection) (talk : Talk) (j n f : ℕ) (xs : List ℕ)
+    → AllByRecursion (IsTold c via talk j n f) xs → times n (map (reference talk) xs) ≡ 0
+    → AllByRecursion (TellsNothing c via talk j) xs
 none_told c via talk j n f [] h z = tt
 none_told c via talk j n f (x ∷ xs) h z =
     let t = times n (map (reference talk) xs) in
@@ -183,9 +190,9 @@ none_told c via talk j n f (x ∷ xs) h z =
     ] in
     out (nat_eq (reference talk x) n) refl z
 
-subs_told : (c : Settings) (via : Connection) (talk : Talk) (j n f : ℕ) (xs : List ℕ) → AllByRecursion (IsTold c via talk j n f) xs
-    → times n (map (reference talk) xs) ≤ 1 → with_told n f (map (submission_at c via talk j) xs)
-    ≡ map (submission_at c via talk (j + 1)) xs
+subs_told : (c : Settings) (via : Connection) (talk : Talk) (j n f : ℕ) (xs : List ℕ)
+    → AllByRecursion (IsTold c via talk j n f) xs → times n (map (reference talk) xs) ≤ 1
+    → with_told n f (map (submission_at c via talk j) xs) ≡ map (submission_at c via talk (j + 1)) xs
 subs_told c via talk j n f [] h l = refl
 subs_told c via talk j n f (x ∷ xs) h l =
     let t = times n (map (reference talk) xs) in
@@ -199,15 +206,19 @@ subs_told c via talk j n f (x ∷ xs) h l =
     ≡ map (submission_at c via talk (j + 1)) (x ∷ xs)) [
       | true ↦ λ e l. λ k. sym (one_told c via talk j x f (h.0.0 e)) k
           ∷ sym (subs_kept c via talk j xs (none_told c via talk j n f xs h.1 (omega (arith, l)))) k
-      | false ↦ λ e l. λ k. sym (subs_kept c via talk j (x ∷ []) (h.0.1 e, tt)) k ++ subs_told c via talk j n f xs h.1 l k
+      | false ↦ λ e l. λ k. sym (subs_kept c via talk j (x ∷ []) (h.0.1 e, tt)) k
+          ++ subs_told c via talk j n f xs h.1 l k
     ] in
     out (nat_eq (reference talk x) n) refl l
 
 -- the poll in flight tells of its command, where that still stands
-told_of_stands : (c : Settings) (via : Connection) (talk : Talk) (j : ℕ) (e : End) (g : Gives c via talk j e) (o : Option ℕ)
-    → in_flight via talk j ≡ Some g.poll → asked_for via talk g.poll ≡ o → (b : Bool) → polled_is_outstanding via talk j o ≡ b
-    → (if b then with_told (reference_found talk o) (figure_told c via talk g.poll) (account_at c via talk j).outstanding
-    else (account_at c via talk j).outstanding) ≡ map (submission_at c via talk (j + 1)) (outstanding via talk j)
+told_of_stands : (c : Settings) (via : Connection) (talk : Talk) (j : ℕ) (e : End) (g : Gives c via talk j e)
+    (o : Option ℕ) → in_flight via talk j ≡ Some g.poll → asked_for via talk g.poll ≡ o → (b : Bool)
+    → polled_is_outstanding via talk j o ≡ b
+    → (if b then with_told (reference_found talk o) (figure_told c via talk g.poll)
+    (account_at c via talk j).outstanding
+    else (account_at c via talk j).outstanding)
+    ≡ map (submission_at c via talk (j + 1)) (outstanding via talk j)
 told_of_stands c via talk j e g None q r true t = absurd (false≢true t)
 told_of_stands c via talk j e g (Some i) q r true t =
     let n = reference talk i in
@@ -239,8 +250,8 @@ told_of_stands c via talk j e g o q r false t =
     ∙ ((λ k. cond (asked k && is_it x (r k)) (f ∷ []) []) ∙ ap (λ b. cond b (f ∷ []) []) (gone_is via talk j x o t m)))
     (outstanding via talk j) (outstanding_are via talk j)))
 
-told_when : (c : Settings) (via : Connection) (talk : Talk) (j : ℕ) (e : End) (g : Gives c via talk j e) (p : ℕ) → in_flight via talk j ≡ Some p
-    → (b : Bool) → nat_eq (reference talk p) e.reference ≡ b
+told_when : (c : Settings) (via : Connection) (talk : Talk) (j : ℕ) (e : End) (g : Gives c via talk j e) (p : ℕ)
+    → in_flight via talk j ≡ Some p → (b : Bool) → nat_eq (reference talk p) e.reference ≡ b
     → outstanding_with (account_at c via talk j) (if b && nat_eq e.code 0x82 then told_in e.body else None)
     ≡ map (submission_at c via talk (j + 1)) (outstanding via talk j)
 told_when c via talk j e g p q true n =
@@ -260,8 +271,8 @@ told_when c via talk j e g p q false n =
 
 -- ---- the answer that the end is, or that it is none
 
-pub all_told : (c : Settings) (via : Connection) (talk : Talk) (j : ℕ) (e : End) (g : Gives c via talk j e) (o : Option ℕ)
-    → in_flight via talk j ≡ o
+pub all_told : (c : Settings) (via : Connection) (talk : Talk) (j : ℕ) (e : End) (g : Gives c via talk j e)
+    (o : Option ℕ) → in_flight via talk j ≡ o
     → outstanding_with (account_at c via talk j) (answered (option_map (watch_at via talk j) o) e)
     ≡ map (submission_at c via talk (j + 1)) (outstanding via talk j)
 all_told c via talk j e g None q =

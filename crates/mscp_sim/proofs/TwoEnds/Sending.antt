@@ -61,11 +61,12 @@ none_too false true d e = absurd (true≢false (ap is_some e))
 none_too false false true e = absurd (true≢false (ap is_some e))
 none_too false false false e = (refl, refl, refl)
 
-same_balance : {K : Type 0} (via : Connection) (a : Account) (h : Holdings K) (told : Flight) → Matches via a h told → balance_of via h ≡ balance a
+same_balance : {K : Type 0} (via : Connection) (a : Account) (h : Holdings K) (told : Flight) → Matches via a h told
+    → balance_of via h ≡ balance a
 same_balance via a h told m = λ i. sym m.credits i - sym m.many i
 
-same_holds : {K : Type 0} (via : Connection) (a : Account) (h : Holdings K) (told : Flight) (r : ℕ) → Matches via a h told
-    → holds (outstanding_of via h) r ≡ list_any (has_reference r) a.outstanding
+same_holds : {K : Type 0} (via : Connection) (a : Account) (h : Holdings K) (told : Flight) (r : ℕ)
+    → Matches via a h told → holds (outstanding_of via h) r ≡ list_any (has_reference r) a.outstanding
 same_holds via a h told r m = any_alike r (outstanding_of via h) (references a.outstanding) (sym (m.same r))
     ∙ sym (has_any r a.outstanding)
 
@@ -81,14 +82,16 @@ free a opcode reference e =
     (list_any (has_reference reference) a.outstanding) e in
     record { some = k.0; spare = k.1; new = k.2 }
 
-unrefused : {K : Type 0} (via : Connection) (a : Account) (h : Holdings K) (told : Flight) (opcode reference : ℕ) → Matches via a h told
-    → Free a opcode reference → credit_fault (balance_of via h) (outstanding_of via h) opcode reference ≡ None
+unrefused : {K : Type 0} (via : Connection) (a : Account) (h : Holdings K) (told : Flight) (opcode reference : ℕ)
+    → Matches via a h told → Free a opcode reference
+    → credit_fault (balance_of via h) (outstanding_of via h) opcode reference ≡ None
 unrefused via a h told opcode reference m f =
     rw (same_balance via a h told m, same_holds via a h told reference m, f.some, f.spare, f.new) refl
 
 -- the controller takes in what the host sends
-taken_in : {K : Type 0} (via : Connection) (a : Account) (h : Holdings K) (told : Flight) (c : Command) → Matches via a h told → Carries c
-    → Free a (opcode_byte c.order) c.reference → refusal (balance_of via h) (outstanding_of via h) (command_bytes c) ≡ None
+taken_in : {K : Type 0} (via : Connection) (a : Account) (h : Holdings K) (told : Flight) (c : Command)
+    → Matches via a h told → Carries c → Free a (opcode_byte c.order) c.reference
+    → refusal (balance_of via h) (outstanding_of via h) (command_bytes c) ≡ None
 taken_in via a h told c m k f =
     let b = command_bytes c in
     let low : nat_lt (length b) 12 ≡ false = let l = k.read.low in grind (arith, nat_tests, l) in
@@ -108,8 +111,8 @@ none_times n (x ∷ xs) e =
     ] in
     out (nat_eq x n) e
 
-nobody_named : {K : Type 0} (via : Connection) (a : Account) (h : Holdings K) (told : Flight) (n : ℕ) → Matches via a h told
-    → list_any (has_reference n) a.outstanding ≡ false → times n (outstanding_of via h) ≡ 0
+nobody_named : {K : Type 0} (via : Connection) (a : Account) (h : Holdings K) (told : Flight) (n : ℕ)
+    → Matches via a h told → list_any (has_reference n) a.outstanding ≡ false → times n (outstanding_of via h) ≡ 0
 nobody_named via a h told n m e = none_times n (outstanding_of via h) (same_holds via a h told n m ∙ e)
 
 own_reference_of : (c : Settings) (online : Bool) (figure : ℕ) (command : Command) (o : Option ℕ)
@@ -122,19 +125,21 @@ own_code_of : (c : Settings) (online : Bool) (figure : ℕ) (command : Command) 
 own_code_of c online figure command None = refl
 own_code_of c online figure command (Some status) = refl
 
-arrives_queued : {K : Type 0} (via : Connection) (a a' : Account) (h : Holdings K) (told : Flight) (s : Submission) (c : Command)
-    → Arrives via a a' h s c → Matches via a h told → a'.watch ≡ a.watch → Matches via a' (queued via h c) told
+arrives_queued : {K : Type 0} (via : Connection) (a a' : Account) (h : Holdings K) (told : Flight) (s : Submission)
+    (c : Command) → Arrives via a a' h s c → Matches via a h told → a'.watch ≡ a.watch
+    → Matches via a' (queued via h c) told
 arrives_queued via a a' h told s c x m w =
     pushes_match via a a' h (queued via h c) s told told (queued_pushes via a a' h told s c x m) m
     (subst (λ (o : Option Watch). HasFlight (of via h.untaken) o told) (sym w) m.flight)
 
 -- the same number is as new where another command was aborted
-new_still : {K : Type 0} (via : Connection) (a : Account) (h h' : Holdings K) (told : Flight) (n : ℕ) → Matches via a h told
-    → Matches via a h' told → times n (outstanding_of via h) ≡ 0 → times n (outstanding_of via h') ≡ 0
+new_still : {K : Type 0} (via : Connection) (a : Account) (h h' : Holdings K) (told : Flight) (n : ℕ)
+    → Matches via a h told → Matches via a h' told → times n (outstanding_of via h) ≡ 0
+    → times n (outstanding_of via h') ≡ 0
 new_still via a h h' told n m m' z = sym (m'.same n) ∙ (m.same n ∙ z)
 
-arrives_ended : {K : Type 0} (via : Connection) (a a' : Account) (h : Holdings K) (told told' : Flight) (s : Submission) (c : Command)
-    → Arrives via a a' h s c → Matches via a h told
+arrives_ended : {K : Type 0} (via : Connection) (a a' : Account) (h : Holdings K) (told told' : Flight) (s : Submission)
+    (c : Command) → Arrives via a a' h s c → Matches via a h told
     → HasFlight (of via (with_end via (aborting via h c.order) (answered_end via h c)).untaken) a'.watch told'
     → Matches via a' (with_end via (aborting via h c.order) (answered_end via h c)) told'
 arrives_ended {K} via a a' h told told' s c x m f =
@@ -156,12 +161,15 @@ arrives_ended {K} via a a' h told told' s c x m f =
 
 -- ---- a command that is submitted
 
-message_taken : {K : Type 0} (via : Connection) (h : Holdings K) (b : List ℕ) → refusal (balance_of via h) (outstanding_of via h) b ≡ None
-    → (answer_to_message via h b ≡ Ok (taken_as via h (command_of b))) × (after_message via h b ≡ arrives via h (command_of b))
+message_taken : {K : Type 0} (via : Connection) (h : Holdings K) (b : List ℕ)
+    → refusal (balance_of via h) (outstanding_of via h) b ≡ None
+    → (answer_to_message via h b ≡ Ok (taken_as via h (command_of b)))
+    × (after_message via h b ≡ arrives via h (command_of b))
 message_taken via h b e = (rw e refl, rw e refl)
 
-arrives_match : {K : Type 0} (via : Connection) (a a' : Account) (h : Holdings K) (told : Flight) (s : Submission) (c : Command)
-    → Arrives via a a' h s c → Matches via a h told → a'.watch ≡ a.watch → Matches via a' (arrives via h c) told
+arrives_match : {K : Type 0} (via : Connection) (a a' : Account) (h : Holdings K) (told : Flight) (s : Submission)
+    (c : Command) → Arrives via a a' h s c → Matches via a h told → a'.watch ≡ a.watch
+    → Matches via a' (arrives via h c) told
 arrives_match {K} via a a' h told s c x m w =
     let h1 : Holdings K = aborting via h c.order in
     let e = answered_end via h c in
@@ -175,13 +183,14 @@ arrives_match {K} via a a' h told s c x m w =
     ]
 
 -- what the host submits the controller takes in
-pub record TakesIn {K : Type 0} (via : Connection) (h : Holdings K) (b : List ℕ) (a' : Account) (told : Flight) : Type 0 where
+pub record TakesIn {K : Type 0} (via : Connection) (h : Holdings K) (b : List ℕ) (a' : Account) (told : Flight) :
+    Type 0 where
   pub taken : answer_to_message via h b ≡ Ok (taken_as via h (command_of b))
   pub match : Matches via a' (after_message via h b) told
 
-pub submitted_match : {K : Type 0} (via : Connection) (a : Account) (h : Holdings K) (told : Flight) (c : Command) → c.reference < 2 ^ 32
-    → c.unit < 2 ^ 16 → Matches via a h told → host.refusal a (opcode_byte c.order) c.reference ≡ None
-    → TakesIn via h (command_bytes c) (submitted a c) told
+pub submitted_match : {K : Type 0} (via : Connection) (a : Account) (h : Holdings K) (told : Flight) (c : Command)
+    → c.reference < 2 ^ 32 → c.unit < 2 ^ 16 → Matches via a h told
+    → host.refusal a (opcode_byte c.order) c.reference ≡ None → TakesIn via h (command_bytes c) (submitted a c) told
 submitted_match {K} via a h told c small unit m e =
     let k = carries c small in
     let f = free a (opcode_byte c.order) c.reference e in
@@ -262,9 +271,10 @@ told_now via h s = record {
   waited = list_any (λ x. nat_eq x s.reference) (numbers (waiting_on via h.waiting));
 }
 
-poll_flight : {K : Type 0} (via : Connection) (a : Account) (h : Holdings K) (told : Flight) (r : ℕ) (s : Submission) → Matches via a h told
-    → list_any (has_reference s.reference) a.outstanding ≡ true
-    → HasFlight (of via (with_end via (aborting via h (orders.Status s.reference)) (answered_end via h (poll_of r s))).untaken)
+poll_flight : {K : Type 0} (via : Connection) (a : Account) (h : Holdings K) (told : Flight) (r : ℕ) (s : Submission)
+    → Matches via a h told → list_any (has_reference s.reference) a.outstanding ≡ true
+    → HasFlight
+    (of via (with_end via (aborting via h (orders.Status s.reference)) (answered_end via h (poll_of r s))).untaken)
     (watching a r s).watch (told_now via h s)
 poll_flight {K} via a h told r s m there =
     let e = answered_end via h (poll_of r s) in
@@ -278,16 +288,20 @@ poll_flight {K} via a h told r s m there =
       body = refl;
       ended = λ st wa.
           let all = same_holds via a h told s.reference m ∙ there in
-          let either = sym (list_any-append (λ x. nat_eq x s.reference) (numbers (waiting_on via h.waiting)) (numbers_ended (of via h.untaken)))
+          let either = sym
+              (list_any-append (λ x. nat_eq x s.reference) (numbers (waiting_on via h.waiting))
+              (numbers_ended (of via h.untaken)))
           ∙ all in
           let second = second_of (list_any (λ x. nat_eq x s.reference) (numbers (waiting_on via h.waiting)))
           (list_any (λ x. nat_eq x s.reference) (numbers_ended (of via h.untaken))) either wa in
-          subst (λ us. list_any (λ (e : End). nat_eq e.reference s.reference) us ≡ true) (sym (append-nil (of via h.untaken)))
+          subst (λ us. list_any (λ (e : End). nat_eq e.reference s.reference) us ≡ true)
+              (sym (append-nil (of via h.untaken)))
           (sym (any_ends s.reference (of via h.untaken)) ∙ second);
     }
 
-pub polled_match : {K : Type 0} (via : Connection) (a : Account) (h : Holdings K) (told : Flight) (r : ℕ) (s : Submission) → r < 2 ^ 32
-    → Matches via a h told → host.oldest a ≡ Some s → host.refusal a (opcode_byte (poll_of r s).order) r ≡ None
+pub polled_match : {K : Type 0} (via : Connection) (a : Account) (h : Holdings K) (told : Flight) (r : ℕ)
+    (s : Submission) → r < 2 ^ 32 → Matches via a h told → host.oldest a ≡ Some s
+    → host.refusal a (opcode_byte (poll_of r s).order) r ≡ None
     → TakesIn via h (command_bytes (poll_of r s)) (watching a r s) (told_now via h s)
 polled_match {K} via a h told r s small m found e =
     let c = poll_of r s in

@@ -62,9 +62,10 @@ commands_cut via rs place l =
     ∙ ap (λ cs. commands (waiting_on via front) ++ cs) (on_append via (record_at rs place ∷ []) back))
 
 -- and after a step
-commands_after : (via : Connection) (k : Block) (d : Drive) (rs : List Record) (place : ℕ) → let r = record_at rs place in
-    commands (waiting_on via (waiting_after k d rs place)) ≡ commands (waiting_on via (take place rs))
-    ++ (commands (waiting_on via (remains r (end_given k d r))) ++ commands (waiting_on via (drop (place + 1) rs)))
+commands_after : (via : Connection) (k : Block) (d : Drive) (rs : List Record) (place : ℕ)
+    → let r = record_at rs place in commands (waiting_on via (waiting_after k d rs place))
+    ≡ commands (waiting_on via (take place rs)) ++ (commands (waiting_on via (remains r (end_given k d r)))
+    ++ commands (waiting_on via (drop (place + 1) rs)))
 commands_after via k d rs place =
     let r = record_at rs place in
     let front = take place rs in

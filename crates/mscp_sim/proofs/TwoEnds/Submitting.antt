@@ -34,7 +34,8 @@ asked_or p other = other.items
 -- ---- a command
 
 -- where the host takes the command, so does the controller
-pub record Submits {K : Type 0} (via : Connection) (a : Account) (h : Holdings K) (told : Flight) (c : Command) (sent : List ℕ)
+pub record Submits {K : Type 0} (via : Connection) (a : Account) (h : Holdings K) (told : Flight) (c : Command)
+    (sent : List ℕ)
     (a' : Account) : Type 0 where
   pub message : sent ≡ command_bytes c
   pub left : a' ≡ submitted a c
@@ -43,9 +44,9 @@ pub record Submits {K : Type 0} (via : Connection) (a : Account) (h : Holdings K
   pub taken : answer_to_message via h sent ≡ Ok (taken_as via h (command_of sent))
   pub match : Matches via a' (after_message via h sent) told
 
-submits_when : {K : Type 0} (via : Connection) (a : Account) (h : Holdings K) (told : Flight) (c : Command) (o : Option HostFault)
-    (b : ArrayVec ℕ) (a' : Account) → c.reference < 2 ^ 32 → c.unit < 2 ^ 16 → Matches via a h told
-    → refusal a (opcode_byte c.order) c.reference ≡ o → submits_unless a c o ≡ (Ok b, a')
+submits_when : {K : Type 0} (via : Connection) (a : Account) (h : Holdings K) (told : Flight) (c : Command)
+    (o : Option HostFault) (b : ArrayVec ℕ) (a' : Account) → c.reference < 2 ^ 32 → c.unit < 2 ^ 16
+    → Matches via a h told → refusal a (opcode_byte c.order) c.reference ≡ o → submits_unless a c o ≡ (Ok b, a')
     → Submits via a h told c b.items a'
 submits_when via a h told c (Some fault) b a' r u m o e = absurd (false≢true (ap (λ p. is_ok p.0) e))
 submits_when {K} via a h told c None b a' r u m o e =
@@ -62,10 +63,11 @@ submits_when {K} via a h told c None b a' r u m o e =
           (subst (λ q. Matches via (submitted a c) (after_message via h q) told) (sym message) x.match);
     }
 
-pub submits_match : {K : Type 0} (via : Connection) (a : Account) (h : Holdings K) (told : Flight) (c : Command) (b : ArrayVec ℕ)
-    (a' : Account) → c.reference < 2 ^ 32 → c.unit < 2 ^ 16 → Matches via a h told → submits a c ≡ (Ok b, a')
-    → Submits via a h told c b.items a'
-submits_match via a h told c b a' r u m e = submits_when via a h told c (refusal a (opcode_byte c.order) c.reference) b a' r u m
+pub submits_match : {K : Type 0} (via : Connection) (a : Account) (h : Holdings K) (told : Flight) (c : Command)
+    (b : ArrayVec ℕ) (a' : Account) → c.reference < 2 ^ 32 → c.unit < 2 ^ 16 → Matches via a h told
+    → submits a c ≡ (Ok b, a') → Submits via a h told c b.items a'
+submits_match via a h told c b a' r u m e = submits_when via a h told c
+    (refusal a (opcode_byte c.order) c.reference) b a' r u m
     refl e
 
 -- where it doesn't, nothing changes
@@ -81,7 +83,8 @@ submits_kept a c fault a' e = kept_when a c (refusal a (opcode_byte c.order) c.r
 -- ---- a poll
 
 -- where the host asks, the controller takes its poll
-pub record Asks {K : Type 0} (via : Connection) (a : Account) (h : Holdings K) (r : ℕ) (sent : List ℕ) (a' : Account) : Type 0 where
+pub record Asks {K : Type 0} (via : Connection) (a : Account) (h : Holdings K) (r : ℕ) (sent : List ℕ)
+    (a' : Account) : Type 0 where
   pub about : Submission
   pub oldest : oldest a ≡ Some about
   pub idle : is_some a.watch ≡ false
@@ -99,9 +102,10 @@ record MayAsk {K : Type 0} (via : Connection) (a : Account) (h : Holdings K) (r 
   pub idle : is_some a.watch ≡ false
   pub oldest : oldest a ≡ Some s
 
-asks_when : {K : Type 0} (via : Connection) (a : Account) (h : Holdings K) (r : ℕ) (s : Submission) (o : Option HostFault) (b : ArrayVec ℕ)
-    (a' : Account) → MayAsk via a h r s → refusal a (opcode_byte (poll_of r s).order) r ≡ o
-    → asks_unless a r s o ≡ (Ok (polls.Ask b), a') → Asks via a h r b.items a'
+asks_when : {K : Type 0} (via : Connection) (a : Account) (h : Holdings K) (r : ℕ) (s : Submission)
+    (o : Option HostFault) (b : ArrayVec ℕ) (a' : Account) → MayAsk via a h r s
+    → refusal a (opcode_byte (poll_of r s).order) r ≡ o → asks_unless a r s o ≡ (Ok (polls.Ask b), a')
+    → Asks via a h r b.items a'
 asks_when via a h r s (Some fault) b a' x o e = absurd (false≢true (ap (λ p. is_ok p.0) e))
 asks_when {K} via a h r s None b a' x o e =
     let c = poll_of r s in
@@ -121,21 +125,21 @@ asks_when {K} via a h r s None b a' x o e =
           (subst (λ q. Matches via (watching a r s) (after_message via h q) (told_now via h s)) (sym message) y.match);
     }
 
-asks_of : {K : Type 0} (via : Connection) (a : Account) (h : Holdings K) (r : ℕ) (s : Option Submission) (b : ArrayVec ℕ) (a' : Account)
-    → r < 2 ^ 32 → MatchOn via a h → is_some a.watch ≡ false → oldest a ≡ s → asks a r s ≡ (Ok (polls.Ask b), a')
-    → Asks via a h r b.items a'
+asks_of : {K : Type 0} (via : Connection) (a : Account) (h : Holdings K) (r : ℕ) (s : Option Submission)
+    (b : ArrayVec ℕ) (a' : Account) → r < 2 ^ 32 → MatchOn via a h → is_some a.watch ≡ false → oldest a ≡ s
+    → asks a r s ≡ (Ok (polls.Ask b), a') → Asks via a h r b.items a'
 asks_of via a h r None b a' l m w f e = absurd (false≢true (ap (λ p. is_ask p.0) e))
 asks_of via a h r (Some s) b a' l m w f e = asks_when via a h r s (refusal a (opcode_byte (poll_of r s).order) r) b a'
     (record { small = l; match = m; idle = w; oldest = f }) refl e
 
-asks_idle : {K : Type 0} (via : Connection) (a : Account) (h : Holdings K) (r : ℕ) (q : Bool) (b : ArrayVec ℕ) (a' : Account) → r < 2 ^ 32
-    → MatchOn via a h → is_some a.watch ≡ q → (if q then (Ok polls.Busy, a) else asks a r (oldest a)) ≡ (Ok (polls.Ask b), a')
-    → Asks via a h r b.items a'
+asks_idle : {K : Type 0} (via : Connection) (a : Account) (h : Holdings K) (r : ℕ) (q : Bool) (b : ArrayVec ℕ)
+    (a' : Account) → r < 2 ^ 32 → MatchOn via a h → is_some a.watch ≡ q
+    → (if q then (Ok polls.Busy, a) else asks a r (oldest a)) ≡ (Ok (polls.Ask b), a') → Asks via a h r b.items a'
 asks_idle via a h r true b a' l m w e = absurd (false≢true (ap (λ p. is_ask p.0) e))
 asks_idle via a h r false b a' l m w e = asks_of via a h r (oldest a) b a' l m w refl e
 
-pub asks_match : {K : Type 0} (via : Connection) (a : Account) (h : Holdings K) (r : ℕ) (b : ArrayVec ℕ) (a' : Account) → r < 2 ^ 32
-    → MatchOn via a h → polls_oldest a r ≡ (Ok (polls.Ask b), a') → Asks via a h r b.items a'
+pub asks_match : {K : Type 0} (via : Connection) (a : Account) (h : Holdings K) (r : ℕ) (b : ArrayVec ℕ) (a' : Account)
+    → r < 2 ^ 32 → MatchOn via a h → polls_oldest a r ≡ (Ok (polls.Ask b), a') → Asks via a h r b.items a'
 asks_match via a h r b a' l m e = asks_idle via a h r (is_some a.watch) b a' l m refl e
 
 -- where it doesn't, nothing changes

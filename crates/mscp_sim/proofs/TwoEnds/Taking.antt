@@ -26,8 +26,8 @@ none_of : (o : Option End) → end_of o ≡ None → o ≡ None
 none_of None e = refl
 none_of (Some x) e = absurd (true≢false (ap is_some e))
 
-none_when : {K : Type 0} (via : Connection) (a : Account) (h : Holdings K) (told : Flight) (us : List End) → (of via h.untaken) ≡ us
-    → end_taken via h ≡ None → Matches via a h told → Matches via a (after_take via h) told
+none_when : {K : Type 0} (via : Connection) (a : Account) (h : Holdings K) (told : Flight) (us : List End)
+    → of via h.untaken ≡ us → end_taken via h ≡ None → Matches via a h told → Matches via a (after_take via h) told
 none_when {K} via a h told [] u e m =
     let same : put via (drop 1 (of via h.untaken)) h.untaken ≡ h.untaken =
     ap (λ xs. put via (drop 1 xs) h.untaken) u
@@ -36,21 +36,23 @@ none_when {K} via a h told [] u e m =
 none_when via a h told (x ∷ us) u e m = absurd (true≢false
     (ap is_some (ap (λ xs. slice_get xs 0) (sym u) ∙ none_of (slice_get (of via h.untaken) 0) e)))
 
-pub taken_none : {K : Type 0} (via : Connection) (a : Account) (h : Holdings K) (told : Flight) → end_taken via h ≡ None → Matches via a h told
-    → Matches via a (after_take via h) told
+pub taken_none : {K : Type 0} (via : Connection) (a : Account) (h : Holdings K) (told : Flight) → end_taken via h ≡ None
+    → Matches via a h told → Matches via a (after_take via h) told
 taken_none via a h told e m = none_when via a h told (of via h.untaken) refl e m
 
 -- the end that was handed over
-pub record Handed {K : Type 0} (via : Connection) (a : Account) (h : Holdings K) (told : Flight) (b : List ℕ) : Type 0 where
+pub record Handed {K : Type 0} (via : Connection) (a : Account) (h : Holdings K) (told : Flight)
+    (b : List ℕ) : Type 0 where
   pub end : End
   pub rest : List End
-  pub untaken : (of via h.untaken) ≡ end ∷ rest
+  pub untaken : of via h.untaken ≡ end ∷ rest
   pub heard : heard a b ≡ (Ok (news_with a end (answered a.watch end)), received a end)
   pub match : Matches via (received a end) (after_take via h) told
 
-some_when : {K : Type 0} (via : Connection) (a : Account) (h : Holdings K) (told : Flight) (us : List End) (b : ArrayVec ℕ)
-    → (of via h.untaken) ≡ us → end_taken via h ≡ Some b → ((e : End) → slice_get (of via h.untaken) 0 ≡ Some e → IsEnd b.items e)
-    → Matches via a h told → Handed via a h told b.items
+some_when : {K : Type 0} (via : Connection) (a : Account) (h : Holdings K) (told : Flight) (us : List End)
+    (b : ArrayVec ℕ) → of via h.untaken ≡ us → end_taken via h ≡ Some b
+    → ((e : End) → slice_get (of via h.untaken) 0 ≡ Some e → IsEnd b.items e) → Matches via a h told
+    → Handed via a h told b.items
 some_when via a h told [] b u e r m = absurd (false≢true (ap is_some (ap (λ xs. end_of (slice_get xs 0)) (sym u) ∙ e)))
 some_when {K} via a h told (x ∷ us) b u e r m =
     record {
@@ -58,18 +60,20 @@ some_when {K} via a h told (x ∷ us) b u e r m =
       rest = us;
       untaken = u;
       heard = first_heard via a h told x us b.items m u (r x (ap (λ xs. slice_get xs 0) u));
-      match = subst (λ xs. Matches via (received a x) (record h { untaken = put via xs h.untaken }) told) (ap (drop 1) (sym u))
+      match = subst (λ xs. Matches via (received a x) (record h { untaken = put via xs h.untaken }) told)
+          (ap (drop 1) (sym u))
           (received_match via a h told x us m u);
     }
 
-pub taken_some : {K : Type 0} (via : Connection) (a : Account) (h : Holdings K) (told : Flight) (b : ArrayVec ℕ) → end_taken via h ≡ Some b
-    → ((e : End) → slice_get (of via h.untaken) 0 ≡ Some e → IsEnd b.items e) → Matches via a h told → Handed via a h told b.items
+pub taken_some : {K : Type 0} (via : Connection) (a : Account) (h : Holdings K) (told : Flight) (b : ArrayVec ℕ)
+    → end_taken via h ≡ Some b → ((e : End) → slice_get (of via h.untaken) 0 ≡ Some e → IsEnd b.items e)
+    → Matches via a h told → Handed via a h told b.items
 taken_some via a h told b e r m = some_when via a h told (of via h.untaken) b refl e r m
 
 -- what is left where that was returned
 pub handed_on : {K : Type 0} (via : Connection) (a a' : Account) (h h' : Holdings K) (told : Flight) (b : List ℕ)
-    (r : Result News HostFault) (n : News) → Handed via a h told b → (r, a') ≡ heard a b → r ≡ Ok n → h' ≡ after_take via h
-    → (heard a b ≡ (Ok n, a')) × Matches via a' h' told
+    (r : Result News HostFault) (n : News) → Handed via a h told b → (r, a') ≡ heard a b → r ≡ Ok n
+    → h' ≡ after_take via h → (heard a b ≡ (Ok n, a')) × Matches via a' h' told
 handed_on {K} via a a' h h' told b r n x e o k =
     let left : a' ≡ received a x.end = ap (λ p. p.1) (e ∙ x.heard) in (
       sym e ∙ ap (λ q. (q, a')) o,

@@ -32,7 +32,7 @@ use Rattle.mscp_sim.specs.Conversing.{Converses, AnswersTurn, Says}
 use Rattle.mscp_sim.specs.TwoEnds.{AreTwoEnds, IsHeard, Stands}
 use Rattle.mscp_sim.proofs.TwoEnds.Asking.{poll_turn}
 use Rattle.mscp_sim.proofs.TwoEnds.Between.{Known, never_reset, never_stands}
-use Rattle.mscp_sim.proofs.TwoEnds.News.{take_turn}
+use Rattle.mscp_sim.proofs.TwoEnds.Taken.{take_turn}
 use Rattle.mscp_sim.proofs.TwoEnds.Outstanding.{both_true, found_below}
 use Rattle.mscp_sim.proofs.TwoEnds.Talking.{GoesTo, Kept}
 use Rattle.mscp_sim.proofs.TwoEnds.Tracing.{answered_calls, calls_of, entries_of, events_of, history_of, zipped}

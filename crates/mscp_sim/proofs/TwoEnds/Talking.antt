@@ -16,8 +16,9 @@ use Rattle.mscp_sim.specs.Matches.{Match}
 use Rattle.mscp_sim.specs.Talks.{Said, Talk, trace_of}
 use Rattle.mscp_sim.specs.Conversing.{Converses, Goes, GoesOn, AnswersTurn, Says}
 
-converses_push : {K : Type 0} (picks : List Choice → ℕ → Type 0) (a m a' : Both Account) (h n h' : Holdings K) (talk : Talk)
-    (s : Said) → Converses picks a h talk m n → Says picks m n s a' h' → Converses picks a h (talk ++ s ∷ []) a' h'
+converses_push : {K : Type 0} (picks : List Choice → ℕ → Type 0) (a m a' : Both Account) (h n h' : Holdings K)
+    (talk : Talk) (s : Said) → Converses picks a h talk m n → Says picks m n s a' h'
+    → Converses picks a h (talk ++ s ∷ []) a' h'
 converses_push {K} picks a m a' h n h' [] s r one =
     let both : Says picks a h s a' h' = subst (λ (x : Both Account). Says picks x h s a' h') r.0
     (subst (λ (y : Holdings K). Says picks m y s a' h') r.1 one) in

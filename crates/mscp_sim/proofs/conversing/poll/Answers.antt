@@ -45,7 +45,8 @@ returns-in-Ok-Nothing g c =
     let hosts = c.args.hosts.now in
     let a = of via hosts in
     let kept = (polls_oldest a c.args.reference).1 in
-    let answer : (polls_oldest a c.args.reference).0 ≡ Ok polls.Nothing = sym c.poll.ensures.answer ∙ (c.in-Ok-Nothing.is ∙ ap Ok c.in-Ok-Nothing.field-0-is) in
+    let answer : (polls_oldest a c.args.reference).0 ≡ Ok polls.Nothing = sym c.poll.ensures.answer
+    ∙ (c.in-Ok-Nothing.is ∙ ap Ok c.in-Ok-Nothing.field-0-is) in
     let left = c.poll.ensures.after ∙ (ap (λ y. put via y hosts)
     (polled_kept a c.args.reference (Ok polls.Nothing) kept refl (λ i. (answer i, kept))) ∙ put_own via hosts) in (
       ((rw answer (refl, refl), c.poll.ensures.after), refl, c.fit.ensures.reference),
@@ -58,7 +59,8 @@ returns-in-Ok-Busy g c =
     let hosts = c.args.hosts.now in
     let a = of via hosts in
     let kept = (polls_oldest a c.args.reference).1 in
-    let answer : (polls_oldest a c.args.reference).0 ≡ Ok polls.Busy = sym c.poll.ensures.answer ∙ (c.in-Ok-Busy.is ∙ ap Ok c.in-Ok-Busy.field-0-is) in
+    let answer : (polls_oldest a c.args.reference).0 ≡ Ok polls.Busy = sym c.poll.ensures.answer
+    ∙ (c.in-Ok-Busy.is ∙ ap Ok c.in-Ok-Busy.field-0-is) in
     let left = c.poll.ensures.after ∙ (ap (λ y. put via y hosts)
     (polled_kept a c.args.reference (Ok polls.Busy) kept refl (λ i. (answer i, kept))) ∙ put_own via hosts) in (
       ((rw answer (refl, refl), c.poll.ensures.after), refl, c.fit.ensures.reference),
