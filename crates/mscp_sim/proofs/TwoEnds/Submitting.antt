@@ -7,6 +7,8 @@ use Rattle.arrayvec.specs.ArrayVec.{ArrayVec}
 use Rattle.mscp_packet.specs.declared.command.Command.{Command}
 use Rattle.mscp_packet.specs.Commands.{command_bytes, command_of, opcode_byte}
 use Rattle.mscp_queue.specs.declared.name.Connection.{Connection}
+use Rattle.mscp_control.specs.declared.event.Sent.{Sent}
+use Rattle.mscp_control.specs.declared.event.SendFault.{SendFault}
 use Rattle.mscp_control.specs.Holdings.{Holdings, after_message, answer_to_message, taken_as}
 use Rattle.mscp_host.specs.declared.news.HostFault.{HostFault}
 use Rattle.mscp_host.specs.declared.news.Poll.{Poll}
@@ -30,6 +32,11 @@ is_ask p = false
 abbrev asked_or : Result Poll HostFault → ArrayVec ℕ → List ℕ
 asked_or (Ok (polls.Ask b)) other = b.items
 asked_or p other = other.items
+
+-- a message that is taken in isn't refused
+pub not_refused : {K : Type 0} (via : Connection) (h : Holdings K) (b c : List ℕ) (r : Result Sent SendFault)
+    (sent : Sent) → r ≡ answer_to_message via h b → b ≡ c → answer_to_message via h c ≡ Ok sent → is_ok r ≡ true
+not_refused via h b c r sent e same taken = ap is_ok (e ∙ (ap (answer_to_message via h) same ∙ taken))
 
 -- ---- a command
 

@@ -10,7 +10,7 @@ use Rattle.mscp_sim.specs.Matches.{Match}
 use Rattle.mscp_sim.proofs.TwoEnds.Matched.{message_match}
 use Rattle.mscp_sim.proofs.TwoEnds.Sides.{put_own}
 use Rattle.mscp_sim.proofs.TwoEnds.Sending.{told_now}
-use Rattle.mscp_sim.proofs.TwoEnds.Submitting.{asks_match, polled_kept}
+use Rattle.mscp_sim.proofs.TwoEnds.Submitting.{asks_match, not_refused, polled_kept}
 use Rattle.mscp_sim.proofs.conversing.poll.Goals as goal
 
 pub unreachable-requires : goal.unreachable-requires
@@ -22,9 +22,8 @@ unreachable-requires g c =
     sym c.poll.ensures.answer ∙ (c.in-Ok-Ask.is ∙ ap Ok c.in-Ok-Ask.field-0-is) in
     let x = asks_match via a c.args.controller.now c.args.reference c.in-Ok-Ask.message kept c.fit.ensures.reference
     (c.requires via) (λ i. (ask i, kept)) in
-    let answer = c.send.ensures.answer
-    ∙ (ap (answer_to_message via c.args.controller.now) c.deref.ensures.0 ∙ x.taken) in
-    absurd (false≢true (ap is_ok (sym c.in-Err-send.is ∙ answer)))
+    absurd (false≢true (ap is_ok (sym c.in-Err-send.is)
+    ∙ not_refused via c.args.controller.now _ _ _ _ c.send.ensures.answer c.deref.ensures.0 x.taken))
 
 pub returns-in-Err : goal.returns-in-Err
 returns-in-Err g c =

@@ -8,7 +8,7 @@ use Rattle.mscp_host.specs.Accounts.{Account, submits}
 use Rattle.mscp_sim.specs.Matches.{Match}
 use Rattle.mscp_sim.proofs.TwoEnds.Matched.{message_match}
 use Rattle.mscp_sim.proofs.TwoEnds.Sides.{put_own}
-use Rattle.mscp_sim.proofs.TwoEnds.Submitting.{submits_kept, submits_match}
+use Rattle.mscp_sim.proofs.TwoEnds.Submitting.{not_refused, submits_kept, submits_match}
 use Rattle.mscp_sim.proofs.conversing.submit.Goals as goal
 
 pub unreachable-requires : goal.unreachable-requires
@@ -21,9 +21,8 @@ unreachable-requires g c =
     let told = c.requires via in
     let x = submits_match via a c.args.controller.now told.0 c.args.command.now c.in-Ok.message kept
     c.fit.ensures.reference c.fit.ensures.unit told.1 e in
-    let answer = c.send.ensures.answer
-    ∙ (ap (answer_to_message via c.args.controller.now) c.deref.ensures.0 ∙ x.taken) in
-    absurd (false≢true (ap is_ok (sym c.in-Err-send.is ∙ answer)))
+    absurd (false≢true (ap is_ok (sym c.in-Err-send.is)
+    ∙ not_refused via c.args.controller.now _ _ _ _ c.send.ensures.answer c.deref.ensures.0 x.taken))
 
 pub returns-in-Err : goal.returns-in-Err
 returns-in-Err g c =
