@@ -1,12 +1,17 @@
--- A host and a controller that talk: what each keeps of the other, and what the talk so far says of both.
+-- Two hosts and a controller that talk: what each keeps of the others, and what the talk so far says of all. What is
+-- said of a host is said of its connection, and a turn of the other leaves it as it was.
 pub mod Counting
 pub mod Codes
+pub mod Sides
 pub mod Matching
 pub mod Serving
+pub mod Arriving
+pub mod Foreign
 pub mod Handing
 pub mod Sending
 pub mod Taking
 pub mod Submitting
+pub mod Matched
 pub mod Talking
 pub mod Outstanding
 pub mod Accounting
@@ -16,8 +21,12 @@ pub mod Received
 pub mod Polling
 pub mod Tracing
 pub mod Turning
+pub mod Sent
 pub mod Asking
 pub mod News
+pub mod Taken
+pub mod Figured
 pub mod Between
 pub mod Talked
 mod Worked
+mod Paired

@@ -1,5 +1,5 @@
--- One turn after the other, and what host and controller keep and hold then. The functions of `conversing` that aren't
--- public are told by these.
+-- One turn after the other, and what the hosts and the controller keep and hold then. The functions of `conversing`
+-- that aren't public are told by these.
 use Rattle.std.specs.Prelude.{◌≡◌, ℕ, ◌<◌, ◌^◌, List, [], ◌∷◌, ◌++◌, map, slice_get, Option, Some, None}
 use Rattle.arrayvec.specs.ArrayVec.{ArrayVec}
 use Rattle.mscp_packet.specs.declared.end.End.{End}
@@ -7,6 +7,7 @@ use Rattle.mscp_packet.specs.Ends.{IsEnd}
 use Rattle.mscp_queue.specs.declared.view.Choice.{Choice}
 use Rattle.mscp_control.specs.declared.event.Event.TheVariants as events
 use Rattle.mscp_control.specs.declared.event.Entry.TheVariants as entries
+use Rattle.mscp_control.specs.Both.{Both, of}
 use Rattle.mscp_control.specs.History.{Moment, Trace}
 use Rattle.mscp_control.specs.Holdings.{Answers, Holdings}
 use Rattle.mscp_host.specs.Accounts.{Account}
@@ -24,34 +25,34 @@ AnswersTurn picks old (Some moment) new = Answers picks old moment.0 moment.1 ne
 
 -- the numbers of a turn fit their types, and the bytes of an end that is handed over are a message of it
 abbrev pub IsSound : {K : Type 0} → Holdings K → Turn → Option Moment → Type 0
-IsSound h (turns.Submit command) moment = (command.reference < 2 ^ 32) × (command.unit < 2 ^ 16)
-IsSound h (turns.Poll reference) moment = reference < 2 ^ 32
+IsSound h (turns.Submit via command) moment = (command.reference < 2 ^ 32) × (command.unit < 2 ^ 16)
+IsSound h (turns.Poll via reference) moment = reference < 2 ^ 32
 IsSound h (turns.Step k) moment = Unit {0}
-IsSound h turns.Take moment =
-    (b : ArrayVec ℕ) (end : End) → moment ≡ Some (events.Take, entries.Taken (Some b))
-    → slice_get h.untaken 0 ≡ Some end → IsEnd b.items end
+IsSound h (turns.Take via) moment =
+    (b : ArrayVec ℕ) (end : End) → moment ≡ Some (events.Take via, entries.Taken via (Some b))
+    → slice_get (of via h.untaken) 0 ≡ Some end → IsEnd b.items end
 
--- what is said in this turn, and what host and controller keep and hold then
+-- what is said in this turn, and what the hosts and the controller keep and hold then
 abbrev pub Says : {K : Type 0}
-    → (List Choice → ℕ → Type 0) → Account → Holdings K → Said → Account → Holdings K → Type 0
+    → (List Choice → ℕ → Type 0) → Both Account → Holdings K → Said → Both Account → Holdings K → Type 0
 Says picks a h s a' h' = IsHeard a s.turn s a' × AnswersTurn picks h s.moment h' × IsSound h s.turn s.moment
 
 -- the same in one turn, of which this was returned: what was heard, and the moment
 abbrev pub Goes : {K : Type 0} → (List Choice → ℕ → Type 0)
-    → Account → Holdings K → Turn → Heard × Option Moment → Account → Holdings K → Type 0
+    → Both Account → Holdings K → Turn → Heard × Option Moment → Both Account → Holdings K → Type 0
 Goes picks a h turn told a' h' =
     Says picks a h (record { turn = turn; heard = told.0; moment = told.1 }) a' h' × Match a' h'
 
 -- one turn after the other
 abbrev pub Converses : {K : Type 0}
-    → (List Choice → ℕ → Type 0) → Account → Holdings K → Talk → Account → Holdings K → Type 0
+    → (List Choice → ℕ → Type 0) → Both Account → Holdings K → Talk → Both Account → Holdings K → Type 0
 Converses picks a h [] a' h' = (a' ≡ a) × (h' ≡ h)
 Converses {K} picks a h (s ∷ talk) a' h' =
-    (next : Account) × (left : Holdings K) × Says picks a h s next left × Converses picks next left talk a' h'
+    (next : Both Account) × (left : Holdings K) × Says picks a h s next left × Converses picks next left talk a' h'
 
 -- these turns go on so, and the lists of what was heard and of the trace grow by that
-pub record GoesOn {K : Type 0} (picks : List Choice → ℕ → Type 0) (a : Account) (h : Holdings K) (ts : List Turn)
-    (old new : List Heard × Trace) (a' : Account) (h' : Holdings K) : Type 0 where
+pub record GoesOn {K : Type 0} (picks : List Choice → ℕ → Type 0) (a : Both Account) (h : Holdings K) (ts : List Turn)
+    (old new : List Heard × Trace) (a' : Both Account) (h' : Holdings K) : Type 0 where
   pub talk : Talk
   pub turns : map (λ s. s.turn) talk ≡ ts
   pub heard : new.0 ≡ old.0 ++ map (λ s. s.heard) talk

@@ -1,4 +1,5 @@
--- What a host and a controller keep of each other, as long as each message and each end comes through.
+-- What the host of a connection and a controller keep of each other, as long as each message and each end comes
+-- through.
 use Rattle.std.specs.Prelude.{◌≡◌, ℕ, ◌+◌, ◌<◌, ◌≤◌, ◌^◌, Bool, true, false, nat_eq, if◌then◌else◌, List, [], ◌∷◌, ◌++◌, length, map, find, Option, Some, None, option_map}
 use Rattle.std.specs.List.{AllByRecursion, list_any}
 use Rattle.mscp_packet.specs.declared.end.End.{End}
@@ -8,7 +9,10 @@ use Rattle.mscp_packet.specs.declared.command.Command.{Command}
 use Rattle.mscp_packet.specs.declared.command.Order.{Order}
 use Rattle.mscp_queue.specs.Orders.{endcode}
 use Rattle.mscp_queue.specs.Records.{Record}
-use Rattle.mscp_control.specs.Holdings.{Holdings, outstanding_of}
+use Rattle.mscp_queue.specs.declared.name.Connection.{Connection}
+use Rattle.mscp_control.specs.Both.{Both, of}
+use Rattle.mscp_control.specs.Settings.{credits_of}
+use Rattle.mscp_control.specs.Holdings.{Holdings, outstanding_of, waiting_on}
 use Rattle.mscp_host.specs.declared.submission.Submission.{Submission}
 use Rattle.mscp_host.specs.declared.watch.Watch.{Watch}
 use Rattle.mscp_host.specs.Accounts.{Account, has_reference, is_code_of, status_end}
@@ -68,16 +72,22 @@ abbrev pub HasFlight : List End → Option Watch → Flight → Type 0
 HasFlight untaken None flight = Unit {0}
 HasFlight untaken (Some w) flight = IsFlight untaken w flight
 
--- what the host has outstanding is what waits at the controller, or was ended by it and not taken
-pub record Matches {K : Type 0} (a : Account) (h : Holdings K) (told : Flight) : Type 0 where
-  pub credits : a.credits ≡ h.settings.credits
-  pub many : length a.outstanding ≡ length h.waiting + length h.untaken
-  pub same : (reference : ℕ) → times reference (references a.outstanding) ≡ times reference (outstanding_of h)
-  pub once : (reference : ℕ) → times reference (outstanding_of h) ≤ 1
+-- what the host of a connection has outstanding is what waits at the controller by that connection, or was ended by it
+-- and not taken
+pub record Matches {K : Type 0} (via : Connection) (a : Account) (h : Holdings K) (told : Flight) : Type 0 where
+  pub credits : a.credits ≡ credits_of h.settings via
+  pub many : length a.outstanding ≡ length (waiting_on via h.waiting) + length (of via h.untaken)
+  pub same : (reference : ℕ) → times reference (references a.outstanding) ≡ times reference (outstanding_of via h)
+  pub once : (reference : ℕ) → times reference (outstanding_of via h) ≤ 1
   pub small : AllByRecursion IsSmall a.outstanding
-  pub waits : AllByRecursion (IsKnown a.outstanding) (commands h.waiting)
-  pub ends : AllByRecursion (IsAwaited a.outstanding) h.untaken
-  pub flight : HasFlight h.untaken a.watch told
+  pub waits : AllByRecursion (IsKnown a.outstanding) (commands (waiting_on via h.waiting))
+  pub ends : AllByRecursion (IsAwaited a.outstanding) (of via h.untaken)
+  pub flight : HasFlight (of via h.untaken) a.watch told
 
-abbrev pub Match : {K : Type 0} → Account → Holdings K → Type 0
-Match a h = (told : Flight) × Matches a h told
+-- whatever the poll in flight is told
+abbrev pub MatchOn : {K : Type 0} → Connection → Account → Holdings K → Type 0
+MatchOn via a h = (told : Flight) × Matches via a h told
+
+-- the same of the hosts of both
+abbrev pub Match : {K : Type 0} → Both Account → Holdings K → Type 0
+Match both h = (via : Connection) → MatchOn via (of via both) h

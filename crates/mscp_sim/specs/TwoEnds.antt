@@ -1,12 +1,14 @@
--- What is promised of a host and a controller that talk.
+-- What is promised of two hosts and a controller that talk.
 use Rattle.std.specs.Prelude.{◌≡◌, ◌≢◌, ◌↔◌, ℕ, ◌+◌, ◌<◌, ◌≤◌, true, List, length, map, Option, Some, None, Result, Ok, Err}
 use Rattle.arrayvec.specs.ArrayVec.{ArrayVec}
+use Rattle.mscp_queue.specs.declared.name.Connection.{Connection}
 use Rattle.mscp_queue.specs.declared.report.Report.{Report}
 use Rattle.mscp_queue.specs.declared.view.Choice.{Choice}
 use Rattle.mscp_control.specs.declared.event.Sent.{Sent}
 use Rattle.mscp_control.specs.declared.event.Event.TheVariants as events
 use Rattle.mscp_control.specs.declared.event.Entry.TheVariants as entries
 use Rattle.mscp_control.specs.Settings.{Settings}
+use Rattle.mscp_control.specs.Both.{Both, of, put}
 use Rattle.mscp_control.specs.History.{Trace}
 use Rattle.mscp_control.specs.Headline.{Promise}
 use Rattle.mscp_control.specs.Legal.{IsLegal, IsPicked}
@@ -21,76 +23,77 @@ use Rattle.mscp_sim.specs.declared.conversing.Turn.{Turn}
 use Rattle.mscp_sim.specs.declared.conversing.Turn.TheVariants as turns
 use Rattle.mscp_sim.specs.declared.conversing.Heard.{Heard}
 use Rattle.mscp_sim.specs.declared.conversing.Heard.TheVariants as hears
-use Rattle.mscp_sim.specs.Talks.{Said, Talk, account_at, asks_about, handed_over, is_outstanding, last_answer, said, figure_told, trace_of}
+use Rattle.mscp_sim.specs.Talks.{Said, Talk, accounts_at, asks_about, handed_over, is_outstanding, last_answer, said, figure_told, trace_of}
 
 -- ---- one turn
 
--- the host said this, and nothing came to the controller
+-- a host said this, and nothing came to the controller
 abbrev pub IsKeptBack : Said → Heard → Type 0
 IsKeptBack s told = (s.heard ≡ told) × (s.moment ≡ None)
 
--- this message came to the controller, which took it in as that
-abbrev pub IsSent : Said → ArrayVec ℕ → Sent → Type 0
-IsSent s message sent = s.moment ≡ Some (events.Send message, entries.Sent (Ok sent))
+-- this message of a connection came to the controller, which took it in as that
+abbrev pub IsSent : Connection → Said → ArrayVec ℕ → Sent → Type 0
+IsSent via s message sent = s.moment ≡ Some (events.Send via message, entries.Sent via (Ok sent))
 
 -- what is heard where the host answers so to a command that is to be submitted (manual, "Flow Control")
-abbrev pub IsSubmitted : Said → Result (ArrayVec ℕ) HostFault → Type 0
-IsSubmitted s (Err fault) = IsKeptBack s (hears.Refused fault)
-IsSubmitted s (Ok message) = (sent : Sent) × (s.heard ≡ hears.Submitted sent) × IsSent s message sent
+abbrev pub IsSubmitted : Connection → Said → Result (ArrayVec ℕ) HostFault → Type 0
+IsSubmitted via s (Err fault) = IsKeptBack s (hears.Refused fault)
+IsSubmitted via s (Ok message) = (sent : Sent) × (s.heard ≡ hears.Submitted sent) × IsSent via s message sent
 
 -- and to a poll (manual, "Host Command Timeouts"; one at a time is the profile's)
-abbrev pub IsPolled : Said → Result Poll HostFault → Type 0
-IsPolled s (Err fault) = IsKeptBack s (hears.Refused fault)
-IsPolled s (Ok polls.Nothing) = IsKeptBack s hears.Nothing
-IsPolled s (Ok polls.Busy) = IsKeptBack s hears.Busy
-IsPolled s (Ok (polls.Ask message)) = (sent : Sent) × (s.heard ≡ hears.Asked) × IsSent s message sent
+abbrev pub IsPolled : Connection → Said → Result Poll HostFault → Type 0
+IsPolled via s (Err fault) = IsKeptBack s (hears.Refused fault)
+IsPolled via s (Ok polls.Nothing) = IsKeptBack s hears.Nothing
+IsPolled via s (Ok polls.Busy) = IsKeptBack s hears.Busy
+IsPolled via s (Ok (polls.Ask message)) = (sent : Sent) × (s.heard ≡ hears.Asked) × IsSent via s message sent
 
 -- what is heard of an end that is handed over, or of none, and what the host keeps then
 abbrev pub IsHanded : Account → Option (ArrayVec ℕ) → Heard → Account → Type 0
 IsHanded old None told new = (told ≡ hears.Quiet) × (new ≡ old)
 IsHanded old (Some b) told new = (news : News) × (told ≡ hears.News news) × (heard old b.items ≡ (Ok news, new))
 
--- what is heard in this turn by a host that keeps this, and what it keeps then: the rules of a host. The controller
--- refuses nothing that the host sends, and the host refuses no end (profile)
-abbrev pub IsHeard : Account → Turn → Said → Account → Type 0
-IsHeard old (turns.Submit command) s new =
-    IsSubmitted s (submits old command).0 × (new ≡ (submits old command).1)
-IsHeard old (turns.Poll reference) s new = IsPolled s (polls_oldest old reference).0
-    × (new ≡ (polls_oldest old reference).1)
+-- what is heard in this turn, where the hosts keep this, and what they keep then: the rules of a host, and the other
+-- host keeps what it kept. The controller refuses nothing that a host sends, and no host refuses an end (profile)
+abbrev pub IsHeard : Both Account → Turn → Said → Both Account → Type 0
+IsHeard old (turns.Submit via command) s new =
+    IsSubmitted via s (submits (of via old) command).0 × (new ≡ put via (submits (of via old) command).1 old)
+IsHeard old (turns.Poll via reference) s new = IsPolled via s (polls_oldest (of via old) reference).0
+    × (new ≡ put via (polls_oldest (of via old) reference).1 old)
 IsHeard old (turns.Step k) s new =
     (report : Report) × (s.heard ≡ hears.Stepped report)
     × (s.moment ≡ Some (events.Step k, entries.Stepped report)) × (new ≡ old)
-IsHeard old turns.Take s new =
-    (end : Option (ArrayVec ℕ)) × (s.moment ≡ Some (events.Take, entries.Taken end)) × IsHanded old end s.heard new
+IsHeard old (turns.Take via) s new =
+    (end : Option (ArrayVec ℕ)) × (kept : Account) × (s.moment ≡ Some (events.Take via, entries.Taken via end))
+    × IsHanded (of via old) end s.heard kept × (new ≡ put via kept old)
 
 -- ---- what is promised
 
 -- an answer stands still: turn j hands over the end of a poll of a command that is still outstanding, an earlier poll
--- of that command was answered, and the number is no lower than then (profile)
-pub record Stands (c : Settings) (talk : Talk) (j : ℕ) : Type 0 where
+-- of that command was answered, and the number is no lower than then. All are of this connection (profile)
+pub record Stands (c : Settings) (via : Connection) (talk : Talk) (j : ℕ) : Type 0 where
   pub poll : ℕ
   pub command : ℕ
   pub last : ℕ
-  pub handed : handed_over talk j ≡ Some poll
-  pub about : asks_about talk command poll ≡ true
-  pub outstanding : is_outstanding talk j command ≡ true
-  pub told : last_answer c talk j command ≡ Some last
-  pub not_less : last ≤ figure_told c talk poll
+  pub handed : handed_over via talk j ≡ Some poll
+  pub about : asks_about via talk command poll ≡ true
+  pub outstanding : is_outstanding via talk j command ≡ true
+  pub told : last_answer c via talk j command ≡ Some last
+  pub not_less : last ≤ figure_told c via talk poll
 
 -- the turn is a step
 abbrev pub IsStepTurn : Turn → Type 0
 IsStepTurn (turns.Step block) = Unit {0}
 IsStepTurn turn = ⊥
 
--- a step lies between turn q and each poll about the command i that came before it (profile)
-abbrev pub StepsSincePolls : Talk → ℕ → ℕ → Type 0
-StepsSincePolls talk i q =
-    (p : ℕ) → p < q → asks_about talk i p ≡ true → (k : ℕ) × (p < k) × (k < q) × IsStepTurn (said talk k).turn
+-- a step lies between turn q and each poll of this connection about the command i that came before it (profile)
+abbrev pub StepsSincePolls : Connection → Talk → ℕ → ℕ → Type 0
+StepsSincePolls via talk i q =
+    (p : ℕ) → p < q → asks_about via talk i p ≡ true → (k : ℕ) × (p < k) × (k < q) × IsStepTurn (said talk k).turn
 
 -- a step lies between any two polls about one command (profile)
 abbrev pub StepsBetweenPolls : Talk → Type 0
 StepsBetweenPolls talk =
-    (i q : ℕ) → q < length talk → asks_about talk i q ≡ true → StepsSincePolls talk i q
+    (via : Connection) (i q : ℕ) → q < length talk → asks_about via talk i q ≡ true → StepsSincePolls via talk i q
 
 -- what is promised of a talk of these turns in which this was heard, and of the controller's trace
 pub record AreTwoEnds (picks : List Choice → ℕ → Type 0) (c : Settings) (ts : List Turn) (hs : List Heard) (t : Trace) :
@@ -108,17 +111,18 @@ pub record AreTwoEnds (picks : List Choice → ℕ → Type 0) (c : Settings) (t
   pub picked : IsPicked c picks t
   -- where the picker sweeps, it is the one of least cost, and of those the oldest (profile)
   pub swept : Sweeps picks → IsSweeping c t
-  -- what is heard in each turn is what the rules of a host say of what it keeps then. The controller refuses nothing,
-  -- and the host refuses no end (profile)
-  pub says : (j : ℕ) → j < length talk → IsHeard (account_at c talk j) (said talk j).turn (said talk j)
-      (account_at c talk (j + 1))
-  -- Reset is said exactly where the answer stands (profile)
-  pub resets : (j : ℕ) → j < length talk → ((said talk j).heard ≡ hears.News news.Reset) ↔ Stands c talk j
+  -- what is heard in each turn is what the rules of a host say of what the hosts keep then. The controller refuses
+  -- nothing, and no host refuses an end (profile)
+  pub says : (j : ℕ) → j < length talk → IsHeard (accounts_at c talk j) (said talk j).turn (said talk j)
+      (accounts_at c talk (j + 1))
+  -- Reset is said exactly where the answer of one connection or of the other stands (profile)
+  pub resets : (j : ℕ) → j < length talk
+      → ((said talk j).heard ≡ hears.News news.Reset) ↔ ((via : Connection) × Stands c via talk j)
   -- Lost is never said (profile)
   pub no_lost : (j : ℕ) → j < length talk → (said talk j).heard ≢ hears.News news.Lost
   -- Reset isn't said of the answer to a poll where a step lies between it and each one before about its command
   -- (profile)
-  pub falls : (j i q : ℕ) → j < length talk → handed_over talk j ≡ Some q → asks_about talk i q ≡ true
-      → StepsSincePolls talk i q → (said talk j).heard ≢ hears.News news.Reset
+  pub falls : (via : Connection) (j i q : ℕ) → j < length talk → handed_over via talk j ≡ Some q
+      → asks_about via talk i q ≡ true → StepsSincePolls via talk i q → (said talk j).heard ≢ hears.News news.Reset
   -- and so it is never said where a step lies between any two polls about one command (profile)
   pub no_reset : StepsBetweenPolls talk → (j : ℕ) → j < length talk → (said talk j).heard ≢ hears.News news.Reset

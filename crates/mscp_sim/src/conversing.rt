@@ -1,7 +1,8 @@
-// A host and a controller that talk.
+// Two hosts and a controller that talk.
 
 ghost use Rattle.std.specs.Prelude.{◌≡◌, ℕ, ◌+◌, ◌<◌, ◌≤◌, ◌^◌, [], ◌∷◌, ◌++◌, length, option_to_list, Some, IfOk};
 ghost use Rattle.mscp_control.specs.Settings.{IsValid};
+ghost use Rattle.mscp_control.specs.Both.{Both};
 ghost use Rattle.mscp_host.specs.Accounts.{Account};
 ghost use Rattle.mscp_sim.specs.Conversing.{Goes, GoesOn};
 ghost use Rattle.mscp_sim.specs.TwoEnds.{AreTwoEnds};
@@ -11,26 +12,27 @@ ghost use Rattle.mscp_sim.specs.Rooms.{HasRoom};
 #[cfg(test)]
 mod tests;
 
+use crate::hosts::Hosts;
 use arrayvec::ArrayVec;
 use mscp_control::{
-    Block, Config, Controller, Entry, Event, OutOfMemory, Picker, Report, Sent,
+    Block, Config, Connection, Controller, Entry, Event, OutOfMemory, Picker, Report, Sent,
     controllers_keep_the_promise, runs_keep_the_promise,
 };
-use mscp_host::{Host, HostFault, News, Poll};
+use mscp_host::{HostFault, News, Poll};
 use mscp_packet::Command;
 use std::alloc::Global;
 
 /// What comes next in a talk.
 #[derive(Clone, Copy, Debug, PartialEq, Eq)]
 pub enum Turn {
-    /// The host submits this command, and its message comes to the controller.
-    Submit(Command),
-    /// The host polls its oldest command that isn't answered when it arrives, under this reference number.
-    Poll(u32),
+    /// The connection's host submits this command, and its message comes to the controller.
+    Submit(Connection, Command),
+    /// It polls its oldest command that isn't answered when it arrives, under this reference number.
+    Poll(Connection, u32),
     /// The controller serves one block, with this outcome.
     Step(Block),
-    /// The host is handed the controller's oldest end.
-    Take,
+    /// The connection's host is handed the oldest end that the controller has for it.
+    Take(Connection),
 }
 
 /// What is heard in a turn.
@@ -61,14 +63,14 @@ pub struct Talk {
     pub trace: Vec<(Event, Entry)>,
 }
 
-/// A message of at most 48 bytes in the room of an event.
-fn event_of(message: &[u8]) -> Event
+/// A message of at most 48 bytes of a connection in the room of an event.
+fn event_of(connection: Connection, message: &[u8]) -> Event
     requires { length message.now ≤ 64 }
-    ensures { result ≡ Event.Send (record { items = message.now }) }
+    ensures { result ≡ Event.Send connection (record { items = message.now }) }
 {
     let mut all = ArrayVec::new();
     all.try_extend_from_slice(message).unwrap();
-    Event::Send(all)
+    Event::Send(connection, all)
 }
 
 /// A reference number and a unit number fit their types.
@@ -79,66 +81,84 @@ fn fit(reference: u32, unit: u16)
     let _ = (reference, unit);
 }
 
-/// The host submits a command, and its message comes to the controller.
+/// The connection's host submits a command, and its message comes to the controller.
 fn submit<K: Picker>(
-    host: &mut Host,
+    hosts: &mut Hosts,
     controller: &mut Controller<K>,
+    connection: Connection,
     command: &Command,
 ) -> (Heard, Option<(Event, Entry)>)
-    requires { Match host.old controller.old }
-    ensures { Goes (K.picks controller.old.picker) host.old controller.old (Turn.Submit command.now) result host.new controller.new }
+    requires { Match hosts.old controller.old }
+    ensures { Goes (K.picks controller.old.picker) hosts.old controller.old (Turn.Submit connection command.now) result
+        hosts.new controller.new }
 {
     fit(command.reference, command.unit);
-    match host.submit(command) {
+    match hosts.submit(connection, command) {
         Err(fault) => (Heard::Refused(fault), None),
-        Ok(message) => match controller.send(&message) {
+        Ok(message) => match controller.send(connection, &message) {
             Ok(sent) => (
                 Heard::Submitted(sent),
-                Some((event_of(&message), Entry::Sent(Ok(sent)))),
+                Some((
+                    event_of(connection, &message),
+                    Entry::Sent(connection, Ok(sent)),
+                )),
             ),
             Err(_) => unreachable!(),
         },
     }
 }
 
-/// The host polls its oldest command, and the poll comes to the controller.
+/// The connection's host polls its oldest command, and the poll comes to the controller.
 fn poll<K: Picker>(
-    host: &mut Host,
+    hosts: &mut Hosts,
     controller: &mut Controller<K>,
+    connection: Connection,
     reference: u32,
 ) -> (Heard, Option<(Event, Entry)>)
-    requires { Match host.old controller.old }
-    ensures { Goes (K.picks controller.old.picker) host.old controller.old (Turn.Poll reference) result host.new controller.new }
+    requires { Match hosts.old controller.old }
+    ensures { Goes (K.picks controller.old.picker) hosts.old controller.old (Turn.Poll connection reference) result
+        hosts.new controller.new }
 {
     fit(reference, 0);
-    match host.poll(reference) {
+    match hosts.poll(connection, reference) {
         Err(fault) => (Heard::Refused(fault), None),
         Ok(Poll::Nothing) => (Heard::Nothing, None),
         Ok(Poll::Busy) => (Heard::Busy, None),
-        Ok(Poll::Ask(message)) => match controller.send(&message) {
+        Ok(Poll::Ask(message)) => match controller.send(connection, &message) {
             Ok(sent) => (
                 Heard::Asked,
-                Some((event_of(&message), Entry::Sent(Ok(sent)))),
+                Some((
+                    event_of(connection, &message),
+                    Entry::Sent(connection, Ok(sent)),
+                )),
             ),
             Err(_) => unreachable!(),
         },
     }
 }
 
-/// The host is handed the controller's oldest end, if there is one.
+/// The connection's host is handed the oldest end that the controller has for it, if there is one.
 fn hand_over<K: Picker>(
-    host: &mut Host,
+    hosts: &mut Hosts,
     controller: &mut Controller<K>,
+    connection: Connection,
 ) -> (Heard, Option<(Event, Entry)>)
-    requires { Match host.old controller.old }
-    ensures { Goes (K.picks controller.old.picker) host.old controller.old Turn.Take result host.new controller.new }
+    requires { Match hosts.old controller.old }
+    ensures { Goes (K.picks controller.old.picker) hosts.old controller.old (Turn.Take connection) result hosts.new
+        controller.new }
 {
-    match controller.take() {
-        None => (Heard::Quiet, Some((Event::Take, Entry::Taken(None)))),
-        Some(bytes) => match host.receive(&bytes) {
+    match controller.take(connection) {
+        None => (
+            Heard::Quiet,
+            Some((Event::Take(connection), Entry::Taken(connection, None))),
+        ),
+        Some(bytes) => match hosts.receive(connection, &bytes) {
             Ok(news) => (
                 Heard::News(news),
-                Some((Event::Take, Entry::Taken(Some(bytes)))),
+                Some((
+                    Event::Take(connection),
+                    Entry::Taken(connection, Some(bytes)),
+                )),
             ),
             Err(_) => unreachable!(),
         },
@@ -155,10 +175,10 @@ fn told_of_step(block: &Block, report: &Report) -> (Heard, Option<(Event, Entry)
     )
 }
 
-/// The controller serves one block, with this outcome. The host has no part in it.
+/// The controller serves one block, with this outcome. The hosts have no part in it.
 fn step<K: Picker>(controller: &mut Controller<K>, block: Block) -> (Heard, Option<(Event, Entry)>)
-    ensures { (host : Account) → Match host controller.old
-        → Goes (K.picks controller.old.picker) host controller.old (Turn.Step block) result host controller.new }
+    ensures { (hosts : Both Account) → Match hosts controller.old
+        → Goes (K.picks controller.old.picker) hosts controller.old (Turn.Step block) result hosts controller.new }
 {
     let report = controller.step(block);
     told_of_step(&block, &report)
@@ -166,18 +186,18 @@ fn step<K: Picker>(controller: &mut Controller<K>, block: Block) -> (Heard, Opti
 
 /// What is heard in a turn, and what came to the controller and what it answered, if something came.
 fn hear<K: Picker>(
-    host: &mut Host,
+    hosts: &mut Hosts,
     controller: &mut Controller<K>,
     turn: Turn,
 ) -> (Heard, Option<(Event, Entry)>)
-    requires { Match host.old controller.old }
-    ensures { Goes (K.picks controller.old.picker) host.old controller.old turn result host.new controller.new }
+    requires { Match hosts.old controller.old }
+    ensures { Goes (K.picks controller.old.picker) hosts.old controller.old turn result hosts.new controller.new }
 {
     match turn {
-        Turn::Submit(command) => submit(host, controller, &command),
-        Turn::Poll(reference) => poll(host, controller, reference),
+        Turn::Submit(connection, command) => submit(hosts, controller, connection, &command),
+        Turn::Poll(connection, reference) => poll(hosts, controller, connection, reference),
         Turn::Step(block) => step(controller, block),
-        Turn::Take => hand_over(host, controller),
+        Turn::Take(connection) => hand_over(hosts, controller, connection),
     }
 }
 
@@ -198,27 +218,29 @@ impl Talk {
 
 /// What is heard in the turns, one after the other. There is room, so it can't fail.
 fn hear_each<K: Picker>(
-    host: &mut Host,
+    hosts: &mut Hosts,
     controller: &mut Controller<K>,
     turns: &[Turn],
     talk: &mut Talk,
 )
-    requires both { Match host.old controller.old }
+    requires both { Match hosts.old controller.old }
     requires room { HasRoom talk.old (length turns.now) }
-    ensures { GoesOn (K.picks controller.old.picker) host.old controller.old turns.now (talk.old.heard.items, talk.old.trace.items)
-        (talk.new.heard.items, talk.new.trace.items) host.new controller.new }
+    ensures { GoesOn (K.picks controller.old.picker) hosts.old controller.old turns.now (talk.old.heard.items, talk.old.trace.items)
+        (talk.new.heard.items, talk.new.trace.items) hosts.new controller.new }
 {
     for turn in turns {
-        let (heard, moment) = hear(host, controller, *turn);
+        let (heard, moment) = hear(hosts, controller, *turn);
         talk.keep(heard, moment);
     }
 }
 
-/// A new host talks with a new controller, which has as many credits as the host: one thing is heard in each turn. Each
-/// message of the host comes to the controller at once, and a take hands the controller's oldest end to the host. Whatever
-/// the picker picks, the controller refuses no message, and the host no end; it says Reset exactly where the answer of a
-/// poll stands, never where a step lies between any two polls about one command, and it never says Lost. Memory is asked
-/// for before the first turn, and nothing is heard where it is refused.
+/// New hosts talk with a new controller, one on each connection, with as many credits as the connection has: one thing
+/// is heard in each turn. Where there is no second connection its host has no credit: it refuses each command, has
+/// nothing to poll, and hears of no end. Each message of a host comes to the controller at once, and a take hands the
+/// oldest end that the controller has for a connection to its host. Whatever the picker picks, the controller refuses no
+/// message, and no host an end; a host says Reset exactly where the answer of a poll stands, never where a step lies
+/// between any two polls about one command, and it never says Lost. Memory is asked for before the first turn, and
+/// nothing is heard where it is refused.
 pub fn converse<K: Picker + Drop>(
     alloc: Global,
     config: Config,
@@ -231,14 +253,12 @@ pub fn converse<K: Picker + Drop>(
 {
     controllers_keep_the_promise(&picker);
     runs_keep_the_promise(&picker);
-    let Ok(mut host) = Host::new(config.credits()) else {
-        unreachable!();
-    };
+    let mut hosts = Hosts::new(&config);
     let mut controller = Controller::new(config, picker);
     let mut talk = Talk {
         heard: Vec::with_capacity(alloc, turns.len())?,
         trace: Vec::with_capacity(alloc, turns.len())?,
     };
-    hear_each(&mut host, &mut controller, turns, &mut talk);
+    hear_each(&mut hosts, &mut controller, turns, &mut talk);
     Ok(talk)
 }

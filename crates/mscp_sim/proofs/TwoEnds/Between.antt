@@ -1,31 +1,31 @@
 -- Where a step lies between two polls about one command, the second is told less.
-use Rattle.std.proofs.Common.{◌≡◌, ◌⊎◌, inl, inr, ⊎_elim, ℕ, zero, suc, ◌+◌, ◌-◌, ◌<◌, ◌≤◌, Bool, true, false, cond, List, [], ◌∷◌, ◌++◌, take, length, refl, ap, sym, ◌∙◌, subst, arith, append-nil}
-use Rattle.std.specs.Prelude.{find, flat_map, nat_eq, nat_lt, not, ◌&&◌, ◌||◌, Contains, Option, Some, None, is_some, option_to_list, unwrap_or}
+use Rattle.std.proofs.Common.{◌≡◌, inl, inr, ⊎_elim, ℕ, zero, suc, ◌+◌, ◌-◌, ◌<◌, ◌≤◌, Bool, true, false, cond, List, [], ◌∷◌, ◌++◌, take, length, refl, ap, sym, ◌∙◌, subst, arith, append-nil}
+use Rattle.std.specs.Prelude.{flat_map, nat_eq, nat_lt, not, ◌&&◌, ◌||◌, Option, Some, None, is_some, option_to_list, unwrap_or}
 use Rattle.std.specs.List.{AllByRecursion, list_any}
 use Rattle.std.proofs.Math.Bool.{and-false, or-true}
 use Rattle.std.proofs.lemmas.Bool.{cases_eq, cases_lt, eqb-true, false≢true, true≢false}
 use Rattle.std.proofs.lemmas.Bool.Decides.{nat_tests}
-use Rattle.std.proofs.lemmas.List.{length-append, take_all}
-use Rattle.std.proofs.Math.Seq.{take-append_seam}
-use Rattle.mscp_packet.specs.declared.command.Command.{Command}
-use Rattle.mscp_queue.specs.declared.name.Connection.TheVariants.{First}
-use Rattle.mscp_queue.specs.Names.{name_on}
+use Rattle.mscp_queue.specs.declared.name.Connection.{Connection}
+use Rattle.mscp_queue.specs.declared.name.Name.{Name}
+use Rattle.mscp_queue.specs.Names.{name_on, same_connection}
+use Rattle.mscp_queue.proofs.Named.{own_side}
 use Rattle.mscp_control.specs.Settings.{Settings}
-use Rattle.mscp_control.specs.History.{Moment, Trace, is_step, moment, queues}
-use Rattle.mscp_control.specs.Commands.{ends_in, is_waiting, name, reference, sent_command, waiting}
-use Rattle.mscp_control.specs.Figures.{figure, figure_found, figure_of}
+use Rattle.mscp_control.specs.History.{Moment, Trace, connection_of, is_step, queues}
+use Rattle.mscp_control.specs.Both.{Both}
+use Rattle.mscp_control.proofs.Promise.Sides.{queues_by}
+use Rattle.mscp_control.specs.Commands.{sent_command}
+use Rattle.mscp_control.specs.Figures.{figure, figure_of}
 use Rattle.mscp_control.specs.Headline.{Promise}
 use Rattle.mscp_control.specs.declared.event.Event.TheVariants as events
 use Rattle.mscp_control.specs.declared.event.Entry.TheVariants as entries
-use Rattle.mscp_control.proofs.Promise.Grows.{command_before, command_last, is_waiting_before, is_waiting_last, moment_last}
-use Rattle.mscp_control.proofs.Promise.Waits.{cut, waiting_waits, waits_below}
 use Rattle.mscp_host.specs.Accounts.{Account}
 use Rattle.mscp_queue.proofs.Placed.{found_is}
 use Rattle.mscp_sim.specs.declared.conversing.Turn.{Turn}
 use Rattle.mscp_sim.specs.declared.conversing.Turn.TheVariants as turns
 use Rattle.mscp_sim.specs.Talks as talks
-use Rattle.mscp_sim.specs.Talks.{Talk, account_at, answers_of, is_asked, asks_about, before, handed_over, hands_over, is_ended, is_it, is_outstanding, last_of, outstanding, asked_for, reference_found, said, sends, figure_told, trace_of}
+use Rattle.mscp_sim.specs.Talks.{Talk, accounts_at, answers_of, is_asked, asks_about, before, handed_over, hands_over, is_ended, is_it, is_outstanding, last_of, outstanding, asked_for, reference_found, said, sends, figure_told, trace_of}
 use Rattle.mscp_sim.specs.TwoEnds.{IsHeard, IsStepTurn, Stands, StepsSincePolls}
+use Rattle.mscp_sim.proofs.TwoEnds.Figured.{AtMost, contains_waiting, most_moment, part_of, waits_at}
 use Rattle.mscp_sim.proofs.TwoEnds.Outstanding.{any_more, before_below, both_true, found_below, found_stands}
 use Rattle.mscp_sim.proofs.TwoEnds.Receiving.{found_all, outstanding_found}
 use Rattle.mscp_sim.proofs.TwoEnds.Singled.{any_before, none_found}
@@ -43,34 +43,36 @@ AllKnown c talk = (i : ℕ) → i < length talk → Known c talk i
 -- ---- where the last answer came from
 
 -- the turn k handed over the end of the poll p about the command i, which was told l
-record Came (c : Settings) (talk : Talk) (j i l : ℕ) : Type 0 where
+record Came (c : Settings) (via : Connection) (talk : Talk) (j i l : ℕ) : Type 0 where
   pub turn : ℕ
   pub poll : ℕ
   pub early : turn < j
-  pub handed : handed_over talk turn ≡ Some poll
-  pub about : asks_about talk i poll ≡ true
-  pub told : figure_told c talk poll ≡ l
+  pub handed : handed_over via talk turn ≡ Some poll
+  pub about : asks_about via talk i poll ≡ true
+  pub told : figure_told c via talk poll ≡ l
 
-came_from : (c : Settings) (talk : Talk) (j i l : ℕ) (ks : List ℕ) → AllByRecursion (λ k. k < j) ks
-    → last_of (flat_map (λ k. answers_of c talk i (handed_over talk k)) ks) ≡ Some l → Came c talk j i l
-came_from c talk j i l [] h e = absurd (false≢true (ap is_some e))
-came_from c talk j i l (k ∷ ks) h e =
-    let rest = flat_map (λ k. answers_of c talk i (handed_over talk k)) ks in
-    let Goal : Option ℕ → Type 0 = λ o. handed_over talk k ≡ o → last_of (answers_of c talk i o ++ rest) ≡ Some l
-    → Came c talk j i l in
+came_from : (c : Settings) (via : Connection) (talk : Talk) (j i l : ℕ) (ks : List ℕ) → AllByRecursion (λ k. k < j) ks
+    → last_of (flat_map (λ k. answers_of c via talk i (handed_over via talk k)) ks) ≡ Some l → Came c via talk j i l
+came_from c via talk j i l [] h e = absurd (false≢true (ap is_some e))
+came_from c via talk j i l (k ∷ ks) h e =
+    let rest = flat_map (λ k. answers_of c via talk i (handed_over via talk k)) ks in
+    let Goal : Option ℕ → Type 0 = λ o. handed_over via talk k ≡ o → last_of (answers_of c via talk i o ++ rest)
+    ≡ Some l
+    → Came c via talk j i l in
     let of : (o : Option ℕ) → Goal o =
     λ o. elim o as Goal [
-      | None ↦ λ q f. came_from c talk j i l ks h.1 f
+      | None ↦ λ q f. came_from c via talk j i l ks h.1 f
       | Some p ↦ λ q.
-          let when : (b : Bool) → asks_about talk i p ≡ b
-          → last_of (cond b (figure_told c talk p ∷ []) [] ++ rest) ≡ Some l → Came c talk j i l =
-          λ b. elim b as (λ b. asks_about talk i p ≡ b
-          → last_of (cond b (figure_told c talk p ∷ []) [] ++ rest) ≡ Some l → Came c talk j i l) [
-            | false ↦ λ a f. came_from c talk j i l ks h.1 f
+          let when : (b : Bool) → asks_about via talk i p ≡ b
+          → last_of (cond b (figure_told c via talk p ∷ []) [] ++ rest) ≡ Some l → Came c via talk j i l =
+          λ b. elim b as (λ b. asks_about via talk i p ≡ b
+          → last_of (cond b (figure_told c via talk p ∷ []) [] ++ rest) ≡ Some l → Came c via talk j i l) [
+            | false ↦ λ a f. came_from c via talk j i l ks h.1 f
             | true ↦ λ a.
-                let tail : (ys : List ℕ) → rest ≡ ys → last_of (figure_told c talk p ∷ ys) ≡ Some l
-                → Came c talk j i l =
-                λ ys. elim ys as (λ ys. rest ≡ ys → last_of (figure_told c talk p ∷ ys) ≡ Some l → Came c talk j i l) [
+                let tail : (ys : List ℕ) → rest ≡ ys → last_of (figure_told c via talk p ∷ ys) ≡ Some l
+                → Came c via talk j i l =
+                λ ys. elim ys as (λ ys. rest ≡ ys → last_of (figure_told c via talk p ∷ ys) ≡ Some l
+                    → Came c via talk j i l) [
                   | [] ↦ λ r f. record {
                     turn = k;
                     poll = p;
@@ -80,13 +82,13 @@ came_from c talk j i l (k ∷ ks) h e =
                     told =
                         ap (λ o. unwrap_or o l) f;
                   }
-                  | y ∷ ys ↦ λ r f. came_from c talk j i l ks h.1 (ap last_of r ∙ f)
+                  | y ∷ ys ↦ λ r f. came_from c via talk j i l ks h.1 (ap last_of r ∙ f)
                 ] in
                 tail rest refl
           ] in
-          when (asks_about talk i p) refl
+          when (asks_about via talk i p) refl
     ] in
-    of (handed_over talk k) refl e
+    of (handed_over via talk k) refl e
 
 -- ---- what was outstanding
 
@@ -95,19 +97,23 @@ weaker_and true true q e = e
 weaker_and true false q e = refl
 weaker_and false p q e = e
 
-stood_one : (talk : Talk) (m i : ℕ) → is_outstanding talk (m + 1) i ≡ true → is_outstanding talk m i ≡ true
-stood_one talk m i e =
-    weaker_and (sends (said talk i).heard) (list_any (is_ended talk i) (before m)) (is_ended talk i m)
-    (sym (ap (λ b. sends (said talk i).heard && not b) (any_more talk m i)) ∙ e)
+stood_one : (via : Connection) (talk : Talk) (m i : ℕ) → is_outstanding via talk (m + 1) i ≡ true
+    → is_outstanding via talk m i ≡ true
+stood_one via talk m i e =
+    weaker_and (sends via (said talk i)) (list_any (is_ended via talk i) (before m)) (is_ended via talk i m)
+    (sym (ap (λ b. sends via (said talk i) && not b) (any_more via talk m i)) ∙ e)
 
-stood_by : (talk : Talk) (m i d : ℕ) → is_outstanding talk (m + d) i ≡ true → is_outstanding talk m i ≡ true
-stood_by talk m i zero e = let same : m + 0 ≡ m = omega arith in subst (λ k. is_outstanding talk k i ≡ true) same e
-stood_by talk m i (suc d) e = let same : m + suc d ≡ m + d + 1 = omega arith in
-    stood_by talk m i d (stood_one talk (m + d) i (subst (λ k. is_outstanding talk k i ≡ true) same e))
+stood_by : (via : Connection) (talk : Talk) (m i d : ℕ) → is_outstanding via talk (m + d) i ≡ true
+    → is_outstanding via talk m i ≡ true
+stood_by via talk m i zero e = let same : m + 0
+    ≡ m = omega arith in subst (λ k. is_outstanding via talk k i ≡ true) same e
+stood_by via talk m i (suc d) e = let same : m + suc d ≡ m + d + 1 = omega arith in
+    stood_by via talk m i d (stood_one via talk (m + d) i (subst (λ k. is_outstanding via talk k i ≡ true) same e))
 
-stood : (talk : Talk) (m j i : ℕ) → m ≤ j → is_outstanding talk j i ≡ true → is_outstanding talk m i ≡ true
-stood talk m j i l e = let same : j ≡ m + (j - m) = omega (arith, l) in
-    stood_by talk m i (j - m) (subst (λ k. is_outstanding talk k i ≡ true) same e)
+stood : (via : Connection) (talk : Talk) (m j i : ℕ) → m ≤ j → is_outstanding via talk j i ≡ true
+    → is_outstanding via talk m i ≡ true
+stood via talk m j i l e = let same : j ≡ m + (j - m) = omega (arith, l) in
+    stood_by via talk m i (j - m) (subst (λ k. is_outstanding via talk k i ≡ true) same e)
 
 any_there : (q : ℕ → Bool) (xs : List ℕ) (k : ℕ) → q k ≡ true → list_any (λ x. nat_eq x k) xs ≡ true
     → list_any q xs ≡ true
@@ -122,256 +128,181 @@ any_there q (x ∷ xs) k e h =
     out (nat_eq x k) refl h
 
 -- a command whose end was handed over is outstanding no more
-gone : (talk : Talk) (j k p : ℕ) → k < j → handed_over talk k ≡ Some p → is_outstanding talk j p ≡ false
-gone talk j k p l e =
-    let below = found_below talk k p _ e in
+gone : (via : Connection) (talk : Talk) (j k p : ℕ) → k < j → handed_over via talk k ≡ Some p
+    → is_outstanding via talk j p ≡ false
+gone via talk j k p l e =
+    let below = found_below via talk k p _ e in
     let after : nat_lt p k ≡ true = grind (arith, nat_tests, below) in
-    let handed : hands_over (talks.reference talk p) (said talk k).moment ≡ true =
-    found_is (λ i. hands_over (talks.reference talk i) (said talk k).moment) (outstanding talk k) p e in
-    let own : is_ended talk p k ≡ true = (λ i. after i && handed i) in
-    ap (λ b. sends (said talk p).heard && not b) (any_there (is_ended talk p) (before j) k own (any_before k j l))
-    ∙ and-false (sends (said talk p).heard)
+    let handed : hands_over via (talks.reference talk p) (said talk k).moment ≡ true =
+    found_is (λ i. hands_over via (talks.reference talk i) (said talk k).moment) (outstanding via talk k) p e in
+    let own : is_ended via talk p k ≡ true = (λ i. after i && handed i) in
+    ap (λ b. sends via (said talk p) && not b) (any_there (is_ended via talk p) (before j) k own (any_before k j l))
+    ∙ and-false (sends via (said talk p))
 
 -- ---- the first poll came first
 
 -- turn k hands over the end of the poll p
-record EndsPoll (talk : Talk) (k p : ℕ) : Type 0 where
-  pub handed : handed_over talk k ≡ Some p
-  pub asked : is_asked (said talk p).heard ≡ true
+record EndsPoll (via : Connection) (talk : Talk) (k p : ℕ) : Type 0 where
+  pub handed : handed_over via talk k ≡ Some p
+  pub asked : is_asked via (said talk p) ≡ true
 
-order_of : (c : Settings) (talk : Talk) (j k p q : ℕ) → AllKnown c talk → j < length talk → k < j
-    → EndsPoll talk k p → EndsPoll talk j q → p < q
-order_of c talk j k p q known l m first second =
-    let pk : p < k = found_below talk k p _ first.handed in
-    let qj : q < j = found_below talk j q _ second.handed in
-    let stands = found_stands talk j q _ second.handed in
+order_of : (c : Settings) (via : Connection) (talk : Talk) (j k p q : ℕ) → AllKnown c talk → j < length talk → k < j
+    → EndsPoll via talk k p → EndsPoll via talk j q → p < q
+order_of c via talk j k p q known l m first second =
+    let pk : p < k = found_below via talk k p _ first.handed in
+    let qj : q < j = found_below via talk j q _ second.handed in
+    let stands = found_stands via talk j q _ second.handed in
     ⊎_elim
     (λ less. less)
     (λ more. ⊎_elim
-    (λ same. absurd (true≢false (sym stands ∙ (ap (is_outstanding talk j) (sym same)
-    ∙ gone talk j k p m first.handed))))
+    (λ same. absurd (true≢false (sym stands ∙ (ap (is_outstanding via talk j) (sym same)
+    ∙ gone via talk j k p m first.handed))))
     (λ other.
     let less : q < p = omega (arith, more, other) in
-    let there = outstanding_found talk p q (stood talk p j q (omega (arith, pk, m)) stands) less in
-    let idle = (known p (omega (arith, pk, m, l))).tells.idle first.asked in
-    let silent = found_all (λ x. is_asked (said talk x).heard ≡ false) _ (outstanding talk p) q
-    (none_found (λ x. is_asked (said talk x).heard) (outstanding talk p) idle) there in
+    let there = outstanding_found via talk p q (stood via talk p j q (omega (arith, pk, m)) stands) less in
+    let idle = ((known p (omega (arith, pk, m, l))).tells.on via).idle first.asked in
+    let silent = found_all (λ x. is_asked via (said talk x) ≡ false) _ (outstanding via talk p) q
+    (none_found (λ x. is_asked via (said talk x)) (outstanding via talk p) idle) there in
     absurd (true≢false (sym second.asked ∙ silent)))
     (cases_eq p q))
     (cases_lt p q)
 
 -- ---- figures
 
-contains_in : (A : List ℕ) (x : ℕ) (B : List ℕ) → Contains (A ++ x ∷ B) x
-contains_in [] x B = (0, omega arith, refl)
-contains_in (a ∷ A) x B = let rest = contains_in A x B in let l = rest.1 in (suc rest.0, omega (arith, l), rest.2)
-
-contains_waiting : (t : Trace) (x : ℕ) → is_waiting t x ≡ true → Contains (waiting t) x
-contains_waiting t x w = let k = cut t x (waits_below t x w) w in
-    subst (λ xs. Contains xs x) (sym k.2.is) (contains_in k.0 x k.1)
-
--- no figure of a waiting command of this number is over g
-abbrev AtMost : Settings → Trace → ℕ → ℕ → Type 0
-AtMost c t n g = (x : ℕ) → is_waiting t x ≡ true → reference t x ≡ n → figure c t x ≤ g
+-- the name of the command i of a connection
+abbrev own_name : Connection → Talk → ℕ → Name
+own_name via talk i = name_on via (talks.reference talk i)
 
 abbrev trace_at : Talk → ℕ → Trace
 trace_at talk m = trace_of (take m talk)
 
--- what each part of a promised trace has
-part_of : (c : Settings) (t u : Trace) → Promise c (t ++ u) → (x : ℕ) → Contains (waiting t) x
-    → figure_of c t (name t x) ≡ figure c t x
-part_of c t u p x w =
-    let inside : length t ≤ length (t ++ u) = let l = length-append t u in omega (arith, l) in
-    subst (λ v. (x : ℕ) → Contains (waiting v) x → figure_of c v (name v x) ≡ figure c v x) (take-append_seam t u)
-    (p.own (length t) inside) x w
-
-first_most : (c : Settings) (talk : Talk) (p n : ℕ) → AllKnown c talk → p < length talk
-    → AtMost c (trace_at talk p) n (figure_of c (trace_at talk p) (name_on First n))
+first_most : (c : Settings) (talk : Talk) (p : ℕ) (n : Name) → AllKnown c talk → p < length talk
+    → AtMost c (trace_at talk p) n (figure_of c (trace_at talk p) n)
 first_most c talk p n known l x w r =
     let t = trace_at talk p in
     let promise = subst (Promise c) (trace_more talk p l) (known p l).promise in
     let own = part_of c t (option_to_list (said talk p).moment) promise x (contains_waiting t x w) in
-    let same : figure_of c t (name_on First n) ≡ figure c t x =
-    ap (λ k. figure_of c t (name_on First k)) (sym r) ∙ own in
+    let same : figure_of c t n ≡ figure c t x = ap (figure_of c t) (sym r) ∙ own in
     omega (arith, same)
-
--- the promise at its last moment
-never_rises_at : (c : Settings) (t : Trace) (m : Moment) → Promise c (t ++ m ∷ []) → (x : ℕ) → Contains (waiting t) x
-    → figure c (t ++ m ∷ []) x ≤ figure c t x
-never_rises_at c t m p x w =
-    let size : length (t ++ m ∷ []) ≡ length t + 1 = length-append t (m ∷ []) in
-    let all : take (length t + 1) (t ++ m ∷ []) ≡ t ++ m ∷ [] =
-    take_all (length t + 1) (t ++ m ∷ []) (omega (arith, size)) in
-    subst (λ v. figure c v x ≤ figure c t x) all
-    (subst (λ v. (y : ℕ) → Contains (waiting v) y → figure c (take (length t + 1) (t ++ m ∷ [])) y ≤ figure c v y)
-    (take-append_seam t (m ∷ [])) (p.never_rises (length t) (omega (arith, size))) x w)
-
-falls_at : (c : Settings) (t : Trace) (m : Moment) → Promise c (t ++ m ∷ []) → is_step m.0 ≡ true → (x : ℕ)
-    → Contains (waiting t) x → figure c (t ++ m ∷ []) x < figure c t x
-falls_at c t m p s x w =
-    let size : length (t ++ m ∷ []) ≡ length t + 1 = length-append t (m ∷ []) in
-    let all : take (length t + 1) (t ++ m ∷ []) ≡ t ++ m ∷ [] =
-    take_all (length t + 1) (t ++ m ∷ []) (omega (arith, size)) in
-    let step : is_step (moment (t ++ m ∷ []) (length t)).0 ≡ true =
-    ap (λ (n : Moment). is_step n.0) (moment_last t m) ∙ s in
-    subst (λ v. figure c v x < figure c t x) all
-    (subst (λ v. (y : ℕ) → Contains (waiting v) y → figure c (take (length t + 1) (t ++ m ∷ [])) y < figure c v y)
-    (take-append_seam t (m ∷ [])) (p.falls (length t) (omega (arith, size)) step) x w)
-
--- a moment raises no figure, and a step lowers each
-most_moment : (c : Settings) (t : Trace) (m : Moment) (n g g' : ℕ) → Promise c (t ++ m ∷ [])
-    → (queues m.1 ≡ true → (sent_command m).reference ≡ n → ⊥) → (g' ≡ g) ⊎ ((is_step m.0 ≡ true) × (g' ≡ g - 1))
-    → AtMost c t n g → AtMost c (t ++ m ∷ []) n g'
-most_moment c t m n g g' p new way most x w r =
-    let t' = t ++ m ∷ [] in
-    let number : Command → ℕ = λ k. k.reference in
-    let size : length t' ≡ length t + 1 = length-append t (m ∷ []) in
-    let inside : x < length t' = waits_below t' x w in
-    ⊎_elim
-    (λ below.
-    let was : (is_waiting t x && not (ends_in (name t x) m.1)) ≡ true = sym (is_waiting_before t m x below) ∙ w in
-    let waits = (both_true (is_waiting t x) _ was).0 in
-    let named : reference t x ≡ n = sym (ap number (command_before t m x below)) ∙ r in
-    let old = most x waits named in
-    let there = contains_waiting t x waits in
-    let rises = never_rises_at c t m p x there in
-    ⊎_elim (λ same. omega (arith, old, rises, same))
-    (λ step. let falls = falls_at c t m p step.0 x there in let less = step.1 in
-    omega (arith, old, falls, less)) way)
-    (λ beyond.
-    let last : x ≡ length t = omega (arith, beyond, inside, size) in
-    let queued : queues m.1 ≡ true = sym (is_waiting_last t m) ∙ (ap (is_waiting t') (sym last) ∙ w) in
-    absurd (new queued (sym (ap number (command_last t m)) ∙ (ap (reference t') (sym last) ∙ r))))
-    (cases_lt x (length t))
 
 -- ---- from poll to poll
 
 -- the command i is outstanding before turn m, and each turn is known
-record Standing (c : Settings) (talk : Talk) (m i : ℕ) : Type 0 where
+record Standing (c : Settings) (via : Connection) (talk : Talk) (m i : ℕ) : Type 0 where
   pub known : AllKnown c talk
   pub inside : m < length talk
-  pub stands : is_outstanding talk m i ≡ true
+  pub stands : is_outstanding via talk m i ≡ true
 
-sooner : (c : Settings) (talk : Talk) (m q i : ℕ) → m ≤ q → Standing c talk q i → Standing c talk m i
-sooner c talk m q i l s = let inside = s.inside in
-    record { known = s.known; inside = omega (arith, l, inside); stands = stood talk m q i l s.stands }
+sooner : (c : Settings) (via : Connection) (talk : Talk) (m q i : ℕ) → m ≤ q → Standing c via talk q i
+    → Standing c via talk m i
+sooner c via talk m q i l s = let inside = s.inside in
+    record { known = s.known; inside = omega (arith, l, inside); stands = stood via talk m q i l s.stands }
 
-most_same_with : (c : Settings) (talk : Talk) (m i g : ℕ) (o : Option Moment) → Standing c talk m i → i < m
-    → (said talk m).moment ≡ o → AtMost c (trace_at talk m) (talks.reference talk i) g
-    → AtMost c (trace_at talk m ++ option_to_list o) (talks.reference talk i) g
-most_same_with c talk m i g None s b e most =
-    subst (λ t. AtMost c t (talks.reference talk i) g) (sym (append-nil (trace_at talk m))) most
-most_same_with c talk m i g (Some n) s b e most =
+-- what a moment queues has another name than a command that is outstanding
+new_name : (c : Settings) (via : Connection) (talk : Talk) (m i : ℕ) (n : Moment) → Standing c via talk m i → i < m
+    → (said talk m).moment ≡ Some n → queues n.1 ≡ true
+    → name_on (connection_of n.0) (sent_command n).reference ≡ own_name via talk i → ⊥
+new_name c via talk m i n s b e q same =
+    let by : connection_of n.0 ≡ via = ap (λ (k : Name). k.connection) same in
+    let own : queues_by via n ≡ true = (λ i. q i && same_connection (by i) via) ∙ own_side via in
+    ((s.known m s.inside).tells.on via).new n e own i b s.stands (ap (λ (k : Name). k.reference) same)
+
+most_same_with : (c : Settings) (via : Connection) (talk : Talk) (m i g : ℕ) (o : Option Moment)
+    → Standing c via talk m i → i < m → (said talk m).moment ≡ o → AtMost c (trace_at talk m) (own_name via talk i) g
+    → AtMost c (trace_at talk m ++ option_to_list o) (own_name via talk i) g
+most_same_with c via talk m i g None s b e most =
+    subst (λ t. AtMost c t (own_name via talk i) g) (sym (append-nil (trace_at talk m))) most
+most_same_with c via talk m i g (Some n) s b e most =
     let k = s.known m s.inside in
     let promise = subst (λ o. Promise c (trace_at talk m ++ option_to_list o)) e
     (subst (Promise c) (trace_more talk m s.inside) k.promise) in
-    most_moment c (trace_at talk m) n (talks.reference talk i) g g promise (λ q. k.tells.new n e q i b s.stands)
+    most_moment c (trace_at talk m) n (own_name via talk i) g g promise (new_name c via talk m i n s b e)
     (inl refl) most
 
 -- a turn raises no figure of a command that is outstanding
-most_same : (c : Settings) (talk : Talk) (m i g : ℕ) → Standing c talk m i → i < m
-    → AtMost c (trace_at talk m) (talks.reference talk i) g
-    → AtMost c (trace_at talk (m + 1)) (talks.reference talk i) g
-most_same c talk m i g s b most = subst (λ t. AtMost c t (talks.reference talk i) g)
-    (sym (trace_more talk m s.inside)) (most_same_with c talk m i g (said talk m).moment s b refl most)
+most_same : (c : Settings) (via : Connection) (talk : Talk) (m i g : ℕ) → Standing c via talk m i → i < m
+    → AtMost c (trace_at talk m) (own_name via talk i) g
+    → AtMost c (trace_at talk (m + 1)) (own_name via talk i) g
+most_same c via talk m i g s b most = subst (λ t. AtMost c t (own_name via talk i) g)
+    (sym (trace_more talk m s.inside)) (most_same_with c via talk m i g (said talk m).moment s b refl most)
 
-step_moment : (talk : Talk) (m : ℕ) (a a' : Account) (t : Turn) → IsStepTurn t → IsHeard a t (said talk m) a'
+step_moment : (talk : Talk) (m : ℕ) (a a' : Both Account) (t : Turn) → IsStepTurn t → IsHeard a t (said talk m) a'
     → (n : Moment) × ((said talk m).moment ≡ Some n) × (is_step n.0 ≡ true)
 step_moment talk m a a' (turns.Step k) w r = ((events.Step k, entries.Stepped r.0), r.2, refl)
-step_moment talk m a a' (turns.Submit command) w r = absurd w
-step_moment talk m a a' (turns.Poll n) w r = absurd w
-step_moment talk m a a' turns.Take w r = absurd w
+step_moment talk m a a' (turns.Submit via command) w r = absurd w
+step_moment talk m a a' (turns.Poll via n) w r = absurd w
+step_moment talk m a a' (turns.Take via) w r = absurd w
 
 -- a step lowers it
-most_step : (c : Settings) (talk : Talk) (m i g : ℕ) → Standing c talk m i → i < m → IsStepTurn (said talk m).turn
-    → AtMost c (trace_at talk m) (talks.reference talk i) g
-    → AtMost c (trace_at talk (m + 1)) (talks.reference talk i) (g - 1)
-most_step c talk m i g s b w most =
+most_step : (c : Settings) (via : Connection) (talk : Talk) (m i g : ℕ) → Standing c via talk m i → i < m
+    → IsStepTurn (said talk m).turn → AtMost c (trace_at talk m) (own_name via talk i) g
+    → AtMost c (trace_at talk (m + 1)) (own_name via talk i) (g - 1)
+most_step c via talk m i g s b w most =
     let k = s.known m s.inside in
-    let n = step_moment talk m (account_at c talk m) (account_at c talk (m + 1)) (said talk m).turn w k.tells.says in
+    let n = step_moment talk m (accounts_at c talk m) (accounts_at c talk (m + 1)) (said talk m).turn w k.tells.says in
     let more : trace_at talk (m + 1) ≡ trace_at talk m ++ n.0 ∷ [] =
     trace_more talk m s.inside ∙ ap (λ o. trace_at talk m ++ option_to_list o) n.1 in
-    subst (λ t. AtMost c t (talks.reference talk i) (g - 1)) (sym more)
-    (most_moment c (trace_at talk m) n.0 (talks.reference talk i) g (g - 1) (subst (Promise c) more k.promise)
-    (λ q. k.tells.new n.0 n.1 q i b s.stands) (inr (n.2, refl)) most)
+    subst (λ t. AtMost c t (own_name via talk i) (g - 1)) (sym more)
+    (most_moment c (trace_at talk m) n.0 (own_name via talk i) g (g - 1) (subst (Promise c) more k.promise)
+    (new_name c via talk m i n.0 s b n.1) (inr (n.2, refl)) most)
 
-most_by : (c : Settings) (talk : Talk) (m q i g d : ℕ) → Standing c talk q i → m + d ≤ q → i < m
-    → AtMost c (trace_at talk m) (talks.reference talk i) g
-    → AtMost c (trace_at talk (m + d)) (talks.reference talk i) g
-most_by c talk m q i g zero s e b most = let same : m ≡ m + 0 = omega arith in
-    subst (λ k. AtMost c (trace_at talk k) (talks.reference talk i) g) same most
-most_by c talk m q i g (suc d) s e b most =
+most_by : (c : Settings) (via : Connection) (talk : Talk) (m q i g d : ℕ) → Standing c via talk q i → m + d ≤ q → i < m
+    → AtMost c (trace_at talk m) (own_name via talk i) g
+    → AtMost c (trace_at talk (m + d)) (own_name via talk i) g
+most_by c via talk m q i g zero s e b most = let same : m ≡ m + 0 = omega arith in
+    subst (λ k. AtMost c (trace_at talk k) (own_name via talk i) g) same most
+most_by c via talk m q i g (suc d) s e b most =
     let same : m + d + 1 ≡ m + suc d = omega arith in
-    subst (λ k. AtMost c (trace_at talk k) (talks.reference talk i) g) same
-    (most_same c talk (m + d) i g (sooner c talk (m + d) q i (omega (arith, e)) s) (omega (arith, b))
-    (most_by c talk m q i g d s (omega (arith, e)) b most))
+    subst (λ k. AtMost c (trace_at talk k) (own_name via talk i) g) same
+    (most_same c via talk (m + d) i g (sooner c via talk (m + d) q i (omega (arith, e)) s) (omega (arith, b))
+    (most_by c via talk m q i g d s (omega (arith, e)) b most))
 
-most_until : (c : Settings) (talk : Talk) (m n q i g : ℕ) → Standing c talk q i → m ≤ n → n ≤ q → i < m
-    → AtMost c (trace_at talk m) (talks.reference talk i) g → AtMost c (trace_at talk n) (talks.reference talk i) g
-most_until c talk m n q i g s a e b most =
+most_until : (c : Settings) (via : Connection) (talk : Talk) (m n q i g : ℕ) → Standing c via talk q i → m ≤ n → n ≤ q
+    → i < m → AtMost c (trace_at talk m) (own_name via talk i) g → AtMost c (trace_at talk n) (own_name via talk i) g
+most_until c via talk m n q i g s a e b most =
     let same : m + (n - m) ≡ n = omega (arith, a) in
-    subst (λ k. AtMost c (trace_at talk k) (talks.reference talk i) g) same
-    (most_by c talk m q i g (n - m) s (omega (arith, a, e)) b most)
+    subst (λ k. AtMost c (trace_at talk k) (own_name via talk i) g) same
+    (most_by c via talk m q i g (n - m) s (omega (arith, a, e)) b most)
 
 it_is : (i : ℕ) (o : Option ℕ) → is_it i o ≡ true → o ≡ Some i
 it_is i None e = absurd (false≢true e)
 it_is i (Some x) e = ap Some (eqb-true x i e)
 
--- a figure that is at least 1 is that of a waiting command
-record Waits (c : Settings) (t : Trace) (n : ℕ) : Type 0 where
-  pub command : ℕ
-  pub waits : is_waiting t command ≡ true
-  pub named : reference t command ≡ n
-  pub figure : figure_of c t (name_on First n) ≡ figure c t command
-
-waits_of : (c : Settings) (t : Trace) (n : ℕ) (o : Option ℕ) → find (λ x. nat_eq (reference t x) n) (waiting t) ≡ o
-    → figure_of c t (name_on First n) ≡ figure_found c t o → 1 ≤ figure_found c t o → Waits c t n
-waits_of c t n None e f l = absurd (omega (arith, l))
-waits_of c t n (Some x) e f l = record {
-  command = x;
-  waits = found_all (λ y. is_waiting t y ≡ true) _ (waiting t) x (waiting_waits t) e;
-  named = eqb-true (reference t x) n (found_is (λ y. nat_eq (reference t y) n) (waiting t) x e);
-  figure = f;
-}
-
-waits_at : (c : Settings) (t : Trace) (n : ℕ) → 1 ≤ figure_of c t (name_on First n) → Waits c t n
-unfolding figure_of
-waits_at c t n l = waits_of c t n (find (λ x. nat_eq (reference t x) n) (waiting t)) refl refl l
-
-pub never_reset : (c : Settings) (talk : Talk) → AllKnown c talk → (j : ℕ) → j < length talk → (st : Stands c talk j)
-    → StepsSincePolls talk st.command st.poll → ⊥
-never_reset c talk known j l st steps =
+pub never_reset : (c : Settings) (via : Connection) (talk : Talk) → AllKnown c talk → (j : ℕ) → j < length talk
+    → (st : Stands c via talk j) → StepsSincePolls via talk st.command st.poll → ⊥
+never_reset c via talk known j l st steps =
     let i = st.command in
     let q = st.poll in
-    let n = talks.reference talk i in
-    let came = came_from c talk j i st.last (before j) (before_below j) st.told in
+    let n = own_name via talk i in
+    let came = came_from c via talk j i st.last (before j) (before_below j) st.told in
     let p = came.poll in
-    let ap_ = both_true (is_asked (said talk p).heard) (is_it i (asked_for talk p)) came.about in
-    let aq = both_true (is_asked (said talk q).heard) (is_it i (asked_for talk q)) st.about in
-    let pp : asked_for talk p ≡ Some i = it_is i (asked_for talk p) ap_.1 in
-    let pq : asked_for talk q ≡ Some i = it_is i (asked_for talk q) aq.1 in
-    let less = order_of c talk j came.turn p q known l came.early
+    let ap_ = both_true (is_asked via (said talk p)) (is_it i (asked_for via talk p)) came.about in
+    let aq = both_true (is_asked via (said talk q)) (is_it i (asked_for via talk q)) st.about in
+    let pp : asked_for via talk p ≡ Some i = it_is i (asked_for via talk p) ap_.1 in
+    let pq : asked_for via talk q ≡ Some i = it_is i (asked_for via talk q) aq.1 in
+    let less = order_of c via talk j came.turn p q known l came.early
     (record { handed = came.handed; asked = ap_.0 }) (record { handed = st.handed; asked = aq.0 }) in
-    let qj : q < j = found_below talk j q _ st.handed in
+    let qj : q < j = found_below via talk j q _ st.handed in
     let ql : q < length talk = omega (arith, qj, l) in
-    let ip : i < p = found_below talk p i _ pp in
+    let ip : i < p = found_below via talk p i _ pp in
     let step = steps p less came.about in
-    let s : Standing c talk q i =
-    sooner c talk q j i (omega (arith, qj)) (record { known = known; inside = l; stands = st.outstanding }) in
-    let g = figure_of c (trace_at talk p) (name_on First n) in
+    let s : Standing c via talk q i =
+    sooner c via talk q j i (omega (arith, qj)) (record { known = known; inside = l; stands = st.outstanding }) in
+    let g = figure_of c (trace_at talk p) n in
     let first : st.last ≡ g =
-    sym came.told ∙ ap (λ o. figure_of c (trace_at talk p) (name_on First (reference_found talk o))) pp in
-    let second : figure_told c talk q ≡ figure_of c (trace_at talk q) (name_on First n) =
-    ap (λ o. figure_of c (trace_at talk q) (name_on First (reference_found talk o))) pq in
+    sym came.told ∙ ap (λ o. figure_of c (trace_at talk p) (name_on via (reference_found talk o))) pp in
+    let second : figure_told c via talk q ≡ figure_of c (trace_at talk q) n =
+    ap (λ o. figure_of c (trace_at talk q) (name_on via (reference_found talk o))) pq in
     let at_p = first_most c talk p n known (omega (arith, less, ql)) in
     let pk = step.1 in
     let kq = step.2 in
-    let at_k = most_until c talk p step.0 q i g s (omega (arith, pk)) (omega (arith, kq)) ip at_p in
-    let after = most_step c talk step.0 i g (sooner c talk step.0 q i (omega (arith, kq)) s) (omega (arith, ip, pk))
+    let at_k = most_until c via talk p step.0 q i g s (omega (arith, pk)) (omega (arith, kq)) ip at_p in
+    let after = most_step c via talk step.0 i g (sooner c via talk step.0 q i (omega (arith, kq)) s)
+    (omega (arith, ip, pk))
     step.3 at_k in
-    let at_q = most_until c talk (step.0 + 1) q q i (g - 1) s (omega (arith, kq)) (omega arith)
+    let at_q = most_until c via talk (step.0 + 1) q q i (g - 1) s (omega (arith, kq)) (omega arith)
     (omega (arith, ip, pk)) after in
-    let some : 1 ≤ figure_told c talk q = (known j l).tells.some q i st.handed st.about st.outstanding in
+    let some : 1 ≤ figure_told c via talk q = ((known j l).tells.on via).some q i st.handed st.about st.outstanding in
     let x = waits_at c (trace_at talk q) n (subst (λ k. 1 ≤ k) second some) in
     let low = at_q x.command x.waits x.named in
     let fig = x.figure in
@@ -379,15 +310,16 @@ never_reset c talk known j l st steps =
     omega (arith, low, fig, high, first, second, some)
 
 -- the answer of the poll q about the command i doesn't stand where a step lies between it and each one before
-pub never_stands : (c : Settings) (talk : Talk) → AllKnown c talk → (j : ℕ) → j < length talk → (i q : ℕ)
-    → handed_over talk j ≡ Some q → asks_about talk i q ≡ true → StepsSincePolls talk i q → Stands c talk j → ⊥
-never_stands c talk known j l i q h a steps st =
+pub never_stands : (c : Settings) (via : Connection) (talk : Talk) → AllKnown c talk → (j : ℕ) → j < length talk
+    → (i q : ℕ) → handed_over via talk j ≡ Some q → asks_about via talk i q ≡ true → StepsSincePolls via talk i q
+    → Stands c via talk j → ⊥
+never_stands c via talk known j l i q h a steps st =
     let poll : q ≡ st.poll = ap (λ o. unwrap_or o q) (sym h ∙ st.handed) in
-    let at : is_it i (asked_for talk q) ≡ true = (both_true (is_asked (said talk q).heard) _ a).1 in
-    let at' : is_it st.command (asked_for talk st.poll) ≡ true =
-    (both_true (is_asked (said talk st.poll).heard) _ st.about).1 in
+    let at : is_it i (asked_for via talk q) ≡ true = (both_true (is_asked via (said talk q)) _ a).1 in
+    let at' : is_it st.command (asked_for via talk st.poll) ≡ true =
+    (both_true (is_asked via (said talk st.poll)) _ st.about).1 in
     let command : i ≡ st.command = ap (λ o. unwrap_or o i)
-    (sym (it_is i (asked_for talk q) at) ∙ (ap (asked_for talk) poll
-    ∙ it_is st.command (asked_for talk st.poll) at')) in
-    never_reset c talk known j l st (subst (λ k. StepsSincePolls talk k st.poll) command
-    (subst (StepsSincePolls talk i) poll steps))
+    (sym (it_is i (asked_for via talk q) at) ∙ (ap (asked_for via talk) poll
+    ∙ it_is st.command (asked_for via talk st.poll) at')) in
+    never_reset c via talk known j l st (subst (λ k. StepsSincePolls via talk k st.poll) command
+    (subst (StepsSincePolls via talk i) poll steps))

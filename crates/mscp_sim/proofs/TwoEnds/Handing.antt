@@ -12,7 +12,9 @@ use Rattle.mscp_packet.specs.declared.end.BodyKind.{BodyKind}
 use Rattle.mscp_packet.specs.Commands.{opcode_byte}
 use Rattle.mscp_packet.specs.Ends.{HasBody, IsEnd, end_at, end_length, kind_of_code, reading_with}
 use Rattle.mscp_queue.proofs.Lists.{every_weaker, every_both}
-use Rattle.mscp_control.specs.Holdings.{Holdings, numbers_ended, outstanding_of}
+use Rattle.mscp_queue.specs.declared.name.Connection.{Connection}
+use Rattle.mscp_control.specs.Both.{of, put}
+use Rattle.mscp_control.specs.Holdings.{Holdings, numbers_ended, outstanding_of, waiting_on}
 use Rattle.mscp_host.specs.declared.submission.Submission.{Submission}
 use Rattle.mscp_host.specs.declared.watch.Watch.{Watch}
 use Rattle.mscp_host.specs.Accounts.{Account, answered, end_in, has_reference, heard, is_about_polled, is_code_of, news_with, outstanding_with, received, polled_is_outstanding, told_in, watch_after, with_told, without}
@@ -20,6 +22,7 @@ use Rattle.mscp_host.proofs.Hearing.{heard_ok}
 use Rattle.mscp_sim.specs.Matches.{Flight, HasFlight, IsAwaited, IsFlight, IsKnown, Matches, commands, times}
 use Rattle.mscp_sim.proofs.TwoEnds.Counting.{length_without, opcode_told, opcode_without, references_told, small_told, small_without, times_append, times_without}
 use Rattle.mscp_sim.proofs.TwoEnds.Matching.{called, counted_numbers, times_ends}
+use Rattle.mscp_sim.proofs.TwoEnds.Sides.{of_put}
 
 -- ---- reading
 
@@ -70,14 +73,15 @@ other_ends n [] z = tt
 other_ends n (e ∷ us) z = let k = not_first n e.reference (times n (numbers_ended us)) z in (k.0, other_ends n us k.1)
 
 -- no other command has the number of the first end
-pub alone : {K : Type 0} (a : Account) (h : Holdings K) (told : Flight) (e : End) (us : List End) → Matches a h told
-    → h.untaken ≡ e ∷ us → (times e.reference (called (commands h.waiting)) ≡ 0)
-    × (times e.reference (numbers_ended us) ≡ 0)
-alone a h told e us m u =
+pub alone : {K : Type 0} (via : Connection) (a : Account) (h : Holdings K) (told : Flight) (e : End) (us : List End)
+    → Matches via a h told → of via h.untaken ≡ e ∷ us
+    → (times e.reference (called (commands (waiting_on via h.waiting))) ≡ 0) × (times e.reference (numbers_ended us)
+    ≡ 0)
+alone via a h told e us m u =
     let n = e.reference in
     let one = m.once n in
-    let all = counted_numbers n h in
-    let ends : times n (numbers_ended h.untaken) ≡ 1 + times n (numbers_ended us) =
+    let all = counted_numbers n via h in
+    let ends : times n (numbers_ended (of via h.untaken)) ≡ 1 + times n (numbers_ended us) =
     ap (λ es. times n (numbers_ended es)) u ∙ times_own n (numbers_ended us) in
     (omega (arith, one, all, ends), omega (arith, one, all, ends))
 
@@ -132,15 +136,15 @@ found_some None k e = absurd (false≢true (ap is_some e))
 found_some (Some s) k e = (s, refl, ap (λ o. unwrap_or o k) e)
 
 -- the host takes the first end for that of one of its commands
-pub first_heard : {K : Type 0} (a : Account) (h : Holdings K) (told : Flight) (e : End) (us : List End) (b : List ℕ)
-    → Matches a h told → h.untaken ≡ e ∷ us → IsEnd b e
+pub first_heard : {K : Type 0} (via : Connection) (a : Account) (h : Holdings K) (told : Flight) (e : End)
+    (us : List End) (b : List ℕ) → Matches via a h told → of via h.untaken ≡ e ∷ us → IsEnd b e
     → heard a b ≡ (Ok (news_with a e (answered a.watch e)), received a e)
-first_heard {K} a h told e us b m u i =
+first_heard {K} via a h told e us b m u i =
     let ends = subst (AllByRecursion (IsAwaited a.outstanding)) u m.ends in
     let own = ends.0 in
     let s = found_some (find (has_reference e.reference) a.outstanding) own.opcode own.found in
     heard_ok a b e s.0 (read_end b e i) s.1 (ap (is_code_of e.code) s.2 ∙ own.code)
-    (about e us a.watch told (subst (λ xs. HasFlight xs a.watch told) u m.flight) (alone a h told e us m u).1)
+    (about e us a.watch told (subst (λ xs. HasFlight xs a.watch told) u m.flight) (alone via a h told e us m u).1)
 
 -- ---- the match after it
 
@@ -150,9 +154,9 @@ length_told n f (x ∷ xs) = elim (nat_eq x.reference n) as
     (λ b. length (cond b (record x { told = Some f } ∷ xs) (x ∷ with_told n f xs)) ≡ suc (length xs))
     [ true ↦ refl | false ↦ ap (λ k. suc k) (length_told n f xs) ]
 
-told_match : {K : Type 0} (a : Account) (h : Holdings K) (told : Flight) (n f : ℕ) → Matches a h told
-    → Matches (record a { outstanding = with_told n f a.outstanding }) h told
-told_match a h told n f m =
+told_match : {K : Type 0} (via : Connection) (a : Account) (h : Holdings K) (told : Flight) (n f : ℕ)
+    → Matches via a h told → Matches via (record a { outstanding = with_told n f a.outstanding }) h told
+told_match via a h told n f m =
     let xs = with_told n f a.outstanding in
     record {
       credits = m.credits;
@@ -161,27 +165,27 @@ told_match a h told n f m =
       once = m.once;
       small = small_told n f a.outstanding m.small;
       waits = every_weaker (IsKnown a.outstanding) (IsKnown xs)
-          (λ c k. (opcode_told c.reference n f a.outstanding ∙ k.0, k.1)) (commands h.waiting) m.waits;
+          (λ c k. (opcode_told c.reference n f a.outstanding ∙ k.0, k.1)) (commands (waiting_on via h.waiting)) m.waits;
       ends = every_weaker (IsAwaited a.outstanding) (IsAwaited xs)
           (λ e k. record {
             opcode = k.opcode;
             found = opcode_told e.reference n f a.outstanding ∙ k.found;
             code =
                 k.code;
-          }) h.untaken m.ends;
+          }) (of via h.untaken) m.ends;
       flight = m.flight;
     }
 
 abbrev outstanding_told : Account → Option (ℕ × ℕ) → Account
 outstanding_told a o = record a { outstanding = outstanding_with a o }
 
-told_if : {K : Type 0} (a : Account) (h : Holdings K) (told : Flight) (o : Option (ℕ × ℕ)) → Matches a h told
-    → Matches (outstanding_told a o) h told
-told_if a h told None m = m
-told_if {K} a h told (Some t) m =
-    elim (polled_is_outstanding a.watch) as (λ b. Matches
+told_if : {K : Type 0} (via : Connection) (a : Account) (h : Holdings K) (told : Flight) (o : Option (ℕ × ℕ))
+    → Matches via a h told → Matches via (outstanding_told a o) h told
+told_if via a h told None m = m
+told_if {K} via a h told (Some t) m =
+    elim (polled_is_outstanding a.watch) as (λ b. Matches via
     (record a { outstanding = if b then with_told t.0 t.1 a.outstanding else a.outstanding }) h told)
-    [ true ↦ told_match a h told t.0 t.1 m | false ↦ m ]
+    [ true ↦ told_match via a h told t.0 t.1 m | false ↦ m ]
 
 flight_rest : (e : End) (us : List End) (w w' : Watch) (told : Flight) (f : IsFlight (e ∷ us) w told)
     → nat_eq w.reference e.reference ≡ false → w'.reference ≡ w.reference → w'.polled ≡ w.polled
@@ -231,33 +235,33 @@ flight_after e us None told f = tt
 flight_after e us (Some w) told f = flight_with e us w told (nat_eq w.reference e.reference)
     (nat_eq w.polled e.reference) refl refl f
 
-taken_out : {K : Type 0} (a : Account) (h : Holdings K) (told : Flight) (e : End) (us : List End) → Matches a h told
-    → h.untaken ≡ e ∷ us
-    → Matches (record {
-      credits = a.credits;
-      outstanding = without e.reference a.outstanding;
-      watch =
-          watch_after a.watch e.reference;
-    }) (record h { untaken = us }) told
-taken_out {K} a h told e us m u =
+taken_out : {K : Type 0} (via : Connection) (a : Account) (h : Holdings K) (told : Flight) (e : End) (us : List End)
+    → Matches via a h told → of via h.untaken ≡ e ∷ us
+    → Matches via
+    (record { credits = a.credits; outstanding = without e.reference a.outstanding; watch = watch_after a.watch
+    e.reference; }) (record h { untaken = put via us h.untaken }) told
+taken_out {K} via a h told e us m u =
     let n = e.reference in
-    let h' : Holdings K = record h { untaken = us } in
+    let h' : Holdings K = record h { untaken = put via us h.untaken } in
+    let left : of via h'.untaken ≡ us = of_put via us h.untaken in
     let ends = subst (AllByRecursion (IsAwaited a.outstanding)) u m.ends in
     let own = ends.0 in
     let s = found_some (find (has_reference n) a.outstanding) own.opcode own.found in
-    let apart = alone a h told e us m u in
-    let counts : (r : ℕ) → times r (outstanding_of h) ≡ times r (n ∷ []) + times r (outstanding_of h') = λ r.
-    let old = counted_numbers r h in
-    let now = counted_numbers r h' in
+    let apart = alone via a h told e us m u in
+    let counts : (r : ℕ) → times r (outstanding_of via h) ≡ times r (n ∷ []) + times r (outstanding_of via h') = λ r.
+    let old = counted_numbers r via h in
+    let now = counted_numbers r via h'
+    ∙ ap (λ xs. times r (called (commands (waiting_on via h.waiting))) + times r (numbers_ended xs)) left in
     let cut = ap (λ xs. times r (numbers_ended xs)) u ∙ times_append r (n ∷ []) (numbers_ended us) in
     omega (arith, old, now, cut) in
     record {
       credits = m.credits;
       many =
           let fewer = length_without n a.outstanding s.0 s.1 in
-          let rest : length h.untaken ≡ suc (length us) = ap length u in
+          let rest : length (of via h.untaken) ≡ suc (length us) = ap length u in
           let many = m.many in
-          omega (arith, fewer, rest, many);
+          let taken = ap length left in
+          omega (arith, fewer, rest, many, taken);
       same = λ r.
           let out = times_without r n a.outstanding s.0 s.1 in
           let same = m.same r in
@@ -270,10 +274,13 @@ taken_out {K} a h told e us m u =
       small = small_without n a.outstanding m.small;
       waits = every_weaker (λ c. IsKnown a.outstanding c × (nat_eq n c.reference ≡ false))
           (IsKnown (without n a.outstanding)) (λ c k.
-          (opcode_without c.reference n (opcode_byte c.order) a.outstanding k.1 k.0.0, k.0.1)) (commands h.waiting)
-          (every_both (IsKnown a.outstanding) (λ c. nat_eq n c.reference ≡ false) (commands h.waiting) m.waits
-          (other_commands n (commands h.waiting) apart.0));
-      ends = every_weaker (λ x. IsAwaited a.outstanding x × (nat_eq n x.reference ≡ false))
+          (opcode_without c.reference n (opcode_byte c.order) a.outstanding k.1 k.0.0, k.0.1))
+              (commands (waiting_on via h.waiting))
+          (every_both (IsKnown a.outstanding) (λ c. nat_eq n c.reference ≡ false)
+              (commands (waiting_on via h.waiting)) m.waits
+          (other_commands n (commands (waiting_on via h.waiting)) apart.0));
+      ends = subst (AllByRecursion (IsAwaited (without n a.outstanding))) (sym left)
+          (every_weaker (λ x. IsAwaited a.outstanding x × (nat_eq n x.reference ≡ false))
           (IsAwaited (without n a.outstanding)) (λ x k.
           record {
             opcode = k.0.opcode;
@@ -281,11 +288,13 @@ taken_out {K} a h told e us m u =
             code = k.0.code;
           }) us
           (every_both (IsAwaited a.outstanding) (λ x. nat_eq n x.reference ≡ false) us ends.1
-          (other_ends n us apart.1));
-      flight = flight_after e us a.watch told (subst (λ xs. HasFlight xs a.watch told) u m.flight);
+          (other_ends n us apart.1)));
+      flight = subst (λ xs. HasFlight xs (watch_after a.watch n) told) (sym left)
+          (flight_after e us a.watch told (subst (λ xs. HasFlight xs a.watch told) u m.flight));
     }
 
-pub received_match : {K : Type 0} (a : Account) (h : Holdings K) (told : Flight) (e : End) (us : List End)
-    → Matches a h told → h.untaken ≡ e ∷ us → Matches (received a e) (record h { untaken = us }) told
-received_match a h told e us m u = taken_out (outstanding_told a (answered a.watch e)) h told e us
-    (told_if a h told (answered a.watch e) m) u
+pub received_match : {K : Type 0} (via : Connection) (a : Account) (h : Holdings K) (told : Flight) (e : End)
+    (us : List End) → Matches via a h told → of via h.untaken ≡ e ∷ us → Matches via (received a e)
+    (record h { untaken = put via us h.untaken }) told
+received_match via a h told e us m u = taken_out via (outstanding_told a (answered a.watch e)) h told e us
+    (told_if via a h told (answered a.watch e) m) u

@@ -1,4 +1,4 @@
--- What a host and a controller keep of each other stays so, whatever comes.
+-- What the host of a connection and a controller keep of each other stays so, whatever comes.
 use Rattle.std.proofs.Common.{◌≡◌, ℕ, suc, ◌+◌, ◌≤◌, Bool, true, false, cond, List, [], ◌∷◌, ◌++◌, map, length, refl, ap, sym, ◌∙◌, subst, arith, append_assoc}
 use Rattle.std.specs.Prelude.{nat_eq, Option, Some, None}
 use Rattle.std.specs.List.{AllByRecursion}
@@ -10,7 +10,10 @@ use Rattle.mscp_packet.specs.Commands.{opcode_byte}
 use Rattle.mscp_queue.specs.Orders.{endcode}
 use Rattle.mscp_queue.specs.Records.{Record}
 use Rattle.mscp_queue.proofs.Lists.{every_append, every_parts, every_weaker}
-use Rattle.mscp_control.specs.Holdings.{Holdings, numbers, numbers_ended, outstanding_of}
+use Rattle.mscp_queue.specs.declared.name.Connection.{Connection}
+use Rattle.mscp_control.specs.Both.{of}
+use Rattle.mscp_control.specs.Settings.{credits_of}
+use Rattle.mscp_control.specs.Holdings.{Holdings, numbers, numbers_ended, outstanding_of, waiting_on}
 use Rattle.mscp_host.specs.declared.submission.Submission.{Submission}
 use Rattle.mscp_host.specs.declared.watch.Watch.{Watch}
 use Rattle.mscp_host.specs.Accounts.{Account, is_code_of}
@@ -35,10 +38,10 @@ length_commands (r ∷ rs) = ap (λ n. suc n) (length_commands rs)
 abbrev pub counted : ℕ → List Command → List End → ℕ
 counted r cs us = times r (called cs) + times r (numbers_ended us)
 
-pub counted_numbers : {K : Type 0} (r : ℕ) (h : Holdings K)
-    → times r (outstanding_of h) ≡ counted r (commands h.waiting) h.untaken
-counted_numbers r h = times_append r (numbers h.waiting) (numbers_ended h.untaken)
-    ∙ ap (λ ns. times r ns + times r (numbers_ended h.untaken)) (numbers_called h.waiting)
+pub counted_numbers : {K : Type 0} (r : ℕ) (via : Connection) (h : Holdings K)
+    → times r (outstanding_of via h) ≡ counted r (commands (waiting_on via h.waiting)) (of via h.untaken)
+counted_numbers r via h = times_append r (numbers (waiting_on via h.waiting)) (numbers_ended (of via h.untaken))
+    ∙ ap (λ ns. times r ns + times r (numbers_ended (of via h.untaken))) (numbers_called (waiting_on via h.waiting))
 
 pub times_called : (r : ℕ) (xs ys : List Command) → times r (called (xs ++ ys)) ≡ times r (called xs)
     + times r (called ys)
@@ -69,14 +72,16 @@ flight_on us (Some w) told e f = record {
 -- ---- the commands stay where they are
 
 -- nothing that a match asks for is changed
-pub stays : {K : Type 0} (a : Account) (h h' : Holdings K) (told : Flight) → commands h'.waiting ≡ commands h.waiting
-    → h'.untaken ≡ h.untaken → h'.settings ≡ h.settings → Matches a h told → Matches a h' told
-stays {K} a h h' told w u s m =
-    let counts : (r : ℕ) → times r (outstanding_of h') ≡ times r (outstanding_of h) =
-    λ r. counted_numbers r h' ∙ ((λ i. counted r (w i) (u i)) ∙ sym (counted_numbers r h)) in
-    let lengths = sym (length_commands h'.waiting) ∙ (ap length w ∙ length_commands h.waiting) in
+pub stays : {K : Type 0} (via : Connection) (a : Account) (h h' : Holdings K) (told : Flight)
+    → commands (waiting_on via h'.waiting) ≡ commands (waiting_on via h.waiting) → of via h'.untaken ≡ of via h.untaken
+    → h'.settings ≡ h.settings → Matches via a h told → Matches via a h' told
+stays {K} via a h h' told w u s m =
+    let counts : (r : ℕ) → times r (outstanding_of via h') ≡ times r (outstanding_of via h) =
+    λ r. counted_numbers r via h' ∙ ((λ i. counted r (w i) (u i)) ∙ sym (counted_numbers r via h)) in
+    let lengths = sym (length_commands (waiting_on via h'.waiting))
+    ∙ (ap length w ∙ length_commands (waiting_on via h.waiting)) in
     record {
-      credits = m.credits ∙ ap (λ c. c.credits) (sym s);
+      credits = m.credits ∙ ap (λ c. credits_of c via) (sym s);
       many = m.many ∙ (λ i. sym lengths i + length (sym u i));
       same = λ r. m.same r ∙ sym (counts r);
       once = λ r. subst (λ n. n ≤ 1) (sym (counts r)) (m.once r);
@@ -89,45 +94,49 @@ stays {K} a h h' told w u s m =
 -- ---- a command ends
 
 -- the command of a waiting record has its end
-pub record Ends {K : Type 0} (h h' : Holdings K) : Type 0 where
+pub record Ends {K : Type 0} (via : Connection) (h h' : Holdings K) : Type 0 where
   pub front : List Command
   pub own : Command
   pub back : List Command
   pub end : End
-  pub waited : commands h.waiting ≡ front ++ own ∷ back
-  pub left : commands h'.waiting ≡ front ++ back
-  pub ends : h'.untaken ≡ h.untaken ++ end ∷ []
+  pub waited : commands (waiting_on via h.waiting) ≡ front ++ own ∷ back
+  pub left : commands (waiting_on via h'.waiting) ≡ front ++ back
+  pub ends : of via h'.untaken ≡ of via h.untaken ++ end ∷ []
   pub reference : end.reference ≡ own.reference
   pub code : end.code ≡ endcode own.order
   pub settings : h'.settings ≡ h.settings
 
-ends_counted : {K : Type 0} (r : ℕ) (h h' : Holdings K) → (x : Ends h h')
-    → times r (outstanding_of h') ≡ times r (outstanding_of h)
-ends_counted {K} r h h' x =
+ends_counted : {K : Type 0} (r : ℕ) (via : Connection) (h h' : Holdings K) → (x : Ends via h h')
+    → times r (outstanding_of via h') ≡ times r (outstanding_of via h)
+ends_counted {K} r via h h' x =
     let own = times r (x.own.reference ∷ []) in
-    let old : times r (called (commands h.waiting)) ≡ times r (called x.front) + (own + times r (called x.back)) =
+    let old : times r (called (commands (waiting_on via h.waiting)))
+    ≡ times r (called x.front) + (own + times r (called x.back)) =
     ap (λ cs. times r (called cs)) x.waited ∙ (times_called r x.front (x.own ∷ x.back)
     ∙ ap (λ n. times r (called x.front) + n) (times_called r (x.own ∷ []) x.back)) in
-    let new : times r (called (commands h'.waiting)) ≡ times r (called x.front) + times r (called x.back) =
+    let new : times r (called (commands (waiting_on via h'.waiting)))
+    ≡ times r (called x.front) + times r (called x.back) =
     ap (λ cs. times r (called cs)) x.left ∙ times_called r x.front x.back in
-    let ends : times r (numbers_ended h'.untaken) ≡ times r (numbers_ended h.untaken) + own =
-    ap (λ us. times r (numbers_ended us)) x.ends ∙ (times_ends r h.untaken (x.end ∷ [])
-    ∙ ap (λ n. times r (numbers_ended h.untaken) + times r (n ∷ [])) x.reference) in
-    let before = counted_numbers r h in
-    let after = counted_numbers r h' in
+    let ends : times r (numbers_ended (of via h'.untaken)) ≡ times r (numbers_ended (of via h.untaken)) + own =
+    ap (λ us. times r (numbers_ended us)) x.ends ∙ (times_ends r (of via h.untaken) (x.end ∷ [])
+    ∙ ap (λ n. times r (numbers_ended (of via h.untaken)) + times r (n ∷ [])) x.reference) in
+    let before = counted_numbers r via h in
+    let after = counted_numbers r via h' in
     omega (arith, old, new, ends, before, after)
 
-pub ends_match : {K : Type 0} (a : Account) (h h' : Holdings K) (told : Flight) → Ends h h' → Matches a h told
-    → Matches a h' told
-ends_match {K} a h h' told x m =
-    let counts : (r : ℕ) → times r (outstanding_of h') ≡ times r (outstanding_of h) = λ r. ends_counted r h h' x in
+pub ends_match : {K : Type 0} (via : Connection) (a : Account) (h h' : Holdings K) (told : Flight) → Ends via h h'
+    → Matches via a h told → Matches via a h' told
+ends_match {K} via a h h' told x m =
+    let counts : (r : ℕ)
+    → times r (outstanding_of via h') ≡ times r (outstanding_of via h) = λ r. ends_counted r via h h' x in
     let waited = subst (AllByRecursion (IsKnown a.outstanding)) x.waited m.waits in
     let parts = every_parts (IsKnown a.outstanding) x.front (x.own ∷ x.back) waited in
-    let before : length h.waiting ≡ length x.front + suc (length x.back) =
-    sym (length_commands h.waiting) ∙ (ap length x.waited ∙ length-append x.front (x.own ∷ x.back)) in
-    let after : length h'.waiting ≡ length x.front + length x.back =
-    sym (length_commands h'.waiting) ∙ (ap length x.left ∙ length-append x.front x.back) in
-    let ends : length h'.untaken ≡ length h.untaken + 1 = ap length x.ends ∙ length-append h.untaken (x.end ∷ []) in
+    let before : length (waiting_on via h.waiting) ≡ length x.front + suc (length x.back) =
+    sym (length_commands (waiting_on via h.waiting)) ∙ (ap length x.waited ∙ length-append x.front (x.own ∷ x.back)) in
+    let after : length (waiting_on via h'.waiting) ≡ length x.front + length x.back =
+    sym (length_commands (waiting_on via h'.waiting)) ∙ (ap length x.left ∙ length-append x.front x.back) in
+    let ends : length (of via h'.untaken) ≡ length (of via h.untaken) + 1 = ap length x.ends
+    ∙ length-append (of via h.untaken) (x.end ∷ []) in
     let known = parts.1.0 in
     let awaited : IsAwaited a.outstanding x.end = record {
       opcode = opcode_byte x.own.order;
@@ -135,7 +144,7 @@ ends_match {K} a h h' told x m =
       code = ap (λ k. is_code_of k (opcode_byte x.own.order)) x.code ∙ known.1;
     } in
     record {
-      credits = m.credits ∙ ap (λ c. c.credits) (sym x.settings);
+      credits = m.credits ∙ ap (λ c. credits_of c via) (sym x.settings);
       many = let many = m.many in omega (arith, many, before, after, ends);
       same = λ r. m.same r ∙ sym (counts r);
       once = λ r. subst (λ n. n ≤ 1) (sym (counts r)) (m.once r);
@@ -143,8 +152,9 @@ ends_match {K} a h h' told x m =
       waits = subst (AllByRecursion (IsKnown a.outstanding)) (sym x.left)
           (every_append (IsKnown a.outstanding) x.front x.back parts.0 parts.1.1);
       ends = subst (AllByRecursion (IsAwaited a.outstanding)) (sym x.ends)
-          (every_append (IsAwaited a.outstanding) h.untaken (x.end ∷ []) m.ends (awaited, tt));
-      flight = subst (λ us. HasFlight us a.watch told) (sym x.ends) (flight_on h.untaken a.watch told x.end m.flight);
+          (every_append (IsAwaited a.outstanding) (of via h.untaken) (x.end ∷ []) m.ends (awaited, tt));
+      flight = subst (λ us. HasFlight us a.watch told) (sym x.ends)
+          (flight_on (of via h.untaken) a.watch told x.end m.flight);
     }
 
 -- ---- a command arrives
@@ -164,21 +174,22 @@ awaited_more xs s us h =
     h
 
 -- the host keeps one more submission, whose number is new to the controller
-pub record Adds {K : Type 0} (a a' : Account) (h : Holdings K) (s : Submission) : Type 0 where
+pub record Adds {K : Type 0} (via : Connection) (a a' : Account) (h : Holdings K) (s : Submission) : Type 0 where
   pub credits : a'.credits ≡ a.credits
   pub outstanding : a'.outstanding ≡ a.outstanding ++ s ∷ []
   pub small : IsSmall s
-  pub new : times s.reference (outstanding_of h) ≡ 0
+  pub new : times s.reference (outstanding_of via h) ≡ 0
 
 -- what is known where a submission is pushed: the controller has its number once more
-pub record Pushes {K : Type 0} (a a' : Account) (h h' : Holdings K) (s : Submission) : Type 0 where
-  pub adds : Adds a a' h s
+pub record Pushes {K : Type 0} (via : Connection) (a a' : Account) (h h' : Holdings K) (s : Submission) : Type 0 where
+  pub adds : Adds via a a' h s
   pub open adds use *
-  pub counts : (r : ℕ) → times r (outstanding_of h') ≡ times r (outstanding_of h) + times r (s.reference ∷ [])
-  pub more : length h'.waiting + length h'.untaken ≡ length h.waiting + length h.untaken + 1
+  pub counts : (r : ℕ) → times r (outstanding_of via h') ≡ times r (outstanding_of via h) + times r (s.reference ∷ [])
+  pub more : length (waiting_on via h'.waiting) + length (of via h'.untaken)
+      ≡ length (waiting_on via h.waiting) + length (of via h.untaken) + 1
   pub settings : h'.settings ≡ h.settings
-  pub waits : AllByRecursion (IsKnown (a.outstanding ++ s ∷ [])) (commands h'.waiting)
-  pub ends : AllByRecursion (IsAwaited (a.outstanding ++ s ∷ [])) h'.untaken
+  pub waits : AllByRecursion (IsKnown (a.outstanding ++ s ∷ [])) (commands (waiting_on via h'.waiting))
+  pub ends : AllByRecursion (IsAwaited (a.outstanding ++ s ∷ [])) (of via h'.untaken)
 
 once_pushed : (r n t : ℕ) → t ≤ 1 → (r ≡ n → t ≡ 0) → t + times r (n ∷ []) ≤ 1
 once_pushed r n t l z =
@@ -189,11 +200,12 @@ once_pushed r n t l z =
     ] in
     both (nat_eq n r) refl
 
-pub pushes_match : {K : Type 0} (a a' : Account) (h h' : Holdings K) (s : Submission) (told told' : Flight)
-    → Pushes a a' h h' s → Matches a h told → HasFlight h'.untaken a'.watch told' → Matches a' h' told'
-pushes_match {K} a a' h h' s told told' x m f =
+pub pushes_match : {K : Type 0} (via : Connection) (a a' : Account) (h h' : Holdings K) (s : Submission)
+    (told told' : Flight) → Pushes via a a' h h' s → Matches via a h told → HasFlight (of via h'.untaken) a'.watch told'
+    → Matches via a' h' told'
+pushes_match {K} via a a' h h' s told told' x m f =
     record {
-      credits = x.credits ∙ (m.credits ∙ ap (λ c. c.credits) (sym x.settings));
+      credits = x.credits ∙ (m.credits ∙ ap (λ c. credits_of c via) (sym x.settings));
       many =
           let pushed : length a'.outstanding ≡ length a.outstanding + 1 =
           ap length x.outstanding ∙ length-append a.outstanding (s ∷ []) in
@@ -205,11 +217,12 @@ pushes_match {K} a a' h h' s told told' x m f =
           ∙ (times_append r (references a.outstanding) (s.reference ∷ [])
           ∙ (ap (λ n. n + times r (s.reference ∷ [])) (m.same r) ∙ sym (x.counts r))));
       once = λ r. subst (λ n. n ≤ 1) (sym (x.counts r))
-          (once_pushed r s.reference (times r (outstanding_of h)) (m.once r)
-          (λ e. ap (λ n. times n (outstanding_of h)) e ∙ x.new));
+          (once_pushed r s.reference (times r (outstanding_of via h)) (m.once r)
+          (λ e. ap (λ n. times n (outstanding_of via h)) e ∙ x.new));
       small = subst (AllByRecursion IsSmall) (sym x.outstanding)
           (every_append IsSmall a.outstanding (s ∷ []) m.small (x.small, tt));
-      waits = subst (λ xs. AllByRecursion (IsKnown xs) (commands h'.waiting)) (sym x.outstanding) x.waits;
-      ends = subst (λ xs. AllByRecursion (IsAwaited xs) h'.untaken) (sym x.outstanding) x.ends;
+      waits = subst (λ xs. AllByRecursion (IsKnown xs) (commands (waiting_on via h'.waiting)))
+          (sym x.outstanding) x.waits;
+      ends = subst (λ xs. AllByRecursion (IsAwaited xs) (of via h'.untaken)) (sym x.outstanding) x.ends;
       flight = f;
     }

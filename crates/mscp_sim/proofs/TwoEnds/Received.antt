@@ -5,9 +5,10 @@ use Rattle.std.specs.List.{AllByRecursion}
 use Rattle.std.proofs.Math.Bool.{and-false, and-true}
 use Rattle.std.proofs.lemmas.Bool.{false≢true, true≢false}
 use Rattle.mscp_packet.specs.declared.end.End.{End}
+use Rattle.mscp_queue.specs.declared.name.Connection.{Connection}
 use Rattle.mscp_queue.proofs.Lists.{every_filter, every_weaker}
 use Rattle.mscp_queue.proofs.Placed.{filter_map_of}
-use Rattle.mscp_control.specs.Settings.{Settings}
+use Rattle.mscp_control.specs.Settings.{Settings, credits_of}
 use Rattle.mscp_host.specs.declared.watch.Watch.{Watch}
 use Rattle.mscp_host.specs.Accounts.{answered, outstanding_with, received, watch_after, without}
 use Rattle.mscp_sim.specs.Matches.{references, times}
@@ -25,131 +26,138 @@ other_number a b h =
 
 -- ---- the submissions that are left
 
-left_subs : (c : Settings) (talk : Talk) (j : ℕ) (e : End) → Gives c talk j e
-    → without e.reference (map (submission_at c talk (j + 1)) (outstanding talk j))
-    ≡ map (submission_at c talk (j + 1)) (outstanding talk (j + 1))
-left_subs c talk j e g =
-    let all = map (submission_at c talk (j + 1)) (outstanding talk j) in
+left_subs : (c : Settings) (via : Connection) (talk : Talk) (j : ℕ) (e : End) → Gives c via talk j e
+    → without e.reference (map (submission_at c via talk (j + 1)) (outstanding via talk j))
+    ≡ map (submission_at c via talk (j + 1)) (outstanding via talk (j + 1))
+left_subs c via talk j e g =
+    let all = map (submission_at c via talk (j + 1)) (outstanding via talk j) in
     let once : times e.reference (references all) ≤ 1 =
-    subst (λ xs. times e.reference xs ≤ 1) (sym (references_at c talk (j + 1) j (outstanding talk j)))
-    (once_at c talk j e.reference e g) in
+    subst (λ xs. times e.reference xs ≤ 1) (sym (references_at c via talk (j + 1) j (outstanding via talk j)))
+    (once_at c via talk j e.reference e g) in
     without_kept e.reference all once
-    ∙ (filter_map_of (submission_at c talk (j + 1)) (λ s. not (nat_eq e.reference s.reference)) (outstanding talk j)
-    ∙ ap (map (submission_at c talk (j + 1))) (sym (outs_after c talk j e g)))
+    ∙ (filter_map_of (submission_at c via talk (j + 1)) (λ s. not (nat_eq e.reference s.reference))
+    (outstanding via talk j)
+    ∙ ap (map (submission_at c via talk (j + 1))) (sym (outs_after c via talk j e g)))
 
 -- ---- the poll in flight
 
 -- the poll in flight was answered
-flight_gone : (c : Settings) (talk : Talk) (j : ℕ) (e : End) (p : ℕ) → Gives c talk j e → in_flight talk j ≡ Some p
-    → nat_eq (reference talk p) e.reference ≡ true → in_flight talk (j + 1) ≡ None
-flight_gone c talk j e p g q n =
-    ap (find (λ x. is_asked (said talk x).heard)) (outs_after c talk j e g)
-    ∙ find_none_kept (λ x. is_asked (said talk x).heard) (keep talk e) (outstanding talk j)
-    (every_weaker (λ x. is_asked (said talk x).heard ≡ true → in_flight talk j ≡ Some x)
-    (λ x. is_asked (said talk x).heard ≡ true → keep talk e x ≡ false)
+flight_gone : (c : Settings) (via : Connection) (talk : Talk) (j : ℕ) (e : End) (p : ℕ) → Gives c via talk j e
+    → in_flight via talk j ≡ Some p → nat_eq (reference talk p) e.reference ≡ true → in_flight via talk (j + 1) ≡ None
+flight_gone c via talk j e p g q n =
+    ap (find (λ x. is_asked via (said talk x))) (outs_after c via talk j e g)
+    ∙ find_none_kept (λ x. is_asked via (said talk x)) (keep talk e) (outstanding via talk j)
+    (every_weaker (λ x. is_asked via (said talk x) ≡ true → in_flight via talk j ≡ Some x)
+    (λ x. is_asked via (said talk x) ≡ true → keep talk e x ≡ false)
     (λ x h a. ap not (flip e.reference (reference talk x)
-    ∙ (ap (λ o. nat_eq (reference talk (unwrap_or o x)) e.reference) (sym (h a) ∙ q) ∙ n))) (outstanding talk j)
+    ∙ (ap (λ o. nat_eq (reference talk (unwrap_or o x)) e.reference) (sym (h a) ∙ q) ∙ n))) (outstanding via talk j)
     g.one)
 
-flight_kept : (c : Settings) (talk : Talk) (j : ℕ) (e : End) (p : ℕ) → Gives c talk j e → in_flight talk j ≡ Some p
-    → nat_eq (reference talk p) e.reference ≡ false → in_flight talk (j + 1) ≡ Some p
-flight_kept c talk j e p g q n =
-    ap (find (λ x. is_asked (said talk x).heard)) (outs_after c talk j e g)
-    ∙ find_kept (λ x. is_asked (said talk x).heard) (keep talk e) (outstanding talk j) p q
+flight_kept : (c : Settings) (via : Connection) (talk : Talk) (j : ℕ) (e : End) (p : ℕ) → Gives c via talk j e
+    → in_flight via talk j ≡ Some p → nat_eq (reference talk p) e.reference ≡ false
+    → in_flight via talk (j + 1) ≡ Some p
+flight_kept c via talk j e p g q n =
+    ap (find (λ x. is_asked via (said talk x))) (outs_after c via talk j e g)
+    ∙ find_kept (λ x. is_asked via (said talk x)) (keep talk e) (outstanding via talk j) p q
     (ap not (flip e.reference (reference talk p) ∙ n))
 
-flight_none : (c : Settings) (talk : Talk) (j : ℕ) (e : End) → Gives c talk j e → in_flight talk j ≡ None
-    → in_flight talk (j + 1) ≡ None
-flight_none c talk j e g q =
-    ap (find (λ x. is_asked (said talk x).heard)) (outs_after c talk j e g)
-    ∙ find_none_kept (λ x. is_asked (said talk x).heard) (keep talk e) (outstanding talk j)
-    (every_weaker (λ x. is_asked (said talk x).heard ≡ false)
-    (λ x. is_asked (said talk x).heard ≡ true → keep talk e x ≡ false) (λ x h a. absurd (true≢false (sym a ∙ h)))
-    (outstanding talk j) (none_found (λ x. is_asked (said talk x).heard) (outstanding talk j) q))
+flight_none : (c : Settings) (via : Connection) (talk : Talk) (j : ℕ) (e : End) → Gives c via talk j e
+    → in_flight via talk j ≡ None → in_flight via talk (j + 1) ≡ None
+flight_none c via talk j e g q =
+    ap (find (λ x. is_asked via (said talk x))) (outs_after c via talk j e g)
+    ∙ find_none_kept (λ x. is_asked via (said talk x)) (keep talk e) (outstanding via talk j)
+    (every_weaker (λ x. is_asked via (said talk x) ≡ false)
+    (λ x. is_asked via (said talk x) ≡ true → keep talk e x ≡ false) (λ x h a. absurd (true≢false (sym a ∙ h)))
+    (outstanding via talk j) (none_found (λ x. is_asked via (said talk x)) (outstanding via talk j) q))
 
 -- whether its command is still outstanding
 abbrev watch_of : ℕ → ℕ → Bool → Watch
 watch_of reference polled outstanding = record { reference = reference; polled = polled; is_outstanding = outstanding }
 
-stands_after : (c : Settings) (talk : Talk) (j : ℕ) (e : End) (p : ℕ) (o : Option ℕ) → Gives c talk j e → p < j
-    → ((i : ℕ) → o ≡ Some i → i < p)
+stands_after : (c : Settings) (via : Connection) (talk : Talk) (j : ℕ) (e : End) (p : ℕ) (o : Option ℕ)
+    → Gives c via talk j e → p < j → ((i : ℕ) → o ≡ Some i → i < p)
     → let w = watch_of (reference talk p) (reference_found talk o) in
-    Some (w (polled_is_outstanding talk (j + 1) o))
+    Some (w (polled_is_outstanding via talk (j + 1) o))
     ≡ (if nat_eq (reference_found talk o) e.reference then Some (w false)
-    else Some (w (polled_is_outstanding talk j o)))
-stands_after c talk j e p None g l b = elim (nat_eq 0 e.reference) as
+    else Some (w (polled_is_outstanding via talk j o)))
+stands_after c via talk j e p None g l b = elim (nat_eq 0 e.reference) as
     (λ d. Some (watch_of (reference talk p) 0 false)
     ≡ (if d then Some (watch_of (reference talk p) 0 false) else Some (watch_of (reference talk p) 0 false)))
     [ true ↦ refl | false ↦ refl ]
-stands_after c talk j e p (Some i) g l b =
+stands_after c via talk j e p (Some i) g l b =
     let w : Bool → Watch = watch_of (reference talk p) (reference talk i) in
     let below = b i refl in
-    let after : is_outstanding talk (j + 1) i ≡ (is_outstanding talk j i
+    let after : is_outstanding via talk (j + 1) i ≡ (is_outstanding via talk j i
     && not (nat_eq (reference talk i) e.reference)) =
-    stays_if talk j i (omega (arith, below, l)) ∙ ap (λ d. is_outstanding talk j i && not d)
+    stays_if via talk j i (omega (arith, below, l)) ∙ ap (λ d. is_outstanding via talk j i && not d)
     (g.hands (reference talk i) ∙ flip e.reference (reference talk i)) in
     ap (λ s. Some (w s)) after
     ∙ elim (nat_eq (reference talk i) e.reference) as
-    (λ d. Some (w (is_outstanding talk j i && not d))
-    ≡ (if d then Some (w false) else Some (w (is_outstanding talk j i)))) [
-      | true ↦ ap (λ s. Some (w s)) (and-false (is_outstanding talk j i))
-      | false ↦ ap (λ s. Some (w s)) (and-true (is_outstanding talk j i))
+    (λ d. Some (w (is_outstanding via talk j i && not d))
+    ≡ (if d then Some (w false) else Some (w (is_outstanding via talk j i)))) [
+      | true ↦ ap (λ s. Some (w s)) (and-false (is_outstanding via talk j i))
+      | false ↦ ap (λ s. Some (w s)) (and-true (is_outstanding via talk j i))
     ]
 
-watch_left : (c : Settings) (talk : Talk) (j : ℕ) (e : End) (o : Option ℕ) → Gives c talk j e → in_flight talk j ≡ o
-    → option_map (watch_at talk (j + 1)) (in_flight talk (j + 1))
-    ≡ watch_after (option_map (watch_at talk j) o) e.reference
-watch_left c talk j e None g q = ap (option_map (watch_at talk (j + 1))) (flight_none c talk j e g q)
-watch_left c talk j e (Some p) g q =
-    let w = watch_at talk j p in
+watch_left : (c : Settings) (via : Connection) (talk : Talk) (j : ℕ) (e : End) (o : Option ℕ) → Gives c via talk j e
+    → in_flight via talk j ≡ o
+    → option_map (watch_at via talk (j + 1)) (in_flight via talk (j + 1))
+    ≡ watch_after (option_map (watch_at via talk j) o) e.reference
+watch_left c via talk j e None g q = ap (option_map (watch_at via talk (j + 1))) (flight_none c via talk j e g q)
+watch_left c via talk j e (Some p) g q =
+    let w = watch_at via talk j p in
     let both : (b : Bool) → nat_eq (reference talk p) e.reference ≡ b
-    → option_map (watch_at talk (j + 1)) (in_flight talk (j + 1))
+    → option_map (watch_at via talk (j + 1)) (in_flight via talk (j + 1))
     ≡ (if b then None else (if nat_eq w.polled e.reference then Some (record w { is_outstanding = false })
     else Some w)) =
     λ b. elim b as (λ b. nat_eq (reference talk p) e.reference ≡ b
-    → option_map (watch_at talk (j + 1)) (in_flight talk (j + 1))
+    → option_map (watch_at via talk (j + 1)) (in_flight via talk (j + 1))
     ≡ (if b then None else (if nat_eq w.polled e.reference then Some (record w { is_outstanding = false })
     else Some w))) [
-      | true ↦ λ n. ap (option_map (watch_at talk (j + 1))) (flight_gone c talk j e p g q n)
-      | false ↦ λ n. ap (option_map (watch_at talk (j + 1))) (flight_kept c talk j e p g q n)
-          ∙ stands_after c talk j e p (asked_for talk p) g (found_below talk j p _ q) (λ i f. found_below talk p i _ f)
+      | true ↦ λ n. ap (option_map (watch_at via talk (j + 1))) (flight_gone c via talk j e p g q n)
+      | false ↦ λ n. ap (option_map (watch_at via talk (j + 1))) (flight_kept c via talk j e p g q n)
+          ∙ stands_after c via talk j e p (asked_for via talk p) g (found_below via talk j p _ q)
+              (λ i f. found_below via talk p i _ f)
     ] in
     both (nat_eq (reference talk p) e.reference) refl
 
-pub account_received : (c : Settings) (talk : Talk) (j : ℕ) (e : End) → Gives c talk j e
-    → account_at c talk (j + 1) ≡ received (account_at c talk j) e
-account_received c talk j e g =
-    let subs : map (submission_at c talk (j + 1)) (outstanding talk (j + 1))
-    ≡ without e.reference (outstanding_with (account_at c talk j) (answered (account_at c talk j).watch e)) =
-    sym (ap (without e.reference) (all_told c talk j e g (in_flight talk j) refl) ∙ left_subs c talk j e g) in
-    λ i. record { credits = c.credits; outstanding = subs i; watch = watch_left c talk j e (in_flight talk j) g refl i }
+pub account_received : (c : Settings) (via : Connection) (talk : Talk) (j : ℕ) (e : End) → Gives c via talk j e
+    → account_at c via talk (j + 1) ≡ received (account_at c via talk j) e
+account_received c via talk j e g =
+    let subs : map (submission_at c via talk (j + 1)) (outstanding via talk (j + 1))
+    ≡ without e.reference (outstanding_with (account_at c via talk j) (answered (account_at c via talk j).watch e)) =
+    sym (ap (without e.reference) (all_told c via talk j e g (in_flight via talk j) refl)
+    ∙ left_subs c via talk j e g) in
+    let watch = watch_left c via talk j e (in_flight via talk j) g refl in
+    λ i. record { credits = credits_of c via; outstanding = subs i; watch = watch i }
 
 -- ---- one poll
 
-pub one_received : (c : Settings) (talk : Talk) (j : ℕ) (e : End) → Gives c talk j e → OnePoll talk (j + 1)
-one_received c talk j e g =
-    subst (AllByRecursion (λ x. is_asked (said talk x).heard ≡ true → in_flight talk (j + 1) ≡ Some x))
-    (sym (outs_after c talk j e g))
-    (every_weaker (λ x. (is_asked (said talk x).heard ≡ true → in_flight talk j ≡ Some x) × (keep talk e x ≡ true))
-    (λ x. is_asked (said talk x).heard ≡ true → in_flight talk (j + 1) ≡ Some x)
-    (λ x h a. flight_kept c talk j e x g (h.0 a) (other_number e.reference (reference talk x) h.1))
-    (filter (keep talk e) (outstanding talk j))
-    (every_filter (λ x. is_asked (said talk x).heard ≡ true → in_flight talk j ≡ Some x) (keep talk e)
-    (outstanding talk j) g.one))
+pub one_received : (c : Settings) (via : Connection) (talk : Talk) (j : ℕ) (e : End) → Gives c via talk j e
+    → OnePoll via talk (j + 1)
+one_received c via talk j e g =
+    subst (AllByRecursion (λ x. is_asked via (said talk x) ≡ true → in_flight via talk (j + 1) ≡ Some x))
+    (sym (outs_after c via talk j e g))
+    (every_weaker (λ x. (is_asked via (said talk x) ≡ true → in_flight via talk j ≡ Some x) × (keep talk e x ≡ true))
+    (λ x. is_asked via (said talk x) ≡ true → in_flight via talk (j + 1) ≡ Some x)
+    (λ x h a. flight_kept c via talk j e x g (h.0 a) (other_number e.reference (reference talk x) h.1))
+    (filter (keep talk e) (outstanding via talk j))
+    (every_filter (λ x. is_asked via (said talk x) ≡ true → in_flight via talk j ≡ Some x) (keep talk e)
+    (outstanding via talk j) g.one))
 
 -- a poll that is in flight after the turn was so before
-pub flight_back : (c : Settings) (talk : Talk) (j : ℕ) (e : End) (p : ℕ) → Gives c talk j e
-    → in_flight talk (j + 1) ≡ Some p → in_flight talk j ≡ Some p
-flight_back c talk j e p g f =
-    let from : (o : Option ℕ) → in_flight talk j ≡ o → in_flight talk j ≡ Some p =
-    λ o. elim o as (λ o. in_flight talk j ≡ o → in_flight talk j ≡ Some p) [
-      | None ↦ λ q. absurd (true≢false (ap is_some (sym f ∙ flight_none c talk j e g q)))
+pub flight_back : (c : Settings) (via : Connection) (talk : Talk) (j : ℕ) (e : End) (p : ℕ) → Gives c via talk j e
+    → in_flight via talk (j + 1) ≡ Some p → in_flight via talk j ≡ Some p
+flight_back c via talk j e p g f =
+    let from : (o : Option ℕ) → in_flight via talk j ≡ o → in_flight via talk j ≡ Some p =
+    λ o. elim o as (λ o. in_flight via talk j ≡ o → in_flight via talk j ≡ Some p) [
+      | None ↦ λ q. absurd (true≢false (ap is_some (sym f ∙ flight_none c via talk j e g q)))
       | Some x ↦ λ q.
-          let both : (b : Bool) → nat_eq (reference talk x) e.reference ≡ b → in_flight talk j ≡ Some p =
-          λ b. elim b as (λ b. nat_eq (reference talk x) e.reference ≡ b → in_flight talk j ≡ Some p) [
-            | true ↦ λ n. absurd (true≢false (ap is_some (sym f ∙ flight_gone c talk j e x g q n)))
-            | false ↦ λ n. q ∙ (sym (flight_kept c talk j e x g q n) ∙ f)
+          let both : (b : Bool) → nat_eq (reference talk x) e.reference ≡ b → in_flight via talk j ≡ Some p =
+          λ b. elim b as (λ b. nat_eq (reference talk x) e.reference ≡ b → in_flight via talk j ≡ Some p) [
+            | true ↦ λ n. absurd (true≢false (ap is_some (sym f ∙ flight_gone c via talk j e x g q n)))
+            | false ↦ λ n. q ∙ (sym (flight_kept c via talk j e x g q n) ∙ f)
           ] in
           both (nat_eq (reference talk x) e.reference) refl
     ] in
-    from (in_flight talk j) refl
+    from (in_flight via talk j) refl

@@ -13,11 +13,13 @@ use Rattle.mscp_packet.specs.Number.{num}
 use Rattle.mscp_packet.proofs.Commands.{command_bytes_are_messages, command_read}
 use Rattle.mscp_packet.proofs.Kept.{opcode_kept}
 use Rattle.mscp_packet.proofs.Numbers.{four}
-use Rattle.mscp_queue.specs.declared.name.Connection.TheVariants.{First}
+use Rattle.mscp_queue.specs.declared.name.Connection.{Connection}
 use Rattle.mscp_queue.specs.Names.{name_on}
 use Rattle.mscp_queue.specs.Figures.{figure_of_name}
 use Rattle.mscp_control.specs.Arrival.{credit_fault, fault_of, holds, is_queued, refusal}
-use Rattle.mscp_control.specs.Holdings.{Holdings, aborting, after_message, answer_to_message, answered_end, arrives, balance_of, numbers, numbers_ended, with_end, outstanding_of, queued, taken_as}
+use Rattle.mscp_control.proofs.Bridge.Accounts.{of_more}
+use Rattle.mscp_control.specs.Holdings.{Holdings, aborting, after_message, answer_to_message, answered_end, arrives, balance_of, more_ends, numbers, numbers_ended, with_end, outstanding_of, queued, taken_as, waiting_on}
+use Rattle.mscp_control.specs.Both.{of}
 use Rattle.mscp_host.specs.declared.news.HostFault.TheVariants as faults
 use Rattle.mscp_host.specs.declared.submission.Submission.{Submission}
 use Rattle.mscp_host.specs.declared.watch.Watch.{Watch}
@@ -30,7 +32,7 @@ use Rattle.mscp_sim.specs.Matches.{Flight, HasFlight, HasOwnEndcode, IsSmall, Ma
 use Rattle.mscp_sim.proofs.TwoEnds.Codes.{coded}
 use Rattle.mscp_sim.proofs.TwoEnds.Counting.{any_alike, has_any}
 use Rattle.mscp_sim.proofs.TwoEnds.Matching.{Adds, flight_on, pushes_match}
-use Rattle.mscp_sim.proofs.TwoEnds.Serving.{Arrives, aborting_matches, ended_pushes, queued_pushes}
+use Rattle.mscp_sim.proofs.TwoEnds.Arriving.{Arrives, aborting_matches, ended_pushes, queued_pushes}
 
 -- ---- the message of a command
 
@@ -59,12 +61,13 @@ none_too false true d e = absurd (true≢false (ap is_some e))
 none_too false false true e = absurd (true≢false (ap is_some e))
 none_too false false false e = (refl, refl, refl)
 
-same_balance : {K : Type 0} (a : Account) (h : Holdings K) (told : Flight) → Matches a h told → balance_of h ≡ balance a
-same_balance a h told m = λ i. sym m.credits i - sym m.many i
+same_balance : {K : Type 0} (via : Connection) (a : Account) (h : Holdings K) (told : Flight) → Matches via a h told
+    → balance_of via h ≡ balance a
+same_balance via a h told m = λ i. sym m.credits i - sym m.many i
 
-same_holds : {K : Type 0} (a : Account) (h : Holdings K) (told : Flight) (r : ℕ) → Matches a h told
-    → holds (outstanding_of h) r ≡ list_any (has_reference r) a.outstanding
-same_holds a h told r m = any_alike r (outstanding_of h) (references a.outstanding) (sym (m.same r))
+same_holds : {K : Type 0} (via : Connection) (a : Account) (h : Holdings K) (told : Flight) (r : ℕ)
+    → Matches via a h told → holds (outstanding_of via h) r ≡ list_any (has_reference r) a.outstanding
+same_holds via a h told r m = any_alike r (outstanding_of via h) (references a.outstanding) (sym (m.same r))
     ∙ sym (has_any r a.outstanding)
 
 -- why the host would refuse, where it doesn't
@@ -79,20 +82,22 @@ free a opcode reference e =
     (list_any (has_reference reference) a.outstanding) e in
     record { some = k.0; spare = k.1; new = k.2 }
 
-unrefused : {K : Type 0} (a : Account) (h : Holdings K) (told : Flight) (opcode reference : ℕ) → Matches a h told
-    → Free a opcode reference → credit_fault (balance_of h) (outstanding_of h) opcode reference ≡ None
-unrefused a h told opcode reference m f =
-    rw (same_balance a h told m, same_holds a h told reference m, f.some, f.spare, f.new) refl
+unrefused : {K : Type 0} (via : Connection) (a : Account) (h : Holdings K) (told : Flight) (opcode reference : ℕ)
+    → Matches via a h told → Free a opcode reference
+    → credit_fault (balance_of via h) (outstanding_of via h) opcode reference ≡ None
+unrefused via a h told opcode reference m f =
+    rw (same_balance via a h told m, same_holds via a h told reference m, f.some, f.spare, f.new) refl
 
 -- the controller takes in what the host sends
-taken_in : {K : Type 0} (a : Account) (h : Holdings K) (told : Flight) (c : Command) → Matches a h told → Carries c
-    → Free a (opcode_byte c.order) c.reference → refusal (balance_of h) (outstanding_of h) (command_bytes c) ≡ None
-taken_in a h told c m k f =
+taken_in : {K : Type 0} (via : Connection) (a : Account) (h : Holdings K) (told : Flight) (c : Command)
+    → Matches via a h told → Carries c → Free a (opcode_byte c.order) c.reference
+    → refusal (balance_of via h) (outstanding_of via h) (command_bytes c) ≡ None
+taken_in via a h told c m k f =
     let b = command_bytes c in
     let low : nat_lt (length b) 12 ≡ false = let l = k.read.low in grind (arith, nat_tests, l) in
     let high : nat_lt 64 (length b) ≡ false = let l = k.read.high in grind (arith, nat_tests, l) in
-    rw (low, high) ((λ i. credit_fault (balance_of h) (outstanding_of h) (k.opcode i) (k.reference i))
-    ∙ unrefused a h told (opcode_byte c.order) c.reference m f)
+    rw (low, high) ((λ i. credit_fault (balance_of via h) (outstanding_of via h) (k.opcode i) (k.reference i))
+    ∙ unrefused via a h told (opcode_byte c.order) c.reference m f)
 
 -- ---- what both keep then
 
@@ -106,9 +111,9 @@ none_times n (x ∷ xs) e =
     ] in
     out (nat_eq x n) e
 
-nobody_named : {K : Type 0} (a : Account) (h : Holdings K) (told : Flight) (n : ℕ) → Matches a h told
-    → list_any (has_reference n) a.outstanding ≡ false → times n (outstanding_of h) ≡ 0
-nobody_named a h told n m e = none_times n (outstanding_of h) (same_holds a h told n m ∙ e)
+nobody_named : {K : Type 0} (via : Connection) (a : Account) (h : Holdings K) (told : Flight) (n : ℕ)
+    → Matches via a h told → list_any (has_reference n) a.outstanding ≡ false → times n (outstanding_of via h) ≡ 0
+nobody_named via a h told n m e = none_times n (outstanding_of via h) (same_holds via a h told n m ∙ e)
 
 own_reference_of : (c : Settings) (online : Bool) (figure : ℕ) (command : Command) (o : Option ℕ)
     → (own_end_with c online figure command o).reference ≡ command.reference
@@ -120,75 +125,84 @@ own_code_of : (c : Settings) (online : Bool) (figure : ℕ) (command : Command) 
 own_code_of c online figure command None = refl
 own_code_of c online figure command (Some status) = refl
 
-arrives_queued : {K : Type 0} (a a' : Account) (h : Holdings K) (told : Flight) (s : Submission) (c : Command)
-    → Arrives a a' h s c → Matches a h told → a'.watch ≡ a.watch → Matches a' (queued h c) told
-arrives_queued a a' h told s c x m w =
-    pushes_match a a' h (queued h c) s told told (queued_pushes a a' h told s c x m) m
-    (subst (λ (o : Option Watch). HasFlight h.untaken o told) (sym w) m.flight)
+arrives_queued : {K : Type 0} (via : Connection) (a a' : Account) (h : Holdings K) (told : Flight) (s : Submission)
+    (c : Command) → Arrives via a a' h s c → Matches via a h told → a'.watch ≡ a.watch
+    → Matches via a' (queued via h c) told
+arrives_queued via a a' h told s c x m w =
+    pushes_match via a a' h (queued via h c) s told told (queued_pushes via a a' h told s c x m) m
+    (subst (λ (o : Option Watch). HasFlight (of via h.untaken) o told) (sym w) m.flight)
 
 -- the same number is as new where another command was aborted
-new_still : {K : Type 0} (a : Account) (h h' : Holdings K) (told : Flight) (n : ℕ) → Matches a h told
-    → Matches a h' told → times n (outstanding_of h) ≡ 0 → times n (outstanding_of h') ≡ 0
-new_still a h h' told n m m' z = sym (m'.same n) ∙ (m.same n ∙ z)
+new_still : {K : Type 0} (via : Connection) (a : Account) (h h' : Holdings K) (told : Flight) (n : ℕ)
+    → Matches via a h told → Matches via a h' told → times n (outstanding_of via h) ≡ 0
+    → times n (outstanding_of via h') ≡ 0
+new_still via a h h' told n m m' z = sym (m'.same n) ∙ (m.same n ∙ z)
 
-arrives_ended : {K : Type 0} (a a' : Account) (h : Holdings K) (told told' : Flight) (s : Submission) (c : Command)
-    → Arrives a a' h s c → Matches a h told
-    → HasFlight (with_end (aborting h c.order) (answered_end h c)).untaken a'.watch told'
-    → Matches a' (with_end (aborting h c.order) (answered_end h c)) told'
-arrives_ended {K} a a' h told told' s c x m f =
-    let h1 : Holdings K = aborting h c.order in
-    let e = answered_end h c in
-    let m1 = aborting_matches a h told c.order m in
+arrives_ended : {K : Type 0} (via : Connection) (a a' : Account) (h : Holdings K) (told told' : Flight) (s : Submission)
+    (c : Command) → Arrives via a a' h s c → Matches via a h told
+    → HasFlight (of via (with_end via (aborting via h c.order) (answered_end via h c)).untaken) a'.watch told'
+    → Matches via a' (with_end via (aborting via h c.order) (answered_end via h c)) told'
+arrives_ended {K} via a a' h told told' s c x m f =
+    let h1 : Holdings K = aborting via h c.order in
+    let e = answered_end via h c in
+    let m1 = aborting_matches via a h told c.order m in
     let code : is_code_of e.code s.opcode ≡ true =
     ap (is_code_of e.code) x.opcode ∙ (ap (λ q. is_code_of q (opcode_byte c.order))
     (own_code_of h.settings _ _ c (fault_of h.settings c)) ∙ x.coded) in
     let own : e.reference ≡ s.reference = own_reference_of h.settings _ _ c (fault_of h.settings c) ∙ sym x.reference in
-    let adds : Adds a a' h1 s = record {
+    let adds : Adds via a a' h1 s = record {
       credits = x.adds.credits;
       outstanding = x.adds.outstanding;
       small =
           x.adds.small;
-      new = new_still a h h1 told s.reference m m1 x.adds.new;
+      new = new_still via a h h1 told s.reference m m1 x.adds.new;
     } in
-    pushes_match a a' h1 (with_end h1 e) s told told' (ended_pushes a a' h1 told s e adds own code m1) m1 f
+    pushes_match via a a' h1 (with_end via h1 e) s told told' (ended_pushes via a a' h1 told s e adds own code m1) m1 f
 
 -- ---- a command that is submitted
 
-message_taken : {K : Type 0} (h : Holdings K) (b : List ℕ) → refusal (balance_of h) (outstanding_of h) b ≡ None
-    → (answer_to_message h b ≡ Ok (taken_as h (command_of b))) × (after_message h b ≡ arrives h (command_of b))
-message_taken h b e = (rw e refl, rw e refl)
+message_taken : {K : Type 0} (via : Connection) (h : Holdings K) (b : List ℕ)
+    → refusal (balance_of via h) (outstanding_of via h) b ≡ None
+    → (answer_to_message via h b ≡ Ok (taken_as via h (command_of b)))
+    × (after_message via h b ≡ arrives via h (command_of b))
+message_taken via h b e = (rw e refl, rw e refl)
 
-arrives_match : {K : Type 0} (a a' : Account) (h : Holdings K) (told : Flight) (s : Submission) (c : Command)
-    → Arrives a a' h s c → Matches a h told → a'.watch ≡ a.watch → Matches a' (arrives h c) told
-arrives_match {K} a a' h told s c x m w =
-    let h1 : Holdings K = aborting h c.order in
-    let flight = flight_on h1.untaken a.watch told (answered_end h c) (aborting_matches a h told c.order m).flight in
-    elim (is_queued h.settings c) as (λ b. Matches a' (if b then queued h c else with_end h1 (answered_end h c)) told) [
-      | true ↦ arrives_queued a a' h told s c x m w
-      | false ↦ arrives_ended a a' h told told s c x m
-          (subst (λ (o : Option Watch). HasFlight (h1.untaken ++ answered_end h c ∷ []) o told) (sym w) flight)
+arrives_match : {K : Type 0} (via : Connection) (a a' : Account) (h : Holdings K) (told : Flight) (s : Submission)
+    (c : Command) → Arrives via a a' h s c → Matches via a h told → a'.watch ≡ a.watch
+    → Matches via a' (arrives via h c) told
+arrives_match {K} via a a' h told s c x m w =
+    let h1 : Holdings K = aborting via h c.order in
+    let e = answered_end via h c in
+    let flight = flight_on (of via h1.untaken) a.watch told e (aborting_matches via a h told c.order m).flight in
+    let ended : of via (with_end via h1 e).untaken ≡ of via h1.untaken ++ e ∷ [] = of_more via h1.untaken (e ∷ []) in
+    elim (is_queued h.settings c) as (λ b. Matches via a' (if b then queued via h c else with_end via h1 e) told) [
+      | true ↦ arrives_queued via a a' h told s c x m w
+      | false ↦ arrives_ended via a a' h told told s c x m
+          (subst (λ us. HasFlight us a'.watch told) (sym ended)
+          (subst (λ (o : Option Watch). HasFlight (of via h1.untaken ++ e ∷ []) o told) (sym w) flight))
     ]
 
 -- what the host submits the controller takes in
-pub record TakesIn {K : Type 0} (h : Holdings K) (b : List ℕ) (a' : Account) (told : Flight) : Type 0 where
-  pub taken : answer_to_message h b ≡ Ok (taken_as h (command_of b))
-  pub match : Matches a' (after_message h b) told
+pub record TakesIn {K : Type 0} (via : Connection) (h : Holdings K) (b : List ℕ) (a' : Account) (told : Flight) :
+    Type 0 where
+  pub taken : answer_to_message via h b ≡ Ok (taken_as via h (command_of b))
+  pub match : Matches via a' (after_message via h b) told
 
-pub submitted_match : {K : Type 0} (a : Account) (h : Holdings K) (told : Flight) (c : Command) → c.reference < 2 ^ 32
-    → c.unit < 2 ^ 16 → Matches a h told → host.refusal a (opcode_byte c.order) c.reference ≡ None
-    → TakesIn h (command_bytes c) (submitted a c) told
-submitted_match {K} a h told c small unit m e =
+pub submitted_match : {K : Type 0} (via : Connection) (a : Account) (h : Holdings K) (told : Flight) (c : Command)
+    → c.reference < 2 ^ 32 → c.unit < 2 ^ 16 → Matches via a h told
+    → host.refusal a (opcode_byte c.order) c.reference ≡ None → TakesIn via h (command_bytes c) (submitted a c) told
+submitted_match {K} via a h told c small unit m e =
     let k = carries c small in
     let f = free a (opcode_byte c.order) c.reference e in
     let b = command_bytes c in
-    let both = message_taken h b (taken_in a h told c m k f) in
-    let x : Arrives a (submitted a c) h (submission_of c) (command_of b) = record {
+    let both = message_taken via h b (taken_in via a h told c m k f) in
+    let x : Arrives via a (submitted a c) h (submission_of c) (command_of b) = record {
       adds = record {
         credits = refl;
         outstanding = refl;
         small = (small, unit);
         new =
-            nobody_named a h told c.reference m f.new;
+            nobody_named via a h told c.reference m f.new;
       };
       reference = sym (same_reference c k);
       opcode = sym (same_opcode c k);
@@ -196,8 +210,8 @@ submitted_match {K} a h told c small unit m e =
     } in
     record {
       taken = both.0;
-      match = subst (λ (q : Holdings K). Matches (submitted a c) q told) (sym both.1)
-          (arrives_match a (submitted a c) h told (submission_of c) (command_of b) x m refl);
+      match = subst (λ (q : Holdings K). Matches via (submitted a c) q told) (sym both.1)
+          (arrives_match via a (submitted a c) h told (submission_of c) (command_of b) x m refl);
     }
 
 -- ---- a poll
@@ -251,39 +265,45 @@ second_of true q h e = absurd (true≢false e)
 second_of false q h e = h
 
 -- what the poll of this submission is told
-abbrev pub told_now : {K : Type 0} → Holdings K → Submission → Flight
-told_now h s = record {
-  figure = figure_of_name h.settings.budget h.waiting (name_on First s.reference);
-  waited = list_any (λ x. nat_eq x s.reference) (numbers h.waiting);
+abbrev pub told_now : {K : Type 0} → Connection → Holdings K → Submission → Flight
+told_now via h s = record {
+  figure = figure_of_name h.settings.budget h.waiting (name_on via s.reference);
+  waited = list_any (λ x. nat_eq x s.reference) (numbers (waiting_on via h.waiting));
 }
 
-poll_flight : {K : Type 0} (a : Account) (h : Holdings K) (told : Flight) (r : ℕ) (s : Submission) → Matches a h told
-    → list_any (has_reference s.reference) a.outstanding ≡ true
-    → HasFlight (with_end (aborting h (orders.Status s.reference)) (answered_end h (poll_of r s))).untaken
-    (watching a r s).watch (told_now h s)
-poll_flight {K} a h told r s m there =
+poll_flight : {K : Type 0} (via : Connection) (a : Account) (h : Holdings K) (told : Flight) (r : ℕ) (s : Submission)
+    → Matches via a h told → list_any (has_reference s.reference) a.outstanding ≡ true
+    → HasFlight
+    (of via (with_end via (aborting via h (orders.Status s.reference)) (answered_end via h (poll_of r s))).untaken)
+    (watching a r s).watch (told_now via h s)
+poll_flight {K} via a h told r s m there =
+    let e = answered_end via h (poll_of r s) in
     record {
-      front = h.untaken ++ [];
-      end = answered_end h (poll_of r s);
+      front = of via h.untaken ++ [];
+      end = e;
       back = [];
-      split = refl;
+      split = of_more via (more_ends via h.untaken []) (e ∷ []) ∙ ap (λ us. us ++ e ∷ []) (of_more via h.untaken []);
       reference = refl;
       code = refl;
       body = refl;
       ended = λ st wa.
-          let all = same_holds a h told s.reference m ∙ there in
-          let either = sym (list_any-append (λ x. nat_eq x s.reference) (numbers h.waiting) (numbers_ended h.untaken))
+          let all = same_holds via a h told s.reference m ∙ there in
+          let either = sym
+              (list_any-append (λ x. nat_eq x s.reference) (numbers (waiting_on via h.waiting))
+              (numbers_ended (of via h.untaken)))
           ∙ all in
-          let second = second_of (list_any (λ x. nat_eq x s.reference) (numbers h.waiting))
-          (list_any (λ x. nat_eq x s.reference) (numbers_ended h.untaken)) either wa in
-          subst (λ us. list_any (λ (e : End). nat_eq e.reference s.reference) us ≡ true) (sym (append-nil h.untaken))
-          (sym (any_ends s.reference h.untaken) ∙ second);
+          let second = second_of (list_any (λ x. nat_eq x s.reference) (numbers (waiting_on via h.waiting)))
+          (list_any (λ x. nat_eq x s.reference) (numbers_ended (of via h.untaken))) either wa in
+          subst (λ us. list_any (λ (e : End). nat_eq e.reference s.reference) us ≡ true)
+              (sym (append-nil (of via h.untaken)))
+          (sym (any_ends s.reference (of via h.untaken)) ∙ second);
     }
 
-pub polled_match : {K : Type 0} (a : Account) (h : Holdings K) (told : Flight) (r : ℕ) (s : Submission) → r < 2 ^ 32
-    → Matches a h told → host.oldest a ≡ Some s → host.refusal a (opcode_byte (poll_of r s).order) r ≡ None
-    → TakesIn h (command_bytes (poll_of r s)) (watching a r s) (told_now h s)
-polled_match {K} a h told r s small m found e =
+pub polled_match : {K : Type 0} (via : Connection) (a : Account) (h : Holdings K) (told : Flight) (r : ℕ)
+    (s : Submission) → r < 2 ^ 32 → Matches via a h told → host.oldest a ≡ Some s
+    → host.refusal a (opcode_byte (poll_of r s).order) r ≡ None
+    → TakesIn via h (command_bytes (poll_of r s)) (watching a r s) (told_now via h s)
+polled_match {K} via a h told r s small m found e =
     let c = poll_of r s in
     let b = command_bytes c in
     let p : Submission → Bool = λ s. not (is_immediate s.opcode) in
@@ -291,24 +311,24 @@ polled_match {K} a h told r s small m found e =
     let same : command_of b ≡ c = same_command c tt (small, fits.1, fits.0) in
     let k = carries c small in
     let f = free a (opcode_byte c.order) r e in
-    let both = message_taken h b (taken_in a h told c m k f) in
-    let x : Arrives a (watching a r s) h (submission_of c) c = record {
+    let both = message_taken via h b (taken_in via a h told c m k f) in
+    let x : Arrives via a (watching a r s) h (submission_of c) c = record {
       adds = record {
         credits = refl;
         outstanding = refl;
         small = (small, fits.1);
         new =
-            nobody_named a h told r m f.new;
+            nobody_named via a h told r m f.new;
       };
       reference = refl;
       opcode = refl;
       coded = subst (λ (q : Command). HasOwnEndcode q.order) same (coded b);
     } in
-    let match : Matches (watching a r s) (arrives h c) (told_now h s) =
-    arrives_ended a (watching a r s) h told (told_now h s) (submission_of c) c x m
-    (poll_flight a h told r s m (found_named p a.outstanding s found)) in
+    let match : Matches via (watching a r s) (arrives via h c) (told_now via h s) =
+    arrives_ended via a (watching a r s) h told (told_now via h s) (submission_of c) c x m
+    (poll_flight via a h told r s m (found_named p a.outstanding s found)) in
     record {
       taken = both.0;
-      match = subst (λ (q : Holdings K). Matches (watching a r s) q (told_now h s))
-          (sym (both.1 ∙ ap (arrives h) same)) match;
+      match = subst (λ (q : Holdings K). Matches via (watching a r s) q (told_now via h s))
+          (sym (both.1 ∙ ap (arrives via h) same)) match;
     }

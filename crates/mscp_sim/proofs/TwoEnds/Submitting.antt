@@ -6,13 +6,16 @@ use Rattle.std.proofs.lemmas.Bool.{false≢true, true≢false}
 use Rattle.arrayvec.specs.ArrayVec.{ArrayVec}
 use Rattle.mscp_packet.specs.declared.command.Command.{Command}
 use Rattle.mscp_packet.specs.Commands.{command_bytes, command_of, opcode_byte}
+use Rattle.mscp_queue.specs.declared.name.Connection.{Connection}
+use Rattle.mscp_control.specs.declared.event.Sent.{Sent}
+use Rattle.mscp_control.specs.declared.event.SendFault.{SendFault}
 use Rattle.mscp_control.specs.Holdings.{Holdings, after_message, answer_to_message, taken_as}
 use Rattle.mscp_host.specs.declared.news.HostFault.{HostFault}
 use Rattle.mscp_host.specs.declared.news.Poll.{Poll}
 use Rattle.mscp_host.specs.declared.news.Poll.TheVariants as polls
 use Rattle.mscp_host.specs.declared.submission.Submission.{Submission}
 use Rattle.mscp_host.specs.Accounts.{Account, asks, asks_unless, has_reference, oldest, poll_of, polls_oldest, refusal, submits, submits_unless, submitted, watching}
-use Rattle.mscp_sim.specs.Matches.{Flight, Match, Matches}
+use Rattle.mscp_sim.specs.Matches.{Flight, MatchOn, Matches}
 use Rattle.mscp_sim.proofs.TwoEnds.Sending.{carries, free, polled_match, same_reference, submitted_match, told_now}
 
 -- ---- what was answered
@@ -30,41 +33,48 @@ abbrev asked_or : Result Poll HostFault → ArrayVec ℕ → List ℕ
 asked_or (Ok (polls.Ask b)) other = b.items
 asked_or p other = other.items
 
+-- a message that is taken in isn't refused
+pub not_refused : {K : Type 0} (via : Connection) (h : Holdings K) (b c : List ℕ) (r : Result Sent SendFault)
+    (sent : Sent) → r ≡ answer_to_message via h b → b ≡ c → answer_to_message via h c ≡ Ok sent → is_ok r ≡ true
+not_refused via h b c r sent e same taken = ap is_ok (e ∙ (ap (answer_to_message via h) same ∙ taken))
+
 -- ---- a command
 
 -- where the host takes the command, so does the controller
-pub record Submits {K : Type 0} (a : Account) (h : Holdings K) (told : Flight) (c : Command) (sent : List ℕ)
+pub record Submits {K : Type 0} (via : Connection) (a : Account) (h : Holdings K) (told : Flight) (c : Command)
+    (sent : List ℕ)
     (a' : Account) : Type 0 where
   pub message : sent ≡ command_bytes c
   pub left : a' ≡ submitted a c
   pub fresh : list_any (has_reference c.reference) a.outstanding ≡ false
   pub named : (command_of sent).reference ≡ c.reference
-  pub taken : answer_to_message h sent ≡ Ok (taken_as h (command_of sent))
-  pub match : Matches a' (after_message h sent) told
+  pub taken : answer_to_message via h sent ≡ Ok (taken_as via h (command_of sent))
+  pub match : Matches via a' (after_message via h sent) told
 
-submits_when : {K : Type 0} (a : Account) (h : Holdings K) (told : Flight) (c : Command) (o : Option HostFault)
-    (b : ArrayVec ℕ) (a' : Account) → c.reference < 2 ^ 32 → c.unit < 2 ^ 16 → Matches a h told
-    → refusal a (opcode_byte c.order) c.reference ≡ o → submits_unless a c o ≡ (Ok b, a')
-    → Submits a h told c b.items a'
-submits_when a h told c (Some fault) b a' r u m o e = absurd (false≢true (ap (λ p. is_ok p.0) e))
-submits_when {K} a h told c None b a' r u m o e =
+submits_when : {K : Type 0} (via : Connection) (a : Account) (h : Holdings K) (told : Flight) (c : Command)
+    (o : Option HostFault) (b : ArrayVec ℕ) (a' : Account) → c.reference < 2 ^ 32 → c.unit < 2 ^ 16
+    → Matches via a h told → refusal a (opcode_byte c.order) c.reference ≡ o → submits_unless a c o ≡ (Ok b, a')
+    → Submits via a h told c b.items a'
+submits_when via a h told c (Some fault) b a' r u m o e = absurd (false≢true (ap (λ p. is_ok p.0) e))
+submits_when {K} via a h told c None b a' r u m o e =
     let message : b.items ≡ command_bytes c = ap (λ p. items_or p.0 b) (sym e) in
     let left : a' ≡ submitted a c = ap (λ p. p.1) (sym e) in
-    let x = submitted_match a h told c r u m o in
+    let x = submitted_match via a h told c r u m o in
     record {
       message = message;
       left = left;
       fresh = (free a (opcode_byte c.order) c.reference o).new;
       named = ap (λ q. (command_of q).reference) message ∙ same_reference c (carries c r);
-      taken = subst (λ q. answer_to_message h q ≡ Ok (taken_as h (command_of q))) (sym message) x.taken;
-      match = subst (λ (y : Account). Matches y (after_message h b.items) told) (sym left)
-          (subst (λ q. Matches (submitted a c) (after_message h q) told) (sym message) x.match);
+      taken = subst (λ q. answer_to_message via h q ≡ Ok (taken_as via h (command_of q))) (sym message) x.taken;
+      match = subst (λ (y : Account). Matches via y (after_message via h b.items) told) (sym left)
+          (subst (λ q. Matches via (submitted a c) (after_message via h q) told) (sym message) x.match);
     }
 
-pub submits_match : {K : Type 0} (a : Account) (h : Holdings K) (told : Flight) (c : Command) (b : ArrayVec ℕ)
-    (a' : Account) → c.reference < 2 ^ 32 → c.unit < 2 ^ 16 → Matches a h told → submits a c ≡ (Ok b, a')
-    → Submits a h told c b.items a'
-submits_match a h told c b a' r u m e = submits_when a h told c (refusal a (opcode_byte c.order) c.reference) b a' r u m
+pub submits_match : {K : Type 0} (via : Connection) (a : Account) (h : Holdings K) (told : Flight) (c : Command)
+    (b : ArrayVec ℕ) (a' : Account) → c.reference < 2 ^ 32 → c.unit < 2 ^ 16 → Matches via a h told
+    → submits a c ≡ (Ok b, a') → Submits via a h told c b.items a'
+submits_match via a h told c b a' r u m e = submits_when via a h told c
+    (refusal a (opcode_byte c.order) c.reference) b a' r u m
     refl e
 
 -- where it doesn't, nothing changes
@@ -80,7 +90,8 @@ submits_kept a c fault a' e = kept_when a c (refusal a (opcode_byte c.order) c.r
 -- ---- a poll
 
 -- where the host asks, the controller takes its poll
-pub record Asks {K : Type 0} (a : Account) (h : Holdings K) (r : ℕ) (sent : List ℕ) (a' : Account) : Type 0 where
+pub record Asks {K : Type 0} (via : Connection) (a : Account) (h : Holdings K) (r : ℕ) (sent : List ℕ)
+    (a' : Account) : Type 0 where
   pub about : Submission
   pub oldest : oldest a ≡ Some about
   pub idle : is_some a.watch ≡ false
@@ -88,25 +99,26 @@ pub record Asks {K : Type 0} (a : Account) (h : Holdings K) (r : ℕ) (sent : Li
   pub left : a' ≡ watching a r about
   pub fresh : list_any (has_reference r) a.outstanding ≡ false
   pub named : (command_of sent).reference ≡ r
-  pub taken : answer_to_message h sent ≡ Ok (taken_as h (command_of sent))
-  pub match : Matches a' (after_message h sent) (told_now h about)
+  pub taken : answer_to_message via h sent ≡ Ok (taken_as via h (command_of sent))
+  pub match : Matches via a' (after_message via h sent) (told_now via h about)
 
 -- a host that may ask about s under the number r: no poll is in flight, and s is the oldest that it may ask about
-record MayAsk {K : Type 0} (a : Account) (h : Holdings K) (r : ℕ) (s : Submission) : Type 0 where
+record MayAsk {K : Type 0} (via : Connection) (a : Account) (h : Holdings K) (r : ℕ) (s : Submission) : Type 0 where
   pub small : r < 2 ^ 32
-  pub match : Match a h
+  pub match : MatchOn via a h
   pub idle : is_some a.watch ≡ false
   pub oldest : oldest a ≡ Some s
 
-asks_when : {K : Type 0} (a : Account) (h : Holdings K) (r : ℕ) (s : Submission) (o : Option HostFault) (b : ArrayVec ℕ)
-    (a' : Account) → MayAsk a h r s → refusal a (opcode_byte (poll_of r s).order) r ≡ o
-    → asks_unless a r s o ≡ (Ok (polls.Ask b), a') → Asks a h r b.items a'
-asks_when a h r s (Some fault) b a' x o e = absurd (false≢true (ap (λ p. is_ok p.0) e))
-asks_when {K} a h r s None b a' x o e =
+asks_when : {K : Type 0} (via : Connection) (a : Account) (h : Holdings K) (r : ℕ) (s : Submission)
+    (o : Option HostFault) (b : ArrayVec ℕ) (a' : Account) → MayAsk via a h r s
+    → refusal a (opcode_byte (poll_of r s).order) r ≡ o → asks_unless a r s o ≡ (Ok (polls.Ask b), a')
+    → Asks via a h r b.items a'
+asks_when via a h r s (Some fault) b a' x o e = absurd (false≢true (ap (λ p. is_ok p.0) e))
+asks_when {K} via a h r s None b a' x o e =
     let c = poll_of r s in
     let message : b.items ≡ command_bytes c = ap (λ p. asked_or p.0 b) (sym e) in
     let left : a' ≡ watching a r s = ap (λ p. p.1) (sym e) in
-    let y = polled_match a h x.match.0 r s x.small x.match.1 x.oldest o in
+    let y = polled_match via a h x.match.0 r s x.small x.match.1 x.oldest o in
     record {
       about = s;
       oldest = x.oldest;
@@ -115,27 +127,27 @@ asks_when {K} a h r s None b a' x o e =
       left = left;
       fresh = (free a (opcode_byte c.order) r o).new;
       named = ap (λ q. (command_of q).reference) message ∙ same_reference c (carries c x.small);
-      taken = subst (λ q. answer_to_message h q ≡ Ok (taken_as h (command_of q))) (sym message) y.taken;
-      match = subst (λ (y : Account). Matches y (after_message h b.items) (told_now h s)) (sym left)
-          (subst (λ q. Matches (watching a r s) (after_message h q) (told_now h s)) (sym message) y.match);
+      taken = subst (λ q. answer_to_message via h q ≡ Ok (taken_as via h (command_of q))) (sym message) y.taken;
+      match = subst (λ (y : Account). Matches via y (after_message via h b.items) (told_now via h s)) (sym left)
+          (subst (λ q. Matches via (watching a r s) (after_message via h q) (told_now via h s)) (sym message) y.match);
     }
 
-asks_of : {K : Type 0} (a : Account) (h : Holdings K) (r : ℕ) (s : Option Submission) (b : ArrayVec ℕ) (a' : Account)
-    → r < 2 ^ 32 → Match a h → is_some a.watch ≡ false → oldest a ≡ s → asks a r s ≡ (Ok (polls.Ask b), a')
-    → Asks a h r b.items a'
-asks_of a h r None b a' l m w f e = absurd (false≢true (ap (λ p. is_ask p.0) e))
-asks_of a h r (Some s) b a' l m w f e = asks_when a h r s (refusal a (opcode_byte (poll_of r s).order) r) b a'
+asks_of : {K : Type 0} (via : Connection) (a : Account) (h : Holdings K) (r : ℕ) (s : Option Submission)
+    (b : ArrayVec ℕ) (a' : Account) → r < 2 ^ 32 → MatchOn via a h → is_some a.watch ≡ false → oldest a ≡ s
+    → asks a r s ≡ (Ok (polls.Ask b), a') → Asks via a h r b.items a'
+asks_of via a h r None b a' l m w f e = absurd (false≢true (ap (λ p. is_ask p.0) e))
+asks_of via a h r (Some s) b a' l m w f e = asks_when via a h r s (refusal a (opcode_byte (poll_of r s).order) r) b a'
     (record { small = l; match = m; idle = w; oldest = f }) refl e
 
-asks_idle : {K : Type 0} (a : Account) (h : Holdings K) (r : ℕ) (q : Bool) (b : ArrayVec ℕ) (a' : Account) → r < 2 ^ 32
-    → Match a h → is_some a.watch ≡ q → (if q then (Ok polls.Busy, a) else asks a r (oldest a)) ≡ (Ok (polls.Ask b), a')
-    → Asks a h r b.items a'
-asks_idle a h r true b a' l m w e = absurd (false≢true (ap (λ p. is_ask p.0) e))
-asks_idle a h r false b a' l m w e = asks_of a h r (oldest a) b a' l m w refl e
+asks_idle : {K : Type 0} (via : Connection) (a : Account) (h : Holdings K) (r : ℕ) (q : Bool) (b : ArrayVec ℕ)
+    (a' : Account) → r < 2 ^ 32 → MatchOn via a h → is_some a.watch ≡ q
+    → (if q then (Ok polls.Busy, a) else asks a r (oldest a)) ≡ (Ok (polls.Ask b), a') → Asks via a h r b.items a'
+asks_idle via a h r true b a' l m w e = absurd (false≢true (ap (λ p. is_ask p.0) e))
+asks_idle via a h r false b a' l m w e = asks_of via a h r (oldest a) b a' l m w refl e
 
-pub asks_match : {K : Type 0} (a : Account) (h : Holdings K) (r : ℕ) (b : ArrayVec ℕ) (a' : Account) → r < 2 ^ 32
-    → Match a h → polls_oldest a r ≡ (Ok (polls.Ask b), a') → Asks a h r b.items a'
-asks_match a h r b a' l m e = asks_idle a h r (is_some a.watch) b a' l m refl e
+pub asks_match : {K : Type 0} (via : Connection) (a : Account) (h : Holdings K) (r : ℕ) (b : ArrayVec ℕ) (a' : Account)
+    → r < 2 ^ 32 → MatchOn via a h → polls_oldest a r ≡ (Ok (polls.Ask b), a') → Asks via a h r b.items a'
+asks_match via a h r b a' l m e = asks_idle via a h r (is_some a.watch) b a' l m refl e
 
 -- where it doesn't, nothing changes
 unasked_when : (a : Account) (r : ℕ) (s : Submission) (o : Option HostFault) (p : Result Poll HostFault) (a' : Account)

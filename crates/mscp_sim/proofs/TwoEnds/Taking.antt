@@ -8,12 +8,15 @@ use Rattle.mscp_packet.specs.Ends.{end_bytes, IsEnd}
 use Rattle.mscp_control.specs.declared.event.Event.TheVariants as events
 use Rattle.mscp_control.specs.declared.event.Entry.TheVariants as entries
 use Rattle.mscp_control.specs.History.{Moment}
+use Rattle.mscp_queue.specs.declared.name.Connection.{Connection}
+use Rattle.mscp_control.specs.Both.{of, put}
 use Rattle.mscp_control.specs.Holdings.{Holdings, after_take, end_taken}
 use Rattle.mscp_host.specs.declared.news.News.{News}
 use Rattle.mscp_host.specs.declared.news.HostFault.{HostFault}
 use Rattle.mscp_host.specs.Accounts.{Account, answered, heard, news_with, received}
 use Rattle.mscp_sim.specs.Matches.{Flight, Matches}
 use Rattle.mscp_sim.proofs.TwoEnds.Handing.{first_heard, received_match}
+use Rattle.mscp_sim.proofs.TwoEnds.Sides.{put_own}
 
 -- an end as bytes
 abbrev end_of : Option End → Option (ArrayVec ℕ)
@@ -23,64 +26,72 @@ none_of : (o : Option End) → end_of o ≡ None → o ≡ None
 none_of None e = refl
 none_of (Some x) e = absurd (true≢false (ap is_some e))
 
-none_when : {K : Type 0} (a : Account) (h : Holdings K) (told : Flight) (us : List End) → h.untaken ≡ us
-    → end_taken h ≡ None → Matches a h told → Matches a (after_take h) told
-none_when {K} a h told [] u e m = subst (λ xs. Matches a (record h { untaken = xs }) told) (u ∙ ap (drop 1) (sym u)) m
-none_when a h told (x ∷ us) u e m = absurd (true≢false
-    (ap is_some (ap (λ xs. slice_get xs 0) (sym u) ∙ none_of (slice_get h.untaken 0) e)))
+none_when : {K : Type 0} (via : Connection) (a : Account) (h : Holdings K) (told : Flight) (us : List End)
+    → of via h.untaken ≡ us → end_taken via h ≡ None → Matches via a h told → Matches via a (after_take via h) told
+none_when {K} via a h told [] u e m =
+    let same : put via (drop 1 (of via h.untaken)) h.untaken ≡ h.untaken =
+    ap (λ xs. put via (drop 1 xs) h.untaken) u
+    ∙ (ap (λ xs. put via xs h.untaken) (sym u) ∙ put_own via h.untaken) in
+    subst (λ us. Matches via a (record h { untaken = us }) told) (sym same) m
+none_when via a h told (x ∷ us) u e m = absurd (true≢false
+    (ap is_some (ap (λ xs. slice_get xs 0) (sym u) ∙ none_of (slice_get (of via h.untaken) 0) e)))
 
-pub taken_none : {K : Type 0} (a : Account) (h : Holdings K) (told : Flight) → end_taken h ≡ None → Matches a h told
-    → Matches a (after_take h) told
-taken_none a h told e m = none_when a h told h.untaken refl e m
+pub taken_none : {K : Type 0} (via : Connection) (a : Account) (h : Holdings K) (told : Flight) → end_taken via h ≡ None
+    → Matches via a h told → Matches via a (after_take via h) told
+taken_none via a h told e m = none_when via a h told (of via h.untaken) refl e m
 
 -- the end that was handed over
-pub record Handed {K : Type 0} (a : Account) (h : Holdings K) (told : Flight) (b : List ℕ) : Type 0 where
+pub record Handed {K : Type 0} (via : Connection) (a : Account) (h : Holdings K) (told : Flight)
+    (b : List ℕ) : Type 0 where
   pub end : End
   pub rest : List End
-  pub untaken : h.untaken ≡ end ∷ rest
+  pub untaken : of via h.untaken ≡ end ∷ rest
   pub heard : heard a b ≡ (Ok (news_with a end (answered a.watch end)), received a end)
-  pub match : Matches (received a end) (after_take h) told
+  pub match : Matches via (received a end) (after_take via h) told
 
-some_when : {K : Type 0} (a : Account) (h : Holdings K) (told : Flight) (us : List End) (b : ArrayVec ℕ)
-    → h.untaken ≡ us → end_taken h ≡ Some b → ((e : End) → slice_get h.untaken 0 ≡ Some e → IsEnd b.items e)
-    → Matches a h told → Handed a h told b.items
-some_when a h told [] b u e r m = absurd (false≢true (ap is_some (ap (λ xs. end_of (slice_get xs 0)) (sym u) ∙ e)))
-some_when {K} a h told (x ∷ us) b u e r m =
+some_when : {K : Type 0} (via : Connection) (a : Account) (h : Holdings K) (told : Flight) (us : List End)
+    (b : ArrayVec ℕ) → of via h.untaken ≡ us → end_taken via h ≡ Some b
+    → ((e : End) → slice_get (of via h.untaken) 0 ≡ Some e → IsEnd b.items e) → Matches via a h told
+    → Handed via a h told b.items
+some_when via a h told [] b u e r m = absurd (false≢true (ap is_some (ap (λ xs. end_of (slice_get xs 0)) (sym u) ∙ e)))
+some_when {K} via a h told (x ∷ us) b u e r m =
     record {
       end = x;
       rest = us;
       untaken = u;
-      heard = first_heard a h told x us b.items m u (r x (ap (λ xs. slice_get xs 0) u));
-      match = subst (λ xs. Matches (received a x) (record h { untaken = xs }) told) (ap (drop 1) (sym u))
-          (received_match a h told x us m u);
+      heard = first_heard via a h told x us b.items m u (r x (ap (λ xs. slice_get xs 0) u));
+      match = subst (λ xs. Matches via (received a x) (record h { untaken = put via xs h.untaken }) told)
+          (ap (drop 1) (sym u))
+          (received_match via a h told x us m u);
     }
 
-pub taken_some : {K : Type 0} (a : Account) (h : Holdings K) (told : Flight) (b : ArrayVec ℕ) → end_taken h ≡ Some b
-    → ((e : End) → slice_get h.untaken 0 ≡ Some e → IsEnd b.items e) → Matches a h told → Handed a h told b.items
-taken_some a h told b e r m = some_when a h told h.untaken b refl e r m
+pub taken_some : {K : Type 0} (via : Connection) (a : Account) (h : Holdings K) (told : Flight) (b : ArrayVec ℕ)
+    → end_taken via h ≡ Some b → ((e : End) → slice_get (of via h.untaken) 0 ≡ Some e → IsEnd b.items e)
+    → Matches via a h told → Handed via a h told b.items
+taken_some via a h told b e r m = some_when via a h told (of via h.untaken) b refl e r m
 
 -- what is left where that was returned
-pub handed_on : {K : Type 0} (a a' : Account) (h h' : Holdings K) (told : Flight) (b : List ℕ)
-    (r : Result News HostFault) (n : News) → Handed a h told b → (r, a') ≡ heard a b → r ≡ Ok n → h' ≡ after_take h
-    → (heard a b ≡ (Ok n, a')) × Matches a' h' told
-handed_on {K} a a' h h' told b r n x e o k =
+pub handed_on : {K : Type 0} (via : Connection) (a a' : Account) (h h' : Holdings K) (told : Flight) (b : List ℕ)
+    (r : Result News HostFault) (n : News) → Handed via a h told b → (r, a') ≡ heard a b → r ≡ Ok n
+    → h' ≡ after_take via h → (heard a b ≡ (Ok n, a')) × Matches via a' h' told
+handed_on {K} via a a' h h' told b r n x e o k =
     let left : a' ≡ received a x.end = ap (λ p. p.1) (e ∙ x.heard) in (
       sym e ∙ ap (λ q. (q, a')) o,
-      subst (λ (y : Account). Matches y h' told) (sym left)
-          (subst (λ (y : Holdings K). Matches (received a x.end) y told) (sym k) x.match),
+      subst (λ (y : Account). Matches via y h' told) (sym left)
+          (subst (λ (y : Holdings K). Matches via (received a x.end) y told) (sym k) x.match),
     )
 
 -- the bytes that a moment hands over
 abbrev pub handed_in : Option Moment → Option (ArrayVec ℕ)
-handed_in (Some (event, entries.Taken end)) = end
+handed_in (Some (event, entries.Taken via end)) = end
 handed_in moment = None
 
 -- the moment that hands over this end, or none
-abbrev pub handing : Option (ArrayVec ℕ) → Option Moment
-handing end = Some (events.Take, entries.Taken end)
+abbrev pub handing : Connection → Option (ArrayVec ℕ) → Option Moment
+handing via end = Some (events.Take via, entries.Taken via end)
 
-pub no_bytes : (b : ArrayVec ℕ) → handing None ≡ handing (Some b) → ⊥
-no_bytes b e = false≢true (ap (λ o. is_some (handed_in o)) e)
+pub no_bytes : (via : Connection) (b : ArrayVec ℕ) → handing via None ≡ handing via (Some b) → ⊥
+no_bytes via b e = false≢true (ap (λ o. is_some (handed_in o)) e)
 
-pub same_bytes : (a b : ArrayVec ℕ) → handing (Some a) ≡ handing (Some b) → a ≡ b
-same_bytes a b e = ap (λ o. unwrap_or (handed_in o) a) e
+pub same_bytes : (via : Connection) (a b : ArrayVec ℕ) → handing via (Some a) ≡ handing via (Some b) → a ≡ b
+same_bytes via a b e = ap (λ o. unwrap_or (handed_in o) a) e

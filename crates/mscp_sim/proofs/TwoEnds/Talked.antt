@@ -1,9 +1,17 @@
 -- A whole talk: what is heard in each turn.
-use Rattle.std.proofs.Common.{◌≡◌, ⊎_elim, ℕ, suc, ◌+◌, ◌-◌, ◌<◌, ◌≤◌, false, List, [], ◌∷◌, ◌++◌, map, take, drop, length, get_or, refl, ap, sym, ◌∙◌, subst, arith}
-use Rattle.std.specs.Prelude.{zip, Option, Some, None, is_some, option_to_list}
+use Rattle.std.proofs.Common.{◌≡◌, ⊎_elim, ℕ, suc, ◌+◌, ◌-◌, ◌<◌, ◌≤◌, true, false, List, [], ◌∷◌, ◌++◌, map, take, drop, length, get_or, refl, ap, sym, ◌∙◌, subst, arith}
+use Rattle.std.specs.Prelude.{nat_eq, zip, Option, Some, None, is_some, option_to_list}
 use Rattle.std.proofs.lemmas.Bool.{cases_eq, false≢true}
 use Rattle.std.proofs.lemmas.List.{drop-drop, length-drop, get_or-drop}
+use Rattle.mscp_packet.specs.Number.{num}
+use Rattle.mscp_queue.specs.declared.name.Connection.{Connection}
+use Rattle.mscp_queue.specs.declared.name.Connection.TheVariants.{First, Second}
+use Rattle.mscp_queue.specs.Names.{same_connection}
+use Rattle.mscp_queue.proofs.Named.{one_side}
+use Rattle.mscp_queue.proofs.Placed.{found_is}
 use Rattle.mscp_queue.specs.declared.view.Choice.{Choice}
+use Rattle.mscp_control.specs.declared.event.Entry.TheVariants as entries
+use Rattle.mscp_control.specs.Both.{Both, of}
 use Rattle.mscp_control.specs.Legal.{IsLegal, IsPicked}
 use Rattle.mscp_control.specs.Sweeping.{IsSweeping}
 use Rattle.mscp_control.specs.Settings.{Settings, IsValid}
@@ -18,22 +26,23 @@ use Rattle.mscp_host.specs.Accounts.{Account, fresh, polls_oldest, submits}
 use Rattle.mscp_sim.specs.declared.conversing.Turn.{Turn}
 use Rattle.mscp_sim.specs.declared.conversing.Turn.TheVariants as turns
 use Rattle.mscp_sim.specs.declared.conversing.Heard.TheVariants as hears
-use Rattle.mscp_sim.specs.Matches.{Flight, Matches}
-use Rattle.mscp_sim.specs.Talks.{Said, Talk, outstanding, said, trace_of}
+use Rattle.mscp_sim.specs.Matches.{Flight, Match, Matches}
+use Rattle.mscp_sim.specs.Talks.{Said, Talk, handed_over, hands_over, outstanding, reference, said, trace_of}
 use Rattle.mscp_sim.specs.Conversing.{Converses, AnswersTurn, Says}
-use Rattle.mscp_sim.specs.TwoEnds.{AreTwoEnds, IsHeard}
+use Rattle.mscp_sim.specs.TwoEnds.{AreTwoEnds, IsHeard, Stands}
 use Rattle.mscp_sim.proofs.TwoEnds.Asking.{poll_turn}
 use Rattle.mscp_sim.proofs.TwoEnds.Between.{Known, never_reset, never_stands}
-use Rattle.mscp_sim.proofs.TwoEnds.News.{take_turn}
-use Rattle.mscp_sim.proofs.TwoEnds.Outstanding.{found_below}
+use Rattle.mscp_sim.proofs.TwoEnds.Taken.{take_turn}
+use Rattle.mscp_sim.proofs.TwoEnds.Outstanding.{both_true, found_below}
 use Rattle.mscp_sim.proofs.TwoEnds.Talking.{GoesTo, Kept}
 use Rattle.mscp_sim.proofs.TwoEnds.Tracing.{answered_calls, calls_of, entries_of, events_of, history_of, zipped}
-use Rattle.mscp_sim.proofs.TwoEnds.Turning.{At, Comes, Turns, step_turn, submit_turn}
+use Rattle.mscp_sim.proofs.TwoEnds.Turning.{At, Comes, Side, Turns, step_turn}
+use Rattle.mscp_sim.proofs.TwoEnds.Sent.{submit_turn}
 
 -- ---- lists
 
 abbrev nothing : Said
-nothing = record { turn = turns.Take; heard = hears.Quiet; moment = None }
+nothing = record { turn = turns.Take First; heard = hears.Quiet; moment = None }
 
 drop_next : {X : Type 0} (j : ℕ) (xs : List X) → drop (j + 1) xs ≡ drop 1 (drop j xs)
 drop_next j xs = sym (drop-drop 1 j xs)
@@ -41,14 +50,16 @@ drop_next j xs = sym (drop-drop 1 j xs)
 -- ---- one turn
 
 turn_of : {K : Type 0} {c : Settings} {picks : List Choice → ℕ → Type 0} {picker : K} {talk : Talk} {j : ℕ}
-    {a' : Account} {h' : Holdings K} → (x : Comes c picks picker talk j a' h') → (t : Turn) → (said talk j).turn ≡ t
-    → IsHeard x.host t (said talk j) a' → Turns c picks picker talk j a' h'
+    {a' : Both Account} {h' : Holdings K} → (x : Comes c picks picker talk j a' h') → (t : Turn)
+    → (said talk j).turn ≡ t → IsHeard x.hosts t (said talk j) a' → Turns c picks picker talk j a' h'
 turn_of x (turns.Step k) t one = step_turn x k t
-turn_of x (turns.Submit command) t one =
-    submit_turn x command t (submits x.host command).0 (λ i. ((submits x.host command).0, sym one.1 i)) one.0
-turn_of x (turns.Poll n) t one =
-    poll_turn x n t (polls_oldest x.host n).0 (λ i. ((polls_oldest x.host n).0, sym one.1 i)) one.0
-turn_of x turns.Take t one = take_turn x t one.0 one.1 one.2
+turn_of x (turns.Submit via command) t one =
+    let a = of via x.hosts in
+    submit_turn x via command t (submits a command).0 (submits a command).1 refl one.1 one.0
+turn_of x (turns.Poll via n) t one =
+    let a = of via x.hosts in
+    poll_turn x via n t (polls_oldest a n).0 (polls_oldest a n).1 refl one.1 one.0
+turn_of x (turns.Take via) t one = take_turn x via t one.0 one.1 one.2 one.3 one.4
 
 -- ---- all turns
 
@@ -70,10 +81,10 @@ Keeps {K} c picks picker = (t : Trace) (h : Holdings K) → AnsweredCalls picks 
 record Rest {K : Type 0} (c : Settings) (picks : List Choice → ℕ → Type 0) (picker : K) (talk : Talk) (j : ℕ)
     (rest : Talk) : Type 0 where
   pub is : drop j talk ≡ rest
-  pub host : Account
+  pub hosts : Both Account
   pub controller : Holdings K
-  pub at : At c picks picker talk j host controller
-  pub goes : (a' : Account) × (h' : Holdings K) × Converses picks host controller rest a' h'
+  pub at : At c picks picker talk j hosts controller
+  pub goes : (a' : Both Account) × (h' : Holdings K) × Converses picks hosts controller rest a' h'
 
 turns_from : {K : Type 0} (c : Settings) (picks : List Choice → ℕ → Type 0) (picker : K) (talk : Talk) (j : ℕ)
     (rest : Talk) → Keeps c picks picker → Rest c picks picker talk j rest → (i : ℕ) → j ≤ i → i < length talk
@@ -84,12 +95,12 @@ turns_from {K} c picks picker talk j (s ∷ rest) keeps x i l k =
     let d = drop_more talk j s rest x.is in
     let r = x.goes.2 in
     let comes : Comes c picks picker talk j r.0 r.1 = record {
-      host = x.host;
+      hosts = x.hosts;
       controller = x.controller;
       inside = d.0;
       at = x.at;
       keeps = keeps (trace_of (take j talk)) x.controller x.at.reached;
-      says = subst (λ q. Says picks x.host x.controller q r.0 r.1) (sym d.1) r.2;
+      says = subst (λ q. Says picks x.hosts x.controller q r.0 r.1) (sym d.1) r.2;
     } in
     let turn = turn_of comes (said talk j).turn refl comes.says.0 in
     let t = trace_of (take (j + 1) talk) in
@@ -98,7 +109,7 @@ turns_from {K} c picks picker talk j (s ∷ rest) keeps x i l k =
     (λ same. subst (Known c talk) same (record { tells = turn.tells; promise = promise }))
     (λ other. turns_from c picks picker talk (j + 1) rest keeps (record {
       is = d.2;
-      host = r.0;
+      hosts = r.0;
       controller = r.1;
       at =
           turn.next;
@@ -111,9 +122,13 @@ turns_from {K} c picks picker talk j (s ∷ rest) keeps x i l k =
 abbrev pub no_flight_yet : Flight
 no_flight_yet = record { figure = 0; waited = false }
 
-pub match_new : {K : Type 0} (c : Settings) (picker : K)
-    → Matches (fresh c.credits) (holdings.fresh c picker) no_flight_yet
-match_new c picker = record {
+-- the accounts of new hosts
+abbrev pub new_hosts : Settings → Both Account
+new_hosts c = record { first = fresh c.credits; second = fresh c.second }
+
+match_first : {K : Type 0} (c : Settings) (picker : K)
+    → Matches First (fresh c.credits) (holdings.fresh c picker) no_flight_yet
+match_first c picker = record {
   credits = refl;
   many = refl;
   same = λ r. refl;
@@ -124,17 +139,53 @@ match_new c picker = record {
   flight = tt;
 }
 
-at_start : {K : Type 0} (c : Settings) (picks : List Choice → ℕ → Type 0) (picker : K) (talk : Talk)
-    → At c picks picker talk 0 (fresh c.credits) (holdings.fresh c picker)
+match_second : {K : Type 0} (c : Settings) (picker : K)
+    → Matches Second (fresh c.second) (holdings.fresh c picker) no_flight_yet
+match_second c picker = record {
+  credits = refl;
+  many = refl;
+  same = λ r. refl;
+  once = λ r. omega arith;
+  small = tt;
+  waits = tt;
+  ends = tt;
+  flight = tt;
+}
+
+pub match_new : {K : Type 0} (c : Settings) (picker : K) → Match (new_hosts c) (holdings.fresh c picker)
+match_new c picker First = (no_flight_yet, match_first c picker)
+match_new c picker Second = (no_flight_yet, match_second c picker)
+
+side_first : {K : Type 0} (c : Settings) (picker : K) (talk : Talk)
+    → Side c First talk 0 (fresh c.credits) (holdings.fresh c picker)
 unfolding outstanding
-at_start c picks picker talk = record {
+side_first c picker talk = record {
   account = refl;
   told = no_flight_yet;
-  match = match_new c picker;
-  reached = refl;
+  match = match_first c picker;
   one = tt;
   flight = λ p e. absurd (false≢true (ap is_some e));
 }
+
+side_second : {K : Type 0} (c : Settings) (picker : K) (talk : Talk)
+    → Side c Second talk 0 (fresh c.second) (holdings.fresh c picker)
+unfolding outstanding
+side_second c picker talk = record {
+  account = refl;
+  told = no_flight_yet;
+  match = match_second c picker;
+  one = tt;
+  flight = λ p e. absurd (false≢true (ap is_some e));
+}
+
+side_new : {K : Type 0} (c : Settings) (picker : K) (talk : Talk) (via : Connection)
+    → Side c via talk 0 (of via (new_hosts c)) (holdings.fresh c picker)
+side_new c picker talk First = side_first c picker talk
+side_new c picker talk Second = side_second c picker talk
+
+at_start : {K : Type 0} (c : Settings) (picks : List Choice → ℕ → Type 0) (picker : K) (talk : Talk)
+    → At c picks picker talk 0 (new_hosts c) (holdings.fresh c picker)
+at_start c picks picker talk = record { side = side_new c picker talk; reached = refl }
 
 -- ---- the whole trace
 
@@ -144,17 +195,36 @@ calls_front : {K : Type 0} (picks : List Choice → ℕ → Type 0) (h m h' : Ho
 calls_front {K} picks h m h' None t r a = subst (λ (x : Holdings K). AnsweredCalls picks x (calls_of t) h') r a
 calls_front picks h m h' (Some n) t r a = (m, r, a)
 
-whole_calls : {K : Type 0} (picks : List Choice → ℕ → Type 0) (a a' : Account) (h h' : Holdings K) (talk : Talk)
+whole_calls : {K : Type 0} (picks : List Choice → ℕ → Type 0) (a a' : Both Account) (h h' : Holdings K) (talk : Talk)
     → Converses picks a h talk a' h' → AnsweredCalls picks h (calls_of (trace_of talk)) h'
 whole_calls {K} picks a a' h h' [] r = r.1
 whole_calls picks a a' h h' (s ∷ talk) r = calls_front picks h r.1 h' s.moment (trace_of talk) r.2.1
     (whole_calls picks r.0 a' r.1 h' talk r.3)
 
+-- ---- whose end it is
+
+-- what a moment hands over is of one connection
+hands_by : (via other : Connection) (r s : ℕ) (o : Option Moment) → hands_over via r o ≡ true
+    → hands_over other s o ≡ true → other ≡ via
+hands_by via other r s (Some (event, entries.Taken owner (Some b))) h k =
+    let one = (both_true (same_connection owner via) (nat_eq (num b.items 0 4) r) h).0 in
+    let two = (both_true (same_connection owner other) (nat_eq (num b.items 0 4) s) k).0 in
+    sym (one_side owner other two) ∙ one_side owner via one
+hands_by via other r s o h k = absurd (false≢true h)
+
+handed_by : (via other : Connection) (talk : Talk) (j p q : ℕ) → handed_over via talk j ≡ Some p
+    → handed_over other talk j ≡ Some q → other ≡ via
+handed_by via other talk j p q h k =
+    let m = (said talk j).moment in
+    hands_by via other (reference talk p) (reference talk q) m
+    (found_is (λ i. hands_over via (reference talk i) m) (outstanding via talk j) p h)
+    (found_is (λ i. hands_over other (reference talk i) m) (outstanding other talk j) q k)
+
 -- ---- two ends
 
--- host and controller are new, and nothing was heard yet
+-- the hosts and the controller are new, and nothing was heard yet
 pub record AreNew {K : Type 0} (c : Settings) (picker : K) (old : Kept K) : Type 0 where
-  pub host : old.host ≡ fresh c.credits
+  pub hosts : old.hosts ≡ new_hosts c
   pub controller : old.controller ≡ holdings.fresh c picker
   pub heard : old.lists.0 ≡ []
   pub trace : old.lists.1 ≡ []
@@ -166,21 +236,21 @@ two_ends {K} c picks picker old new ts v runs law n g =
     let talk = g.talk in
     let t = trace_of talk in
     let h : Holdings K = holdings.fresh c picker in
-    let says : Converses picks (fresh c.credits) h talk new.host new.controller =
-    subst (λ (x : Account). Converses picks x h talk new.host new.controller) n.host
-    (subst (λ (y : Holdings K). Converses picks old.host y talk new.host new.controller) n.controller g.says) in
+    let says : Converses picks (new_hosts c) h talk new.hosts new.controller =
+    subst (λ (x : Both Account). Converses picks x h talk new.hosts new.controller) n.hosts
+    (subst (λ (y : Holdings K). Converses picks old.hosts y talk new.hosts new.controller) n.controller g.says) in
     let answered = answered_calls picks h new.controller t
-    (whole_calls picks (fresh c.credits) new.host h new.controller talk says) in
+    (whole_calls picks (new_hosts c) new.hosts h new.controller talk says) in
     let run = runs c (events_of t) (entries_of t) new.controller v answered in
     let trace : trace_of talk ≡ new.lists.1 = ap (λ xs. xs ++ t) (sym n.trace) ∙ sym g.trace in
     let whole : zip (events_of t) (entries_of t) ≡ new.lists.1 = zipped t ∙ trace in
     let rest : Rest c picks picker talk 0 talk = record {
       is = refl;
-      host = fresh c.credits;
+      hosts = new_hosts c;
       controller = h;
       at =
           at_start c picks picker talk;
-      goes = (new.host, new.controller, says);
+      goes = (new.hosts, new.controller, says);
     } in
     let known : (i : ℕ) → i < length talk → Known c talk i = λ i l.
     turns_from c picks picker talk 0 talk (λ t k r. law c (calls_of t) k v r) rest i (omega arith) l in
@@ -196,9 +266,15 @@ two_ends {K} c picks picker old new ts v runs law n g =
       says = λ j l. (known j l).tells.says;
       resets = λ j l. (known j l).tells.resets;
       no_lost = λ j l. (known j l).tells.no_lost;
-      falls = λ j i q l h a b e. never_stands c talk known j l i q h a b ((known j l).tells.resets.0 e);
-      no_reset = λ b j l e.
+      falls = λ via j i q l h a b e.
           let st = (known j l).tells.resets.0 e in
-          let below = found_below talk j st.poll _ st.handed in
-          never_reset c talk known j l st (b st.command st.poll (omega (arith, below, l)) st.about);
+          let same : st.0 ≡ via = handed_by via st.0 talk j q st.1.poll h st.1.handed in
+          let own = subst (λ v. Stands c v talk j) same st.1 in
+          never_stands c via talk known j l i q h a b own;
+      no_reset = λ b j l e.
+          let both = (known j l).tells.resets.0 e in
+          let via = both.0 in
+          let st = both.1 in
+          let below = found_below via talk j st.poll _ st.handed in
+          never_reset c via talk known j l st (b via st.command st.poll (omega (arith, below, l)) st.about);
     }

@@ -4,9 +4,10 @@ use Rattle.std.specs.Prelude.{Option, Some, None, option_to_list}
 use Rattle.std.proofs.lemmas.Grind.{flat_map-append}
 use Rattle.std.proofs.lemmas.List.{map-append, take_more}
 use Rattle.mscp_queue.specs.declared.view.Choice.{Choice}
+use Rattle.mscp_control.specs.Both.{Both}
 use Rattle.mscp_control.specs.History.{Moment, Trace}
 use Rattle.mscp_control.specs.Holdings.{Holdings}
-use Rattle.mscp_control.proofs.Bridge.Keeping.{owner_kept}
+use Rattle.mscp_control.proofs.Bridge.Owning.{owner_kept}
 use Rattle.mscp_host.specs.Accounts.{Account}
 use Rattle.mscp_sim.specs.declared.conversing.Talk.{Talk as Lists}
 use Rattle.mscp_sim.specs.declared.conversing.Turn.{Turn}
@@ -15,10 +16,11 @@ use Rattle.mscp_sim.specs.Matches.{Match}
 use Rattle.mscp_sim.specs.Talks.{Said, Talk, trace_of}
 use Rattle.mscp_sim.specs.Conversing.{Converses, Goes, GoesOn, AnswersTurn, Says}
 
-converses_push : {K : Type 0} (picks : List Choice → ℕ → Type 0) (a m a' : Account) (h n h' : Holdings K) (talk : Talk)
-    (s : Said) → Converses picks a h talk m n → Says picks m n s a' h' → Converses picks a h (talk ++ s ∷ []) a' h'
+converses_push : {K : Type 0} (picks : List Choice → ℕ → Type 0) (a m a' : Both Account) (h n h' : Holdings K)
+    (talk : Talk) (s : Said) → Converses picks a h talk m n → Says picks m n s a' h'
+    → Converses picks a h (talk ++ s ∷ []) a' h'
 converses_push {K} picks a m a' h n h' [] s r one =
-    let both : Says picks a h s a' h' = subst (λ (x : Account). Says picks x h s a' h') r.0
+    let both : Says picks a h s a' h' = subst (λ (x : Both Account). Says picks x h s a' h') r.0
     (subst (λ (y : Holdings K). Says picks m y s a' h') r.1 one) in
     (a', h', both, (refl, refl))
 converses_push picks a m a' h n h' (t ∷ talk) s r one =
@@ -29,27 +31,27 @@ same_picker : {K : Type 0} (picks : List Choice → ℕ → Type 0) (h h' : Hold
 same_picker {K} picks h h' None r = ap (λ (x : Holdings K). x.picker) r
 same_picker picks h h' (Some m) r = (owner_kept picks h h' m.0 m.1 r).1
 
--- what host and controller keep, and what was heard and the trace so far
+-- what the hosts and the controller keep, and what was heard and the trace so far
 pub record Kept (K : Type 0) : Type 0 where
-  pub host : Account
+  pub hosts : Both Account
   pub controller : Holdings K
   pub lists : List Heard × Trace
 
-abbrev pub kept : {K : Type 0} → Account → Holdings K → Lists → Kept K
-kept host controller talk =
-    record { host = host; controller = controller; lists = (talk.heard.items, talk.trace.items) }
+abbrev pub kept : {K : Type 0} → Both Account → Holdings K → Lists → Kept K
+kept hosts controller talk =
+    record { hosts = hosts; controller = controller; lists = (talk.heard.items, talk.trace.items) }
 
 -- these turns go on so from the one to the other
 abbrev pub GoesTo : {K : Type 0} → (List Choice → ℕ → Type 0) → Kept K → List Turn → Kept K → Type 0
 GoesTo picks old ts new =
-    GoesOn picks old.host old.controller ts old.lists new.lists new.host new.controller
+    GoesOn picks old.hosts old.controller ts old.lists new.lists new.hosts new.controller
 
 -- what was said so far
 pub record Talks {K : Type 0} (picks : K → List Choice → ℕ → Type 0) (old new : Kept K) (ts : List Turn) : Type 0 where
   pub goes : GoesTo (picks old.controller.picker) old ts new
   pub picker : new.controller.picker ≡ old.controller.picker
 
-pub talks_none : {K : Type 0} (picks : K → List Choice → ℕ → Type 0) (old : Kept K) → Match old.host old.controller
+pub talks_none : {K : Type 0} (picks : K → List Choice → ℕ → Type 0) (old : Kept K) → Match old.hosts old.controller
     → Talks picks old old []
 talks_none picks old m = record {
   goes = record {
@@ -67,7 +69,7 @@ talks_none picks old m = record {
 -- one more turn, of which this was returned: the lists grow by it
 pub record Grows {K : Type 0} (picks : List Choice → ℕ → Type 0) (old new : Kept K) (turn : Turn) : Type 0 where
   pub told : Heard × Option Moment
-  pub goes : Goes picks old.host old.controller turn told new.host new.controller
+  pub goes : Goes picks old.hosts old.controller turn told new.hosts new.controller
   pub heard : new.lists.0 ≡ old.lists.0 ++ told.0 ∷ []
   pub trace : new.lists.1 ≡ old.lists.1 ++ option_to_list told.1
 
@@ -87,7 +89,7 @@ goes_more picks old now new ts turn g x =
           ∙ (append_assoc old.lists.1 (trace_of g.talk) (option_to_list moment)
           ∙ ap (λ xs. old.lists.1 ++ xs) (sym (flat_map-append (λ (x : Said). option_to_list x.moment) g.talk (s ∷ [])
           ∙ ap (λ xs. trace_of g.talk ++ xs) (append-nil (option_to_list moment))))));
-      says = converses_push picks old.host now.host new.host old.controller now.controller new.controller g.talk s
+      says = converses_push picks old.hosts now.hosts new.hosts old.controller now.controller new.controller g.talk s
           g.says x.goes.0;
       match = x.goes.1;
     }

@@ -1,18 +1,18 @@
 -- The controller's trace is that of the calls that came to it, and what that promises.
 use Rattle.std.proofs.Common.{◌≡◌, ◌↔◌, ℕ, suc, ◌+◌, ◌<◌, ◌≤◌, Bool, true, false, cond, List, [], ◌∷◌, ◌++◌, map, take, length, refl, ap, sym, ◌∙◌, subst, arith, append-nil}
-use Rattle.std.specs.Prelude.{find, nat_eq, ◌||◌, zip, Contains, Option, Some, None, option_to_list}
+use Rattle.std.specs.Prelude.{find, ◌||◌, zip, Contains, Option, Some, None, option_to_list}
 use Rattle.std.specs.List.{list_any}
 use Rattle.std.proofs.lemmas.Bool.{false≢true}
 use Rattle.std.proofs.lemmas.Grind.{flat_map-append}
 use Rattle.std.proofs.lemmas.List.{map-append, take_more, take_all}
-use Rattle.mscp_queue.specs.declared.name.Connection.TheVariants.{First}
-use Rattle.mscp_queue.specs.Names.{name_on}
+use Rattle.mscp_queue.specs.declared.name.Name.{Name}
+use Rattle.mscp_queue.specs.Names.{same_name}
 use Rattle.mscp_queue.specs.declared.view.Choice.{Choice}
 use Rattle.mscp_control.specs.declared.event.Event.{Event}
 use Rattle.mscp_control.specs.declared.event.Entry.{Entry}
 use Rattle.mscp_control.specs.Settings.{Settings}
 use Rattle.mscp_control.specs.History.{Moment, Trace}
-use Rattle.mscp_control.specs.Commands.{reference, waiting}
+use Rattle.mscp_control.specs.Commands.{name, waiting}
 use Rattle.mscp_control.specs.Figures.{figure, figure_found, figure_of}
 use Rattle.mscp_control.specs.Headline.{Promise}
 use Rattle.mscp_control.specs.Holdings.{Answered, Holdings}
@@ -99,13 +99,12 @@ finds {X} f p (x ∷ xs) e =
     ] in
     out (p (f x)) refl e
 
--- the figure of a number that waits is at least 1
-pub some_figure : (c : Settings) (t : Trace) (n : ℕ) → Promise c t
-    → list_any (λ x. nat_eq x n) (map (reference t) (waiting t)) ≡ true
-    → 1 ≤ figure_of c t (name_on First n)
+-- the figure of a name that waits is at least 1
+pub some_figure : (c : Settings) (t : Trace) (n : Name) → Promise c t
+    → list_any (λ m. same_name m n) (map (name t) (waiting t)) ≡ true → 1 ≤ figure_of c t n
 unfolding figure_of
 some_figure c t n p e =
-    let x = finds (reference t) (λ y. nat_eq y n) (waiting t) e in
+    let x = finds (name t) (λ m. same_name m n) (waiting t) e in
     let whole : take (length t) t ≡ t = take_all (length t) t (omega arith) in
     let positive = subst (λ u. (y : ℕ) → Contains (waiting u) y ↔ (1 ≤ figure c u y)) whole
     (p.positive (length t) (omega arith)) in

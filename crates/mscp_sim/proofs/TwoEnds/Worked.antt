@@ -1,4 +1,4 @@
--- Literal talks, worked by hand: what stands there, and what a host keeps.
+-- Literal talks of the first host alone, worked by hand: what stands there, and what it keeps.
 use Rattle.std.proofs.Common.{◌≡◌, ◌≤◌, ℕ, true, false, [], ◌∷◌, ◌++◌, Bool, refl, ap, sym, subst, arith}
 use Rattle.std.specs.Prelude.{Option, Some, None, unwrap_or}
 use Rattle.std.proofs.lemmas.Bool.{eqb-true, false≢true}
@@ -20,7 +20,7 @@ use Rattle.mscp_control.proofs.Worked.Literals.{answered, moved, onlined, queued
 use Rattle.mscp_host.specs.declared.news.News.TheVariants as news
 use Rattle.mscp_sim.specs.declared.conversing.Turn.TheVariants as turns
 use Rattle.mscp_sim.specs.declared.conversing.Heard.TheVariants as hears
-use Rattle.mscp_sim.specs.Talks.{Said, Talk, account_at, asks_about, figure_told, is_outstanding, last_answer, outstanding, said}
+use Rattle.mscp_sim.specs.Talks.{Said, Talk, account_at, accounts_at, asks_about, figure_told, is_outstanding, last_answer, outstanding, said}
 use Rattle.mscp_sim.specs.TwoEnds.{IsHeard, Stands}
 
 -- ---- short words
@@ -28,14 +28,14 @@ use Rattle.mscp_sim.specs.TwoEnds.{IsHeard, Stands}
 -- a command of unit 0 that waits
 abbrev submits : ℕ → Order → Said
 submits r o = record {
-  turn = turns.Submit (record { reference = r; unit = 0; order = o });
+  turn = turns.Submit First (record { reference = r; unit = 0; order = o });
   heard = hears.Submitted (sents.Queued r);
   moment = Some (queued r 0 o);
 }
 
 -- a poll of command 1
 abbrev asks : ℕ → Said
-asks r = record { turn = turns.Poll r; heard = hears.Asked; moment = Some (answered r 0 (orders.Status 1)) }
+asks r = record { turn = turns.Poll First r; heard = hears.Asked; moment = Some (answered r 0 (orders.Status 1)) }
 
 abbrev steps : ℕ → Option ℕ → Bool → ℕ → Option End → Said
 steps r lbn started seek ended = record {
@@ -45,7 +45,7 @@ steps r lbn started seek ended = record {
 }
 
 abbrev hands : End → news.the_data → Said
-hands e n = record { turn = turns.Take; heard = hears.News n; moment = Some (took (end_bytes e)) }
+hands e n = record { turn = turns.Take First; heard = hears.News n; moment = Some (took (end_bytes e)) }
 
 abbrev online_end : End
 online_end = record { reference = 9; unit = 0; code = 0x89; status = 0; body = bodies.Online 1 0 1000 1 }
@@ -74,11 +74,11 @@ opening =
 abbrev standing : Talk
 standing = opening ++ asks 11 ∷ hands (answer 11 18) news.Reset ∷ []
 
-first_told : figure_told (settings 4 2) standing 4 ≡ 18
+first_told : figure_told (settings 4 2) First standing 4 ≡ 18
 unfolding moment command_of command is_waiting waiting done passed_at passed figure figure_of outstanding
 first_told = refl
 
-it_stands : Stands (settings 4 2) standing 7
+it_stands : Stands (settings 4 2) First standing 7
 unfolding moment command_of command is_waiting waiting done passed_at passed figure figure_of outstanding
 it_stands = record {
   poll = 6;
@@ -93,7 +93,7 @@ it_stands = record {
 }
 
 -- before the second poll is answered the host keeps the READ, of which 18 was told, and the poll
-kept : account_at (settings 4 2) standing 7 ≡ record {
+kept : account_at (settings 4 2) First standing 7 ≡ record {
   credits = 4;
   outstanding = record { reference = 1; unit = 0; opcode = 0x21; told = Some 18 }
       ∷ record { reference = 11; unit = 0; opcode = 0x02; told = None } ∷ [];
@@ -116,41 +116,41 @@ moving =
     ∷ hands (answer 12 0) news.Late
     ∷ []
 
-second_told : figure_told (settings 4 2) moving 7 ≡ 1
+second_told : figure_told (settings 4 2) First moving 7 ≡ 1
 unfolding moment command_of command is_waiting waiting done passed_at passed figure figure_of outstanding
 second_told = refl
 
-third_told : figure_told (settings 4 2) moving 10 ≡ 0
+third_told : figure_told (settings 4 2) First moving 10 ≡ 0
 unfolding moment command_of command is_waiting waiting done passed_at passed figure figure_of outstanding
 third_told = refl
 
-last_before : last_answer (settings 4 2) moving 8 3 ≡ Some 18
+last_before : last_answer (settings 4 2) First moving 8 3 ≡ Some 18
 unfolding moment command_of command is_waiting waiting done passed_at passed figure figure_of outstanding
 last_before = refl
 
 -- the second answer doesn't stand: 1 is less than 18
-falls : Stands (settings 4 2) moving 8 → ⊥
+falls : Stands (settings 4 2) First moving 8 → ⊥
 unfolding moment command_of command is_waiting waiting done passed_at passed figure figure_of outstanding
 falls st =
     let poll : st.poll ≡ 7 = sym (ap (λ o. unwrap_or o 0) st.handed) in
     let command : st.command ≡ 3 = sym (eqb-true 3 st.command
-    (subst (λ p. asks_about moving st.command p ≡ true) poll st.about)) in
+    (subst (λ p. asks_about First moving st.command p ≡ true) poll st.about)) in
     let last : 18 ≡ st.last = ap (λ o. unwrap_or o 0)
-    (subst (λ i. last_answer (settings 4 2) moving 8 i ≡ Some st.last) command st.told) in
-    let low : st.last ≤ 1 = subst (λ p. st.last ≤ figure_told (settings 4 2) moving p) poll st.not_less in
+    (subst (λ i. last_answer (settings 4 2) First moving 8 i ≡ Some st.last) command st.told) in
+    let low : st.last ≤ 1 = subst (λ p. st.last ≤ figure_told (settings 4 2) First moving p) poll st.not_less in
     omega (arith, last, low)
 
 -- and the third neither, which comes after the command's end
-late : Stands (settings 4 2) moving 12 → ⊥
+late : Stands (settings 4 2) First moving 12 → ⊥
 unfolding moment command_of command is_waiting waiting done passed_at passed figure figure_of outstanding
 late st =
     let poll : st.poll ≡ 10 = sym (ap (λ o. unwrap_or o 0) st.handed) in
     let command : st.command ≡ 3 = sym (eqb-true 3 st.command
-    (subst (λ p. asks_about moving st.command p ≡ true) poll st.about)) in
-    false≢true (subst (λ i. is_outstanding moving 12 i ≡ true) command st.outstanding)
+    (subst (λ p. asks_about First moving st.command p ≡ true) poll st.about)) in
+    false≢true (subst (λ i. is_outstanding First moving 12 i ≡ true) command st.outstanding)
 
 -- when the third answer comes the READ is outstanding no more
-kept_late : account_at (settings 4 2) moving 12 ≡ record {
+kept_late : account_at (settings 4 2) First moving 12 ≡ record {
   credits = 4;
   outstanding = record { reference = 12; unit = 0; opcode = 0x02; told = None } ∷ [];
   watch = Some (record { reference = 12; polled = 1; is_outstanding = false });
@@ -159,10 +159,16 @@ unfolding moment command_of command is_waiting waiting done passed_at passed fig
 kept_late = refl
 
 -- what is heard there is what the rules of a host say
-heard_late : IsHeard (account_at (settings 4 2) moving 12) turns.Take (said moving 12)
-    (account_at (settings 4 2) moving 13)
+heard_late : IsHeard (accounts_at (settings 4 2) moving 12) (turns.Take First) (said moving 12)
+    (accounts_at (settings 4 2) moving 13)
 unfolding moment command_of command is_waiting waiting done passed_at passed figure figure_of outstanding
-heard_late = (Some (record { items = end_bytes (answer 12 0) }), refl, (news.Late, refl, refl))
+heard_late = (
+  Some (record { items = end_bytes (answer 12 0) }),
+  account_at (settings 4 2) First moving 13,
+  refl,
+  (news.Late, refl, refl),
+  refl,
+)
 
 -- ---- a number that is used again
 
@@ -181,12 +187,12 @@ again =
     ∷ []
 
 -- of the second nothing was told yet
-untold : last_answer (settings 4 2) again 13 10 ≡ None
+untold : last_answer (settings 4 2) First again 13 10 ≡ None
 unfolding moment command_of command is_waiting waiting done passed_at passed figure figure_of outstanding
 untold = refl
 
 -- though the figure is the one that was last told of the first
-kept_again : account_at (settings 4 2) again 13 ≡ record {
+kept_again : account_at (settings 4 2) First again 13 ≡ record {
   credits = 4;
   outstanding = record { reference = 1; unit = 0; opcode = 0x21; told = None }
       ∷ record { reference = 12; unit = 0; opcode = 0x02; told = None } ∷ [];

@@ -1,5 +1,7 @@
+mod paired;
+
 use super::*;
-use mscp_control::{Connection, Sweep};
+use mscp_control::Sweep;
 use mscp_drive::{Unit, Units};
 use mscp_packet::{End, EndBody, MoveKind, Order};
 use std::process::Abort;
@@ -11,40 +13,50 @@ fn unit(rt: &impl Abort, number: u16) -> Unit {
         .expect(rt, "sizes")
 }
 
-/// A controller of 4 credits, a budget of 16 blocks, and transfers of at most 8 blocks, with units 0 and 300.
-fn config(rt: &impl Abort) -> Config {
+/// A controller of 4 credits on the first connection and so many on the second, a budget of 16 blocks, and transfers of
+/// at most 8 blocks, with units 0 and 300.
+fn config(rt: &impl Abort, second: u32) -> Config {
     let units = [unit(rt, 0), unit(rt, 300)];
     let units = Units::new(&units).ok().expect(rt, "two units");
-    Config::new(4, 16, 8, 60, 1, units)
+    Config::new(4, second, 16, 8, 60, 1, units)
         .ok()
         .expect(rt, "limits")
 }
 
-/// The talk of these turns.
+/// The talk of these turns, where there is no second connection.
 fn talk(rt: &impl Abort, alloc: Global, turns: &[Turn]) -> Talk {
-    converse(alloc, config(rt), Sweep, turns)
+    talk_of(rt, alloc, 0, turns)
+}
+
+/// The talk of these turns, where the second connection has so many credits.
+fn talk_of(rt: &impl Abort, alloc: Global, second: u32, turns: &[Turn]) -> Talk {
+    converse(alloc, config(rt, second), Sweep, turns)
         .ok()
         .expect(rt, "memory")
 }
+
+const FIRST: Connection = Connection::First;
 
 const STEP: Turn = Turn::Step(Block::Good);
 
 /// ONLINE of command 9.
 fn online() -> Turn {
-    Turn::Submit(Command {
+    let command = Command {
         reference: 9,
         unit: 0,
         order: Order::Online,
-    })
+    };
+    Turn::Submit(FIRST, command)
 }
 
 /// READ of 1024 bytes, which are two blocks, at block 40.
 fn read(reference: u32) -> Turn {
-    Turn::Submit(Command {
+    let command = Command {
         reference,
         unit: 0,
         order: Order::Move(MoveKind::Read, 1024, 40),
-    })
+    };
+    Turn::Submit(FIRST, command)
 }
 
 /// The end of READ 1.
@@ -60,7 +72,7 @@ fn read_end() -> End {
 
 fn served(lbn: u32, started: bool, seek: u32, ended: Option<End>) -> Heard {
     Heard::Stepped(Report::Served {
-        connection: Connection::First,
+        connection: FIRST,
         reference: 1,
         unit: 0,
         lbn: Some(lbn),
@@ -87,7 +99,7 @@ fn online_told() -> [Heard; 3] {
         },
     };
     let report = Report::Served {
-        connection: Connection::First,
+        connection: FIRST,
         reference: 9,
         unit: 0,
         lbn: None,
@@ -105,7 +117,7 @@ fn online_told() -> [Heard; 3] {
 /// Unit 0 comes online. What is heard then in these turns, and in no others.
 fn hears(rt: &impl Abort, alloc: Global, turns: &[Turn], wanted: &[Heard]) {
     let mut all = Vec::new(alloc);
-    for turn in [online(), STEP, Turn::Take] {
+    for turn in [online(), STEP, Turn::Take(FIRST)] {
         all.push(turn).ok().expect(rt, "memory");
     }
     all.extend_from_slice(turns).ok().expect(rt, "memory");
@@ -123,10 +135,10 @@ fn hears(rt: &impl Abort, alloc: Global, turns: &[Turn], wanted: &[Heard]) {
 fn an_answer_that_stands_is_reset(rt: HostRuntime) {
     let turns = [
         read(1),
-        Turn::Poll(10),
-        Turn::Take,
-        Turn::Poll(11),
-        Turn::Take,
+        Turn::Poll(FIRST, 10),
+        Turn::Take(FIRST),
+        Turn::Poll(FIRST, 11),
+        Turn::Take(FIRST),
     ];
     let wanted = [
         QUEUED,
@@ -142,15 +154,15 @@ fn an_answer_that_stands_is_reset(rt: HostRuntime) {
 fn converse_finds_memory(rt: HostRuntime) {
     let turns = [
         read(1),
-        Turn::Poll(10),
-        Turn::Take,
+        Turn::Poll(FIRST, 10),
+        Turn::Take(FIRST),
         STEP,
-        Turn::Poll(11),
-        Turn::Take,
+        Turn::Poll(FIRST, 11),
+        Turn::Take(FIRST),
         STEP,
-        Turn::Poll(12),
-        Turn::Take,
-        Turn::Take,
+        Turn::Poll(FIRST, 12),
+        Turn::Take(FIRST),
+        Turn::Take(FIRST),
     ];
     let wanted = [
         QUEUED,
@@ -173,12 +185,12 @@ fn a_number_used_again_is_another_command(rt: HostRuntime) {
         read(1),
         STEP,
         STEP,
-        Turn::Poll(10),
-        Turn::Take,
+        Turn::Poll(FIRST, 10),
+        Turn::Take(FIRST),
         read(1),
-        Turn::Take,
-        Turn::Poll(11),
-        Turn::Take,
+        Turn::Take(FIRST),
+        Turn::Poll(FIRST, 11),
+        Turn::Take(FIRST),
     ];
     let wanted = [
         QUEUED,
@@ -197,15 +209,15 @@ fn a_number_used_again_is_another_command(rt: HostRuntime) {
 #[test]
 fn says_what_never_reaches_the_controller(rt: HostRuntime) {
     let turns = [
-        Turn::Poll(10),
-        Turn::Take,
+        Turn::Poll(FIRST, 10),
+        Turn::Take(FIRST),
         read(1),
-        Turn::Poll(10),
-        Turn::Poll(11),
+        Turn::Poll(FIRST, 10),
+        Turn::Poll(FIRST, 11),
         read(1),
         read(2),
         read(3),
-        Turn::Take,
+        Turn::Take(FIRST),
     ];
     let wanted = [
         Heard::Nothing,
@@ -221,17 +233,23 @@ fn says_what_never_reaches_the_controller(rt: HostRuntime) {
     let talk = talk(&rt, rt.alloc(), &turns);
     assert_eq!(rt; talk.heard.as_slice(), wanted.as_slice());
     let trace = [
-        (Event::Take, Entry::Taken(None)),
+        (Event::Take(FIRST), Entry::Taken(FIRST, None)),
         queued(1),
         (
-            event_of(&ASKED),
-            Entry::Sent(Ok(Sent::Answered {
-                reference: 10,
-                aborted: None,
-            })),
+            event_of(FIRST, &ASKED),
+            Entry::Sent(
+                FIRST,
+                Ok(Sent::Answered {
+                    reference: 10,
+                    aborted: None,
+                }),
+            ),
         ),
         queued(2),
-        (Event::Take, Entry::Taken(Some(bytes_of(&ANSWER)))),
+        (
+            Event::Take(FIRST),
+            Entry::Taken(FIRST, Some(bytes_of(&ANSWER))),
+        ),
     ];
     assert_eq!(rt; talk.trace.as_slice(), trace.as_slice());
 }
@@ -258,35 +276,40 @@ fn queued(reference: u8) -> (Event, Entry) {
     message[13] = 4;
     message[28] = 40;
     let sent = Sent::Queued(u32::from(reference));
-    (event_of(&message), Entry::Sent(Ok(sent)))
+    (event_of(FIRST, &message), Entry::Sent(FIRST, Ok(sent)))
 }
 
 #[test]
 fn a_poll_names_the_unit_of_its_command(rt: HostRuntime) {
-    let online = Turn::Submit(Command {
+    let command = Command {
         reference: 9,
         unit: 300,
         order: Order::Online,
-    });
-    let talk = talk(&rt, rt.alloc(), &[online, Turn::Poll(10), Turn::Take]);
+    };
+    let online = Turn::Submit(FIRST, command);
+    let turns = [online, Turn::Poll(FIRST, 10), Turn::Take(FIRST)];
+    let talk = talk(&rt, rt.alloc(), &turns);
     let first = Heard::News(News::First(17));
     assert!(rt; talk.heard.as_slice().get(2) == Some(&first));
     let asked = [10, 0, 0, 0, 44, 1, 0, 0, 2, 0, 0, 0, 9, 0, 0, 0];
     let answered = (
-        event_of(&asked),
-        Entry::Sent(Ok(Sent::Answered {
-            reference: 10,
-            aborted: None,
-        })),
+        event_of(FIRST, &asked),
+        Entry::Sent(
+            FIRST,
+            Ok(Sent::Answered {
+                reference: 10,
+                aborted: None,
+            }),
+        ),
     );
     assert!(rt; talk.trace.as_slice().get(1) == Some(&answered));
 }
 
 #[test]
 fn a_long_talk_is_heard_to_its_end(rt: HostRuntime) {
-    let cycle = [read(1), STEP, STEP, Turn::Take];
+    let cycle = [read(1), STEP, STEP, Turn::Take(FIRST)];
     let mut turns = Vec::new(rt.alloc());
-    for turn in [online(), STEP, Turn::Take] {
+    for turn in [online(), STEP, Turn::Take(FIRST)] {
         turns.push(turn).ok().expect(&rt, "memory");
     }
     for _round in 0..25_000 {

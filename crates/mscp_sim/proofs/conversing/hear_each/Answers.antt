@@ -7,7 +7,7 @@ use Rattle.mscp_sim.proofs.conversing.hear_each.Goals as goal
 pub loop-turn-init : goal.loop-turn-init
 loop-turn-init g c =
     record {
-      talks = talks_none g.K.Picker.picks (kept c.args.host.now c.args.controller.now c.args.talk.now) c.requires.both;
+      talks = talks_none g.K.Picker.picks (kept c.args.hosts.now c.args.controller.now c.args.talk.now) c.requires.both;
       room = let room = c.requires.room in (omega (arith, room.0), omega (arith, room.1));
     }
 
@@ -27,9 +27,9 @@ loop-turn-preserved g c =
     ≡ (length c.args.turns.now - (c.loop-turn.turn-index + 1)) + 1 = omega (arith, left) in
     record {
       talks =
-          talks_more g.K.Picker.picks (kept c.args.host.now c.args.controller.now c.args.talk.now)
-          (kept c.loop-turn.host c.loop-turn.controller c.loop-turn.talk)
-          (kept c.hear-heard.new.host c.hear-heard.new.controller c.keep.new.self) c.args.turns.now
+          talks_more g.K.Picker.picks (kept c.args.hosts.now c.args.controller.now c.args.talk.now)
+          (kept c.loop-turn.hosts c.loop-turn.controller c.loop-turn.talk)
+          (kept c.hear-heard.new.hosts c.hear-heard.new.controller c.keep.new.self) c.args.turns.now
           c.loop-turn.turn-index c.turn-item.result left c.turn-item.is c.loop-turn.invariant.talks
           (record {
             told = c.hear-heard.result;

@@ -1,0 +1,241 @@
+-- An abort and a command that arrives keep the match of the host of their connection and the controller.
+use Rattle.std.proofs.Common.{◌≡◌, ⊎_elim, ℕ, ◌+◌, Bool, true, false, cond, ◌&&◌, List, [], ◌∷◌, ◌++◌, map, length, refl, ap, sym, ◌∙◌, subst, arith, append-nil}
+use Rattle.std.specs.Prelude.{find, nat_eq, not, Some, None, option_map, option_to_list}
+use Rattle.std.specs.List.{AllByRecursion}
+use Rattle.std.proofs.lemmas.Bool.{eq-eqb}
+use Rattle.std.proofs.lemmas.List.{length-append, map-append}
+use Rattle.std.proofs.lemmas.List.Elements.{filter-append}
+use Rattle.mscp_queue.specs.declared.name.Connection.{Connection}
+use Rattle.mscp_queue.specs.declared.name.Name.{Name}
+use Rattle.mscp_queue.specs.Names.{name_on, same_connection}
+use Rattle.mscp_queue.proofs.Named.{own_side, same_is}
+use Rattle.std.proofs.Math.Bool.{and-false}
+use Rattle.mscp_packet.specs.declared.command.Command.{Command}
+use Rattle.mscp_packet.specs.declared.command.Order.{Order}
+use Rattle.mscp_packet.specs.declared.command.Order.TheVariants as orders
+use Rattle.mscp_packet.specs.declared.end.End.{End}
+use Rattle.mscp_packet.specs.Commands.{opcode_byte}
+use Rattle.mscp_queue.specs.Records.{Record, aborted_record, fresh_record, has_name, name_of, without}
+use Rattle.mscp_queue.proofs.Lists.{every_append, every_from, filter_filter, filter_on}
+use Rattle.mscp_queue.proofs.Placed.{Found, find_cases, find_none, find_first}
+use Rattle.mscp_control.specs.Holdings.{Holdings, aborting, more_ends, numbers_ended, outstanding_of, queued, waiting_on, with_end}
+use Rattle.mscp_control.specs.Both.{Both, of}
+use Rattle.mscp_control.proofs.Bridge.Accounts.{of_more}
+use Rattle.mscp_host.specs.declared.submission.Submission.{Submission}
+use Rattle.mscp_host.specs.Accounts.{Account, is_code_of}
+use Rattle.mscp_sim.specs.Matches.{Flight, HasOwnEndcode, IsAwaited, IsKnown, Matches, commands, opcode_found, references, times}
+use Rattle.mscp_sim.proofs.TwoEnds.Counting.{opcode_new}
+use Rattle.mscp_sim.proofs.TwoEnds.Matching.{Adds, Ends, Pushes, awaited_more, counted_numbers, ends_match, known_more, stays, times_called, times_ends}
+
+-- ---- an abort
+
+-- none of the number is there, so none is taken out
+none_out : (via : Connection) (n : ℕ) (rs : List Record) → times n (map (λ (c : Command). c.reference) (commands rs))
+    ≡ 0 → without (name_on via n) rs ≡ rs
+none_out via n [] z = refl
+none_out via n (r ∷ rs) z =
+    let ns = map (λ (c : Command). c.reference) (commands rs) in
+    let side = same_connection r.connection via in
+    let rest = without (name_on via n) rs in
+    let out : (b : Bool) → cond b (1 + times n ns) (times n ns) ≡ 0 → cond (not (side && b)) (r ∷ rest) rest ≡ r ∷ rs =
+    λ b. elim b as (λ b. cond b (1 + times n ns) (times n ns) ≡ 0 → cond (not (side && b)) (r ∷ rest) rest ≡ r ∷ rs) [
+      | true ↦ λ z. absurd (omega (arith, z))
+      | false ↦ λ z. ap (λ q. cond (not q) (r ∷ rest) rest) (and-false side) ∙ ap (λ qs. r ∷ qs) (none_out via n rs z)
+    ] in
+    out (nat_eq r.command.reference n) z
+
+all_kept : (via : Connection) (n : ℕ) (rs : List Record) → AllByRecursion (λ y. has_name (name_on via n) y ≡ false) rs
+    → without (name_on via n) rs ≡ rs
+all_kept via n [] h = refl
+all_kept via n (r ∷ rs) h = rw (h.0) (ap (λ qs. r ∷ qs) (all_kept via n rs h.1))
+
+front_kept : (via : Connection) (n : ℕ) (front : List Record) (x : Record) (back : List Record)
+    → AllByRecursion (λ y. has_name (name_on via n) y ≡ false) front → has_name (name_on via n) x ≡ true
+    → without (name_on via n) back ≡ back
+    → without (name_on via n) (front ++ x ∷ back) ≡ front ++ back
+front_kept via n [] x back h e b = rw e b
+front_kept via n (y ∷ ys) x back h e b = rw (h.0) (ap (λ rs. y ∷ rs) (front_kept via n ys x back h.1 e b))
+
+swap_and : (a b : Bool) → (a && b) ≡ (b && a)
+swap_and true true = refl
+swap_and true false = refl
+swap_and false true = refl
+swap_and false false = refl
+
+-- the command is looked for, and taken out, among those of its connection
+out_on : (via : Connection) (n : ℕ) (rs : List Record)
+    → waiting_on via (without (name_on via n) rs) ≡ without (name_on via n) (waiting_on via rs)
+out_on via n rs =
+    let on : Record → Bool = λ r. same_connection r.connection via in
+    let stay : Record → Bool = λ r. not (has_name (name_on via n) r) in
+    filter_filter on stay rs
+    ∙ (filter_on (λ r. stay r && on r) (λ r. on r && stay r) rs
+    (every_from (λ r. (stay r && on r) ≡ (on r && stay r)) (λ r. swap_and (stay r) (on r)) rs)
+    ∙ sym (filter_filter stay on rs))
+
+find_on : (via : Connection) (n : ℕ) (rs : List Record)
+    → find (has_name (name_on via n)) rs ≡ find (has_name (name_on via n)) (waiting_on via rs)
+find_on via n [] = refl
+find_on via n (r ∷ rs) =
+    let p = has_name (name_on via n) in
+    let q = nat_eq r.command.reference n in
+    let rest = find_on via n rs in
+    let out : (b : Bool) → same_connection r.connection via ≡ b
+    → cond (b && q) (Some r) (find p rs) ≡ find p (cond b (r ∷ waiting_on via rs) (waiting_on via rs)) =
+    λ b. elim b as (λ b. same_connection r.connection via ≡ b
+    → cond (b && q) (Some r) (find p rs) ≡ find p (cond b (r ∷ waiting_on via rs) (waiting_on via rs))) [
+      | true ↦ λ e. λ i. cond (sym e i && q) (Some r) (rest i)
+      | false ↦ λ e. rest
+    ] in
+    out (same_connection r.connection via) refl
+
+aborts_found : {K : Type 0} (via : Connection) (a : Account) (h : Holdings K) (told : Flight) (n : ℕ)
+    (front : List Record) (x : Record) (back : List Record)
+    → Found (has_name (name_on via n)) (waiting_on via h.waiting) front x back → Matches via a h told
+    → Matches via a (aborting via h (orders.Abort n)) told
+aborts_found {K} via a h told n front x back f m =
+    let command = x.command in
+    let number : List Command → List ℕ = λ cs. map (λ (c : Command). c.reference) cs in
+    let cut : commands (waiting_on via h.waiting) ≡ commands front ++ command ∷ commands back =
+    ap commands f.is ∙ map-append (λ (r : Record). r.command) front (x ∷ back) in
+    let named : command.reference ≡ n =
+    ap (λ (k : Name). k.reference) (same_is (name_of x) (name_on via n) f.passed) in
+    let one = m.once n in
+    let counts = counted_numbers n via h in
+    let parts : times n (number (commands (waiting_on via h.waiting)))
+    ≡ times n (number (commands front)) + (1 + times n (number (commands back))) =
+    ap (λ cs. times n (number cs)) cut
+    ∙ (times_called n (commands front) (command ∷ commands back)
+    ∙ ap (λ b. times n (number (commands front))
+    + cond b (1 + times n (number (commands back))) (times n (number (commands back))))
+    (eq-eqb command.reference n named)) in
+    let none : times n (number (commands back)) ≡ 0 = omega (arith, one, counts, parts) in
+    let out : waiting_on via (without (name_on via n) h.waiting) ≡ front ++ back =
+    out_on via n h.waiting ∙ (ap (without (name_on via n)) f.is
+    ∙ front_kept via n front x back f.before f.passed (none_out via n back none)) in
+    let found : find (has_name (name_on via n)) h.waiting ≡ Some x =
+    find_on via n h.waiting ∙ (ap (find (has_name (name_on via n))) f.is
+    ∙ find_first (has_name (name_on via n)) front x back f.before f.passed) in
+    let ends : Ends via h (aborting via h (orders.Abort n)) = record {
+      front = commands front;
+      own = command;
+      back = commands back;
+      end = aborted_record x;
+      waited = cut;
+      left = ap commands out ∙ map-append (λ (r : Record). r.command) front back;
+      ends = ap (λ o. of via (more_ends via h.untaken (option_to_list (option_map aborted_record o)))) found
+          ∙ of_more via h.untaken (aborted_record x ∷ []);
+      reference = refl;
+      code = refl;
+      settings = refl;
+    } in
+    ends_match via a h (aborting via h (orders.Abort n)) told ends m
+
+aborts_none : {K : Type 0} (via : Connection) (a : Account) (h : Holdings K) (told : Flight) (n : ℕ)
+    → AllByRecursion (λ y. has_name (name_on via n) y ≡ false) (waiting_on via h.waiting) → Matches via a h told
+    → Matches via a (aborting via h (orders.Abort n)) told
+aborts_none {K} via a h told n none m =
+    let found : find (has_name (name_on via n)) h.waiting ≡ None =
+    find_on via n h.waiting ∙ find_none (has_name (name_on via n)) (waiting_on via h.waiting) none in
+    stays via a h (aborting via h (orders.Abort n)) told
+    (ap commands (out_on via n h.waiting ∙ all_kept via n (waiting_on via h.waiting) none))
+    (ap (λ o. of via (more_ends via h.untaken (option_to_list (option_map aborted_record o)))) found
+    ∙ (of_more via h.untaken [] ∙ append-nil (of via h.untaken))) refl m
+
+-- no end is made
+no_more : (via : Connection) (us : Both (List End)) → of via (more_ends via us []) ≡ of via us
+no_more via us = of_more via us [] ∙ append-nil (of via us)
+
+pub aborting_matches : {K : Type 0} (via : Connection) (a : Account) (h : Holdings K) (told : Flight) (order : Order)
+    → Matches via a h told → Matches via a (aborting via h order) told
+aborting_matches via a h told (orders.Abort n) m =
+    ⊎_elim (λ none. aborts_none via a h told n none m)
+    (λ some. aborts_found via a h told n some.0 some.1 some.2 some.3 m)
+    (find_cases (has_name (name_on via n)) (waiting_on via h.waiting))
+aborting_matches via a h told order m = stays via a h (aborting via h order) told refl (no_more via h.untaken) refl m
+
+-- ---- a command arrives
+
+-- it waits behind the others of its connection
+waits_behind : (via : Connection) (rs : List Record) (c : Command)
+    → waiting_on via (rs ++ fresh_record via c ∷ []) ≡ waiting_on via rs ++ fresh_record via c ∷ []
+waits_behind via rs c =
+    filter-append (λ r. same_connection r.connection via) rs (fresh_record via c ∷ [])
+    ∙ ap (λ b. waiting_on via rs ++ cond b (fresh_record via c ∷ []) []) (own_side via)
+
+more_called : (via : Connection) (rs : List Record) (c : Command)
+    → commands (waiting_on via (rs ++ fresh_record via c ∷ [])) ≡ commands (waiting_on via rs) ++ c ∷ []
+more_called via rs c = ap commands (waits_behind via rs c)
+    ∙ map-append (λ (q : Record). q.command) (waiting_on via rs) (fresh_record via c ∷ [])
+
+new_to_host : {K : Type 0} (via : Connection) (a : Account) (h : Holdings K) (told : Flight) (n : ℕ)
+    → Matches via a h told → times n (outstanding_of via h) ≡ 0 → times n (references a.outstanding) ≡ 0
+new_to_host via a h told n m z = m.same n ∙ z
+
+-- the command of a submission arrives: what it needs to know, and what the host keeps then
+pub record Arrives {K : Type 0} (via : Connection) (a a' : Account) (h : Holdings K) (s : Submission) (c : Command) :
+    Type 0 where
+  pub adds : Adds via a a' h s
+  pub reference : s.reference ≡ c.reference
+  pub opcode : s.opcode ≡ opcode_byte c.order
+  pub coded : HasOwnEndcode c.order
+
+-- it waits
+pub queued_pushes : {K : Type 0} (via : Connection) (a a' : Account) (h : Holdings K) (told : Flight) (s : Submission)
+    (c : Command) → Arrives via a a' h s c → Matches via a h told → Pushes via a a' h (queued via h c) s
+queued_pushes {K} via a a' h told s c x m =
+    let ws = waiting_on via h.waiting in
+    let cs : commands (waiting_on via (queued via h c).waiting) ≡ commands ws ++ c ∷ [] =
+    more_called via h.waiting c in
+    let own : IsKnown (a.outstanding ++ s ∷ []) c = (
+      subst (λ n. opcode_found (a.outstanding ++ s ∷ []) n ≡ Some (opcode_byte c.order)) x.reference
+          (opcode_new a.outstanding s (new_to_host via a h told s.reference m x.adds.new) ∙ ap Some x.opcode),
+      x.coded,
+    ) in
+    record {
+      adds = x.adds;
+      counts = λ r.
+          let old = counted_numbers r via h in
+          let now = counted_numbers r via (queued via h c) in
+          let pushed = ap (λ ds. times r (map (λ (d : Command). d.reference) ds)) cs
+          ∙ times_called r (commands ws) (c ∷ []) in
+          let same : times r (c.reference ∷ []) ≡ times r (s.reference ∷ []) =
+          ap (λ n. times r (n ∷ [])) (sym x.reference) in
+          omega (arith, old, now, pushed, same);
+      more = let l = ap length (waits_behind via h.waiting c) ∙ length-append ws (fresh_record via c ∷ []) in
+          omega (arith, l);
+      settings = refl;
+      waits = subst (AllByRecursion (IsKnown (a.outstanding ++ s ∷ []))) (sym cs)
+          (every_append (IsKnown (a.outstanding ++ s ∷ [])) (commands ws) (c ∷ [])
+          (known_more a.outstanding s (commands ws) m.waits) (own, tt));
+      ends = awaited_more a.outstanding s (of via h.untaken) m.ends;
+    }
+
+-- it has its end at once
+pub ended_pushes : {K : Type 0} (via : Connection) (a a' : Account) (h : Holdings K) (told : Flight) (s : Submission)
+    (e : End) → Adds via a a' h s → e.reference ≡ s.reference → is_code_of e.code s.opcode ≡ true
+    → Matches via a h told → Pushes via a a' h (with_end via h e) s
+ended_pushes {K} via a a' h told s e adds reference code m =
+    let us = of via h.untaken in
+    let ended : of via (with_end via h e).untaken ≡ us ++ e ∷ [] = of_more via h.untaken (e ∷ []) in
+    let own : IsAwaited (a.outstanding ++ s ∷ []) e = record {
+      opcode = s.opcode;
+      found = subst (λ n. opcode_found (a.outstanding ++ s ∷ []) n ≡ Some s.opcode) (sym reference)
+          (opcode_new a.outstanding s (new_to_host via a h told s.reference m adds.new));
+      code = code;
+    } in
+    record {
+      adds = adds;
+      counts = λ r.
+          let old = counted_numbers r via h in
+          let now = counted_numbers r via (with_end via h e) in
+          let pushed = ap (λ es. times r (numbers_ended es)) ended ∙ times_ends r us (e ∷ []) in
+          let same : times r (e.reference ∷ []) ≡ times r (s.reference ∷ []) = ap (λ n. times r (n ∷ [])) reference in
+          omega (arith, old, now, pushed, same);
+      more = let l = ap length ended ∙ length-append us (e ∷ []) in omega (arith, l);
+      settings = refl;
+      waits = known_more a.outstanding s (commands (waiting_on via h.waiting)) m.waits;
+      ends = subst (AllByRecursion (IsAwaited (a.outstanding ++ s ∷ []))) (sym ended)
+          (every_append (IsAwaited (a.outstanding ++ s ∷ [])) us (e ∷ [])
+          (awaited_more a.outstanding s us m.ends) (own, tt));
+    }

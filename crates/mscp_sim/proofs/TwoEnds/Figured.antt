@@ -1,0 +1,110 @@
+-- The figures of the waiting commands of one name: nothing raises them, and a step lowers them.
+use Rattle.std.proofs.Common.{◌≡◌, ◌⊎◌, ⊎_elim, ℕ, suc, ◌+◌, ◌-◌, ◌<◌, ◌≤◌, true, List, [], ◌∷◌, ◌++◌, take, length, refl, ap, sym, ◌∙◌, subst, arith}
+use Rattle.std.specs.Prelude.{find, not, ◌&&◌, Contains, Option, Some, None}
+use Rattle.std.proofs.lemmas.Bool.{cases_lt}
+use Rattle.std.proofs.lemmas.List.{length-append, take_all}
+use Rattle.std.proofs.Math.Seq.{take-append_seam}
+use Rattle.mscp_queue.specs.declared.name.Name.{Name}
+use Rattle.mscp_queue.specs.Names.{name_on, same_name}
+use Rattle.mscp_queue.proofs.Named.{same_is}
+use Rattle.mscp_control.specs.Settings.{Settings}
+use Rattle.mscp_control.specs.History.{Moment, Trace, connection_of, is_step, moment, queues}
+use Rattle.mscp_control.specs.Commands.{ends_in, is_waiting, name, sent_command, waiting}
+use Rattle.mscp_control.specs.Figures.{figure, figure_found, figure_of}
+use Rattle.mscp_control.specs.Headline.{Promise}
+use Rattle.mscp_control.proofs.Promise.Grows.{command_last, connection_last, name_before, is_waiting_before, is_waiting_last, moment_last}
+use Rattle.mscp_control.proofs.Promise.Waits.{cut, waiting_waits, waits_below}
+use Rattle.mscp_queue.proofs.Placed.{found_is}
+use Rattle.mscp_sim.proofs.TwoEnds.Outstanding.{both_true}
+use Rattle.mscp_sim.proofs.TwoEnds.Receiving.{found_all}
+
+contains_in : (A : List ℕ) (x : ℕ) (B : List ℕ) → Contains (A ++ x ∷ B) x
+contains_in [] x B = (0, omega arith, refl)
+contains_in (a ∷ A) x B = let rest = contains_in A x B in let l = rest.1 in (suc rest.0, omega (arith, l), rest.2)
+
+pub contains_waiting : (t : Trace) (x : ℕ) → is_waiting t x ≡ true → Contains (waiting t) x
+contains_waiting t x w = let k = cut t x (waits_below t x w) w in
+    subst (λ xs. Contains xs x) (sym k.2.is) (contains_in k.0 x k.1)
+
+-- no figure of a waiting command of this name is over g
+abbrev pub AtMost : Settings → Trace → Name → ℕ → Type 0
+AtMost c t n g = (x : ℕ) → is_waiting t x ≡ true → name t x ≡ n → figure c t x ≤ g
+
+-- what each part of a promised trace has
+pub part_of : (c : Settings) (t u : Trace) → Promise c (t ++ u) → (x : ℕ) → Contains (waiting t) x
+    → figure_of c t (name t x) ≡ figure c t x
+part_of c t u p x w =
+    let inside : length t ≤ length (t ++ u) = let l = length-append t u in omega (arith, l) in
+    subst (λ v. (x : ℕ) → Contains (waiting v) x → figure_of c v (name v x) ≡ figure c v x) (take-append_seam t u)
+    (p.own (length t) inside) x w
+
+-- the promise at its last moment
+never_rises_at : (c : Settings) (t : Trace) (m : Moment) → Promise c (t ++ m ∷ []) → (x : ℕ) → Contains (waiting t) x
+    → figure c (t ++ m ∷ []) x ≤ figure c t x
+never_rises_at c t m p x w =
+    let size : length (t ++ m ∷ []) ≡ length t + 1 = length-append t (m ∷ []) in
+    let all : take (length t + 1) (t ++ m ∷ []) ≡ t ++ m ∷ [] =
+    take_all (length t + 1) (t ++ m ∷ []) (omega (arith, size)) in
+    subst (λ v. figure c v x ≤ figure c t x) all
+    (subst (λ v. (y : ℕ) → Contains (waiting v) y → figure c (take (length t + 1) (t ++ m ∷ [])) y ≤ figure c v y)
+    (take-append_seam t (m ∷ [])) (p.never_rises (length t) (omega (arith, size))) x w)
+
+falls_at : (c : Settings) (t : Trace) (m : Moment) → Promise c (t ++ m ∷ []) → is_step m.0 ≡ true → (x : ℕ)
+    → Contains (waiting t) x → figure c (t ++ m ∷ []) x < figure c t x
+falls_at c t m p s x w =
+    let size : length (t ++ m ∷ []) ≡ length t + 1 = length-append t (m ∷ []) in
+    let all : take (length t + 1) (t ++ m ∷ []) ≡ t ++ m ∷ [] =
+    take_all (length t + 1) (t ++ m ∷ []) (omega (arith, size)) in
+    let step : is_step (moment (t ++ m ∷ []) (length t)).0 ≡ true =
+    ap (λ (n : Moment). is_step n.0) (moment_last t m) ∙ s in
+    subst (λ v. figure c v x < figure c t x) all
+    (subst (λ v. (y : ℕ) → Contains (waiting v) y → figure c (take (length t + 1) (t ++ m ∷ [])) y < figure c v y)
+    (take-append_seam t (m ∷ [])) (p.falls (length t) (omega (arith, size)) step) x w)
+
+-- a moment raises no figure, and a step lowers each
+pub most_moment : (c : Settings) (t : Trace) (m : Moment) (n : Name) (g g' : ℕ) → Promise c (t ++ m ∷ [])
+    → (queues m.1 ≡ true → name_on (connection_of m.0) (sent_command m).reference ≡ n → ⊥)
+    → (g' ≡ g) ⊎ ((is_step m.0 ≡ true) × (g' ≡ g - 1)) → AtMost c t n g → AtMost c (t ++ m ∷ []) n g'
+most_moment c t m n g g' p new way most x w r =
+    let t' = t ++ m ∷ [] in
+    let size : length t' ≡ length t + 1 = length-append t (m ∷ []) in
+    let inside : x < length t' = waits_below t' x w in
+    ⊎_elim
+    (λ below.
+    let was : (is_waiting t x && not (ends_in (name t x) m.1)) ≡ true = sym (is_waiting_before t m x below) ∙ w in
+    let waits = (both_true (is_waiting t x) _ was).0 in
+    let named : name t x ≡ n = sym (name_before t m x below) ∙ r in
+    let old = most x waits named in
+    let there = contains_waiting t x waits in
+    let rises = never_rises_at c t m p x there in
+    ⊎_elim (λ same. omega (arith, old, rises, same))
+    (λ step. let falls = falls_at c t m p step.0 x there in let less = step.1 in
+    omega (arith, old, falls, less)) way)
+    (λ beyond.
+    let last : x ≡ length t = omega (arith, beyond, inside, size) in
+    let queued : queues m.1 ≡ true = sym (is_waiting_last t m) ∙ (ap (is_waiting t') (sym last) ∙ w) in
+    let named : name t' (length t) ≡ name_on (connection_of m.0) (sent_command m).reference =
+    λ i. name_on (connection_last t m i) (command_last t m i).reference in
+    absurd (new queued (sym named ∙ (ap (name t') (sym last) ∙ r))))
+    (cases_lt x (length t))
+
+-- a figure that is at least 1 is that of a waiting command
+pub record Waits (c : Settings) (t : Trace) (n : Name) : Type 0 where
+  pub command : ℕ
+  pub waits : is_waiting t command ≡ true
+  pub named : name t command ≡ n
+  pub figure : figure_of c t n ≡ figure c t command
+
+waits_of : (c : Settings) (t : Trace) (n : Name) (o : Option ℕ) → find (λ x. same_name (name t x) n) (waiting t) ≡ o
+    → figure_of c t n ≡ figure_found c t o → 1 ≤ figure_found c t o → Waits c t n
+waits_of c t n None e f l = absurd (omega (arith, l))
+waits_of c t n (Some x) e f l = record {
+  command = x;
+  waits = found_all (λ y. is_waiting t y ≡ true) _ (waiting t) x (waiting_waits t) e;
+  named = same_is (name t x) n (found_is (λ y. same_name (name t y) n) (waiting t) x e);
+  figure = f;
+}
+
+pub waits_at : (c : Settings) (t : Trace) (n : Name) → 1 ≤ figure_of c t n → Waits c t n
+unfolding figure_of
+waits_at c t n l = waits_of c t n (find (λ x. same_name (name t x) n) (waiting t)) refl refl l
