@@ -55,8 +55,8 @@ served via r lbn ended = (events.Step Good, entries.Stepped (reports.Served via 
 abbrev told : ℕ → List ℕ
 told figure = 2 ∷ 0 ∷ 0 ∷ 0 ∷ 0 ∷ 0 ∷ 0 ∷ 0 ∷ 0x82 ∷ 0 ∷ 0 ∷ 0 ∷ 1 ∷ 0 ∷ 0 ∷ 0 ∷ figure ∷ 0 ∷ 0 ∷ 0 ∷ []
 
--- An ONLINE of the first host and a READ of the second have one number. The second polls its own, whose figure counts the
--- ONLINE before it, and each end goes to its host.
+-- An ONLINE of the first host and a READ of the second have one number. The second polls its own, whose figure counts
+-- the ONLINE before it, and each end goes to its host.
 abbrev shared : Trace
 shared =
     queued First 1 orders.Online
