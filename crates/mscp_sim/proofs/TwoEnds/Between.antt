@@ -72,7 +72,7 @@ came_from c via talk j i l (k ∷ ks) h e =
                 let tail : (ys : List ℕ) → rest ≡ ys → last_of (figure_told c via talk p ∷ ys) ≡ Some l
                 → Came c via talk j i l =
                 λ ys. elim ys as (λ ys. rest ≡ ys → last_of (figure_told c via talk p ∷ ys) ≡ Some l
-                    → Came c via talk j i l) [
+                → Came c via talk j i l) [
                   | [] ↦ λ r f. record {
                     turn = k;
                     poll = p;

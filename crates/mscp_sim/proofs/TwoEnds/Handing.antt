@@ -238,8 +238,12 @@ flight_after e us (Some w) told f = flight_with e us w told (nat_eq w.reference 
 taken_out : {K : Type 0} (via : Connection) (a : Account) (h : Holdings K) (told : Flight) (e : End) (us : List End)
     → Matches via a h told → of via h.untaken ≡ e ∷ us
     → Matches via
-    (record { credits = a.credits; outstanding = without e.reference a.outstanding; watch = watch_after a.watch
-    e.reference; }) (record h { untaken = put via us h.untaken }) told
+    (record {
+      credits = a.credits;
+      outstanding = without e.reference a.outstanding;
+      watch = watch_after a.watch
+          e.reference;
+    }) (record h { untaken = put via us h.untaken }) told
 taken_out {K} via a h told e us m u =
     let n = e.reference in
     let h' : Holdings K = record h { untaken = put via us h.untaken } in
@@ -275,9 +279,9 @@ taken_out {K} via a h told e us m u =
       waits = every_weaker (λ c. IsKnown a.outstanding c × (nat_eq n c.reference ≡ false))
           (IsKnown (without n a.outstanding)) (λ c k.
           (opcode_without c.reference n (opcode_byte c.order) a.outstanding k.1 k.0.0, k.0.1))
-              (commands (waiting_on via h.waiting))
+          (commands (waiting_on via h.waiting))
           (every_both (IsKnown a.outstanding) (λ c. nat_eq n c.reference ≡ false)
-              (commands (waiting_on via h.waiting)) m.waits
+          (commands (waiting_on via h.waiting)) m.waits
           (other_commands n (commands (waiting_on via h.waiting)) apart.0));
       ends = subst (AllByRecursion (IsAwaited (without n a.outstanding))) (sym left)
           (every_weaker (λ x. IsAwaited a.outstanding x × (nat_eq n x.reference ≡ false))

@@ -44,8 +44,8 @@ found_poll c via talk j e k h (Some p) f q = (
 )
 
 -- what is known of the turn
-pub gives : {K : Type 0} {c : Settings} {via : Connection} {talk : Talk} {j : ℕ} {a : Account} {h : Holdings K} {b : List ℕ}
-    → (s : Side c via talk j a h) → (out : Handed via a h s.told b)
+pub gives : {K : Type 0} {c : Settings} {via : Connection} {talk : Talk} {j : ℕ} {a : Account} {h : Holdings K}
+    {b : List ℕ} → (s : Side c via talk j a h) → (out : Handed via a h s.told b)
     → ((r : ℕ) → hands_over via r (said talk j).moment ≡ nat_eq out.end.reference r) → sends via (said talk j) ≡ false
     → Gives c via talk j out.end
 gives {K} {c} {via} {talk} {j} {a} {h} s out hands silent =
@@ -73,7 +73,7 @@ gives {K} {c} {via} {talk} {j} {a} {h} s out hands silent =
       tells = λ f.
           let w = watch_at via talk j p in
           let flight : IsFlight es w s.told = subst (λ w. HasFlight es w s.told)
-              (ap (option_map (watch_at via talk j)) f)
+          (ap (option_map (watch_at via talk j)) f)
           (subst (λ xs. HasFlight xs (account_at c via talk j).watch s.told) out.untaken m.flight) in
           let first = first_is e out.rest w s.told flight
           (alone via (account_at c via talk j) h s.told e out.rest m out.untaken).1 named in
@@ -216,8 +216,7 @@ said_answer c via talk j e g q (Some i) r true t some =
     st.about).1 in
     let poll : st.poll ≡ p = its_poll c via talk j e g st in
     let same : i ≡ st.command = eqb-true i st.command
-    (ap (is_it st.command) (sym (ap (asked_for via talk) poll ∙ r)) ∙ about) in
-    (
+    (ap (is_it st.command) (sym (ap (asked_for via talk) poll ∙ r)) ∙ about) in (
       st.last,
       ap (last_answer c via talk j) same ∙ st.told,
       subst (λ k. st.last ≤ figure_told c via talk k) poll st.not_less,
@@ -261,8 +260,8 @@ said_flight c via talk j p e g q false n =
     let same : p ≡ g.poll = ap (λ o. unwrap_or o p) (sym q ∙ in_flight_then c via talk j e g st) in
     true≢false (sym (eq-eqb (reference talk p) e.reference (ap (reference talk) same ∙ g.named)) ∙ n))
 
-pub said_with : (c : Settings) (via : Connection) (talk : Talk) (j : ℕ) (e : End) (g : Gives c via talk j e) (o : Option ℕ)
-    → in_flight via talk j ≡ o
+pub said_with : (c : Settings) (via : Connection) (talk : Talk) (j : ℕ) (e : End) (g : Gives c via talk j e)
+    (o : Option ℕ) → in_flight via talk j ≡ o
     → IsSaid c via talk j (news_with (account_at c via talk j) e (answered (option_map (watch_at via talk j) o) e))
 said_with c via talk j e g None q = said_ended c via talk j e
     (λ st. true≢false (ap is_some (sym (in_flight_then c via talk j e g st) ∙ q)))

@@ -117,7 +117,7 @@ watch_left c via talk j e (Some p) g q =
       | true ↦ λ n. ap (option_map (watch_at via talk (j + 1))) (flight_gone c via talk j e p g q n)
       | false ↦ λ n. ap (option_map (watch_at via talk (j + 1))) (flight_kept c via talk j e p g q n)
           ∙ stands_after c via talk j e p (asked_for via talk p) g (found_below via talk j p _ q)
-              (λ i f. found_below via talk p i _ f)
+          (λ i f. found_below via talk p i _ f)
     ] in
     both (nat_eq (reference talk p) e.reference) refl
 

@@ -289,13 +289,13 @@ poll_flight {K} via a h told r s m there =
       ended = λ st wa.
           let all = same_holds via a h told s.reference m ∙ there in
           let either = sym
-              (list_any-append (λ x. nat_eq x s.reference) (numbers (waiting_on via h.waiting))
-              (numbers_ended (of via h.untaken)))
+          (list_any-append (λ x. nat_eq x s.reference) (numbers (waiting_on via h.waiting))
+          (numbers_ended (of via h.untaken)))
           ∙ all in
           let second = second_of (list_any (λ x. nat_eq x s.reference) (numbers (waiting_on via h.waiting)))
           (list_any (λ x. nat_eq x s.reference) (numbers_ended (of via h.untaken))) either wa in
           subst (λ us. list_any (λ (e : End). nat_eq e.reference s.reference) us ≡ true)
-              (sym (append-nil (of via h.untaken)))
+          (sym (append-nil (of via h.untaken)))
           (sym (any_ends s.reference (of via h.untaken)) ∙ second);
     }
 

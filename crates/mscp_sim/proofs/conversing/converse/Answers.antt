@@ -19,4 +19,5 @@ returns-clause-talk g c =
       controller = c.new-controller.ensures.fresh;
       heard = c.in_ok-with_capacity.ensures.items;
       trace = c.in_ok-with_capacity-2.ensures.items;
-    }) (subst (λ k. GoesTo (g.K.Picker.picks k) old c.args.turns.now new) {y = c.args.picker} picker c.hear_each.ensures)
+    }) (subst (λ k. GoesTo (g.K.Picker.picks k) old c.args.turns.now new) {y = c.args.picker} picker
+    c.hear_each.ensures)
