@@ -1,6 +1,6 @@
 -- A literal talk of two hosts that use the same numbers, worked by hand: what each keeps, and what is handed to which.
 use Rattle.std.proofs.Common.{◌≡◌, ℕ, true, [], ◌∷◌, refl}
-use Rattle.std.specs.Prelude.{Option, Some, None, Ok}
+use Rattle.std.specs.Prelude.{Option, Some, None, Ok, Err}
 use Rattle.mscp_packet.specs.declared.command.Command.{Command}
 use Rattle.mscp_packet.specs.declared.command.Order.{Order}
 use Rattle.mscp_packet.specs.declared.command.Order.TheVariants as orders
@@ -22,7 +22,10 @@ use Rattle.mscp_control.specs.Passing.{passed_at, passed}
 use Rattle.mscp_control.specs.Figures.{figure, figure_of}
 use Rattle.mscp_control.specs.Settings.{Settings}
 use Rattle.mscp_control.proofs.Worked.Literals.{onlined, read, settings}
-use Rattle.mscp_host.specs.Accounts.{fresh}
+use Rattle.mscp_host.specs.Accounts.{fresh, polls_oldest}
+use Rattle.mscp_host.specs.Accounts as host
+use Rattle.mscp_host.specs.declared.news.HostFault.TheVariants as faults
+use Rattle.mscp_host.specs.declared.news.Poll.TheVariants as polls
 use Rattle.mscp_host.specs.declared.news.News.TheVariants as news
 use Rattle.mscp_sim.specs.declared.conversing.Turn.TheVariants as turns
 use Rattle.mscp_sim.specs.declared.conversing.Heard.{Heard}
@@ -135,3 +138,10 @@ second_kept = refl
 absent_kept : account_at (settings 4 2) Second (hands First online_end news.Late ∷ []) 1 ≡ fresh 0
 unfolding outstanding
 absent_kept = refl
+
+-- so its host refuses each command, and has nothing to poll
+absent_refuses : (c : Command) → (host.submits (fresh 0) c).0 ≡ Err faults.NoCredit
+absent_refuses c = refl
+
+absent_asks : (r : ℕ) → (polls_oldest (fresh 0) r).0 ≡ Ok polls.Nothing
+absent_asks r = refl
