@@ -16,7 +16,9 @@ fn config(rt: &impl Abort) -> Config {
         .ok()
         .expect(rt, "no size is zero");
     let units = Units::new(&[unit]).ok().expect(rt, "a list of units");
-    Config::new(4, 0, 0, 8, 60, 1, units).ok().expect(rt, "limits")
+    Config::new(4, 0, 0, 8, 60, 1, units)
+        .ok()
+        .expect(rt, "limits")
 }
 
 /// How the fault of a script is printed.
