@@ -66,7 +66,7 @@ enum mscp_status {
     MSCP_NO_CREDIT = -3,    /* no credit is free */
     MSCP_LAST_CREDIT = -4,  /* one is free, which is kept for commands that are answered at once, as a poll */
     MSCP_DOUBLED = -5,      /* the reference number is outstanding */
-    MSCP_STALE = -6,        /* mscp_finish: the command of that number isn't begun, or not any more */
+    MSCP_STALE = -6,        /* mscp_finish: the command of that connection and number isn't begun, or not any more */
     MSCP_BAD_STATUS = -7,   /* mscp_finish, mscp_step: the block's is neither 0 nor one of low five bits 5 to 31 */
     MSCP_UNREADABLE = -8,   /* mscp_host_receive: the bytes are no end */
     MSCP_UNKNOWN = -9,      /* mscp_host_receive: the end of no outstanding command */
@@ -86,7 +86,7 @@ enum mscp_status {
     MSCP_MANY_UNITS = -25,    /* there are more than 16 */
     MSCP_UNITS_FALL = -26,    /* a unit's number isn't above that of the one before it */
     MSCP_NO_UNITS = -27,      /* there is none */
-    MSCP_BAD_CREDITS = -28,   /* the credits aren't 2 to 64, or those of the second 1, or those of both over 64 */
+    MSCP_BAD_CREDITS = -28,   /* the first's credits aren't 2 to 64, the second's are 1, or both have over 64 */
     MSCP_BAD_LONGEST = -29,   /* the longest transfer isn't 1 to 8388608 blocks */
     MSCP_BAD_TIMEOUT = -30,   /* the timeout isn't 1 to 255 seconds */
     MSCP_BAD_BOUND = -31,     /* the bound of figures doesn't fit 32 bits: see struct mscp_limits */
@@ -97,7 +97,7 @@ enum mscp_status {
 /* By which connection a host talks to the controller. Each has its own credits, ends and reference numbers. */
 enum mscp_connection {
     MSCP_CONNECTION_FIRST = 0,
-    MSCP_CONNECTION_SECOND = 1 /* there where the limits have credits for it */
+    MSCP_CONNECTION_SECOND = 1 /* only where the limits give it credits */
 };
 
 /* Which of the commands that may start is started. */
@@ -238,7 +238,7 @@ size_t mscp_host_align(void);
 /* The bytes of a handle, at the head of the memory. */
 #define MSCP_HEAD sizeof(struct mscp)
 
-/* Marks of handles on memory where nothing was made yet. They are the version of what lies in memory, too. */
+/* Marks of handles on memory where nothing was made yet. */
 #define MSCP_ROOM UINT64_C(0x4D534350524F4F4D)
 #define MSCP_HOST_ROOM UINT64_C(0x484F5354524F4F4D)
 
@@ -391,7 +391,7 @@ int32_t mscp_is_online(const struct mscp *mscp, uint16_t unit);
 
 /* ---- the host's end. Each call but mscp_host_init answers MSCP_NOT_MADE where there is none. */
 
-/* Makes a host in the handle's memory, with as many credits as its controller gives: 2 to 64. MSCP_DONE, or a fault of
+/* Makes a host in the handle's memory, with as many credits as its connection has: 2 to 64. MSCP_DONE, or a fault of
  * the memory (-11 to -15), or MSCP_BAD_CREDITS. Do it anew (in fresh memory, or over a new handle) when the port is
  * reset. */
 MSCP_MUST_USE int32_t mscp_host_init(struct mscp_host *host, uint32_t credits);

@@ -64,7 +64,7 @@ pub data HandleCall : Type 0 where
 abbrev pub Refuses : {Out : Type 0} → ℤ → Handle → Out → ℤ → Handle → Out → Type 0
 Refuses code old before status new after = (status ≡ code) × (new ≡ old) × (after ≡ before)
 
--- what this is of the connection of a number is answered, or that the number is none
+-- the answer is this value of the number's connection, or BAD_CONNECTION where the number is none
 abbrev pub AnswersOf : ℕ → (Connection → ℕ) → ℤ → Type 0
 AnswersOf number value answer =
     MatchOption (connection_given number) (answer ≡ BAD_CONNECTION) (λ via. answer ≡ pos (value via))
@@ -125,7 +125,7 @@ AnsweredByHandle old (call ∷ more) new = (next : Handle) × AnswersHandle old 
 abbrev pub TellsRefused : {Out : Type 0} → ℤ → Out → ℤ → Out → List Call → Type 0
 TellsRefused code before status after next = (next ≡ []) × (status ≡ code) × (after ≡ before)
 
--- it was that of this connection, and what became of a message, or an end, is told
+-- the number was that of this connection: what became of the message, or the end, is told
 abbrev pub TellsSent : Connection → List ℕ → SentOut → ℤ → SentOut → List Call → Type 0
 TellsSent via message before status after next =
     (sent : Result Sent SendFault)
@@ -137,7 +137,7 @@ TellsTaken via before status after next =
     (end : Option (ArrayVec ℕ)) × (next ≡ calls.Plain (events.Take via) (entries.Taken via end) ∷ [])
     × (status ≡ take_code end) × TakeTold end before after
 
--- it was that of this block, and a finish or a step is told
+-- the status was that of this block: a finish or a step is told
 abbrev pub TellsFinished : Connection → ℕ → Block → ReportOut → ℤ → ReportOut → List Call → Type 0
 TellsFinished via reference k before status after next =
     (answer : Result Report Stale) × (next ≡ calls.Finish via reference k answer ∷ [])

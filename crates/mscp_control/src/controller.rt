@@ -312,7 +312,7 @@ impl<K: Picker> Controller<K> {
     }
 
     /// Takes a message of the connection's host in, or says why not: the first of the faults that holds. A refusal changes
-    /// nothing. If there is no second connection, each message of its that isn't too short or too long has no credit.
+    /// nothing. Where there is no second connection, each of its messages that is neither too short nor too long has no credit.
     pub fn send(&mut self, connection: Connection, b: &[u8]) -> Result<Sent, SendFault>
         ensures answer { result ≡ answer_to_message connection self.old b.now }
         ensures after { self.new ≡ after_message connection self.old b.now }

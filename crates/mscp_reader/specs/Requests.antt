@@ -76,7 +76,7 @@ alone request fields = do
   f ← none fields
   Ok request
 
--- what a line of this form asks for by these fields, where it is of the host of this connection, if it is of one
+-- what a line of this form asks for by these fields. If the line is of a host, it is the host of this connection
 -- (profile)
 unfoldable pub asked : Connection → Form → List (List ℕ) → Result Request Cause
 asked via (forms.Transfer kind) fields = do

@@ -188,7 +188,7 @@ pub fn form_of(word: &[u8]) -> Option<Form>
     }
 }
 
-/// What a line of this form asks for by these fields, of the connection's host where it is of a host.
+/// What a line of this form asks for by these fields. If it is of a host, it is the connection's.
 #[tactic(auto, unfolding(crate::specs::Requests::asked))]
 fn read_fields(connection: Connection, form: Form, words: Words<'_>) -> Result<Request, Cause>
     ensures { result ≡ requests.asked connection form (lexical.words words.entry.rest.now) }

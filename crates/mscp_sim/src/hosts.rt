@@ -73,7 +73,7 @@ impl Hosts {
         }
     }
 
-    /// What the connection's host says of an end that it received, which has a command outstanding.
+    /// What the connection's host says of an end that it received. The host has a command outstanding.
     pub(crate) fn receive(&mut self, connection: Connection, b: &[u8]) -> Result<News, HostFault>
         requires { 1 ≤ length (of connection self.old).outstanding }
         ensures answer { result ≡ (heard (of connection self.old) b.now).0 }
