@@ -14,12 +14,12 @@ use Rattle.mscp_queue.specs.declared.name.Connection.{Connection}
 use Rattle.mscp_queue.specs.Aims.{IsAimed, aim_of, aims_of, unit_place}
 use Rattle.mscp_queue.specs.Drives.{IsOnUnit, drive_of, has_number, one_block}
 use Rattle.mscp_queue.specs.Kept.{CanBeShown, HasBlocks, is_known, units_of}
-use Rattle.mscp_queue.specs.Orders.{first_block}
+use Rattle.mscp_queue.specs.Orders.{first_block, is_move}
 use Rattle.mscp_queue.specs.Records.{Record, advanced, drive_at, fresh_record, no_record, passed_by, record_at}
-use Rattle.mscp_queue.proofs.Fronts.{drive_place, known_at, known_inside}
+use Rattle.mscp_queue.proofs.Drives.{drive_place, known_at, known_inside}
 use Rattle.mscp_queue.proofs.Placed.{cut_at, map_map}
-use Rattle.mscp_queue.proofs.Starting.{first_inside}
-use Rattle.mscp_queue.proofs.Turns.{found_unit}
+use Rattle.mscp_queue.proofs.Held.{some_steps}
+use Rattle.mscp_queue.proofs.Turns.{found_unit, inside_of}
 
 -- ---- the place of a drive is that of its unit
 
@@ -29,7 +29,7 @@ place_same (d ∷ ds) n = ap (λ k. cond (not (nat_eq d.unit.number n)) (1 + k) 
 
 pub place_found : (ds : List Drive) (n other : ℕ) → is_known (units_of ds) n ≡ true
     → unwrap_or (position (has_number n) ds) other ≡ unit_place (units_of ds) n
-place_found ds n other h = Rattle.mscp_queue.proofs.Fronts.place_found ds n other h ∙ place_same ds n
+place_found ds n other h = Rattle.mscp_queue.proofs.Drives.place_found ds n other h ∙ place_same ds n
 
 pub place_inside : (ds : List Drive) (n : ℕ) → is_known (units_of ds) n ≡ true → unit_place (units_of ds) n < length ds
 place_inside ds n h = subst (λ k. k < length ds) (place_same ds n) (known_inside ds n h)
@@ -61,11 +61,19 @@ aim_made ds command place block cylinder d known at first is =
     is ∙ (λ i. cylinder_of (unit i) (first i)) in
     λ i. record { drive = at i; cylinder = whole i }
 
--- what stands past the end of a list of aims
-abbrev pub no_aim : Aim
-no_aim = record { drive = 0; cylinder = 0 }
-
 -- ---- where a waiting command aims, that can be shown
+
+-- a unit that has the blocks of a transfer has the first of them
+first_inside : (ds : List Drive) (r : Record) (at : ℕ) (d : Drive) → at ≡ drive_place ds r.command.unit
+    → d ≡ get_or ds at d → HasBlocks (units_of ds) r.command
+    → is_move r.command.order ≡ true → first_block r.command.order < d.unit.size
+first_inside ds r at d e found h m =
+    let drive : d ≡ drive_of ds r.command.unit = found
+    ∙ (ap (λ i. get_or ds i d) e ∙ (known_at ds r.command.unit d h.0).drive) in
+    let inside = inside_of (units_of ds) r.command.unit r.command.order m h.1 in
+    let unit : (unwrap_or (unit_found (units_of ds) r.command.unit) one_block).size ≡ d.unit.size =
+    ap (λ (s : Shape). s.size) (found_unit r.command.unit ds ∙ ap (λ (d : Drive). d.unit) (sym drive)) in
+    omega (arith, inside, unit, some_steps r.command.order)
 
 own_blocks : (ds : List Drive) (rs : List Record) (aims : List Aim) (place : ℕ) (r : Record) → CanBeShown ds rs aims
     → place < length rs → r ≡ get_or rs place r → HasBlocks (units_of ds) r.command
@@ -167,3 +175,11 @@ aims_pushed us rs new aims aims' by command aim old own more e =
     let of : Record → Aim = λ q. aim_of us q.command in
     more ∙ ((λ i. old i ++ own i ∷ []) ∙ (sym (map-append of rs (fresh_record by command ∷ []))
     ∙ ap (aims_of us) (sym e)))
+
+-- a command leaves
+pub aims_cut : (us : List Shape) (rs : List Record) (place : ℕ)
+    → take place (aims_of us rs) ++ drop (place + 1) (aims_of us rs) ≡ aims_of us (take place rs ++ drop (place + 1) rs)
+aims_cut us rs place =
+    let of : Record → Aim = λ q. aim_of us q.command in
+    (λ i. take-map of place rs i ++ drop-map of (place + 1) rs i)
+    ∙ sym (map-append of (take place rs) (drop (place + 1) rs))

@@ -215,7 +215,7 @@ none_idle (r ∷ rs) h =
     ] in
     both (nat_lt 0 r.done) refl h
 
-passed_idle : (n : ℕ) (A : List Record) → AreIdle A → AreIdle (map (passed_by n) A)
+pub passed_idle : (n : ℕ) (A : List Record) → AreIdle A → AreIdle (map (passed_by n) A)
 passed_idle n [] h = tt
 passed_idle n (r ∷ rs) h = (h.0, passed_idle n rs h.1)
 

@@ -154,3 +154,11 @@ pub flat_on : {X Y : Type 0} (f g : X → List Y) (xs : List X) → AllByRecursi
     → flat_map f xs ≡ flat_map g xs
 flat_on f g [] h = refl
 flat_on f g (x ∷ xs) h = ap (λ l. l ++ flat_map f xs) h.0 ∙ ap (λ l. g x ++ l) (flat_on f g xs h.1)
+
+-- without an element in the middle
+pub pairs_cut : {X : Type 0} (R : X → X → Type 0) (xs : List X) (y : X) (ys : List X) → Pairs R (xs ++ y ∷ ys)
+    → Pairs R (xs ++ ys)
+pairs_cut R [] y ys h = h.1
+pairs_cut R (x ∷ xs) y ys h =
+    let parts = every_parts (R x) xs (y ∷ ys) h.0 in
+    (every_append (R x) xs ys parts.0 parts.1.1, pairs_cut R xs y ys h.1)

@@ -1,22 +1,24 @@
 -- Which record is served next: what was begun, or else that in service, or else one that may be picked.
-use Rattle.std.proofs.Common.{◌≡◌, ◌≢◌, ⊎_elim, ℕ, zero, suc, ◌<◌, Bool, true, false, List, [], ◌∷◌, get_or, length, refl, ap, sym, ◌∙◌, subst, arith}
-use Rattle.std.specs.Prelude.{All, IfNone, IfSome, is_some, nat_lt, unwrap_or, Option, Some, None}
+use Rattle.std.proofs.Common.{◌≡◌, ◌≢◌, ⊎_elim, ℕ, zero, suc, ◌+◌, ◌-◌, ◌<◌, ◌≤◌, Bool, true, false, List, [], ◌∷◌, ◌++◌, take, drop, length, refl, ap, sym, ◌∙◌, subst, arith}
+use Rattle.std.specs.Prelude.{All, filter, if◌then◌else◌, is_some, nat_lt, unwrap_or, Option, Some, None}
 use Rattle.std.specs.List.{AllByRecursion, position}
-use Rattle.std.proofs.lemmas.List.{get_or-map, get_or_at, length-append, length-map}
+use Rattle.std.proofs.lemmas.List.{get_or_append_left, get_or-append_right, get_or_at, get_or-drop, get_or-take, length-append, length-drop, length-take-le}
 use Rattle.std.proofs.lemmas.List.Elements.{All-from_recursion, recursion_from_All}
 use Rattle.std.proofs.lemmas.Bool.{eqb-true, false≢true, ltb-false, ltb-true, true≢false}
 use Rattle.mscp_queue.specs.declared.drive.Drive.{Drive}
 use Rattle.mscp_queue.specs.declared.view.Choice.{Choice}
-use Rattle.mscp_queue.specs.Kept.{AreApart, IsStillServable, names}
+use Rattle.mscp_queue.specs.Kept.{AreApart, IsHeld, IsStillServable, begun_name, names, place_without}
 use Rattle.mscp_queue.specs.declared.name.Name.{Name}
-use Rattle.mscp_queue.specs.Records.{Record, drive_at, has_name, is_in_service, is_unstarted, name_of, no_record, record_at}
-use Rattle.mscp_queue.specs.Serving.{IsNext, IsServable}
-use Rattle.mscp_queue.specs.Views.{IsPick, choice_name, choice_of, open_places, view_of}
+use Rattle.mscp_queue.specs.Names.{same_name}
+use Rattle.mscp_queue.specs.Records.{Record, has_name, is_in_service, is_unstarted, name_of, no_record, record_at, without}
+use Rattle.mscp_queue.specs.Serving.{IsNext, IsServable, begun_without}
+use Rattle.mscp_queue.specs.Views.{IsPick}
 use Rattle.mscp_queue.proofs.Begun.{picked_opens}
-use Rattle.mscp_queue.proofs.Named.{is_same, same_is}
-use Rattle.mscp_queue.proofs.Lists.{every_weaker}
-use Rattle.mscp_queue.proofs.Placed.{find_cases, position_first, position_none}
-use Rattle.mscp_queue.proofs.Starting.{places_inside}
+use Rattle.mscp_queue.proofs.Named.{is_differ, is_same, same_is}
+use Rattle.mscp_queue.proofs.Lists.{every_append, every_parts, every_weaker}
+use Rattle.mscp_queue.proofs.Placed.{cut_at, find_cases, position_first, position_none}
+use Rattle.mscp_queue.proofs.Aborts.{aborts_at, held_aborted}
+use Rattle.mscp_queue.proofs.Held.{others_idle}
 
 -- the place of the first record that passes a test
 found_at : (p : Record → Bool) (rs : List Record) (place : ℕ) → position p rs ≡ Some place
@@ -113,6 +115,11 @@ once (r ∷ rs) zero (suc j) a k l e = absurd (others_differ (name_of r) rs j a.
 once (r ∷ rs) (suc i) zero a k l e = absurd (others_differ (name_of r) rs i a.0 (omega (arith, k)) e)
 once (r ∷ rs) (suc i) (suc j) a k l e = ap suc (once rs i j a.1 (omega (arith, k)) (omega (arith, l)) e)
 
+-- what is found has the name
+pub named_at : (name : Name) (rs : List Record) (place : ℕ) → position (has_name name) rs ≡ Some place
+    → name_of (record_at rs place) ≡ name
+named_at name rs place h = same_is (name_of (record_at rs place)) name (found_at (has_name name) rs place h).1
+
 -- so it is found there
 pub name_found : (rs : List Record) (name : Name) (place : ℕ) (o : Option ℕ) → AreApart (names rs) → place < length rs
     → name_of (record_at rs place) ≡ name → o ≡ position (has_name name) rs → o ≡ Some place
@@ -127,18 +134,6 @@ name_found rs name place None a l e h =
 name_found rs name place (Some other) a l e h =
     let f = found_at (has_name name) rs other (sym h) in
     ap Some (once rs other place a f.0 l (same_is (name_of (record_at rs other)) name f.1 ∙ sym e))
-
--- and so is the record that a choice of a view is of
-pub shown_found : (budget : ℕ) (ds : List Drive) (rs : List Record) (view : List Choice) (i : ℕ) (other : Choice)
-    (o : Option ℕ) → AreApart (names rs) → view ≡ view_of budget ds rs → i < length view
-    → o ≡ position (has_name (choice_name (get_or view i other))) rs → o ≡ Some (get_or (open_places budget rs) i 0)
-shown_found budget ds rs view i other o a v l h =
-    let choice : ℕ → Choice = λ place. choice_of (drive_at ds rs place) (record_at rs place) in
-    let k : i < length (open_places budget rs) = omega
-    (arith, l, ap length v, length-map (open_places budget rs) choice) in
-    let is = ap (λ vs. get_or vs i other) v ∙ get_or-map choice (open_places budget rs) i 0 other k in
-    name_found rs (choice_name (get_or view i other)) (get_or (open_places budget rs) i 0) o a
-    (places_inside budget rs i 0 k) (sym (ap (choice_name) is)) h
 
 -- the record of what was begun is next
 begun_next : (picks : List Choice → ℕ → Type 0) (budget : ℕ) (ds : List Drive) (rs : List Record) (begun : Option Name)
@@ -155,29 +150,195 @@ begun_next picks budget ds rs begun name place a b s h =
       picked = λ n e. absurd (none_begun begun name n b);
     }
 
--- and it is found
-begun_found : (budget : ℕ) (rs : List Record) (name : Name) → IsStillServable budget rs name
-    → position (has_name name) rs ≡ None → ⊥
-begun_found budget rs name s h =
-    ⊎_elim
-    (λ none. true≢false (sym s.2 ∙ All-from_recursion (λ r. has_name name r ≡ false) rs none s.0 no_record
-    s.1.inside))
-    (λ some. let f = some.3 in true≢false (ap is_some
-    (sym (position_first (has_name name) some.0 some.1 some.2 f.before f.passed)
-    ∙ (ap (position (has_name name)) (sym f.is) ∙ h))))
-    (find_cases (has_name name) rs)
+-- the record at the place that is known of what was begun is next
+pub known_next : (picks : List Choice → ℕ → Type 0) (budget : ℕ) (ds : List Drive) (rs : List Record) (place : ℕ)
+    → AreApart (names rs) → place < length rs → IsStillServable budget rs (name_of (record_at rs place))
+    → IsNext picks budget ds rs (Some (name_of (record_at rs place))) place
+known_next picks budget ds rs place a l s =
+    let name = name_of (record_at rs place) in
+    begun_next picks budget ds rs (Some name) name place a refl s
+    (name_found rs name place (position (has_name name) rs) a l refl refl)
 
--- what is found of what was begun
-pub record Finds (picks : List Choice → ℕ → Type 0) (budget : ℕ) (ds : List Drive) (rs : List Record)
-    (begun : Option Name) (o : Option ℕ) : Type 0 where
-  pub none : IfNone o (rs ≡ [])
-  pub unbegun : IfNone o (begun ≡ None)
-  pub some : IfSome o (λ place. IsNext picks budget ds rs begun place)
+-- the place of the one in service
+pub serving_found : (rs : List Record) (place : ℕ) → length (filter is_in_service rs) ≤ 1 → place < length rs
+    → is_in_service (record_at rs place) ≡ true → position is_in_service rs ≡ Some place
+serving_found rs place one l h =
+    let A = take place rs in
+    let r = record_at rs place in
+    let B = drop (place + 1) rs in
+    let cut = cut_at no_record rs place l in
+    let idle = (others_idle A r B (subst (λ zs. length (filter is_in_service zs) ≤ 1) cut one)
+    (ltb-true 0 r.done h)).0 in
+    ap (position is_in_service) cut
+    ∙ (position_first is_in_service A r B (every_weaker (λ z. z.done ≡ 0) (λ z. is_in_service z ≡ false)
+    (λ z e. ap (nat_lt 0) e) A idle) h
+    ∙ ap Some (length-take-le place rs (omega (arith, l))))
 
-pub finds_begun : (picks : List Choice → ℕ → Type 0) (budget : ℕ) (ds : List Drive) (rs : List Record)
-    (begun : Option Name) (name : Name) (o : Option ℕ) → AreApart (names rs) → begun ≡ Some name
-    → IsStillServable budget rs name
-    → o ≡ position (has_name name) rs → Finds picks budget ds rs begun o
-finds_begun picks budget ds rs begun name None a b s h = absurd (begun_found budget rs name s (sym h))
-finds_begun picks budget ds rs begun name (Some place) a b s h =
-    record { none = tt; unbegun = tt; some = begun_next picks budget ds rs begun name place a b s (sym h) }
+-- where nobody is in service, all are idle, and so none is found
+pub nobody_found : (rs : List Record) (serving : Option ℕ) → serving ≡ None
+    → (is_some serving ≡ false → All (λ r. r.done ≡ 0) rs)
+    → position is_in_service rs ≡ None
+nobody_found rs serving e h = idle_found rs (h (ap is_some e))
+
+-- ---- a place that is known, once a command left
+
+-- the record at such a place is the same
+pub moved : (rs : List Record) (gone place k : ℕ) → gone < length rs → place < length rs
+    → place_without (Some place) gone ≡ Some k
+    → (place ≢ gone) × (k < length (take gone rs ++ drop (gone + 1) rs))
+    × (record_at (take gone rs ++ drop (gone + 1) rs) k ≡ record_at rs place)
+moved rs gone place k l m h = by (nat_lt place gone) (nat_lt gone place) refl refl h
+  where
+    A : List Record
+    A = take gone rs
+
+    B : List Record
+    B = drop (gone + 1) rs
+
+    long : length A ≡ gone
+    long = length-take-le gone rs (omega (arith, l))
+
+    by : (b c : Bool) → nat_lt place gone ≡ b → nat_lt gone place ≡ c
+        → (if b then Some place else if c then Some (place - 1) else None) ≡ Some k
+        → (place ≢ gone) × (k < length (A ++ B)) × (record_at (A ++ B) k ≡ record_at rs place)
+    by true c p q e =
+        let less = ltb-true place gone p in
+        let is : place ≡ k = ap (λ o. unwrap_or o k) e in (
+          λ s. omega (arith, s, less),
+          omega (arith, is, less, long, length-append A B),
+          ap (record_at (A ++ B)) (sym is) ∙ (get_or_append_left A B no_record place (omega (arith, less, long))
+              ∙ get_or-take gone rs place no_record less),
+        )
+    by false true p q e =
+        let more = ltb-true gone place q in
+        let is : place - 1 ≡ k = ap (λ o. unwrap_or o k) e in
+        let at : gone + 1 + (k - gone) ≡ place = omega (arith, is, more) in (
+          λ s. omega (arith, s, more),
+          omega (arith, is, more, long, length-append A B, length-drop (gone + 1) rs, m),
+          get_or-append_right A B gone k no_record long (omega (arith, is, more))
+              ∙ (get_or-drop (gone + 1) rs (k - gone) no_record ∙ ap (record_at rs) at),
+        )
+    by false false p q e = absurd (false≢true (ap is_some e))
+
+pub waits_without : (rs new : List Record) (known : Option ℕ) (gone : ℕ) → gone < length rs → new ≡ take gone rs
+    ++ drop (gone + 1) rs
+    → ((place : ℕ) → known ≡ Some place → place < length rs)
+    → (k : ℕ) → place_without known gone ≡ Some k → k < length new
+waits_without rs new None gone l e h k s = absurd (false≢true (ap is_some s))
+waits_without rs new (Some place) gone l e h k s =
+    subst (λ zs. k < length zs) (sym e) (moved rs gone place k l (h place refl) s).1
+
+pub served_without : (rs new : List Record) (known : Option ℕ) (gone : ℕ) → gone < length rs → new ≡ take gone rs
+    ++ drop (gone + 1) rs
+    → ((place : ℕ) → known ≡ Some place → (place < length rs) × (is_in_service (record_at rs place) ≡ true))
+    → (k : ℕ) → place_without known gone ≡ Some k → (k < length new) × (is_in_service (record_at new k) ≡ true)
+served_without rs new None gone l e h k s = absurd (false≢true (ap is_some s))
+served_without rs new (Some place) gone l e h k s =
+    let was = h place refl in
+    let m = moved rs gone place k l was.0 s in
+    subst (λ zs. (k < length zs) × (is_in_service (record_at zs k) ≡ true)) (sym e) (
+      m.1,
+      ap (λ (r : Record). is_in_service r) m.2 ∙ was.1,
+    )
+
+-- what is begun then
+pub begun_left : (rs new : List Record) (known : Option ℕ) (gone : ℕ) → AreApart (names rs) → gone < length rs
+    → new ≡ take gone rs ++ drop (gone + 1) rs → ((place : ℕ) → known ≡ Some place → place < length rs)
+    → begun_without (name_of (record_at rs gone)) (begun_name rs known) ≡ begun_name new (place_without known gone)
+begun_left rs new None gone a l e h = refl
+begun_left rs new (Some place) gone a l e h = by (place_without (Some place) gone) refl
+  where
+    name : Name
+    name = name_of (record_at rs place)
+
+    by : (o : Option ℕ) → place_without (Some place) gone ≡ o
+        → (if same_name name (name_of (record_at rs gone)) then None else Some name) ≡ begun_name new o
+    by (Some k) s =
+        let m = moved rs gone place k l (h place refl) s in
+        let differ : same_name name (name_of (record_at rs gone)) ≡ false =
+        is_differ name (name_of (record_at rs gone)) (λ n. m.0 (once rs place gone a (h place refl) l n)) in
+        ap (λ b. if b then None else Some name) differ
+        ∙ ap (λ (r : Record). Some (name_of r)) (sym (ap (λ zs. record_at zs k) e ∙ m.2))
+    by None s =
+        let here : place ≡ gone = where_gone (nat_lt place gone) (nat_lt gone place) refl refl s in
+        ap (λ b. if b then None else Some name) (is_same name (name_of (record_at rs gone))
+        (ap (λ k. name_of (record_at rs k)) here))
+      where
+        where_gone : (b c : Bool) → nat_lt place gone ≡ b → nat_lt gone place ≡ c
+            → (if b then Some place else if c then Some (place - 1) else None) ≡ None → place ≡ gone
+        where_gone true c p q e = absurd (true≢false (ap is_some e))
+        where_gone false true p q e = absurd (true≢false (ap is_some e))
+        where_gone false false p q e = let a = ltb-false place gone p in let b =
+            ltb-false gone place q in omega (arith, a, b)
+
+-- one that is served waits for its next step, or none is
+pub some_without : (rs new : List Record) (known : Option ℕ) (gone : ℕ) → gone < length rs → new ≡ take gone rs
+    ++ drop (gone + 1) rs
+    → length (filter is_in_service rs) ≤ 1
+    → ((place : ℕ) → known ≡ Some place → (place < length rs) × (is_in_service (record_at rs place) ≡ true))
+    → (is_some known ≡ false → All (λ r. r.done ≡ 0) rs)
+    → is_some (place_without known gone) ≡ false → All (λ r. r.done ≡ 0) new
+some_without rs new None gone l e one h idle s =
+    let P : Record → Type 0 = λ r. r.done ≡ 0 in
+    let parts = every_parts P (take gone rs) (record_at rs gone ∷ drop (gone + 1) rs)
+    (subst (AllByRecursion P) (cut_at no_record rs gone l) (recursion_from_All P rs (idle refl))) in
+    subst (All P) (sym e) (All-from_recursion P (take gone rs ++ drop (gone + 1) rs)
+    (every_append P (take gone rs) (drop (gone + 1) rs) parts.0 parts.1.1))
+some_without rs new (Some place) gone l e one h idle s = by (place_without (Some place) gone) refl s
+  where
+    P : Record → Type 0
+    P r = r.done ≡ 0
+
+    where_gone : (b c : Bool) → nat_lt place gone ≡ b → nat_lt gone place ≡ c
+        → (if b then Some place else if c then Some (place - 1) else None) ≡ None → place ≡ gone
+    where_gone true c p q e = absurd (true≢false (ap is_some e))
+    where_gone false true p q e = absurd (true≢false (ap is_some e))
+    where_gone false false p q e = let a = ltb-false place gone p in let b =
+        ltb-false gone place q in omega (arith, a, b)
+
+    by : (o : Option ℕ) → place_without (Some place) gone ≡ o → is_some o ≡ false → All (λ r. r.done ≡ 0) new
+    by (Some k) n f = absurd (true≢false f)
+    by None n f =
+        let here = where_gone (nat_lt place gone) (nat_lt gone place) refl refl n in
+        let serves : is_in_service (record_at rs gone) ≡ true = ap (λ k. is_in_service (record_at rs k)) (sym here)
+        ∙ (h place refl).1 in
+        let others = others_idle (take gone rs) (record_at rs gone) (drop (gone + 1) rs)
+        (subst (λ zs. length (filter is_in_service zs) ≤ 1) (cut_at no_record rs gone l) one)
+        (ltb-true 0 (record_at rs gone).done serves) in
+        subst (All (λ (r : Record). r.done ≡ 0)) (sym e)
+        (All-from_recursion (λ (r : Record). r.done ≡ 0) (take gone rs ++ drop (gone + 1) rs)
+        (every_append (λ (r : Record). r.done ≡ 0) (take gone rs) (drop (gone + 1) rs) others.0 others.1))
+
+-- what is true of each queue stays true where the command at a place leaves
+pub held_left : {room budget longest : ℕ} {rs new : List Record} {ds : List Drive} (gone : ℕ) (begun serving : Option ℕ)
+    → IsHeld room budget longest rs ds (begun_name rs begun) (is_some serving) → gone < length rs
+    → new ≡ take gone rs ++ drop (gone + 1) rs
+    → ((place : ℕ) → serving ≡ Some place → (place < length rs) × (is_in_service (record_at rs place) ≡ true))
+    → ((place : ℕ) → begun ≡ Some place → place < length rs)
+    → IsHeld room budget longest new ds (begun_name new (place_without begun gone))
+    (is_some (place_without serving gone))
+held_left {room} {budget} {longest} {rs} {new} {ds} gone begun serving h l e served waits =
+    let name = name_of (record_at rs gone) in
+    let at = aborts_at name rs gone h.apart (name_found rs name gone
+    (position (has_name name) rs) h.apart l refl refl) in
+    let next : suc gone ≡ gone + 1 = omega arith in
+    let is : new ≡ without name rs = e ∙ (ap (λ k. take gone rs ++ drop k rs) (sym next) ∙ at.left) in
+    let all = held_aborted room budget longest name rs new ds (begun_name rs begun) (is_some serving) _ refl h is in
+    let left = begun_left rs new begun gone h.apart l e waits in
+    let whole : IsHeld room budget longest new ds (begun_without name (begun_name rs begun))
+    (is_some (place_without serving gone)) = record {
+      some_room = all.some_room;
+      few = all.few;
+      some_blocks = all.some_blocks;
+      short = all.short;
+      small = all.small;
+      fits = all.fits;
+      each = all.each;
+      apart = all.apart;
+      one = all.one;
+      idle = some_without rs new serving gone l e h.one served h.idle;
+      units = all.units;
+      heads = all.heads;
+      still = all.still;
+    } in
+    subst (λ (o : Option Name). IsHeld room budget longest new ds o (is_some (place_without serving gone))) left whole

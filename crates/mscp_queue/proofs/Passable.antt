@@ -161,6 +161,29 @@ oldest_tells budget longest (q ∷ qs) r l e k o w =
     ] in
     ap (λ (z : Record). nat_le (z.passed + longest) budget) e ∙ both (nat_le (q.passed + longest) budget) refl
 
+pub none_counted : (rs : List Record) → list_all (λ r. not (is_sequential r.command.order)) rs ≡ true
+    → sequential_count rs ≡ 0
+none_counted [] h = refl
+none_counted (r ∷ rs) h =
+    let b = and_parts (not (is_sequential r.command.order))
+    (list_all (λ r. not (is_sequential r.command.order)) rs) h in
+    omega (arith, sum_by-cons one_if r rs, none_counted rs b.1, one_off (is_sequential r.command.order) b.0)
+  where
+    one_off : (b : Bool) → not b ≡ true → cond {A = ℕ} b 1 0 ≡ 0
+    one_off true e = absurd (false≢true e)
+    one_off false e = refl
+
+pub some_counted : (rs : List Record) → list_all (λ r. not (is_sequential r.command.order)) rs ≡ false
+    → 0 < sequential_count rs
+some_counted [] h = absurd (false≢true (sym h))
+some_counted (r ∷ rs) h = by (is_sequential r.command.order) refl (some_counted rs) h
+  where
+    by : (b : Bool) → is_sequential r.command.order ≡ b
+        → (list_all (λ r. not (is_sequential r.command.order)) rs ≡ false → 0 < sequential_count rs)
+        → (not b && list_all (λ r. not (is_sequential r.command.order)) rs) ≡ false → 0 < sequential_count (r ∷ rs)
+    by true e rest h = omega (arith, sum_by-cons one_if r rs, ap {B = ℕ} (λ b. cond b 1 0) e)
+    by false e rest h = omega (arith, sum_by-cons one_if r rs, rest h)
+
 -- ---- all are shown
 
 pub shown_next : (ds : List Drive) (rs : List Record) (place : ℕ) (choices choices' : List Choice) (choice : Choice)

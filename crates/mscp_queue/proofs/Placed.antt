@@ -1,7 +1,7 @@
 -- Lists cut at a place, and lists that a function makes of others.
-use Rattle.std.proofs.Common.{◌≡◌, ◌⊎◌, ⊎_elim, inl, inr, ℕ, ◌+◌, ◌<◌, Bool, true, false, cond, not, List, [], ◌∷◌, ◌++◌, map, take, drop, get_or, length, refl, ap, sym, ◌∙◌, subst, append_assoc, arith}
+use Rattle.std.proofs.Common.{◌≡◌, ◌⊎◌, ⊎_elim, inl, inr, ℕ, ◌+◌, ◌<◌, Bool, true, false, cond, not, ◌||◌, List, [], ◌∷◌, ◌++◌, map, take, drop, get_or, length, refl, ap, sym, ◌∙◌, subst, append_assoc, arith}
 use Rattle.std.specs.Prelude.{filter, find, nat_lt, sum_by, Option, Some, None, is_some}
-use Rattle.std.specs.List.{AllByRecursion, position, position_or_len}
+use Rattle.std.specs.List.{AllByRecursion, list_any, position, position_or_len}
 use Rattle.std.proofs.lemmas.Bool.{cases_lt, false≢true, lt-ltb, le-ltb}
 use Rattle.std.proofs.lemmas.List.{drop_at, drop_more, get_or_append_left, get_or_at, length-append, take-append-drop, take-append-le, take_at}
 use Rattle.std.proofs.lemmas.List.Sums.{sum_by-cons}
@@ -145,3 +145,26 @@ position_first p front x back h e =
     ap (λ n. cond (nat_lt n (length (front ++ x ∷ back))) (Some n) None) (len_first p front x back h e)
     ∙ ap (λ b. cond b (Some (length front)) None) (lt-ltb (length front) (length (front ++ x ∷ back))
     (omega (arith, length-append front (x ∷ back))))
+
+-- one is found where one passes
+pub position_any : {X : Type 0} (p : X → Bool) (xs : List X) → is_some (position p xs) ≡ list_any p xs
+position_any p xs =
+    ⊎_elim
+    (λ none. ap is_some (position_none p xs none) ∙ sym (none_any p xs none))
+    (λ some. let f = some.3 in
+    ap (λ ys. is_some (position p ys)) f.is ∙ ap is_some (position_first p some.0 some.1 some.2 f.before f.passed)
+    ∙ (sym (some_any p some.0 some.1 some.2 f.passed) ∙ ap (list_any p) (sym f.is)))
+    (find_cases p xs)
+  where
+    none_any : {X : Type 0} (p : X → Bool) (xs : List X) → AllByRecursion (λ y. p y ≡ false) xs → list_any p xs ≡ false
+    none_any p [] h = refl
+    none_any p (y ∷ ys) h = ap (λ b. b || list_any p ys) h.0 ∙ none_any p ys h.1
+
+    some_any : {X : Type 0} (p : X → Bool) (front : List X) (x : X) (back : List X) → p x ≡ true
+        → list_any p (front ++ x ∷ back) ≡ true
+    some_any p [] x back e = ap (λ b. b || list_any p back) e
+    some_any p (y ∷ ys) x back e = ap (λ b. p y || b) (some_any p ys x back e) ∙ or_true (p y)
+      where
+        or_true : (b : Bool) → (b || true) ≡ true
+        or_true true = refl
+        or_true false = refl

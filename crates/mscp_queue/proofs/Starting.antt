@@ -1,41 +1,127 @@
 -- The places that may start, found one after the other.
-use Rattle.std.proofs.Common.{append-nil, ◌≡◌, ℕ, ◌+◌, ◌^◌, ◌<◌, ◌≤◌, Bool, true, false, cond, List, [], ◌∷◌, ◌++◌, take, get_or, length, ap, sym, ◌∙◌, subst, arith}
-use Rattle.std.specs.Prelude.{All, filter, unwrap_or}
-use Rattle.std.specs.List.{range_with_len}
-use Rattle.std.proofs.lemmas.List.{get_or_default, length-append, map-append, take_more}
-use Rattle.mscp_queue.specs.Drives.{drive_of, fresh_drive, one_block}
+use Rattle.std.proofs.Common.{append-nil, ◌≡◌, ◌⊎◌, inl, inr, ℕ, zero, suc, ◌+◌, ◌-◌, ◌<◌, ◌≤◌, Bool, true, false, cond, not, ◌&&◌, ◌||◌, List, [], ◌∷◌, ◌++◌, map, take, get_or, length, refl, ap, sym, ◌∙◌, arith}
+use Rattle.std.specs.Prelude.{All, filter, nat_eq, nat_le}
+use Rattle.std.specs.List.{AllByRecursion, list_all, range_with_len}
+use Rattle.std.proofs.lemmas.Bool.{eq-eqb, le-leb, leb-true, lt-leb, true≢false}
+use Rattle.std.proofs.lemmas.List.{get_or-map, get_or-drop, get_or-take, length-append, length-drop, length-map, length-take-le, map-append, take-map}
 use Rattle.std.proofs.lemmas.List.Elements.{All-from_recursion, All-take, filter-append, recursion_from_All}
 use Rattle.mscp_drive.specs.Shape.{Shape}
-use Rattle.mscp_drive.specs.UnitList.{unit_found}
+use Rattle.mscp_queue.specs.declared.aim.Aim.{Aim}
 use Rattle.mscp_queue.specs.declared.drive.Drive.{Drive}
 use Rattle.mscp_queue.specs.declared.view.Choice.{Choice}
-use Rattle.mscp_queue.specs.declared.front.Front.{Front}
-use Rattle.mscp_queue.specs.Fronts.{is_let, nobody, with_record}
-use Rattle.mscp_queue.specs.Kept.{HasBlocks, is_known, units_of}
-use Rattle.mscp_queue.specs.Orders.{first_block, is_move}
-use Rattle.mscp_queue.specs.Records.{Record, drive_at, no_record, record_at}
-use Rattle.mscp_queue.specs.Views.{choice_of, choices_at, is_open, is_open_at, open_places}
+use Rattle.mscp_queue.specs.Aims.{aim_of, aims_of, no_aim, unit_place}
+use Rattle.mscp_queue.specs.Drives.{fresh_drive, one_block}
+use Rattle.mscp_queue.specs.Kept.{ArePassedInOrder, CanBeShown, IsShut, is_known, units_of}
+use Rattle.mscp_queue.specs.Masks.{Kind, keeps_back}
+use Rattle.mscp_queue.specs.Orders.{is_sequential}
+use Rattle.mscp_queue.specs.Records.{Record, drive_at, is_in_service, no_record, record_at}
+use Rattle.mscp_queue.specs.Slots.{is_unfenced_at, kinds_of, no_kind}
+use Rattle.mscp_queue.specs.Views.{choice_of, choices_at, fences, is_affordable, is_free, is_open_at, open_places}
+use Rattle.mscp_queue.proofs.Aims.{place_same}
+use Rattle.mscp_queue.proofs.Drives.{apart_by_place}
 use Rattle.mscp_queue.proofs.Lists.{every_kept, every_weaker, range_below, range_more}
-use Rattle.mscp_queue.proofs.Fronts.{IsFront, drive_place, front_more, front_none, known_at, let_is}
-use Rattle.mscp_queue.proofs.Held.{some_steps}
-use Rattle.mscp_queue.proofs.Turns.{found_unit, inside_of}
+use Rattle.mscp_queue.proofs.Shown.{all_shown}
 
--- what is known of the records in front of a place, of the places among them that may start, and of what a picker sees
--- of those
-pub record Looks (budget : ℕ) (ds : List Drive) (rs : List Record) (place : ℕ) (f : Front) (places : List ℕ)
-    (choices : List Choice) : Type 0 where
-  pub front : IsFront budget ds (take place rs) f
+-- ---- who is free
+
+all_on : {X : Type 0} (p q : X → Bool) (xs : List X) → AllByRecursion (λ x. p x ≡ q x) xs
+    → list_all p xs ≡ list_all q xs
+all_on p q [] h = refl
+all_on p q (x ∷ xs) h = ap (λ b. b && list_all p xs) h.0 ∙ ap (λ b. q x && b) (all_on p q xs h.1)
+
+-- what masks tell of a record
+abbrev kind_in : List Shape → Record → Kind
+kind_in us r = record {
+  drive = unit_place us r.command.unit;
+  sequential = is_sequential r.command.order;
+  serving = is_in_service r;
+}
+
+kinds_aimed : (us : List Shape) (rs : List Record) → kinds_of rs (aims_of us rs) ≡ map (kind_in us) rs
+kinds_aimed us [] = refl
+kinds_aimed us (r ∷ rs) = ap (λ ks. kind_in us r ∷ ks) (kinds_aimed us rs)
+
+same_unit : (ds : List Drive) (a b : ℕ) → is_known (units_of ds) a ≡ true → is_known (units_of ds) b ≡ true
+    → nat_eq (unit_place (units_of ds) a) (unit_place (units_of ds) b) ≡ nat_eq a b
+same_unit ds a b h k =
+    (λ i. nat_eq (sym (place_same ds a) i) (sym (place_same ds b) i))
+    ∙ apart_by_place ds (fresh_drive one_block) a b h k
+
+pub free_is : (ds : List Drive) (rs : List Record) (own : List Aim) (place : ℕ) → CanBeShown ds rs own
+    → place < length rs
+    → is_unfenced_at (kinds_of rs own) place ≡ is_free (record_at rs place) (take place rs)
+free_is ds rs own place h l =
+    let us = units_of ds in
+    let k = kind_in us in
+    let r = record_at rs place in
+    let kinds = ap (kinds_of rs) h.aimed ∙ kinds_aimed us rs in
+    let Known : Record → Type 0 = λ z. is_known us z.command.unit ≡ true in
+    let known : All Known rs = λ i other m. (h.inside i other m).0 in
+    let same : (z : Record) → Known z → not (keeps_back (k z) (k r)) ≡ not (fences r z) = λ z e.
+    ap (λ b. not (b && (is_sequential z.command.order || is_sequential r.command.order)))
+    (same_unit ds z.command.unit r.command.unit e (known place no_record l)) in
+    ap (λ ks. is_unfenced_at ks place) kinds
+    ∙ ((λ i. list_all (λ z. not (keeps_back z (get_or-map k rs place no_record no_kind l i))) (take-map k place rs i))
+    ∙ (all_shown (λ z. not (keeps_back z (k r))) k (take place rs)
+    ∙ all_on (λ z. not (keeps_back (k z) (k r))) (λ z. not (fences r z)) (take place rs)
+    (every_weaker Known (λ z. not (keeps_back (k z) (k r)) ≡ not (fences r z)) same (take place rs)
+    (recursion_from_All Known (take place rs) (All-take Known place rs known)))))
+
+-- ---- the oldest tells for all who keeps within the budget
+
+affords : (budget w top : ℕ) (rs : List Record) → AllByRecursion (λ z. z.passed ≤ top) rs → top + w ≤ budget
+    → list_all (λ z. nat_le (z.passed + w) budget) rs ≡ true
+affords budget w top [] h l = refl
+affords budget w top (z ∷ zs) h l =
+    ap (λ b. b && list_all (λ z. nat_le (z.passed + w) budget) zs)
+    (le-leb (z.passed + w) budget (omega (arith, h.0, l)))
+    ∙ affords budget w top zs h.1 l
+
+pub oldest_affords : (budget unspent : ℕ) (r : Record) (rs : List Record) (place : ℕ) → ArePassedInOrder rs
+    → 0 < place → place ≤ length rs → unspent + (record_at rs 0).passed ≡ budget
+    → nat_le r.weight unspent ≡ is_affordable budget r (take place rs)
+oldest_affords budget unspent r rs zero o p l e = absurd (omega (arith, p))
+oldest_affords budget unspent r [] (suc k) o p l e = absurd (omega (arith, l))
+oldest_affords budget unspent r (q ∷ qs) (suc k) o p l e = by (nat_le r.weight unspent) refl
+  where
+    front : AllByRecursion (λ z. z.passed ≤ q.passed) (take k qs)
+    front = let Low : Record → Type 0 = λ z. z.passed ≤ q.passed in
+        recursion_from_All Low (take k qs) (All-take Low k qs (All-from_recursion Low qs o.0))
+
+    by : (b : Bool) → nat_le r.weight unspent ≡ b
+        → b ≡ (nat_le (q.passed + r.weight) budget && list_all (λ z. nat_le (z.passed + r.weight) budget) (take k qs))
+    by true t =
+        let fits : q.passed + r.weight ≤ budget = omega (arith, e, leb-true r.weight unspent t) in
+        sym (ap (λ b. b && list_all (λ z. nat_le (z.passed + r.weight) budget) (take k qs))
+        (le-leb (q.passed + r.weight) budget fits)
+        ∙ affords budget r.weight q.passed (take k qs) front fits)
+    by false t =
+        let over : budget < q.passed + r.weight = omega (arith, e, over_of r.weight unspent t) in
+        sym (ap (λ b. b && list_all (λ z. nat_le (z.passed + r.weight) budget) (take k qs))
+        (lt-leb (q.passed + r.weight) budget over))
+      where
+        over_of : (a b : ℕ) → nat_le a b ≡ false → b < a
+        over_of a b f = by_cases (le_or a b)
+          where
+            le_or : (a b : ℕ) → (a ≤ b) ⊎ (b < a)
+            le_or a b = grind arith
+
+            true_false : true ≡ false → ⊥
+            true_false x = true≢false x
+
+            by_cases : (a ≤ b) ⊎ (b < a) → b < a
+            by_cases (inl l) = absurd (true_false (sym (le-leb a b l) ∙ f))
+            by_cases (inr l) = l
+
+-- ---- places found one by one
+
+-- what is known up to a place: which may start, and what a picker sees of those
+pub record Looks (budget : ℕ) (ds : List Drive) (rs : List Record) (place : ℕ) (places : List ℕ)
+    (choices : List Choice) :
+    Type 0 where
   pub opens : places ≡ filter (is_open_at budget rs) (range_with_len 0 place)
   pub shown : choices ≡ choices_at ds rs places
   pub few : length places ≤ place
-
--- each unit has the blocks of its commands
-abbrev pub AllInside : List Drive → List Record → Type 0
-AllInside ds rs = All (λ r. HasBlocks (units_of ds) r.command) rs
-
--- each record has steps, as many as fit 32 bits
-abbrev pub AllWeigh : List Record → Type 0
-AllWeigh rs = All (λ r. (1 ≤ r.weight) × (r.weight < 2 ^ 32)) rs
 
 -- one more place, if it is put there
 appended : (places : List ℕ) (place : ℕ) (b : Bool) → length (places ++ cond b (place ∷ []) []) ≤ length places + 1
@@ -49,65 +135,106 @@ shown_more ds rs places place true = map-append (λ i. choice_of (drive_at ds rs
 shown_more ds rs places place false = ap (choices_at ds rs) (append-nil places)
     ∙ sym (append-nil (choices_at ds rs places))
 
-pub looks_more : {budget : ℕ} {ds : List Drive} {rs : List Record} {place : ℕ} {f f' : Front} {places places' : List ℕ}
-    {choices choices' : List Choice} (r : Record) (at : ℕ) → place < length rs → at < 16
-    → at ≡ drive_place ds r.command.unit → r ≡ get_or rs place r → AllInside ds rs → AllWeigh rs
-    → f' ≡ with_record budget f r at → places' ≡ places ++ cond (is_let f r at) (place ∷ []) []
-    → choices' ≡ choices ++ cond (is_let f r at) (choice_of (drive_at ds rs place) (record_at rs place) ∷ []) []
-    → Looks budget ds rs place f places choices → Looks budget ds rs (place + 1) f' places' choices'
-looks_more {budget} {ds} {rs} {place} {f} {f'} {places} {places'} {choices} {choices'} r at l few e same inside weighs
-    added put
-    shown h =
-    let is : r ≡ record_at rs place = same ∙ get_or_default rs place r no_record l in
-    let known : All (λ z. is_known (units_of ds) z.command.unit ≡ true) rs = λ i other k. (inside i other k).0 in
-    let own : is_known (units_of ds) r.command.unit ≡ true =
-    subst (λ (q : Record). is_known (units_of ds) q.command.unit ≡ true) (sym is) (known place no_record l) in
-    let front = recursion_from_All (λ z. is_known (units_of ds) z.command.unit ≡ true) (take place rs)
-    (All-take (λ z. is_known (units_of ds) z.command.unit ≡ true) place rs known) in
-    let more : take (place + 1) rs ≡ take place rs ++ r ∷ [] =
-    take_more rs place no_record l ∙ ap (λ q. take place rs ++ q ∷ []) (sym is) in
-    let b = is_let f r at in
-    let opens : b ≡ is_open_at budget rs place =
-    ap (is_let f r) e ∙ (let_is budget ds (take place rs) f r (fresh_drive one_block) h.front
-    (subst (λ (q : Record). (1 ≤ q.weight) × (q.weight < 2 ^ 32)) (sym is) (weighs place no_record l))
-    (subst (λ i. i < 16) e few) own front ∙ ap (λ (q : Record). is_open budget q (take place rs)) is) in
-    record {
-      front = subst (IsFront budget ds (take (place + 1) rs)) (sym added)
-          (subst (λ zs. IsFront budget ds zs (with_record budget f r at)) (sym more)
-          (front_more budget ds (take place rs) f r at few e h.front));
-      opens =
-          put ∙ (ap (λ ps. ps ++ cond b (place ∷ []) []) h.opens
-          ∙ (ap (λ b. filter (is_open_at budget rs) (range_with_len 0 place) ++ cond b (place ∷ []) []) opens
-          ∙ (sym (filter-append (is_open_at budget rs) (range_with_len 0 place) (place ∷ []))
-          ∙ ap (filter (is_open_at budget rs)) (sym (range_more place)))));
-      shown =
-          shown ∙ (ap (λ cs. cs ++ cond b (choice_of (drive_at ds rs place) (record_at rs place) ∷ []) []) h.shown
-          ∙ (sym (shown_more ds rs places place b) ∙ ap (choices_at ds rs) (sym put)));
-      few = let k = h.few in omega (arith, ap length put, appended places place b);
-    }
+pub looks_more : {budget : ℕ} {ds : List Drive} {rs : List Record} {place : ℕ} {places places' : List ℕ}
+    {choices choices' : List Choice} (b : Bool) → b ≡ is_open_at budget rs place
+    → places' ≡ places ++ cond b (place ∷ []) []
+    → choices' ≡ choices ++ cond b (choice_of (drive_at ds rs place) (record_at rs place) ∷ []) []
+    → Looks budget ds rs place places choices → Looks budget ds rs (place + 1) places' choices'
+looks_more {budget} {ds} {rs} {place} {places} {places'} {choices} {choices'} b is put shown h = record {
+  opens =
+      put ∙ (ap (λ ps. ps ++ cond b (place ∷ []) []) h.opens
+      ∙ (ap (λ b. filter (is_open_at budget rs) (range_with_len 0 place) ++ cond b (place ∷ []) []) is
+      ∙ (sym (filter-append (is_open_at budget rs) (range_with_len 0 place) (place ∷ []))
+      ∙ ap (filter (is_open_at budget rs)) (sym (range_more place)))));
+  shown =
+      shown ∙ (ap (λ cs. cs ++ cond b (choice_of (drive_at ds rs place) (record_at rs place) ∷ []) []) h.shown
+      ∙ (sym (shown_more ds rs places place b) ∙ ap (choices_at ds rs) (sym put)));
+  few = let k = h.few in omega (arith, ap length put, appended places place b);
+}
 
-pub looks_none : (budget : ℕ) (ds : List Drive) (rs : List Record) (f : Front) (places : List ℕ)
-    (choices : List Choice) → f ≡ nobody → places ≡ [] → choices ≡ [] → Looks budget ds rs 0 f places choices
-looks_none budget ds rs f places choices e n s =
-    record {
-      front = subst (IsFront budget ds []) (sym e) (front_none budget ds);
-      opens = n;
-      shown =
-          s ∙ ap (choices_at ds rs) (sym n);
-      few = omega (arith, ap length n);
-    }
+pub looks_none : (budget : ℕ) (ds : List Drive) (rs : List Record) (places : List ℕ)
+    (choices : List Choice) → places ≡ [] → choices ≡ [] → Looks budget ds rs 0 places choices
+looks_none budget ds rs places choices n s = record {
+  opens = n;
+  shown = s ∙ ap (choices_at ds rs) (sym n);
+  few = omega (arith, ap length n);
+}
 
--- a unit that has the blocks of a transfer has the first of them
-pub first_inside : (ds : List Drive) (r : Record) (at : ℕ) (d : Drive) → at ≡ drive_place ds r.command.unit
-    → d ≡ get_or ds at d → HasBlocks (units_of ds) r.command
-    → is_move r.command.order ≡ true → first_block r.command.order < d.unit.size
-first_inside ds r at d e found h m =
-    let drive : d ≡ drive_of ds r.command.unit = found
-    ∙ (ap (λ i. get_or ds i d) e ∙ (known_at ds r.command.unit d h.0).drive) in
-    let inside = inside_of (units_of ds) r.command.unit r.command.order m h.1 in
-    let unit : (unwrap_or (unit_found (units_of ds) r.command.unit) one_block).size ≡ d.unit.size =
-    ap (λ (s : Shape). s.size) (found_unit r.command.unit ds ∙ ap (λ (d : Drive). d.unit) (sym drive)) in
-    omega (arith, inside, unit, some_steps r.command.order)
+-- ---- nobody behind may start
+
+one_shut : {X : Type 0} (p : X → Bool) (xs : List X) (k : ℕ) (d : X) → k < length xs → p (get_or xs k d) ≡ false
+    → list_all p xs ≡ false
+one_shut p [] k d l e = absurd (omega (arith, l))
+one_shut p (x ∷ xs) zero d l e = ap (λ b. b && list_all p xs) e
+one_shut p (x ∷ xs) (suc k) d l e = ap (λ b. p x && b) (one_shut p xs k d (omega (arith, l)) e) ∙ and_false (p x)
+  where
+    and_false : (b : Bool) → (b && false) ≡ false
+    and_false true = refl
+    and_false false = refl
+
+pub shut_is : (budget unspent : ℕ) (ds : List Drive) (rs : List Record) (own : List Aim) (place : ℕ)
+    → CanBeShown ds rs own
+    → ArePassedInOrder rs → unspent + (record_at rs 0).passed ≡ budget → place < length rs → IsShut rs own place unspent
+    → (q : ℕ) → place < q → q < length rs → is_open_at budget rs q ≡ false
+shut_is budget unspent ds rs own place h o e l (inl spent) q p m =
+    let r = record_at rs q in
+    let some = (h.weighs q no_record m).0 in
+    let over : nat_le r.weight unspent ≡ false = lt-leb r.weight unspent (omega (arith, some, spent)) in
+    ap (λ b. is_free r (take q rs) && b)
+    (sym (oldest_affords budget unspent r rs q o (omega (arith, p)) (omega (arith, m)) e) ∙ over)
+    ∙ and_false (is_free r (take q rs))
+  where
+    and_false : (b : Bool) → (b && false) ≡ false
+    and_false true = refl
+    and_false false = refl
+shut_is budget unspent ds rs own place h o e l (inr fence) q p m =
+    let us = units_of ds in
+    let r = record_at rs q in
+    let z = record_at rs place in
+    let of : Record → Aim = λ r. aim_of us r.command in
+    let aimed : (k : ℕ) → k < length rs → get_or own k no_aim ≡ of (record_at rs k) = λ k n.
+    ap (λ xs. get_or xs k no_aim) h.aimed ∙ get_or-map of rs k no_record no_aim n in
+    let long : length own ≡ length rs = ap length h.aimed ∙ length-map rs of in
+    let k = q - (place + 1) in
+    let at : place + 1 + k ≡ q = omega (arith, p) in
+    let behind = fence.1 k no_aim (omega (arith, length-drop (place + 1) own, long, m, p)) in
+    let drives : unit_place us r.command.unit ≡ unit_place us z.command.unit =
+    sym (ap (λ (a : Aim). a.drive) (aimed q m)) ∙ ap (λ n. (get_or own n no_aim).drive) (sym at)
+    ∙ ap (λ (a : Aim). a.drive) (sym (get_or-drop (place + 1) own k no_aim)) ∙ behind
+    ∙ ap (λ (a : Aim). a.drive) (aimed place l) in
+    let units : nat_eq z.command.unit r.command.unit ≡ true =
+    sym (same_unit ds z.command.unit r.command.unit (h.inside place no_record l).0 (h.inside q no_record m).0)
+    ∙ eq-eqb (unit_place us z.command.unit) (unit_place us r.command.unit) (sym drives) in
+    let fenced : not (fences r z) ≡ false =
+    ap (λ b. not (b && (is_sequential z.command.order || is_sequential r.command.order))) units
+    ∙ ap (λ b. not (b || is_sequential r.command.order)) fence.0 in
+    let there : record_at (take q rs) place ≡ z = get_or-take q rs place no_record p in
+    ap (λ b. b && is_affordable budget r (take q rs))
+    (one_shut (λ y. not (fences r y)) (take q rs) place no_record
+    (omega (arith, length-take-le q rs (omega (arith, m)), p))
+    (ap (λ y. not (fences r y)) there ∙ fenced))
+
+-- so all that may start were found
+found_on : (test : ℕ → Bool) (n k : ℕ) → ((q : ℕ) → n ≤ q → q < n + k → test q ≡ false)
+    → filter test (range_with_len 0 n) ≡ filter test (range_with_len 0 (n + k))
+found_on test n zero h = ap (λ m. filter test (range_with_len 0 m)) (omega arith)
+found_on test n (suc k) h =
+    let one : n + 1 + k ≡ n + suc k = omega arith in
+    let here : filter test (n ∷ []) ≡ [] = ap (λ b. cond b (n ∷ []) []) (h n (omega arith) (omega arith)) in
+    sym (append-nil (filter test (range_with_len 0 n)))
+    ∙ (ap (λ ps. filter test (range_with_len 0 n) ++ ps) (sym here)
+    ∙ (sym (filter-append test (range_with_len 0 n) (n ∷ [])) ∙ (ap (filter test) (sym (range_more n))
+    ∙ (found_on test (n + 1) k (λ q a b. h q (omega (arith, a)) (omega (arith, b)))
+    ∙ ap (λ m. filter test (range_with_len 0 m)) one))))
+
+pub found_all : {budget : ℕ} {ds : List Drive} {rs : List Record} {place : ℕ} {places : List ℕ} {choices : List Choice}
+    → Looks budget ds rs (place + 1) places choices → place < length rs
+    → ((q : ℕ) → place < q → q < length rs → is_open_at budget rs q ≡ false) → places ≡ open_places budget rs
+found_all {budget} {ds} {rs} {place} {places} {choices} h l shut =
+    let k = length rs - (place + 1) in
+    let n : place + 1 + k ≡ length rs = omega (arith, l) in
+    h.opens ∙ (found_on (is_open_at budget rs) (place + 1) k (λ q a b. shut q (omega (arith, a)) (omega (arith, b, n)))
+    ∙ ap (λ m. filter (is_open_at budget rs) (range_with_len 0 m)) n)
 
 -- the places that may start are places
 pub places_inside : (budget : ℕ) (rs : List Record) → All (λ place. place < length rs) (open_places budget rs)

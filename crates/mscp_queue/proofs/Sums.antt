@@ -77,6 +77,21 @@ pub figure_fits : (budget : ℕ) (rs : List Record) (place before serving unspen
     → before + serving + unspent + left < 2 ^ 32
 figure_fits budget rs place before serving unspent left small l e f p r = omega (arith, sum_bounded rs place l)
 
+-- whether it is in service or not
+pub figure_small : (budget : ℕ) (rs : List Record) (place : ℕ) → sum_by left_of rs + budget < 2 ^ 32 → place < length rs
+    → figure_at budget rs place < 2 ^ 32
+figure_small budget rs place small l =
+    let r = record_at rs place in
+    let whole = sum_bounded rs place l in
+    let both : (b : Bool) → cond b (left_of r) (sum_by left_of (take place rs)
+    + sum_by left_of (filter is_in_service (drop (place + 1) rs))
+    + (budget - r.passed) + left_of r) < 2 ^ 32 =
+    λ b. elim b as (λ b. cond b (left_of r) (sum_by left_of (take place rs)
+    + sum_by left_of (filter is_in_service (drop (place + 1) rs))
+    + (budget - r.passed) + left_of r) < 2 ^ 32)
+    [ true ↦ omega (arith, whole, small) | false ↦ omega (arith, whole, small) ] in
+    both (is_in_service r)
+
 -- the records after a place, as a slice
 pub serving_after : (rs : List Record) (place serving : ℕ)
     → serving ≡ sum_by left_of (filter is_in_service (take (length rs - (place + 1)) (drop (place + 1) rs)))

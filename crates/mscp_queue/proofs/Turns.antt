@@ -104,10 +104,10 @@ next_turn room budget longest place rs ds begun serving k d h n =
 -- ---- its drive
 
 -- the unit has the lower number
-abbrev Lower : Shape → Shape → Type 0
+abbrev pub Lower : Shape → Shape → Type 0
 Lower a b = a.number < b.number
 
-pairs_rise : (us : List Shape) → NumbersRise us → Pairs Lower us
+pub pairs_rise : (us : List Shape) → NumbersRise us → Pairs Lower us
 pairs_rise [] r = tt
 pairs_rise (s ∷ []) r = (tt, tt)
 pairs_rise (s ∷ x ∷ xs) r =

@@ -9,7 +9,7 @@ same n = omega arith
 unpassed : (r : Record) → passed_by 0 r ≡ r
 unpassed r = ap (λ n. record r { passed = n }) (same r.passed)
 
-untolled : (xs : List Record) → map (passed_by 0) xs ≡ xs
+pub untolled : (xs : List Record) → map (passed_by 0) xs ≡ xs
 untolled [] = refl
 untolled (x ∷ xs) = ap (λ r. r ∷ map (passed_by 0) xs) (unpassed x) ∙ ap (λ ys. x ∷ ys) (untolled xs)
 

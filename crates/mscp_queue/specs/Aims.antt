@@ -25,6 +25,10 @@ aim_of units command = record {
 abbrev pub aims_of : List Shape → List Record → List Aim
 aims_of units rs = map (λ r. aim_of units r.command) rs
 
+-- what stands past the end of a list of aims
+abbrev pub no_aim : Aim
+no_aim = record { drive = 0; cylinder = 0 }
+
 -- where a record's command aims on this drive: the head is on a cylinder of the unit, and the first block of a transfer
 -- is one of the unit's, and on this cylinder
 pub record IsAimed (d : Drive) (cylinder : ℕ) (r : Record) : Type 0 where

@@ -1,5 +1,5 @@
 -- What is true of each queue, whatever came to it.
-use Rattle.std.specs.Prelude.{◌≡◌, ◌≢◌, ℕ, ◌+◌, ◌*◌, ◌^◌, ◌<◌, ◌≤◌, Bool, true, false, ◌||◌, is_some, unwrap_or, List, [], ◌∷◌, length, map, filter, count_by, All, Option, Some}
+use Rattle.std.specs.Prelude.{◌≡◌, ◌≢◌, ℕ, ◌+◌, ◌*◌, ◌^◌, ◌<◌, ◌≤◌, Bool, true, false, ◌||◌, ◌-◌, if◌then◌else◌, nat_lt, option_map, is_some, unwrap_or, List, [], ◌∷◌, length, map, filter, count_by, All, Option, Some, None, ◌⊎◌, drop, slice_index_or}
 use Rattle.std.specs.List.{AllByRecursion}
 use Rattle.mscp_packet.specs.declared.command.Command.{Command}
 use Rattle.mscp_packet.specs.declared.command.Order.{Order}
@@ -9,12 +9,13 @@ use Rattle.mscp_drive.specs.UnitList.{IsUnitList, unit_found}
 use Rattle.mscp_queue.specs.declared.aim.Aim.{Aim}
 use Rattle.mscp_queue.specs.declared.drive.Drive.{Drive}
 use Rattle.mscp_queue.specs.declared.name.Name.{Name}
-use Rattle.mscp_queue.specs.Aims.{aims_of}
+use Rattle.mscp_queue.specs.Aims.{aims_of, no_aim}
 use Rattle.mscp_queue.specs.Orders.{first_block, is_move, is_sequential, order_weight}
 use Rattle.mscp_queue.specs.Drives.{IsOnUnit, one_block}
 use Rattle.mscp_queue.specs.Pairs.{Pairs}
 use Rattle.mscp_queue.specs.Records.{Record, has_name, is_in_service, name_of, record_at}
 use Rattle.mscp_queue.specs.Serving.{IsServable}
+use Rattle.mscp_queue.specs.Waiters.{Waiters}
 
 -- the units of drives
 abbrev pub units_of : List Drive → List Shape
@@ -97,14 +98,29 @@ ArePassedInOrder rs = Pairs (λ r z. z.passed ≤ r.passed) rs
 abbrev pub sequential_count : List Record → ℕ
 sequential_count rs = count_by (λ r. is_sequential r.command.order) rs
 
--- the same, and what a queue knows so that a start costs less: where each waiting command aims, how many are
--- sequential, and in which order they were passed
-pub record IsReady (room budget longest : ℕ) (rs : List Record) (aims : List Aim) (ds : List Drive)
-    (begun : Option Name) (serving : Bool) (sequential : ℕ) : Type 0 where
-  pub held : IsHeld room budget longest rs ds begun serving
-  pub aimed : aims ≡ aims_of (units_of ds) rs
-  pub counted : sequential ≡ sequential_count rs
-  pub order : ArePassedInOrder rs
+-- the name of the command at a place that is known
+abbrev pub begun_name : List Record → Option ℕ → Option Name
+begun_name rs place = option_map (λ k. name_of (record_at rs k)) place
+
+-- a place that is known, once the command at the place `gone` left: none where it was that
+abbrev pub place_without : Option ℕ → ℕ → Option ℕ
+place_without None gone = None
+place_without (Some place) gone =
+    if nat_lt place gone then Some place else if nat_lt gone place then Some (place - 1) else None
+
+-- the place of the command in service after a step of the one at a place, which ended it or not
+abbrev pub place_served : Bool → ℕ → Option ℕ
+place_served ends place = if ends then None else Some place
+
+-- the same, and what a queue knows so that a step costs less: where each waiting command aims, in which order they were
+-- passed, and the places of the command in service and of what was begun
+pub record IsReady (room longest : ℕ) (w : Waiters) (ds : List Drive) (begun serving : Option ℕ) : Type 0 where
+  pub held : IsHeld room w.budget longest w.waiting ds (begun_name w.waiting begun) (is_some serving)
+  pub aimed : w.aims ≡ aims_of (units_of ds) w.waiting
+  pub order : ArePassedInOrder w.waiting
+  pub served : (place : ℕ) → serving ≡ Some place
+      → (place < length w.waiting) × (is_in_service (record_at w.waiting place) ≡ true)
+  pub waits : (place : ℕ) → begun ≡ Some place → place < length w.waiting
 
 -- ---- what a view is made of
 
@@ -119,3 +135,11 @@ pub record CanBeShown (ds : List Drive) (rs : List Record) (aims : List Aim) : T
   pub weighs : All (λ r. (1 ≤ r.weight) × (r.weight < 2 ^ 32)) rs
   pub inside : All (λ r. HasBlocks (units_of ds) r.command) rs
   pub aimed : aims ≡ aims_of (units_of ds) rs
+
+-- nobody behind a place may start, where the oldest has so much left of the budget: nothing, or all those behind are
+-- of the
+-- unit of a sequential command, which stands there
+abbrev pub IsShut : List Record → List Aim → ℕ → ℕ → Type 0
+IsShut rs own place unspent = (unspent ≡ 0)
+    ⊎ ((is_sequential (record_at rs place).command.order ≡ true)
+    × All (λ a. a.drive ≡ (slice_index_or own place no_aim).drive) (drop (place + 1) own))

@@ -10,5 +10,9 @@ pub mod Serving
 pub mod Figures
 pub mod Lines
 pub mod Kept
-pub mod Fronts
 pub mod Aims
+pub mod Lanes
+pub mod Masks
+pub mod Slots
+pub mod Waiters
+pub mod Dues

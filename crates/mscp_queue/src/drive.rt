@@ -1,8 +1,8 @@
 // A unit with its state and its head.
 
-ghost use Rattle.std.specs.Prelude.{◌≡◌, ◌≤◌, if◌then◌else◌, find, length, map};
+ghost use Rattle.std.specs.Prelude.{◌≡◌, ◌≤◌, find, length, map};
 ghost use Rattle.std.specs.Option.{option_copied};
-ghost use Rattle.mscp_queue.specs.Drives.{drive_of, fresh_drive, has_number, one_block, replaced};
+ghost use Rattle.mscp_queue.specs.Drives.{drive_of, fresh_drive, has_number, one_block};
 
 use arrayvec::ArrayVec;
 use mscp_drive::{Head, Unit};
@@ -75,23 +75,5 @@ pub(crate) fn drive_of(drives: &[Drive], number: u16) -> Drive
     match find_drive(drives, number) {
         Some(drive) => *drive,
         None => Drive::default(),
-    }
-}
-
-/// Puts a drive in the place of that of the unit with this number.
-pub(crate) fn replace_drive(drives: &mut [Drive], number: u16, new: &Drive)
-    ensures { drives.new ≡ replaced number new.now drives.old }
-{
-    for drive in drives.iter_mut() {
-        replace(drive, number, new);
-    }
-}
-
-/// Puts the new drive in the place of one whose unit has this number. Any other isn't written, since a step comes by here.
-fn replace(drive: &mut Drive, number: u16, new: &Drive)
-    ensures { drive.new ≡ (if has_number number drive.old then new.now else drive.old) }
-{
-    if drive.unit.number() == number {
-        *drive = *new;
     }
 }

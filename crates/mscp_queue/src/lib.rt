@@ -2,10 +2,11 @@
 #![tactic(auto)]
 
 mod aim;
+mod backlog;
 mod block;
 mod drive;
-mod figure;
-mod front;
+pub mod lanes;
+mod masks;
 mod name;
 mod outcome;
 mod picker;
@@ -13,20 +14,19 @@ mod queue;
 mod record;
 mod report;
 mod service;
+mod slots;
 mod start;
 #[cfg(test)]
 mod tests;
-mod turn;
 mod upcoming;
 mod view;
 
 pub use crate::block::{Block, FaultStatus};
 pub use crate::drive::Drive;
-pub use crate::name::Connection;
+pub use crate::name::{Connection, Name};
 pub use crate::outcome::{end_with, endcode_of};
 pub use crate::picker::{Oldest, Picker, Sweep};
 pub use crate::queue::{Queue, Waiting};
-pub use crate::record::Record;
 pub use crate::report::Report;
 pub use crate::upcoming::Upcoming;
 pub use crate::view::{Choice, View};

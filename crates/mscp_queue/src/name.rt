@@ -15,7 +15,7 @@ pub enum Connection {
 
 /// The name of a command that waits: the connection that it came by, and its reference number.
 #[derive(Clone, Copy, Debug, PartialEq, Eq)]
-pub(crate) struct Name {
+pub struct Name {
     pub connection: Connection,
     pub reference: u32,
 }

@@ -1,22 +1,21 @@
 // The queue of a disk controller: its waiting commands, its drives, and its picker.
 
 ghost use Rattle.std.specs.Prelude.{◌≡◌, ◌+◌, ◌*◌, ◌<◌, ◌≤◌, ◌^◌, [], length, find, option_map, true, false, IfNone, IfSome};
-ghost use Rattle.std.specs.List.{list_all, list_any, position};
+ghost use Rattle.std.specs.List.{list_any};
 ghost use Rattle.mscp_packet.specs.Ends.{IsOfKind};
 ghost use Rattle.mscp_queue.specs.Drives.{is_online_in};
 ghost use Rattle.mscp_queue.specs.Figures.{figure_of_name, figures};
-ghost use Rattle.mscp_queue.specs.Kept.{IsWaitable, units_of};
+ghost use Rattle.mscp_queue.specs.Kept.{IsWaitable, place_served, place_without, units_of};
 ghost use Rattle.mscp_queue.specs.Lines.{Begins, BeginsAt, Line, Serves, ServesAt, aborting, fresh, pushed};
 ghost use Rattle.mscp_queue.specs.Names.{name_on};
 ghost use Rattle.mscp_queue.specs.Orders.{order_weight};
-ghost use Rattle.mscp_queue.specs.Records.{aborted_record, has_name, is_in_service};
+ghost use Rattle.mscp_queue.specs.Records.{aborted_record, has_name};
 ghost use Rattle.mscp_queue.specs.Serving.{IsNext, end_in, is_begun};
-ghost use Rattle.mscp_queue.specs.Views.{AllMayStart, is_passable};
 
 use crate::aim::Aim;
+use crate::backlog::Backlog;
 use crate::block::Block;
-use crate::drive::{Drive, drive_of, drives_of, renew_drives, replace_drive};
-use crate::figure::{figure_of_name, figures, has_any, place_of};
+use crate::drive::{Drive, drive_of, drives_of, renew_drives};
 use crate::name::{Connection, Name};
 use crate::outcome::aborted_end;
 use crate::picker::Picker;
@@ -24,7 +23,6 @@ use crate::record::Record;
 use crate::report::Report;
 use crate::service::{serve, upcoming};
 use crate::start::picked_place;
-use crate::turn::{leave, place_in_service, sequential_ended, take_out};
 use crate::upcoming::Upcoming;
 use crate::view::View;
 use arrayvec::ArrayVec;
@@ -51,17 +49,12 @@ pub struct Waiting {
 #[derive(Drop)]
 pub struct Queue<K> {
     room: u32,
-    budget: u32,
     longest: u32,
-    waiting: ArrayVec<Record, 64>,
-    // Of each waiting command, in the same order.
-    aims: ArrayVec<Aim, 64>,
+    backlog: Backlog,
     drives: ArrayVec<Drive, 16>,
-    begun: Option<Name>,
-    // Whether one may be in service: where none is, nobody looks for it.
-    serving: bool,
-    // How many of the waiting commands are sequential.
-    sequential: u32,
+    // The places of what was begun, and of the command in service: nobody looks for them.
+    begun: Option<usize>,
+    serving: Option<usize>,
     picker: K,
     // What the picker saw last. It is kept for its room alone, since a new one would have to be cleared at each start.
     view: View,
@@ -71,22 +64,40 @@ pub struct Queue<K> {
 // begun, and the picker.
 impl<K> Model for Queue<K> {
     ghost use Rattle.mscp_queue.specs.Lines.{Line};
-    ghost use Rattle.mscp_queue.specs.Kept.{IsReady};
+    ghost use Rattle.mscp_queue.specs.Kept.{IsReady, begun_name};
 
     ghost Value = { Line K };
 
     ghost view = { λ q.
         record {
           room = q.room;
-          budget = q.budget;
+          budget = q.backlog.budget;
           longest = q.longest;
-          waiting = q.waiting.items;
+          waiting = q.backlog.waiting;
           drives = q.drives.items;
-          begun = q.begun;
+          begun = begun_name q.backlog.waiting q.begun;
           picker = q.picker;
         } };
 
-    ghost invariant = { λ q. IsReady q.room q.budget q.longest q.waiting.items q.aims.items q.drives.items q.begun q.serving q.sequential };
+    ghost invariant = { λ q. IsReady q.room q.longest q.backlog q.drives.items q.begun q.serving };
+}
+
+/// A place that is known, once the command at the place `gone` left: none where it was that.
+fn without_place(known: Option<usize>, gone: usize) -> Option<usize>
+    ensures { result ≡ place_without known gone }
+{
+    match known {
+        Some(place) if place < gone => Some(place),
+        Some(place) if place > gone => Some(place - 1),
+        _ => None,
+    }
+}
+
+/// The place of the command in service after a step of the one at a place, which ended it or not.
+fn place_served(ends: bool, place: usize) -> Option<usize>
+    ensures { result ≡ place_served ends place }
+{
+    if ends { None } else { Some(place) }
 }
 
 impl<K: Picker> Queue<K> {
@@ -103,14 +114,11 @@ impl<K: Picker> Queue<K> {
         let drives = drives_of(units.list());
         Queue {
             room,
-            budget,
             longest,
-            waiting: ArrayVec::new(),
-            aims: ArrayVec::new(),
+            backlog: Backlog::new(budget),
             drives,
             begun: None,
-            serving: false,
-            sequential: 0,
+            serving: None,
             picker,
             view: View::empty(),
         }
@@ -121,19 +129,17 @@ impl<K: Picker> Queue<K> {
         ensures { self.new
             ≡ fresh (units_of self.old.drives) self.old.room self.old.budget self.old.longest self.old.picker }
     {
-        self.waiting.clear();
-        self.aims.clear();
+        self.backlog.clear();
         renew_drives(self.drives.as_mut_slice());
         self.begun = None;
-        self.serving = false;
-        self.sequential = 0;
+        self.serving = None;
     }
 
     /// How many commands wait.
     pub fn len(&self) -> u32
         ensures { result ≡ length self.now.waiting }
     {
-        self.waiting.len() as u32
+        self.backlog.len() as u32
     }
 
     /// Whether a command of the connection with the reference number waits.
@@ -144,7 +150,7 @@ impl<K: Picker> Queue<K> {
             connection,
             reference,
         };
-        has_any(self.waiting.as_slice(), name)
+        self.backlog.has_any(name)
     }
 
     /// Whether the unit of this number is online: false where it isn't configured.
@@ -169,10 +175,9 @@ impl<K: Picker> Queue<K> {
             unit: new.unit,
             order: new.order,
         };
-        let record = Record::new(new.connection, command, new.weight);
-        self.sequential += record.count_sequential();
-        self.aims.push(Aim::of(&command, self.drives.as_slice()));
-        self.waiting.push(record);
+        let aim = Aim::of(&command, self.drives.as_slice());
+        self.backlog
+            .push(Record::new(new.connection, command, new.weight), aim);
     }
 
     /// The figure of the waiting command of the connection with the reference number, 0 if there is none: how many steps it
@@ -184,14 +189,17 @@ impl<K: Picker> Queue<K> {
             connection,
             reference,
         };
-        figure_of_name(self.budget, self.waiting.as_slice(), name)
+        match self.backlog.place_of(name) {
+            Some(place) => self.backlog.figure(place),
+            None => 0,
+        }
     }
 
     /// Connection, reference number and figure of each waiting command, in order of arrival.
     pub fn look(&self) -> ArrayVec<(Connection, u32, u32), 64>
         ensures { result.items ≡ figures self.now.budget self.now.waiting }
     {
-        figures(self.budget, self.waiting.as_slice())
+        self.backlog.look()
     }
 
     /// Ends the waiting command of the connection with the reference number, in service or not, and gives its end, whose
@@ -204,17 +212,16 @@ impl<K: Picker> Queue<K> {
         ensures unchanged { IfNone result (self.new ≡ self.old) }
         ensures count { IfSome result (λ end. length self.new.waiting + 1 ≡ length self.old.waiting) }
     {
-        let was_begun = self.is_begun(connection, reference);
         let name = Name {
             connection,
             reference,
         };
-        let aborted = take_out(&mut self.waiting, &mut self.aims, name)?;
-        self.sequential -= aborted.count_sequential();
-        if was_begun {
-            self.begun = None;
-        }
-        Some(aborted_end(&aborted.command(), aborted.done()))
+        let place = self.backlog.place_of(name)?;
+        let record = *self.backlog.record(place);
+        self.backlog.take_out(place);
+        self.begun = without_place(self.begun, place);
+        self.serving = without_place(self.serving, place);
+        Some(aborted_end(&record.command(), record.done()))
     }
 
     /// Whether the command of the connection with the reference number was begun, and neither served nor aborted since, nor
@@ -227,31 +234,9 @@ impl<K: Picker> Queue<K> {
             reference,
         };
         match self.begun {
-            Some(begun) => begun.is(name),
+            Some(place) => self.backlog.record(place).has_name(name),
             None => false,
         }
-    }
-
-    /// The place of the command in service, if one is.
-    fn serving_place(&self) -> Option<usize>
-        ensures { result ≡ position is_in_service self.now.waiting }
-    {
-        if self.serving {
-            place_in_service(self.waiting.as_slice())
-        } else {
-            None
-        }
-    }
-
-    /// Whether each that waits is a transfer that the longest may still pass. Who came earlier was passed by at least as
-    /// many blocks, so that the oldest tells it for all. Then each may start.
-    fn may_all_start(&self) -> bool
-        requires { 0 < length self.now.waiting }
-        ensures passable { result ≡ list_all (is_passable self.now.budget self.now.longest) self.now.waiting }
-        ensures open { result ≡ true → AllMayStart self.now.budget self.now.waiting }
-    {
-        let passed = u64::from(self.waiting[0].passed());
-        self.sequential == 0 && passed + u64::from(self.longest) <= u64::from(self.budget)
     }
 
     /// The place of the command in service, or, where none is, of one that the picker picks.
@@ -261,14 +246,12 @@ impl<K: Picker> Queue<K> {
         ensures next { IsNext (K.picks self.old.picker) self.old.budget self.old.drives self.old.waiting self.old.begun result }
         ensures same { self.new ≡ self.old }
     {
-        match self.serving_place() {
+        match self.serving {
             Some(place) => place,
             None => picked_place(
-                self.may_all_start(),
-                self.waiting.as_slice(),
-                self.aims.as_slice(),
+                &self.backlog,
                 self.drives.as_slice(),
-                self.budget,
+                self.longest,
                 &self.picker,
                 &mut self.view,
             ),
@@ -285,8 +268,8 @@ impl<K: Picker> Queue<K> {
         ensures same { self.new ≡ self.old }
     {
         match self.begun {
-            Some(name) => place_of(self.waiting.as_slice(), name),
-            None if self.waiting.is_empty() => None,
+            Some(place) => Some(place),
+            None if self.backlog.len() == 0 => None,
             None => Some(self.place_to_begin()),
         }
     }
@@ -296,12 +279,10 @@ impl<K: Picker> Queue<K> {
         requires { IsNext (K.picks self.old.picker) self.old.budget self.old.drives self.old.waiting self.old.begun place }
         ensures { BeginsAt (K.picks self.old.picker) self.old result self.new place }
     {
-        let record = self.waiting[place];
-        self.begun = Some(record.name());
-        upcoming(
-            &drive_of(self.drives.as_slice(), record.command().unit),
-            &record,
-        )
+        self.begun = Some(place);
+        let record = self.backlog.record(place);
+        let drive = usize::from(self.backlog.aim(place).drive);
+        upcoming(&self.drives[drive], record)
     }
 
     /// What the next step serves, if a command waits. Where nothing is in service and nothing was begun the picker picks
@@ -320,22 +301,15 @@ impl<K: Picker> Queue<K> {
         ensures shaped { IfSome (end_in result) IsOfKind }
         ensures units { units_of self.new.drives ≡ units_of self.old.drives }
     {
-        let record = self.waiting[place];
-        let command = record.command();
-        let drive = drive_of(self.drives.as_slice(), command.unit);
-        let service = serve(&drive, &record, block);
+        let record = *self.backlog.record(place);
+        let at = usize::from(self.backlog.aim(place).drive);
+        let service = serve(&self.drives[at], &record, block);
         let ends = service.ended.is_some();
-        leave(
-            &mut self.waiting,
-            &mut self.aims,
-            place,
-            record.step_toll(),
-            ends,
-        );
-        replace_drive(self.drives.as_mut_slice(), command.unit, &service.drive);
+        self.backlog.serve(place, ends);
+        self.drives[at] = service.drive;
         self.begun = None;
-        self.serving = !ends;
-        self.sequential -= sequential_ended(&record, ends);
+        self.serving = place_served(ends, place);
+        let command = record.command();
         Report::Served {
             connection: record.connection(),
             reference: command.reference,
@@ -360,3 +334,6 @@ impl<K: Picker> Queue<K> {
         }
     }
 }
+
+#[cfg(test)]
+mod tests;

@@ -1,20 +1,19 @@
 // Which command starts, where nothing is in service.
 
-ghost use Rattle.std.specs.Prelude.{◌≡◌, ◌++◌, ◌||◌, [], ◌∷◌, ◌<◌, true, cond, length, All};
+ghost use Rattle.std.specs.Prelude.{◌≡◌, ◌++◌, ◌||◌, ◌+◌, [], ◌∷◌, ◌<◌, ◌≤◌, true, cond, length, All};
 ghost use Rattle.std.specs.List.{list_all, range_with_len};
 ghost use Rattle.mscp_queue.specs.Aims.{IsAimed};
-ghost use Rattle.mscp_queue.specs.Kept.{AreApart, CanBeShown, names};
+ghost use Rattle.mscp_queue.specs.Kept.{ArePassedInOrder, CanBeShown, IsShut};
 ghost use Rattle.mscp_queue.specs.Orders.{is_move, is_sequential};
 ghost use Rattle.mscp_queue.specs.Records.{drive_at, record_at};
-ghost use Rattle.mscp_queue.specs.Views.{AllMayStart, IsPick, choice_of, choices_at, view_of};
+ghost use Rattle.mscp_queue.specs.Views.{AllMayStart, IsPick, choice_of, choices_at, is_open_at, is_passable, open_places, view_of};
 
-use crate::aim::Aim;
+use crate::backlog::Backlog;
 use crate::drive::Drive;
-use crate::figure::place_of;
-use crate::front::Front;
 use crate::picker::Picker;
 use crate::record::Record;
 use crate::view::{Choice, View};
+use arrayvec::ArrayVec;
 use mscp_packet::{Class, Order};
 
 /// Whether the order is that of a transfer.
@@ -63,20 +62,19 @@ fn choice_of(record: &Record, drive: &Drive, cylinder: u32) -> Choice
 
 /// The record at a place, the drive of its unit, and the cylinder of its first block.
 fn aimed_at<'a>(
-    records: &'a [Record],
-    aims: &[Aim],
+    backlog: &'a Backlog,
     drives: &'a [Drive],
     place: usize,
 ) -> (&'a Record, &'a Drive, u32)
-    requires waiting { CanBeShown drives.now records.now aims.now }
-    requires place { place < length records.now }
-    ensures record { result.0.now ≡ record_at records.now place }
-    ensures drive { result.1.now ≡ drive_at drives.now records.now place }
+    requires waiting { CanBeShown drives.now backlog.now.waiting backlog.now.aims }
+    requires place { place < length backlog.now.waiting }
+    ensures record { result.0.now ≡ record_at backlog.now.waiting place }
+    ensures drive { result.1.now ≡ drive_at drives.now backlog.now.waiting place }
     ensures aimed { IsAimed result.1.now result.2 result.0.now }
 {
-    let aim = &aims[place];
+    let aim = backlog.aim(place);
     (
-        &records[place],
+        backlog.record(place),
         &drives[usize::from(aim.drive)],
         aim.cylinder,
     )
@@ -84,83 +82,125 @@ fn aimed_at<'a>(
 
 /// Shows all records, each of a transfer. This isn't made part of its caller, so that the loop has all registers.
 #[inline(never)]
-fn show_all(view: &mut View, records: &[Record], aims: &[Aim], drives: &[Drive])
-    requires waiting { CanBeShown drives.now records.now aims.now }
-    requires transfers { All (λ r. is_move r.command.order ≡ true) records.now }
-    ensures { view.new ≡ choices_at drives.now records.now (range_with_len 0 (length records.now)) }
+fn show_all(view: &mut View, backlog: &Backlog, drives: &[Drive])
+    requires waiting { CanBeShown drives.now backlog.now.waiting backlog.now.aims }
+    requires transfers { All (λ r. is_move r.command.order ≡ true) backlog.now.waiting }
+    ensures { view.new
+        ≡ choices_at drives.now backlog.now.waiting (range_with_len 0 (length backlog.now.waiting)) }
 {
-    view.make_room(records.len());
-    for place in 0..records.len() {
-        let (record, drive, cylinder) = aimed_at(records, aims, drives, place);
+    view.make_room(backlog.len());
+    for place in 0..backlog.len() {
+        let (record, drive, cylinder) = aimed_at(backlog, drives, place);
         view.set(place, transfer_choice(record, drive, cylinder));
     }
 }
 
-/// Shows the record at a place, if it may start.
+/// Whether the record at a place may start, where the oldest has so much left of the budget.
+fn may_start(backlog: &Backlog, drives: &[Drive], place: usize, unspent: u32) -> bool
+    requires waiting { CanBeShown drives.now backlog.now.waiting backlog.now.aims }
+    requires place { place < length backlog.now.waiting }
+    requires order { ArePassedInOrder backlog.now.waiting }
+    requires unspent { unspent + (record_at backlog.now.waiting 0).passed ≡ backlog.now.budget }
+    ensures { result ≡ is_open_at backlog.now.budget backlog.now.waiting place }
+{
+    backlog.is_free(place) && (place == 0 || backlog.record(place).weight() <= unspent)
+}
+
+/// Whether nobody behind a place may start: the oldest has nothing left of the budget, or all of them are of the unit of a
+/// sequential command, which stands there.
+fn is_shut(backlog: &Backlog, place: usize, unspent: u32) -> bool
+    requires place { place < length backlog.now.waiting }
+    ensures { result ≡ true → IsShut backlog.now.waiting backlog.now.aims place unspent }
+{
+    unspent == 0 || (backlog.record(place).is_sequential() && backlog.are_of_its_unit(place))
+}
+
+/// Shows the record at a place, if it may start, and keeps the place.
 fn show_if(
     may_start: bool,
     view: &mut View,
-    records: &[Record],
-    aims: &[Aim],
+    places: &mut ArrayVec<u8, 64>,
+    backlog: &Backlog,
     drives: &[Drive],
     place: usize,
 )
     requires few { length view.old < 64 }
-    requires waiting { CanBeShown drives.now records.now aims.now }
-    requires place { place < length records.now }
-    ensures { view.new ≡ view.old
-        ++ cond may_start (choice_of (drive_at drives.now records.now place) (record_at records.now place) ∷ []) [] }
+    requires room { length places.old.items < 64 }
+    requires low { place < 64 }
+    requires waiting { CanBeShown drives.now backlog.now.waiting backlog.now.aims }
+    requires place { place < length backlog.now.waiting }
+    ensures shown { view.new ≡ view.old ++ cond may_start
+        (choice_of (drive_at drives.now backlog.now.waiting place) (record_at backlog.now.waiting place) ∷ []) [] }
+    ensures kept { places.new.items ≡ places.old.items ++ cond may_start (place ∷ []) [] }
 {
     if may_start {
-        let (record, drive, cylinder) = aimed_at(records, aims, drives, place);
+        let (record, drive, cylinder) = aimed_at(backlog, drives, place);
         view.push(choice_of(record, drive, cylinder));
+        places.push(place as u8);
     }
 }
 
-/// Shows the records that may start. It looks at each record once: what is fenced is known from what was seen of each
-/// unit, and what those in front have left of the budget is one number. Where nobody behind may start it ends.
-fn show_each(view: &mut View, records: &[Record], aims: &[Aim], drives: &[Drive], budget: u32)
+/// Shows the records that may start, and gives their places. It looks at each record once, and where nobody behind may
+/// start it ends.
+fn show_each(view: &mut View, backlog: &Backlog, drives: &[Drive]) -> ArrayVec<u8, 64>
     requires view { view.old ≡ [] }
-    requires waiting { CanBeShown drives.now records.now aims.now }
-    ensures { view.new ≡ view_of budget drives.now records.now }
+    requires some { 0 < length backlog.now.waiting }
+    requires waiting { CanBeShown drives.now backlog.now.waiting backlog.now.aims }
+    requires order { ArePassedInOrder backlog.now.waiting }
+    requires passed { (record_at backlog.now.waiting 0).passed ≤ backlog.now.budget }
+    ensures view { view.new ≡ view_of backlog.now.budget drives.now backlog.now.waiting }
+    ensures places { result.items ≡ open_places backlog.now.budget backlog.now.waiting }
 {
-    let mut front = Front::new();
-    for place in 0..records.len() {
-        let record = &records[place];
-        let drive = usize::from(aims[place].drive);
-        let may_start = front.lets(record, drive);
-        show_if(may_start, view, records, aims, drives, place);
-        if front.add(record, drive, budget, drives.len()) {
-            return;
+    let mut places = ArrayVec::new();
+    let unspent = backlog.unspent();
+    for place in 0..backlog.len() {
+        let starts = may_start(backlog, drives, place, unspent);
+        show_if(starts, view, &mut places, backlog, drives, place);
+        if is_shut(backlog, place, unspent) {
+            return places;
         }
     }
+    places
 }
 
-/// The place of the record that the picker picks, of those that may start: the view is made anew, and shows these. `all`
-/// tells that each is of a transfer and may start. Then a record has its place in the view. Else it is found by the name
-/// that the picker saw, since only one has it.
+/// Whether each that waits is a transfer that the longest may still pass. Who came earlier was passed by at least as
+/// many blocks, so that the oldest tells it for all. Then each may start.
+fn may_all_start(backlog: &Backlog, longest: u32) -> bool
+    requires some { 0 < length backlog.now.waiting }
+    requires order { ArePassedInOrder backlog.now.waiting }
+    requires passed { (record_at backlog.now.waiting 0).passed ≤ backlog.now.budget }
+    requires waitable { All (λ r. (is_sequential r.command.order || is_move r.command.order) ≡ true) backlog.now.waiting }
+    requires short { All (λ r. r.weight ≤ longest) backlog.now.waiting }
+    requires some_blocks { 1 ≤ longest }
+    ensures passable { result ≡ list_all (is_passable backlog.now.budget longest) backlog.now.waiting }
+    ensures open { result ≡ true → AllMayStart backlog.now.budget backlog.now.waiting }
+{
+    backlog.none_is_sequential() && longest <= backlog.unspent()
+}
+
+/// The place of the record that the picker picks, of those that may start: the view is made anew, and shows these. Where
+/// all may start, a record has its place in the view.
 pub(crate) fn picked_place<K: Picker>(
-    all: bool,
-    records: &[Record],
-    aims: &[Aim],
+    backlog: &Backlog,
     drives: &[Drive],
-    budget: u32,
+    longest: u32,
     picker: &K,
     view: &mut View,
 ) -> usize
-    requires all { all ≡ true → AllMayStart budget records.now }
-    requires some { 0 < length records.now }
-    requires waiting { CanBeShown drives.now records.now aims.now }
-    requires apart { AreApart (names records.now) }
-    ensures inside { result < length records.now }
-    ensures picked { IsPick (K.picks picker.now) budget drives.now records.now result }
+    requires some { 0 < length backlog.now.waiting }
+    requires waiting { CanBeShown drives.now backlog.now.waiting backlog.now.aims }
+    requires order { ArePassedInOrder backlog.now.waiting }
+    requires passed { (record_at backlog.now.waiting 0).passed ≤ backlog.now.budget }
+    requires short { All (λ r. r.weight ≤ longest) backlog.now.waiting }
+    requires some_blocks { 1 ≤ longest }
+    ensures inside { result < length backlog.now.waiting }
+    ensures picked { IsPick (K.picks picker.now) backlog.now.budget drives.now backlog.now.waiting result }
 {
-    if all {
-        show_all(view, records, aims, drives);
+    if may_all_start(backlog, longest) {
+        show_all(view, backlog, drives);
         return picker.pick(view);
     }
     view.clear();
-    show_each(view, records, aims, drives, budget);
-    let picked = picker.pick(view);
-    place_of(records, view.choices()[picked].name()).unwrap()
+    let places = show_each(view, backlog, drives);
+    usize::from(places[picker.pick(view)])
 }

@@ -17,7 +17,8 @@ loop-place-preserved c =
     let below = c.loop-place-test.true in
     record {
       shown =
-          shown_next c.args.drives.now c.args.records.now place (take place view) (take (place + 1) c.set.new.self) _
+          shown_next c.args.drives.now c.args.backlog.now.waiting place (take place view)
+          (take (place + 1) c.set.new.self) _
           (c.transfer_choice.ensures ∙ (λ i. choice_of (c.aimed_at-cylinder.ensures.drive i)
           (c.aimed_at-cylinder.ensures.record i))) c.loop-place.invariant.shown
           (ap (take (place + 1)) c.set.ensures ∙ take_more_set view place _ (omega (arith, room, below)));
@@ -30,7 +31,7 @@ returns c =
     let place = c.loop-place.place in
     let view = c.loop-place.view in
     let room = c.loop-place.invariant.room in
-    let many : place ≡ length c.args.records.now = omega (arith, end, c.loop-place-test.false) in
+    let many : place ≡ length c.args.backlog.now.waiting = omega (arith, end, c.loop-place-test.false) in
     let all : take place view ≡ view = take_all place view (omega (arith, many, room)) in
     sym all ∙ (c.loop-place.invariant.shown ∙ ap (λ n.
-    choices_at c.args.drives.now c.args.records.now (range_with_len 0 n)) many)
+    choices_at c.args.drives.now c.args.backlog.now.waiting (range_with_len 0 n)) many)

@@ -5,6 +5,6 @@ use Rattle.mscp_queue.proofs.start.show_all.Given as goal
 
 abbrev pub invariant-loop-place : goal.invariant-loop-place
 invariant-loop-place l = record {
-  shown : take l.place l.view ≡ choices_at l.drives l.records (range_with_len 0 l.place);
-  room : length l.view ≡ length l.records;
+  shown : take l.place l.view ≡ choices_at l.drives l.backlog.waiting (range_with_len 0 l.place);
+  room : length l.view ≡ length l.backlog.waiting;
 }

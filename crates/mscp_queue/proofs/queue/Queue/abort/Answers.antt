@@ -1,93 +1,106 @@
-use Rattle.std.proofs.Common.{◌≡◌, ap, subst, sym, ◌∙◌}
-use Rattle.std.specs.Prelude.{IfSome, option_map}
-use Rattle.mscp_packet.specs.Ends.{IsOfKind}
-use Rattle.mscp_queue.specs.Kept.{ArePassedInOrder, units_of}
+use Rattle.std.proofs.Common.{suc, ◌++◌, arith, ◌≡◌, ◌+◌, take, drop, ap, sym, ◌∙◌}
+use Rattle.std.specs.Prelude.{Some, find, option_map}
+use Rattle.mscp_queue.specs.Kept.{begun_name}
 use Rattle.mscp_queue.specs.Lines.{Line, aborting}
 use Rattle.mscp_queue.specs.Names.{name_on}
 use Rattle.mscp_queue.specs.Outcomes.{aborted_end}
-use Rattle.mscp_queue.specs.Records.{aborted_record}
-use Rattle.mscp_queue.specs.Serving.{is_begun}
-use Rattle.mscp_queue.proofs.Aborts.{counted_without, held_aborted, none_aborted}
-use Rattle.mscp_queue.proofs.Lists.{pairs_filter}
-use Rattle.mscp_queue.proofs.Ordered.{IsCountedOut}
-use Rattle.mscp_queue.proofs.Shaped.{aborts_kind}
+use Rattle.mscp_queue.specs.Records.{aborted_record, has_name, name_of, record_at}
+use Rattle.mscp_queue.specs.Serving.{begun_without}
+use Rattle.mscp_queue.proofs.Aborts.{aborts_at, aborts_none, none_aborted}
+use Rattle.mscp_queue.proofs.Nexts.{begun_left, named_at}
+use Rattle.mscp_queue.proofs.Ready.{others_at, ready_left}
 use Rattle.mscp_queue.proofs.queue.Queue.abort.Goals as goal
 
-pub returns-in_err-aborted-clause-after : goal.returns-in_err-aborted-clause-after
-returns-in_err-aborted-clause-after g c =
+pub returns-in_err-place-clause-end : goal.returns-in_err-place-clause-end
+returns-in_err-place-clause-end g c =
+    let K = g.row.K.Denot in
+    let name = name_on c.args.connection c.args.reference in
+    let none = aborts_none name c.self.inside.backlog.waiting (sym c.place_of.ensures ∙ c.in_err-place.was) in
+    c.from_residual.ensures ∙ (ap (option_map aborted_record) (sym none.found)
+    ∙ ap (λ (l : Line K). option_map aborted_record (find (has_name name) l.waiting)) c.self.view_is)
+
+pub returns-in_err-place-clause-after : goal.returns-in_err-place-clause-after
+returns-in_err-place-clause-after g c =
     let K = g.row.K.Denot in
     let q = c.self.inside in
-    let gone = name_on c.args.connection c.args.reference in
-    let stays = none_aborted q.budget gone q.waiting.items q.begun c.self.invariant.held.still
-    (sym c.take_out.ensures.found ∙ c.in_err-aborted.was) in
-    (λ i. record {
+    let rs = q.backlog.waiting in
+    let name = name_on c.args.connection c.args.reference in
+    let none = aborts_none name rs (sym c.place_of.ensures ∙ c.in_err-place.was) in
+    let stays = none_aborted q.backlog.budget name rs (begun_name rs q.begun) c.self.invariant.held.still none.found in
+    sym c.self.view_is
+    ∙ ((λ i. record {
       room = q.room;
-      budget = q.budget;
+      budget = q.backlog.budget;
       longest = q.longest;
-      waiting =
-          c.take_out.ensures.left i;
+      waiting = sym none.left i;
       drives = q.drives.items;
       begun = stays i;
       picker = q.picker;
     })
-    ∙ ap (λ (l : Line K). aborting gone l) c.self.view_is
+    ∙ ap (λ (l : Line K). aborting name l) c.self.view_is)
 
--- what was aborted is counted out
-out : (g : Rattle.mscp_queue.proofs.queue.Queue.abort.Given.Over) (c : goal.After-count_sequential g)
-    → IsCountedOut c.self.inside.sequential c.count_sequential.result c.take_out.new.waiting.items
-out g c =
-    let q = c.self.inside in
-    let gone = name_on c.args.connection c.args.reference in
-    counted_without gone q.waiting.items c.take_out.new.waiting.items c.in_ok-aborted.aborted q.sequential
-    c.count_sequential.result c.self.invariant.held.apart
-    (sym c.in_ok-aborted.was ∙ c.take_out.ensures.found) c.take_out.ensures.left c.self.invariant.counted
-    c.count_sequential.ensures
+pub take_out-requires-clause-front : goal.take_out-requires-clause-front
+take_out-requires-clause-front g c = λ e.
+    let rs = c.self.inside.backlog.waiting in
+    let name = name_on c.args.connection c.args.reference in
+    let at = aborts_at name rs c.in_ok-place.place c.self.invariant.held.apart (sym c.place_of.ensures
+    ∙ c.in_ok-place.was) in
+    (others_at c.in_ok-place.place c.self.invariant.held at.inside e).0
 
-pub overflow_sub-self : goal.overflow_sub-self
-overflow_sub-self g c = (out g c).below
+pub take_out-requires-clause-back : goal.take_out-requires-clause-back
+take_out-requires-clause-back g c = λ e.
+    let rs = c.self.inside.backlog.waiting in
+    let name = name_on c.args.connection c.args.reference in
+    let at = aborts_at name rs c.in_ok-place.place c.self.invariant.held.apart (sym c.place_of.ensures
+    ∙ c.in_ok-place.was) in
+    (others_at c.in_ok-place.place c.self.invariant.held at.inside e).1
 
-pub invariant_of-self-then-was_begun : goal.invariant_of-self-then-was_begun
-invariant_of-self-then-was_begun g c =
+pub invariant_of-self : goal.invariant_of-self
+invariant_of-self g c =
+    let rs = c.self.inside.backlog.waiting in
+    let name = name_on c.args.connection c.args.reference in
+    let at = aborts_at name rs c.in_ok-place.place c.self.invariant.held.apart (sym c.place_of.ensures
+    ∙ c.in_ok-place.was) in
+    let e = c.take_out.ensures in
+    ready_left c.in_ok-place.place c.self.invariant at.inside e.budget e.waiting e.aims
+    c.without_place-self-inside.ensures c.without_place-self-inside-2.ensures
+
+pub returns-clause-end : goal.returns-clause-end
+returns-clause-end g c =
+    let K = g.row.K.Denot in
+    let rs = c.self.inside.backlog.waiting in
+    let place = c.in_ok-place.place in
+    let name = name_on c.args.connection c.args.reference in
+    let at = aborts_at name rs place c.self.invariant.held.apart (sym c.place_of.ensures ∙ c.in_ok-place.was) in
+    ap Some (c.aborted_end.ensures ∙ (λ i. aborted_end (c.command.ensures i) (c.done.ensures.good i))
+    ∙ ap aborted_record c.record.ensures)
+    ∙ (ap (option_map aborted_record) (sym at.found)
+    ∙ ap (λ (l : Line K). option_map aborted_record (find (has_name name) l.waiting)) c.self.view_is)
+
+pub returns-clause-after : goal.returns-clause-after
+returns-clause-after g c =
     let K = g.row.K.Denot in
     let q = c.self.inside in
-    let gone = name_on c.args.connection c.args.reference in
-    record {
-      held =
-          held_aborted q.room q.budget q.longest gone q.waiting.items c.take_out.new.waiting.items
-          q.drives.items q.begun q.serving _
-          (ap (λ (l : Line K). is_begun gone l.begun) c.self.view_is ∙ sym c.if-was_begun.ensures)
-          c.self.invariant.held c.take_out.ensures.left;
-      aimed = c.take_out.ensures.aims (units_of q.drives.items) c.self.invariant.aimed;
-      counted = (out g c.before.before.before).counted;
-      order = subst ArePassedInOrder (sym c.take_out.ensures.left)
-          (pairs_filter _ _ q.waiting.items c.self.invariant.order);
-    }
-
-pub invariant_of-self-else-was_begun : goal.invariant_of-self-else-was_begun
-invariant_of-self-else-was_begun g c =
-    let K = g.row.K.Denot in
-    let q = c.self.inside in
-    let gone = name_on c.args.connection c.args.reference in
-    record {
-      held =
-          held_aborted q.room q.budget q.longest gone q.waiting.items c.take_out.new.waiting.items
-          q.drives.items q.begun q.serving _
-          (ap (λ (l : Line K). is_begun gone l.begun) c.self.view_is ∙ sym c.if-was_begun.ensures)
-          c.self.invariant.held c.take_out.ensures.left;
-      aimed = c.take_out.ensures.aims (units_of q.drives.items) c.self.invariant.aimed;
-      counted = (out g c.before.before).counted;
-      order = subst ArePassedInOrder (sym c.take_out.ensures.left)
-          (pairs_filter _ _ q.waiting.items c.self.invariant.order);
-    }
-
-pub returns-clause-shaped : goal.returns-clause-shaped
-returns-clause-shaped g c =
-    let q = c.self.inside in
-    let gone = name_on c.args.connection c.args.reference in
-    let r = c.in_ok-aborted.aborted in
-    let end : c.aborted_end.result ≡ aborted_end r.command r.good =
-    c.aborted_end.ensures ∙ (λ i. aborted_end (c.command.ensures i) (c.done.ensures.good i)) in
-    subst IsOfKind (sym end)
-    (subst (λ o. IfSome (option_map aborted_record o) IsOfKind) (sym c.take_out.ensures.found ∙ c.in_ok-aborted.was)
-    (aborts_kind q.budget q.longest gone (units_of q.drives.items) q.waiting.items
-    c.self.invariant.held.each))
+    let rs = q.backlog.waiting in
+    let place = c.in_ok-place.place in
+    let name = name_on c.args.connection c.args.reference in
+    let found = sym c.place_of.ensures ∙ c.in_ok-place.was in
+    let at = aborts_at name rs place c.self.invariant.held.apart found in
+    let e = c.take_out.ensures in
+    let next : place + 1 ≡ suc place = omega arith in
+    let left = e.waiting ∙ ap (λ k. take place rs ++ drop k rs) next ∙ at.left in
+    let own : name_of (record_at rs place) ≡ name = named_at name rs place found in
+    let begun = ap (begun_name c.take_out.new.self.waiting) c.without_place-self-inside.ensures
+    ∙ sym (begun_left rs c.take_out.new.self.waiting q.begun place c.self.invariant.held.apart at.inside e.waiting
+    c.self.invariant.waits)
+    ∙ ap (λ n. begun_without n (begun_name rs q.begun)) own in
+    (λ i. record {
+      room = q.room;
+      budget = e.budget i;
+      longest = q.longest;
+      waiting = left i;
+      drives = q.drives.items;
+      begun = begun i;
+      picker = q.picker;
+    })
+    ∙ ap (λ (l : Line K). aborting name l) c.self.view_is

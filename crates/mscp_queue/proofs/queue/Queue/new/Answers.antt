@@ -1,18 +1,23 @@
-use Rattle.std.proofs.Common.{map, ap, subst, sym, ◌∙◌}
-use Rattle.mscp_queue.specs.Aims.{aims_of}
+use Rattle.std.proofs.Common.{refl, ap, subst, sym, ◌∙◌}
+use Rattle.std.specs.Prelude.{is_some, map, None}
+use Rattle.std.proofs.lemmas.Bool.{false≢true}
 use Rattle.mscp_queue.specs.Drives.{fresh_drive}
-use Rattle.mscp_queue.specs.Kept.{ArePassedInOrder, sequential_count, units_of}
+use Rattle.mscp_queue.specs.Waiters.{Waiters}
+use Rattle.mscp_queue.specs.Kept.{IsReady}
 use Rattle.mscp_queue.proofs.Held.{held_fresh}
 use Rattle.mscp_queue.proofs.queue.Queue.new.Goals as goal
 
 pub invariant_of-result : goal.invariant_of-result
 invariant_of-result g c =
-    record {
+    let ds = c.drives_of-drives.result.items in
+    subst (λ (w : Waiters). IsReady c.args.room c.args.longest w ds None None) (sym c.new.ensures)
+    (record {
       held =
-          held_fresh c.args.room c.args.budget c.args.longest c.args.units _ _ c.requires.some_room c.requires.few
+          held_fresh c.args.room c.args.budget c.args.longest c.args.units _ ds c.requires.some_room c.requires.few
           c.requires.some_blocks c.requires.short c.requires.small
-          c.list.ensures.valid c.new.ensures (c.drives_of-drives.ensures ∙ ap (map fresh_drive) c.list.ensures.value);
-      aimed = c.new-2.ensures ∙ ap (aims_of (units_of c.drives_of-drives.result.items)) (sym c.new.ensures);
-      counted = ap sequential_count (sym c.new.ensures);
-      order = subst ArePassedInOrder (sym c.new.ensures) tt;
-    }
+          c.list.ensures.valid refl (c.drives_of-drives.ensures ∙ ap (map fresh_drive) c.list.ensures.value);
+      aimed = refl;
+      order = tt;
+      served = λ place e. absurd (false≢true (ap is_some e));
+      waits = λ place e. absurd (false≢true (ap is_some e));
+    })

@@ -1,9 +1,11 @@
-use Rattle.std.proofs.Common.{ap, subst, sym, ◌∙◌}
-use Rattle.std.specs.Prelude.{map, None}
+use Rattle.std.proofs.Common.{length, refl, ap, subst, sym, ◌∙◌}
+use Rattle.std.specs.Prelude.{is_some, map, None}
+use Rattle.std.specs.List.{refill}
+use Rattle.std.proofs.lemmas.Bool.{false≢true}
 use Rattle.mscp_queue.specs.declared.drive.Drive.{Drive}
-use Rattle.mscp_queue.specs.Aims.{aims_of}
 use Rattle.mscp_queue.specs.Drives.{fresh_drive}
-use Rattle.mscp_queue.specs.Kept.{ArePassedInOrder, sequential_count, units_of}
+use Rattle.mscp_queue.specs.Waiters.{Waiters}
+use Rattle.mscp_queue.specs.Kept.{IsReady, begun_name, units_of}
 use Rattle.mscp_queue.specs.Lines.{Line, fresh}
 use Rattle.mscp_queue.proofs.Held.{held_renewed, renewed}
 use Rattle.mscp_queue.proofs.queue.Queue.reset.Goals as goal
@@ -11,16 +13,19 @@ use Rattle.mscp_queue.proofs.queue.Queue.reset.Goals as goal
 pub invariant_of-self : goal.invariant_of-self
 invariant_of-self g c =
     let q = c.self.inside in
-    record {
-      held =
-          held_renewed q.room q.budget q.longest q.waiting.items c.clear.new.self.items q.drives.items _ q.begun
-          q.serving c.self.invariant.held c.clear.ensures
-          (renewed q.drives.items c.renew_drives.new.drives
-          (c.renew_drives.ensures ∙ ap (map (λ (d : Drive). fresh_drive d.unit)) c.as_mut_slice.ensures.value));
-      aimed = c.clear-2.ensures ∙ ap (aims_of _) (sym c.clear.ensures);
-      counted = ap sequential_count (sym c.clear.ensures);
-      order = subst ArePassedInOrder (sym c.clear.ensures) tt;
-    }
+    let drives = renewed q.drives.items c.renew_drives.new.drives
+    (c.renew_drives.ensures ∙ ap (map (λ (d : Drive). fresh_drive d.unit)) c.as_mut_slice.ensures.value) in
+    subst (λ (w : Waiters). IsReady q.room q.longest w
+    (refill (length q.drives.items) q.drives.items c.renew_drives.new.drives) None None) (sym c.clear.ensures)
+    (record {
+      held = held_renewed q.room q.backlog.budget q.longest q.backlog.waiting _ q.drives.items _
+          (begun_name q.backlog.waiting q.begun)
+          (is_some q.serving) c.self.invariant.held refl drives;
+      aimed = refl;
+      order = tt;
+      served = λ place e. absurd (false≢true (ap is_some e));
+      waits = λ place e. absurd (false≢true (ap is_some e));
+    })
 
 pub returns : goal.returns
 returns g c =
@@ -30,9 +35,9 @@ returns g c =
     (c.renew_drives.ensures ∙ ap (map (λ (d : Drive). fresh_drive d.unit)) c.as_mut_slice.ensures.value) in
     (λ i. record {
       room = q.room;
-      budget = q.budget;
+      budget = (c.clear.ensures i).budget;
       longest = q.longest;
-      waiting = c.clear.ensures i;
+      waiting = (c.clear.ensures i).waiting;
       drives =
           drives i;
       begun = None;

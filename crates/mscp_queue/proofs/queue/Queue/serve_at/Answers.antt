@@ -1,134 +1,247 @@
-use Rattle.std.proofs.Common.{◌≡◌, ℕ, ◌<◌, ◌&&◌, true, List, cond, refl, get_or, length, ap, subst, sym, ◌∙◌}
-use Rattle.std.specs.Prelude.{◌||◌, if◌then◌else◌, IfSome}
+use Rattle.std.proofs.Common.{◌≡◌, ◌<◌, length, set, get_or, refl, ap, subst, sym, ◌∙◌}
+use Rattle.std.specs.Prelude.{◌||◌, true, is_some, IfSome, None}
 use Rattle.std.specs.List.{refill}
-use Rattle.std.proofs.lemmas.List.{get_or_default, length-map}
+use Rattle.std.proofs.lemmas.List.{length-set}
 use Rattle.mscp_packet.specs.Ends.{IsOfKind}
+use Rattle.mscp_queue.specs.declared.aim.Aim.{Aim}
 use Rattle.mscp_queue.specs.declared.drive.Drive.{Drive}
-use Rattle.mscp_queue.specs.Aims.{aims_of}
-use Rattle.mscp_queue.specs.Drives.{drive_of, has_number, replaced}
-use Rattle.mscp_queue.specs.Kept.{units_of}
-use Rattle.mscp_queue.specs.Lines.{Line}
-use Rattle.mscp_queue.specs.Records.{Record, no_record, record_at}
-use Rattle.mscp_queue.specs.Serving.{IsNext, IsServable}
+use Rattle.mscp_queue.specs.declared.report.Report.TheVariants.{Served}
+use Rattle.mscp_queue.specs.Drives.{drive_of, replaced}
+use Rattle.mscp_queue.specs.Kept.{begun_name, units_of}
+use Rattle.mscp_queue.specs.Lines.{Line, served}
 use Rattle.mscp_queue.specs.Orders.{is_move, is_sequential}
+use Rattle.mscp_queue.specs.Records.{Record, drive_at, no_record, record_at, step_toll}
+use Rattle.mscp_queue.specs.Serving.{IsNext, drive_after, end_given, report_of}
+use Rattle.mscp_queue.proofs.Drives.{set_replaced}
 use Rattle.mscp_queue.proofs.Mapped.{refilled}
-use Rattle.mscp_queue.proofs.Ordered.{IsCountedOut, counted_left, passed_left}
+use Rattle.mscp_queue.proofs.Ready.{can_serve, drive_found, left_is, ready_step, serves_if}
 use Rattle.mscp_queue.proofs.Shaped.{given_kind}
-use Rattle.mscp_queue.proofs.Turns.{held_step, units_step}
+use Rattle.mscp_queue.proofs.Turns.{units_step}
 use Rattle.mscp_queue.proofs.queue.Queue.serve_at.Goals as goal
 
--- the record that is served
-record IsServed (budget place : ℕ) (rs : List Record) (r : Record) : Type 0 where
-  pub servable : IsServable budget rs place
-  pub own : r ≡ record_at rs place
-
-served : (g : Rattle.mscp_queue.proofs.queue.Queue.serve_at.Given.Over) (c : goal.After-sequential_ended g)
-    → IsServed c.self.inside.budget c.args.place c.self.inside.waiting.items c.index-deref-place.result
-served g c =
-    let q = c.self.inside in
-    let rs = q.waiting.items in
-    let place = c.args.place in
+pub bounds-deref-at : goal.bounds-deref-at
+bounds-deref-at g c =
     let K = g.row.K.Denot in
-    let next : IsNext (g.K.Picker.picks q.picker) q.budget q.drives.items rs q.begun place =
+    let q = c.self.inside in
+    let rs = q.backlog.waiting in
+    let ds = q.drives.items in
+    let place = c.args.place in
+    let next : IsNext (g.K.Picker.picks q.picker) q.backlog.budget ds rs (begun_name rs q.begun) place =
     subst (λ (l : Line K). IsNext (g.K.Picker.picks l.picker) l.budget l.drives l.waiting l.begun place)
-    (sym c.self.view_is) c.requires in
-    let item = c.index-deref-place.result in
-    record {
-      servable = next.servable;
-      own = c.index-deref-place.is ∙ (ap (λ l. get_or l place item) c.deref.ensures.0
-          ∙ get_or_default rs place item no_record next.servable.inside);
-    }
+    (sym c.self.view_is)
+    c.requires in
+    let at = drive_found q.backlog.aims place _ c.self.invariant.held c.self.invariant.aimed next.servable.inside
+    (c.from-at.ensures ∙ ap (λ (a : Aim). a.drive) c.aim.ensures) in
+    subst (λ l. c.from-at.result < length l) (sym c.deref.ensures.0) at.inside
 
--- what ends is counted out
-out : (g : Rattle.mscp_queue.proofs.queue.Queue.serve_at.Given.Over) (c : goal.After-sequential_ended g)
-    → IsCountedOut c.self.inside.sequential c.sequential_ended.result c.leave.new.waiting.items
-out g c =
-    let s = served g c in
-    counted_left c.self.inside.waiting.items c.leave.new.waiting.items c.args.place c.step_toll.result
-    c.self.inside.sequential c.sequential_ended.result c.is_some-ends.result s.servable.inside c.leave.ensures.left
-    c.self.invariant.counted (c.sequential_ended.ensures
-    ∙ ap {B = ℕ} (λ (r : Record). cond (c.is_some-ends.result && is_sequential r.command.order) 1 0) s.own)
+pub serve-requires-clause-front : goal.serve-requires-clause-front
+serve-requires-clause-front g c =
+    let K = g.row.K.Denot in
+    let q = c.self.inside in
+    let rs = q.backlog.waiting in
+    let ds = q.drives.items in
+    let place = c.args.place in
+    let next : IsNext (g.K.Picker.picks q.picker) q.backlog.budget ds rs (begun_name rs q.begun) place =
+    subst (λ (l : Line K). IsNext (g.K.Picker.picks l.picker) l.budget l.drives l.waiting l.begun place)
+    (sym c.self.view_is)
+    c.requires in
+    (can_serve c.args.block.now c.self.invariant.held next.servable).front
 
-pub overflow_sub-self : goal.overflow_sub-self
-overflow_sub-self g c = (out g c).below
+pub serve-requires-clause-back : goal.serve-requires-clause-back
+serve-requires-clause-back g c =
+    let K = g.row.K.Denot in
+    let q = c.self.inside in
+    let rs = q.backlog.waiting in
+    let ds = q.drives.items in
+    let place = c.args.place in
+    let next : IsNext (g.K.Picker.picks q.picker) q.backlog.budget ds rs (begun_name rs q.begun) place =
+    subst (λ (l : Line K). IsNext (g.K.Picker.picks l.picker) l.budget l.drives l.waiting l.begun place)
+    (sym c.self.view_is)
+    c.requires in
+    (can_serve c.args.block.now c.self.invariant.held next.servable).back
+
+pub serve-requires-clause-affordable : goal.serve-requires-clause-affordable
+serve-requires-clause-affordable g c =
+    let K = g.row.K.Denot in
+    let q = c.self.inside in
+    let rs = q.backlog.waiting in
+    let ds = q.drives.items in
+    let place = c.args.place in
+    let next : IsNext (g.K.Picker.picks q.picker) q.backlog.budget ds rs (begun_name rs q.begun) place =
+    subst (λ (l : Line K). IsNext (g.K.Picker.picks l.picker) l.budget l.drives l.waiting l.begun place)
+    (sym c.self.view_is)
+    c.requires in
+    (can_serve c.args.block.now c.self.invariant.held next.servable).affordable
+
+pub bounds-deref_mut-at : goal.bounds-deref_mut-at
+bounds-deref_mut-at g c =
+    let K = g.row.K.Denot in
+    let q = c.self.inside in
+    let rs = q.backlog.waiting in
+    let ds = q.drives.items in
+    let place = c.args.place in
+    let next : IsNext (g.K.Picker.picks q.picker) q.backlog.budget ds rs (begun_name rs q.begun) place =
+    subst (λ (l : Line K). IsNext (g.K.Picker.picks l.picker) l.budget l.drives l.waiting l.begun place)
+    (sym c.self.view_is)
+    c.requires in
+    let at = drive_found q.backlog.aims place _ c.self.invariant.held c.self.invariant.aimed next.servable.inside
+    (c.from-at.ensures ∙ ap (λ (a : Aim). a.drive) c.aim.ensures) in
+    subst (λ l. c.from-at.result < length l) (sym c.deref_mut.ensures.value) at.inside
 
 pub invariant_of-self : goal.invariant_of-self
 invariant_of-self g c =
-    let rs = c.self.inside.waiting.items in
-    let ds = c.self.inside.drives.items in
-    let place = c.args.place in
-    let s = served g c.before.before.before.before.before in
-    let item = c.index-deref-place.result in
-    let slice = c.as_mut_slice.ensures.value in
-    let new : c.replace_drive.new.drives ≡ replaced c.command-command.result.unit c.serve-service.result.drive ds =
-    c.replace_drive.ensures ∙ ap (replaced c.command-command.result.unit c.serve-service.result.drive) slice in
-    let long : length c.replace_drive.new.drives ≡ length ds =
-    ap length new ∙ length-map ds (λ (d : Drive). if has_number c.command-command.result.unit d
-    then c.serve-service.result.drive else d) in
+    let K = g.row.K.Denot in
     let q = c.self.inside in
-    let ds' = refill (length ds) ds c.replace_drive.new.drives in
-    let now = refilled ds c.replace_drive.new.drives long ∙ new in
-    let drive = c.drive_of-drive.ensures ∙ ap (λ l. drive_of l c.command-command.result.unit)
-    c.as_slice.ensures.value in
-    let units : units_of ds' ≡ units_of ds = units_step c.command-command.result.unit c.drive_of-drive.result
-    c.serve-service.result.drive ds ds' c.args.block.now item c.self.invariant.held.units drive
-    c.serve-service.ensures.drive now in
-    record {
-      held =
-          held_step {k = c.args.block.now} c.self.invariant.held s.servable (record {
-            r = item;
-            command = c.command-command.result;
-            d = c.drive_of-drive.result;
-            d' = c.serve-service.result.drive;
-            e = c.serve-service.result.ended;
-            ends = c.is_some-ends.result;
-            toll = c.step_toll.result;
-            is = s.own;
-            of = c.command-command.ensures;
-            drive = drive;
-            ended = c.serve-service.ensures.ended;
-            some = c.is_some-ends.ensures;
-            after = c.serve-service.ensures.drive;
-            cost = c.step_toll.ensures.value;
-            on = c.serve-service.ensures.on_unit;
-            records = c.leave.ensures.left;
-            serves_on = refl;
-            drives = now;
-          });
-      aimed = c.leave.ensures.aims (units_of ds) c.self.invariant.aimed
-          ∙ ap (λ us. aims_of us c.leave.new.waiting.items) (sym units);
-      counted = (out g c.before.before.before.before.before).counted;
-      order = passed_left rs c.leave.new.waiting.items place c.step_toll.result c.is_some-ends.result s.servable.inside
-          c.leave.ensures.left c.self.invariant.order;
-    }
+    let rs = q.backlog.waiting in
+    let ds = q.drives.items in
+    let place = c.args.place in
+    let next : IsNext (g.K.Picker.picks q.picker) q.backlog.budget ds rs (begun_name rs q.begun) place =
+    subst (λ (l : Line K). IsNext (g.K.Picker.picks l.picker) l.budget l.drives l.waiting l.begun place)
+    (sym c.self.view_is)
+    c.requires in
+    let at = drive_found q.backlog.aims place _ c.self.invariant.held c.self.invariant.aimed next.servable.inside
+    (c.from-at.ensures ∙ ap (λ (a : Aim). a.drive) c.aim.ensures) in
+    let d = c.index-deref-at.result in
+    let r = record_at rs place in
+    let own = c.record.ensures in
+    let drive : d ≡ drive_at ds rs place = c.index-deref-at.is
+    ∙ ap (λ l. get_or l c.from-at.result d) c.deref.ensures.0 ∙ at.is d in
+    let known = (c.self.invariant.held.each place no_record next.servable.inside).waitable.known in
+    let d' = c.serve-service.result.drive in
+    let ds' = refill (length ds) ds (set c.deref_mut.result.now c.from-at.result d') in
+    let seen = c.deref_mut.ensures.value in
+    let now : ds' ≡ replaced r.command.unit d' ds =
+    refilled ds (set c.deref_mut.result.now c.from-at.result d')
+    (length-set c.deref_mut.result.now c.from-at.result d' ∙ ap length seen)
+    ∙ (ap (λ l. set l c.from-at.result d') seen
+    ∙ set_replaced ds c.from-at.result r.command.unit d' d c.self.invariant.held.units known at.placed) in
+    let ends = c.is_some-ends.result in
+    let e = c.serve.ensures in
+    let drive_is = drive ∙ ap (λ (z : Record). drive_at ds rs place) own in
+    ready_step {k = c.args.block.now} c.self.invariant next.servable (record {
+      r = c.record.result.now;
+      command = c.record.result.now.command;
+      d = d;
+      d' = d';
+      e = c.serve-service.result.ended;
+      ends = ends;
+      toll = _;
+      is = own;
+      of = refl;
+      drive = drive ∙ ap (λ (z : Record). drive_of ds z.command.unit) (sym own);
+      ended = c.serve-service.ensures.ended;
+      some = c.is_some-ends.ensures;
+      after = c.serve-service.ensures.drive;
+      cost = ap step_toll (sym own);
+      on = c.serve-service.ensures.on_unit;
+      records = e.waiting;
+      serves_on = serves_if c.place_served-self-inside.result ends place c.place_served-self-inside.ensures;
+      drives = now ∙ ap (λ (z : Record). replaced z.command.unit d' ds) (sym own);
+    }) e.budget e.aims c.place_served-self-inside.ensures
+    (units_step r.command.unit d d' ds ds' c.args.block.now c.record.result.now c.self.invariant.held.units drive
+    c.serve-service.ensures.drive now)
 
 pub returns-clause-units : goal.returns-clause-units
 returns-clause-units g c =
-    let ds = c.self.inside.drives.items in
     let K = g.row.K.Denot in
-    let number = c.command-command.result.unit in
-    let service = c.serve-service in
-    let new : c.replace_drive.new.drives ≡ replaced number service.result.drive ds =
-    c.replace_drive.ensures ∙ ap (replaced number service.result.drive) c.as_mut_slice.ensures.value in
-    let long : length c.replace_drive.new.drives ≡ length ds =
-    ap length new ∙ length-map ds (λ (d : Drive). if has_number number d then service.result.drive else d) in
-    units_step number c.drive_of-drive.result service.result.drive ds (refill (length ds) ds c.replace_drive.new.drives)
-    c.args.block.now c.index-deref-place.result c.self.invariant.held.units
-    (c.drive_of-drive.ensures ∙ ap (λ l. drive_of l number) c.as_slice.ensures.value) service.ensures.drive
-    (refilled ds c.replace_drive.new.drives long ∙ new)
+    let q = c.self.inside in
+    let rs = q.backlog.waiting in
+    let ds = q.drives.items in
+    let place = c.args.place in
+    let next : IsNext (g.K.Picker.picks q.picker) q.backlog.budget ds rs (begun_name rs q.begun) place =
+    subst (λ (l : Line K). IsNext (g.K.Picker.picks l.picker) l.budget l.drives l.waiting l.begun place)
+    (sym c.self.view_is)
+    c.requires in
+    let at = drive_found q.backlog.aims place _ c.self.invariant.held c.self.invariant.aimed next.servable.inside
+    (c.from-at.ensures ∙ ap (λ (a : Aim). a.drive) c.aim.ensures) in
+    let d = c.index-deref-at.result in
+    let r = record_at rs place in
+    let own = c.record.ensures in
+    let drive : d ≡ drive_at ds rs place = c.index-deref-at.is
+    ∙ ap (λ l. get_or l c.from-at.result d) c.deref.ensures.0 ∙ at.is d in
+    let known = (c.self.invariant.held.each place no_record next.servable.inside).waitable.known in
+    let d' = c.serve-service.result.drive in
+    let ds' = refill (length ds) ds (set c.deref_mut.result.now c.from-at.result d') in
+    let seen = c.deref_mut.ensures.value in
+    let now : ds' ≡ replaced r.command.unit d' ds =
+    refilled ds (set c.deref_mut.result.now c.from-at.result d')
+    (length-set c.deref_mut.result.now c.from-at.result d' ∙ ap length seen)
+    ∙ (ap (λ l. set l c.from-at.result d') seen
+    ∙ set_replaced ds c.from-at.result r.command.unit d' d c.self.invariant.held.units known at.placed) in
+    units_step r.command.unit d d' ds ds' c.args.block.now c.record.result.now c.self.invariant.held.units drive
+    c.serve-service.ensures.drive now
     ∙ ap (λ (l : Line K). units_of l.drives) c.self.view_is
 
 pub returns-clause-shaped : goal.returns-clause-shaped
 returns-clause-shaped g c =
     let K = g.row.K.Denot in
-    let rs = c.self.inside.waiting.items in
+    let q = c.self.inside in
+    let rs = q.backlog.waiting in
+    let ds = q.drives.items in
     let place = c.args.place in
-    let item = c.index-deref-place.result in
-    let inside : place < length rs = subst (λ (l : Line K). place < length l.waiting) (sym c.self.view_is)
-    c.requires.servable.inside in
-    let own : item ≡ record_at rs place = c.index-deref-place.is
-    ∙ (ap (λ l. get_or l place item) c.deref.ensures.0 ∙ get_or_default rs place item no_record inside) in
+    let next : IsNext (g.K.Picker.picks q.picker) q.backlog.budget ds rs (begun_name rs q.begun) place =
+    subst (λ (l : Line K). IsNext (g.K.Picker.picks l.picker) l.budget l.drives l.waiting l.begun place)
+    (sym c.self.view_is)
+    c.requires in
     let CanWait : Record → Type 0 = λ r. (is_sequential r.command.order || is_move r.command.order) ≡ true in
-    let kept = c.self.invariant.held.each place no_record inside in
+    let kept = c.self.invariant.held.each place no_record next.servable.inside in
     subst (λ e. IfSome e IsOfKind) (sym c.serve-service.ensures.ended)
-    (given_kind c.args.block.now c.drive_of-drive.result item (subst CanWait (sym own) kept.waitable.order))
+    (given_kind c.args.block.now c.index-deref-at.result c.record.result.now
+    (subst CanWait (sym c.record.ensures) kept.waitable.order))
+
+pub returns-clause-served : goal.returns-clause-served
+returns-clause-served g c =
+    let K = g.row.K.Denot in
+    let q = c.self.inside in
+    let rs = q.backlog.waiting in
+    let ds = q.drives.items in
+    let place = c.args.place in
+    let next : IsNext (g.K.Picker.picks q.picker) q.backlog.budget ds rs (begun_name rs q.begun) place =
+    subst (λ (l : Line K). IsNext (g.K.Picker.picks l.picker) l.budget l.drives l.waiting l.begun place)
+    (sym c.self.view_is)
+    c.requires in
+    let at = drive_found q.backlog.aims place _ c.self.invariant.held c.self.invariant.aimed next.servable.inside
+    (c.from-at.ensures ∙ ap (λ (a : Aim). a.drive) c.aim.ensures) in
+    let d = c.index-deref-at.result in
+    let r = record_at rs place in
+    let own = c.record.ensures in
+    let drive : d ≡ drive_at ds rs place = c.index-deref-at.is
+    ∙ ap (λ l. get_or l c.from-at.result d) c.deref.ensures.0 ∙ at.is d in
+    let known = (c.self.invariant.held.each place no_record next.servable.inside).waitable.known in
+    let d' = c.serve-service.result.drive in
+    let ds' = refill (length ds) ds (set c.deref_mut.result.now c.from-at.result d') in
+    let seen = c.deref_mut.ensures.value in
+    let now : ds' ≡ replaced r.command.unit d' ds =
+    refilled ds (set c.deref_mut.result.now c.from-at.result d')
+    (length-set c.deref_mut.result.now c.from-at.result d' ∙ ap length seen)
+    ∙ (ap (λ l. set l c.from-at.result d') seen
+    ∙ set_replaced ds c.from-at.result r.command.unit d' d c.self.invariant.held.units known at.placed) in
+    let k = c.args.block.now in
+    let z = c.record.result.now in
+    let s = c.serve-service.ensures in
+    let e = c.serve.ensures in
+    let ended = c.is_some-ends.ensures ∙ ap is_some s.ended in
+    let report : Served c.connection.result c.command-command.result.reference c.command-command.result.unit
+    c.serve-service.result.lbn
+    c.is_unstarted.result c.serve-service.result.seek c.serve-service.result.ended ≡ report_of k d z =
+    λ i. Served (c.connection.ensures i) (c.command-command.ensures i).reference (c.command-command.ensures i).unit
+    (s.lbn i)
+    (c.is_unstarted.ensures i) (s.seek i) (s.ended i) in
+    record {
+      next = c.requires;
+      told = report ∙ ((λ i. report_of k (drive i) (own i))
+          ∙ ap (λ (l : Line K). report_of k (drive_at l.drives l.waiting place) (record_at l.waiting place))
+          c.self.view_is);
+      left = (λ i. record {
+        room = q.room;
+        budget = e.budget i;
+        longest = q.longest;
+        waiting = (e.waiting ∙ left_is k place rs (drive_at ds rs place) c.is_some-ends.result (ended
+            ∙ (λ i. is_some (end_given k (drive i) (own i))))) i;
+        drives = (now ∙ ap (λ (w : Drive). replaced r.command.unit w ds) (s.drive
+            ∙ (λ i. drive_after k (drive i) (own i)))) i;
+        begun = None;
+        picker = q.picker;
+      })
+          ∙ ap (λ (l : Line K). served k l place) c.self.view_is;
+    }

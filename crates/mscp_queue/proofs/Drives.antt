@@ -1,0 +1,111 @@
+-- Where the drive of a unit stands among the drives.
+use Rattle.std.proofs.Common.{◌≡◌, ℕ, zero, suc, ◌+◌, ◌<◌, Bool, true, false, cond, not, List, [], ◌∷◌, set, get_or, length, refl, ap, sym, ◌∙◌, subst, arith}
+use Rattle.std.specs.Prelude.{find, nat_eq, if◌then◌else◌, is_some, unwrap_or, Some, None}
+use Rattle.std.specs.List.{AllByRecursion, position, position_or_len}
+use Rattle.std.proofs.lemmas.Bool.{eq-eqb, eqb-true, false≢true, lt-ltb, ne_eqb}
+use Rattle.std.proofs.lemmas.List.{get_or_default}
+use Rattle.std.proofs.lemmas.List.Elements.{All-from_recursion}
+use Rattle.mscp_drive.specs.UnitList.{IsUnitList}
+use Rattle.mscp_queue.specs.declared.drive.Drive.{Drive}
+use Rattle.mscp_queue.specs.Drives.{drive_of, fresh_drive, has_number, one_block, replaced}
+use Rattle.mscp_queue.specs.Kept.{is_known, units_of}
+use Rattle.mscp_queue.specs.Pairs.{Pairs}
+use Rattle.mscp_queue.proofs.Lists.{every_mapped}
+use Rattle.mscp_queue.proofs.Turns.{Lower, pairs_rise}
+
+-- ---- the place of a drive
+
+-- the place of the drive of the unit of this number
+abbrev pub drive_place : List Drive → ℕ → ℕ
+drive_place ds number = position_or_len (has_number number) ds
+
+-- the drive of a known unit stands at its place
+pub record IsPlaced (ds : List Drive) (n place : ℕ) (other : Drive) : Type 0 where
+  pub inside : place < length ds
+  pub drive : get_or ds place other ≡ drive_of ds n
+  pub number : (get_or ds place other).unit.number ≡ n
+
+pub known_at : (ds : List Drive) (n : ℕ) (other : Drive) → is_known (units_of ds) n ≡ true
+    → IsPlaced ds n (drive_place ds n) other
+known_at [] n other h = absurd (false≢true h)
+known_at (d ∷ ds) n other h =
+    let found : Bool → Drive = λ b. unwrap_or (cond b (Some d) (find (has_number n) ds)) (fresh_drive one_block) in
+    let P : Bool → ℕ → Type 0 = λ b i. (i < length (d ∷ ds)) × (get_or (d ∷ ds) i other ≡ found b)
+    × ((get_or (d ∷ ds) i other).unit.number ≡ n) in
+    let both : (b : Bool) → nat_eq d.unit.number n ≡ b
+    → is_some (cond b (Some d.unit) (find (λ s. nat_eq s.number n) (units_of ds))) ≡ true
+    → P b (cond (not b) (1 + drive_place ds n) 0) =
+    λ b. elim b as (λ b. nat_eq d.unit.number n ≡ b
+    → is_some (cond b (Some d.unit) (find (λ s. nat_eq s.number n) (units_of ds))) ≡ true
+    → P b (cond (not b) (1 + drive_place ds n) 0)) [
+      | true ↦ λ e k. (omega arith, refl, eqb-true d.unit.number n e)
+      | false ↦ λ e k.
+          let rest = known_at ds n other k in
+          let inside = rest.inside in
+          let one : suc (drive_place ds n) ≡ 1 + drive_place ds n = omega arith in
+          subst (P false) one (omega arith, rest.drive, rest.number)
+    ] in
+    let all = both (nat_eq d.unit.number n) refl h in
+    record { inside = all.0; drive = all.1; number = all.2 }
+
+pub known_inside : (ds : List Drive) (n : ℕ) → is_known (units_of ds) n ≡ true → drive_place ds n < length ds
+known_inside [] n h = absurd (false≢true h)
+known_inside (d ∷ ds) n h = (known_at (d ∷ ds) n d h).inside
+
+pub place_found : (ds : List Drive) (n other : ℕ) → is_known (units_of ds) n ≡ true
+    → unwrap_or (position (has_number n) ds) other ≡ drive_place ds n
+place_found ds n other h =
+    ap (λ b. unwrap_or (cond b (Some (drive_place ds n)) None) other)
+    (lt-ltb (drive_place ds n) (length ds) (known_inside ds n h))
+
+-- units are told apart by the places of their drives
+pub apart_by_place : (ds : List Drive) (other : Drive) (a b : ℕ) → is_known (units_of ds) a ≡ true
+    → is_known (units_of ds) b ≡ true → nat_eq (drive_place ds a) (drive_place ds b) ≡ nat_eq a b
+apart_by_place ds other a b h k =
+    let both : (q : Bool) → nat_eq a b ≡ q → nat_eq (drive_place ds a) (drive_place ds b) ≡ q =
+    λ q. elim q as (λ q. nat_eq a b ≡ q → nat_eq (drive_place ds a) (drive_place ds b) ≡ q) [
+      | true ↦ λ e. eq-eqb (drive_place ds a) (drive_place ds b) (ap (drive_place ds) (eqb-true a b e))
+      | false ↦ λ e. ne_eqb (drive_place ds a) (drive_place ds b) (λ same.
+          let na = (known_at ds a other h).number in
+          let nb = (known_at ds b other k).number in
+          let eq : a ≡ b = sym na ∙ (ap (λ i. (get_or ds i other).unit.number) same ∙ nb) in
+          false≢true (sym e ∙ eq-eqb a b eq))
+    ] in
+    both (nat_eq a b) refl
+
+-- ---- one drive is replaced
+
+-- that of a unit stands once
+set_is : (ds : List Drive) (at n : ℕ) (new : Drive) → Pairs Lower (units_of ds) → at < length ds
+    → (d : Drive) → d ≡ get_or ds at d → d.unit.number ≡ n → set ds at new ≡ replaced n new ds
+set_is [] at n new p l d e num = absurd (omega (arith, l))
+set_is (x ∷ ds) zero n new p l d e num =
+    let own : x.unit.number ≡ n = ap (λ (q : Drive). q.unit.number) (sym e) ∙ num in
+    (λ i. (sym (ap (λ b. if b then new else x) (eq-eqb x.unit.number n own)) i)
+    ∷ sym (others ds (every_mapped (λ (q : Drive). q.unit) (Lower x.unit) ds p.0)) i)
+  where
+    others : (qs : List Drive) → AllByRecursion (λ q. x.unit.number < q.unit.number) qs → replaced n new qs ≡ qs
+    others [] h = refl
+    others (q ∷ qs) h =
+        let own : x.unit.number ≡ n = ap (λ (q : Drive). q.unit.number) (sym e) ∙ num in
+        (λ i. (ap (λ b. if b then new else q) (ne_eqb q.unit.number n (λ s. omega (arith, s, own, h.0))) i)
+        ∷ others qs h.1 i)
+set_is (x ∷ ds) (suc at) n new p l d e num =
+    let below : at < length ds = omega (arith, l) in
+    let up = every_mapped (λ (q : Drive). q.unit) (Lower x.unit) ds p.0 in
+    let there : get_or ds at d ≡ d = sym e in
+    let less : x.unit.number < d.unit.number =
+    subst (λ (q : Drive). x.unit.number < q.unit.number) there
+    (All-from_recursion (λ (q : Drive). x.unit.number < q.unit.number) ds up at d below) in
+    (λ i. (sym (ap (λ b. if b then new else x) (ne_eqb x.unit.number n (λ s. omega (arith, s, num, less))))) i
+    ∷ set_is ds at n new p.1 below d e num i)
+
+pub set_replaced : (ds : List Drive) (at n : ℕ) (new other : Drive) → IsUnitList (units_of ds)
+    → is_known (units_of ds) n ≡ true
+    → at ≡ drive_place ds n → set ds at new ≡ replaced n new ds
+set_replaced ds at n new other l known e =
+    let d = get_or ds (drive_place ds n) other in
+    let placed = known_at ds n other known in
+    let found : get_or ds at d ≡ d = ap (λ i. get_or ds i d) e
+    ∙ get_or_default ds (drive_place ds n) d other placed.inside in
+    set_is ds at n new (pairs_rise (units_of ds) l.rising) (omega (arith, e, placed.inside)) d (sym found) placed.number

@@ -1,0 +1,402 @@
+-- The masks stay those of the slots: where a command comes, leaves, or has a step.
+use Rattle.std.proofs.Common.{◌≡◌, ◌≢◌, ◌<◌, ◌≤◌, ◌+◌, zero, suc, length, get_or, ◌⊎◌, inl, inr, ℕ, Bool, true, false, cond, ◌&&◌, ◌||◌, nat_eq, List, [], ◌∷◌, ◌++◌, sym, subst, ap, ◌∙◌, refl, arith}
+use Rattle.std.specs.Prelude.{slice_index_or}
+use Rattle.std.specs.Int.{bit_at}
+use Rattle.std.proofs.lemmas.Nat.Bits.{bit_at-zero, bit_at_ones}
+use Rattle.std.proofs.lemmas.Bool.{eq-eqb, eqb-false, eqb-true, ne_eqb}
+use Rattle.std.proofs.lemmas.List.{append_assoc, append-nil}
+use Rattle.mscp_queue.specs.declared.masks.Masks.{Masks}
+use Rattle.mscp_queue.specs.Masks.{AreEarlier, AreMasks, AreSlots, HasCome, HasLeft, IsMaskOf, IsSet, Kind, bit, has}
+
+-- the slots without one
+abbrev pub if_not : Bool → ℕ → List ℕ → List ℕ
+if_not true x xs = xs
+if_not false x xs = x ∷ xs
+
+abbrev pub without : ℕ → List ℕ → List ℕ
+without n [] = []
+without n (x ∷ xs) = if_not (nat_eq x n) x (without n xs)
+
+pub same_or : (a b : ℕ) → (a ≡ b) ⊎ (a ≢ b)
+same_or a b = grind arith
+
+eq_true : (a b : ℕ) → a ≡ b → nat_eq a b ≡ true
+eq_true a b e = eq-eqb a b e
+
+eq_false : (a b : ℕ) → a ≢ b → nat_eq a b ≡ false
+eq_false a b n = ne_eqb a b n
+
+or_false : (b : Bool) → (b || false) ≡ b
+or_false true = refl
+or_false false = refl
+
+-- ---- which slots are in a list
+
+pub has_other : (k n : ℕ) (xs : List ℕ) → k ≢ n → has k (xs ++ n ∷ []) ≡ has k xs
+has_other k n [] e = ap (λ b. b || false) (eq_false k n e)
+has_other k n (x ∷ xs) e = ap (λ b. nat_eq k x || b) (has_other k n xs e)
+
+has_last : (n : ℕ) (xs : List ℕ) → has n (xs ++ n ∷ []) ≡ true
+has_last n [] = ap (λ b. b || false) (eq_true n n refl)
+has_last n (x ∷ xs) = ap (λ b. nat_eq n x || b) (has_last n xs) ∙ or_true (nat_eq n x)
+  where
+    or_true : (b : Bool) → (b || true) ≡ true
+    or_true true = refl
+    or_true false = refl
+
+has_kept : (k n : ℕ) (xs : List ℕ) → k ≢ n → has k (without n xs) ≡ has k xs
+has_kept k n [] e = refl
+has_kept k n (x ∷ xs) e = by (has_kept k n xs e) (same_or x n)
+  where
+    by : has k (without n xs) ≡ has k xs → (x ≡ n) ⊎ (x ≢ n)
+        → has k (if_not (nat_eq x n) x (without n xs)) ≡ (nat_eq k x || has k xs)
+    by h (inl s) =
+        ap (λ b. has k (if_not b x (without n xs))) (eq_true x n s) ∙ h
+        ∙ ap (λ b. b || has k xs) (sym (eq_false k x (λ f. e (f ∙ s))))
+    by h (inr d) = ap (λ b. has k (if_not b x (without n xs))) (eq_false x n d) ∙ ap (λ b. nat_eq k x || b) h
+
+has_gone : (n : ℕ) (xs : List ℕ) → has n (without n xs) ≡ false
+has_gone n [] = refl
+has_gone n (x ∷ xs) = by (has_gone n xs) (same_or x n)
+  where
+    by : has n (without n xs) ≡ false → (x ≡ n) ⊎ (x ≢ n) → has n (if_not (nat_eq x n) x (without n xs)) ≡ false
+    by h (inl s) = ap (λ b. has n (if_not b x (without n xs))) (eq_true x n s) ∙ h
+    by h (inr d) =
+        ap (λ b. has n (if_not b x (without n xs))) (eq_false x n d)
+        ∙ ap (λ b. b || has n (without n xs)) (eq_false n x (λ f. d (sym f))) ∙ h
+
+without_append : (n : ℕ) (xs ys : List ℕ) → without n (xs ++ ys) ≡ without n xs ++ without n ys
+without_append n [] ys = refl
+without_append n (x ∷ xs) ys = by (without_append n xs ys) (nat_eq x n)
+  where
+    by : without n (xs ++ ys) ≡ without n xs ++ without n ys → (b : Bool)
+        → if_not b x (without n (xs ++ ys)) ≡ if_not b x (without n xs) ++ without n ys
+    by h true = h
+    by h false = ap (λ zs. x ∷ zs) h
+
+-- ---- one mask
+
+module _ (m m' n : ℕ) (on : Bool) (old new : ℕ → Bool) (set : IsSet on n m m') (is : IsMaskOf m old)
+    (at : new n ≡ on) (other : (k : ℕ) → k ≢ n → new k ≡ old k) where
+  set_mask : IsMaskOf m' new
+  set_mask k l = by (same_or k n)
+    where
+      by : (k ≡ n) ⊎ (k ≢ n) → bit_at m' k ≡ bit (new k)
+      by (inl s) = set k l ∙ ap (λ b. cond b (cond on 1 0) (bit_at m k)) (eq_true k n s) ∙ ap bit (sym (ap new s ∙ at))
+      by (inr d) = set k l ∙ ap (λ b. cond b (cond on 1 0) (bit_at m k)) (eq_false k n d) ∙ is k l
+          ∙ ap bit (sym (other k d))
+
+-- ---- a push
+
+differ : (b : Bool) → b ≡ true → b ≡ false → bit true ≡ bit false
+differ b p q = ap bit (sym p ∙ q)
+
+off : (b c : Bool) → (b || c) ≡ false → (b ≡ false) × (c ≡ false)
+off false c e = (refl, e)
+off true c e = let bad = ap bit e in absurd (omega (arith, bad))
+
+module _ (n s : ℕ) (order : List ℕ) (e : has n (s ∷ order) ≡ false) where
+  pub not_here : s ≢ n
+  not_here f = let bad = differ (nat_eq n s) (eq_true n s (sym f)) (off (nat_eq n s) (has n order) e).0 in absurd
+      (omega (arith, bad))
+
+  pub not_behind : has n order ≡ false
+  not_behind = (off (nat_eq n s) (has n order) e).1
+
+slots_pushed : (order : List ℕ) (n : ℕ) → AreSlots order → n < 64 → has n order ≡ false → AreSlots (order ++ n ∷ [])
+slots_pushed [] n a l e = (l, refl, tt)
+slots_pushed (s ∷ order) n a l e =
+    (a.0, has_other s n order (not_here n s order e) ∙ a.1, slots_pushed order n a.2 l (not_behind n s order e))
+
+mask_same : (m : ℕ) (old new : ℕ → Bool) → ((k : ℕ) → old k ≡ new k) → IsMaskOf m old → IsMaskOf m new
+mask_same m old new same is = λ k l. is k l ∙ ap bit (same k)
+
+module _ (earlier earlier' : ℕ → ℕ) (n m : ℕ) (same : (k : ℕ) → k ≢ n
+    → earlier' k ≡ earlier k) (new : earlier' n ≡ m) where
+  earlier_pushed : (front order : List ℕ) → has n order ≡ false → IsMaskOf m (λ k. has k (front ++ order))
+      → AreEarlier earlier front order
+      → AreEarlier earlier' front (order ++ n ∷ [])
+  earlier_pushed front [] e is a = (
+    subst (λ m. IsMaskOf m (λ k. has k front)) (sym new)
+        (mask_same m _ _ (λ k. ap (has k) (append-nil front)) is),
+    tt,
+  )
+  earlier_pushed front (s ∷ order) e is a = (
+    subst (λ m. IsMaskOf m (λ k. has k front)) (sym (same s (not_here n s order e))) a.0,
+    earlier_pushed (front ++ s ∷ []) order (not_behind n s order e)
+        (mask_same m _ _ (λ k. ap (has k) (sym (append_assoc front (s ∷ []) order))) is) a.1,
+  )
+
+and_same : (a a' b b' : Bool) → a ≡ a' → b ≡ b' → (a && b) ≡ (a' && b')
+and_same a a' b b' p q = ap (λ a. a && b) p ∙ ap (λ b. a' && b) q
+
+-- the slot whose command comes, and what masks tell of it and of the others
+pub record Comes (kinds kinds' : ℕ → Kind) (order : List ℕ) (n : ℕ) : Type 0 where
+  pub low : n < 64
+  pub free : has n order ≡ false
+  pub same : (k : ℕ) → k ≢ n → kinds' k ≡ kinds k
+
+-- a bit that is set or, where it is clear, left
+unit_set : (m m' n : ℕ) (on : Bool) → (on ≡ true → IsSet true n m m') → (on ≡ false → m' ≡ m) → bit_at m n ≡ 0
+    → IsSet on n m m'
+unit_set m m' n true set same clear = set refl
+unit_set m m' n false set same clear = λ k l. ap (λ m. bit_at m k) (same refl) ∙ by k (same_or k n)
+  where
+    by : (k : ℕ) → (k ≡ n) ⊎ (k ≢ n) → bit_at m k ≡ cond (nat_eq k n) (cond false 1 0) (bit_at m k)
+    by k (inl s) = ap (bit_at m) s ∙ clear ∙ sym (ap (λ b. cond b (cond false 1 0) (bit_at m k)) (eq_true k n s))
+    by k (inr d) = sym (ap (λ b. cond b (cond false 1 0) (bit_at m k)) (eq_false k n d))
+
+pub masks_pushed : (kinds kinds' : ℕ → Kind) (order : List ℕ) (m m' : Masks) (n : ℕ)
+    → AreMasks kinds order m → Comes kinds kinds' order n
+    → HasCome n (kinds' n).drive (kinds' n).sequential (kinds' n).serving m m'
+    → AreMasks kinds' (order ++ n ∷ []) m'
+masks_pushed kinds kinds' order m m' n masks c h = record {
+  apart = slots_pushed order n masks.apart c.low c.free;
+  of_waiting = set_mask m.waiting m'.waiting n true _ _ h.waits masks.of_waiting (has_last n order)
+      (λ k d. has_other k n order d);
+  of_sequential =
+      set_mask m.sequential m'.sequential n (kinds' n).sequential _ _ h.ordered masks.of_sequential
+      (ap (λ b. b && (kinds' n).sequential) (has_last n order))
+      (λ k d. and_same _ _ _ _ (has_other k n order d) (ap (λ s. s.sequential) (c.same k d)));
+  of_serving =
+      set_mask m.serving m'.serving n (kinds' n).serving _ _ h.served masks.of_serving
+      (ap (λ b. b && (kinds' n).serving) (has_last n order))
+      (λ k d. and_same _ _ _ _ (has_other k n order d) (ap (λ s. s.serving) (c.same k d)));
+  of_units = λ u.
+      set_mask (slice_index_or m.units u 0) (slice_index_or m'.units u 0) n (nat_eq (kinds' n).drive u) _ _
+      (unit_set _ _ n (nat_eq (kinds' n).drive u)
+      (λ e. subst (λ v. IsSet true n (slice_index_or m.units v 0) (slice_index_or m'.units v 0))
+      (eqb-true (kinds' n).drive u e) h.own)
+      (λ e. h.units u (λ f. let d = eqb-false (kinds' n).drive u e in d (sym f)))
+      (masks.of_units u n c.low ∙ ap (λ b. bit (b && nat_eq (kinds n).drive u)) c.free)) (masks.of_units u)
+      (ap (λ b. b && nat_eq (kinds' n).drive u) (has_last n order))
+      (λ k d. and_same _ _ _ _ (has_other k n order d) (ap (λ s. nat_eq s.drive u) (c.same k d)));
+  of_earlier = earlier_pushed _ _ n m.waiting h.others h.earlier [] order c.free masks.of_waiting masks.of_earlier;
+}
+
+-- ---- an end or an abort
+
+slots_left : (order : List ℕ) (n : ℕ) → AreSlots order → AreSlots (without n order)
+slots_left [] n a = tt
+slots_left (s ∷ order) n a = by (slots_left order n a.2) (same_or s n)
+  where
+    by : AreSlots (without n order) → (s ≡ n) ⊎ (s ≢ n) → AreSlots (if_not (nat_eq s n) s (without n order))
+    by h (inl f) = subst (λ b. AreSlots (if_not b s (without n order))) (sym (eq_true s n f)) h
+    by h (inr d) = subst (λ b. AreSlots (if_not b s (without n order))) (sym (eq_false s n d)) (
+      a.0,
+      has_kept s n order d ∙ a.1,
+      h,
+    )
+
+module _ (earlier earlier' : ℕ → ℕ) (n : ℕ) (clear : (s : ℕ) → IsSet false n (earlier s) (earlier' s)) where
+  cleared : (s : ℕ) (front : List ℕ) → IsMaskOf (earlier s) (λ k. has k front)
+      → IsMaskOf (earlier' s) (λ k. has k (without n front))
+  cleared s front is = set_mask (earlier s) (earlier' s) n false _ _ (clear s) is (has_gone n front)
+      (λ k d. has_kept k n front d)
+
+  earlier_left : (front order : List ℕ) → AreEarlier earlier front order
+      → AreEarlier earlier' (without n front) (without n order)
+  earlier_left front [] a = tt
+  earlier_left front (s ∷ order) a = by (earlier_left (front ++ s ∷ []) order a.1) (same_or s n)
+    where
+      ends : (b : Bool) → nat_eq s n ≡ b → without n (front ++ s ∷ []) ≡ without n front ++ if_not b s []
+      ends b e = without_append n front (s ∷ []) ∙ ap (λ b. without n front ++ if_not b s []) e
+
+      by : AreEarlier earlier' (without n (front ++ s ∷ [])) (without n order) → (s ≡ n) ⊎ (s ≢ n)
+          → AreEarlier earlier' (without n front) (if_not (nat_eq s n) s (without n order))
+      by rest (inl f) =
+          subst (λ b. AreEarlier earlier' (without n front) (if_not b s (without n order))) (sym (eq_true s n f))
+          (subst (λ xs. AreEarlier earlier' xs (without n order)) (ends true (eq_true s n f)
+          ∙ append-nil (without n front)) rest)
+      by rest (inr d) =
+          subst (λ b. AreEarlier earlier' (without n front) (if_not b s (without n order))) (sym (eq_false s n d)) (
+            cleared s front a.0,
+            subst (λ xs. AreEarlier earlier' xs (without n order))
+                (ends false (eq_false s n d)) rest,
+          )
+
+masks_without : (kinds : ℕ → Kind) (order : List ℕ) (m m' : Masks) (n : ℕ) → AreMasks kinds order m → HasLeft n m m'
+    → AreMasks kinds (without n order) m'
+masks_without kinds order m m' n masks l = record {
+  apart = slots_left order n masks.apart;
+  of_waiting = set_mask m.waiting m'.waiting n false _ _ l.waits masks.of_waiting (has_gone n order)
+      (λ k d. has_kept k n order d);
+  of_sequential =
+      set_mask m.sequential m'.sequential n false _ _ l.ordered masks.of_sequential
+      (ap (λ b. b && (kinds n).sequential) (has_gone n order))
+      (λ k d. ap (λ b. b && (kinds k).sequential) (has_kept k n order d));
+  of_serving =
+      set_mask m.serving m'.serving n false _ _ l.served masks.of_serving
+      (ap (λ b. b && (kinds n).serving) (has_gone n order))
+      (λ k d. ap (λ b. b && (kinds k).serving) (has_kept k n order d));
+  of_units = λ u.
+      set_mask (slice_index_or m.units u 0) (slice_index_or m'.units u 0) n false _ _ (l.units u) (masks.of_units u)
+      (ap (λ b. b && nat_eq (kinds n).drive u) (has_gone n order))
+      (λ k d. ap (λ b. b && nat_eq (kinds k).drive u) (has_kept k n order d));
+  of_earlier = earlier_left _ _ n l.earlier [] order masks.of_earlier;
+}
+
+-- ---- the order without a slot
+
+without_none : (n : ℕ) (xs : List ℕ) → has n xs ≡ false → without n xs ≡ xs
+without_none n [] e = refl
+without_none n (x ∷ xs) e =
+    ap (λ b. if_not b x (without n xs)) (eq_false x n (not_here n x xs e))
+    ∙ ap (λ xs. x ∷ xs) (without_none n xs (not_behind n x xs e))
+
+without_cuts : (front back : List ℕ) (n : ℕ) → has n front ≡ false → has n back ≡ false
+    → without n (front ++ n ∷ back) ≡ front ++ back
+without_cuts front back n e f =
+    without_append n front (n ∷ back)
+    ∙ ap (λ xs. xs ++ without n (n ∷ back)) (without_none n front e)
+    ∙ ap (λ xs. front ++ xs) (ap (λ b. if_not b n (without n back)) (eq_true n n refl) ∙ without_none n back f)
+
+-- a slot stands once
+pub once_in : (front : List ℕ) (n : ℕ) (back : List ℕ) → AreSlots (front ++ n ∷ back)
+    → (has n front ≡ false) × (has n back ≡ false)
+once_in [] n back a = (refl, a.1)
+once_in (s ∷ front) n back a =
+    let rest = once_in front n back a.2 in
+    let other : n ≢ s = λ e. not_first s n front back a.1 (sym e) in
+    (ap (λ b. b || has n front) (eq_false n s other) ∙ rest.0, rest.1)
+  where
+    not_first : (s n : ℕ) (front back : List ℕ) → has s (front ++ n ∷ back) ≡ false → s ≢ n
+    not_first s n [] back e = λ f. not_here s n back e (sym f)
+    not_first s n (x ∷ front) back e = not_first s n front back (off (nat_eq s x) (has s (front ++ n ∷ back)) e).1
+
+pub masks_left : (kinds : ℕ → Kind) (front back : List ℕ) (m m' : Masks) (n : ℕ)
+    → AreMasks kinds (front ++ n ∷ back) m → HasLeft n m m' → AreMasks kinds (front ++ back) m'
+masks_left kinds front back m m' n masks l =
+    let once = once_in front n back masks.apart in
+    subst (λ order. AreMasks kinds order m') (without_cuts front back n once.0 once.1)
+    (masks_without kinds (front ++ n ∷ back) m m' n masks l)
+
+-- ---- a step
+
+-- the command of a slot is in service from now on
+pub masks_served : (kinds kinds' : ℕ → Kind) (order : List ℕ) (m : Masks) (v n : ℕ)
+    → AreMasks kinds order m → has n order ≡ true → ((k : ℕ) → k ≢ n → kinds' k ≡ kinds k)
+    → (kinds' n).drive ≡ (kinds n).drive → (kinds' n).sequential ≡ (kinds n).sequential
+    → IsSet (kinds' n).serving n m.serving v → AreMasks kinds' order (record m { serving = v })
+masks_served kinds kinds' order m v n masks in_order same drive ordered served =
+    let drives : (k : ℕ) → (kinds k).drive ≡ (kinds' k).drive = λ k. by_place k (λ s. s.drive) drive (same_or k n) in
+    let ordering : (k : ℕ) → (kinds k).sequential ≡ (kinds' k).sequential =
+    λ k. by_place k (λ s. s.sequential) ordered (same_or k n) in
+    record {
+      apart = masks.apart;
+      of_waiting = masks.of_waiting;
+      of_sequential = mask_same m.sequential _ _ (λ k. ap (λ b. has k order && b) (ordering k)) masks.of_sequential;
+      of_serving = set_mask m.serving v n (kinds' n).serving _ _ served masks.of_serving
+          (ap (λ b. b && (kinds' n).serving) in_order)
+          (λ k d. ap (λ s. has k order && s.serving) (same k d));
+      of_units = λ u. mask_same (slice_index_or m.units u 0) _ _
+          (λ k. ap (λ d. has k order && nat_eq d u) (drives k)) (masks.of_units u);
+      of_earlier = masks.of_earlier;
+    }
+  where
+    by_place : {X : Type 0} (k : ℕ) (f : Kind → X) → f (kinds' n) ≡ f (kinds n) → (k ≡ n) ⊎ (k ≢ n)
+        → f (kinds k) ≡ f (kinds' k)
+    by_place k f e (inl s) = ap (λ k. f (kinds k)) s ∙ sym e ∙ ap (λ k. f (kinds' k)) (sym s)
+    by_place k f e (inr d) = ap f (sym (same k d))
+
+pub masks_same : (kinds kinds' : ℕ → Kind) (order : List ℕ) (m : Masks) → ((k : ℕ) → kinds' k ≡ kinds k)
+    → AreMasks kinds order m → AreMasks kinds' order m
+masks_same kinds kinds' order m same masks = subst (λ f. AreMasks f order m) (λ i k. sym (same k) i) masks
+
+-- no slot is taken
+pub masks_none : (kinds : ℕ → Kind) (m : Masks) → m.waiting ≡ 0 → m.sequential ≡ 0 → m.serving ≡ 0
+    → ((u : ℕ) → slice_index_or m.units u 0 ≡ 0) → AreMasks kinds [] m
+masks_none kinds m w q v us = record {
+  apart = tt;
+  of_waiting = λ k l. ap (λ m. bit_at m k) w ∙ bit_at-zero k;
+  of_sequential = λ k l. ap (λ m. bit_at m k) q ∙ bit_at-zero k;
+  of_serving = λ k l. ap (λ m. bit_at m k) v ∙ bit_at-zero k;
+  of_units = λ u k l. ap (λ m. bit_at m k) (us u) ∙ bit_at-zero k;
+  of_earlier = tt;
+}
+
+-- a slot of the order is below 64, and the order is cut at it
+pub slot_low : (order : List ℕ) (place : ℕ) → AreSlots order → place < length order → get_or order place 0 < 64
+slot_low [] place a l = absurd (omega (arith, l))
+slot_low (s ∷ order) zero a l = a.0
+slot_low (s ∷ order) (suc place) a l = slot_low order place a.2 (omega (arith, l))
+
+pub slot_has : (order : List ℕ) (place : ℕ) → place < length order → has (get_or order place 0) order ≡ true
+slot_has [] place l = absurd (omega (arith, l))
+slot_has (s ∷ order) zero l = ap (λ b. b || has s order) (eq_true s s refl)
+slot_has (s ∷ order) (suc place) l =
+    ap (λ b. nat_eq (get_or order place 0) s || b) (slot_has order place (omega (arith, l)))
+    ∙ or_true (nat_eq (get_or order place 0) s)
+  where
+    or_true : (b : Bool) → (b || true) ≡ true
+    or_true true = refl
+    or_true false = refl
+
+-- ---- the lowest free slot
+
+-- where each of so many slots is taken, so many are taken
+many_taken : (n : ℕ) (order : List ℕ) → ((k : ℕ) → k < n → has k order ≡ true) → n ≤ length order
+many_taken zero order h = omega arith
+many_taken (suc n) order h =
+    let rest = many_taken n (without n order) (λ k l. has_kept k n order (λ e. omega (arith, l, e))
+    ∙ h k (omega (arith, l))) in
+    let fewer = one_gone n order (h n (omega arith)) in
+    omega (arith, rest, fewer)
+  where
+    no_more : (n : ℕ) (xs : List ℕ) → length (without n xs) ≤ length xs
+    no_more n [] = omega arith
+    no_more n (x ∷ xs) = by (no_more n xs) (nat_eq x n)
+      where
+        by : length (without n xs) ≤ length xs → (b : Bool) → length (if_not b x (without n xs)) ≤ length (x ∷ xs)
+        by h true = omega (arith, h)
+        by h false = omega (arith, h)
+
+    one_gone : (n : ℕ) (xs : List ℕ) → has n xs ≡ true → length (without n xs) < length xs
+    one_gone n [] e = let bad = ap bit e in absurd (omega (arith, bad))
+    one_gone n (x ∷ xs) e = by (one_gone n xs) (no_more n xs) (same_or x n)
+      where
+        by : (has n xs ≡ true → length (without n xs) < length xs) → length (without n xs) ≤ length xs → (x ≡ n)
+            ⊎ (x ≢ n)
+            → length (if_not (nat_eq x n) x (without n xs)) < length (x ∷ xs)
+        by h m (inl s) = subst (λ b. length (if_not b x (without n xs)) < length (x ∷ xs)) (sym (eq_true x n s))
+            (omega (arith, m))
+        by h m (inr d) =
+            let behind : has n xs ≡ true = ap (λ b. b || has n xs) (sym (eq_false n x (λ f. d (sym f)))) ∙ e in
+            let l = h behind in
+            subst (λ b. length (if_not b x (without n xs)) < length (x ∷ xs)) (sym (eq_false x n d)) (omega (arith, l))
+
+-- so where fewer than all wait, a bit is clear
+pub some_free : (m : ℕ) (order : List ℕ) → IsMaskOf m (λ k. has k order) → length order < 64 → m ≢ 18446744073709551615
+some_free m order is few = λ e.
+    let all : (k : ℕ) → k < 64 → has k order ≡ true =
+    λ k l. on (has k order) (sym (is k l) ∙ ap (λ m. bit_at m k) e ∙ full k l) in
+    let many = many_taken 64 order all in
+    omega (arith, many, few)
+  where
+    on : (b : Bool) → bit b ≡ 1 → b ≡ true
+    on true e = refl
+    on false e = absurd (omega (arith, e))
+
+    full : (k : ℕ) → k < 64 → bit_at 18446744073709551615 k ≡ 1
+    full k l = bit_at_ones 64 k l
+
+pub off_bit : (b : Bool) → bit b ≡ 0 → b ≡ false
+off_bit true e = absurd (omega (arith, e))
+off_bit false e = refl
+
+-- ---- one bit
+
+pub after_bit : (m k n old : ℕ) (on was : Bool) → on ≡ was → bit_at m n ≡ cond was 1 0 → (k ≢ n → bit_at m k ≡ old)
+    → bit_at m k ≡ cond (nat_eq k n) (cond on 1 0) old
+after_bit m k n old on was e same other = by (same_or k n)
+  where
+    by : (k ≡ n) ⊎ (k ≢ n) → bit_at m k ≡ cond (nat_eq k n) (cond on 1 0) old
+    by (inl s) = ap (λ k. bit_at m k) s ∙ same ∙ sym (ap (λ b. cond b (cond on 1 0) old) (eq_true k n s) ∙ ap bit e)
+    by (inr d) = other d ∙ sym (ap (λ b. cond b (cond on 1 0) old) (eq_false k n d))
+
+pub not_last : (m : ℕ) → m < 18446744073709551616 → m ≢ 18446744073709551615 → m + 1 < 18446744073709551616
+not_last m l n = grind (arith, l, n)
+
+pub one_bit : (b : Bool) → bit b ≡ 1 → b ≡ true
+one_bit true e = refl
+one_bit false e = absurd (omega (arith, e))

@@ -1,0 +1,231 @@
+-- What a queue knows stays true: where each command aims, in which order they were passed, and which places are known.
+use Rattle.std.proofs.Common.{◌≡◌, ℕ, suc, ◌+◌, ◌<◌, ◌≤◌, Bool, true, false, cond, not, List, [], ◌∷◌, ◌++◌, map, take, drop, get_or, length, refl, ap, sym, ◌∙◌, subst, arith}
+use Rattle.std.specs.Prelude.{All, filter, is_some, unwrap_or, Option, Some, None}
+use Rattle.std.specs.List.{AllByRecursion, list_any}
+use Rattle.std.proofs.lemmas.Bool.{false≢true, lt-ltb, ltb-true}
+use Rattle.std.proofs.lemmas.List.{get_or-map, get_or_append_left, get_or_at, length-append, length-map, length-take-le}
+use Rattle.std.proofs.lemmas.List.Elements.{All-from_recursion}
+use Rattle.mscp_packet.specs.declared.command.Command.{Command}
+use Rattle.mscp_packet.specs.declared.end.End.{End}
+use Rattle.mscp_queue.specs.declared.aim.Aim.{Aim}
+use Rattle.mscp_drive.specs.Shape.{Shape}
+use Rattle.mscp_queue.specs.declared.block.Block.{Block}
+use Rattle.mscp_queue.specs.declared.drive.Drive.{Drive}
+use Rattle.mscp_queue.specs.declared.name.Connection.{Connection}
+use Rattle.mscp_queue.specs.declared.name.Name.{Name}
+use Rattle.mscp_queue.specs.Aims.{aim_of, aims_of, no_aim}
+use Rattle.mscp_queue.specs.Waiters.{Waiters}
+use Rattle.mscp_queue.specs.Kept.{ArePassedInOrder, IsHeld, IsReady, IsWaitable, begun_name, place_served, place_without, units_of}
+use Rattle.mscp_queue.specs.Names.{name_on}
+use Rattle.mscp_queue.specs.Records.{Record, advanced, drive_at, fresh_record, has_name, is_in_service, is_unstarted, name_of, no_record, passed_by, record_at, remains, step_toll}
+use Rattle.mscp_queue.specs.Serving.{IsServable, end_given, waiting_after}
+use Rattle.mscp_queue.proofs.Aims.{aims_cut, aims_ended, aims_kept, aims_pushed, place_same}
+use Rattle.mscp_queue.proofs.Drives.{drive_place, known_at}
+use Rattle.mscp_queue.proofs.Held.{held_pushed, others_idle}
+use Rattle.mscp_queue.proofs.Lists.{every_from, pairs_append, pairs_cut}
+use Rattle.mscp_queue.proofs.Nexts.{held_left, served_without, waits_without}
+use Rattle.mscp_queue.proofs.Ordered.{passed_left}
+use Rattle.mscp_queue.proofs.Placed.{cut_at}
+use Rattle.mscp_queue.proofs.Turns.{StepTaken, held_step, next_turn}
+
+-- ---- where a command aims
+
+-- the drive at a place is that of the unit of the command at another
+pub record IsDriveOf (ds : List Drive) (rs : List Record) (place at : ℕ) : Type 0 where
+  pub inside : at < length ds
+  pub is : (other : Drive) → get_or ds at other ≡ drive_at ds rs place
+  pub placed : at ≡ drive_place ds (record_at rs place).command.unit
+
+pub drive_found : {room budget longest : ℕ} {rs : List Record} {ds : List Drive} {begun : Option Name} {serving : Bool}
+    (own : List Aim) (place at : ℕ) → IsHeld room budget longest rs ds begun serving → own ≡ aims_of (units_of ds) rs
+    → place < length rs → at ≡ (get_or own place no_aim).drive → IsDriveOf ds rs place at
+drive_found {room} {budget} {longest} {rs} {ds} own place at h aimed l e =
+    let of : Record → Aim = λ r. aim_of (units_of ds) r.command in
+    let n = (record_at rs place).command.unit in
+    let known = (h.each place no_record l).waitable.known in
+    let is : at ≡ drive_place ds n = e ∙ (ap (λ xs. (get_or xs place no_aim).drive) aimed
+    ∙ (ap (λ (a : Aim). a.drive) (get_or-map of rs place no_record no_aim l) ∙ sym (place_same ds n))) in
+    record {
+      inside = subst (λ k. k < length ds) (sym is) (known_at ds n (drive_at ds rs place) known).inside;
+      is = λ other. ap (λ k. get_or ds k other) is ∙ (known_at ds n other known).drive;
+      placed = is;
+    }
+
+-- ---- a command comes
+
+begun_more : (rs : List Record) (x : Record) (begun : Option ℕ) → ((place : ℕ) → begun ≡ Some place → place < length rs)
+    → begun_name rs begun ≡ begun_name (rs ++ x ∷ []) begun
+begun_more rs x None h = refl
+begun_more rs x (Some place) h = ap (λ (r : Record). Some (name_of r))
+    (sym (get_or_append_left rs (x ∷ []) no_record place (h place refl)))
+
+pub ready_pushed : {room longest : ℕ} {w new : Waiters} {ds : List Drive} {begun serving : Option ℕ}
+    (by : Connection) (c : Command) (aim : Aim)
+    → IsReady room longest w ds begun serving → length w.waiting < room → IsWaitable longest (units_of ds) c
+    → list_any (has_name (name_on by c.reference)) w.waiting ≡ false → aim ≡ aim_of (units_of ds) c
+    → new ≡ record { budget = w.budget; waiting = w.waiting ++ fresh_record by c ∷ []; aims = w.aims ++ aim ∷ [] }
+    → IsReady room longest new ds begun serving
+ready_pushed {room} {longest} {w} {new} {ds} {begun} {serving} by c aim q l waitable apart aims e =
+    let r = fresh_record by c in
+    let rs = w.waiting ++ r ∷ [] in
+    let held = held_pushed room w.budget longest w.waiting rs ds (begun_name w.waiting begun)
+    (is_some serving) by c q.held l waitable apart refl in
+    let all : IsReady room longest (record { budget = w.budget; waiting = rs; aims = w.aims ++ aim ∷ [] }) ds begun
+    serving = record {
+      held = subst (λ (o : Option Name). IsHeld room w.budget longest rs ds o (is_some serving))
+          (begun_more w.waiting r begun q.waits) held;
+      aimed = aims_pushed (units_of ds) w.waiting rs w.aims (w.aims ++ aim ∷ []) by c aim q.aimed aims refl refl;
+      order = pairs_append _ w.waiting r q.order (every_from (λ z. r.passed ≤ z.passed) (λ z. omega arith) w.waiting);
+      served = λ place s. let was = q.served place s in (
+        omega (arith, was.0, length-append w.waiting (r ∷ [])),
+        ap (λ (z : Record). is_in_service z) (get_or_append_left w.waiting (r ∷ []) no_record place was.0)
+            ∙ was.1,
+      );
+      waits = λ place s. let was = q.waits place s in omega (arith, was, length-append w.waiting (r ∷ []));
+    } in
+    subst (λ (v : Waiters). IsReady room longest v ds begun serving) (sym e) all
+
+-- ---- a command leaves
+
+-- the others are idle where the one at a place is in service
+pub others_at : {room budget longest : ℕ} {rs : List Record} {ds : List Drive} {begun : Option Name} {serving : Bool}
+    (place : ℕ)
+    → IsHeld room budget longest rs ds begun serving → place < length rs → is_in_service (record_at rs place) ≡ true
+    → All (λ r. r.done ≡ 0) (take place rs) × All (λ r. r.done ≡ 0) (drop (place + 1) rs)
+others_at {room} {budget} {longest} {rs} place h l s =
+    let A = take place rs in
+    let B = drop (place + 1) rs in
+    let one = h.one in
+    let idle = others_idle A (record_at rs place) B
+    (subst (λ zs. length (filter is_in_service zs) ≤ 1) (cut_at no_record rs place l) one)
+    (ltb-true 0 (record_at rs place).done s) in
+    (All-from_recursion (λ (r : Record). r.done ≡ 0) A idle.0, All-from_recursion (λ (r : Record). r.done ≡ 0) B idle.1)
+
+order_left : (rs : List Record) (place : ℕ) → place < length rs → ArePassedInOrder rs
+    → ArePassedInOrder (take place rs ++ drop (place + 1) rs)
+order_left rs place l h = pairs_cut _ (take place rs) (record_at rs place) (drop (place + 1) rs)
+    (subst ArePassedInOrder (cut_at no_record rs place l) h)
+
+pub ready_left : {room longest : ℕ} {w new : Waiters} {ds : List Drive} {begun serving begun' serving' : Option ℕ}
+    (gone : ℕ)
+    → IsReady room longest w ds begun serving → gone < length w.waiting
+    → new.budget ≡ w.budget → new.waiting ≡ take gone w.waiting ++ drop (gone + 1) w.waiting
+    → new.aims ≡ take gone w.aims ++ drop (gone + 1) w.aims
+    → begun' ≡ place_without begun gone → serving' ≡ place_without serving gone
+    → IsReady room longest new ds begun' serving'
+ready_left {room} {longest} {w} {new} {ds} {begun} {serving} {begun'} {serving'} gone q l b e a f g =
+    let rs = w.waiting in
+    let held = held_left gone begun serving q.held l e q.served q.waits in
+    let all : IsReady room longest new ds (place_without begun gone) (place_without serving gone) = record {
+      held = subst (λ k. IsHeld room k longest new.waiting ds (begun_name new.waiting (place_without begun gone))
+          (is_some (place_without serving gone))) (sym b) held;
+      aimed = a ∙ ((λ i. take gone (q.aimed i) ++ drop (gone + 1) (q.aimed i))
+          ∙ (aims_cut (units_of ds) rs gone ∙ ap (aims_of (units_of ds)) (sym e)));
+      order = subst ArePassedInOrder (sym e) (order_left rs gone l q.order);
+      served = served_without rs new.waiting serving gone l e q.served;
+      waits = waits_without rs new.waiting begun gone l e q.waits;
+    } in
+    subst (λ (o : Option ℕ). IsReady room longest new ds o serving') (sym f)
+    (subst (λ (o : Option ℕ). IsReady room longest new ds (place_without begun gone) o) (sym g) all)
+
+-- ---- a step
+
+-- the others of the command that is served next are idle, and it keeps within their budgets
+pub record CanServe (budget place : ℕ) (rs : List Record) : Type 0 where
+  pub front : All (λ r. r.done ≡ 0) (take place rs)
+  pub back : All (λ r. r.done ≡ 0) (drop (place + 1) rs)
+  pub unfinished : (record_at rs place).done < (record_at rs place).weight
+  pub short : (record_at rs place).weight < 4294967296
+  pub affordable : is_unstarted (record_at rs place) ≡ true
+      → All (λ r. r.passed + (record_at rs place).weight ≤ budget) (take place rs)
+
+pub can_serve : {room budget longest place : ℕ} {rs : List Record} {ds : List Drive} {begun : Option Name}
+    {serving : Bool} (k : Block)
+    → IsHeld room budget longest rs ds begun serving → IsServable budget rs place → CanServe budget place rs
+can_serve {room} {budget} {longest} {place} {rs} {ds} {begun} {serving} k h n =
+    let r = record_at rs place in
+    let turn = next_turn room budget longest place rs ds begun serving k (drive_at ds rs place) h n in
+    let kept = h.each place no_record n.inside in
+    let P : Record → Type 0 = λ r. r.done ≡ 0 in
+    let short = kept.waitable.short in
+    let long = h.short in
+    record {
+      front = All-from_recursion P (take place rs) turn.before;
+      back = All-from_recursion P (drop (place + 1) rs) turn.behind;
+      unfinished = kept.unfinished;
+      short = omega (arith, kept.weight, short, long);
+      affordable = λ e. All-from_recursion (λ (z : Record). z.passed + r.weight ≤ budget) (take place rs)
+          (subst (λ t. AllByRecursion (λ (z : Record). z.passed + t ≤ budget) (take place rs))
+          (ap (λ b. cond b r.weight 0) e) turn.affordable);
+    }
+
+is_serving : (ends : Bool) (place : ℕ) → is_some (place_served ends place) ≡ not ends
+is_serving true place = refl
+is_serving false place = refl
+
+aims_served : (us : List Shape) (rs new : List Record) (place toll : ℕ) (ends : Bool) → place < length rs
+    → new ≡ map (passed_by toll) (take place rs)
+    ++ (cond ends [] (advanced (record_at rs place) ∷ []) ++ drop (place + 1) rs)
+    → cond ends (take place (aims_of us rs) ++ drop (place + 1) (aims_of us rs)) (aims_of us rs) ≡ aims_of us new
+aims_served us rs new place toll true l e =
+    let next : place + 1 ≡ suc place = omega arith in
+    ap (λ k. take place (aims_of us rs) ++ drop k (aims_of us rs)) next ∙ aims_ended us rs new place toll e
+aims_served us rs new place toll false l e = aims_kept us rs new place toll l e
+
+serving_served : (rs new : List Record) (place toll : ℕ) (ends : Bool) → place < length rs
+    → new ≡ map (passed_by toll) (take place rs)
+    ++ (cond ends [] (advanced (record_at rs place) ∷ []) ++ drop (place + 1) rs)
+    → (k : ℕ) → place_served ends place ≡ Some k → (k < length new) × (is_in_service (record_at new k) ≡ true)
+serving_served rs new place toll true l e k s = absurd (false≢true (ap is_some s))
+serving_served rs new place toll false l e k s =
+    let A = map (passed_by toll) (take place rs) in
+    let r = advanced (record_at rs place) in
+    let B = drop (place + 1) rs in
+    let is : place ≡ k = ap (λ o. unwrap_or o k) s in
+    let long : length A ≡ k = length-map (take place rs) (passed_by toll)
+    ∙ length-take-le place rs (omega (arith, l)) ∙ is in (
+      omega (arith, ap length e, length-append A (r ∷ B), long),
+      ap (λ zs. is_in_service (record_at zs k)) e
+          ∙ ap (λ (z : Record). is_in_service z) (get_or_at A r B no_record k long)
+          ∙ lt-ltb 0 ((record_at rs place).done + 1) (omega arith),
+    )
+
+pub ready_step : {room longest place : ℕ} {w new : Waiters} {ds ds' : List Drive} {begun serving serving' : Option ℕ}
+    {k : Block}
+    → IsReady room longest w ds begun serving → IsServable w.budget w.waiting place
+    → (t : StepTaken k place w.waiting new.waiting ds ds' (is_some serving')) → new.budget ≡ w.budget
+    → new.aims ≡ cond t.ends (take place w.aims ++ drop (place + 1) w.aims) w.aims
+    → serving' ≡ place_served t.ends place → units_of ds' ≡ units_of ds → IsReady room longest new ds' None serving'
+ready_step {room} {longest} {place} {w} {new} {ds} {ds'} {begun} {serving} {serving'} {k} q n t b a s u =
+    let rs = w.waiting in
+    record {
+      held = subst (λ k. IsHeld room k longest new.waiting ds' None (is_some serving')) (sym b)
+          (held_step {k = k} q.held n t);
+      aimed = a ∙ ((λ i. cond t.ends (take place (q.aimed i) ++ drop (place + 1) (q.aimed i)) (q.aimed i))
+          ∙ (aims_served (units_of ds) rs new.waiting place t.toll t.ends n.inside t.records
+          ∙ ap (λ us. aims_of us new.waiting) (sym u)));
+      order = passed_left rs new.waiting place t.toll t.ends n.inside t.records q.order;
+      served = subst (λ (o : Option ℕ). (k : ℕ) → o ≡ Some k → (k < length new.waiting)
+          × (is_in_service (record_at new.waiting k) ≡ true))
+          (sym s) (serving_served rs new.waiting place t.toll t.ends n.inside t.records);
+      waits = λ k e. absurd (false≢true (ap is_some e));
+    }
+
+pub serves_if : (serving : Option ℕ) (ends : Bool) (place : ℕ) → serving ≡ place_served ends place
+    → is_some serving ≡ not ends
+serves_if serving ends place e = ap is_some e ∙ is_serving ends place
+
+remains_if : (r : Record) (o : Option End) → cond (is_some o) [] (advanced r ∷ []) ≡ remains r o
+remains_if r None = refl
+remains_if r (Some end) = refl
+
+-- what a step leaves of those that wait
+pub left_is : (k : Block) (place : ℕ) (rs : List Record) (d : Drive) (ends : Bool)
+    → ends ≡ is_some (end_given k d (record_at rs place))
+    → map (passed_by (step_toll (record_at rs place))) (take place rs)
+    ++ (cond ends [] (advanced (record_at rs place) ∷ []) ++ drop (place + 1) rs)
+    ≡ waiting_after k d rs place
+left_is k place rs d ends e =
+    let r = record_at rs place in
+    ap (λ zs. map (passed_by (step_toll r)) (take place rs) ++ (zs ++ drop (place + 1) rs))
+    (ap (λ b. cond b [] (advanced r ∷ [])) e ∙ remains_if r (end_given k d r))

@@ -1,0 +1,21 @@
+use Rattle.std.proofs.Common.{◌++◌, ◌∷◌, [], ◌+◌, cond, map, take, drop, ap, sym, ◌∙◌}
+use Rattle.mscp_queue.specs.Records.{advanced, passed_by, record_at, step_toll}
+use Rattle.mscp_queue.proofs.BacklogSteps.{back_idle, ended_at, front_idle}
+use Rattle.mscp_queue.proofs.backlog.Backlog.serve.Goals as goal
+
+pub leave-requires-clause-front : goal.leave-requires-clause-front
+leave-requires-clause-front c = front_idle _ c.args.place c.args.self.now.waiting _ _ c.requires.place
+    c.advance.ensures.waiting c.requires.front
+
+pub leave-requires-clause-back : goal.leave-requires-clause-back
+leave-requires-clause-back c = back_idle _ c.args.place c.args.self.now.waiting _ _ c.requires.place
+    c.advance.ensures.waiting c.requires.back
+
+pub returns-then-ends-clause-waiting : goal.returns-then-ends-clause-waiting
+returns-then-ends-clause-waiting c =
+    let rs = c.args.self.now.waiting in
+    let place = c.args.place in
+    let r = record_at rs place in
+    ended_at _ place rs _ _ _ c.requires.place c.advance.ensures.waiting c.leave.ensures.waiting
+    ∙ ap (λ b. map (passed_by (step_toll r)) (take place rs)
+    ++ (cond b [] (advanced r ∷ []) ++ drop (place + 1) rs)) (sym c.if-ends.true)

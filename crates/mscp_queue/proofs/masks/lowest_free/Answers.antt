@@ -1,0 +1,13 @@
+use Rattle.std.proofs.Common.{w64, sym, subst}
+use Rattle.std.specs.Int.{trailing_ones}
+use Rattle.std.proofs.lemmas.Nat.Bits.{bit_at-trailing_ones}
+use Rattle.mscp_queue.specs.Masks.{IsLowestFree}
+use Rattle.mscp_queue.proofs.Masked.{not_last}
+use Rattle.mscp_queue.proofs.masks.lowest_free.Goals as goal
+
+pub returns : goal.returns
+returns c =
+    let m = c.args.mask in
+    let t = bit_at-trailing_ones w64 m (not_last m c.ranges.mask.fits c.requires) in
+    let here : IsLowestFree m (trailing_ones w64 m) = record { low = t.0; free = t.1; taken = t.2 } in
+    subst (λ p. IsLowestFree m p) (sym c.trailing_ones.ensures) here

@@ -1,0 +1,9 @@
+use Rattle.mscp_queue.proofs.Fallen.{enough_all, lowered_all}
+use Rattle.mscp_queue.proofs.slots.Slots.lower_all.Goals as goal
+
+pub lower-requires : goal.lower-requires
+lower-requires c = enough_all c.self.inside.dues c.args.self.now c.args.by c.self.invariant c.self.view_is c.requires
+
+pub returns : goal.returns
+returns c = lowered_all c.self.inside.dues c.lower.new.dues c.args.self.now c.args.by c.self.invariant c.self.view_is
+    c.lower.ensures

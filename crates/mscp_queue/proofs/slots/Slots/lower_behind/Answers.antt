@@ -1,0 +1,26 @@
+use Rattle.mscp_queue.proofs.Fallen.{enough_behind, lowered_behind}
+use Rattle.mscp_queue.proofs.Shown.{number_of}
+use Rattle.mscp_queue.proofs.slots.Slots.lower_behind.Goals as goal
+
+pub behind-requires : goal.behind-requires
+behind-requires c =
+    (number_of c.self.inside.dues c.args.self.now c.self.invariant c.self.view_is c.requires.place c.from-slot.ensures
+    c.deref.ensures.0).low
+
+pub lower-requires : goal.lower-requires
+lower-requires c =
+    let n = number_of c.self.inside.dues c.args.self.now c.self.invariant c.self.view_is c.requires.place
+    c.from-slot.ensures
+    c.deref.ensures.0 in
+    enough_behind c.self.inside.dues c.self.inside.dues c.args.self.now c.args.by c.behind.result c.self.invariant
+    c.self.view_is
+    c.requires.place n c.behind.ensures c.requires.enough
+
+pub returns : goal.returns
+returns c =
+    let n = number_of c.self.inside.dues c.args.self.now c.self.invariant c.self.view_is c.requires.place
+    c.from-slot.ensures
+    c.deref.ensures.0 in
+    lowered_behind c.self.inside.dues c.lower.new.dues c.args.self.now c.args.by c.behind.result c.self.invariant
+    c.self.view_is
+    c.requires.place n c.behind.ensures c.lower.ensures

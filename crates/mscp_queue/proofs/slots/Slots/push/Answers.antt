@@ -1,0 +1,23 @@
+use Rattle.std.proofs.Common.{not, ap, ◌∙◌, arith}
+use Rattle.mscp_queue.proofs.Masked.{some_free}
+use Rattle.mscp_queue.proofs.Shown.{kept_pushed, long_shown, serves_if, shown_pushed}
+use Rattle.mscp_queue.proofs.slots.Slots.push.Goals as goal
+
+pub lowest_free-slot-requires : goal.lowest_free-slot-requires
+lowest_free-slot-requires c =
+    let s = c.self.inside in
+    some_free s.masks.waiting s.order.items c.self.invariant.masks.of_waiting
+    (omega (arith, c.requires.room, long_shown s.records s.aims s.dues s.order.items c.args.self.now c.self.view_is))
+
+pub invariant_of-self : goal.invariant_of-self
+invariant_of-self c =
+    kept_pushed c.args.new.item c.args.new.aim c.self.invariant c.lowest_free-slot.ensures c.requires.drive
+    c.from.ensures
+    c.is_sequential.ensures (ap not c.is_unstarted.ensures
+    ∙ serves_if c.args.new.item.done) c.come.ensures c.push.ensures.items
+
+pub returns : goal.returns
+returns c =
+    shown_pushed c.self.inside.dues c.args.self.now c.args.new c.self.invariant c.self.told
+    c.lowest_free-slot.ensures c.self.view_is
+    c.push.ensures.items

@@ -1,0 +1,346 @@
+// The waiting commands, and how long each may still wait.
+
+ghost use Rattle.std.specs.Prelude.{◌≡◌, ◌+◌, ◌-◌, ◌<◌, ◌≤◌, ◌^◌, ◌++◌, ◌∷◌, [], true, false, List, ℕ, cond, length, map, not, take, drop, slice_index_or, sum_by, All};
+ghost use Rattle.mscp_queue.specs.Dues.{clock_end, started};
+ghost use Rattle.std.specs.List.{list_all, list_any, position};
+ghost use Rattle.mscp_queue.specs.Figures.{figure_at, figures};
+ghost use Rattle.mscp_queue.specs.Orders.{is_sequential};
+ghost use Rattle.mscp_queue.specs.Records.{advanced, has_name, has_number, is_in_service, is_unstarted, left_of, passed_by, record_at, step_toll};
+ghost use Rattle.mscp_queue.specs.Aims.{no_aim};
+ghost use Rattle.mscp_queue.specs.Slots.{is_unfenced_at, kinds_of, lowered_by, slot_at};
+
+use crate::aim::Aim;
+use crate::name::{Connection, Name};
+use crate::record::Record;
+use crate::slots::{Slot, Slots};
+use arrayvec::ArrayVec;
+use std::marker::Model;
+
+/// Where the clock is set back to 0, so that no due outgrows its number.
+const CLOCK_END: u64 = 1 << 40;
+
+/// The waiting commands in their slots. The figure of each is its due less the clock: so a step, which lets each figure
+/// fall by one, changes one number.
+#[derive(Drop)]
+pub(crate) struct Backlog {
+    slots: Slots,
+    budget: u32,
+    // How many steps were served since it was set back.
+    clock: u64,
+    // How many steps are left of all.
+    total: u64,
+}
+
+// A clause sees the budget, the waiting commands in order of arrival, and where each aims.
+impl Model for Backlog {
+    ghost use Rattle.mscp_queue.specs.Dues.{AreTimed};
+    ghost use Rattle.mscp_queue.specs.Waiters.{Waiters};
+    ghost use Rattle.mscp_queue.specs.Slots.{aims, items};
+
+    ghost Value = { Waiters };
+
+    ghost view = { λ b.
+        record {
+          budget = b.budget;
+          waiting = items b.slots;
+          aims = aims b.slots;
+        } };
+
+    ghost invariant = { λ b. AreTimed b.budget b.clock b.total b.slots };
+}
+
+/// The command at the place starts at this clock, if it wasn't started before.
+fn start(slots: &mut Slots, place: usize, clock: u64)
+    requires place { place < length slots.old }
+    requires small { is_unstarted (slot_at slots.old place).item ≡ true
+        → All (λ s. s.item.passed + (slot_at slots.old place).item.weight < 2 ^ 32) (take place slots.old) }
+    requires early { clock < clock_end }
+    ensures { slots.new ≡ started clock place slots.old }
+{
+    let record = *slots.item(place);
+    if record.is_unstarted() {
+        slots.pass_front(place, record.weight());
+        slots.set_due(place, clock + u64::from(record.weight()));
+    }
+}
+
+/// Sets the clock back, if it is at its end: each due falls with it.
+fn set_back(slots: &mut Slots, clock: u64) -> u64
+    requires end { clock ≤ clock_end }
+    requires due { All (λ s. clock ≤ s.due) slots.old }
+    ensures early { result < clock_end }
+    ensures below { result ≤ clock }
+    ensures dues { slots.new ≡ map (lowered_by (clock - result)) slots.old }
+{
+    if clock < CLOCK_END {
+        return clock;
+    }
+    slots.lower_all(CLOCK_END);
+    0
+}
+
+impl Backlog {
+    /// No command waits. Each that comes may be passed by `budget` blocks.
+    pub fn new(budget: u32) -> Backlog
+        ensures { result ≡ record { budget = budget; waiting = []; aims = [] } }
+    {
+        Backlog {
+            slots: Slots::new(),
+            budget,
+            clock: 0,
+            total: 0,
+        }
+    }
+
+    /// The same, but for the clock: so a test comes to its end.
+    #[cfg(test)]
+    pub fn at_clock(budget: u32, clock: u64) -> Backlog
+        requires early { clock < clock_end }
+        ensures { result ≡ record { budget = budget; waiting = []; aims = [] } }
+    {
+        Backlog {
+            slots: Slots::new(),
+            budget,
+            clock,
+            total: 0,
+        }
+    }
+
+    /// No command waits any more.
+    pub fn clear(&mut self)
+        ensures { self.new ≡ record { budget = self.old.budget; waiting = []; aims = [] } }
+    {
+        self.slots.clear();
+        self.total = 0;
+    }
+
+    /// How many commands wait.
+    pub fn len(&self) -> usize
+        ensures waiting { result ≡ length self.now.waiting }
+        ensures aims { result ≡ length self.now.aims }
+    {
+        self.slots.len()
+    }
+
+    /// The record at the place.
+    pub fn record(&self, place: usize) -> &Record
+        requires { place < length self.now.waiting }
+        ensures { result.now ≡ record_at self.now.waiting place }
+    {
+        self.slots.item(place)
+    }
+
+    /// Where the command at the place aims.
+    pub fn aim(&self, place: usize) -> Aim
+        requires { place < length self.now.waiting }
+        ensures { result ≡ slice_index_or self.now.aims place no_aim }
+    {
+        self.slots.aim(place)
+    }
+
+    /// The figure of the command at the place.
+    pub fn figure(&self, place: usize) -> u32
+        requires place { place < length self.now.waiting }
+        requires small { sum_by left_of self.now.waiting + self.now.budget < 2 ^ 32 }
+        ensures { result ≡ figure_at self.now.budget self.now.waiting place }
+    {
+        (self.slots.due(place) - self.clock) as u32
+    }
+
+    /// What the oldest command has left of the budget: by so many blocks may it still be passed. Who came earlier was passed
+    /// at least as often, so that this tells it for all.
+    pub fn unspent(&self) -> u32
+        requires some { 0 < length self.now.waiting }
+        ensures { result ≡ self.now.budget - (record_at self.now.waiting 0).passed }
+    {
+        self.budget.saturating_sub(self.slots.item(0).passed())
+    }
+
+    /// Whether no command that came earlier keeps the one at the place back.
+    pub fn is_free(&self, place: usize) -> bool
+        requires { place < length self.now.waiting }
+        ensures { result ≡ is_unfenced_at (kinds_of self.now.waiting self.now.aims) place }
+    {
+        self.slots.is_free(place)
+    }
+
+    /// Whether no command is sequential.
+    pub fn none_is_sequential(&self) -> bool
+        ensures { result ≡ list_all (λ r. not (is_sequential r.command.order)) self.now.waiting }
+    {
+        self.slots.none_is_sequential()
+    }
+
+    /// Whether each command behind the place is of the unit of the one there.
+    pub fn are_of_its_unit(&self, place: usize) -> bool
+        requires { place < length self.now.waiting }
+        ensures { result ≡ true
+            → All (λ a. a.drive ≡ (slice_index_or self.now.aims place no_aim).drive) (drop (place + 1) self.now.aims) }
+    {
+        self.slots.are_of_its_unit(place)
+    }
+
+    /// The place of the command of this name, if it waits.
+    pub fn place_of(&self, name: Name) -> Option<usize>
+        ensures { result ≡ position (has_name name) self.now.waiting }
+    {
+        for place in 0..self.len() {
+            if self.record(place).has_name(name) {
+                return Some(place);
+            }
+        }
+        None
+    }
+
+    /// Whether a command has this reference number, by whichever connection it came. Nearly always none has, so each is
+    /// looked at without a branch.
+    fn has_number(&self, reference: u32) -> bool
+        ensures { result ≡ list_any (has_number reference) self.now.waiting }
+    {
+        let mut found = false;
+        for place in 0..self.len() {
+            found |= self.record(place).command().reference == reference;
+        }
+        found
+    }
+
+    /// Whether a command has this name.
+    #[tactic(auto, using(crate::proofs::Named::unnumbered))]
+    pub fn has_any(&self, name: Name) -> bool
+        ensures { result ≡ list_any (has_name name) self.now.waiting }
+    {
+        self.has_number(name.reference) && self.place_of(name).is_some()
+    }
+
+    /// Connection, reference number and figure of each command, in order of arrival. It isn't made part of its caller, since
+    /// the caller's caller would then have room for a list more than once on its stack.
+    #[inline(never)]
+    pub fn look(&self) -> ArrayVec<(Connection, u32, u32), 64>
+        requires few { length self.now.waiting ≤ 64 }
+        requires small { sum_by left_of self.now.waiting + self.now.budget < 2 ^ 32 }
+        ensures { result.items ≡ figures self.now.budget self.now.waiting }
+    {
+        let mut list = ArrayVec::new();
+        for place in 0..self.len() {
+            let record = self.record(place);
+            list.push((
+                record.connection(),
+                record.command().reference,
+                self.figure(place),
+            ));
+        }
+        list
+    }
+
+    /// Lets a command wait, behind all that wait.
+    pub fn push(&mut self, new: Record, aim: Aim)
+        requires room { length self.old.waiting < 64 }
+        requires drive { aim.drive < 16 }
+        requires fresh { new.done ≡ 0 }
+        requires unpassed { new.passed ≡ 0 }
+        requires small { sum_by left_of self.old.waiting + self.old.budget < 2 ^ 32 }
+        ensures waiting { self.new.waiting ≡ self.old.waiting ++ new ∷ [] }
+        ensures aims { self.new.aims ≡ self.old.aims ++ aim ∷ [] }
+        ensures budget { self.new.budget ≡ self.old.budget }
+    {
+        let left = u64::from(new.left());
+        let due = self.clock + self.total + u64::from(self.budget) + left;
+        self.slots.push(Slot {
+            item: new,
+            aim,
+            due,
+        });
+        self.total += left;
+    }
+
+    /// The command at the place has a step: a start, with which it passes each in front of it, or another.
+    fn advance(&mut self, place: usize)
+        requires place { place < length self.old.waiting }
+        requires unfinished { (record_at self.old.waiting place).done < (record_at self.old.waiting place).weight }
+        requires short { (record_at self.old.waiting place).weight < 2 ^ 32 }
+        requires front { All (λ r. r.done ≡ 0) (take place self.old.waiting) }
+        requires back { All (λ r. r.done ≡ 0) (drop (place + 1) self.old.waiting) }
+        requires affordable { is_unstarted (record_at self.old.waiting place) ≡ true → All
+            (λ r. r.passed + (record_at self.old.waiting place).weight ≤ self.old.budget) (take place self.old.waiting) }
+        ensures waiting { self.new.waiting
+            ≡ map (passed_by (step_toll (record_at self.old.waiting place))) (take place self.old.waiting)
+            ++ advanced (record_at self.old.waiting place) ∷ drop (place + 1) self.old.waiting }
+        ensures aims { self.new.aims ≡ self.old.aims }
+        ensures budget { self.new.budget ≡ self.old.budget }
+    {
+        start(&mut self.slots, place, self.clock);
+        self.slots.advance(place);
+        self.total -= 1;
+        self.clock = set_back(&mut self.slots, self.clock + 1);
+    }
+
+    /// The command in service at the place leaves: nobody waits any more for what is left of it.
+    fn leave(&mut self, place: usize)
+        requires place { place < length self.old.waiting }
+        requires serving { is_in_service (record_at self.old.waiting place) ≡ true }
+        requires front { All (λ r. r.done ≡ 0) (take place self.old.waiting) }
+        requires back { All (λ r. r.done ≡ 0) (drop (place + 1) self.old.waiting) }
+        ensures waiting { self.new.waiting ≡ take place self.old.waiting ++ drop (place + 1) self.old.waiting }
+        ensures aims { self.new.aims ≡ take place self.old.aims ++ drop (place + 1) self.old.aims }
+        ensures budget { self.new.budget ≡ self.old.budget }
+    {
+        let left = u64::from(self.slots.item(place).left());
+        self.total -= left;
+        self.slots.remove(place);
+        self.slots.lower_all(left);
+    }
+
+    /// The command at the place leaves, which was never served: those behind it wait no more for it, but one in service.
+    fn leave_unstarted(&mut self, place: usize)
+        requires place { place < length self.old.waiting }
+        requires unstarted { is_in_service (record_at self.old.waiting place) ≡ false }
+        ensures waiting { self.new.waiting ≡ take place self.old.waiting ++ drop (place + 1) self.old.waiting }
+        ensures aims { self.new.aims ≡ take place self.old.aims ++ drop (place + 1) self.old.aims }
+        ensures budget { self.new.budget ≡ self.old.budget }
+    {
+        let left = u64::from(self.slots.item(place).left());
+        self.total -= left;
+        self.slots.lower_behind(place, left);
+        self.slots.remove(place);
+    }
+
+    /// A step of the command at the place: it ends with it, or not.
+    pub fn serve(&mut self, place: usize, ends: bool)
+        requires place { place < length self.old.waiting }
+        requires unfinished { (record_at self.old.waiting place).done < (record_at self.old.waiting place).weight }
+        requires short { (record_at self.old.waiting place).weight < 2 ^ 32 }
+        requires front { All (λ r. r.done ≡ 0) (take place self.old.waiting) }
+        requires back { All (λ r. r.done ≡ 0) (drop (place + 1) self.old.waiting) }
+        requires affordable { is_unstarted (record_at self.old.waiting place) ≡ true → All
+            (λ r. r.passed + (record_at self.old.waiting place).weight ≤ self.old.budget) (take place self.old.waiting) }
+        ensures waiting { self.new.waiting
+            ≡ map (passed_by (step_toll (record_at self.old.waiting place))) (take place self.old.waiting)
+            ++ (cond ends [] (advanced (record_at self.old.waiting place) ∷ []) ++ drop (place + 1) self.old.waiting) }
+        ensures aims { self.new.aims
+            ≡ cond ends (take place self.old.aims ++ drop (place + 1) self.old.aims) self.old.aims }
+        ensures budget { self.new.budget ≡ self.old.budget }
+    {
+        self.advance(place);
+        if ends {
+            self.leave(place);
+        }
+    }
+
+    /// Takes the command at the place out, in service or not.
+    pub fn take_out(&mut self, place: usize)
+        requires place { place < length self.old.waiting }
+        requires front { is_in_service (record_at self.old.waiting place) ≡ true
+            → All (λ r. r.done ≡ 0) (take place self.old.waiting) }
+        requires back { is_in_service (record_at self.old.waiting place) ≡ true
+            → All (λ r. r.done ≡ 0) (drop (place + 1) self.old.waiting) }
+        ensures waiting { self.new.waiting ≡ take place self.old.waiting ++ drop (place + 1) self.old.waiting }
+        ensures aims { self.new.aims ≡ take place self.old.aims ++ drop (place + 1) self.old.aims }
+        ensures budget { self.new.budget ≡ self.old.budget }
+    {
+        if self.record(place).is_unstarted() {
+            self.leave_unstarted(place);
+        } else {
+            self.leave(place);
+        }
+    }
+}

@@ -1,0 +1,155 @@
+// Masks of slots. Bit k of a mask stands for slot k.
+
+ghost use Rattle.std.specs.Prelude.{◌≡◌, ◌≢◌, ℕ, ◌<◌, ◌^◌, ◌-◌, min, true, false, length, nat_eq, slice_index_or};
+ghost use Rattle.std.specs.Int.{bit_at};
+ghost use Rattle.mscp_queue.specs.Masks.{HasCome, HasLeft, IsBehind, IsLowestFree, IsSet, fences};
+
+/// Which slots are taken, and what is known of their commands: one bit a slot.
+#[derive(Clone, Copy, Debug, PartialEq, Eq)]
+pub(crate) struct Masks {
+    /// Those that are taken.
+    pub waiting: u64,
+    /// Those of sequential commands.
+    pub sequential: u64,
+    /// That of the command in service.
+    pub serving: u64,
+    /// Those of each drive's unit, by the place of the drive.
+    pub units: [u64; 16],
+    /// For each slot those whose commands came earlier.
+    pub earlier: [u64; 64],
+}
+
+/// The mask with the bit of a slot set or cleared.
+fn with_bit(mask: u64, slot: usize, on: bool) -> u64
+    requires { slot < 64 }
+    ensures { IsSet on slot mask result }
+{
+    if on {
+        mask | (1 << slot)
+    } else {
+        mask & !(1 << slot)
+    }
+}
+
+/// The mask without the bits of another.
+fn without(mask: u64, other: u64) -> u64
+    ensures { (k : ℕ) → k < 64 → bit_at result k ≡ min (bit_at mask k) (1 - bit_at other k) }
+{
+    mask & !other
+}
+
+/// Clears the bit of a slot in each of the masks.
+fn clear_in_all(masks: &mut [u64], slot: usize)
+    requires { slot < 64 }
+    ensures cleared { (i : ℕ) → i < length masks.old
+        → IsSet false slot (slice_index_or masks.old i 0) (slice_index_or masks.new i 0) }
+    ensures long { length masks.new ≡ length masks.old }
+{
+    for i in 0..masks.len() {
+        masks[i] = with_bit(masks[i], slot, false);
+    }
+}
+
+/// The lowest slot whose bit isn't set.
+pub(crate) fn lowest_free(mask: u64) -> usize
+    requires { mask ≢ 2 ^ 64 - 1 }
+    ensures { IsLowestFree mask result }
+{
+    mask.trailing_ones() as usize
+}
+
+impl Masks {
+    /// No slot is taken.
+    pub fn new() -> Masks
+        ensures waiting { result.waiting ≡ 0 }
+        ensures sequential { result.sequential ≡ 0 }
+        ensures serving { result.serving ≡ 0 }
+        ensures units { (u : ℕ) → slice_index_or result.units u 0 ≡ 0 }
+    {
+        Masks {
+            waiting: 0,
+            sequential: 0,
+            serving: 0,
+            units: [0; 16],
+            earlier: [0; 64],
+        }
+    }
+
+    /// A command comes to a slot, whose unit's drive stands at this place, and which is sequential or not.
+    pub fn come(&mut self, slot: usize, drive: usize, sequential: bool, serving: bool)
+        requires slot { slot < 64 }
+        requires drive { drive < 16 }
+        ensures { HasCome slot drive sequential serving self.old self.new }
+    {
+        self.earlier[slot] = self.waiting;
+        self.units[drive] = with_bit(self.units[drive], slot, true);
+        self.sequential = with_bit(self.sequential, slot, sequential);
+        self.serving = with_bit(self.serving, slot, serving);
+        self.waiting = with_bit(self.waiting, slot, true);
+    }
+
+    /// The command of a slot is in service.
+    pub fn serve(&mut self, slot: usize)
+        requires { slot < 64 }
+        ensures others { self.new ≡ record self.old { serving = self.new.serving } }
+        ensures set { IsSet true slot self.old.serving self.new.serving }
+    {
+        self.serving = with_bit(self.serving, slot, true);
+    }
+
+    /// Whether no command is sequential.
+    pub fn none_is_sequential(&self) -> bool
+        ensures value { result ≡ nat_eq self.now.sequential 0 }
+        ensures small { self.now.sequential < 2 ^ 64 }
+    {
+        self.sequential == 0
+    }
+
+    /// Whether no command that came earlier keeps that of the slot back, whose unit's drive stands at this place, and which
+    /// is sequential or not: of its unit none is in front of a sequential one, and no sequential one in front of a transfer.
+    pub fn is_free(&self, slot: usize, drive: usize, sequential: bool) -> bool
+        requires slot { slot < 64 }
+        requires drive { drive < 16 }
+        ensures value { result ≡ nat_eq (fences self.now slot drive sequential) 0 }
+        ensures small { slice_index_or self.now.earlier slot 0 < 2 ^ 64 }
+    {
+        let fences = self.earlier[slot] & self.units[drive];
+        if sequential {
+            fences == 0
+        } else {
+            fences & self.sequential == 0
+        }
+    }
+
+    /// Whether each command that came later than that of the slot is to the unit of this drive.
+    pub fn is_last_unit(&self, slot: usize, drive: usize) -> bool
+        requires slot { slot < 64 }
+        requires drive { drive < 16 }
+        ensures { result ≡ true → (k : ℕ) → k < 64 → bit_at self.now.waiting k ≡ 1
+            → bit_at (slice_index_or self.now.earlier slot 0) k ≡ 0 → k ≢ slot → bit_at (slice_index_or self.now.units drive 0) k ≡ 1 }
+    {
+        let later = without(self.waiting, self.earlier[slot]);
+        with_bit(without(later, self.units[drive]), slot, false) == 0
+    }
+
+    /// The slots whose commands came later than that of the slot, but for one in service.
+    pub fn behind(&self, slot: usize) -> u64
+        requires { slot < 64 }
+        ensures { IsBehind slot self.now result }
+    {
+        let later = without(self.waiting, self.earlier[slot]);
+        with_bit(without(later, self.serving), slot, false)
+    }
+
+    /// The command of a slot leaves it.
+    pub fn leave(&mut self, slot: usize)
+        requires { slot < 64 }
+        ensures { HasLeft slot self.old self.new }
+    {
+        self.waiting = with_bit(self.waiting, slot, false);
+        self.sequential = with_bit(self.sequential, slot, false);
+        self.serving = with_bit(self.serving, slot, false);
+        clear_in_all(&mut self.units, slot);
+        clear_in_all(&mut self.earlier, slot);
+    }
+}

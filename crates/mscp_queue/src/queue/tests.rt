@@ -1,0 +1,106 @@
+// Figures as a queue tells them, where a start passes others, a command is aborted, and the clock is set back in between.
+
+ghost use Rattle.std.specs.Prelude.{◌≡◌, ◌<◌, ◌≤◌, [], ◌∷◌};
+ghost use Rattle.mscp_drive.specs.Shape.{shape};
+ghost use Rattle.mscp_queue.specs.Dues.{clock_end};
+ghost use Rattle.mscp_queue.specs.Kept.{IsWaitable, units_of};
+ghost use Rattle.mscp_queue.specs.Orders.{order_weight};
+
+use super::*;
+use crate::picker::Sweep;
+use mscp_drive::Unit;
+use mscp_packet::MoveKind;
+use std::process::Abort;
+
+/// A queue by the sweep, of unit 0, which is online and has 1000 blocks, 20 blocks a cylinder, whose clock stands so.
+fn queue(rt: &impl Abort, budget: u32, clock: u64) -> Queue<Sweep>
+    requires small { budget < 8 }
+    requires early { clock < clock_end }
+    ensures room { result.room ≡ 4 }
+    ensures longest { result.longest ≡ 8 }
+    ensures waiting { result.waiting ≡ [] }
+    ensures units { units_of result.drives ≡ shape 0 10 2 1 1000 1 0 1 ∷ [] }
+{
+    let unit = Unit::new(0, 10, 2, 1, 1000, 1, 0, 1)
+        .ok()
+        .expect(rt, "no size is zero");
+    let units = Units::new(&[unit]).ok().expect(rt, "a list of units");
+    let mut drives = drives_of(units.list());
+    drives[0].online = true;
+    Queue {
+        room: 4,
+        longest: 8,
+        backlog: Backlog::at_clock(budget, clock),
+        drives,
+        begun: None,
+        serving: None,
+        picker: Sweep,
+        view: View::empty(),
+    }
+}
+
+/// A READ of blocks from this one on.
+fn read(reference: u32, blocks: u32, block: u32) -> Waiting
+    requires some { 1 ≤ blocks }
+    requires few { blocks ≤ 8 }
+    requires inside { block < 900 }
+    ensures reference { result.reference ≡ reference }
+    ensures weight { result.weight ≡ order_weight result.order }
+    ensures waitable { IsWaitable 8 (shape 0 10 2 1 1000 1 0 1 ∷ [])
+        (record { reference = result.reference; unit = result.unit; order = result.order }) }
+{
+    Waiting {
+        connection: Connection::First,
+        reference,
+        unit: 0,
+        order: Order::Move(MoveKind::Read, 512 * blocks, block),
+        weight: blocks,
+    }
+}
+
+/// The figures of the commands 1, 2 and 3: 0 if there is no such command.
+fn figures(queue: &Queue<Sweep>) -> [u32; 3] {
+    [
+        queue.figure(Connection::First, 1),
+        queue.figure(Connection::First, 2),
+        queue.figure(Connection::First, 3),
+    ]
+}
+
+/// The clocks that a test begins at: the second is set back two steps later.
+const CLOCKS: [u64; 2] = [0, 1_099_511_627_774];
+
+// Of two READs, of one block and of four, the sweep starts the second, which passes the first by its four blocks. An abort of
+// the one that isn't in service leaves the other's figure as it is; an abort in service takes what is left of it from the
+// first one's.
+#[test]
+fn an_abort_raises_no_figure(rt: HostRuntime) {
+    for clock in CLOCKS {
+        for (aborted, left) in [(1, [0, 3, 0]), (2, [1, 0, 0])] {
+            let mut queue = queue(&rt, 4, clock);
+            queue.push(read(1, 1, 800));
+            queue.push(read(2, 4, 0));
+            assert_eq!(rt; figures(&queue), [5, 9, 0], "from {clock}");
+            queue.serve(Block::Good);
+            assert_eq!(rt; figures(&queue), [4, 3, 0], "from {clock}");
+            queue.abort(Connection::First, aborted);
+            assert_eq!(rt; figures(&queue), left, "from {clock}, without {aborted}");
+        }
+    }
+}
+
+// Each may be passed by one block: the second READ passes the first, and then the oldest alone may start.
+#[test]
+fn figures_fall_at_each_step(rt: HostRuntime) {
+    for clock in CLOCKS {
+        let mut queue = queue(&rt, 1, clock);
+        queue.push(read(1, 1, 800));
+        queue.push(read(2, 1, 40));
+        queue.push(read(3, 1, 60));
+        for expected in [[2, 3, 4], [1, 0, 3], [0, 0, 2]] {
+            assert_eq!(rt; figures(&queue), expected, "from {clock}");
+            queue.serve(Block::Good);
+        }
+        assert_eq!(rt; figures(&queue), [0, 0, 0], "from {clock}");
+    }
+}

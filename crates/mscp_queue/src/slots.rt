@@ -1,0 +1,222 @@
+// The slots of the waiting commands. A command keeps its slot as long as it waits, and masks of slots tell at once who
+// keeps whom back.
+
+ghost use Rattle.std.specs.Prelude.{◌≡◌, ◌≢◌, true, false, ◌+◌, ◌<◌, ◌≤◌, ◌^◌, ◌++◌, ◌∷◌, [], List, ℕ, length, map, not, take, drop, slice_set, All};
+ghost use Rattle.std.specs.List.{list_all, list_any};
+ghost use Rattle.mscp_queue.specs.Orders.{is_sequential};
+ghost use Rattle.mscp_queue.specs.Records.{Record as Told, advanced, is_in_service, passed_by};
+ghost use Rattle.mscp_queue.specs.Slots.{dues, held, is_unfenced, items, lowered_by, lowered_unless_serving, no_slot, shown, slot_at, with_due, with_item};
+
+use crate::aim::Aim;
+use crate::lanes::lower;
+use crate::masks::{Masks, lowest_free};
+use crate::record::Record;
+use arrayvec::ArrayVec;
+use std::marker::Model;
+
+/// What a slot holds: the record of a waiting command, where it aims, and its due.
+#[derive(Clone, Copy, Debug, PartialEq, Eq)]
+pub(crate) struct Slot {
+    pub item: Record,
+    pub aim: Aim,
+    pub due: u64,
+}
+
+/// The slots of the waiting commands.
+#[derive(Drop)]
+pub(crate) struct Slots {
+    records: [Record; 64],
+    aims: [Aim; 64],
+    dues: [u64; 64],
+    // The slots that are taken, in order of arrival.
+    order: ArrayVec<u8, 64>,
+    masks: Masks,
+}
+
+// A clause sees what the slots hold, in order of arrival.
+impl Model for Slots {
+    ghost use Rattle.std.specs.Prelude.{List};
+    ghost use Rattle.mscp_queue.specs.declared.slots.Slot.{Slot as Shown};
+    ghost use Rattle.mscp_queue.specs.Slots.{AreKept, shown};
+
+    ghost Value = { List Shown };
+
+    ghost view = { λ s. shown s.records s.aims s.dues s.order.items };
+
+    ghost invariant = { λ s. AreKept s.records s.aims s.order.items s.masks };
+}
+
+impl Slots {
+    /// No slot is taken.
+    pub fn new() -> Slots
+        ensures { result ≡ [] }
+    {
+        Slots {
+            records: [Record::default(); 64],
+            aims: [Aim::default(); 64],
+            dues: [0; 64],
+            order: ArrayVec::new(),
+            masks: Masks::new(),
+        }
+    }
+
+    /// Each slot is free again.
+    pub fn clear(&mut self)
+        ensures { self.new ≡ [] }
+    {
+        self.order.clear();
+        self.masks = Masks::new();
+    }
+
+    /// How many slots are taken.
+    pub fn len(&self) -> usize
+        ensures { result ≡ length self.now }
+    {
+        self.order.len()
+    }
+
+    /// Takes the lowest free slot for a command that came last.
+    pub fn push(&mut self, new: Slot)
+        requires room { length self.old < 64 }
+        requires drive { new.aim.drive < 16 }
+        ensures { self.new ≡ self.old ++ new ∷ [] }
+    {
+        let slot = lowest_free(self.masks.waiting);
+        self.records[slot] = new.item;
+        self.aims[slot] = new.aim;
+        self.dues[slot] = new.due;
+        self.masks.come(
+            slot,
+            usize::from(new.aim.drive),
+            new.item.is_sequential(),
+            !new.item.is_unstarted(),
+        );
+        self.order.push(slot as u8);
+    }
+
+    /// The command at the place leaves its slot.
+    pub fn remove(&mut self, place: usize)
+        requires { place < length self.old }
+        ensures { self.new ≡ take place self.old ++ drop (place + 1) self.old }
+    {
+        let slot = usize::from(self.order[place]);
+        self.order.remove(place);
+        self.masks.leave(slot);
+    }
+
+    /// The command at the place was passed at this toll.
+    fn pass(&mut self, place: usize, toll: u32)
+        requires place { place < length self.old }
+        requires small { (slot_at self.old place).item.passed + toll < 2 ^ 32 }
+        ensures { self.new ≡ slice_set self.old place (with_item (passed_by toll) (slot_at self.old place)) }
+    {
+        let slot = usize::from(self.order[place]);
+        self.records[slot] = self.records[slot].passed_by(toll);
+    }
+
+    /// Each command in front of the place was passed at this toll.
+    pub fn pass_front(&mut self, place: usize, toll: u32)
+        requires place { place ≤ length self.old }
+        requires small { All (λ s. s.item.passed + toll < 2 ^ 32) (take place self.old) }
+        ensures { self.new ≡ map (with_item (passed_by toll)) (take place self.old) ++ drop place self.old }
+    {
+        for i in 0..place {
+            self.pass(i, toll);
+        }
+    }
+
+    /// The command at the place had a step.
+    pub fn advance(&mut self, place: usize)
+        requires place { place < length self.old }
+        requires unfinished { (slot_at self.old place).item.done + 1 < 2 ^ 32 }
+        ensures { self.new ≡ slice_set self.old place (with_item advanced (slot_at self.old place)) }
+    {
+        let slot = usize::from(self.order[place]);
+        self.records[slot] = self.records[slot].advanced();
+        self.masks.serve(slot);
+    }
+
+    /// Sets the due of the command at the place.
+    pub fn set_due(&mut self, place: usize, due: u64)
+        requires { place < length self.old }
+        ensures { self.new ≡ slice_set self.old place (with_due due (slot_at self.old place)) }
+    {
+        let slot = usize::from(self.order[place]);
+        self.dues[slot] = due;
+    }
+
+    /// Lowers each due by so much, which is no more than any of them.
+    pub fn lower_all(&mut self, by: u64)
+        requires { All (λ s. by ≤ s.due) self.old }
+        ensures { self.new ≡ map (lowered_by by) self.old }
+    {
+        lower(&mut self.dues, self.masks.waiting, by);
+    }
+
+    /// Lowers the dues behind the place by so much, but for that of a command in service.
+    pub fn lower_behind(&mut self, place: usize, by: u64)
+        requires place { place < length self.old }
+        requires enough { All (λ s. is_in_service s.item ≡ false → by ≤ s.due) (drop (place + 1) self.old) }
+        ensures { self.new
+            ≡ take (place + 1) self.old ++ map (lowered_unless_serving by) (drop (place + 1) self.old) }
+    {
+        let slot = usize::from(self.order[place]);
+        lower(&mut self.dues, self.masks.behind(slot), by);
+    }
+
+    /// The record at the place.
+    pub fn item(&self, place: usize) -> &Record
+        requires { place < length self.now }
+        ensures { result.now ≡ (slot_at self.now place).item }
+    {
+        &self.records[usize::from(self.order[place])]
+    }
+
+    /// Where the command at the place aims.
+    pub fn aim(&self, place: usize) -> Aim
+        requires { place < length self.now }
+        ensures { result ≡ (slot_at self.now place).aim }
+    {
+        self.aims[usize::from(self.order[place])]
+    }
+
+    /// The due of the command at the place.
+    pub fn due(&self, place: usize) -> u64
+        requires { place < length self.now }
+        ensures { result ≡ (slot_at self.now place).due }
+    {
+        self.dues[usize::from(self.order[place])]
+    }
+
+    /// Whether no command that came earlier keeps the one at the place back.
+    pub fn is_free(&self, place: usize) -> bool
+        requires { place < length self.now }
+        ensures { result ≡ is_unfenced (slot_at self.now place) (take place self.now) }
+    {
+        let slot = usize::from(self.order[place]);
+        let drive = usize::from(self.aims[slot].drive);
+        self.masks
+            .is_free(slot, drive, self.records[slot].is_sequential())
+    }
+
+    /// Whether no command is sequential.
+    pub fn none_is_sequential(&self) -> bool
+        ensures { result ≡ list_all (λ s. not (is_sequential s.item.command.order)) self.now }
+    {
+        self.masks.none_is_sequential()
+    }
+
+    /// Whether each command behind the place is of the unit of the one there.
+    pub fn are_of_its_unit(&self, place: usize) -> bool
+        requires { place < length self.now }
+        ensures { result ≡ true
+            → All (λ s. s.aim.drive ≡ (slot_at self.now place).aim.drive) (drop (place + 1) self.now) }
+    {
+        let slot = usize::from(self.order[place]);
+        let drive = usize::from(self.aims[slot].drive);
+        self.masks.is_last_unit(slot, drive)
+    }
+}
+
+#[cfg(test)]
+mod tests;
