@@ -1,3 +1,4 @@
 pub mod Promise
 pub mod Bridge
+pub mod Longest
 pub mod Worked

@@ -20,3 +20,5 @@ pub mod Runs
 pub mod Calls
 pub mod Controllers
 pub mod Sizes
+pub mod Longest
+pub mod Worst

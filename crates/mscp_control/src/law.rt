@@ -2,6 +2,7 @@
 
 ghost use Rattle.mscp_control.specs.Controllers.{ControllersKeepThePromise};
 ghost use Rattle.mscp_control.specs.Headline.{LegalTracesMakeProgress};
+ghost use Rattle.mscp_control.specs.Longest.{TheBoundIsTheLeast};
 ghost use Rattle.mscp_control.specs.Runs.{RunsKeepThePromise};
 
 use mscp_queue::Picker;
@@ -15,6 +16,14 @@ use mscp_queue::Picker;
 /// other's balance, untaken ends and outstanding reference numbers as they were. Each end has the body of its endcode.
 pub fn legal_traces_make_progress()
     ensures { LegalTracesMakeProgress }
+{}
+
+/// The bound is the least. For each valid configuration where two or more commands may wait, and for each of its units
+/// that has the blocks of the longest transfer, there is a legal trace in which a command of that unit waits as long as
+/// the bound: it ends at the bound-th step after it. So its figure is the bound when it has come, falls by exactly one at
+/// each step, and never else. `worst` writes such a trace out.
+pub fn the_bound_is_the_least()
+    ensures { TheBoundIsTheLeast }
 {}
 
 /// What a new controller over this picker answers to events is a run of them, with all that `run` promises, whoever

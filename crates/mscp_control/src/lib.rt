@@ -12,15 +12,18 @@ mod memory;
 mod running;
 #[cfg(test)]
 mod tests;
+mod worst_case;
 
 pub use crate::config::{Config, ConfigFault};
 pub use crate::controller::Controller;
 pub use crate::event::{Entry, Event, SendFault, Sent, Stale};
 pub use crate::law::{
     controllers_keep_the_promise, legal_traces_make_progress, runs_keep_the_promise,
+    the_bound_is_the_least,
 };
 pub use crate::memory::OutOfMemory;
-pub use crate::running::{run, run_into};
+pub use crate::running::{run, run_in, run_into};
+pub use crate::worst_case::worst;
 pub use mscp_queue::{
     Block, Choice, Connection, FaultStatus, Oldest, Picker, Report, Sweep, Upcoming, View,
 };

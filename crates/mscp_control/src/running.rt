@@ -56,7 +56,7 @@ pub fn run_into<K: Picker + Drop, A: Allocator>(
 }
 
 /// `run` over any allocator.
-fn run_over<K: Picker + Drop, A: Allocator>(
+pub fn run_in<K: Picker + Drop, A: Allocator>(
     alloc: A,
     config: Config,
     picker: K,
@@ -88,5 +88,5 @@ pub fn run<K: Picker + Drop>(
         → IfOk result (λ entries. IsSweeping config (zip events.now entries.items)) }
     ensures room { IfOk result (λ entries. vec_capacity entries ≡ length events.now) }
 {
-    run_over(alloc, config, picker, events)
+    run_in(alloc, config, picker, events)
 }

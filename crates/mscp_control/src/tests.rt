@@ -1,7 +1,6 @@
 // A controller in a program of one's own, by what the crate names at its root alone. docs/USING.md has this code, and
 // that of emulator.rt.
 
-mod aborting;
 mod beginning;
 mod connections;
 mod emulator;

@@ -109,8 +109,8 @@ pub fault_of_outcome : (bytes : List ℕ) (fault : ScriptFault) → script_outco
 fault_of_outcome bytes fault e = fault_cases bytes fault (nat_lt 16777216 (length bytes)) refl e
 
 -- what was told of the lines was told of the script
-pub told_of : (r : Result Script ReadFault) (bytes : List ℕ) (o : Result (Settings × List Event) ScriptFault)
-    → length bytes ≤ 16777216 → script_outcome bytes ≡ o
+pub told_of : {A : Type 0} (r : Result (Script A) ReadFault) (bytes : List ℕ)
+    (o : Result (Settings × List Event) ScriptFault) → length bytes ≤ 16777216 → script_outcome bytes ≡ o
     → Tells meaning_of r (lines_outcome 0 Begins (lines bytes)) → Tells meaning_of r o
 told_of r bytes o small e t = subst (λ (x : Result (Settings × List Event) ScriptFault). Tells meaning_of r x)
     (sym (small_outcome bytes small) ∙ e) t

@@ -107,5 +107,5 @@ script_outcome bytes =
     else rest_outcome 0 Begins bytes
 
 -- what is read of it
-abbrev pub meaning_of : Script → Settings × List Event
+abbrev pub meaning_of : {A : Type 0} → Script A → Settings × List Event
 meaning_of script = (script.config, script.events.items)

@@ -16,7 +16,7 @@ use crate::words::Words;
 use arrayvec::ArrayVec;
 use mscp_control::{Block, Connection, Event, FaultStatus, OutOfMemory};
 use mscp_packet::{Command, MoveKind, Order, write_command};
-use std::alloc::Global;
+use std::alloc::Allocator;
 
 /// The most events of a script.
 pub const MOST_EVENTS: usize = 1_000_000;
@@ -76,7 +76,10 @@ pub enum Request {
 }
 
 /// Reads all lines that are left.
-pub fn read_events(alloc: Global, lines: &mut Lines<'_>) -> Result<Vec<Event>, ReadFault>
+pub fn read_events<A: Allocator>(
+    alloc: A,
+    lines: &mut Lines<'_>,
+) -> Result<Vec<Event, A>, ReadFault>
     ensures events { IfOk result (λ events. vec_len events ≤ MOST_EVENTS) }
     ensures fault { (fault : ScriptFault) → result ≡ Err (ReadFault.Script fault) → 1 ≤ fault.line }
     ensures outcome { (s : Settings) → Tells (λ events. (s, events.items)) result (rest_outcome lines.old.number
@@ -91,7 +94,7 @@ pub fn read_events(alloc: Global, lines: &mut Lines<'_>) -> Result<Vec<Event>, R
 
 /// Reads a line, and appends its events.
 #[tactic(auto, unfolding(crate::specs::Grammar::next))]
-fn read_line(events: &mut Vec<Event>, line: Line<'_>) -> Result<(), ReadFault>
+fn read_line<A: Allocator>(events: &mut Vec<Event, A>, line: Line<'_>) -> Result<(), ReadFault>
     requires { vec_len events.old ≤ MOST_EVENTS }
     ensures few { OnOk result (vec_len events.new ≤ MOST_EVENTS) }
     ensures fault { (fault : ScriptFault) → result ≡ Err (ReadFault.Script fault) → 1 ≤ fault.line }
@@ -343,7 +346,7 @@ fn event_count(request: &Request) -> usize
 }
 
 /// Appends the events of a request.
-fn add_events(events: &mut Vec<Event>, request: Request) -> Result<(), OutOfMemory>
+fn add_events<A: Allocator>(events: &mut Vec<Event, A>, request: Request) -> Result<(), OutOfMemory>
     ensures { OnOk result (events.new.items ≡ events.old.items ++ requests.events_of request) }
 {
     match request {

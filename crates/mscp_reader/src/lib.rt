@@ -18,5 +18,5 @@ pub use crate::header::read_header;
 pub use crate::law::scripts_have_one_meaning;
 pub use crate::lines::{Line, Lines, PlainLine};
 pub use crate::plain::Plain;
-pub use crate::script::{MOST_BYTES, Script, lines_of, read_script};
+pub use crate::script::{MOST_BYTES, Script, lines_of, read_script, read_script_in};
 pub use crate::words::Words;

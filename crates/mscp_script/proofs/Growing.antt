@@ -38,8 +38,8 @@ answered_more picks old mid new [] (m ∷ ns) e n r a = absurd r
 answered_more picks old mid new (f ∷ es) [] e n r a = absurd r
 
 -- a new run
-pub runs_none : (c : Settings) (run : Run) → run.controller ≡ fresh c run.controller.picker → run.reporter ≡ reported []
-    → Runs c [] run
+pub runs_none : {A : Type 0} (c : Settings) (run : Run A) → run.controller ≡ fresh c run.controller.picker
+    → run.reporter ≡ reported [] → Runs c [] run
 runs_none c run e f = record {
   begun = run;
   new = e;
@@ -50,8 +50,8 @@ runs_none c run e f = record {
 }
 
 -- an event more
-pub runs_more : (c : Settings) (es : List Event) (old new : Run) (e : Event) → Runs c es old → Ran old new e
-    → Runs c (es ++ e ∷ []) new
+pub runs_more : {A : Type 0} (c : Settings) (es : List Event) (old new : Run A) (e : Event) → Runs c es old
+    → Ran old new e → Runs c (es ++ e ∷ []) new
 runs_more c es old new e runs ran = record {
   begun = runs.begun;
   new = runs.new;
@@ -62,7 +62,7 @@ runs_more c es old new e runs ran = record {
 }
 
 -- an answer that is reported, where memory may have been wanted
-pub ran_on : (r : Result (Unit {0}) OutOfMemory) (old new : Run) (event : Event) (entry : Entry)
+pub ran_on : {A : Type 0} (r : Result (Unit {0}) OutOfMemory) (old new : Run A) (event : Event) (entry : Entry)
     → Answers IsSweep old.controller event entry new.controller → OnOk r (new.reporter ≡ with_entry old.reporter entry)
     → OnOk r (Ran old new event)
 ran_on (Ok x) old new event entry a e = record { entry = entry; answers = a; report_is = e }
@@ -70,20 +70,20 @@ ran_on (Err x) old new event entry a e = tt
 
 -- ---- whatever came before
 
-meets_one : (old new : Run) (e : Event) → Ran old new e → Meets old new (e ∷ [])
+meets_one : {A : Type 0} (old new : Run A) (e : Event) → Ran old new e → Meets old new (e ∷ [])
 meets_one old new e ran = λ c es runs. runs_more c es old new e runs ran
 
-pub ran_count : (old new : Run) (e : Event) → Ran old new e → new.reporter.count ≡ old.reporter.count + 1
+pub ran_count : {A : Type 0} (old new : Run A) (e : Event) → Ran old new e → new.reporter.count ≡ old.reporter.count + 1
 ran_count old new e ran = ap (λ (r : Reported). r.count) ran.report_is
 
 -- the same where memory may have been wanted
-pub meets_ok : (r : Result (Unit {0}) OutOfMemory) (old new : Run) (e : Event) → OnOk r (Ran old new e)
+pub meets_ok : {A : Type 0} (r : Result (Unit {0}) OutOfMemory) (old new : Run A) (e : Event) → OnOk r (Ran old new e)
     → OnOk r (Meets old new (e ∷ []))
 meets_ok (Ok x) old new e ran = meets_one old new e ran
 meets_ok (Err x) old new e ran = tt
 
 -- one more of the same event
-pub meets_more : (a b d : Run) (n : ℕ) (e : Event) → Meets a b (replicate n e) → Ran b d e
+pub meets_more : {A : Type 0} (a b d : Run A) (n : ℕ) (e : Event) → Meets a b (replicate n e) → Ran b d e
     → Meets a d (replicate (n + 1) e)
 meets_more a b d n e m ran = λ c es runs.
     let more : Runs c ((es ++ replicate n e) ++ e ∷ []) d = runs_more c (es ++ replicate n e) b d e (m c es runs) ran in
@@ -91,6 +91,6 @@ meets_more a b d n e m ran = λ c es runs.
     more
 
 -- so far these events came of lines of which this was to become, and so many bytes of them are left
-abbrev pub Going : Settings → Result (Settings × List Event) ScriptFault → Run → ℕ → List ℕ → Type 0
+abbrev pub Going : {A : Type 0} → Settings → Result (Settings × List Event) ScriptFault → Run A → ℕ → List ℕ → Type 0
 Going c told run number rest = (events : List Event) × Runs c events run
     × (told ≡ rest_outcome number (HasGone c events) rest)

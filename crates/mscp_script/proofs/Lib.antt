@@ -2,3 +2,4 @@ pub mod Fronts
 pub mod Growing
 pub mod Faults
 pub mod Words
+mod Told

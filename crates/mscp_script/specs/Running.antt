@@ -14,14 +14,14 @@ use Rattle.mscp_reader.specs.declared.fault.ScriptFault.{ScriptFault}
 use Rattle.mscp_reader.specs.declared.fault.ReadFault.{ReadFault}
 
 -- an event came: the controller answered an entry, which is reported
-pub record Ran (old new : Run) (event : Event) : Type 0 where
+pub record Ran {A : Type 0} (old new : Run A) (event : Event) : Type 0 where
   pub entry : Entry
   pub answers : Answers IsSweep old.controller event entry new.controller
   pub report_is : new.reporter ≡ with_entry old.reporter entry
 
 -- so far these events came to a new controller, one after the other, and what it answered is reported
-pub record Runs (c : Settings) (events : List Event) (run : Run) : Type 0 where
-  pub begun : Run
+pub record Runs {A : Type 0} (c : Settings) (events : List Event) (run : Run A) : Type 0 where
+  pub begun : Run A
   pub new : begun.controller ≡ fresh c begun.controller.picker
   pub entries : List Entry
   pub answered : Answered IsSweep begun.controller events entries run.controller
@@ -29,18 +29,18 @@ pub record Runs (c : Settings) (events : List Event) (run : Run) : Type 0 where
   pub count : run.reporter.count ≡ length events
 
 -- these events came between them, whatever came before
-abbrev pub Meets : Run → Run → List Event → Type 0
+abbrev pub Meets : {A : Type 0} → Run A → Run A → List Event → Type 0
 Meets old new events = (c : Settings) (es : List Event) → Runs c es old → Runs c (es ++ events) new
 
 -- what the definition says is made of the events that came, or is this fault, unless memory ran out
-abbrev pub RunsTo : {Y : Type 0}
-    → (List Event → Y) → Settings → Result (Unit {0}) ReadFault → Run → Result Y ScriptFault → Type 0
+abbrev pub RunsTo : {A Y : Type 0}
+    → (List Event → Y) → Settings → Result (Unit {0}) ReadFault → Run A → Result Y ScriptFault → Type 0
 RunsTo made c (Ok done) run told = (events : List Event) × Runs c events run × (told ≡ Ok (made events))
 RunsTo made c (Err fault) run told = Fails fault told
 
 -- the events that came so far are of lines of which this was to become, and of what is left of them is to become the
 -- same; or the lines have this fault, unless memory ran out
-abbrev pub GoesOn : Settings → Result (Unit {0}) ReadFault → Run → ℕ → List ℕ
+abbrev pub GoesOn : {A : Type 0} → Settings → Result (Unit {0}) ReadFault → Run A → ℕ → List ℕ
     → Result (Settings × List Event) ScriptFault → Type 0
 GoesOn c (Ok done) run number rest told =
     (events : List Event) × Runs c events run × (told ≡ rest_outcome number (HasGone c events) rest)

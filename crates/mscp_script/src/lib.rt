@@ -14,10 +14,10 @@ mod tests;
 mod totals;
 
 pub use crate::choosing::{Deed, LineFault, choose};
-pub use crate::reporting::report;
-pub use crate::simulation::{SimFault, simulate};
+pub use crate::reporting::{report, report_in};
+pub use crate::simulation::{SimFault, simulate, simulate_in};
 pub use crate::stream::{Failed, Sink, Source, Stream};
 pub use mscp_reader::{
-    Cause, ReadFault, Script, ScriptFault, read_script, scripts_have_one_meaning,
+    Cause, ReadFault, Script, ScriptFault, read_script, read_script_in, scripts_have_one_meaning,
 };
-pub use mscp_text::{ShowFault, show_packet};
+pub use mscp_text::{ShowFault, show_packet, show_packet_in};

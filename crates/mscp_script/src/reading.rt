@@ -3,12 +3,9 @@
 ghost use Rattle.std.specs.Prelude.{◌≡◌, ◌≤◌, ◌↔◌, true, false, vec_len, IfOk};
 ghost use Rattle.mscp_script.specs.Whole.{IsFront, IsRest, most_read};
 
-#[cfg(test)]
-mod tests;
-
 use crate::stream::Source;
 use mscp_reader::MOST_BYTES;
-use std::alloc::Global;
+use std::alloc::Allocator;
 
 /// How many bytes are read at most: one more than the longest script has.
 pub const LIMIT: usize = MOST_BYTES + 1;
@@ -23,7 +20,10 @@ pub enum ReadAllFault {
 }
 
 /// Reads until a read gives no byte, or 16,777,217 bytes were read. What comes after them is left in the reader.
-pub fn read_all<R: Source>(alloc: Global, reader: &mut R) -> Result<Vec<u8>, ReadAllFault>
+pub fn read_all<R: Source, A: Allocator>(
+    alloc: A,
+    reader: &mut R,
+) -> Result<Vec<u8, A>, ReadAllFault>
     requires { R.has_failed reader.old ≡ false }
     ensures bytes { IfOk result (λ all. IsFront most_read (R.remaining reader.old) all.items) }
     ensures rest { IfOk result (λ all. IsRest most_read (R.remaining reader.old) (R.remaining reader.new)) }

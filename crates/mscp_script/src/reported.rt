@@ -17,11 +17,11 @@ use mscp_reader::{
     Line, Lines, MOST_EVENTS, PlainLine, ReadFault, ScriptFault, lines_of, read_header,
     request_after,
 };
-use std::alloc::Global;
+use std::alloc::Allocator;
 
 /// The report of the script that these bytes are, or its first fault. It takes memory for the report alone.
-#[tactic(auto, using(mscp_reader::proofs::Sound::is_read, mscp_reader::proofs::Sound::is_fault))]
-pub fn report_script(alloc: Global, bytes: &[u8]) -> Result<Vec<u8>, ReadFault>
+#[tactic(auto, using(mscp_reader::proofs::Sound::is_fault))]
+pub fn report_script<A: Allocator>(alloc: A, bytes: &[u8]) -> Result<Vec<u8, A>, ReadFault>
     ensures report { IfOk result (λ report. IsReport bytes.now report.items) }
     ensures fault { (fault : ScriptFault) → result ≡ Err (ReadFault.Script fault) → IsFault bytes.now fault }
 {
@@ -29,7 +29,7 @@ pub fn report_script(alloc: Global, bytes: &[u8]) -> Result<Vec<u8>, ReadFault>
 }
 
 /// The report of what lines stand for, or the first fault.
-fn report_lines(alloc: Global, lines: &mut Lines<'_>) -> Result<Vec<u8>, ReadFault>
+fn report_lines<A: Allocator>(alloc: A, lines: &mut Lines<'_>) -> Result<Vec<u8, A>, ReadFault>
     ensures { TellsReport (λ report. report.items) result (rest_outcome lines.old.number Begins lines.old.rest.now) }
 {
     runs_keep_the_promise(&Sweep);
@@ -39,7 +39,7 @@ fn report_lines(alloc: Global, lines: &mut Lines<'_>) -> Result<Vec<u8>, ReadFau
 }
 
 /// Has a run meet the events of all lines that are left.
-fn run_events(lines: &mut Lines<'_>, run: &mut Run) -> Result<(), ReadFault>
+fn run_events<A: Allocator>(lines: &mut Lines<'_>, run: &mut Run<A>) -> Result<(), ReadFault>
     requires { run.old.reporter.count ≡ 0 }
     ensures { (c : Settings) → Runs c [] run.old → RunsTo (λ events. (c, events)) c result run.new
         (rest_outcome lines.old.number (HasGone c []) lines.old.rest.now) }
@@ -53,7 +53,7 @@ fn run_events(lines: &mut Lines<'_>, run: &mut Run) -> Result<(), ReadFault>
 }
 
 /// Has a run meet the events of the next lines, as far as they are plain.
-fn run_plain_lines(lines: &mut Lines<'_>, run: &mut Run) -> Result<(), ReadFault>
+fn run_plain_lines<A: Allocator>(lines: &mut Lines<'_>, run: &mut Run<A>) -> Result<(), ReadFault>
     requires { run.old.reporter.count ≤ MOST_EVENTS }
     ensures few { OnOk result (run.new.reporter.count ≤ MOST_EVENTS) }
     ensures left { OnOk result (length lines.new.rest.now ≤ length lines.old.rest.now) }
@@ -67,7 +67,7 @@ fn run_plain_lines(lines: &mut Lines<'_>, run: &mut Run) -> Result<(), ReadFault
 }
 
 /// Has a run meet the events of a plain line. Where they are too many, the reader of all lines tells the fault.
-fn run_plain(run: &mut Run, found: PlainLine<'_>) -> Result<(), ReadFault>
+fn run_plain<A: Allocator>(run: &mut Run<A>, found: PlainLine<'_>) -> Result<(), ReadFault>
     requires { run.old.reporter.count ≤ MOST_EVENTS }
     ensures few { OnOk result (run.new.reporter.count ≤ MOST_EVENTS) }
     ensures next { (c : Settings) (es : List Event) → Runs c es run.old → RunsTo (HasGone c) c result run.new
@@ -81,7 +81,7 @@ fn run_plain(run: &mut Run, found: PlainLine<'_>) -> Result<(), ReadFault>
 }
 
 /// Has a run meet the events of a line.
-fn run_line(run: &mut Run, line: Line<'_>) -> Result<(), ReadFault>
+fn run_line<A: Allocator>(run: &mut Run<A>, line: Line<'_>) -> Result<(), ReadFault>
     requires { run.old.reporter.count ≤ MOST_EVENTS }
     ensures few { OnOk result (run.new.reporter.count ≤ MOST_EVENTS) }
     ensures next { (c : Settings) (es : List Event) → Runs c es run.old → RunsTo (HasGone c) c result run.new

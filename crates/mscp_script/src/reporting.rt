@@ -14,20 +14,20 @@ use crate::reporting::tail::Tail;
 use crate::totals::Totals;
 use arrayvec::ArrayVec;
 use mscp_control::{Connection, Entry, OutOfMemory, Report, SendFault, Sent};
-use std::alloc::Global;
+use std::alloc::{Allocator, Global};
 use std::marker::Model;
 
 /// The lines of the entries so far, and their totals.
 #[derive(Drop)]
-pub struct Reporter {
-    out: Vec<u8>,
+pub struct Reporter<A: Allocator> {
+    out: Vec<u8, A>,
     // Where each line is written, before it is appended.
     line: Tail,
     totals: Totals,
 }
 
 // A clause sees the lines, how many entries they are of, and the totals.
-impl Model for Reporter {
+impl<A: Allocator> Model for Reporter<A> {
     ghost use Rattle.mscp_script.specs.Text.{Reported};
 
     ghost Value = { Reported };
@@ -43,9 +43,9 @@ impl Model for Reporter {
         } };
 }
 
-impl Reporter {
+impl<A: Allocator> Reporter<A> {
     /// A report of no entry.
-    pub fn new(alloc: Global) -> Reporter
+    pub fn new(alloc: A) -> Reporter<A>
         ensures { result ≡ reported [] }
     {
         Reporter {
@@ -127,7 +127,7 @@ impl Reporter {
     }
 
     /// The text, with the line of the totals.
-    pub fn finish(mut self) -> Result<Vec<u8>, OutOfMemory>
+    pub fn finish(mut self) -> Result<Vec<u8, A>, OutOfMemory>
         ensures { IfOk result (λ bytes. bytes.items ≡ finished self) }
     {
         put_totals(&mut self.out, &self.totals)?;
@@ -135,9 +135,8 @@ impl Reporter {
     }
 }
 
-/// The text of a list of entries: the lines of each entry in order, then the line of the totals. It takes memory for
-/// the text alone.
-pub fn report(alloc: Global, entries: &[Entry]) -> Result<Vec<u8>, OutOfMemory>
+/// `report` over any allocator.
+pub fn report_in<A: Allocator>(alloc: A, entries: &[Entry]) -> Result<Vec<u8, A>, OutOfMemory>
     ensures { IfOk result (λ bytes. bytes.items ≡ text entries.now) }
 {
     let mut reporter = Reporter::new(alloc);
@@ -145,4 +144,12 @@ pub fn report(alloc: Global, entries: &[Entry]) -> Result<Vec<u8>, OutOfMemory>
         reporter.put(entry)?;
     }
     reporter.finish()
+}
+
+/// The text of a list of entries: the lines of each entry in order, then the line of the totals. It takes memory for
+/// the text alone.
+pub fn report(alloc: Global, entries: &[Entry]) -> Result<Vec<u8>, OutOfMemory>
+    ensures { IfOk result (λ bytes. bytes.items ≡ text entries.now) }
+{
+    report_in(alloc, entries)
 }

@@ -14,18 +14,18 @@ use crate::reporting::Reporter;
 use mscp_control::{Block, Config, Connection, Controller, OutOfMemory, Sweep};
 use mscp_packet::write_command;
 use mscp_reader::{Plain, Request};
-use std::alloc::Global;
+use std::alloc::Allocator;
 
 /// A controller whose picker sweeps, and the report of what it answered so far. No entry is kept.
 #[derive(Drop)]
-pub struct Run {
+pub struct Run<A: Allocator> {
     controller: Controller<Sweep>,
-    reporter: Reporter,
+    reporter: Reporter<A>,
 }
 
-impl Run {
+impl<A: Allocator> Run<A> {
     /// A new controller, to which nothing came.
-    pub fn new(alloc: Global, config: Config) -> Run
+    pub fn new(alloc: A, config: Config) -> Run<A>
         ensures controller { result.controller ≡ fresh config result.controller.picker }
         ensures report { result.reporter ≡ reported [] }
         ensures valid { IsValid config }
@@ -128,7 +128,7 @@ impl Run {
     }
 
     /// The text of the report.
-    pub fn finish(self) -> Result<Vec<u8>, OutOfMemory>
+    pub fn finish(self) -> Result<Vec<u8, A>, OutOfMemory>
         ensures { IfOk result (λ bytes. bytes.items ≡ finished self.reporter) }
     {
         self.reporter.finish()

@@ -12,7 +12,7 @@ use crate::reading::{LIMIT, ReadAllFault, read_all};
 use crate::reported::report_script;
 use crate::stream::{Failed, Sink, Source};
 use mscp_reader::{ReadFault, ScriptFault};
-use std::alloc::Global;
+use std::alloc::{Allocator, Global};
 use thiserror::Error;
 
 /// Why nothing was reported, or not all of it.
@@ -62,6 +62,28 @@ impl From<Failed> for SimFault {
     }
 }
 
+/// `simulate` over any allocator, of which both the script and its report take memory.
+pub fn simulate_in<A: Allocator + Copy, R: Source, W: Sink>(
+    alloc: A,
+    reader: &mut R,
+    writer: &mut W,
+) -> Result<(), SimFault>
+    requires reader { R.has_failed reader.old ≡ false }
+    requires writer { W.has_failed writer.old ≡ false }
+    ensures read { (result ≡ Err SimFault.Read) ↔ (R.has_failed reader.new ≡ true) }
+    ensures write { (result ≡ Err SimFault.Write) ↔ (W.has_failed writer.new ≡ true) }
+    ensures rest { LeavesRest result (R.remaining reader.old) (R.remaining reader.new) }
+    ensures fault { (fault : ScriptFault) → result ≡ Err (SimFault.Script fault)
+        → IsGiven (R.remaining reader.old) (λ script. IsFault script fault) }
+    ensures written { WritesReport result (R.remaining reader.old) (W.contents writer.old) (W.contents writer.new) }
+    ensures once { WritesOnce result (W.writes writer.old) (W.writes writer.new) }
+{
+    let script = read_all(alloc, reader)?;
+    let text = report_script(alloc, &script)?;
+    writer.write_all(&text)?;
+    Ok(())
+}
+
 /// Reads a script until a read gives no byte or it has 16,777,217 bytes, runs it through a new controller, and
 /// writes the report of the run in one write. A fault of the script is its first. Except where it says `Write`, nothing was
 /// written on a fault.
@@ -80,8 +102,5 @@ pub fn simulate<R: Source, W: Sink>(
     ensures written { WritesReport result (R.remaining reader.old) (W.contents writer.old) (W.contents writer.new) }
     ensures once { WritesOnce result (W.writes writer.old) (W.writes writer.new) }
 {
-    let script = read_all(alloc, reader)?;
-    let text = report_script(alloc, &script)?;
-    writer.write_all(&text)?;
-    Ok(())
+    simulate_in(alloc, reader, writer)
 }

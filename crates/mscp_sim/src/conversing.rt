@@ -20,7 +20,7 @@ use mscp_control::{
 };
 use mscp_host::{HostFault, News, Poll};
 use mscp_packet::Command;
-use std::alloc::Global;
+use std::alloc::{Allocator, Global};
 
 /// What comes next in a talk.
 #[derive(Clone, Copy, Debug, PartialEq, Eq)]
@@ -58,9 +58,9 @@ pub enum Heard {
 
 /// What was heard, in each turn, and what came to the controller and what it answered.
 #[derive(Debug, Drop)]
-pub struct Talk {
-    pub heard: Vec<Heard>,
-    pub trace: Vec<(Event, Entry)>,
+pub struct Talk<A: Allocator = Global> {
+    pub heard: Vec<Heard, A>,
+    pub trace: Vec<(Event, Entry), A>,
 }
 
 /// A message of at most 48 bytes of a connection in the room of an event.
@@ -201,7 +201,7 @@ fn hear<K: Picker>(
     }
 }
 
-impl Talk {
+impl<A: Allocator> Talk<A> {
     /// Keeps what was heard in a turn, and its moment, if it made one.
     fn keep(&mut self, heard: Heard, moment: Option<(Event, Entry)>)
         requires { HasRoom self.old 1 }
@@ -217,11 +217,11 @@ impl Talk {
 }
 
 /// What is heard in the turns, one after the other. There is room, so it can't fail.
-fn hear_each<K: Picker>(
+fn hear_each<K: Picker, A: Allocator>(
     hosts: &mut Hosts,
     controller: &mut Controller<K>,
     turns: &[Turn],
-    talk: &mut Talk,
+    talk: &mut Talk<A>,
 )
     requires both { Match hosts.old controller.old }
     requires room { HasRoom talk.old (length turns.now) }
@@ -232,6 +232,29 @@ fn hear_each<K: Picker>(
         let (heard, moment) = hear(hosts, controller, *turn);
         talk.keep(heard, moment);
     }
+}
+
+/// `converse` over any allocator, of which both lists of the talk take memory.
+pub fn converse_in<K: Picker + Drop, A: Allocator + Copy>(
+    alloc: A,
+    config: Config,
+    picker: K,
+    turns: &[Turn],
+) -> Result<Talk<A>, OutOfMemory>
+    ensures valid { IsValid config }
+    ensures talk { IfOk result (λ talk.
+        AreTwoEnds (K.picks picker) config turns.now talk.heard.items talk.trace.items) }
+{
+    controllers_keep_the_promise(&picker);
+    runs_keep_the_promise(&picker);
+    let mut hosts = Hosts::new(&config);
+    let mut controller = Controller::new(config, picker);
+    let mut talk = Talk {
+        heard: Vec::with_capacity(alloc, turns.len())?,
+        trace: Vec::with_capacity(alloc, turns.len())?,
+    };
+    hear_each(&mut hosts, &mut controller, turns, &mut talk);
+    Ok(talk)
 }
 
 /// New hosts talk with a new controller, one on each connection, with as many credits as the connection has: one thing
@@ -251,14 +274,5 @@ pub fn converse<K: Picker + Drop>(
     ensures talk { IfOk result (λ talk.
         AreTwoEnds (K.picks picker) config turns.now talk.heard.items talk.trace.items) }
 {
-    controllers_keep_the_promise(&picker);
-    runs_keep_the_promise(&picker);
-    let mut hosts = Hosts::new(&config);
-    let mut controller = Controller::new(config, picker);
-    let mut talk = Talk {
-        heard: Vec::with_capacity(alloc, turns.len())?,
-        trace: Vec::with_capacity(alloc, turns.len())?,
-    };
-    hear_each(&mut hosts, &mut controller, turns, &mut talk);
-    Ok(talk)
+    converse_in(alloc, config, picker, turns)
 }

@@ -6,5 +6,5 @@ mod packet;
 mod words;
 
 pub use crate::decoding::{MOST_MESSAGE_BYTES, decode};
-pub use crate::packet::{ShowFault, show_packet};
+pub use crate::packet::{ShowFault, show_packet, show_packet_in};
 pub use crate::words::{put, put_field};

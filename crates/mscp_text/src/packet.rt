@@ -13,7 +13,7 @@ use crate::decoding::{MOST_MESSAGE_BYTES, decode};
 use crate::packet::text::put_packet;
 use arrayvec::ArrayVec;
 use mscp_packet::{Command, End, EndFault, PacketFault, read_command, read_end};
-use std::alloc::{AllocError, Global};
+use std::alloc::{AllocError, Allocator, Global};
 use thiserror::Error;
 
 /// The fewest bytes of a message.
@@ -132,10 +132,9 @@ fn packet_in(message: &[u8]) -> Result<Packet, ShowFault>
     }
 }
 
-/// The line of the packet that a word is the hexadecimal digits of, with its line feed: of 12 to 64 bytes, an end where
-/// byte 8 is 0x80 or more, and else a command. It takes memory for the text alone.
+/// `show_packet` over any allocator.
 #[tactic(auto, unfolding(crate::specs::Shown::shown))]
-pub fn show_packet(alloc: Global, word: &str) -> Result<Vec<u8>, ShowFault>
+pub fn show_packet_in<A: Allocator>(alloc: A, word: &str) -> Result<Vec<u8, A>, ShowFault>
     ensures { Shows (λ text. text.items) result (shown word.now) }
 {
     let message = message_of(word.as_bytes())?;
@@ -143,4 +142,12 @@ pub fn show_packet(alloc: Global, word: &str) -> Result<Vec<u8>, ShowFault>
     let mut out = Vec::new(alloc);
     put_packet(&mut out, packet)?;
     Ok(out)
+}
+
+/// The line of the packet that a word is the hexadecimal digits of, with its line feed: of 12 to 64 bytes, an end where
+/// byte 8 is 0x80 or more, and else a command. It takes memory for the text alone.
+pub fn show_packet(alloc: Global, word: &str) -> Result<Vec<u8>, ShowFault>
+    ensures { Shows (λ text. text.items) result (shown word.now) }
+{
+    show_packet_in(alloc, word)
 }

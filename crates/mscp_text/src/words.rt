@@ -5,24 +5,31 @@ ghost use Rattle.hex.specs.Hex.{encode_lower};
 
 use hex::encode_to_slice;
 use itoa::{Buffer, Integer};
-use std::alloc::AllocError;
+use std::alloc::{AllocError, Allocator};
 
 /// Appends words.
-pub fn put(out: &mut Vec<u8>, words: &str) -> Result<(), AllocError>
+pub fn put<A: Allocator>(out: &mut Vec<u8, A>, words: &str) -> Result<(), AllocError>
     ensures { OnOk result (out.new.items ≡ out.old.items ++ words.now) }
 {
     out.extend_from_slice(words.as_bytes())
 }
 
 /// Appends a number, in decimal digits.
-pub fn put_number<N: Integer>(out: &mut Vec<u8>, number: N) -> Result<(), AllocError>
+pub fn put_number<N: Integer, A: Allocator>(
+    out: &mut Vec<u8, A>,
+    number: N,
+) -> Result<(), AllocError>
     ensures { OnOk result (out.new.items ≡ out.old.items ++ N.text number) }
 {
     put(out, Buffer::new().format(number))
 }
 
 /// Appends words and then a number.
-pub fn put_field<N: Integer>(out: &mut Vec<u8>, words: &str, number: N) -> Result<(), AllocError>
+pub fn put_field<N: Integer, A: Allocator>(
+    out: &mut Vec<u8, A>,
+    words: &str,
+    number: N,
+) -> Result<(), AllocError>
     ensures { OnOk result (out.new.items ≡ out.old.items ++ (words.now ++ N.text number)) }
 {
     put(out, words)?;
@@ -30,7 +37,7 @@ pub fn put_field<N: Integer>(out: &mut Vec<u8>, words: &str, number: N) -> Resul
 }
 
 /// Appends at most 48 bytes, each as two lower case hexadecimal digits.
-pub fn put_hex(out: &mut Vec<u8>, bytes: &[u8]) -> Result<(), AllocError>
+pub fn put_hex<A: Allocator>(out: &mut Vec<u8, A>, bytes: &[u8]) -> Result<(), AllocError>
     requires { length bytes.now ≤ 48 }
     ensures { OnOk result (out.new.items ≡ out.old.items ++ encode_lower bytes.now) }
 {

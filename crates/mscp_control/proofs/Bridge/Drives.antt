@@ -33,7 +33,8 @@ use Rattle.mscp_control.proofs.Bridge.Held.{held_of}
 
 -- ---- units
 
-found_number : (units : List Shape) (u : ℕ) (s : Shape) → find (λ x. nat_eq x.number u) units ≡ Some s → s.number ≡ u
+pub found_number : (units : List Shape) (u : ℕ) (s : Shape) → find (λ x. nat_eq x.number u) units ≡ Some s
+    → s.number ≡ u
 found_number [] u s e = absurd (false≢true (ap is_some e))
 found_number (x ∷ xs) u s e =
     let both : (b : Bool) → nat_eq x.number u ≡ b → cond b (Some x) (find (λ z. nat_eq z.number u) xs) ≡ Some s
@@ -49,7 +50,7 @@ some_of : {X : Type 0} (o : Option X) → is_some o ≡ true → (x : X) × (o �
 some_of None h = absurd (false≢true h)
 some_of (Some x) h = (x, refl)
 
-find_map : {X Y : Type 0} (p : Y → Bool) (f : X → Y) (xs : List X)
+pub find_map : {X Y : Type 0} (p : Y → Bool) (f : X → Y) (xs : List X)
     → find p (map f xs) ≡ option_map f (find (λ x. p (f x)) xs)
 find_map p f [] = refl
 find_map p f (x ∷ xs) =

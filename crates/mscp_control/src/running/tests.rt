@@ -2,10 +2,8 @@ use super::*;
 use crate::config::tests::config;
 use crate::event::{SendFault, Sent};
 use arrayvec::ArrayVec;
-use linked_list_allocator::LocalHeap;
 use mscp_packet::{End, EndBody};
 use mscp_queue::{Block, Connection, FaultStatus, Oldest, Report};
-use std::mem::size_of;
 use std::process::Abort;
 
 #[test]
@@ -215,83 +213,4 @@ fn a_host_is_told_of_its_controller(rt: HostRuntime) {
         .expect(&rt, "memory");
     let wanted = [answered(1), taken(&rt, &told)];
     assert_eq!(rt; entries.as_slice(), wanted.as_slice());
-}
-
-/// READ 1 of block 0, and then so many polls of it, each with a look and a take: two credits are all taken at each
-/// look and take.
-fn polls(rt: &impl Abort, alloc: Global, count: usize) -> Vec<Event> {
-    let mut events = Vec::new(alloc);
-    let mut read = [0; 32];
-    read[0] = 1;
-    read[8] = 0x21;
-    read[13] = 2;
-    events.push(sent(rt, &read)).ok().expect(rt, "memory");
-    for _poll in 0..count {
-        let poll = sent(rt, b"\x03\0\0\0\0\0\0\0\x02\0\0\0\x01\0\0\0");
-        events.push(poll).ok().expect(rt, "memory");
-        events.push(Event::Look).ok().expect(rt, "memory");
-        events
-            .push(Event::Take(Connection::First))
-            .ok()
-            .expect(rt, "memory");
-    }
-    events
-}
-
-#[test]
-fn a_long_run_finds_memory_at_balance_0(rt: HostRuntime) {
-    let events = polls(&rt, rt.alloc(), 7000);
-    let entries = run(rt.alloc(), config(&rt, 2, 2), Oldest, &events)
-        .ok()
-        .expect(&rt, "memory");
-    assert_eq!(rt; entries.len(), 21_001);
-    let mut figures = ArrayVec::new();
-    figures.push((Connection::First, 1, 17));
-    let told = b"\x03\0\0\0\0\0\0\0\x82\0\0\0\x01\0\0\0\x11\0\0\0";
-    let wanted = [
-        Entry::Sent(Connection::First, Ok(Sent::Queued(1))),
-        answered(3),
-        Entry::Looked(figures),
-        taken(&rt, told),
-    ];
-    assert_eq!(rt; entries[0], wanted[0]);
-    for poll in 0..7000 {
-        assert_eq!(rt; entries[3 * poll + 1], wanted[1]);
-        assert_eq!(rt; entries[3 * poll + 2], wanted[2]);
-        assert_eq!(rt; entries[3 * poll + 3], wanted[3]);
-    }
-}
-
-/// So many messages of 64 bytes 0xFF: no opcode is 0xFF.
-fn unknown_opcodes(rt: &(impl Abort + AllocGlobal), count: usize) -> Vec<Event> {
-    let mut events = Vec::with_capacity(rt.alloc(), count)
-        .ok()
-        .expect(rt, "memory");
-    for _ in 0..count {
-        events.push(sent(rt, &[0xFF; 64])).ok().expect(rt, "memory");
-    }
-    events
-}
-
-/// A heap that has just the entries' bytes is enough, also for many entries, and all of it is used. With an entry's bytes
-/// less there is no answer.
-#[test]
-fn run_asks_for_the_entries_alone(rt: HostRuntime) {
-    let events = unknown_opcodes(&rt, 1000);
-    let bytes = 1000 * size_of::<Entry>();
-    let heap = LocalHeap::new(rt.alloc(), bytes).ok().expect(&rt, "memory");
-    let entries = run_over(&heap, config(&rt, 4, 2), Oldest, &events)
-        .ok()
-        .expect(&rt, "room for the entries");
-    assert_eq!(rt; entries.len(), 1000);
-    assert_eq!(rt; entries[0], answered(0xFFFF_FFFF));
-    assert_eq!(rt; heap.used(), heap.size());
-    let small = LocalHeap::new(rt.alloc(), bytes - size_of::<Entry>())
-        .ok()
-        .expect(&rt, "memory");
-    assert_eq!(rt;
-        run_over(&small, config(&rt, 4, 2), Oldest, &events).err(),
-        Some(OutOfMemory)
-    );
-    assert_eq!(rt; small.used(), 0);
 }

@@ -12,7 +12,7 @@ use arrayvec::ArrayVec;
 use mscp_control::{Connection, Report, SendFault, Sent};
 use mscp_packet::End;
 use mscp_text::{put, put_field};
-use std::alloc::AllocError;
+use std::alloc::{AllocError, Allocator};
 
 /// Puts in front that a line is of the second connection, if it is.
 fn put_connection(line: &mut Tail, connection: Connection)
@@ -64,8 +64,8 @@ fn put_taken_in(line: &mut Tail, sent: Sent)
 }
 
 /// Appends the line of a message of the connection: what became of it, or why it is refused.
-pub fn put_sent(
-    out: &mut Vec<u8>,
+pub fn put_sent<A: Allocator>(
+    out: &mut Vec<u8, A>,
     line: &mut Tail,
     connection: Connection,
     sent: &Result<Sent, SendFault>,
@@ -85,8 +85,8 @@ pub fn put_sent(
 }
 
 /// Appends the line of an end of the connection that was taken, or of none.
-pub fn put_taken(
-    out: &mut Vec<u8>,
+pub fn put_taken<A: Allocator>(
+    out: &mut Vec<u8, A>,
     line: &mut Tail,
     connection: Connection,
     end: &Option<ArrayVec<u8, 48>>,
@@ -130,7 +130,11 @@ fn put_ended(line: &mut Tail, ended: &Option<End>)
 }
 
 /// Appends the line of a step.
-pub fn put_step(out: &mut Vec<u8>, line: &mut Tail, report: &Report) -> Result<(), AllocError>
+pub fn put_step<A: Allocator>(
+    out: &mut Vec<u8, A>,
+    line: &mut Tail,
+    report: &Report,
+) -> Result<(), AllocError>
     ensures { OnOk result (out.new.items ≡ out.old.items ++ step_line report.now) }
 {
     match report {
@@ -158,8 +162,8 @@ pub fn put_step(out: &mut Vec<u8>, line: &mut Tail, report: &Report) -> Result<(
 }
 
 /// Appends the line of a waiting command.
-fn put_figure(
-    out: &mut Vec<u8>,
+fn put_figure<A: Allocator>(
+    out: &mut Vec<u8, A>,
     line: &mut Tail,
     shown: &(Connection, u32, u32),
 ) -> Result<(), AllocError>
@@ -173,8 +177,8 @@ fn put_figure(
 }
 
 /// Appends the line of each waiting command.
-pub fn put_figures(
-    out: &mut Vec<u8>,
+pub fn put_figures<A: Allocator>(
+    out: &mut Vec<u8, A>,
     line: &mut Tail,
     shown: &[(Connection, u32, u32)],
 ) -> Result<(), AllocError>
@@ -187,7 +191,7 @@ pub fn put_figures(
 }
 
 /// Appends the last line.
-pub fn put_totals(out: &mut Vec<u8>, totals: &Totals) -> Result<(), AllocError>
+pub fn put_totals<A: Allocator>(out: &mut Vec<u8, A>, totals: &Totals) -> Result<(), AllocError>
     ensures { OnOk result (out.new.items ≡ out.old.items
         ++ last_line totals.now.steps totals.now.seeks totals.now.queued totals.now.ended) }
 {

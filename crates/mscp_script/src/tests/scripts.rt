@@ -358,63 +358,6 @@ fn tells_the_fault_of_an_event(rt: HostRuntime) {
     }
 }
 
-#[test]
-fn tells_a_long_line(rt: HostRuntime) -> Result<(), Fail> {
-    for first in [b'#', b' '] {
-        let mut text = vec![in rt.alloc(); first]?;
-        text.extend_from_slice(&[b' '; 199])?;
-        text.extend_from_slice(b"\r\n")?;
-        text.extend_from_slice(HEADER.as_bytes())?;
-        assert!(rt; read_script(rt.alloc(), &text).is_ok());
-        let mut long = vec![in rt.alloc(); first]?;
-        long.extend_from_slice(&[b' '; 200])?;
-        let found = fault_text(&rt, rt.alloc(), &long);
-        assert_eq!(rt; found.as_str(), "line 1: long");
-    }
-    Ok(())
-}
-
-#[test]
-fn keeps_the_limits(rt: HostRuntime) -> Result<(), Fail> {
-    let cases = [
-        (b'\n', 1_000_000, "", "line 1000001: header"),
-        (b'\n', 1_000_000, "#", "line 1000001: lines"),
-        (b'\n', 1_000_000, "\n", "line 1000001: lines"),
-        (b'\n', 69_999, "credits x", "line 70000: number"),
-        (b' ', 16_777_216, "", "line 1: long"),
-        (b' ', 16_777_216, " ", "line 0: size"),
-    ];
-    for (byte, count, last, wanted) in cases {
-        let mut text = vec![in rt.alloc(); byte; count]?;
-        text.extend_from_slice(last.as_bytes())?;
-        let found = fault_text(&rt, rt.alloc(), &text);
-        assert_eq!(rt; found.as_str(), wanted);
-    }
-    Ok(())
-}
-
-#[test]
-fn keeps_the_limit_of_events(rt: HostRuntime) -> Result<(), Fail> {
-    let mut text = joined(&rt, rt.alloc(), &[HEADER]);
-    for _ in 0..1000 {
-        text.push_str("step 1000\n")?;
-    }
-    text.push_str("# no event\n")?;
-    let script = read_script(rt.alloc(), text.as_bytes())?;
-    assert_eq!(rt; script.events.len(), 1_000_000);
-    let cases = [
-        ("take", "line 1008: events"),
-        ("step 0", "line 1008: number"),
-    ];
-    for (last, wanted) in cases {
-        let mut all = text.clone()?;
-        all.push_str(last)?;
-        let found = fault_text(&rt, rt.alloc(), all.as_bytes());
-        assert_eq!(rt; found.as_str(), wanted);
-    }
-    Ok(())
-}
-
 // A message of a script has 1 to 64 bytes.
 #[test]
 fn reads_messages_of_any_length(rt: HostRuntime) -> Result<(), Fail> {

@@ -37,7 +37,7 @@ pub record Kept (K : Type 0) : Type 0 where
   pub controller : Holdings K
   pub lists : List Heard × Trace
 
-abbrev pub kept : {K : Type 0} → Both Account → Holdings K → Lists → Kept K
+abbrev pub kept : {K A : Type 0} → Both Account → Holdings K → Lists A → Kept K
 kept hosts controller talk =
     record { hosts = hosts; controller = controller; lists = (talk.heard.items, talk.trace.items) }
 

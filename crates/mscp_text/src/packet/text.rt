@@ -8,7 +8,7 @@ use crate::packet::Packet;
 use crate::words::{put, put_field, put_hex};
 use mscp_packet::status::INVALID_OPCODE;
 use mscp_packet::{Command, End, EndBody, MoveKind, Order};
-use std::alloc::AllocError;
+use std::alloc::{AllocError, Allocator};
 
 /// The name of a transfer.
 fn move_name(kind: MoveKind) -> &'static str
@@ -35,7 +35,7 @@ fn invalid_name(status: u16) -> &'static str
 }
 
 /// Appends what a command asks for.
-fn put_order(out: &mut Vec<u8>, order: Order) -> Result<(), AllocError>
+fn put_order<A: Allocator>(out: &mut Vec<u8, A>, order: Order) -> Result<(), AllocError>
     ensures { OnOk result (out.new.items ≡ out.old.items ++ order_text order) }
 {
     match order {
@@ -61,7 +61,7 @@ fn put_order(out: &mut Vec<u8>, order: Order) -> Result<(), AllocError>
 }
 
 /// Appends a command.
-fn put_command(out: &mut Vec<u8>, command: Command) -> Result<(), AllocError>
+fn put_command<A: Allocator>(out: &mut Vec<u8, A>, command: Command) -> Result<(), AllocError>
     ensures { OnOk result (out.new.items ≡ out.old.items ++ command_text command) }
 {
     put_field(out, "command ", command.reference)?;
@@ -71,7 +71,7 @@ fn put_command(out: &mut Vec<u8>, command: Command) -> Result<(), AllocError>
 }
 
 /// Appends what an end tells beside its status.
-fn put_body(out: &mut Vec<u8>, body: EndBody) -> Result<(), AllocError>
+fn put_body<A: Allocator>(out: &mut Vec<u8, A>, body: EndBody) -> Result<(), AllocError>
     ensures { OnOk result (out.new.items ≡ out.old.items ++ body_text body) }
 {
     match body {
@@ -114,7 +114,7 @@ fn put_body(out: &mut Vec<u8>, body: EndBody) -> Result<(), AllocError>
 }
 
 /// Appends the endcode of an end.
-fn put_code(out: &mut Vec<u8>, code: u8) -> Result<(), AllocError>
+fn put_code<A: Allocator>(out: &mut Vec<u8, A>, code: u8) -> Result<(), AllocError>
     ensures { OnOk result (out.new.items ≡ out.old.items ++ (codes " code " ++ code_text code)) }
 {
     put(out, " code ")?;
@@ -122,7 +122,7 @@ fn put_code(out: &mut Vec<u8>, code: u8) -> Result<(), AllocError>
 }
 
 /// Appends the status of an end.
-fn put_status(out: &mut Vec<u8>, status: u16) -> Result<(), AllocError>
+fn put_status<A: Allocator>(out: &mut Vec<u8, A>, status: u16) -> Result<(), AllocError>
     ensures { OnOk result (out.new.items ≡ out.old.items ++ (codes " status " ++ status_text status)) }
 {
     put(out, " status ")?;
@@ -130,7 +130,7 @@ fn put_status(out: &mut Vec<u8>, status: u16) -> Result<(), AllocError>
 }
 
 /// Appends an end.
-fn put_end(out: &mut Vec<u8>, end: End) -> Result<(), AllocError>
+fn put_end<A: Allocator>(out: &mut Vec<u8, A>, end: End) -> Result<(), AllocError>
     ensures { OnOk result (out.new.items ≡ out.old.items ++ end_text end) }
 {
     put_field(out, "end ", end.reference)?;
@@ -141,7 +141,7 @@ fn put_end(out: &mut Vec<u8>, end: End) -> Result<(), AllocError>
 }
 
 /// Appends the line of a packet.
-pub fn put_packet(out: &mut Vec<u8>, packet: Packet) -> Result<(), AllocError>
+pub fn put_packet<A: Allocator>(out: &mut Vec<u8, A>, packet: Packet) -> Result<(), AllocError>
     ensures { OnOk result (out.new.items ≡ out.old.items ++ packet_line packet) }
 {
     match packet {

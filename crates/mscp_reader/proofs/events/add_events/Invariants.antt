@@ -5,4 +5,4 @@ use Rattle.mscp_control.specs.declared.event.Event.TheVariants as events
 use Rattle.mscp_reader.proofs.events.add_events.Given as goal
 
 abbrev pub invariant-loop-step : goal.invariant-loop-step
-invariant-loop-step l = l.events.items ≡ l.initial.events.items ++ replicate l._step (events.Step Good)
+invariant-loop-step g l = l.events.items ≡ l.initial.events.items ++ replicate l._step (events.Step Good)

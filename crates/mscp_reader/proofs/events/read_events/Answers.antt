@@ -5,7 +5,7 @@ use Rattle.mscp_reader.proofs.Outcomes.{onward_ok, onward_fails}
 use Rattle.mscp_reader.proofs.events.read_events.Goals as goal
 
 pub loop-events-preserved : goal.loop-events-preserved
-loop-events-preserved c =
+loop-events-preserved g c =
     let some = rw c.in-Some.is at (c.in_ok-line.ensures.some) in
     let number = rw c.in-Some.is at (c.in_ok-line.ensures.number) in
     record {
@@ -15,7 +15,7 @@ loop-events-preserved c =
     }
 
 pub returns-in_err-read_line-clause-outcome : goal.returns-in_err-read_line-clause-outcome
-returns-in_err-read_line-clause-outcome c =
+returns-in_err-read_line-clause-outcome g c =
     let some = rw c.in-Some.is at (c.in_ok-line.ensures.some) in
     let number = rw c.in-Some.is at (c.in_ok-line.ensures.number) in
     let p = err_from_is_err_and c.from_residual-in_err-read_line.result c.from_residual-in_err-read_line.ensures.1 in

@@ -7,7 +7,7 @@ use Rattle.mscp_script.proofs.Growing.{runs_none}
 use Rattle.mscp_script.proofs.reported.report_lines.Goals as goal
 
 pub returns : goal.returns
-returns c =
+returns g c =
     let config = c.in_ok-read_header.field-0 in
     let new = c.new-run.ensures in
     let on = c.in_ok-run_events.ensures config (runs_none config c.new-run.result new.controller new.report) in

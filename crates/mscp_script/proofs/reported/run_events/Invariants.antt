@@ -7,11 +7,11 @@ use Rattle.mscp_script.proofs.Growing.{Going}
 use Rattle.mscp_script.proofs.reported.run_events.Given as goal
 
 abbrev pub invariant-loop-line : goal.invariant-loop-line
-invariant-loop-line l = record {
+invariant-loop-line g l = record {
   going : (c : Settings) → Runs c [] l.fn.run → Going c
       (rest_outcome l.fn.lines.number (HasGone c []) l.fn.lines.rest.now) l.run l.lines.number l.lines.rest.now;
   few : l.run.reporter.count ≤ 1000000;
 }
 
 abbrev pub decreases-loop-line : goal.decreases-loop-line
-decreases-loop-line l = length l.lines.rest.now
+decreases-loop-line g l = length l.lines.rest.now

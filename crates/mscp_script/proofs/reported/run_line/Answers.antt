@@ -3,7 +3,7 @@ use Rattle.mscp_reader.specs.Requests.{events_of}
 use Rattle.mscp_script.proofs.reported.run_line.Goals as goal
 
 pub returns-clause-next : goal.returns-clause-next
-returns-clause-next c = λ d es runs. (
+returns-clause-next g c = λ d es runs. (
   es ++ events_of c.in_ok-request.request,
   c.in_ok-meet.ensures.met d es runs,
   c.in_ok-request.ensures.next d es (omega (arith, runs.count, c.count.ensures)),

@@ -5,10 +5,10 @@ use Rattle.mscp_reader.proofs.Outcomes.{onward_ok, onward_fails}
 use Rattle.mscp_script.proofs.reported.run_plain_lines.Goals as goal
 
 pub loop-found-init : goal.loop-found-init
-loop-found-init c = record { going = λ d es runs. (es, runs, refl); few = c.requires; left = omega arith }
+loop-found-init g c = record { going = λ d es runs. (es, runs, refl); few = c.requires; left = omega arith }
 
 pub loop-found-preserved : goal.loop-found-preserved
-loop-found-preserved c =
+loop-found-preserved g c =
     let seen = c.in-Some.ensures in
     record {
       going = λ d es begun.
@@ -20,7 +20,7 @@ loop-found-preserved c =
     }
 
 pub returns-in_err-run_plain-clause-going : goal.returns-in_err-run_plain-clause-going
-returns-in_err-run_plain-clause-going c =
+returns-in_err-run_plain-clause-going g c =
     let seen = c.in-Some.ensures in
     let p = err_from_is_err_and c.from_residual.result c.from_residual.ensures.1 in
     rw (p.1, p.2) (λ d es begun.
@@ -30,4 +30,4 @@ returns-in_err-run_plain-clause-going c =
     (so_far.2 ∙ seen.some (HasGone d so_far.0)))
 
 pub returns-clause-going : goal.returns-clause-going
-returns-clause-going c = rw (c.in_default.ensures.none.0, c.in_default.ensures.none.1) c.loop-found.invariant.going
+returns-clause-going g c = rw (c.in_default.ensures.none.0, c.in_default.ensures.none.1) c.loop-found.invariant.going

@@ -8,7 +8,7 @@ use Rattle.mscp_script.proofs.Growing.{Going}
 use Rattle.mscp_script.proofs.reported.run_plain_lines.Given as goal
 
 abbrev pub invariant-loop-found : goal.invariant-loop-found
-invariant-loop-found l = record {
+invariant-loop-found g l = record {
   going : (c : Settings) (es : List Event) → Runs c es l.initial.run
       → Going c (rest_outcome l.initial.lines.number (HasGone c es) l.initial.lines.rest.now) l.run l.lines.number
       l.lines.rest.now;
@@ -17,4 +17,4 @@ invariant-loop-found l = record {
 }
 
 abbrev pub decreases-loop-found : goal.decreases-loop-found
-decreases-loop-found l = length l.lines.rest.now
+decreases-loop-found g l = length l.lines.rest.now

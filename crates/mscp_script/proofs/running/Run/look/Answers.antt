@@ -4,5 +4,5 @@ use Rattle.mscp_script.proofs.Growing.{ran_on}
 use Rattle.mscp_script.proofs.running.Run.look.Goals as goal
 
 pub returns : goal.returns
-returns c = ran_on c.looked.result _ _ _ (entries.Looked c.look-shown.result) (c.look-shown.ensures.value, refl)
+returns g c = ran_on c.looked.result _ _ _ (entries.Looked c.look-shown.result) (c.look-shown.ensures.value, refl)
     c.looked.ensures

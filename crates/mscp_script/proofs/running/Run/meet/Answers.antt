@@ -5,24 +5,24 @@ use Rattle.mscp_script.proofs.Growing.{meets_ok}
 use Rattle.mscp_script.proofs.running.Run.meet.Goals as goal
 
 pub returns-in-Send-clause-met : goal.returns-in-Send-clause-met
-returns-in-Send-clause-met c =
+returns-in-Send-clause-met g c =
     let sent = subst (λ b. OnOk c.send.result (Ran c.args.self.now c.send.new.self
     (events.Send c.in-Send.connection (record { items = b }))))
     (c.as_slice.ensures.value ∙ c.write_command.ensures.bytes) c.send.ensures in
     rw c.in-Send.is (meets_ok c.send.result _ _ _ sent)
 
 pub returns-in-Packet-clause-met : goal.returns-in-Packet-clause-met
-returns-in-Packet-clause-met c =
+returns-in-Packet-clause-met g c =
     let sent = subst (λ b. OnOk c.send-in-Packet.result
     (Ran c.args.self.now c.send-in-Packet.new.self (events.Send c.in-Packet.connection (record { items = b }))))
     c.as_slice-in-Packet.ensures.value c.send-in-Packet.ensures in
     rw c.in-Packet.is (meets_ok c.send-in-Packet.result _ _ _ sent)
 
 pub returns-in-Take-clause-met : goal.returns-in-Take-clause-met
-returns-in-Take-clause-met c = rw c.in-Take.is (meets_ok c.take.result _ _ _ c.take.ensures)
+returns-in-Take-clause-met g c = rw c.in-Take.is (meets_ok c.take.result _ _ _ c.take.ensures)
 
 pub returns-in-Look-clause-met : goal.returns-in-Look-clause-met
-returns-in-Look-clause-met c = rw c.in-Look.is (meets_ok c.look.result _ _ _ c.look.ensures)
+returns-in-Look-clause-met g c = rw c.in-Look.is (meets_ok c.look.result _ _ _ c.look.ensures)
 
 pub returns-in-Bad-clause-met : goal.returns-in-Bad-clause-met
-returns-in-Bad-clause-met c = rw c.in-Bad.is (meets_ok c.step.result _ _ _ c.step.ensures)
+returns-in-Bad-clause-met g c = rw c.in-Bad.is (meets_ok c.step.result _ _ _ c.step.ensures)

@@ -6,14 +6,14 @@ use Rattle.mscp_script.proofs.Growing.{meets_ok}
 use Rattle.mscp_script.proofs.running.Run.meet_plain.Goals as goal
 
 pub returns-in-Send-clause-met : goal.returns-in-Send-clause-met
-returns-in-Send-clause-met c =
+returns-in-Send-clause-met g c =
     let sent = subst (λ b. OnOk c.send.result (Ran c.args.self.now c.send.new.self
     (events.Send First (record { items = b })))) (c.as_slice.ensures.value ∙ c.write_command.ensures.bytes)
     c.send.ensures in
     rw c.in-Send.is (meets_ok c.send.result _ _ _ sent)
 
 pub returns-in-Take-clause-met : goal.returns-in-Take-clause-met
-returns-in-Take-clause-met c = rw c.in-Take.is (meets_ok c.take.result _ _ _ c.take.ensures)
+returns-in-Take-clause-met g c = rw c.in-Take.is (meets_ok c.take.result _ _ _ c.take.ensures)
 
 pub returns-in-Look-clause-met : goal.returns-in-Look-clause-met
-returns-in-Look-clause-met c = rw c.in-Look.is (meets_ok c.look.result _ _ _ c.look.ensures)
+returns-in-Look-clause-met g c = rw c.in-Look.is (meets_ok c.look.result _ _ _ c.look.ensures)

@@ -4,5 +4,5 @@ use Rattle.mscp_script.proofs.Growing.{ran_on}
 use Rattle.mscp_script.proofs.running.Run.send.Goals as goal
 
 pub returns : goal.returns
-returns c = ran_on c.sent.result _ _ _ (entries.Sent c.args.connection c.send-sent.result)
+returns g c = ran_on c.sent.result _ _ _ (entries.Sent c.args.connection c.send-sent.result)
     (refl, c.send-sent.ensures.answer, c.send-sent.ensures.after) c.sent.ensures

@@ -5,7 +5,7 @@ use Rattle.mscp_script.specs.Running.{Meets}
 use Rattle.mscp_script.proofs.running.Run.steps.Given as goal
 
 abbrev pub invariant-loop-step : goal.invariant-loop-step
-invariant-loop-step l = record {
+invariant-loop-step g l = record {
   met : Meets l.initial.self l.self (replicate l._step (events.Step Good));
   count : l.self.reporter.count ≡ l.initial.self.reporter.count + l._step;
 }

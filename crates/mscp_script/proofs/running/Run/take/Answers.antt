@@ -4,5 +4,5 @@ use Rattle.mscp_script.proofs.Growing.{ran_on}
 use Rattle.mscp_script.proofs.running.Run.take.Goals as goal
 
 pub returns : goal.returns
-returns c = ran_on c.taken.result _ _ _ (entries.Taken c.args.connection c.take-end.result)
+returns g c = ran_on c.taken.result _ _ _ (entries.Taken c.args.connection c.take-end.result)
     (refl, c.take-end.ensures.answer, c.take-end.ensures.after) c.taken.ensures

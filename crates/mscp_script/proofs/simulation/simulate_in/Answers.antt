@@ -4,7 +4,7 @@ use Rattle.std.specs.Io.KnownBytes.{Appends}
 use Rattle.mscp_reader.specs.Grammar.{IsFault}
 use Rattle.mscp_script.specs.Simulated.{IsReport}
 use Rattle.mscp_script.proofs.Faults.{never_read, never_written, of_script}
-use Rattle.mscp_script.proofs.simulation.simulate.Goals as goal
+use Rattle.mscp_script.proofs.simulation.simulate_in.Goals as goal
 
 pub returns-in_err-script-clause-fault : goal.returns-in_err-script-clause-fault
 returns-in_err-script-clause-fault g c = λ fault e.

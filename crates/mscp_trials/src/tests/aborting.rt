@@ -1,16 +1,23 @@
 // What an ABORT leaves of the figures of all others.
 
-use super::Newest;
-use crate::{Block, Config, Connection, Controller, Sent};
-use mscp_drive::{Unit, Units};
+use super::unit;
+use mscp_control::{Block, Config, Connection, Controller, Picker, Sent, View};
+use mscp_drive::Units;
 use mscp_packet::{Command, MoveKind, Order, write_command};
 use std::process::Abort;
 
-/// A unit of 1000 blocks, 20 blocks a cylinder.
-fn unit(rt: &impl Abort, number: u16) -> Unit {
-    Unit::new(number, 10, 2, 1, 1000, 1, 0, 1)
-        .ok()
-        .expect(rt, "no size is zero")
+/// Picks the newest command that may start.
+#[derive(Drop)]
+struct Newest;
+
+impl Picker for Newest {
+    ghost use Rattle.std.specs.Prelude.{◌≡◌, ◌+◌, length};
+
+    ghost picks = { λ _ view place. place + 1 ≡ length view };
+
+    fn pick(&self, view: &View) -> usize {
+        view.choices().len().saturating_sub(1)
+    }
 }
 
 /// A controller of four units, where each command may be passed three times.
@@ -99,6 +106,7 @@ fn no_abort_raises_a_figure(rt: HostRuntime) {
             let after = controller.look();
             assert_eq!(rt; after.len(), 62);
             assert_eq!(rt; controller.balance(Connection::First), 0);
+            assert_eq!(rt; controller.untaken(Connection::First), 2);
             for (_, reference, figure) in before.as_slice() {
                 let now = controller.figure(Connection::First, *reference);
                 assert!(rt; now <= *figure, "{reference} after an abort of {other}");

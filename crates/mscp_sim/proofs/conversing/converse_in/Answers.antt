@@ -1,7 +1,7 @@
 use Rattle.std.proofs.Common.{ap, subst}
 use Rattle.mscp_sim.proofs.TwoEnds.Talking.{GoesTo, kept}
 use Rattle.mscp_sim.proofs.TwoEnds.Talked.{match_new, two_ends}
-use Rattle.mscp_sim.proofs.conversing.converse.Goals as goal
+use Rattle.mscp_sim.proofs.conversing.converse_in.Goals as goal
 
 pub hear_each-requires-clause-both : goal.hear_each-requires-clause-both
 hear_each-requires-clause-both g c =

@@ -1,0 +1,263 @@
+-- What is held after one more moment of a run that is written out: a message that is queued, a take, or a good step.
+use Rattle.std.proofs.Common.{◌≡◌, ◌≢◌, ℕ, ◌+◌, ◌-◌, ◌<◌, ◌≤◌, ◌^◌, Bool, true, false, cond, not, ◌&&◌, List, [], ◌∷◌, ◌++◌, map, drop, length, refl, ap, sym, ◌∙◌, subst, arith}
+use Rattle.std.specs.Prelude.{nat_eq, find, slice_index, slice_get, unwrap_or, if◌then◌else◌, Option, Some, None, is_some, option_map, Ok}
+use Rattle.std.proofs.lemmas.Bool.{eq-eqb, ne_eqb, le-ltb, true≢false, false≢true}
+use Rattle.arrayvec.specs.ArrayVec.{ArrayVec}
+use Rattle.mscp_packet.specs.declared.command.Command.{Command}
+use Rattle.mscp_packet.specs.declared.end.End.{End}
+use Rattle.mscp_packet.specs.Commands.{HasCommandRange, IsCommand, IsValidOrder, command_bytes, command_of}
+use Rattle.mscp_packet.specs.Ends.{end_bytes}
+use Rattle.mscp_packet.specs.Number.{num}
+use Rattle.mscp_packet.specs.Opcodes.{class, is_immediate_class}
+use Rattle.mscp_packet.proofs.Commands.{command_bytes_are_messages}
+use Rattle.mscp_drive.specs.Shape.{Shape}
+use Rattle.mscp_queue.specs.declared.block.Block.TheVariants.{Good}
+use Rattle.mscp_queue.specs.declared.drive.Drive.{Drive}
+use Rattle.mscp_queue.specs.declared.name.Connection.{Connection}
+use Rattle.mscp_queue.specs.declared.name.Name.{Name}
+use Rattle.mscp_queue.specs.declared.view.Choice.{Choice}
+use Rattle.mscp_queue.specs.Drives.{drive_of, fresh_drive, has_number, one_block, replaced}
+use Rattle.mscp_queue.specs.Lines.{ServesAt}
+use Rattle.mscp_queue.specs.Records.{Record, fresh_record, has_name, name_of, no_record, passed_by, record_at, remains, step_toll}
+use Rattle.mscp_queue.specs.Serving.{IsServable, drive_after, drives_after, end_given, report_of, waiting_after}
+use Rattle.mscp_queue.proofs.Named.{is_same}
+use Rattle.mscp_queue.proofs.Placed.{at_place}
+use Rattle.mscp_control.specs.declared.event.Event.TheVariants as events
+use Rattle.mscp_control.specs.declared.event.Entry.TheVariants as entries
+use Rattle.mscp_control.specs.declared.event.Sent.TheVariants as sents
+use Rattle.mscp_control.specs.Settings.{Settings, IsValid, credits_of, unit_found}
+use Rattle.mscp_control.specs.Both.{Both, of, put}
+use Rattle.mscp_control.specs.Controllers.{drive_now}
+use Rattle.mscp_control.specs.Arrival.{holds, is_queued, refusal}
+use Rattle.mscp_control.specs.declared.event.SendFault.TheVariants.{Short, Long, NoCredit, LastCredit, Doubled}
+use Rattle.mscp_control.specs.History.{Moment, Trace}
+use Rattle.mscp_control.specs.Holdings.{Holdings, aborting, after_message, after_take, answer_to_message, answered_end, balance_of, ends_after, fresh, held_unless, line_of, numbers, numbers_ended, outstanding_of, queued, reference_aborted, sent_unless, waiting_on, with_end}
+use Rattle.mscp_control.specs.Legal.{IsLegal}
+use Rattle.mscp_control.specs.Worst.{handing, queueing}
+use Rattle.mscp_control.proofs.Promise.Served.{some_same}
+use Rattle.mscp_control.proofs.Bridge.Drives.{Driven, find_map}
+use Rattle.mscp_control.proofs.Bridge.Following.{none_held, turns}
+use Rattle.mscp_control.proofs.Bridge.Held.{Follows}
+use Rattle.mscp_control.proofs.Bridge.Legals.{legal_more}
+use Rattle.mscp_control.proofs.Bridge.Sending.{Agrees, Sends, sending, sends}
+use Rattle.mscp_control.proofs.Bridge.Stepped.{turns_at}
+
+-- no end is untaken
+abbrev pub nothing : Both (List End)
+nothing = record { first = []; second = [] }
+
+-- a picker that may pick any place
+abbrev any : List Choice → ℕ → Type 0
+any view place = Unit {0}
+
+-- a unit of a configuration
+pub record IsUnit (c : Settings) (s : Shape) : Type 0 where
+  pub valid : IsValid c
+  pub found : unit_found c s.number ≡ Some s
+  pub small : s.number < 2 ^ 16
+
+-- after the run t, which is legal, these wait, these ends are untaken, and the unit has this drive
+pub record Holds (c : Settings) (s : Shape) (t : Trace) (rs : List Record) (us : Both (List End)) (d : Drive) :
+    Type 0 where
+  pub legal : IsLegal c t
+  pub drives : List Drive
+  pub follows : Follows c t rs us
+  pub driven : Driven c t drives
+  pub here : drive_of drives s.number ≡ d
+
+-- what is held then, where this was begun
+abbrev holding : Settings → List Record → Both (List End) → List Drive → Option Name → Holdings (Unit {0})
+holding c rs us ds begun =
+    record { settings = c; waiting = rs; untaken = us; drives = ds; begun = begun; picker = tt }
+
+-- ---- at first
+
+drive_at_first : (c : Settings) (s : Shape) → unit_found c s.number ≡ Some s
+    → drive_of (map fresh_drive c.units) s.number ≡ fresh_drive s
+drive_at_first c s found =
+    ap (λ o. unwrap_or o (fresh_drive one_block)) (find_map (has_number s.number) fresh_drive c.units
+    ∙ ap (option_map fresh_drive) found)
+
+pub holds_none : (c : Settings) (s : Shape) → IsUnit c s → Holds c s [] [] nothing (fresh_drive s)
+holds_none c s w =
+    let none : Unit {0} = tt in
+    let a : Agrees c [] (fresh c none) = none_held c none in
+    record {
+      legal = λ i l. absurd (omega (arith, l));
+      drives = map fresh_drive c.units;
+      follows = a.follows;
+      driven = a.driven;
+      here = drive_at_first c s w.found;
+    }
+
+-- ---- a message
+
+-- a message is what was written into it
+message_is : (k : Command) → IsCommand (command_bytes k) k → command_of (command_bytes k) ≡ k
+unfolding command_of
+message_is k m = λ i. record { reference = sym m.reference i; unit = sym m.unit i; order = sym m.order i }
+
+-- what a connection with two free credits and another reference number sends isn't refused
+unrefused : (credit : ℕ) (references b : List ℕ) (reference : ℕ) → 12 ≤ length b → length b ≤ 64 → 2 ≤ credit
+    → reference ≡ num b 0 4 → holds references reference ≡ false → refusal credit references b ≡ None
+unrefused credit references b reference low high two same new =
+    let none : credit ≢ 0 = λ e. omega (arith, e, two) in
+    let one : credit ≢ 1 = λ e. omega (arith, e, two) in
+    let other = not (is_immediate_class (class (slice_index b 8))) in
+    let held : holds references (num b 0 4) ≡ false = subst (λ r. holds references r ≡ false) same new in
+    λ i. if le-ltb (length b) 12 low i then Some Short else (
+    if le-ltb 64 (length b) high i then Some Long else (
+    if ne_eqb credit 0 none i then Some NoCredit else (
+    if (ne_eqb credit 1 one i) && other then Some LastCredit else (
+    if held i then Some Doubled else None))))
+
+-- what may be sent: its numbers fit, there are two free credits, and its own number is free
+pub record MaySend (c : Settings) (rs : List Record) (us : Both (List End)) (via : Connection) (k : Command) :
+    Type 0 where
+  pub order : IsValidOrder k.order
+  pub range : HasCommandRange k
+  pub queued : is_queued c k ≡ true
+  pub credit : 2 ≤ credits_of c via - (length (waiting_on via rs) + length (of via us))
+  pub new : holds (numbers (waiting_on via rs) ++ numbers_ended (of via us)) k.reference ≡ false
+
+-- what may be sent is read as it is
+pub message_sent : (c : Settings) (rs : List Record) (us : Both (List End)) (via : Connection) (k : Command)
+    → MaySend c rs us via k → command_of (command_bytes k) ≡ k
+message_sent c rs us via k may = message_is k (command_bytes_are_messages k may.order may.range)
+
+pub holds_queued : (c : Settings) (s : Shape) (t : Trace) (rs : List Record) (us : Both (List End)) (d : Drive)
+    (via : Connection) (k : Command) → IsUnit c s → MaySend c rs us via k → Holds c s t rs us d
+    → Holds c s (t ++ queueing via k ∷ []) (rs ++ fresh_record via k ∷ []) us d
+holds_queued c s t rs us d via k w may h =
+    let b = command_bytes k in
+    let m = command_bytes_are_messages k may.order may.range in
+    let same = message_is k m in
+    let held = holding c rs us h.drives None in
+    let message : ArrayVec ℕ = record { items = b } in
+    let credit = balance_of via held in
+    let used = outstanding_of via held in
+    let none : refusal credit used b ≡ None = unrefused credit used b k.reference m.low m.high may.credit m.reference
+    may.new in
+    let told : answer_to_message via held b ≡ Ok (sents.Queued k.reference) =
+    (λ i. sent_unless via held (same i) (none i))
+    ∙ ap (λ q. Ok (if q then sents.Queued k.reference else sents.Answered k.reference
+    (reference_aborted via rs k.order))) may.queued in
+    let left : after_message via held b ≡ queued via held k =
+    (λ i. held_unless via held (same i) (none i))
+    ∙ ap (λ q. if q then queued via held k else with_end via (aborting via held k.order)
+    (answered_end via held k)) may.queued in
+    let first = sends via held t message w.valid.some_blocks (record { follows = h.follows; driven = h.driven }) in
+    let all : Sends c t (queueing via k) (queued via held k) =
+    subst (λ r. Sends c t (sending via message r) (queued via held k)) told
+    (subst (λ (x : Holdings (Unit {0})). Sends c t (sending via message (answer_to_message via held b)) x) left
+    first) in
+    record {
+      legal = legal_more c t (queueing via k) h.legal all.right;
+      drives = h.drives;
+      follows = all.agrees.follows;
+      driven = all.agrees.driven;
+      here = h.here;
+    }
+
+-- ---- a take
+
+pub holds_taken : (c : Settings) (s : Shape) (t : Trace) (rs : List Record) (us : Both (List End)) (d : Drive)
+    (via : Connection) (end : End) → IsUnit c s → of via us ≡ end ∷ [] → put via (drop 1 (of via us)) us ≡ nothing
+    → Holds c s t rs us d → Holds c s (t ++ handing via end ∷ []) rs nothing d
+holds_taken c s t rs us d via end w one rest h =
+    let held = holding c rs us h.drives None in
+    let told = ap (λ es. option_map (λ e. record { items = end_bytes e }) (slice_get es 0)) (sym one) in
+    let turn = turns any held (after_take via held) t (events.Take via) (handing via end).1 w.valid
+    (record { follows = h.follows; driven = h.driven }) (refl, told, refl) in
+    let all = turn.sends in
+    record {
+      legal = legal_more c t (handing via end) h.legal all.right;
+      drives = h.drives;
+      follows = subst (λ (x : Both (List End)). Follows c (t ++ handing via end ∷ []) rs x) rest all.agrees.follows;
+      driven = all.agrees.driven;
+      here = h.here;
+    }
+
+-- ---- a good step
+
+-- the drive that was put in place of the unit's
+put_back : (number : ℕ) (d : Drive) (ds : List Drive) → d.unit.number ≡ number
+    → is_some (find (has_number number) ds) ≡ true → drive_of (replaced number d ds) number ≡ d
+put_back number d [] own h = absurd (false≢true h)
+put_back number d (x ∷ xs) own h =
+    let rest = put_back number d xs own in
+    let Goal : Bool → Type 0 = λ b. is_some (cond b (Some x) (find (has_number number) xs)) ≡ true
+    → nat_eq x.unit.number number ≡ b
+    → unwrap_or (find (has_number number) (cond b d x ∷ replaced number d xs)) (fresh_drive one_block) ≡ d in
+    let both : (b : Bool) → Goal b =
+    λ b. elim b as Goal [
+      | true ↦ λ h e. ap (λ b. unwrap_or (cond b (Some d) (find (has_number number) (replaced number d xs)))
+          (fresh_drive one_block)) (eq-eqb d.unit.number number own)
+      | false ↦ λ h e. ap (λ b. unwrap_or (cond b (Some x) (find (has_number number) (replaced number d xs)))
+          (fresh_drive one_block)) e ∙ rest h
+    ] in
+    both (nat_eq x.unit.number number) h refl
+
+found_there : (c : Settings) (s : Shape) (t : Trace) (ds : List Drive) → IsUnit c s → Driven c t ds
+    → is_some (find (has_number s.number) ds) ≡ true
+found_there c s t ds w driven =
+    ap (λ ds. is_some (find (has_number s.number) ds)) driven.drives
+    ∙ (ap is_some (find_map (has_number s.number) (drive_now c t) c.units)
+    ∙ ap (λ o. is_some (option_map (drive_now c t) o)) w.found)
+
+-- what a good step of a record on this drive reports, as a moment
+abbrev pub stepped : Drive → Record → Moment
+stepped d r = (events.Step Good, entries.Stepped (report_of Good d r))
+
+pub holds_stepped : (c : Settings) (s : Shape) (t : Trace) (A : List Record) (r : Record) (B : List Record)
+    (us : Both (List End)) (d : Drive) → IsUnit c s → r.command.unit ≡ s.number → d.unit.number ≡ s.number
+    → IsServable c.budget (A ++ r ∷ B) (length A) → Holds c s t (A ++ r ∷ B) us d
+    → Holds c s (t ++ stepped d r ∷ [])
+    (map (passed_by (step_toll r)) A ++ (remains r (end_given Good d r) ++ B))
+    (ends_after us (report_of Good d r)) (drive_after Good d r)
+holds_stepped c s t A r B us d w unit own can h =
+    let rs = A ++ r ∷ B in
+    let place = length A in
+    let ds = h.drives in
+    let name = name_of r in
+    let report = report_of Good d r in
+    let at = at_place rs A r B place no_record refl refl in
+    let q = record_at rs place in
+    let drive : drive_of ds q.command.unit ≡ d = ap (λ (r : Record). drive_of ds r.command.unit) at.item
+    ∙ (ap (drive_of ds) unit ∙ h.here) in
+    let old = holding c rs us ds (Some name) in
+    let new : Holdings (Unit {0}) = record {
+      settings = c;
+      waiting = waiting_after Good (drive_of ds q.command.unit) rs place;
+      untaken = ends_after us report;
+      drives = drives_after Good ds rs place;
+      begun = None;
+      picker = tt;
+    } in
+    let serves : ServesAt any Good (line_of old) report (line_of new) place = record {
+      next = record {
+        servable = can;
+        same = λ other e. ap (has_name other) at.item ∙ is_same name other (some_same name other e);
+        picked = λ e. absurd (true≢false (ap is_some e));
+      };
+      told = sym (λ i. report_of Good (drive i) (at.item i));
+      left = refl;
+    } in
+    let turn = turns_at any old new t Good report place w.valid
+    (record { follows = h.follows; driven = h.driven }) serves refl in
+    let all = turn.sends in
+    let m = stepped d r in
+    let wait : new.waiting ≡ map (passed_by (step_toll r)) A ++ (remains r (end_given Good d r) ++ B) =
+    λ i. map (passed_by (step_toll (at.item i))) (at.before i)
+    ++ (remains (at.item i) (end_given Good (drive i) (at.item i)) ++ at.behind i) in
+    let changed : new.drives ≡ replaced s.number (drive_after Good d r) ds =
+    (λ i. replaced (at.item i).command.unit (drive_after Good (drive i) (at.item i)) ds)
+    ∙ ap (λ n. replaced n (drive_after Good d r) ds) unit in
+    record {
+      legal = legal_more c t m h.legal all.right;
+      drives = new.drives;
+      follows = subst (λ ws. Follows c (t ++ m ∷ []) ws new.untaken) wait all.agrees.follows;
+      driven = all.agrees.driven;
+      here = ap (λ ds. drive_of ds s.number) changed
+          ∙ put_back s.number (drive_after Good d r) ds own (found_there c s t ds w h.driven);
+    }

@@ -1,0 +1,11 @@
+use Rattle.std.proofs.Common.{[], ◌∷◌, ◌++◌, ◌∙◌}
+use Rattle.std.specs.Prelude.{Some}
+use Rattle.mscp_control.specs.declared.event.Event.TheVariants as events
+use Rattle.mscp_control.specs.declared.event.Entry.TheVariants as entries
+use Rattle.mscp_control.proofs.worst_case.push_taken.Goals as goal
+
+pub returns-clause-items : goal.returns-clause-items
+returns-clause-items g c =
+    let via = c.args.connection in
+    c.push.ensures.items ∙ (λ i. c.args.trace.now.items
+    ++ (events.Take via, entries.Taken via (Some (record { items = c.write_end.ensures.bytes i }))) ∷ [])

@@ -1,0 +1,296 @@
+// Memory that is refused: at the first request of a call, at the second, and so on, until a run asks less often than that.
+// Each refusal is told, and nothing is kept of what was handed out before it. The last run gives what the call promises.
+
+use super::config;
+use super::first::{REPORT, SCRIPT};
+use super::streams::{NEVER, reading, writing};
+use crate::Scarce;
+use arrayvec::ArrayVec;
+use linked_list_allocator::LocalHeap;
+use mscp_control::{Block, Connection, Entry, Event, OutOfMemory, Sweep, run, run_in};
+use mscp_host::News;
+use mscp_packet::{Command, MoveKind, Order, write_command};
+use mscp_script::{
+    ReadFault, ShowFault, SimFault, read_script, read_script_in, report, report_in, show_packet_in,
+    simulate_in,
+};
+use mscp_sim::{Heard, Turn, converse_in};
+use std::alloc::Global;
+use std::mem::size_of;
+use std::process::Abort;
+use std::test::Fail;
+
+/// More requests than any run below makes.
+const MANY: u64 = 40;
+
+/// A request was refused, if this says so, and whatever was handed out came back.
+fn nothing_is_kept(rt: &impl Abort, heap: &Scarce<Global>, is_refused: bool) {
+    assert_eq!(rt; heap.has_refused(), is_refused);
+    assert_eq!(rt; heap.held(), 0);
+}
+
+fn sent(rt: &impl Abort, reference: u32, order: Order) -> Event {
+    let command = Command {
+        reference,
+        unit: 0,
+        order,
+    };
+    let mut message = ArrayVec::new();
+    message
+        .try_extend_from_slice(write_command(&command).as_slice())
+        .expect(rt, "room");
+    Event::Send(Connection::First, message)
+}
+
+/// Unit 0 is online. READ 1 is far away, and READ 2, of four blocks, passes it; then READ 2 is aborted.
+fn passed_and_aborted(rt: &impl Abort) -> [Event; 10] {
+    [
+        sent(rt, 900, Order::Online),
+        Event::Step(Block::Good),
+        Event::Take(Connection::First),
+        sent(rt, 1, Order::Move(MoveKind::Read, 512, 800)),
+        sent(rt, 2, Order::Move(MoveKind::Read, 2048, 0)),
+        Event::Look,
+        Event::Step(Block::Good),
+        Event::Look,
+        sent(rt, 3, Order::Abort(2)),
+        Event::Look,
+    ]
+}
+
+const PASSED_AND_ABORTED: &[u8] = b"queued 900
+serve 900 unit 0 block none seek 0 ended 0000
+end 840300000000000089000000000000000000000001000000000000000000000000000000e803000001000000
+queued 1
+queued 2
+figure 1 9
+figure 2 13
+serve 2 unit 0 block 0 seek 0
+figure 1 8
+figure 2 3
+answered 3 aborted 2
+figure 1 5
+steps 2 seeks 0 pending 1
+";
+
+#[test]
+fn run_is_refused_memory(rt: HostRuntime) -> Result<(), Fail> {
+    let events = passed_and_aborted(&rt);
+    for number in 1..MANY {
+        let heap = Scarce::new(rt.alloc(), number);
+        match run_in(&heap, config(&rt, 5, 8), Sweep, &events) {
+            Err(OutOfMemory) => nothing_is_kept(&rt, &heap, true),
+            Ok(entries) => {
+                let text = report(rt.alloc(), &entries)?;
+                assert_eq!(rt; text.as_slice(), PASSED_AND_ABORTED);
+                drop(entries);
+                nothing_is_kept(&rt, &heap, false);
+                assert_eq!(rt; number, 2);
+                return Ok(());
+            }
+        }
+    }
+    panic!(rt; "a run never found memory");
+}
+
+/// A heap that has just the entries' bytes is enough, also for many entries, and all of it is used. With an entry's bytes
+/// less there is no answer.
+#[test]
+fn run_asks_for_the_entries_alone(rt: HostRuntime) {
+    let mut events = Vec::new(rt.alloc());
+    for _take in 0..1000 {
+        events
+            .push(Event::Take(Connection::First))
+            .ok()
+            .expect(&rt, "memory");
+    }
+    let bytes = 1000 * size_of::<Entry>();
+    let heap = LocalHeap::new(rt.alloc(), bytes).ok().expect(&rt, "memory");
+    let entries = run_in(&heap, config(&rt, 4, 16), Sweep, &events)
+        .ok()
+        .expect(&rt, "room for the entries");
+    assert_eq!(rt; entries.len(), 1000);
+    assert_eq!(rt; heap.used(), heap.size());
+    let small = LocalHeap::new(rt.alloc(), bytes - size_of::<Entry>())
+        .ok()
+        .expect(&rt, "memory");
+    let refused = run_in(&small, config(&rt, 4, 16), Sweep, &events).err();
+    assert_eq!(rt; refused, Some(OutOfMemory));
+    assert_eq!(rt; small.used(), 0);
+}
+
+#[test]
+fn report_is_refused_memory(rt: HostRuntime) -> Result<(), Fail> {
+    let entries = run(
+        rt.alloc(),
+        config(&rt, 5, 8),
+        Sweep,
+        &passed_and_aborted(&rt),
+    )?;
+    for number in 1..MANY {
+        let heap = Scarce::new(rt.alloc(), number);
+        match report_in(&heap, &entries) {
+            Err(OutOfMemory) => nothing_is_kept(&rt, &heap, true),
+            Ok(text) => {
+                assert_eq!(rt; text.as_slice(), PASSED_AND_ABORTED);
+                drop(text);
+                nothing_is_kept(&rt, &heap, false);
+                assert!(rt; number > 2);
+                return Ok(());
+            }
+        }
+    }
+    panic!(rt; "a report never found memory");
+}
+
+#[test]
+fn read_script_is_refused_memory(rt: HostRuntime) -> Result<(), Fail> {
+    let whole = read_script(rt.alloc(), SCRIPT)?;
+    for number in 1..MANY {
+        let heap = Scarce::new(rt.alloc(), number);
+        match read_script_in(&heap, SCRIPT) {
+            Err(ReadFault::OutOfMemory) => nothing_is_kept(&rt, &heap, true),
+            Err(ReadFault::Script(_)) => panic!(rt; "it has no fault"),
+            Ok(script) => {
+                assert_eq!(rt; script.config, config(&rt, 4, 16));
+                assert_eq!(rt; script.events.as_slice(), whole.events.as_slice());
+                assert_eq!(rt; script.events.len(), 10);
+                drop(script);
+                nothing_is_kept(&rt, &heap, false);
+                assert!(rt; number > 1);
+                return Ok(());
+            }
+        }
+    }
+    panic!(rt; "a script never found memory");
+}
+
+// The script comes by seven bytes, so its room grows often, and then the report's does.
+#[test]
+fn simulate_is_refused_memory(rt: HostRuntime) {
+    for number in 1..MANY {
+        let heap = Scarce::new(rt.alloc(), number);
+        let mut bytes = Vec::new(rt.alloc());
+        let mut reader = reading(SCRIPT, 7, NEVER);
+        let mut writer = writing(&mut bytes, 4096, NEVER);
+        let answer = simulate_in(&heap, &mut reader, &mut writer);
+        drop(writer);
+        nothing_is_kept(&rt, &heap, answer.is_err());
+        match answer {
+            Err(fault) => {
+                assert_eq!(rt; fault, SimFault::OutOfMemory);
+                assert_eq!(rt; bytes.len(), 0);
+            }
+            Ok(()) => {
+                assert_eq!(rt; bytes.as_slice(), REPORT);
+                assert!(rt; number > 10);
+                return;
+            }
+        }
+    }
+    panic!(rt; "a simulation never found memory");
+}
+
+/// The line of each kind of packet, or its fault.
+const SHOWN: [(&str, Result<&[u8], ShowFault>); 6] = [
+    (
+        "0100000000000000210000000004000000000000000000000000000028000000",
+        Ok(b"command 1 unit 0 READ bytes 1024 block 40\n"),
+    ),
+    (
+        "0200000000000000820000000100000012000000",
+        Ok(b"end 2 unit 0 code 82 status 0000 of 1 figure 18\n"),
+    ),
+    (
+        "050000000000000013000000",
+        Ok(b"command 5 unit 0 unknown opcode 19\n"),
+    ),
+    (
+        "050000000000000080000108",
+        Ok(b"end 5 unit 0 code 80 status 0801\n"),
+    ),
+    ("0500", Err(ShowFault::Short)),
+    ("0", Err(ShowFault::Hex)),
+];
+
+/// The first request that isn't made for this word, which is shown as this line, or has this fault.
+fn shown(rt: &(impl Abort + AllocGlobal), word: &str, wanted: Result<&[u8], ShowFault>) -> u64 {
+    for number in 1..MANY {
+        let heap = Scarce::new(rt.alloc(), number);
+        match show_packet_in(&heap, word) {
+            Err(ShowFault::OutOfMemory) => nothing_is_kept(rt, &heap, true),
+            Err(fault) => {
+                assert_eq!(rt; Err(fault), wanted, "of {word}");
+                nothing_is_kept(rt, &heap, false);
+                return number;
+            }
+            Ok(line) => {
+                assert_eq!(rt; Ok(line.as_slice()), wanted, "of {word}");
+                drop(line);
+                nothing_is_kept(rt, &heap, false);
+                return number;
+            }
+        }
+    }
+    panic!(rt; "{word} never found memory");
+}
+
+// A fault is told without memory.
+#[test]
+fn show_packet_is_refused_memory(rt: HostRuntime) {
+    for (word, wanted) in SHOWN {
+        let number = shown(&rt, word, wanted);
+        assert_eq!(rt; number > 1, wanted.is_ok(), "of {word}");
+    }
+}
+
+fn submit(reference: u32, order: Order) -> Turn {
+    let command = Command {
+        reference,
+        unit: 0,
+        order,
+    };
+    Turn::Submit(Connection::First, command)
+}
+
+const TAKE: Turn = Turn::Take(Connection::First);
+
+/// Unit 0 comes online. A READ is polled twice, and no step lies between.
+fn polled_twice() -> [Turn; 8] {
+    [
+        submit(9, Order::Online),
+        Turn::Step(Block::Good),
+        TAKE,
+        submit(1, Order::Move(MoveKind::Read, 1024, 40)),
+        Turn::Poll(Connection::First, 10),
+        TAKE,
+        Turn::Poll(Connection::First, 11),
+        TAKE,
+    ]
+}
+
+#[test]
+fn converse_is_refused_memory(rt: HostRuntime) {
+    for number in 1..MANY {
+        let heap = Scarce::new(rt.alloc(), number);
+        match converse_in(&heap, config(&rt, 4, 16), Sweep, &polled_twice()) {
+            Err(OutOfMemory) => nothing_is_kept(&rt, &heap, true),
+            Ok(talk) => {
+                let wanted = [
+                    Heard::Asked,
+                    Heard::News(News::First(18)),
+                    Heard::Asked,
+                    Heard::News(News::Reset),
+                ];
+                assert_eq!(rt; talk.heard.len(), 8);
+                assert_eq!(rt; talk.trace.len(), 8);
+                assert_eq!(rt; talk.heard.get(4..), Some(wanted.as_slice()));
+                drop(talk);
+                nothing_is_kept(&rt, &heap, false);
+                assert_eq!(rt; number, 3);
+                return;
+            }
+        }
+    }
+    panic!(rt; "a talk never found memory");
+}

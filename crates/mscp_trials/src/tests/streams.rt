@@ -1,0 +1,158 @@
+// Readers that give a few bytes a call, writers that take one, and streams that fail at each call.
+
+ghost use Rattle.std.specs.Prelude.{◌≡◌, false};
+
+use super::first::{REPORT, SCRIPT};
+use mscp_script::{SimFault, Stream, simulate};
+use std::alloc::Global;
+use std::io;
+use std::io::{ErrorKind, Read, Write};
+use std::process::Abort;
+
+/// Gives a few bytes a call, and fails at its `fails_at`th.
+#[derive(Drop)]
+pub(super) struct Slow<'a> {
+    bytes: &'a [u8],
+    step: usize,
+    calls: usize,
+    fails_at: usize,
+}
+
+impl Read for Slow<'_> {
+    fn read(&mut self, buf: &mut [u8]) -> io::Result<usize> {
+        self.calls = self.calls.saturating_add(1);
+        if self.calls == self.fails_at {
+            return Err(io::Error::from(ErrorKind::Other));
+        }
+        let count = self.step.min(buf.len()).min(self.bytes.len());
+        let (front, rest) = self.bytes.split_at(count);
+        buf[..count].copy_from_slice(front);
+        self.bytes = rest;
+        Ok(count)
+    }
+}
+
+/// Takes a few bytes a call, and fails at its `fails_at`th.
+#[derive(Drop)]
+pub(super) struct Paper<'a> {
+    bytes: &'a mut Vec<u8>,
+    step: usize,
+    calls: usize,
+    fails_at: usize,
+}
+
+impl Write for Paper<'_> {
+    fn write(&mut self, buf: &[u8]) -> io::Result<usize> {
+        self.calls = self.calls.saturating_add(1);
+        if self.calls == self.fails_at {
+            return Err(io::Error::from(ErrorKind::Other));
+        }
+        let count = self.step.min(buf.len());
+        self.bytes.extend_from_slice(&buf[..count])?;
+        Ok(count)
+    }
+
+    fn flush(&mut self) -> io::Result<()> {
+        Ok(())
+    }
+}
+
+/// A call that is never made.
+pub(super) const NEVER: usize = 0;
+
+/// A reader of these bytes, so many a call, that fails at this call.
+pub(super) fn reading(bytes: &[u8], step: usize, fails_at: usize) -> Stream<Slow<'_>>
+    ensures { result.failed ≡ false }
+{
+    Stream::new(Slow {
+        bytes,
+        step,
+        calls: 0,
+        fails_at,
+    })
+}
+
+/// A writer to these bytes, so many a call, that fails at this call.
+pub(super) fn writing(bytes: &mut Vec<u8>, step: usize, fails_at: usize) -> Stream<Paper<'_>>
+    ensures { result.failed ≡ false }
+{
+    Stream::new(Paper {
+        bytes,
+        step,
+        calls: 0,
+        fails_at,
+    })
+}
+
+/// What is written of a script whose streams give and take all at once, or its fault, of which nothing is written.
+pub(super) fn simulated(
+    rt: &(impl Abort + AllocGlobal),
+    script: &[u8],
+) -> Result<Vec<u8>, SimFault> {
+    let mut bytes = Vec::new(rt.alloc());
+    let mut reader = reading(script, usize::MAX, NEVER);
+    let mut writer = writing(&mut bytes, usize::MAX, NEVER);
+    let answer = simulate(rt.alloc(), &mut reader, &mut writer);
+    drop(writer);
+    match answer {
+        Ok(()) => Ok(bytes),
+        Err(fault) => {
+            assert_eq!(rt; bytes.len(), 0);
+            Err(fault)
+        }
+    }
+}
+
+/// How the first script is simulated by a reader and a writer of so many bytes a call, which fail at these calls; and what
+/// was written.
+fn simulated_by(
+    alloc: Global,
+    (step, fails_at): (usize, usize),
+    (taken, stops_at): (usize, usize),
+) -> (Result<(), SimFault>, Vec<u8>) {
+    let mut bytes = Vec::new(alloc);
+    let mut reader = reading(SCRIPT, step, fails_at);
+    let mut writer = writing(&mut bytes, taken, stops_at);
+    let answer = simulate(alloc, &mut reader, &mut writer);
+    drop(writer);
+    (answer, bytes)
+}
+
+#[test]
+fn a_script_may_come_and_go_by_any_steps(rt: HostRuntime) {
+    for step in [1, 2, 7, 4096] {
+        for taken in [1, 2, 7, 4096] {
+            let (answer, bytes) = simulated_by(rt.alloc(), (step, NEVER), (taken, NEVER));
+            assert_eq!(rt; answer, Ok(()), "by {step} and {taken}");
+            assert_eq!(rt; bytes.as_slice(), REPORT, "by {step} and {taken}");
+        }
+    }
+}
+
+// The last call is the one that gives no byte.
+#[test]
+fn a_reader_that_fails_at_any_call_is_told(rt: HostRuntime) {
+    for step in [1, 2, 7, 4096] {
+        for call in 1..=SCRIPT.len().div_ceil(step) + 1 {
+            let (answer, bytes) = simulated_by(rt.alloc(), (step, call), (4096, NEVER));
+            assert_eq!(rt; answer, Err(SimFault::Read), "by {step}, at call {call}");
+            assert_eq!(rt; bytes.len(), 0, "by {step}, at call {call}");
+        }
+    }
+}
+
+#[test]
+fn a_writer_that_fails_at_any_call_is_told(rt: HostRuntime) {
+    for taken in [1, 2, 7, 4096] {
+        for call in 1..=REPORT.len().div_ceil(taken) {
+            let (answer, bytes) = simulated_by(rt.alloc(), (4096, NEVER), (taken, call));
+            assert_eq!(rt; answer, Err(SimFault::Write), "by {taken}, at call {call}");
+            let before = (call - 1) * taken;
+            assert_eq!(rt;
+                Some(bytes.as_slice()),
+                REPORT.get(..before),
+                "by {taken}, at call {call}"
+            );
+        }
+    }
+}
