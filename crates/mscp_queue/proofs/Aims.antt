@@ -1,6 +1,6 @@
 -- Where a command aims is where its drive and its first block are found.
 use Rattle.std.proofs.Common.{◌≡◌, ℕ, zero, suc, ◌+◌, ◌/◌, ◌<◌, ◌≤◌, true, cond, not, List, [], ◌∷◌, ◌++◌, map, take, drop, get_or, length, refl, ap, sym, ◌∙◌, subst, arith}
-use Rattle.std.specs.Prelude.{nat_eq, remove, unwrap_or}
+use Rattle.std.specs.Prelude.{All, nat_eq, remove, unwrap_or}
 use Rattle.std.specs.List.{position}
 use Rattle.std.proofs.Math.Nat.{div-mul-le_self}
 use Rattle.std.proofs.lemmas.Nat.{le-div}
@@ -75,19 +75,53 @@ first_inside ds r at d e found h m =
     ap (λ (s : Shape). s.size) (found_unit r.command.unit ds ∙ ap (λ (d : Drive). d.unit) (sym drive)) in
     omega (arith, inside, unit, some_steps r.command.order)
 
-own_blocks : (ds : List Drive) (rs : List Record) (aims : List Aim) (place : ℕ) (r : Record) → CanBeShown ds rs aims
+pub own_blocks : (ds : List Drive) (rs : List Record) (aims : List Aim) (place : ℕ) (r : Record) → CanBeShown ds rs aims
     → place < length rs → r ≡ get_or rs place r → HasBlocks (units_of ds) r.command
 own_blocks ds rs aims place r h l own = subst (λ (q : Record). HasBlocks (units_of ds) q.command) (sym own)
     (h.inside place r l)
 
-own_aim : (ds : List Drive) (rs : List Record) (aims : List Aim) (place : ℕ) (r : Record) (other : Aim)
+pub own_aim : (ds : List Drive) (rs : List Record) (aims : List Aim) (place : ℕ) (r : Record) (other : Aim)
     → CanBeShown ds rs aims → place < length rs → r ≡ get_or rs place r
     → get_or aims place other ≡ aim_of (units_of ds) r.command
 own_aim ds rs aims place r other h l own =
     let of : Record → Aim = λ q. aim_of (units_of ds) q.command in
     ap (λ zs. get_or zs place other) h.aimed ∙ (get_or-map of rs place r other l ∙ ap of (sym own))
 
+-- the drive that a record's aim leads to, and the cylinder of its first block there
+pub record IsLed (ds : List Drive) (r : Record) (at : ℕ) (d : Drive) (cylinder : ℕ) : Type 0 where
+  pub drive : d ≡ drive_of ds r.command.unit
+  pub aimed : IsAimed d cylinder r
+
 -- the place of its drive
+pub led_place : (ds : List Drive) (r : Record) (at : ℕ) (a : Aim) → at ≡ a.drive → a ≡ aim_of (units_of ds) r.command
+    → at ≡ drive_place ds r.command.unit
+led_place ds r at a is own = is ∙ (ap (λ (a : Aim). a.drive) own ∙ sym (place_same ds r.command.unit))
+
+pub led_inside : (ds : List Drive) (r : Record) (at : ℕ) (a : Aim) → HasBlocks (units_of ds) r.command → at ≡ a.drive
+    → a ≡ aim_of (units_of ds) r.command → at < length ds
+led_inside ds r at a blocks is own = subst (λ k. k < length ds) (sym (led_place ds r at a is own))
+    (known_inside ds r.command.unit blocks.0)
+
+pub led : (ds : List Drive) (r : Record) (at : ℕ) (a : Aim) (d : Drive) → All IsOnUnit ds
+    → HasBlocks (units_of ds) r.command → at ≡ a.drive → a ≡ aim_of (units_of ds) r.command → d ≡ get_or ds at d
+    → IsLed ds r at d a.cylinder
+led ds r at a d heads blocks is own found =
+    let place = led_place ds r at a is own in
+    let drive : d ≡ drive_of ds r.command.unit = found
+    ∙ (ap (λ i. get_or ds i d) place ∙ (known_at ds r.command.unit d blocks.0).drive) in
+    record {
+      drive = drive;
+      aimed = record {
+        head = subst IsOnUnit (sym found) (heads at d (led_inside ds r at a blocks is own));
+        block = first_inside ds r at d place found blocks;
+        cylinder_is =
+            ap (λ (a : Aim). a.cylinder) own
+            ∙ ap (λ (u : Shape). cylinder_of u (first_block r.command.order))
+            (found_unit r.command.unit ds ∙ ap (λ (q : Drive). q.unit) (sym drive));
+      };
+    }
+
+-- the place of the drive of a waiting command
 pub record HasDrive (ds : List Drive) (r : Record) (at : ℕ) : Type 0 where
   pub below : at < length ds
   pub few : at < 16
@@ -97,11 +131,10 @@ pub has_drive : (ds : List Drive) (rs : List Record) (aims : List Aim) (place : 
     → CanBeShown ds rs aims → place < length rs → r ≡ get_or rs place r → at ≡ (get_or aims place other).drive
     → HasDrive ds r at
 has_drive ds rs aims place r at other h l own is =
-    let there = is ∙ (ap (λ (a : Aim). a.drive) (own_aim ds rs aims place r other h l own)
-    ∙ sym (place_same ds r.command.unit)) in
-    let below = subst (λ k. k < length ds) (sym there)
-    (known_inside ds r.command.unit (own_blocks ds rs aims place r h l own).0) in
-    record { below = below; few = omega (arith, below, h.drives); place = there }
+    let a = get_or aims place other in
+    let aim = own_aim ds rs aims place r other h l own in
+    let below = led_inside ds r at a (own_blocks ds rs aims place r h l own) is aim in
+    record { below = below; few = omega (arith, below, h.drives); place = led_place ds r at a is aim }
 
 -- its drive, and the cylinder of its first block there
 pub record LeadsTo (ds : List Drive) (rs : List Record) (place : ℕ) (r : Record) (d : Drive) (cylinder : ℕ) :
@@ -114,20 +147,11 @@ pub leads_to : (ds : List Drive) (rs : List Record) (aims : List Aim) (place : �
     → at ≡ (get_or aims place other).drive
     → d ≡ get_or ds at d → LeadsTo ds rs place r d (get_or aims place other).cylinder
 leads_to ds rs aims place r at other d h l own is found =
-    let blocks = own_blocks ds rs aims place r h l own in
-    let has = has_drive ds rs aims place r at other h l own is in
-    let drive : d ≡ drive_of ds r.command.unit = found
-    ∙ (ap (λ i. get_or ds i d) has.place ∙ (known_at ds r.command.unit d blocks.0).drive) in
+    let to = led ds r at (get_or aims place other) d h.heads (own_blocks ds rs aims place r h l own) is
+    (own_aim ds rs aims place r other h l own) found in
     record {
-      drive = drive ∙ ap (λ (q : Record). drive_of ds q.command.unit) (own ∙ get_or_default rs place r no_record l);
-      aimed = record {
-        head = subst IsOnUnit (sym found) (h.heads at d has.below);
-        block = first_inside ds r at d has.place found blocks;
-        cylinder_is =
-            ap (λ (a : Aim). a.cylinder) (own_aim ds rs aims place r other h l own)
-            ∙ ap (λ (u : Shape). cylinder_of u (first_block r.command.order))
-            (found_unit r.command.unit ds ∙ ap (λ (q : Drive). q.unit) (sym drive));
-      };
+      drive = to.drive ∙ ap (λ (q : Record). drive_of ds q.command.unit) (own ∙ get_or_default rs place r no_record l);
+      aimed = to.aimed;
     }
 
 -- ---- the aims stay those of the records

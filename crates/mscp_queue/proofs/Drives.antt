@@ -100,6 +100,25 @@ set_is (x ∷ ds) (suc at) n new p l d e num =
     (λ i. (sym (ap (λ b. if b then new else x) (ne_eqb x.unit.number n (λ s. omega (arith, s, num, less))))) i
     ∷ set_is ds at n new p.1 below d e num i)
 
+-- the drive of this number stands there
+pub place_is : (ds : List Drive) (at n : ℕ) (d : Drive) → Pairs Lower (units_of ds) → at < length ds → d ≡ get_or ds at d
+    → d.unit.number ≡ n → drive_place ds n ≡ at
+place_is [] at n d p l e num = absurd (omega (arith, l))
+place_is (x ∷ ds) zero n d p l e num =
+    ap (λ b. cond (not b) (1 + drive_place ds n) 0) (eq-eqb x.unit.number n (ap (λ (q : Drive). q.unit.number) (sym e)
+    ∙ num))
+place_is (x ∷ ds) (suc at) n d p l e num =
+    let below : at < length ds = omega (arith, l) in
+    let up = every_mapped (λ (q : Drive). q.unit) (Lower x.unit) ds p.0 in
+    let there : get_or ds at d ≡ d = sym e in
+    let less : x.unit.number < d.unit.number =
+    subst (λ (q : Drive). x.unit.number < q.unit.number) there
+    (All-from_recursion (λ (q : Drive). x.unit.number < q.unit.number) ds up at d below) in
+    let rest = place_is ds at n d p.1 below e num in
+    let next : 1 + at ≡ suc at = omega arith in
+    ap (λ b. cond (not b) (1 + drive_place ds n) 0) (ne_eqb x.unit.number n (λ s. omega (arith, s, num, less)))
+    ∙ (ap (λ k. 1 + k) rest ∙ next)
+
 pub set_replaced : (ds : List Drive) (at n : ℕ) (new other : Drive) → IsUnitList (units_of ds)
     → is_known (units_of ds) n ≡ true
     → at ≡ drive_place ds n → set ds at new ≡ replaced n new ds

@@ -2,6 +2,7 @@ pub mod Lists
 pub mod Placed
 pub mod Mapped
 pub mod Named
+pub mod Unmoved
 pub mod Sums
 pub mod Begun
 pub mod Held
@@ -29,3 +30,4 @@ pub mod LaneParts
 pub mod Drives
 pub mod Starting
 pub mod Ready
+pub mod Lineups

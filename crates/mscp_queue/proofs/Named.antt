@@ -7,7 +7,8 @@ use Rattle.mscp_queue.specs.declared.name.Connection.{Connection}
 use Rattle.mscp_queue.specs.declared.name.Connection.TheVariants.{First, Second}
 use Rattle.mscp_queue.specs.declared.name.Name.{Name}
 use Rattle.mscp_queue.specs.Names.{name_on, same_connection, same_name}
-use Rattle.mscp_queue.specs.Records.{Record, has_name, has_number}
+use Rattle.mscp_queue.specs.declared.view.Choice.{Choice}
+use Rattle.mscp_queue.specs.Lineups.{has_choice_name, has_choice_number}
 
 pub one_side : (a b : Connection) → same_connection a b ≡ true → a ≡ b
 one_side First First h = refl
@@ -44,14 +45,14 @@ is_differ x y d =
     both (same_name x y) refl
 
 -- where none has the number none has the name
-pub unnumbered : (name : Name) (rs : List Record) → list_any (has_number name.reference) rs ≡ false
-    → list_any (has_name name) rs ≡ false
+pub unnumbered : (name : Name) (cs : List Choice) → list_any (has_choice_number name.reference) cs ≡ false
+    → list_any (has_choice_name name) cs ≡ false
 unnumbered name [] h = refl
-unnumbered name (r ∷ rs) h =
-    let p = or_parts (has_number name.reference r) (list_any (has_number name.reference) rs) h in
-    ap (λ b. b || list_any (has_name name) rs)
-    (and_right (same_connection r.connection name.connection) (has_number name.reference r) p.0)
-    ∙ unnumbered name rs p.1
+unnumbered name (c ∷ cs) h =
+    let p = or_parts (has_choice_number name.reference c) (list_any (has_choice_number name.reference) cs) h in
+    ap (λ b. b || list_any (has_choice_name name) cs)
+    (and_right (same_connection c.connection name.connection) (has_choice_number name.reference c) p.0)
+    ∙ unnumbered name cs p.1
 
 pub other_side : (a b : Connection) → same_connection a b ≡ false → same_connection b a ≡ false
 other_side First First h = h

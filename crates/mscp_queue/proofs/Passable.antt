@@ -3,7 +3,7 @@ use Rattle.std.proofs.Common.{◌≡◌, ℕ, ◌+◌, ◌<◌, ◌≤◌, Bool,
 use Rattle.std.specs.Prelude.{All, nat_eq, nat_le}
 use Rattle.std.specs.List.{AllByRecursion, list_all, range_with_len}
 use Rattle.std.proofs.lemmas.Bool.{and_parts, false≢true, le-leb, leb-true}
-use Rattle.std.proofs.lemmas.List.{map-append}
+use Rattle.std.proofs.lemmas.List.{get_or_default, map-append}
 use Rattle.std.proofs.lemmas.List.Sums.{sum_by-cons}
 use Rattle.std.proofs.lemmas.List.Elements.{All-from_recursion, All-take, recursion_from_All}
 use Rattle.mscp_packet.specs.declared.command.Order.{Order}
@@ -160,6 +160,16 @@ oldest_tells budget longest (q ∷ qs) r l e k o w =
           ∙ ap (λ b. b && list_all (is_passable budget longest) qs) (unfenced (is_move q.command.order)))
     ] in
     ap (λ (z : Record). nat_le (z.passed + longest) budget) e ∙ both (nat_le (q.passed + longest) budget) refl
+
+-- where each may still pass the oldest, which was passed most often
+pub passed_most : (budget most : ℕ) (rs : List Record) → 0 < length rs → sequential_count rs ≡ 0
+    → ArePassedInOrder rs → All (λ z. (is_sequential z.command.order || is_move z.command.order) ≡ true) rs
+    → All (λ r. r.weight ≤ most) rs → (record_at rs 0).passed + most ≤ budget → AllMayStart budget rs
+passed_most budget most rs some none order waitable light fits =
+    let r = record_at rs 0 in
+    all_may_start budget most rs light
+    (sym (oldest_tells budget most rs r some (sym (get_or_default rs 0 r no_record some)) none order waitable)
+    ∙ le-leb (r.passed + most) budget fits)
 
 pub none_counted : (rs : List Record) → list_all (λ r. not (is_sequential r.command.order)) rs ≡ true
     → sequential_count rs ≡ 0

@@ -9,6 +9,7 @@ pub mod Pickers
 pub mod Serving
 pub mod Figures
 pub mod Lines
+pub mod Lineups
 pub mod Kept
 pub mod Aims
 pub mod Lanes

@@ -171,6 +171,18 @@ impl Backlog {
         self.slots.none_is_sequential()
     }
 
+    /// Whether each command takes so many steps at the most.
+    pub fn are_light(&self, most: u32) -> bool
+        ensures { result ≡ true → All (λ r. r.weight ≤ most) self.now.waiting }
+    {
+        for place in 0..self.len() {
+            if self.record(place).weight() > most {
+                return false;
+            }
+        }
+        true
+    }
+
     /// Whether each command behind the place is of the unit of the one there.
     pub fn are_of_its_unit(&self, place: usize) -> bool
         requires { place < length self.now.waiting }
@@ -178,38 +190,6 @@ impl Backlog {
             → All (λ a. a.drive ≡ (slice_index_or self.now.aims place no_aim).drive) (drop (place + 1) self.now.aims) }
     {
         self.slots.are_of_its_unit(place)
-    }
-
-    /// The place of the command of this name, if it waits.
-    pub fn place_of(&self, name: Name) -> Option<usize>
-        ensures { result ≡ position (has_name name) self.now.waiting }
-    {
-        for place in 0..self.len() {
-            if self.record(place).has_name(name) {
-                return Some(place);
-            }
-        }
-        None
-    }
-
-    /// Whether a command has this reference number, by whichever connection it came. Nearly always none has, so each is
-    /// looked at without a branch.
-    fn has_number(&self, reference: u32) -> bool
-        ensures { result ≡ list_any (has_number reference) self.now.waiting }
-    {
-        let mut found = false;
-        for place in 0..self.len() {
-            found |= self.record(place).command().reference == reference;
-        }
-        found
-    }
-
-    /// Whether a command has this name.
-    #[tactic(auto, using(crate::proofs::Named::unnumbered))]
-    pub fn has_any(&self, name: Name) -> bool
-        ensures { result ≡ list_any (has_name name) self.now.waiting }
-    {
-        self.has_number(name.reference) && self.place_of(name).is_some()
     }
 
     /// Connection, reference number and figure of each command, in order of arrival. It isn't made part of its caller, since

@@ -34,6 +34,9 @@ pub fn lower(dues: &mut [u64; 64], mask: u64, by: u64)
     requires { (k : ℕ) → k < 64 → bit_at mask k ≡ 1 → by ≤ slice_index dues.old k }
     ensures { (k : ℕ) → k < 64 → slice_index dues.new k ≡ lowered mask by k (slice_index dues.old k) }
 {
+    if by == 0 {
+        return;
+    }
     for block in 0..8usize {
         let at = 8 * block;
         let bits = mask >> at;

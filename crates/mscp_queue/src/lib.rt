@@ -6,6 +6,7 @@ mod backlog;
 mod block;
 mod drive;
 pub mod lanes;
+mod lineup;
 mod masks;
 mod name;
 mod outcome;

@@ -20,7 +20,7 @@ pub(crate) struct Masks {
 }
 
 /// The mask with the bit of a slot set or cleared.
-fn with_bit(mask: u64, slot: usize, on: bool) -> u64
+pub(crate) fn with_bit(mask: u64, slot: usize, on: bool) -> u64
     requires { slot < 64 }
     ensures { IsSet on slot mask result }
 {

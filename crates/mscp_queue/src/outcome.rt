@@ -127,6 +127,7 @@ fn outcome_status(online: bool, order: &Order, block: &Block) -> u16
     }
 }
 
+#[inline(never)]
 /// The end of a command to this unit that a step with this block ends, when so many of its blocks were good before.
 pub(crate) fn outcome(unit: &Unit, online: bool, command: &Command, good: u32, block: &Block) -> End
     requires { good + 1 < 2 ^ 32 }

@@ -22,7 +22,8 @@ use crate::picker::Picker;
 use crate::record::Record;
 use crate::report::Report;
 use crate::service::{serve, upcoming};
-use crate::start::picked_place;
+use crate::lineup::Lineup;
+use crate::start::{choice_in, picked_place};
 use crate::upcoming::Upcoming;
 use crate::view::View;
 use arrayvec::ArrayVec;
@@ -56,7 +57,9 @@ pub struct Queue<K> {
     begun: Option<usize>,
     serving: Option<usize>,
     picker: K,
-    // What the picker saw last. It is kept for its room alone, since a new one would have to be cleared at each start.
+    lineup: Lineup,
+    // What the picker saw last, where some may not start. It is kept for its room alone, since a new one would have to be
+    // cleared at each start.
     view: View,
 }
 
@@ -64,7 +67,8 @@ pub struct Queue<K> {
 // begun, and the picker.
 impl<K> Model for Queue<K> {
     ghost use Rattle.mscp_queue.specs.Lines.{Line};
-    ghost use Rattle.mscp_queue.specs.Kept.{IsReady, begun_name};
+    ghost use Rattle.mscp_queue.specs.Kept.{begun_name};
+    ghost use Rattle.mscp_queue.specs.Lineups.{IsPrepared};
 
     ghost Value = { Line K };
 
@@ -79,7 +83,8 @@ impl<K> Model for Queue<K> {
           picker = q.picker;
         } };
 
-    ghost invariant = { λ q. IsReady q.room q.longest q.backlog q.drives.items q.begun q.serving };
+    ghost invariant = { λ q.
+        IsPrepared q.room q.longest q.backlog q.drives.items q.begun q.serving q.lineup.stale q.lineup.view };
 }
 
 /// A place that is known, once the command at the place `gone` left: none where it was that.
@@ -120,6 +125,7 @@ impl<K: Picker> Queue<K> {
             begun: None,
             serving: None,
             picker,
+            lineup: Lineup::new(),
             view: View::empty(),
         }
     }
@@ -130,6 +136,7 @@ impl<K: Picker> Queue<K> {
             ≡ fresh (units_of self.old.drives) self.old.room self.old.budget self.old.longest self.old.picker }
     {
         self.backlog.clear();
+        self.lineup.clear();
         renew_drives(self.drives.as_mut_slice());
         self.begun = None;
         self.serving = None;
@@ -150,7 +157,7 @@ impl<K: Picker> Queue<K> {
             connection,
             reference,
         };
-        self.backlog.has_any(name)
+        self.lineup.has_any(name)
     }
 
     /// Whether the unit of this number is online: false where it isn't configured.
@@ -176,8 +183,10 @@ impl<K: Picker> Queue<K> {
             order: new.order,
         };
         let aim = Aim::of(&command, self.drives.as_slice());
-        self.backlog
-            .push(Record::new(new.connection, command, new.weight), aim);
+        let record = Record::new(new.connection, command, new.weight);
+        self.lineup
+            .come(choice_in(self.drives.as_slice(), &record, aim));
+        self.backlog.push(record, aim);
     }
 
     /// The figure of the waiting command of the connection with the reference number, 0 if there is none: how many steps it
@@ -189,7 +198,7 @@ impl<K: Picker> Queue<K> {
             connection,
             reference,
         };
-        match self.backlog.place_of(name) {
+        match self.lineup.place_of(name) {
             Some(place) => self.backlog.figure(place),
             None => 0,
         }
@@ -216,9 +225,10 @@ impl<K: Picker> Queue<K> {
             connection,
             reference,
         };
-        let place = self.backlog.place_of(name)?;
+        let place = self.lineup.place_of(name)?;
         let record = *self.backlog.record(place);
         self.backlog.take_out(place);
+        self.lineup.remove(place);
         self.begun = without_place(self.begun, place);
         self.serving = without_place(self.serving, place);
         Some(aborted_end(&record.command(), record.done()))
@@ -253,6 +263,7 @@ impl<K: Picker> Queue<K> {
                 self.drives.as_slice(),
                 self.longest,
                 &self.picker,
+                &mut self.lineup,
                 &mut self.view,
             ),
         }
@@ -306,6 +317,7 @@ impl<K: Picker> Queue<K> {
         let service = serve(&self.drives[at], &record, block);
         let ends = service.ended.is_some();
         self.backlog.serve(place, ends);
+        self.lineup.serve(place, at, ends);
         self.drives[at] = service.drive;
         self.begun = None;
         self.serving = place_served(ends, place);

@@ -50,6 +50,7 @@ pub(crate) fn upcoming(drive: &Drive, served: &Record) -> Upcoming
     }
 }
 
+#[inline(always)]
 /// The end that a step with this block gives to the command, if it ends.
 fn end_given(drive: &Drive, served: &Record, block: &Block) -> Option<End>
     requires { served.now.done < served.now.weight }
@@ -89,6 +90,7 @@ fn head_on(head: &Head, to: u32, starts: bool) -> (u32, Head)
 }
 
 /// What a step of the command with this block does.
+#[inline(always)]
 pub(crate) fn serve(drive: &Drive, served: &Record, block: &Block) -> Service
     requires unfinished { served.now.done < served.now.weight }
     requires small { first_block served.now.command.order + served.now.done < 2 ^ 32 }

@@ -2,14 +2,19 @@
 
 ghost use Rattle.std.specs.Prelude.{◌≡◌, ◌++◌, ◌||◌, ◌+◌, [], ◌∷◌, ◌<◌, ◌≤◌, true, cond, length, All};
 ghost use Rattle.std.specs.List.{list_all, range_with_len};
-ghost use Rattle.mscp_queue.specs.Aims.{IsAimed};
-ghost use Rattle.mscp_queue.specs.Kept.{ArePassedInOrder, CanBeShown, IsShut};
+ghost use Rattle.mscp_drive.specs.UnitList.{IsUnitList};
+ghost use Rattle.mscp_queue.specs.Aims.{IsAimed, aim_of};
+ghost use Rattle.mscp_queue.specs.Drives.{IsOnUnit};
+ghost use Rattle.mscp_queue.specs.Kept.{ArePassedInOrder, CanBeShown, HasBlocks, IsShut, units_of};
+ghost use Rattle.mscp_queue.specs.Lineups.{IsLineup, choice_in};
 ghost use Rattle.mscp_queue.specs.Orders.{is_move, is_sequential};
 ghost use Rattle.mscp_queue.specs.Records.{drive_at, record_at};
 ghost use Rattle.mscp_queue.specs.Views.{AllMayStart, IsPick, choice_of, choices_at, is_open_at, is_passable, open_places, view_of};
 
+use crate::aim::Aim;
 use crate::backlog::Backlog;
 use crate::drive::Drive;
+use crate::lineup::Lineup;
 use crate::picker::Picker;
 use crate::record::Record;
 use crate::view::{Choice, View};
@@ -60,6 +65,17 @@ fn choice_of(record: &Record, drive: &Drive, cylinder: u32) -> Choice
     }
 }
 
+/// What a picker sees of a record that aims there.
+pub(crate) fn choice_in(drives: &[Drive], record: &Record, aim: Aim) -> Choice
+    requires waitable { (is_sequential «record».now.command.order || is_move «record».now.command.order) ≡ true }
+    requires blocks { HasBlocks (units_of drives.now) «record».now.command }
+    requires heads { All IsOnUnit drives.now }
+    requires aim { aim ≡ aim_of (units_of drives.now) «record».now.command }
+    ensures { result ≡ choice_in drives.now «record».now }
+{
+    choice_of(record, &drives[usize::from(aim.drive)], aim.cylinder)
+}
+
 /// The record at a place, the drive of its unit, and the cylinder of its first block.
 fn aimed_at<'a>(
     backlog: &'a Backlog,
@@ -78,21 +94,6 @@ fn aimed_at<'a>(
         &drives[usize::from(aim.drive)],
         aim.cylinder,
     )
-}
-
-/// Shows all records, each of a transfer. This isn't made part of its caller, so that the loop has all registers.
-#[inline(never)]
-fn show_all(view: &mut View, backlog: &Backlog, drives: &[Drive])
-    requires waiting { CanBeShown drives.now backlog.now.waiting backlog.now.aims }
-    requires transfers { All (λ r. is_move r.command.order ≡ true) backlog.now.waiting }
-    ensures { view.new
-        ≡ choices_at drives.now backlog.now.waiting (range_with_len 0 (length backlog.now.waiting)) }
-{
-    view.make_room(backlog.len());
-    for place in 0..backlog.len() {
-        let (record, drive, cylinder) = aimed_at(backlog, drives, place);
-        view.set(place, transfer_choice(record, drive, cylinder));
-    }
 }
 
 /// Whether the record at a place may start, where the oldest has so much left of the budget.
@@ -163,28 +164,28 @@ fn show_each(view: &mut View, backlog: &Backlog, drives: &[Drive]) -> ArrayVec<u
     places
 }
 
-/// Whether each that waits is a transfer that the longest may still pass. Who came earlier was passed by at least as
-/// many blocks, so that the oldest tells it for all. Then each may start.
+/// Whether each that waits is a transfer that each may still pass: the longest that may come, or else the longest of them.
+/// Who came earlier was passed by at least as many blocks, so that the oldest tells it for all. Then each may start.
 fn may_all_start(backlog: &Backlog, longest: u32) -> bool
     requires some { 0 < length backlog.now.waiting }
     requires order { ArePassedInOrder backlog.now.waiting }
     requires passed { (record_at backlog.now.waiting 0).passed ≤ backlog.now.budget }
     requires waitable { All (λ r. (is_sequential r.command.order || is_move r.command.order) ≡ true) backlog.now.waiting }
     requires short { All (λ r. r.weight ≤ longest) backlog.now.waiting }
-    requires some_blocks { 1 ≤ longest }
-    ensures passable { result ≡ list_all (is_passable backlog.now.budget longest) backlog.now.waiting }
-    ensures open { result ≡ true → AllMayStart backlog.now.budget backlog.now.waiting }
+    ensures { result ≡ true → AllMayStart backlog.now.budget backlog.now.waiting }
 {
-    backlog.none_is_sequential() && longest <= backlog.unspent()
+    let unspent = backlog.unspent();
+    backlog.none_is_sequential() && (longest <= unspent || backlog.are_light(unspent))
 }
 
 /// The place of the record that the picker picks, of those that may start: the view is made anew, and shows these. Where
-/// all may start, a record has its place in the view.
+/// all may start it is the lineup, in which a record has its place.
 pub(crate) fn picked_place<K: Picker>(
     backlog: &Backlog,
     drives: &[Drive],
     longest: u32,
     picker: &K,
+    lineup: &mut Lineup,
     view: &mut View,
 ) -> usize
     requires some { 0 < length backlog.now.waiting }
@@ -192,13 +193,15 @@ pub(crate) fn picked_place<K: Picker>(
     requires order { ArePassedInOrder backlog.now.waiting }
     requires passed { (record_at backlog.now.waiting 0).passed ≤ backlog.now.budget }
     requires short { All (λ r. r.weight ≤ longest) backlog.now.waiting }
-    requires some_blocks { 1 ≤ longest }
+    requires units { IsUnitList (units_of drives.now) }
+    requires lined { IsLineup lineup.old.stale drives.now backlog.now.waiting lineup.old.view }
     ensures inside { result < length backlog.now.waiting }
     ensures picked { IsPick (K.picks picker.now) backlog.now.budget drives.now backlog.now.waiting result }
+    ensures lined { IsLineup lineup.new.stale drives.now backlog.now.waiting lineup.new.view }
 {
     if may_all_start(backlog, longest) {
-        show_all(view, backlog, drives);
-        return picker.pick(view);
+        lineup.renew_all(backlog, drives);
+        return picker.pick(&lineup.view);
     }
     view.clear();
     let places = show_each(view, backlog, drives);

@@ -1,9 +1,11 @@
 // What a picker sees.
 
-ghost use Rattle.std.specs.Prelude.{◌≡◌, ◌↔◌, ◌<◌, ◌≤◌, [], ◌∷◌, ◌++◌, length, slice_set, IsSome, IfSome};
+ghost use Rattle.std.specs.Prelude.{◌≡◌, ◌↔◌, ◌<◌, ◌≤◌, ◌+◌, [], ◌∷◌, ◌++◌, length, take, drop, slice_index_or, slice_set, IsSome, IfSome};
+ghost use Rattle.mscp_queue.specs.Lineups.{costing, no_choice};
 ghost use Rattle.mscp_queue.specs.Views.{choice_name};
 
 use crate::name::{Connection, Name};
+use arrayvec::ArrayVec;
 use mscp_packet::Class;
 use std::fmt;
 use std::fmt::{Debug, Formatter, Write};
@@ -58,21 +60,19 @@ impl Default for Choice {
 /// The commands that may start, at most 64 of them. A queue shows them in order of arrival.
 #[derive(Drop)]
 pub struct View {
-    // From the count on stand choices of earlier views, which nobody sees: so it costs nothing to forget them.
-    choices: [Choice; 64],
-    count: usize,
+    choices: ArrayVec<Choice, 64>,
 }
 
 // A clause sees the list of the choices.
 impl Model for View {
-    ghost use Rattle.std.specs.Prelude.{◌≤◌, List, take};
+    ghost use Rattle.std.specs.Prelude.{List};
     ghost use Rattle.mscp_queue.specs.declared.view.Choice.{Choice as Shown};
 
     ghost Value = { List Shown };
 
-    ghost view = { λ v. take v.count v.choices };
+    ghost view = { λ v. v.choices.items };
 
-    ghost invariant = { λ v. v.count ≤ 64 };
+    ghost invariant = { λ v. Unit {0} };
 }
 
 impl View {
@@ -96,8 +96,7 @@ impl View {
         ensures { result ≡ [] }
     {
         View {
-            choices: [Choice::default(); 64],
-            count: 0,
+            choices: ArrayVec::new(),
         }
     }
 
@@ -105,7 +104,7 @@ impl View {
     pub(crate) fn clear(&mut self)
         ensures { self.new ≡ [] }
     {
-        self.count = 0;
+        self.choices.clear();
     }
 
     /// Appends a choice.
@@ -113,27 +112,23 @@ impl View {
         requires { length self.old < 64 }
         ensures { self.new ≡ self.old ++ choice ∷ [] }
     {
-        self.choices[self.count] = choice;
-        self.count += 1;
+        self.choices.push(choice);
     }
 
-    /// Makes room for so many choices, which the caller sets one by one: as yet they are those of earlier views. So a loop
-    /// that counts needn't count here too.
-    pub(crate) fn make_room(&mut self, count: usize)
-        requires { count ≤ 64 }
-        ensures { length self.new ≡ count }
+    /// Takes the choice at a place out.
+    pub(crate) fn remove(&mut self, place: usize)
+        requires { place < length self.old }
+        ensures { self.new ≡ take place self.old ++ drop (place + 1) self.old }
     {
-        self.count = count;
+        self.choices.remove(place);
     }
 
-    /// Sets the choice at a place.
-    #[tactic(auto, using(crate::proofs::Lists::set_within))]
-    pub(crate) fn set(&mut self, place: usize, choice: Choice)
-        requires inside { place < length self.old }
-        requires few { place < 64 }
-        ensures { self.new ≡ slice_set self.old place choice }
+    /// Sets what the choice at a place costs.
+    pub(crate) fn set_cost(&mut self, place: usize, cost: u64)
+        requires { place < length self.old }
+        ensures { self.new ≡ slice_set self.old place (costing cost (slice_index_or self.old place no_choice)) }
     {
-        self.choices[place] = choice;
+        self.choices[place].cost = cost;
     }
 
     /// The choices, in their order.
@@ -141,7 +136,7 @@ impl View {
         ensures value { result.now ≡ self.now }
         ensures few { length result.now ≤ 64 }
     {
-        &self.choices[..self.count]
+        self.choices.as_slice()
     }
 }
 

@@ -6,6 +6,7 @@ use Rattle.mscp_queue.specs.declared.drive.Drive.{Drive}
 use Rattle.mscp_queue.specs.declared.view.Choice.{Choice}
 use Rattle.mscp_queue.specs.Records.{Record, drive_at, record_at}
 use Rattle.mscp_queue.specs.Views.{AllMayStart, choice_of, choices_at, open_places, view_of}
+use Rattle.mscp_queue.proofs.Lineups.{all_choices, lineup_of}
 use Rattle.mscp_queue.proofs.Starting.{places_inside, some_place}
 use Rattle.mscp_queue.proofs.start.picked_place.Goals as goal
 
@@ -38,7 +39,10 @@ from_0 n = omega arith
 pub returns-then-may_all_start-clause-inside : goal.returns-then-may_all_start-clause-inside
 returns-then-may_all_start-clause-inside g
     c = (all_picked c.args.backlog.now.budget c.args.drives.now c.args.backlog.now.waiting _ c.requires.some
-    (c.may_all_start.ensures.open c.if-may_all_start.true) c.show_all.ensures).inside c.pick.result c.pick.ensures.place
+    (c.may_all_start.ensures c.if-may_all_start.true) (c.renew_all.ensures ∙ all_choices c.args.drives.now c.args.backlog.now.waiting)).inside c.pick.result c.pick.ensures.place
+
+pub returns-then-may_all_start-clause-lined : goal.returns-then-may_all_start-clause-lined
+returns-then-may_all_start-clause-lined g c = lineup_of c.renew_all.new.self.stale c.renew_all.ensures
 
 -- and then the place in the view is the record's
 pub returns-then-may_all_start-clause-picked : goal.returns-then-may_all_start-clause-picked
@@ -46,8 +50,8 @@ returns-then-may_all_start-clause-picked g c =
     let b = c.args.backlog.now.budget in
     let rs = c.args.backlog.now.waiting in
     let picks = g.K.Picker.picks c.args.picker.now in
-    let all = all_picked b c.args.drives.now rs _ c.requires.some (c.may_all_start.ensures.open c.if-may_all_start.true)
-    c.show_all.ensures in
+    let all = all_picked b c.args.drives.now rs _ c.requires.some (c.may_all_start.ensures c.if-may_all_start.true)
+    (c.renew_all.ensures ∙ all_choices c.args.drives.now c.args.backlog.now.waiting) in
     let inside = all.inside c.pick.result c.pick.ensures.place in (
       c.pick.result,
       omega (arith, ap length all.opens, length-range_with_len 0 (length rs), inside),

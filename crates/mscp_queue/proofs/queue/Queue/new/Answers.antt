@@ -4,13 +4,14 @@ use Rattle.std.proofs.lemmas.Bool.{false≢true}
 use Rattle.mscp_queue.specs.Drives.{fresh_drive}
 use Rattle.mscp_queue.specs.Waiters.{Waiters}
 use Rattle.mscp_queue.specs.Kept.{IsReady}
+use Rattle.mscp_queue.proofs.Lineups.{none_lined}
 use Rattle.mscp_queue.proofs.Held.{held_fresh}
 use Rattle.mscp_queue.proofs.queue.Queue.new.Goals as goal
 
 pub invariant_of-result : goal.invariant_of-result
 invariant_of-result g c =
     let ds = c.drives_of-drives.result.items in
-    subst (λ (w : Waiters). IsReady c.args.room c.args.longest w ds None None) (sym c.new.ensures)
+    let ready = subst (λ (w : Waiters). IsReady c.args.room c.args.longest w ds None None) (sym c.new.ensures)
     (record {
       held =
           held_fresh c.args.room c.args.budget c.args.longest c.args.units _ ds c.requires.some_room c.requires.few
@@ -20,4 +21,8 @@ invariant_of-result g c =
       order = tt;
       served = λ place e. absurd (false≢true (ap is_some e));
       waits = λ place e. absurd (false≢true (ap is_some e));
-    })
+    }) in
+    record {
+      ready = ready;
+      lined = none_lined (ap (λ (w : Waiters). w.waiting) c.new.ensures) c.new-2.ensures;
+    }

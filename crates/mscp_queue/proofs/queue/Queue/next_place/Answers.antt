@@ -18,5 +18,5 @@ returns-in-Some-clause-some g c =
     let begun : begun_name rs q.begun ≡ Some name = ap (begun_name rs) c.in-Some.is in
     subst (λ (l : Line K). IsNext (g.K.Picker.picks l.picker) l.budget l.drives l.waiting l.begun place) c.self.view_is
     (subst (λ b. IsNext picks q.backlog.budget q.drives.items rs b place) (sym begun)
-    (known_next picks q.backlog.budget q.drives.items rs place c.self.invariant.held.apart
-    (c.self.invariant.waits place c.in-Some.is) (c.self.invariant.held.still name begun)))
+    (known_next picks q.backlog.budget q.drives.items rs place c.self.invariant.ready.held.apart
+    (c.self.invariant.ready.waits place c.in-Some.is) (c.self.invariant.ready.held.still name begun)))

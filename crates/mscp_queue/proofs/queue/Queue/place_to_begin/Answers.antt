@@ -14,10 +14,10 @@ returns-in-Some-clause-next g c =
     let picks = g.K.Picker.picks q.picker in
     let nothing : begun_name rs q.begun ≡ None = ap (λ (l : Line K). l.begun) c.self.view_is ∙ c.requires.nothing in
     let place = c.in-Some.place in
-    let was = c.self.invariant.served place c.in-Some.is in
+    let was = c.self.invariant.ready.served place c.in-Some.is in
     subst (λ (l : Line K). IsNext (g.K.Picker.picks l.picker) l.budget l.drives l.waiting l.begun place) c.self.view_is
     (serving_next picks q.backlog.budget q.drives.items rs (begun_name rs q.begun) place nothing
-    (serving_found rs place c.self.invariant.held.one was.0 was.1))
+    (serving_found rs place c.self.invariant.ready.held.one was.0 was.1))
 
 pub returns-in-None-clause-next : goal.returns-in-None-clause-next
 returns-in-None-clause-next g c =
@@ -31,5 +31,5 @@ returns-in-None-clause-next g c =
     subst (λ (l : Line K). IsNext (g.K.Picker.picks l.picker) l.budget l.drives l.waiting l.begun place) c.self.view_is
     (subst (λ ds. IsNext picks q.backlog.budget ds rs (begun_name rs q.begun) place) drives.ensures.value
     (picked_next picks q.backlog.budget drives.result.now rs (begun_name rs q.begun) place nothing
-    (nobody_found rs q.serving c.in-None.is c.self.invariant.held.idle)
+    (nobody_found rs q.serving c.in-None.is c.self.invariant.ready.held.idle)
     c.picked_place.ensures.inside c.picked_place.ensures.picked))

@@ -10,6 +10,8 @@ use Rattle.mscp_queue.specs.Lines.{Line}
 use Rattle.mscp_queue.specs.Names.{name_on}
 use Rattle.mscp_queue.specs.Records.{Record, has_name}
 use Rattle.mscp_queue.proofs.Aims.{place_inside}
+use Rattle.mscp_queue.specs.Lineups.{choice_in}
+use Rattle.mscp_queue.proofs.Lineups.{line_with}
 use Rattle.mscp_queue.proofs.Ready.{ready_pushed}
 use Rattle.mscp_queue.proofs.Sums.{held_small}
 use Rattle.mscp_queue.proofs.queue.Queue.push.Goals as goal
@@ -26,7 +28,7 @@ push-requires-clause-drive g c =
     } in
     let waitable = subst (λ (l : Line K). IsWaitable l.longest (units_of l.drives) command)
     (sym c.self.view_is) c.requires.waitable in
-    let few = c.self.invariant.held.units.few in
+    let few = c.self.invariant.ready.held.units.few in
     omega (
       arith,
       ap (λ (a : Aim). a.drive) (c.of-aim.ensures ∙ ap (λ ds. aim_of (units_of ds) command) c.as_slice.ensures.value),
@@ -36,7 +38,7 @@ push-requires-clause-drive g c =
     )
 
 pub push-requires-clause-small : goal.push-requires-clause-small
-push-requires-clause-small g c = held_small c.self.invariant.held
+push-requires-clause-small g c = held_small c.self.invariant.ready.held
 
 pub invariant_of-self : goal.invariant_of-self
 invariant_of-self g c =
@@ -51,13 +53,19 @@ invariant_of-self g c =
     let name = name_on c.args.new.connection c.args.new.reference in
     let q = c.self.inside in
     let e = c.push.ensures in
-    ready_pushed c.args.new.connection command c.of-aim.result c.self.invariant
+    let ready = ready_pushed c.args.new.connection command c.of-aim.result c.self.invariant.ready
     (subst (λ (l : Line K). length l.waiting < l.room) seen c.requires.room)
     (subst (λ (l : Line K). IsWaitable l.longest (units_of l.drives) command) seen c.requires.waitable)
     (subst (λ (l : Line K). list_any (has_name name) l.waiting ≡ false) seen c.requires.apart)
     (c.of-aim.ensures ∙ ap (λ ds. aim_of (units_of ds) command) c.as_slice.ensures.value)
     (λ i. record {
       budget = e.budget i;
-      waiting = (e.waiting ∙ ap (λ (r : Record). q.backlog.waiting ++ r ∷ []) c.new.ensures) i;
+      waiting = (e.waiting ∙ ap (λ (r : Record). q.backlog.waiting ++ r ∷ []) c.new-record.ensures) i;
       aims = e.aims i;
-    })
+    }) in
+    record {
+      ready = ready;
+      lined = line_with c.new-record.result c.choice_in.result c.self.invariant.lined
+          (c.choice_in.ensures ∙ ap (λ ds. choice_in ds c.new-record.result) c.as_slice-2.ensures.value)
+          c.come.ensures.view c.come.ensures.stale e.waiting;
+    }

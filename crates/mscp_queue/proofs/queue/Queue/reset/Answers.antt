@@ -7,6 +7,7 @@ use Rattle.mscp_queue.specs.Drives.{fresh_drive}
 use Rattle.mscp_queue.specs.Waiters.{Waiters}
 use Rattle.mscp_queue.specs.Kept.{IsReady, begun_name, units_of}
 use Rattle.mscp_queue.specs.Lines.{Line, fresh}
+use Rattle.mscp_queue.proofs.Lineups.{none_lined}
 use Rattle.mscp_queue.proofs.Held.{held_renewed, renewed}
 use Rattle.mscp_queue.proofs.queue.Queue.reset.Goals as goal
 
@@ -15,17 +16,21 @@ invariant_of-self g c =
     let q = c.self.inside in
     let drives = renewed q.drives.items c.renew_drives.new.drives
     (c.renew_drives.ensures ∙ ap (map (λ (d : Drive). fresh_drive d.unit)) c.as_mut_slice.ensures.value) in
-    subst (λ (w : Waiters). IsReady q.room q.longest w
+    let ready = subst (λ (w : Waiters). IsReady q.room q.longest w
     (refill (length q.drives.items) q.drives.items c.renew_drives.new.drives) None None) (sym c.clear.ensures)
     (record {
       held = held_renewed q.room q.backlog.budget q.longest q.backlog.waiting _ q.drives.items _
           (begun_name q.backlog.waiting q.begun)
-          (is_some q.serving) c.self.invariant.held refl drives;
+          (is_some q.serving) c.self.invariant.ready.held refl drives;
       aimed = refl;
       order = tt;
       served = λ place e. absurd (false≢true (ap is_some e));
       waits = λ place e. absurd (false≢true (ap is_some e));
-    })
+    }) in
+    record {
+      ready = ready;
+      lined = none_lined (ap (λ (w : Waiters). w.waiting) c.clear.ensures) c.clear-2.ensures;
+    }
 
 pub returns : goal.returns
 returns g c =

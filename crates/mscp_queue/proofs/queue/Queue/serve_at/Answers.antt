@@ -1,7 +1,7 @@
-use Rattle.std.proofs.Common.{◌≡◌, ◌<◌, length, set, get_or, refl, ap, subst, sym, ◌∙◌}
+use Rattle.std.proofs.Common.{arith, ◌≡◌, ◌<◌, length, set, get_or, refl, ap, subst, sym, ◌∙◌}
 use Rattle.std.specs.Prelude.{◌||◌, true, is_some, IfSome, None}
 use Rattle.std.specs.List.{refill}
-use Rattle.std.proofs.lemmas.List.{length-set}
+use Rattle.std.proofs.lemmas.List.{length-map, length-set}
 use Rattle.mscp_packet.specs.Ends.{IsOfKind}
 use Rattle.mscp_queue.specs.declared.aim.Aim.{Aim}
 use Rattle.mscp_queue.specs.declared.drive.Drive.{Drive}
@@ -12,7 +12,9 @@ use Rattle.mscp_queue.specs.Lines.{Line, served}
 use Rattle.mscp_queue.specs.Orders.{is_move, is_sequential}
 use Rattle.mscp_queue.specs.Records.{Record, drive_at, no_record, record_at, step_toll}
 use Rattle.mscp_queue.specs.Serving.{IsNext, drive_after, end_given, report_of}
-use Rattle.mscp_queue.proofs.Drives.{set_replaced}
+use Rattle.mscp_queue.proofs.Aims.{place_same}
+use Rattle.mscp_queue.proofs.Drives.{known_at, set_replaced}
+use Rattle.mscp_queue.proofs.Lineups.{lineup_served}
 use Rattle.mscp_queue.proofs.Mapped.{refilled}
 use Rattle.mscp_queue.proofs.Ready.{can_serve, drive_found, left_is, ready_step, serves_if}
 use Rattle.mscp_queue.proofs.Shaped.{given_kind}
@@ -30,9 +32,25 @@ bounds-deref-at g c =
     subst (λ (l : Line K). IsNext (g.K.Picker.picks l.picker) l.budget l.drives l.waiting l.begun place)
     (sym c.self.view_is)
     c.requires in
-    let at = drive_found q.backlog.aims place _ c.self.invariant.held c.self.invariant.aimed next.servable.inside
+    let at = drive_found q.backlog.aims place _ c.self.invariant.ready.held c.self.invariant.ready.aimed next.servable.inside
     (c.from-at.ensures ∙ ap (λ (a : Aim). a.drive) c.aim.ensures) in
     subst (λ l. c.from-at.result < length l) (sym c.deref.ensures.0) at.inside
+
+pub serve-requires-2-clause-drive : goal.serve-requires-2-clause-drive
+serve-requires-2-clause-drive g c =
+    let K = g.row.K.Denot in
+    let q = c.self.inside in
+    let rs = q.backlog.waiting in
+    let ds = q.drives.items in
+    let place = c.args.place in
+    let next : IsNext (g.K.Picker.picks q.picker) q.backlog.budget ds rs (begun_name rs q.begun) place =
+    subst (λ (l : Line K). IsNext (g.K.Picker.picks l.picker) l.budget l.drives l.waiting l.begun place)
+    (sym c.self.view_is)
+    c.requires in
+    let at = drive_found q.backlog.aims place _ c.self.invariant.ready.held c.self.invariant.ready.aimed next.servable.inside
+    (c.from-at.ensures ∙ ap (λ (a : Aim). a.drive) c.aim.ensures) in
+    let few = c.self.invariant.ready.held.units.few in
+    omega (arith, at.inside, few, length-map ds (λ (d : Drive). d.unit))
 
 pub serve-requires-clause-front : goal.serve-requires-clause-front
 serve-requires-clause-front g c =
@@ -45,7 +63,7 @@ serve-requires-clause-front g c =
     subst (λ (l : Line K). IsNext (g.K.Picker.picks l.picker) l.budget l.drives l.waiting l.begun place)
     (sym c.self.view_is)
     c.requires in
-    (can_serve c.args.block.now c.self.invariant.held next.servable).front
+    (can_serve c.args.block.now c.self.invariant.ready.held next.servable).front
 
 pub serve-requires-clause-back : goal.serve-requires-clause-back
 serve-requires-clause-back g c =
@@ -58,7 +76,7 @@ serve-requires-clause-back g c =
     subst (λ (l : Line K). IsNext (g.K.Picker.picks l.picker) l.budget l.drives l.waiting l.begun place)
     (sym c.self.view_is)
     c.requires in
-    (can_serve c.args.block.now c.self.invariant.held next.servable).back
+    (can_serve c.args.block.now c.self.invariant.ready.held next.servable).back
 
 pub serve-requires-clause-affordable : goal.serve-requires-clause-affordable
 serve-requires-clause-affordable g c =
@@ -71,7 +89,7 @@ serve-requires-clause-affordable g c =
     subst (λ (l : Line K). IsNext (g.K.Picker.picks l.picker) l.budget l.drives l.waiting l.begun place)
     (sym c.self.view_is)
     c.requires in
-    (can_serve c.args.block.now c.self.invariant.held next.servable).affordable
+    (can_serve c.args.block.now c.self.invariant.ready.held next.servable).affordable
 
 pub bounds-deref_mut-at : goal.bounds-deref_mut-at
 bounds-deref_mut-at g c =
@@ -84,7 +102,7 @@ bounds-deref_mut-at g c =
     subst (λ (l : Line K). IsNext (g.K.Picker.picks l.picker) l.budget l.drives l.waiting l.begun place)
     (sym c.self.view_is)
     c.requires in
-    let at = drive_found q.backlog.aims place _ c.self.invariant.held c.self.invariant.aimed next.servable.inside
+    let at = drive_found q.backlog.aims place _ c.self.invariant.ready.held c.self.invariant.ready.aimed next.servable.inside
     (c.from-at.ensures ∙ ap (λ (a : Aim). a.drive) c.aim.ensures) in
     subst (λ l. c.from-at.result < length l) (sym c.deref_mut.ensures.value) at.inside
 
@@ -99,14 +117,14 @@ invariant_of-self g c =
     subst (λ (l : Line K). IsNext (g.K.Picker.picks l.picker) l.budget l.drives l.waiting l.begun place)
     (sym c.self.view_is)
     c.requires in
-    let at = drive_found q.backlog.aims place _ c.self.invariant.held c.self.invariant.aimed next.servable.inside
+    let at = drive_found q.backlog.aims place _ c.self.invariant.ready.held c.self.invariant.ready.aimed next.servable.inside
     (c.from-at.ensures ∙ ap (λ (a : Aim). a.drive) c.aim.ensures) in
     let d = c.index-deref-at.result in
     let r = record_at rs place in
     let own = c.record.ensures in
     let drive : d ≡ drive_at ds rs place = c.index-deref-at.is
     ∙ ap (λ l. get_or l c.from-at.result d) c.deref.ensures.0 ∙ at.is d in
-    let known = (c.self.invariant.held.each place no_record next.servable.inside).waitable.known in
+    let known = (c.self.invariant.ready.held.each place no_record next.servable.inside).waitable.known in
     let d' = c.serve-service.result.drive in
     let ds' = refill (length ds) ds (set c.deref_mut.result.now c.from-at.result d') in
     let seen = c.deref_mut.ensures.value in
@@ -114,11 +132,13 @@ invariant_of-self g c =
     refilled ds (set c.deref_mut.result.now c.from-at.result d')
     (length-set c.deref_mut.result.now c.from-at.result d' ∙ ap length seen)
     ∙ (ap (λ l. set l c.from-at.result d') seen
-    ∙ set_replaced ds c.from-at.result r.command.unit d' d c.self.invariant.held.units known at.placed) in
+    ∙ set_replaced ds c.from-at.result r.command.unit d' d c.self.invariant.ready.held.units known at.placed) in
     let ends = c.is_some-ends.result in
     let e = c.serve.ensures in
     let drive_is = drive ∙ ap (λ (z : Record). drive_at ds rs place) own in
-    ready_step {k = c.args.block.now} c.self.invariant next.servable (record {
+    let same = units_step r.command.unit d d' ds ds' c.args.block.now c.record.result.now c.self.invariant.ready.held.units drive
+    c.serve-service.ensures.drive now in
+    let ready = ready_step {k = c.args.block.now} c.self.invariant.ready next.servable (record {
       r = c.record.result.now;
       command = c.record.result.now.command;
       d = d;
@@ -138,8 +158,15 @@ invariant_of-self g c =
       serves_on = serves_if c.place_served-self-inside.result ends place c.place_served-self-inside.ensures;
       drives = now ∙ ap (λ (z : Record). replaced z.command.unit d' ds) (sym own);
     }) e.budget e.aims c.place_served-self-inside.ensures
-    (units_step r.command.unit d d' ds ds' c.args.block.now c.record.result.now c.self.invariant.held.units drive
-    c.serve-service.ensures.drive now)
+    same in
+    let there = known_at ds r.command.unit d known in
+    let number : d'.unit.number ≡ r.command.unit = ap (λ (z : Drive). z.unit.number) c.serve-service.ensures.drive
+    ∙ (ap (λ (z : Drive). z.unit.number) (drive ∙ sym there.drive) ∙ there.number) in
+    record {
+      ready = ready;
+      lined = lineup_served c.from-at.result r.command.unit _ d' ends c.self.invariant.lined c.self.invariant.ready.held.units.few c.serve-2.ensures.stale
+          (at.placed ∙ place_same ds r.command.unit) number now same next.servable.inside e.waiting c.serve-2.ensures.view;
+    }
 
 pub returns-clause-units : goal.returns-clause-units
 returns-clause-units g c =
@@ -152,14 +179,14 @@ returns-clause-units g c =
     subst (λ (l : Line K). IsNext (g.K.Picker.picks l.picker) l.budget l.drives l.waiting l.begun place)
     (sym c.self.view_is)
     c.requires in
-    let at = drive_found q.backlog.aims place _ c.self.invariant.held c.self.invariant.aimed next.servable.inside
+    let at = drive_found q.backlog.aims place _ c.self.invariant.ready.held c.self.invariant.ready.aimed next.servable.inside
     (c.from-at.ensures ∙ ap (λ (a : Aim). a.drive) c.aim.ensures) in
     let d = c.index-deref-at.result in
     let r = record_at rs place in
     let own = c.record.ensures in
     let drive : d ≡ drive_at ds rs place = c.index-deref-at.is
     ∙ ap (λ l. get_or l c.from-at.result d) c.deref.ensures.0 ∙ at.is d in
-    let known = (c.self.invariant.held.each place no_record next.servable.inside).waitable.known in
+    let known = (c.self.invariant.ready.held.each place no_record next.servable.inside).waitable.known in
     let d' = c.serve-service.result.drive in
     let ds' = refill (length ds) ds (set c.deref_mut.result.now c.from-at.result d') in
     let seen = c.deref_mut.ensures.value in
@@ -167,8 +194,8 @@ returns-clause-units g c =
     refilled ds (set c.deref_mut.result.now c.from-at.result d')
     (length-set c.deref_mut.result.now c.from-at.result d' ∙ ap length seen)
     ∙ (ap (λ l. set l c.from-at.result d') seen
-    ∙ set_replaced ds c.from-at.result r.command.unit d' d c.self.invariant.held.units known at.placed) in
-    units_step r.command.unit d d' ds ds' c.args.block.now c.record.result.now c.self.invariant.held.units drive
+    ∙ set_replaced ds c.from-at.result r.command.unit d' d c.self.invariant.ready.held.units known at.placed) in
+    units_step r.command.unit d d' ds ds' c.args.block.now c.record.result.now c.self.invariant.ready.held.units drive
     c.serve-service.ensures.drive now
     ∙ ap (λ (l : Line K). units_of l.drives) c.self.view_is
 
@@ -184,7 +211,7 @@ returns-clause-shaped g c =
     (sym c.self.view_is)
     c.requires in
     let CanWait : Record → Type 0 = λ r. (is_sequential r.command.order || is_move r.command.order) ≡ true in
-    let kept = c.self.invariant.held.each place no_record next.servable.inside in
+    let kept = c.self.invariant.ready.held.each place no_record next.servable.inside in
     subst (λ e. IfSome e IsOfKind) (sym c.serve-service.ensures.ended)
     (given_kind c.args.block.now c.index-deref-at.result c.record.result.now
     (subst CanWait (sym c.record.ensures) kept.waitable.order))
@@ -200,14 +227,14 @@ returns-clause-served g c =
     subst (λ (l : Line K). IsNext (g.K.Picker.picks l.picker) l.budget l.drives l.waiting l.begun place)
     (sym c.self.view_is)
     c.requires in
-    let at = drive_found q.backlog.aims place _ c.self.invariant.held c.self.invariant.aimed next.servable.inside
+    let at = drive_found q.backlog.aims place _ c.self.invariant.ready.held c.self.invariant.ready.aimed next.servable.inside
     (c.from-at.ensures ∙ ap (λ (a : Aim). a.drive) c.aim.ensures) in
     let d = c.index-deref-at.result in
     let r = record_at rs place in
     let own = c.record.ensures in
     let drive : d ≡ drive_at ds rs place = c.index-deref-at.is
     ∙ ap (λ l. get_or l c.from-at.result d) c.deref.ensures.0 ∙ at.is d in
-    let known = (c.self.invariant.held.each place no_record next.servable.inside).waitable.known in
+    let known = (c.self.invariant.ready.held.each place no_record next.servable.inside).waitable.known in
     let d' = c.serve-service.result.drive in
     let ds' = refill (length ds) ds (set c.deref_mut.result.now c.from-at.result d') in
     let seen = c.deref_mut.ensures.value in
@@ -215,7 +242,7 @@ returns-clause-served g c =
     refilled ds (set c.deref_mut.result.now c.from-at.result d')
     (length-set c.deref_mut.result.now c.from-at.result d' ∙ ap length seen)
     ∙ (ap (λ l. set l c.from-at.result d') seen
-    ∙ set_replaced ds c.from-at.result r.command.unit d' d c.self.invariant.held.units known at.placed) in
+    ∙ set_replaced ds c.from-at.result r.command.unit d' d c.self.invariant.ready.held.units known at.placed) in
     let k = c.args.block.now in
     let z = c.record.result.now in
     let s = c.serve-service.ensures in

@@ -1,9 +1,9 @@
 use Rattle.std.proofs.Common.{ap, ◌∙◌}
 use Rattle.std.specs.Prelude.{is_some}
-use Rattle.mscp_queue.specs.Records.{has_name}
+use Rattle.mscp_queue.specs.Lineups.{has_choice_name}
 use Rattle.mscp_queue.proofs.Placed.{position_any}
-use Rattle.mscp_queue.proofs.backlog.Backlog.has_any.Goals as goal
+use Rattle.mscp_queue.proofs.lineup.Lineup.has_any.Goals as goal
 
 pub returns-then-has_number : goal.returns-then-has_number
 returns-then-has_number c = c.is_some.ensures ∙ ap is_some c.place_of.ensures
-    ∙ position_any (has_name c.args.name) c.args.self.now.waiting
+    ∙ position_any (has_choice_name c.args.name) c.args.self.now.view

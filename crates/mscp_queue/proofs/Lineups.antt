@@ -1,0 +1,446 @@
+-- What a queue keeps of its waiting commands for a picker stays true.
+use Rattle.std.proofs.Common.{All, ◌≡◌, ◌≢◌, ◌⊎◌, inl, inr, set, ℕ, suc, ◌+◌, ◌<◌, ◌≤◌, Bool, true, false, cond, not, ◌||◌, List, [], ◌∷◌, ◌++◌, map, take, drop, get_or, length, refl, ap, sym, ◌∙◌, subst, arith}
+use Rattle.std.specs.Prelude.{find, is_some, nat_eq, nat_lt, unwrap_or, Option, Some, None}
+use Rattle.std.specs.Int.{bit_at}
+use Rattle.std.specs.List.{list_any, position, position_or_len, range_with_len}
+use Rattle.std.proofs.lemmas.List.FromFn.{get_or-map-range_with_len, length-range_with_len}
+use Rattle.mscp_packet.specs.declared.command.Order.{Order}
+use Rattle.mscp_packet.specs.declared.command.Order.TheVariants as orders
+use Rattle.mscp_drive.specs.declared.head.Head.{Head}
+use Rattle.mscp_drive.specs.Heads.{sweep_cost}
+use Rattle.std.proofs.lemmas.Bool.{eq-eqb, eqb-true, false≢true, ne_eqb}
+use Rattle.std.proofs.lemmas.List.{ext_get_or, get_or_default, get_or-map, get_or-set_other, get_or-set_same, length-set, length-map, map-append}
+use Rattle.mscp_packet.specs.declared.command.Command.{Command}
+use Rattle.mscp_drive.specs.Shape.{Shape, cylinder_of, last_cylinder}
+use Rattle.mscp_queue.specs.Orders.{first_block, is_move, order_cost}
+use Rattle.mscp_queue.specs.declared.drive.Drive.{Drive}
+use Rattle.mscp_queue.specs.declared.name.Connection.{Connection}
+use Rattle.mscp_queue.specs.declared.name.Name.{Name}
+use Rattle.mscp_queue.specs.declared.view.Choice.{Choice}
+use Rattle.mscp_queue.specs.Aims.{aim_of, no_aim, unit_place}
+use Rattle.mscp_queue.specs.Drives.{drive_of, fresh_drive, has_number, one_block, replaced}
+use Rattle.mscp_queue.specs.Kept.{CanBeShown, is_known, names, units_of}
+use Rattle.mscp_queue.specs.Lineups.{IsLineup, IsRenewed, choice_in, cost_on, costing, costing_if, has_choice_name, no_choice, renewed, sure_of}
+use Rattle.mscp_queue.specs.Masks.{IsSet}
+use Rattle.mscp_queue.specs.Names.{same_name}
+use Rattle.mscp_queue.specs.Records.{Record, advanced, has_name, name_of, no_record, passed_by, record_at}
+use Rattle.mscp_queue.specs.Views.{choice_name, choice_of, choices_at}
+use Rattle.mscp_queue.proofs.Aims.{cylinder_within, led, own_aim, own_blocks, place_inside, place_same}
+use Rattle.mscp_queue.proofs.Drives.{known_at, place_is}
+use Rattle.mscp_queue.proofs.Turns.{pairs_rise}
+use Rattle.mscp_drive.specs.UnitList.{IsUnitList}
+use Rattle.mscp_queue.specs.declared.aim.Aim.{Aim}
+use Rattle.mscp_queue.proofs.Placed.{map_map}
+use Rattle.mscp_queue.proofs.Unmoved.{made_served, map_cut}
+
+-- ---- what is sure of a choice
+
+if_sure : {X : Type 0} (f : Choice → X) → ((c : Choice) → f (costing 0 c) ≡ f c) → (b : Bool) (c : Choice)
+    → f (cond b (costing 0 c) c) ≡ f c
+if_sure f h true c = h c
+if_sure f h false c = refl
+
+module _ (stale : ℕ) (us : List Shape) where
+  abbrev bits_of : Choice → Bool
+  bits_of c = nat_eq (bit_at stale (unit_place us c.unit)) 1
+
+  -- its command is
+  pub sure_name : (c : Choice) → choice_name (sure_of stale us c) ≡ choice_name c
+  sure_name c = if_sure choice_name (λ c. refl) (bits_of c) c
+
+  -- and all but its cost
+  pub sure_but : (c : Choice) → costing 0 (sure_of stale us c) ≡ costing 0 c
+  sure_but c = if_sure (costing 0) (λ c. refl) (bits_of c) c
+
+module _ {stale : ℕ} {ds : List Drive} {rs : List Record} {cs : List Choice} (h : IsLineup stale ds rs cs) where
+  abbrev S : Choice → Choice
+  S = sure_of stale (units_of ds)
+
+  pub as_many : length cs ≡ length rs
+  as_many = sym (length-map cs S) ∙ (ap length h.sure ∙ length-map rs (λ r. S (choice_in ds r)))
+
+  -- the choice at a place is that of the record there
+  pub at_place : (k : ℕ) → k < length rs
+      → sure_of stale (units_of ds) (get_or cs k no_choice) ≡ sure_of stale (units_of ds) (choice_in ds (record_at rs k))
+  at_place k l =
+      sym (get_or-map S cs k no_choice no_choice (omega (arith, l, as_many)))
+      ∙ (ap (λ zs. get_or zs k no_choice) h.sure
+      ∙ get_or-map (λ (r : Record). S (choice_in ds r)) rs k no_record no_choice l)
+
+  -- their names are those of the waiting commands
+  pub lined_names : map choice_name cs ≡ names rs
+  lined_names =
+      (λ i. map (λ (c : Choice). sym (sure_name stale (units_of ds) c) i) cs)
+      ∙ (sym (map_map S choice_name cs)
+      ∙ (ap (map choice_name) h.sure
+      ∙ (map_map (λ (r : Record). S (choice_in ds r)) choice_name rs
+      ∙ (λ i. map (λ (r : Record). sure_name stale (units_of ds) (choice_in ds r) i) rs))))
+
+any_mapped : {X Y : Type 0} (p : Y → Bool) (f : X → Y) (xs : List X) → list_any p (map f xs) ≡ list_any (λ x. p (f x)) xs
+any_mapped p f [] = refl
+any_mapped p f (x ∷ xs) = ap (λ b. p (f x) || b) (any_mapped p f xs)
+
+place_mapped : {X Y : Type 0} (p : Y → Bool) (f : X → Y) (xs : List X)
+    → position_or_len p (map f xs) ≡ position_or_len (λ x. p (f x)) xs
+place_mapped p f [] = refl
+place_mapped p f (x ∷ xs) = ap (λ n. cond (not (p (f x))) (1 + n) 0) (place_mapped p f xs)
+
+-- so a command is looked for among the choices
+pub any_of : {stale : ℕ} {ds : List Drive} {rs : List Record} {cs : List Choice} (name : Name) → IsLineup stale ds rs cs
+    → list_any (has_choice_name name) cs ≡ list_any (has_name name) rs
+any_of {stale} {ds} {rs} {cs} name h =
+    let p : Name → Bool = λ other. same_name other name in
+    sym (any_mapped p choice_name cs) ∙ (ap (list_any p) (lined_names h) ∙ any_mapped p name_of rs)
+
+pub place_of : {stale : ℕ} {ds : List Drive} {rs : List Record} {cs : List Choice} (name : Name)
+    → IsLineup stale ds rs cs → position (has_choice_name name) cs ≡ position (has_name name) rs
+place_of {stale} {ds} {rs} {cs} name h =
+    let p : Name → Bool = λ other. same_name other name in
+    let same : position_or_len (has_choice_name name) cs ≡ position_or_len (has_name name) rs =
+    sym (place_mapped p choice_name cs) ∙ (ap (position_or_len p) (lined_names h) ∙ place_mapped p name_of rs) in
+    λ i. cond (nat_lt (same i) (as_many h i)) (Some (same i)) None
+
+-- ---- a command comes, or leaves
+
+pub lineup_pushed : {stale : ℕ} {ds : List Drive} {rs rs' : List Record} {cs cs' : List Choice} (r : Record)
+    (c : Choice)
+    → IsLineup stale ds rs cs → c ≡ choice_in ds r → cs' ≡ cs ++ c ∷ [] → rs' ≡ rs ++ r ∷ []
+    → IsLineup stale ds rs' cs'
+lineup_pushed {stale} {ds} {rs} {rs'} {cs} {cs'} r c h is e f =
+    let sure = sure_of stale (units_of ds) in
+    let of : Record → Choice = λ r. sure (choice_in ds r) in
+    record {
+      sure = ap (map sure) e
+          ∙ (map-append sure cs (c ∷ [])
+          ∙ ((λ i. h.sure i ++ sure (is i) ∷ []) ∙ (sym (map-append of rs (r ∷ [])) ∙ ap (map of) (sym f))));
+    }
+
+pub lineup_left : {stale : ℕ} {ds : List Drive} {rs rs' : List Record} {cs cs' : List Choice} (place : ℕ)
+    → IsLineup stale ds rs cs → cs' ≡ take place cs ++ drop (place + 1) cs
+    → rs' ≡ take place rs ++ drop (place + 1) rs → IsLineup stale ds rs' cs'
+lineup_left {stale} {ds} {rs} {rs'} {cs} {cs'} place h e f =
+    let sure = sure_of stale (units_of ds) in
+    let of : Record → Choice = λ r. sure (choice_in ds r) in
+    record {
+      sure = ap (map sure) e
+          ∙ (sym (map_cut sure cs place)
+          ∙ ((λ i. take place (h.sure i) ++ drop (place + 1) (h.sure i)) ∙ (map_cut of rs place ∙ ap (map of) (sym f))));
+    }
+
+pub line_without : {stale stale' : ℕ} {ds : List Drive} {rs rs' : List Record} {cs cs' : List Choice} (place : ℕ)
+    → IsLineup stale ds rs cs → cs' ≡ take place cs ++ drop (place + 1) cs → stale' ≡ stale
+    → rs' ≡ take place rs ++ drop (place + 1) rs → IsLineup stale' ds rs' cs'
+line_without {stale} {stale'} {ds} {rs} {rs'} {cs} {cs'} place h e s f =
+    subst (λ k. IsLineup k ds rs' cs') (sym s) (lineup_left place h e f)
+
+pub line_with : {stale stale' : ℕ} {ds : List Drive} {rs rs' : List Record} {cs cs' : List Choice} (r : Record)
+    (c : Choice)
+    → IsLineup stale ds rs cs → c ≡ choice_in ds r → cs' ≡ cs ++ c ∷ [] → stale' ≡ stale → rs' ≡ rs ++ r ∷ []
+    → IsLineup stale' ds rs' cs'
+line_with {stale} {stale'} {ds} {rs} {rs'} {cs} {cs'} r c h is e s f =
+    subst (λ k. IsLineup k ds rs' cs') (sym s) (lineup_pushed r c h is e f)
+
+pub none_lined : {stale : ℕ} {ds : List Drive} {rs : List Record} {cs : List Choice} → rs ≡ [] → cs ≡ []
+    → IsLineup stale ds rs cs
+none_lined {stale} {ds} {rs} {cs} e f = record {
+  sure = ap (map (sure_of stale (units_of ds))) f
+      ∙ sym (ap (map (λ (r : Record). sure_of stale (units_of ds) (choice_in ds r))) e);
+}
+
+-- ---- a drive serves
+
+-- the drive of another unit stays
+find_other : (n u : ℕ) (new : Drive) (ds : List Drive) → n ≢ u → new.unit.number ≡ u
+    → find (has_number n) (replaced u new ds) ≡ find (has_number n) ds
+find_other n u new [] apart own = refl
+find_other n u new (d ∷ ds) apart own = by (has_number u d) refl (find_other n u new ds apart own)
+  where
+    by : (b : Bool) → has_number u d ≡ b → find (has_number n) (replaced u new ds) ≡ find (has_number n) ds
+        → cond (has_number n (cond b new d)) (Some (cond b new d)) (find (has_number n) (replaced u new ds))
+        ≡ cond (has_number n d) (Some d) (find (has_number n) ds)
+    by true e rest =
+        let off = ne_eqb new.unit.number n (λ e. apart (sym e ∙ own)) in
+        let there = ne_eqb d.unit.number n (λ f. apart (sym f ∙ eqb-true d.unit.number u e)) in
+        ap (λ b. cond b (Some new) (find (has_number n) (replaced u new ds))) off
+        ∙ (rest ∙ ap (λ b. cond b (Some d) (find (has_number n) ds)) (sym there))
+    by false e rest = ap (λ rest. cond (has_number n d) (Some d) rest) rest
+
+pub drive_other : (n u : ℕ) (new : Drive) (ds : List Drive) → n ≢ u → new.unit.number ≡ u
+    → drive_of (replaced u new ds) n ≡ drive_of ds n
+drive_other n u new ds apart own = ap (λ o. unwrap_or o (fresh_drive one_block)) (find_other n u new ds apart own)
+
+place_within : (us : List Shape) (n : ℕ) → unit_place us n ≤ length us
+place_within [] n = omega arith
+place_within (u ∷ us) n = by (nat_eq u.number n) (place_within us n)
+  where
+    by : (b : Bool) → unit_place us n ≤ length us → cond (not b) (1 + unit_place us n) 0 ≤ length (u ∷ us)
+    by true rest = omega arith
+    by false rest = omega (arith, rest)
+
+module _ (stale stale' at u : ℕ) (us : List Shape) (few : length us ≤ 16) (set : IsSet true at stale stale') where
+  bit_is : (n : ℕ) → bit_at stale' (unit_place us n) ≡ cond (nat_eq (unit_place us n) at) 1 (bit_at stale (unit_place us n))
+  bit_is n = let within = place_within us n in set (unit_place us n) (omega (arith, within, few))
+
+  still : (n : ℕ) → nat_eq (bit_at stale (unit_place us n)) 1 ≡ true → nat_eq (bit_at stale' (unit_place us n)) 1 ≡ true
+  still n e = by (nat_eq (unit_place us n) at) refl
+    where
+      by : (b : Bool) → nat_eq (unit_place us n) at ≡ b → nat_eq (bit_at stale' (unit_place us n)) 1 ≡ true
+      by true f = ap (λ x. nat_eq x 1) (bit_is n ∙ ap (λ b. cond b 1 (bit_at stale (unit_place us n))) f)
+      by false f = ap (λ x. nat_eq x 1) (bit_is n ∙ ap (λ b. cond b 1 (bit_at stale (unit_place us n))) f) ∙ e
+
+  pub twice_sure : (c : Choice) → sure_of stale' us (sure_of stale us c) ≡ sure_of stale' us c
+  twice_sure c = by (nat_eq (bit_at stale (unit_place us c.unit)) 1) refl
+    where
+      by : (b : Bool) → nat_eq (bit_at stale (unit_place us c.unit)) 1 ≡ b
+          → sure_of stale' us (cond b (costing 0 c) c) ≡ sure_of stale' us c
+      by true e =
+          let q = still c.unit e in
+          ap (λ b. cond b (costing 0 c) (costing 0 c)) q ∙ ap (λ b. cond b (costing 0 c) c) (sym q)
+      by false e = refl
+
+  -- a choice on another drive is as before, and nothing is sure of the cost of one on this drive
+  pub sure_served : (ds : List Drive) (new : Drive) (r : Record) → at ≡ unit_place us u → new.unit.number ≡ u
+      → sure_of stale' us (choice_in ds r) ≡ sure_of stale' us (choice_in (replaced u new ds) r)
+  sure_served ds new r is own = by (nat_eq r.command.unit u) refl
+    where
+      n : ℕ
+      n = r.command.unit
+
+      by : (b : Bool) → nat_eq r.command.unit u ≡ b
+          → sure_of stale' us (choice_in ds r) ≡ sure_of stale' us (choice_in (replaced u new ds) r)
+      by true e =
+          let same : unit_place us r.command.unit ≡ at = ap (unit_place us) (eqb-true r.command.unit u e) ∙ sym is in
+          let on : nat_eq (bit_at stale' (unit_place us r.command.unit)) 1 ≡ true = ap (λ x. nat_eq x 1)
+          (bit_is r.command.unit ∙ ap (λ b. cond b 1 (bit_at stale (unit_place us r.command.unit)))
+          (eq-eqb (unit_place us r.command.unit) at same)) in
+          ap (λ b. cond b (costing 0 (choice_in ds r)) (choice_in ds r)) on
+          ∙ ap (λ b. cond b (costing 0 (choice_in ds r)) (choice_in (replaced u new ds) r)) (sym on)
+      by false e =
+          ap (λ d. sure_of stale' us (choice_of d r))
+          (sym (drive_other r.command.unit u new ds (λ f. false≢true (sym e ∙ eq-eqb r.command.unit u f)) own))
+
+pub lineup_served : {stale stale' place : ℕ} {ds ds' : List Drive} {rs rs' : List Record} {cs cs' : List Choice}
+    (at u toll : ℕ) (new : Drive) (ends : Bool)
+    → IsLineup stale ds rs cs → length (units_of ds) ≤ 16 → IsSet true at stale stale'
+    → at ≡ unit_place (units_of ds) u → new.unit.number ≡ u → ds' ≡ replaced u new ds → units_of ds' ≡ units_of ds
+    → place < length rs
+    → rs' ≡ map (passed_by toll) (take place rs)
+    ++ (cond ends [] (advanced (record_at rs place) ∷ []) ++ drop (place + 1) rs)
+    → cs' ≡ cond ends (take place cs ++ drop (place + 1) cs) cs
+    → IsLineup stale' ds' rs' cs'
+lineup_served {stale} {stale'} {place} {ds} {ds'} {rs} {rs'} {cs} {cs'} at u toll new ends h few set is own now same l e f =
+    let us = units_of ds in
+    let sure = sure_of stale' us in
+    let F : Connection → Command → Choice = λ by command. sure (choice_in (replaced u new ds) (record no_record { connection = by; command = command })) in
+    let moved : map sure cs ≡ map (λ r. sure (choice_in (replaced u new ds) r)) rs =
+    (λ i. map (λ (c : Choice). sym (twice_sure stale stale' at u us few set c) i) cs)
+    ∙ (sym (map_map (sure_of stale us) sure cs)
+    ∙ (ap (map sure) h.sure
+    ∙ (map_map (λ (r : Record). sure_of stale us (choice_in ds r)) sure rs
+    ∙ ((λ i. map (λ (r : Record). twice_sure stale stale' at u us few set (choice_in ds r) i) rs)
+    ∙ (λ i. map (λ (r : Record). sure_served stale stale' at u us few set ds new r is own i) rs))))) in
+    let cut : (b : Bool) → map sure (cond b (take place cs ++ drop (place + 1) cs) cs)
+    ≡ cond b (take place (map sure cs) ++ drop (place + 1) (map sure cs)) (map sure cs) =
+    λ b. elim b as (λ b. map sure (cond b (take place cs ++ drop (place + 1) cs) cs)
+    ≡ cond b (take place (map sure cs) ++ drop (place + 1) (map sure cs)) (map sure cs))
+    [ true ↦ sym (map_cut sure cs place) | false ↦ refl ] in
+    let all : map sure cs' ≡ map (λ r. sure (choice_in (replaced u new ds) r)) rs' =
+    ap (map sure) f ∙ (cut ends
+    ∙ ((λ i. cond ends (take place (moved i) ++ drop (place + 1) (moved i)) (moved i))
+    ∙ made_served F rs rs' place toll ends l e)) in
+    record {
+      sure = (λ i. map (sure_of stale' (same i)) cs')
+          ∙ (all ∙ (λ i. map (λ r. sure_of stale' (sym same i) (choice_in (sym now i) r)) rs'));
+    }
+
+-- ---- costs are found anew
+
+module _ {stale : ℕ} {ds : List Drive} {rs : List Record} {cs : List Choice} (h : IsLineup stale ds rs cs) (k : ℕ)
+    (l : k < length rs) where
+  pub same_but : costing 0 (get_or cs k no_choice) ≡ costing 0 (choice_in ds (record_at rs k))
+  same_but =
+      sym (sure_but stale (units_of ds) (get_or cs k no_choice))
+      ∙ (ap (costing 0) (at_place h k l) ∙ sure_but stale (units_of ds) (choice_in ds (record_at rs k)))
+
+  pub same_unit : (get_or cs k no_choice).unit ≡ (record_at rs k).command.unit
+  same_unit = ap (λ (c : Choice). c.unit) same_but
+
+-- nothing but what is sure is asked for where no drive of a known unit served
+sure_all : (stale : ℕ) (us : List Shape) (c : Choice) → bit_at stale (unit_place us c.unit) ≡ 0 → sure_of stale us c ≡ c
+sure_all stale us c e = ap (λ b. cond (nat_eq b 1) (costing 0 c) c) e
+
+pub lineup_whole : {stale : ℕ} {ds : List Drive} {rs : List Record} {cs : List Choice} → IsLineup stale ds rs cs
+    → All (λ r. is_known (units_of ds) r.command.unit ≡ true) rs → ((k : ℕ) → k < length ds → bit_at stale k ≡ 0)
+    → cs ≡ map (choice_in ds) rs
+lineup_whole {stale} {ds} {rs} {cs} h known off =
+    let us = units_of ds in
+    ext_get_or no_choice cs (map (choice_in ds) rs) (as_many h ∙ sym (length-map rs (choice_in ds))) (λ k l.
+    let below : k < length rs = omega (arith, l, as_many h) in
+    let r = record_at rs k in
+    let c = get_or cs k no_choice in
+    let at = (place_inside ds r.command.unit (known k no_record below)) in
+    let zero_bit = off (unit_place us r.command.unit) at in
+    sym (sure_all stale us c (ap (λ n. bit_at stale (unit_place us n)) (same_unit h k below) ∙ zero_bit))
+    ∙ (at_place h k below
+    ∙ (sure_all stale us (choice_in ds r) zero_bit
+    ∙ sym (get_or-map (choice_in ds) rs k no_record no_choice below))))
+
+pub lineup_of : {ds : List Drive} {rs : List Record} {cs : List Choice} (stale : ℕ) → cs ≡ map (choice_in ds) rs
+    → IsLineup stale ds rs cs
+lineup_of {ds} {rs} {cs} stale e = record {
+  sure = ap (map (sure_of stale (units_of ds))) e ∙ map_map (choice_in ds) (sure_of stale (units_of ds)) rs;
+}
+
+-- what a picker sees of all
+pub all_choices : (ds : List Drive) (rs : List Record)
+    → map (choice_in ds) rs ≡ choices_at ds rs (range_with_len 0 (length rs))
+all_choices ds rs =
+    let of : ℕ → Choice = λ place. choice_in ds (record_at rs place) in
+    let long : length (map of (range_with_len 0 (length rs))) ≡ length rs =
+    length-map (range_with_len 0 (length rs)) of ∙ length-range_with_len 0 (length rs) in
+    ext_get_or no_choice (map (choice_in ds) rs) (map of (range_with_len 0 (length rs)))
+    (length-map rs (choice_in ds) ∙ sym long) (λ k l.
+    let below : k < length rs = omega (arith, l, length-map rs (choice_in ds)) in
+    let from : 0 + k ≡ k = omega arith in
+    get_or-map (choice_in ds) rs k no_record no_choice below
+    ∙ sym (get_or-map-range_with_len of 0 (length rs) k k no_choice below from))
+
+pub lineup_renewed : {stale stale' at : ℕ} {ds : List Drive} {rs : List Record} {old new : List Choice}
+    → IsLineup stale ds rs old → IsRenewed at ds rs old new → IsSet false at stale stale' → length ds ≤ 16
+    → All (λ r. is_known (units_of ds) r.command.unit ≡ true) rs → IsLineup stale' ds rs new
+lineup_renewed {stale} {stale'} {at} {ds} {rs} {old} {new} h made set few known =
+    let us = units_of ds in
+    let S' : Choice → Choice = sure_of stale' us in
+    let of : Record → Choice = λ r. S' (choice_in ds r) in
+    let number = (get_or ds at (fresh_drive one_block)).unit.number in
+    record {
+      sure = ext_get_or no_choice (map S' new) (map of rs)
+          (length-map new S' ∙ (made.long ∙ (as_many h ∙ sym (length-map rs of)))) (λ k l.
+          let long = made.long in
+          let below : k < length rs = omega (arith, l, length-map new S', long, as_many h) in
+          let r = record_at rs k in
+          let c = get_or old k no_choice in
+          let n = c.unit in
+          let inside = place_inside ds r.command.unit (known k no_record below) in
+          let Goal : Bool → Type 0 = λ b. nat_eq n number ≡ b
+          → S' (cond b (costing (choice_in ds r).cost c) c) ≡ S' (choice_in ds r) in
+          let both : (b : Bool) → Goal b = λ b. elim b as Goal [
+            | true ↦ λ e. ap (λ z. S' (costing (choice_in ds r).cost z)) (same_but h k below)
+            | false ↦ λ e.
+                let there = known_at ds r.command.unit (fresh_drive one_block) (known k no_record below) in
+                let apart : unit_place us r.command.unit ≢ at = λ f. false≢true (sym e
+                ∙ eq-eqb n number (same_unit h k below ∙ (sym there.number
+                ∙ ap (λ i. (get_or ds i (fresh_drive one_block)).unit.number)
+                (place_same ds r.command.unit ∙ f)))) in
+                let kept : bit_at stale' (unit_place us r.command.unit) ≡ bit_at stale (unit_place us r.command.unit) =
+                set (unit_place us r.command.unit) (omega (arith, inside, few))
+                ∙ ap (λ b. cond b 0 (bit_at stale (unit_place us r.command.unit)))
+                (ne_eqb (unit_place us r.command.unit) at apart) in
+                let own : bit_at stale' (unit_place us n) ≡ bit_at stale (unit_place us n) =
+                ap (λ m. bit_at stale' (unit_place us m)) (same_unit h k below)
+                ∙ (kept ∙ ap (λ m. bit_at stale (unit_place us m)) (sym (same_unit h k below))) in
+                ap (λ b. cond (nat_eq b 1) (costing 0 c) c) own
+                ∙ (at_place h k below
+                ∙ ap (λ b. cond (nat_eq b 1) (costing 0 (choice_in ds r)) (choice_in ds r)) (sym kept))
+          ] in
+          get_or-map S' new k no_choice no_choice (omega (arith, l, length-map new S'))
+          ∙ (ap S' (made.each k (omega (arith, below, as_many h)))
+          ∙ (both (nat_eq n number) refl ∙ sym (get_or-map of rs k no_record no_choice below))));
+    }
+
+-- the choices below a place are renewed, and those from it on are as they were
+pub record Renewing (at place : ℕ) (ds : List Drive) (rs : List Record) (old new : List Choice) : Type 0 where
+  pub long : length new ≡ length old
+  pub below : (k : ℕ) → k < place → get_or new k no_choice
+      ≡ renewed (get_or ds at (fresh_drive one_block)).unit.number ds (record_at rs k) (get_or old k no_choice)
+  pub above : (k : ℕ) → place ≤ k → get_or new k no_choice ≡ get_or old k no_choice
+
+pub none_renewed : (at : ℕ) (ds : List Drive) (rs : List Record) (old : List Choice) → Renewing at 0 ds rs old old
+none_renewed at ds rs old = record { long = refl; below = λ k l. absurd (omega (arith, l)); above = λ k l. refl }
+
+pub renew_more : {at place : ℕ} {ds : List Drive} {rs : List Record} {old new new' : List Choice}
+    → Renewing at place ds rs old new → place < length old
+    → new' ≡ set new place (renewed (get_or ds at (fresh_drive one_block)).unit.number ds (record_at rs place)
+    (get_or new place no_choice))
+    → Renewing at (place + 1) ds rs old new'
+renew_more {at} {place} {ds} {rs} {old} {new} {new'} h l e =
+    let number = (get_or ds at (fresh_drive one_block)).unit.number in
+    let long = h.long in
+    let x = renewed number ds (record_at rs place) (get_or new place no_choice) in
+    let other : (k : ℕ) → k ≢ place → get_or new' k no_choice ≡ get_or new k no_choice =
+    λ k d. ap (λ zs. get_or zs k no_choice) e ∙ get_or-set_other new place k x no_choice d in
+    let there : get_or new' place no_choice ≡ renewed number ds (record_at rs place) (get_or old place no_choice) =
+    ap (λ zs. get_or zs place no_choice) e
+    ∙ (get_or-set_same new place x no_choice (omega (arith, l, long))
+    ∙ ap (renewed number ds (record_at rs place)) (h.above place (omega arith))) in
+    record {
+      long = ap length e ∙ (length-set new place x ∙ h.long);
+      below = λ k b. go k (compare k place b) there other;
+      above = λ k b. other k (λ f. omega (arith, b, f)) ∙ h.above k (omega (arith, b));
+    }
+  where
+    compare : (k place : ℕ) → k < place + 1 → (k < place) ⊎ (k ≡ place)
+    compare k place b = grind arith
+
+    go : (k : ℕ) → (k < place) ⊎ (k ≡ place)
+        → get_or new' place no_choice
+        ≡ renewed (get_or ds at (fresh_drive one_block)).unit.number ds (record_at rs place) (get_or old place no_choice)
+        → ((k : ℕ) → k ≢ place → get_or new' k no_choice ≡ get_or new k no_choice)
+        → get_or new' k no_choice
+        ≡ renewed (get_or ds at (fresh_drive one_block)).unit.number ds (record_at rs k) (get_or old k no_choice)
+    go k (inl under) there other = other k (λ f. omega (arith, under, f)) ∙ h.below k under
+    go k (inr f) there other =
+        subst (λ j. get_or new' j no_choice
+        ≡ renewed (get_or ds at (fresh_drive one_block)).unit.number ds (record_at rs j) (get_or old j no_choice)) (sym f)
+        there
+
+pub all_renewed : {at place : ℕ} {ds : List Drive} {rs : List Record} {old new : List Choice}
+    → Renewing at place ds rs old new → length old ≤ place → IsRenewed at ds rs old new
+all_renewed h l = record { long = h.long; each = λ k b. h.below k (omega (arith, b, l)) }
+
+-- a transfer's cost
+pub move_cost : (u : Shape) (head : Head) (o : Order) (to : ℕ) → is_move o ≡ true
+    → to ≡ cylinder_of u (first_block o) → sweep_cost (last_cylinder u) head.cylinder head.up to ≡ order_cost u head o
+move_cost u head (orders.Move kind count block) to m e = ap (sweep_cost (last_cylinder u) head.cylinder head.up) e
+move_cost u head (orders.Abort other) to m e = absurd (false≢true m)
+move_cost u head (orders.Status other) to m e = absurd (false≢true m)
+move_cost u head orders.UnitStatus to m e = absurd (false≢true m)
+move_cost u head (orders.SetController version) to m e = absurd (false≢true m)
+move_cost u head orders.Available to m e = absurd (false≢true m)
+move_cost u head orders.Online to m e = absurd (false≢true m)
+move_cost u head orders.SetUnit to m e = absurd (false≢true m)
+move_cost u head (orders.Invalid opcode status) to m e = absurd (false≢true m)
+
+-- the choice at a place is of a command on a drive: where its first block lies, and what its start costs
+pub record IsOn (ds : List Drive) (r : Record) (d : Drive) (to : ℕ) : Type 0 where
+  pub within : to ≤ last_cylinder d.unit
+  pub cost : cost_on d to ≡ (choice_in ds r).cost
+
+pub on_drive : {stale at place : ℕ} {ds : List Drive} {rs : List Record} {aims : List Aim} {old new : List Choice}
+    (d : Drive) (a : Aim)
+    → CanBeShown ds rs aims → IsUnitList (units_of ds) → IsLineup stale ds rs old → Renewing at place ds rs old new
+    → All (λ r. is_move r.command.order ≡ true) rs → at < length ds → place < length rs → d ≡ get_or ds at d
+    → a ≡ get_or aims place no_aim → nat_eq (get_or new place no_choice).unit d.unit.number ≡ true
+    → IsOn ds (record_at rs place) d a.cylinder
+on_drive {stale} {at} {place} {ds} {rs} {aims} {old} {new} d a shown units h made moves inside l found aim e =
+    let us = units_of ds in
+    let r = record_at rs place in
+    let own = sym (get_or_default rs place r no_record l) in
+    let number : r.command.unit ≡ d.unit.number =
+    sym (same_unit h place l) ∙ (ap (λ (c : Choice). c.unit) (sym (made.above place (omega arith)))
+    ∙ eqb-true (get_or new place no_choice).unit d.unit.number e) in
+    let there = place_is ds at r.command.unit d (pairs_rise us units.rising) inside found (sym number) in
+    let is : a ≡ aim_of us r.command = aim ∙ own_aim ds rs aims place r no_aim shown l own in
+    let drive : at ≡ a.drive = sym there ∙ (place_same ds r.command.unit ∙ ap (λ (a : Aim). a.drive) (sym is)) in
+    let to = led ds r at a d shown.heads (own_blocks ds rs aims place r shown l own) drive is found in
+    let move = moves place no_record l in
+    record {
+      within = subst (λ k. k ≤ last_cylinder d.unit) (sym to.aimed.cylinder_is)
+          (cylinder_within d.unit (first_block r.command.order) (to.aimed.block move));
+      cost = move_cost d.unit d.head r.command.order a.cylinder move to.aimed.cylinder_is
+          ∙ ap (λ (q : Drive). order_cost q.unit q.head r.command.order) to.drive;
+    }
+
+pub costing_same : (b : Bool) (x y : ℕ) (c : Choice) → (b ≡ true → x ≡ y) → costing_if b x c ≡ costing_if b y c
+costing_same true x y c h = ap (λ n. costing n c) (h refl)
+costing_same false x y c h = refl

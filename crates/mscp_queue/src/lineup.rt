@@ -1,0 +1,170 @@
+// What a picker would see of each command that waits.
+
+ghost use Rattle.std.specs.Prelude.{◌≡◌, ◌+◌, ◌++◌, ◌∷◌, ◌<◌, ◌≤◌, [], ℕ, true, false, All, cond, length, map, nat_eq, take, drop, slice_index_or, slice_set};
+ghost use Rattle.std.specs.Int.{bit_at};
+ghost use Rattle.std.specs.List.{list_any, position};
+ghost use Rattle.mscp_drive.specs.UnitList.{IsUnitList};
+ghost use Rattle.mscp_drive.specs.Shape.{last_cylinder};
+ghost use Rattle.mscp_queue.specs.Drives.{IsOnUnit};
+ghost use Rattle.mscp_queue.specs.Kept.{CanBeShown, units_of};
+ghost use Rattle.mscp_queue.specs.Lineups.{IsLineup, IsRenewed, choice_in, cost_on, costing_if, has_choice_name, has_choice_number, no_choice};
+ghost use Rattle.mscp_queue.specs.Masks.{IsSet};
+ghost use Rattle.mscp_queue.specs.Orders.{is_move};
+
+use crate::backlog::Backlog;
+use crate::drive::Drive;
+use crate::masks::with_bit;
+use crate::name::Name;
+use crate::view::{Choice, View};
+
+/// What a picker would see of each command that waits, in order of arrival, if each might start. It is kept from start to
+/// start: only the costs on drives that served since are found anew.
+#[derive(Drop)]
+pub(crate) struct Lineup {
+    pub view: View,
+    // Bit k is set where the drive at place k served, since the costs on it were found.
+    pub stale: u64,
+}
+
+impl Lineup {
+    /// No command waits.
+    pub fn new() -> Lineup
+        ensures { result.view ≡ [] }
+    {
+        Lineup {
+            view: View::empty(),
+            stale: 0,
+        }
+    }
+
+    /// No command waits any more.
+    pub fn clear(&mut self)
+        ensures { self.new.view ≡ [] }
+    {
+        self.view.clear();
+    }
+
+    /// A command comes, behind all that wait.
+    pub fn come(&mut self, choice: Choice)
+        requires { length self.old.view < 64 }
+        ensures view { self.new.view ≡ self.old.view ++ choice ∷ [] }
+        ensures stale { self.new.stale ≡ self.old.stale }
+    {
+        self.view.push(choice);
+    }
+
+    /// The command at the place leaves.
+    pub fn remove(&mut self, place: usize)
+        requires { place < length self.old.view }
+        ensures view { self.new.view ≡ take place self.old.view ++ drop (place + 1) self.old.view }
+        ensures stale { self.new.stale ≡ self.old.stale }
+    {
+        self.view.remove(place);
+    }
+
+    /// The drive at a place serves the command at the other, which ends with it or not.
+    pub fn serve(&mut self, place: usize, drive: usize, ends: bool)
+        requires place { place < length self.old.view }
+        requires drive { drive < 64 }
+        ensures view { self.new.view
+            ≡ cond ends (take place self.old.view ++ drop (place + 1) self.old.view) self.old.view }
+        ensures stale { IsSet true drive self.old.stale self.new.stale }
+    {
+        self.stale = with_bit(self.stale, drive, true);
+        if ends {
+            self.view.remove(place);
+        }
+    }
+
+    /// Whether a command has this reference number, by whichever connection it came. Nearly always none has, so each is
+    /// looked at without a branch.
+    fn has_number(&self, reference: u32) -> bool
+        ensures { result ≡ list_any (has_choice_number reference) self.now.view }
+    {
+        let mut found = false;
+        for choice in self.view.choices() {
+            found |= choice.reference == reference;
+        }
+        found
+    }
+
+    /// The place of the command of this name, if it waits.
+    pub fn place_of(&self, name: Name) -> Option<usize>
+        ensures { result ≡ position (has_choice_name name) self.now.view }
+    {
+        self.view
+            .choices()
+            .iter()
+            .position(|choice| choice.name().is(name))
+    }
+
+    /// Whether a command has this name.
+    #[tactic(auto, using(crate::proofs::Named::unnumbered))]
+    pub fn has_any(&self, name: Name) -> bool
+        ensures { result ≡ list_any (has_choice_name name) self.now.view }
+    {
+        self.has_number(name.reference) && self.place_of(name).is_some()
+    }
+
+    /// Finds anew what the start of the command at the place costs, whose first block is on this cylinder, if it is to the
+    /// unit of this drive.
+    fn renew_at(&mut self, place: usize, drive: &Drive, to: u32)
+        requires place { place < length self.old.view }
+        requires head { IsOnUnit drive.now }
+        requires to { nat_eq (slice_index_or self.old.view place no_choice).unit drive.now.unit.number ≡ true
+            → to ≤ last_cylinder drive.now.unit }
+        ensures view { self.new.view ≡ slice_set self.old.view place
+            (costing_if (nat_eq (slice_index_or self.old.view place no_choice).unit drive.now.unit.number)
+            (cost_on drive.now to) (slice_index_or self.old.view place no_choice)) }
+        ensures stale { self.new.stale ≡ self.old.stale }
+    {
+        if self.view.choices()[place].unit == drive.unit.number() {
+            self.view.set_cost(place, drive.head.cost(&drive.unit, to));
+        }
+    }
+
+    /// Finds anew what the starts on the drive at a place cost, where each that waits is a transfer.
+    fn renew(&mut self, backlog: &Backlog, drives: &[Drive], at: usize)
+        requires waiting { CanBeShown drives.now backlog.now.waiting backlog.now.aims }
+        requires transfers { All (λ r. is_move r.command.order ≡ true) backlog.now.waiting }
+        requires drive { at < length drives.now }
+        requires units { IsUnitList (units_of drives.now) }
+        requires lined { IsLineup self.old.stale drives.now backlog.now.waiting self.old.view }
+        ensures renewed { IsRenewed at drives.now backlog.now.waiting self.old.view self.new.view }
+        ensures stale { self.new.stale ≡ self.old.stale }
+    {
+        let drive = &drives[at];
+        for place in 0..backlog.len() {
+            self.renew_at(place, drive, backlog.aim(place).cylinder);
+        }
+    }
+
+    /// Finds anew what the starts on the drive at a place cost, if it served, where each that waits is a transfer.
+    fn renew_if_stale(&mut self, backlog: &Backlog, drives: &[Drive], at: usize)
+        requires waiting { CanBeShown drives.now backlog.now.waiting backlog.now.aims }
+        requires transfers { All (λ r. is_move r.command.order ≡ true) backlog.now.waiting }
+        requires drive { at < length drives.now }
+        requires units { IsUnitList (units_of drives.now) }
+        requires lined { IsLineup self.old.stale drives.now backlog.now.waiting self.old.view }
+        ensures lined { IsLineup self.new.stale drives.now backlog.now.waiting self.new.view }
+        ensures stale { IsSet false at self.old.stale self.new.stale }
+    {
+        if self.stale >> at & 1 == 1 {
+            self.renew(backlog, drives, at);
+            self.stale = with_bit(self.stale, at, false);
+        }
+    }
+
+    /// Finds anew what the starts cost whose drives served, where each that waits is a transfer.
+    pub fn renew_all(&mut self, backlog: &Backlog, drives: &[Drive])
+        requires waiting { CanBeShown drives.now backlog.now.waiting backlog.now.aims }
+        requires transfers { All (λ r. is_move r.command.order ≡ true) backlog.now.waiting }
+        requires units { IsUnitList (units_of drives.now) }
+        requires lined { IsLineup self.old.stale drives.now backlog.now.waiting self.old.view }
+        ensures { self.new.view ≡ map (choice_in drives.now) backlog.now.waiting }
+    {
+        for at in 0..drives.len() {
+            self.renew_if_stale(backlog, drives, at);
+        }
+    }
+}
