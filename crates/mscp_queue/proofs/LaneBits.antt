@@ -1,8 +1,9 @@
 -- The bits of a mask as the lanes of a vector.
-use Rattle.std.proofs.Common.{◌≡◌, ℕ, zero, suc, ◌-◌, ◌/◌, ◌%◌, ◌<◌, List, [], ◌∷◌, Bool, true, false, cond, nat_eq, ltb, min, length, get_or, replicate, refl, sym, ap, ◌∙◌, arith, bit_and}
+use Rattle.std.proofs.Common.{◌≡◌, ℕ, zero, suc, ◌-◌, ◌*◌, ◌/◌, ◌%◌, ◌^◌, ◌<◌, List, [], ◌∷◌, Bool, true, false, cond, nat_eq, ltb, min, length, get_or, replicate, refl, sym, ap, ◌∙◌, arith, bit_and}
 use Rattle.std.specs.Int.{bit_at}
 use Rattle.std.specs.Simd.Lanes.{top, sel_l, zip2}
-use Rattle.std.proofs.lemmas.Nat.{and_mask}
+use Rattle.std.proofs.lemmas.Bool.{eq-eqb, ne_eqb}
+use Rattle.std.proofs.lemmas.Nat.Bits.{and_pow, bit_at-lt, bit_at_and, bit_at_ones}
 use Rattle.std.proofs.lemmas.Bool.Decides.{nat_tests}
 use Rattle.std.proofs.lemmas.Simd.{length-sel_l, get_or-sel_l, length-zip2, get_or-zip2, get_or-replicate}
 use Rattle.mscp_queue.specs.Lanes.{HasLanes, lowered}
@@ -12,26 +13,34 @@ top_of : (b : Bool) → top 63 (cond b 18446744073709551615 0) ≡ b
 top_of true = refl
 top_of false = refl
 
-abbrev pub test_lane : ℕ → Bool
-test_lane x = top 63 (cond (nat_eq (bit_and x 1) 1) 18446744073709551615 0)
+abbrev pub test_lane : ℕ → ℕ → Bool
+test_lane bits place = top 63 (cond (nat_eq (bit_and bits place) place) 18446744073709551615 0)
 
-lane_bit : (x : ℕ) → test_lane x ≡ nat_eq (x % 2) 1
-lane_bit x = top_of (nat_eq (bit_and x 1) 1) ∙ ap (λ (r : ℕ). nat_eq r 1) (and_mask x 1)
+times_eq : (b place : ℕ) → b < 2 → 0 < place → nat_eq (b * place) place ≡ nat_eq b 1
+times_eq zero place l some = ne_eqb (0 * place) place (λ e. omega (arith, e, some))
+times_eq (suc zero) place l some = eq-eqb (1 * place) place (omega arith)
+times_eq (suc (suc b)) place l some = absurd (omega (arith, l))
+
+-- the bit of a place is set exactly where it stands in the mask
+lane_bit : (bits k place : ℕ) → place ≡ 2 ^ k → 0 < place → test_lane bits place ≡ nat_eq (bit_at bits k) 1
+lane_bit bits k place is some = top_of (nat_eq (bit_and bits place) place)
+    ∙ (ap (λ (r : ℕ). nat_eq r place) (ap (bit_and bits) is ∙ (and_pow bits k ∙ ap (λ (p : ℕ). bit_at bits k * p) (sym is)))
+    ∙ times_eq (bit_at bits k) place (bit_at-lt bits k) some)
 
 abbrev pub eight_tests : ℕ → List Bool
-eight_tests bits = test_lane (bits / 1) ∷ test_lane (bits / 2) ∷ test_lane (bits / 4) ∷ test_lane (bits / 8)
-    ∷ test_lane (bits / 16) ∷ test_lane (bits / 32) ∷ test_lane (bits / 64) ∷ test_lane (bits / 128) ∷ []
+eight_tests bits = test_lane bits 1 ∷ test_lane bits 2 ∷ test_lane bits 4 ∷ test_lane bits 8
+    ∷ test_lane bits 16 ∷ test_lane bits 32 ∷ test_lane bits 64 ∷ test_lane bits 128 ∷ []
 
 -- the bit of each lane
 pub bit_of_lane : (bits k : ℕ) → k < 8 → get_or (eight_tests bits) k false ≡ nat_eq (bit_at bits k) 1
-bit_of_lane bits zero l = lane_bit (bits / 1)
-bit_of_lane bits (suc zero) l = lane_bit (bits / 2)
-bit_of_lane bits (suc (suc zero)) l = lane_bit (bits / 4)
-bit_of_lane bits (suc (suc (suc zero))) l = lane_bit (bits / 8)
-bit_of_lane bits (suc (suc (suc (suc zero)))) l = lane_bit (bits / 16)
-bit_of_lane bits (suc (suc (suc (suc (suc zero))))) l = lane_bit (bits / 32)
-bit_of_lane bits (suc (suc (suc (suc (suc (suc zero)))))) l = lane_bit (bits / 64)
-bit_of_lane bits (suc (suc (suc (suc (suc (suc (suc zero))))))) l = lane_bit (bits / 128)
+bit_of_lane bits zero l = lane_bit bits 0 1 refl (omega arith)
+bit_of_lane bits (suc zero) l = lane_bit bits 1 2 refl (omega arith)
+bit_of_lane bits (suc (suc zero)) l = lane_bit bits 2 4 refl (omega arith)
+bit_of_lane bits (suc (suc (suc zero))) l = lane_bit bits 3 8 refl (omega arith)
+bit_of_lane bits (suc (suc (suc (suc zero)))) l = lane_bit bits 4 16 refl (omega arith)
+bit_of_lane bits (suc (suc (suc (suc (suc zero))))) l = lane_bit bits 5 32 refl (omega arith)
+bit_of_lane bits (suc (suc (suc (suc (suc (suc zero)))))) l = lane_bit bits 6 64 refl (omega arith)
+bit_of_lane bits (suc (suc (suc (suc (suc (suc (suc zero))))))) l = lane_bit bits 7 128 refl (omega arith)
 bit_of_lane bits (suc (suc (suc (suc (suc (suc (suc (suc k)))))))) l = absurd (omega arith)
 
 chosen : (m x y a : ℕ) → (m ≡ 1 → x ≡ y) → cond (nat_eq m 1) x a ≡ cond (nat_eq m 1) y a
@@ -88,3 +97,17 @@ least_of_two a b p q =
           ∙ ap (λ t. cond t (get_or a k 0) (get_or b k 0)) (get_or-zip2 ltb a b k 0 0 false (omega arith) (omega arith))
           ∙ lesser (get_or a k 0) (get_or b k 0);
     }
+
+-- where all eight bits are set, each lane is kept
+pub all_kept : (v : List ℕ) (bits rest : ℕ) → length v ≡ 8 → bit_and bits 255 ≡ 255
+    → HasLanes v (λ k. cond (nat_eq (bit_at bits k) 1) (get_or v k 0) rest)
+all_kept v bits rest len full = record {
+  long = len;
+  each = λ k l.
+      let two = sym (bit_at_and bits 255 k) ∙ (ap (λ m. bit_at m k) full ∙ bit_at_ones 8 k l) in
+      let one : bit_at bits k ≡ 1 = at_most (bit_at bits k) (bit_at 255 k) (bit_at-lt bits k) two in
+      ap (λ b. cond (nat_eq b 1) (get_or v k 0) rest) (sym one);
+}
+  where
+    at_most : (a b : ℕ) → a < 2 → min a b ≡ 1 → a ≡ 1
+    at_most a b l e = omega (arith, l, e)

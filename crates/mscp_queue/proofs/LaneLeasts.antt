@@ -106,6 +106,31 @@ module _ (costs : List ℕ) (mask n j x : ℕ) (old : IsLow costs mask n j x) wh
           subst (λ c. IsLow costs mask (n + 1) j (min x c)) (sym (off_is (bit_at mask (8 * n + j)) cost clear))
           (subst (λ y. IsLow costs mask (n + 1) j y) (sym (small fits)) (low_off clear))
 
+-- where no bit is set from a block on, its lanes hold nothing
+pub low_whole : (costs : List ℕ) (mask n j x : ℕ) → mask / 2 ^ (8 * n) ≡ 0 → n ≤ 8 → IsLow costs mask n j x
+    → IsLow costs mask 8 j x
+low_whole costs mask n j x none few h = record {
+  below = λ i l on. by i on (compare i n);
+  found = kept h.found;
+}
+  where
+    compare : (i n : ℕ) → (i < n) ⊎ (n ≤ i)
+    compare i n = grind arith
+
+    off : (k : ℕ) → 8 * n ≤ k → bit_at mask k ≡ 0
+    off k l =
+        let back : 8 * n + (k - 8 * n) ≡ k = omega arith in
+        subst (λ k. bit_at mask k ≡ 0) back
+        (sym (bit_from mask (8 * n) (k - 8 * n)) ∙ (ap (λ m. bit_at m (k - 8 * n)) none ∙ bit_at-zero (k - 8 * n)))
+
+    by : (i : ℕ) → bit_at mask (8 * i + j) ≡ 1 → (i < n) ⊎ (n ≤ i) → x ≤ get_or costs (8 * i + j) 0
+    by i on (inl under) = h.below i under on
+    by i on (inr over) = let zero_bit = off (8 * i + j) (omega (arith, over)) in absurd (omega (arith, on, zero_bit))
+
+    kept : FoundLow costs mask j n x → FoundLow costs mask j 8 x
+    kept (inl most) = inl most
+    kept (inr h) = inr (h.0, omega (arith, h.1, few), h.2, h.3)
+
 -- ---- all costs
 
 place_is : (k : ℕ) → 8 * (k / 8) + k % 8 ≡ k

@@ -12,9 +12,10 @@ fn lower_eight(v: u64x8, bits: u64, by: u64) -> u64x8
     requires { (k : ℕ) → k < 8 → bit_at bits k ≡ 1 → by ≤ slice_index v k }
     ensures { HasLanes result (λ k. lowered bits by k (slice_index v k)) }
 {
-    let places = u64x8::from_array([0, 1, 2, 3, 4, 5, 6, 7]);
-    let set = (u64x8::splat(bits) >> places) & u64x8::splat(1);
-    set.simd_eq(u64x8::splat(1)).select(v - u64x8::splat(by), v)
+    let places = u64x8::from_array([1, 2, 4, 8, 16, 32, 64, 128]);
+    (u64x8::splat(bits) & places)
+        .simd_eq(places)
+        .select(v - u64x8::splat(by), v)
 }
 
 /// The same of eight numbers in memory.
@@ -52,9 +53,12 @@ pub fn lower(dues: &mut [u64; 64], mask: u64, by: u64)
 fn masked_eight(v: u64x8, bits: u64) -> u64x8
     ensures { HasLanes result (λ k. if bit_at bits k == 1 then slice_index v k else 2 ^ 64 - 1) }
 {
-    let places = u64x8::from_array([0, 1, 2, 3, 4, 5, 6, 7]);
-    let set = (u64x8::splat(bits) >> places) & u64x8::splat(1);
-    set.simd_eq(u64x8::splat(1))
+    if bits & 255 == 255 {
+        return v;
+    }
+    let places = u64x8::from_array([1, 2, 4, 8, 16, 32, 64, 128]);
+    (u64x8::splat(bits) & places)
+        .simd_eq(places)
         .select(v, u64x8::splat(u64::MAX))
 }
 
@@ -96,7 +100,11 @@ fn least_cost(costs: &[u64; 64], mask: u64) -> u64
 {
     let mut low = u64x8::splat(u64::MAX);
     for block in 0..8usize {
-        let lanes = masked_eight(block_of(costs, block), mask >> (8 * block));
+        let bits = mask >> (8 * block);
+        if bits == 0 {
+            return least_lane(low);
+        }
+        let lanes = masked_eight(block_of(costs, block), bits);
         low = lesser_eight(low, lanes);
     }
     least_lane(low)

@@ -5,6 +5,7 @@ ghost use Rattle.std.specs.Int.{bit_at};
 ghost use Rattle.std.specs.List.{list_any, position};
 ghost use Rattle.mscp_drive.specs.UnitList.{IsUnitList};
 ghost use Rattle.mscp_drive.specs.Shape.{last_cylinder};
+ghost use Rattle.mscp_queue.specs.Aims.{no_aim};
 ghost use Rattle.mscp_queue.specs.Drives.{IsOnUnit};
 ghost use Rattle.mscp_queue.specs.Kept.{CanBeShown, units_of};
 ghost use Rattle.mscp_queue.specs.Lineups.{IsLineup, IsRenewed, choice_in, cost_on, costing_if, has_choice_name, has_choice_number, no_choice};
@@ -106,19 +107,21 @@ impl Lineup {
         self.has_number(name.reference) && self.place_of(name).is_some()
     }
 
-    /// Finds anew what the start of the command at the place costs, whose first block is on this cylinder, if it is to the
-    /// unit of this drive.
-    fn renew_at(&mut self, place: usize, drive: &Drive, to: u32)
+    /// Finds anew what the start of the command at the place costs, if it is to the unit of this drive.
+    fn renew_at(&mut self, place: usize, backlog: &Backlog, drive: &Drive)
         requires place { place < length self.old.view }
+        requires waiting { place < length backlog.now.waiting }
         requires head { IsOnUnit drive.now }
         requires to { nat_eq (slice_index_or self.old.view place no_choice).unit drive.now.unit.number ≡ true
-            → to ≤ last_cylinder drive.now.unit }
+            → (slice_index_or backlog.now.aims place no_aim).cylinder ≤ last_cylinder drive.now.unit }
         ensures view { self.new.view ≡ slice_set self.old.view place
             (costing_if (nat_eq (slice_index_or self.old.view place no_choice).unit drive.now.unit.number)
-            (cost_on drive.now to) (slice_index_or self.old.view place no_choice)) }
+            (cost_on drive.now (slice_index_or backlog.now.aims place no_aim).cylinder)
+            (slice_index_or self.old.view place no_choice)) }
         ensures stale { self.new.stale ≡ self.old.stale }
     {
         if self.view.choices()[place].unit == drive.unit.number() {
+            let to = backlog.aim(place).cylinder;
             self.view.set_cost(place, drive.head.cost(&drive.unit, to));
         }
     }
@@ -135,7 +138,7 @@ impl Lineup {
     {
         let drive = &drives[at];
         for place in 0..backlog.len() {
-            self.renew_at(place, drive, backlog.aim(place).cylinder);
+            self.renew_at(place, backlog, drive);
         }
     }
 

@@ -1,9 +1,11 @@
 // Who picks the command that starts.
 
-ghost use Rattle.std.specs.Prelude.{◌≡◌, ◌<◌, [], length};
-ghost use Rattle.mscp_queue.specs.Pickers.{IsSweep};
+ghost use Rattle.std.specs.Prelude.{◌≡◌, ◌<◌, ◌≤◌, [], ℕ, cond, length, nat_lt, slice_index_or};
+ghost use Rattle.std.specs.Int.{bit_at};
+ghost use Rattle.mscp_queue.specs.Pickers.{IsSweep, costs};
 
-use crate::view::View;
+use crate::lanes::least;
+use crate::view::{Choice, View};
 
 /// Picks the command that starts, of those that may. Any choice is lawful: what a queue shows may start, and the
 /// budget of each waiting command is kept, whoever picks.
@@ -38,6 +40,54 @@ impl Picker for Oldest {
     }
 }
 
+/// From so many choices on the least cost is found eight lanes at a time. Below, it is quicker to look at one after the
+/// other.
+const MANY: usize = 16;
+
+/// The first place that has the least cost, and 0 where there is none.
+fn cheapest(choices: &[Choice]) -> usize
+    requires { length choices.now ≤ 64 }
+    ensures empty { choices.now ≡ [] → result ≡ 0 }
+    ensures sweep { 0 < length choices.now → IsSweep choices.now result }
+{
+    let Some(first) = choices.first() else {
+        return 0;
+    };
+    let mut best = 0;
+    let mut least = first.cost;
+    for place in 1..choices.len() {
+        let cost = choices[place].cost;
+        if cost < least {
+            best = place;
+            least = cost;
+        }
+    }
+    best
+}
+
+/// What the starts cost, by their places.
+fn costs_of(choices: &[Choice]) -> [u64; 64]
+    requires { length choices.now ≤ 64 }
+    ensures { (k : ℕ) → k < length choices.now → slice_index_or result k 0 ≡ slice_index_or (costs choices.now) k 0 }
+{
+    let mut costs = [0u64; 64];
+    for place in 0..choices.len() {
+        costs[place] = choices[place].cost;
+    }
+    costs
+}
+
+/// The mask of so many places from the first on.
+fn first_places(count: usize) -> u64
+    requires { count ≤ 64 }
+    ensures { (k : ℕ) → k < 64 → bit_at result k ≡ cond (nat_lt k count) 1 0 }
+{
+    if count == 64 {
+        return u64::MAX;
+    }
+    (1 << count) - 1
+}
+
 /// Picks the command whose start costs the least, and of those the oldest: an elevator over all units (profile).
 #[derive(Clone, Copy, Debug, Default, PartialEq, Eq)]
 pub struct Sweep;
@@ -50,18 +100,9 @@ impl Picker for Sweep {
         ensures sweep { 0 < length view.now → IsSweep view.now result }
     {
         let choices = view.choices();
-        let Some(first) = choices.first() else {
-            return 0;
-        };
-        let mut best = 0;
-        let mut least = first.cost;
-        for place in 1..choices.len() {
-            let cost = choices[place].cost;
-            if cost < least {
-                best = place;
-                least = cost;
-            }
+        if choices.len() < MANY {
+            return cheapest(choices);
         }
-        best
+        least(&costs_of(choices), first_places(choices.len())).unwrap_or(0)
     }
 }

@@ -1,11 +1,11 @@
 use Rattle.std.proofs.Common.{ℕ, ◌+◌, subst, sym}
 use Rattle.mscp_queue.proofs.Least.{IsCheapest, cheapest_comes, cheapest_stays}
-use Rattle.mscp_queue.proofs.picker.SweepPicker.pick.Goals.{then-cost-least, else-cost-least}
-use Rattle.mscp_queue.proofs.picker.SweepPicker.pick.Goals as goal
+use Rattle.mscp_queue.proofs.picker.cheapest.Goals.{then-cost-least, else-cost-least}
+use Rattle.mscp_queue.proofs.picker.cheapest.Goals as goal
 
 pub loop-place-preserved : goal.loop-place-preserved
 loop-place-preserved c =
-    let view = c.choices-choices.result.now in
+    let view = c.args.choices.now in
     let place = c.loop-place.place in
     let best = c.loop-place.best in
     let least = c.loop-place.least in
