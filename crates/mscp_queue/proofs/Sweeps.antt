@@ -1,6 +1,6 @@
 -- The sweep finds the first of the least costs by lanes.
-use Rattle.std.proofs.Common.{refl, ◌≡◌, ◌≢◌, ◌⊎◌, inl, inr, ℕ, ◌+◌, ◌-◌, ◌*◌, ◌%◌, ◌^◌, ◌<◌, ◌≤◌, Bool, true, false, cond, List, length, get_or, set, take, ap, sym, subst, ◌∙◌, arith}
-use Rattle.std.specs.Prelude.{All, nat_lt}
+use Rattle.std.proofs.Common.{refl, ◌≡◌, ◌≢◌, ◌⊎◌, inl, inr, ℕ, ◌+◌, ◌-◌, ◌*◌, ◌%◌, ◌^◌, ◌<◌, ◌≤◌, Bool, true, false, cond, List, length, get_or, set, ap, sym, subst, ◌∙◌, arith}
+use Rattle.std.specs.Prelude.{nat_lt}
 use Rattle.std.specs.Int.{bit_at}
 use Rattle.std.proofs.lemmas.Bool.{lt-ltb, ltb-true, le-ltb}
 use Rattle.std.proofs.lemmas.List.{get_or-set_other, get_or-set_same, get_or-take, get_or_default, length-take}
@@ -74,6 +74,12 @@ module _ (xs ys : List ℕ) (mask p : ℕ) (few : length ys ≤ 64)
     first = λ k other l.
         let under : k < p = omega (arith, l, length-take p ys) in
         let one = h.first k under (on k (omega (arith, under, below))) in
-        omega (arith, one, same p below, same k (omega (arith, under, below)), get_or-take p ys k other under,
-        get_or_default ys k other 0 (omega (arith, under, below)));
+        omega (
+          arith,
+          one,
+          same p below,
+          same k (omega (arith, under, below)),
+          get_or-take p ys k other under,
+          get_or_default ys k other 0 (omega (arith, under, below)),
+        );
   }

@@ -13,7 +13,7 @@ use Rattle.mscp_queue.specs.Drives.{drive_of, fresh_drive, one_block}
 use Rattle.mscp_queue.specs.Kept.{IsReady, units_of}
 use Rattle.mscp_queue.specs.Waiters.{Waiters}
 use Rattle.mscp_queue.specs.Names.{same_name}
-use Rattle.mscp_queue.specs.Records.{Record, no_record, record_at}
+use Rattle.mscp_queue.specs.Records.{Record, record_at}
 use Rattle.mscp_queue.specs.Views.{choice_name, choice_of}
 
 -- a choice of nothing, which stands past the end of a list

@@ -143,3 +143,6 @@ pub fn least(costs: &[u64; 64], mask: u64) -> Option<usize>
 {
     first_place(costs, mask, least_cost(costs, mask))
 }
+
+#[cfg(test)]
+mod tests;

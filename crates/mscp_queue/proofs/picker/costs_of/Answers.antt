@@ -1,4 +1,4 @@
-use Rattle.std.proofs.Common.{arith, ap, length, sym, ◌∙◌}
+use Rattle.std.proofs.Common.{arith, sym, ◌∙◌}
 use Rattle.std.proofs.lemmas.List.{get_or-map, length-set}
 use Rattle.mscp_queue.specs.declared.view.Choice.{Choice}
 use Rattle.mscp_queue.specs.Pickers.{costs}

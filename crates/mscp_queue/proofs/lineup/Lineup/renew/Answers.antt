@@ -1,13 +1,12 @@
-use Rattle.std.proofs.Common.{◌≡◌, ◌<◌, length, get_or, set, refl, ap, sym, ◌∙◌, arith}
+use Rattle.std.proofs.Common.{◌<◌, length, get_or, set, refl, ap, ◌∙◌, arith}
 use Rattle.std.specs.Prelude.{nat_eq}
 use Rattle.std.proofs.lemmas.List.{get_or_default}
-use Rattle.mscp_queue.specs.declared.aim.Aim.{Aim}
 use Rattle.mscp_queue.specs.declared.drive.Drive.{Drive}
 use Rattle.mscp_queue.specs.Aims.{no_aim}
 use Rattle.mscp_queue.specs.Drives.{fresh_drive, one_block}
 use Rattle.mscp_queue.specs.Lineups.{choice_in, cost_on, costing_if, no_choice}
 use Rattle.mscp_queue.specs.Records.{record_at}
-use Rattle.mscp_queue.proofs.Lineups.{all_renewed, as_many, costing_same, none_renewed, on_drive, renew_more}
+use Rattle.mscp_queue.proofs.Lineups.{as_many, costing_same, on_drive, renew_more}
 use Rattle.mscp_queue.proofs.lineup.Lineup.renew.Goals as goal
 
 pub renew_at-requires-clause-to : goal.renew_at-requires-clause-to
