@@ -1,5 +1,6 @@
 -- Where the drive of a unit stands among the drives.
-use Rattle.std.proofs.Common.{◌≡◌, ℕ, zero, suc, ◌+◌, ◌<◌, Bool, true, false, cond, not, List, [], ◌∷◌, set, get_or, length, refl, ap, sym, ◌∙◌, subst, arith}
+use Rattle.std.proofs.Common.{◌≡◌, ℕ, zero, suc, ◌+◌, ◌<◌, Bool, true, false, cond, not, List, [], ◌∷◌, set, get_or,
+    length, refl, ap, sym, ◌∙◌, subst, arith}
 use Rattle.std.specs.Prelude.{find, nat_eq, if◌then◌else◌, is_some, unwrap_or, Some, None}
 use Rattle.std.specs.List.{AllByRecursion, position, position_or_len}
 use Rattle.std.proofs.lemmas.Bool.{eq-eqb, eqb-true, false≢true, lt-ltb, ne_eqb}
@@ -101,7 +102,8 @@ set_is (x ∷ ds) (suc at) n new p l d e num =
     ∷ set_is ds at n new p.1 below d e num i)
 
 -- the drive of this number stands there
-pub place_is : (ds : List Drive) (at n : ℕ) (d : Drive) → Pairs Lower (units_of ds) → at < length ds → d ≡ get_or ds at d
+pub place_is : (ds : List Drive) (at n : ℕ) (d : Drive) → Pairs Lower
+    (units_of ds) → at < length ds → d ≡ get_or ds at d
     → d.unit.number ≡ n → drive_place ds n ≡ at
 place_is [] at n d p l e num = absurd (omega (arith, l))
 place_is (x ∷ ds) zero n d p l e num =
@@ -127,4 +129,5 @@ set_replaced ds at n new other l known e =
     let placed = known_at ds n other known in
     let found : get_or ds at d ≡ d = ap (λ i. get_or ds i d) e
     ∙ get_or_default ds (drive_place ds n) d other placed.inside in
-    set_is ds at n new (pairs_rise (units_of ds) l.rising) (omega (arith, e, placed.inside)) d (sym found) placed.number
+    set_is ds at n new (pairs_rise (units_of ds) l.rising) (omega (arith, e, placed.inside)) d
+    (sym found) placed.number

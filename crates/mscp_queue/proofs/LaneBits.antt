@@ -1,5 +1,6 @@
 -- The bits of a mask as the lanes of a vector.
-use Rattle.std.proofs.Common.{◌≡◌, ℕ, zero, suc, ◌-◌, ◌*◌, ◌^◌, ◌<◌, List, [], ◌∷◌, Bool, true, false, cond, nat_eq, ltb, min, length, get_or, replicate, refl, sym, ap, ◌∙◌, arith, bit_and}
+use Rattle.std.proofs.Common.{◌≡◌, ℕ, zero, suc, ◌-◌, ◌*◌, ◌^◌, ◌<◌, List, [], ◌∷◌, Bool, true, false, cond, nat_eq,
+    ltb, min, length, get_or, replicate, refl, sym, ap, ◌∙◌, arith, bit_and}
 use Rattle.std.specs.Int.{bit_at}
 use Rattle.std.specs.Simd.Lanes.{top, sel_l, zip2}
 use Rattle.std.proofs.lemmas.Bool.{eq-eqb, ne_eqb}
@@ -24,7 +25,8 @@ times_eq (suc (suc b)) place l some = absurd (omega (arith, l))
 -- the bit of a place is set exactly where it stands in the mask
 lane_bit : (bits k place : ℕ) → place ≡ 2 ^ k → 0 < place → test_lane bits place ≡ nat_eq (bit_at bits k) 1
 lane_bit bits k place is some = top_of (nat_eq (bit_and bits place) place)
-    ∙ (ap (λ (r : ℕ). nat_eq r place) (ap (bit_and bits) is ∙ (and_pow bits k ∙ ap (λ (p : ℕ). bit_at bits k * p) (sym is)))
+    ∙ (ap (λ (r : ℕ). nat_eq r place) (ap (bit_and bits) is ∙ (and_pow bits k ∙ ap (λ (p : ℕ). bit_at bits k * p)
+    (sym is)))
     ∙ times_eq (bit_at bits k) place (bit_at-lt bits k) some)
 
 abbrev pub eight_tests : ℕ → List Bool
@@ -94,7 +96,8 @@ least_of_two a b p q =
       long = length-sel_l (zip2 ltb a b) a b (long ∙ sym p) (long ∙ sym q) ∙ long;
       each = λ k l.
           get_or-sel_l (zip2 ltb a b) a b k 0 (omega arith) (omega arith) (omega arith)
-          ∙ ap (λ t. cond t (get_or a k 0) (get_or b k 0)) (get_or-zip2 ltb a b k 0 0 false (omega arith) (omega arith))
+          ∙ ap (λ t. cond t (get_or a k 0) (get_or b k 0)) (get_or-zip2 ltb a b k 0 0 false (omega arith)
+          (omega arith))
           ∙ lesser (get_or a k 0) (get_or b k 0);
     }
 

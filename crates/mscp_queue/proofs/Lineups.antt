@@ -1,5 +1,6 @@
 -- What a queue keeps of its waiting commands for a picker stays true.
-use Rattle.std.proofs.Common.{All, ◌≡◌, ◌≢◌, ◌⊎◌, inl, inr, set, ℕ, ◌+◌, ◌<◌, ◌≤◌, Bool, true, false, cond, not, ◌||◌, List, [], ◌∷◌, ◌++◌, map, take, drop, get_or, length, refl, ap, sym, ◌∙◌, subst, arith}
+use Rattle.std.proofs.Common.{All, ◌≡◌, ◌≢◌, ◌⊎◌, inl, inr, set, ℕ, ◌+◌, ◌<◌, ◌≤◌, Bool, true, false, cond, not,
+    ◌||◌, List, [], ◌∷◌, ◌++◌, map, take, drop, get_or, length, refl, ap, sym, ◌∙◌, subst, arith}
 use Rattle.std.specs.Prelude.{find, nat_eq, nat_lt, unwrap_or, Some, None}
 use Rattle.std.specs.Int.{bit_at}
 use Rattle.std.specs.List.{list_any, position, position_or_len, range_with_len}
@@ -9,7 +10,8 @@ use Rattle.mscp_packet.specs.declared.command.Order.TheVariants as orders
 use Rattle.mscp_drive.specs.declared.head.Head.{Head}
 use Rattle.mscp_drive.specs.Heads.{sweep_cost}
 use Rattle.std.proofs.lemmas.Bool.{eq-eqb, eqb-true, false≢true, ne_eqb}
-use Rattle.std.proofs.lemmas.List.{ext_get_or, get_or_default, get_or-map, get_or-set_other, get_or-set_same, length-set, length-map, map-append}
+use Rattle.std.proofs.lemmas.List.{ext_get_or, get_or_default, get_or-map, get_or-set_other, get_or-set_same,
+    length-set, length-map, map-append}
 use Rattle.mscp_packet.specs.declared.command.Command.{Command}
 use Rattle.mscp_drive.specs.Shape.{Shape, cylinder_of, last_cylinder}
 use Rattle.mscp_queue.specs.Orders.{first_block, is_move, order_cost}
@@ -20,7 +22,8 @@ use Rattle.mscp_queue.specs.declared.view.Choice.{Choice}
 use Rattle.mscp_queue.specs.Aims.{aim_of, no_aim, unit_place}
 use Rattle.mscp_queue.specs.Drives.{drive_of, fresh_drive, has_number, one_block, replaced}
 use Rattle.mscp_queue.specs.Kept.{CanBeShown, is_known, names, units_of}
-use Rattle.mscp_queue.specs.Lineups.{IsLineup, IsRenewed, choice_in, cost_on, costing, costing_if, has_choice_name, no_choice, renewed, sure_of}
+use Rattle.mscp_queue.specs.Lineups.{IsLineup, IsRenewed, choice_in, cost_on, costing, costing_if, has_choice_name,
+    no_choice, renewed, sure_of}
 use Rattle.mscp_queue.specs.Masks.{IsSet}
 use Rattle.mscp_queue.specs.Names.{same_name}
 use Rattle.mscp_queue.specs.Records.{Record, advanced, has_name, name_of, no_record, passed_by, record_at}
@@ -61,7 +64,8 @@ module _ {stale : ℕ} {ds : List Drive} {rs : List Record} {cs : List Choice} (
 
   -- the choice at a place is that of the record there
   pub at_place : (k : ℕ) → k < length rs
-      → sure_of stale (units_of ds) (get_or cs k no_choice) ≡ sure_of stale (units_of ds) (choice_in ds (record_at rs k))
+      → sure_of stale (units_of ds) (get_or cs k no_choice) ≡ sure_of stale (units_of ds) (choice_in ds
+      (record_at rs k))
   at_place k l =
       sym (get_or-map S cs k no_choice no_choice (omega (arith, l, as_many)))
       ∙ (ap (λ zs. get_or zs k no_choice) h.sure
@@ -76,7 +80,8 @@ module _ {stale : ℕ} {ds : List Drive} {rs : List Record} {cs : List Choice} (
       ∙ (map_map (λ (r : Record). S (choice_in ds r)) choice_name rs
       ∙ (λ i. map (λ (r : Record). sure_name stale (units_of ds) (choice_in ds r) i) rs))))
 
-any_mapped : {X Y : Type 0} (p : Y → Bool) (f : X → Y) (xs : List X) → list_any p (map f xs) ≡ list_any (λ x. p (f x)) xs
+any_mapped : {X Y : Type 0} (p : Y → Bool) (f : X → Y) (xs : List X) → list_any p (map f xs) ≡ list_any (λ x. p
+    (f x)) xs
 any_mapped p f [] = refl
 any_mapped p f (x ∷ xs) = ap (λ b. p (f x) || b) (any_mapped p f xs)
 
@@ -86,7 +91,8 @@ place_mapped p f [] = refl
 place_mapped p f (x ∷ xs) = ap (λ n. cond (not (p (f x))) (1 + n) 0) (place_mapped p f xs)
 
 -- so a command is looked for among the choices
-pub any_of : {stale : ℕ} {ds : List Drive} {rs : List Record} {cs : List Choice} (name : Name) → IsLineup stale ds rs cs
+pub any_of : {stale : ℕ} {ds : List Drive} {rs : List Record} {cs : List Choice}
+    (name : Name) → IsLineup stale ds rs cs
     → list_any (has_choice_name name) cs ≡ list_any (has_name name) rs
 any_of {stale} {ds} {rs} {cs} name h =
     let p : Name → Bool = λ other. same_name other name in
@@ -124,7 +130,8 @@ lineup_left {stale} {ds} {rs} {rs'} {cs} {cs'} place h e f =
     record {
       sure = ap (map sure) e
           ∙ (sym (map_cut sure cs place)
-          ∙ ((λ i. take place (h.sure i) ++ drop (place + 1) (h.sure i)) ∙ (map_cut of rs place ∙ ap (map of) (sym f))));
+          ∙ ((λ i. take place (h.sure i) ++ drop (place + 1) (h.sure i)) ∙ (map_cut of rs place ∙ ap (map of)
+          (sym f))));
     }
 
 pub line_without : {stale stale' : ℕ} {ds : List Drive} {rs rs' : List Record} {cs cs' : List Choice} (place : ℕ)
@@ -178,10 +185,12 @@ place_within (u ∷ us) n = by (nat_eq u.number n) (place_within us n)
     by false rest = omega (arith, rest)
 
 module _ (stale stale' at u : ℕ) (us : List Shape) (few : length us ≤ 16) (set : IsSet true at stale stale') where
-  bit_is : (n : ℕ) → bit_at stale' (unit_place us n) ≡ cond (nat_eq (unit_place us n) at) 1 (bit_at stale (unit_place us n))
+  bit_is : (n : ℕ) → bit_at stale' (unit_place us n) ≡ cond (nat_eq (unit_place us n) at) 1 (bit_at stale
+    (unit_place us n))
   bit_is n = let within = place_within us n in set (unit_place us n) (omega (arith, within, few))
 
-  still : (n : ℕ) → nat_eq (bit_at stale (unit_place us n)) 1 ≡ true → nat_eq (bit_at stale' (unit_place us n)) 1 ≡ true
+  still : (n : ℕ) → nat_eq (bit_at stale (unit_place us n)) 1 ≡ true → nat_eq (bit_at stale'
+    (unit_place us n)) 1 ≡ true
   still n e = by (nat_eq (unit_place us n) at) refl
     where
       by : (b : Bool) → nat_eq (unit_place us n) at ≡ b → nat_eq (bit_at stale' (unit_place us n)) 1 ≡ true
@@ -228,10 +237,12 @@ pub lineup_served : {stale stale' place : ℕ} {ds ds' : List Drive} {rs rs' : L
     ++ (cond ends [] (advanced (record_at rs place) ∷ []) ++ drop (place + 1) rs)
     → cs' ≡ cond ends (take place cs ++ drop (place + 1) cs) cs
     → IsLineup stale' ds' rs' cs'
-lineup_served {stale} {stale'} {place} {ds} {ds'} {rs} {rs'} {cs} {cs'} at u toll new ends h few set is own now same l e f =
+lineup_served {stale} {stale'} {place} {ds} {ds'} {rs} {rs'} {cs} {cs'} at u toll new ends h few set is own now same
+    l e f =
     let us = units_of ds in
     let sure = sure_of stale' us in
-    let F : Connection → Command → Choice = λ by command. sure (choice_in (replaced u new ds) (record no_record { connection = by; command = command })) in
+    let F : Connection → Command → Choice = λ by command. sure (choice_in (replaced u new ds)
+    (record no_record { connection = by; command = command })) in
     let moved : map sure cs ≡ map (λ r. sure (choice_in (replaced u new ds) r)) rs =
     (λ i. map (λ (c : Choice). sym (twice_sure stale stale' at u us few set c) i) cs)
     ∙ (sym (map_map (sure_of stale us) sure cs)
@@ -266,7 +277,8 @@ module _ {stale : ℕ} {ds : List Drive} {rs : List Record} {cs : List Choice} (
   same_unit = ap (λ (c : Choice). c.unit) same_but
 
 -- nothing but what is sure is asked for where no drive of a known unit served
-sure_all : (stale : ℕ) (us : List Shape) (c : Choice) → bit_at stale (unit_place us c.unit) ≡ 0 → sure_of stale us c ≡ c
+sure_all : (stale : ℕ) (us : List Shape) (c : Choice) → bit_at stale
+    (unit_place us c.unit) ≡ 0 → sure_of stale us c ≡ c
 sure_all stale us c e = ap (λ b. cond (nat_eq b 1) (costing 0 c) c) e
 
 pub lineup_whole : {stale : ℕ} {ds : List Drive} {rs : List Record} {cs : List Choice} → IsLineup stale ds rs cs
@@ -384,14 +396,16 @@ renew_more {at} {place} {ds} {rs} {old} {new} {new'} h l e =
 
     go : (k : ℕ) → (k < place) ⊎ (k ≡ place)
         → get_or new' place no_choice
-        ≡ renewed (get_or ds at (fresh_drive one_block)).unit.number ds (record_at rs place) (get_or old place no_choice)
+        ≡ renewed (get_or ds at (fresh_drive one_block)).unit.number ds (record_at rs place)
+        (get_or old place no_choice)
         → ((k : ℕ) → k ≢ place → get_or new' k no_choice ≡ get_or new k no_choice)
         → get_or new' k no_choice
         ≡ renewed (get_or ds at (fresh_drive one_block)).unit.number ds (record_at rs k) (get_or old k no_choice)
     go k (inl under) there other = other k (λ f. omega (arith, under, f)) ∙ h.below k under
     go k (inr f) there other =
         subst (λ j. get_or new' j no_choice
-        ≡ renewed (get_or ds at (fresh_drive one_block)).unit.number ds (record_at rs j) (get_or old j no_choice)) (sym f)
+        ≡ renewed (get_or ds at (fresh_drive one_block)).unit.number ds (record_at rs j) (get_or old j no_choice))
+        (sym f)
         there
 
 pub all_renewed : {at place : ℕ} {ds : List Drive} {rs : List Record} {old new : List Choice}

@@ -1,5 +1,6 @@
 -- What a queue keeps of its waiting commands for a picker, from start to start.
-use Rattle.std.specs.Prelude.{◌≡◌, ℕ, ◌<◌, ◌==◌, Bool, if◌then◌else◌, List, Option, length, map, nat_eq, slice_index_or}
+use Rattle.std.specs.Prelude.{◌≡◌, ℕ, ◌<◌, ◌==◌, Bool, if◌then◌else◌, List, Option, length, map, nat_eq,
+    slice_index_or}
 use Rattle.std.specs.Int.{bit_at}
 use Rattle.mscp_packet.specs.declared.class.Class.TheVariants.{Unknown}
 use Rattle.mscp_drive.specs.Heads.{sweep_cost}
@@ -44,7 +45,8 @@ cost_on d to = sweep_cost (last_cylinder d.unit) d.head.cylinder d.head.up to
 abbrev pub choice_in : List Drive → Record → Choice
 choice_in ds r = choice_of (drive_of ds r.command.unit) r
 
--- what is sure of a choice where the drives at the places of these bits have served since: all but a cost on one of them
+-- what is sure of a choice where the drives at the places of these bits have served since: all but a cost on one of
+-- them
 abbrev pub sure_of : ℕ → List Shape → Choice → Choice
 sure_of stale units c = if bit_at stale (unit_place units c.unit) == 1 then costing 0 c else c
 

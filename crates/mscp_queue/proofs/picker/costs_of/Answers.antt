@@ -18,5 +18,6 @@ loop-place-preserved c =
         c.requires,
         c.loop-place-test.true,
         c.loop-place.auto.place-end,
-      )) (sym (get_or-map (λ (q : Choice). q.cost) choices place _ 0 c.loop-place-test.true)) c.loop-place.invariant.each;
+      )) (sym (get_or-map (λ (q : Choice). q.cost) choices place _ 0 c.loop-place-test.true))
+      c.loop-place.invariant.each;
     }

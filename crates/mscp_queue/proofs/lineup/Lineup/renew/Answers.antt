@@ -13,7 +13,8 @@ pub renew_at-requires-clause-to : goal.renew_at-requires-clause-to
 renew_at-requires-clause-to c = λ e.
     let inside : c.loop-place.place < length c.args.backlog.now.waiting =
     omega (arith, c.loop-place-test.true, c.len-place-end.ensures.waiting) in
-    (on_drive c.index-drives-at.result (get_or c.args.backlog.now.aims c.loop-place.place no_aim) c.requires.waiting c.requires.units c.requires.lined
+    (on_drive c.index-drives-at.result (get_or c.args.backlog.now.aims c.loop-place.place no_aim) c.requires.waiting
+    c.requires.units c.requires.lined
     c.loop-place.invariant.renewing c.requires.transfers c.requires.drive inside c.index-drives-at.is refl
     e).within
 

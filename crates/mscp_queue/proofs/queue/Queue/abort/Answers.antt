@@ -16,7 +16,8 @@ pub returns-in_err-place-clause-end : goal.returns-in_err-place-clause-end
 returns-in_err-place-clause-end g c =
     let K = g.row.K.Denot in
     let name = name_on c.args.connection c.args.reference in
-    let none = aborts_none name c.self.inside.backlog.waiting (sym (c.place_of.ensures ∙ place_of name c.self.invariant.lined) ∙ c.in_err-place.was) in
+    let none = aborts_none name c.self.inside.backlog.waiting (sym (c.place_of.ensures
+    ∙ place_of name c.self.invariant.lined) ∙ c.in_err-place.was) in
     c.from_residual.ensures ∙ (ap (option_map aborted_record) (sym none.found)
     ∙ ap (λ (l : Line K). option_map aborted_record (find (has_name name) l.waiting)) c.self.view_is)
 
@@ -26,8 +27,10 @@ returns-in_err-place-clause-after g c =
     let q = c.self.inside in
     let rs = q.backlog.waiting in
     let name = name_on c.args.connection c.args.reference in
-    let none = aborts_none name rs (sym (c.place_of.ensures ∙ place_of name c.self.invariant.lined) ∙ c.in_err-place.was) in
-    let stays = none_aborted q.backlog.budget name rs (begun_name rs q.begun) c.self.invariant.ready.held.still none.found in
+    let none = aborts_none name rs (sym (c.place_of.ensures ∙ place_of name c.self.invariant.lined)
+    ∙ c.in_err-place.was) in
+    let stays = none_aborted q.backlog.budget name rs (begun_name rs q.begun) c.self.invariant.ready.held.still
+    none.found in
     sym c.self.view_is
     ∙ ((λ i. record {
       room = q.room;
@@ -44,7 +47,8 @@ pub take_out-requires-clause-front : goal.take_out-requires-clause-front
 take_out-requires-clause-front g c = λ e.
     let rs = c.self.inside.backlog.waiting in
     let name = name_on c.args.connection c.args.reference in
-    let at = aborts_at name rs c.in_ok-place.place c.self.invariant.ready.held.apart (sym (c.place_of.ensures ∙ place_of name c.self.invariant.lined)
+    let at = aborts_at name rs c.in_ok-place.place c.self.invariant.ready.held.apart (sym (c.place_of.ensures
+    ∙ place_of name c.self.invariant.lined)
     ∙ c.in_ok-place.was) in
     (others_at c.in_ok-place.place c.self.invariant.ready.held at.inside e).0
 
@@ -52,7 +56,8 @@ pub take_out-requires-clause-back : goal.take_out-requires-clause-back
 take_out-requires-clause-back g c = λ e.
     let rs = c.self.inside.backlog.waiting in
     let name = name_on c.args.connection c.args.reference in
-    let at = aborts_at name rs c.in_ok-place.place c.self.invariant.ready.held.apart (sym (c.place_of.ensures ∙ place_of name c.self.invariant.lined)
+    let at = aborts_at name rs c.in_ok-place.place c.self.invariant.ready.held.apart (sym (c.place_of.ensures
+    ∙ place_of name c.self.invariant.lined)
     ∙ c.in_ok-place.was) in
     (others_at c.in_ok-place.place c.self.invariant.ready.held at.inside e).1
 
@@ -60,13 +65,15 @@ pub invariant_of-self : goal.invariant_of-self
 invariant_of-self g c =
     let rs = c.self.inside.backlog.waiting in
     let name = name_on c.args.connection c.args.reference in
-    let at = aborts_at name rs c.in_ok-place.place c.self.invariant.ready.held.apart (sym (c.place_of.ensures ∙ place_of name c.self.invariant.lined)
+    let at = aborts_at name rs c.in_ok-place.place c.self.invariant.ready.held.apart (sym (c.place_of.ensures
+    ∙ place_of name c.self.invariant.lined)
     ∙ c.in_ok-place.was) in
     let e = c.take_out.ensures in
     record {
       ready = ready_left c.in_ok-place.place c.self.invariant.ready at.inside e.budget e.waiting e.aims
           c.without_place-self-inside.ensures c.without_place-self-inside-2.ensures;
-      lined = line_without c.in_ok-place.place c.self.invariant.lined c.remove.ensures.view c.remove.ensures.stale e.waiting;
+      lined = line_without c.in_ok-place.place c.self.invariant.lined c.remove.ensures.view c.remove.ensures.stale
+      e.waiting;
     }
 
 pub returns-clause-end : goal.returns-clause-end
@@ -75,7 +82,8 @@ returns-clause-end g c =
     let rs = c.self.inside.backlog.waiting in
     let place = c.in_ok-place.place in
     let name = name_on c.args.connection c.args.reference in
-    let at = aborts_at name rs place c.self.invariant.ready.held.apart (sym (c.place_of.ensures ∙ place_of name c.self.invariant.lined) ∙ c.in_ok-place.was) in
+    let at = aborts_at name rs place c.self.invariant.ready.held.apart (sym (c.place_of.ensures
+    ∙ place_of name c.self.invariant.lined) ∙ c.in_ok-place.was) in
     ap Some (c.aborted_end.ensures ∙ (λ i. aborted_end (c.command.ensures i) (c.done.ensures.good i))
     ∙ ap aborted_record c.record.ensures)
     ∙ (ap (option_map aborted_record) (sym at.found)
@@ -95,7 +103,8 @@ returns-clause-after g c =
     let left = e.waiting ∙ ap (λ k. take place rs ++ drop k rs) next ∙ at.left in
     let own : name_of (record_at rs place) ≡ name = named_at name rs place found in
     let begun = ap (begun_name c.take_out.new.self.waiting) c.without_place-self-inside.ensures
-    ∙ sym (begun_left rs c.take_out.new.self.waiting q.begun place c.self.invariant.ready.held.apart at.inside e.waiting
+    ∙ sym (begun_left rs c.take_out.new.self.waiting q.begun place c.self.invariant.ready.held.apart at.inside
+    e.waiting
     c.self.invariant.ready.waits)
     ∙ ap (λ n. begun_without n (begun_name rs q.begun)) own in
     (λ i. record {

@@ -18,7 +18,8 @@ bounds-deref-drive g c =
     subst (λ (l : Line K). IsNext (g.K.Picker.picks l.picker) l.budget l.drives l.waiting l.begun place)
     (sym c.self.view_is)
     c.requires in
-    let at = drive_found q.backlog.aims place _ c.self.invariant.ready.held c.self.invariant.ready.aimed next.servable.inside
+    let at = drive_found q.backlog.aims place _ c.self.invariant.ready.held c.self.invariant.ready.aimed
+    next.servable.inside
     (c.from-drive.ensures ∙ ap (λ (a : Aim). a.drive) c.aim.ensures) in
     subst (λ l. c.from-drive.result < length l) (sym c.deref.ensures.0) at.inside
 
@@ -33,7 +34,8 @@ returns g c =
     subst (λ (l : Line K). IsNext (g.K.Picker.picks l.picker) l.budget l.drives l.waiting l.begun place)
     (sym c.self.view_is)
     c.requires in
-    let at = drive_found q.backlog.aims place _ c.self.invariant.ready.held c.self.invariant.ready.aimed next.servable.inside
+    let at = drive_found q.backlog.aims place _ c.self.invariant.ready.held c.self.invariant.ready.aimed
+    next.servable.inside
     (c.from-drive.ensures ∙ ap (λ (a : Aim). a.drive) c.aim.ensures) in
     let d = c.index-deref-drive.result in
     let drive : d ≡ drive_at ds rs place = c.index-deref-drive.is

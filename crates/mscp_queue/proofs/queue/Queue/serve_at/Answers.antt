@@ -32,7 +32,8 @@ bounds-deref-at g c =
     subst (λ (l : Line K). IsNext (g.K.Picker.picks l.picker) l.budget l.drives l.waiting l.begun place)
     (sym c.self.view_is)
     c.requires in
-    let at = drive_found q.backlog.aims place _ c.self.invariant.ready.held c.self.invariant.ready.aimed next.servable.inside
+    let at = drive_found q.backlog.aims place _ c.self.invariant.ready.held c.self.invariant.ready.aimed
+    next.servable.inside
     (c.from-at.ensures ∙ ap (λ (a : Aim). a.drive) c.aim.ensures) in
     subst (λ l. c.from-at.result < length l) (sym c.deref.ensures.0) at.inside
 
@@ -47,7 +48,8 @@ serve-requires-2-clause-drive g c =
     subst (λ (l : Line K). IsNext (g.K.Picker.picks l.picker) l.budget l.drives l.waiting l.begun place)
     (sym c.self.view_is)
     c.requires in
-    let at = drive_found q.backlog.aims place _ c.self.invariant.ready.held c.self.invariant.ready.aimed next.servable.inside
+    let at = drive_found q.backlog.aims place _ c.self.invariant.ready.held c.self.invariant.ready.aimed
+    next.servable.inside
     (c.from-at.ensures ∙ ap (λ (a : Aim). a.drive) c.aim.ensures) in
     let few = c.self.invariant.ready.held.units.few in
     omega (arith, at.inside, few, length-map ds (λ (d : Drive). d.unit))
@@ -102,7 +104,8 @@ bounds-deref_mut-at g c =
     subst (λ (l : Line K). IsNext (g.K.Picker.picks l.picker) l.budget l.drives l.waiting l.begun place)
     (sym c.self.view_is)
     c.requires in
-    let at = drive_found q.backlog.aims place _ c.self.invariant.ready.held c.self.invariant.ready.aimed next.servable.inside
+    let at = drive_found q.backlog.aims place _ c.self.invariant.ready.held c.self.invariant.ready.aimed
+    next.servable.inside
     (c.from-at.ensures ∙ ap (λ (a : Aim). a.drive) c.aim.ensures) in
     subst (λ l. c.from-at.result < length l) (sym c.deref_mut.ensures.value) at.inside
 
@@ -117,7 +120,8 @@ invariant_of-self g c =
     subst (λ (l : Line K). IsNext (g.K.Picker.picks l.picker) l.budget l.drives l.waiting l.begun place)
     (sym c.self.view_is)
     c.requires in
-    let at = drive_found q.backlog.aims place _ c.self.invariant.ready.held c.self.invariant.ready.aimed next.servable.inside
+    let at = drive_found q.backlog.aims place _ c.self.invariant.ready.held c.self.invariant.ready.aimed
+    next.servable.inside
     (c.from-at.ensures ∙ ap (λ (a : Aim). a.drive) c.aim.ensures) in
     let d = c.index-deref-at.result in
     let r = record_at rs place in
@@ -136,7 +140,8 @@ invariant_of-self g c =
     let ends = c.is_some-ends.result in
     let e = c.serve.ensures in
     let drive_is = drive ∙ ap (λ (z : Record). drive_at ds rs place) own in
-    let same = units_step r.command.unit d d' ds ds' c.args.block.now c.record.result.now c.self.invariant.ready.held.units drive
+    let same = units_step r.command.unit d d' ds ds' c.args.block.now c.record.result.now
+    c.self.invariant.ready.held.units drive
     c.serve-service.ensures.drive now in
     let ready = ready_step {k = c.args.block.now} c.self.invariant.ready next.servable (record {
       r = c.record.result.now;
@@ -164,8 +169,10 @@ invariant_of-self g c =
     ∙ (ap (λ (z : Drive). z.unit.number) (drive ∙ sym there.drive) ∙ there.number) in
     record {
       ready = ready;
-      lined = lineup_served c.from-at.result r.command.unit _ d' ends c.self.invariant.lined c.self.invariant.ready.held.units.few c.serve-2.ensures.stale
-          (at.placed ∙ place_same ds r.command.unit) number now same next.servable.inside e.waiting c.serve-2.ensures.view;
+      lined = lineup_served c.from-at.result r.command.unit _ d' ends c.self.invariant.lined
+      c.self.invariant.ready.held.units.few c.serve-2.ensures.stale
+          (at.placed ∙ place_same ds r.command.unit) number now same next.servable.inside e.waiting
+          c.serve-2.ensures.view;
     }
 
 pub returns-clause-units : goal.returns-clause-units
@@ -179,7 +186,8 @@ returns-clause-units g c =
     subst (λ (l : Line K). IsNext (g.K.Picker.picks l.picker) l.budget l.drives l.waiting l.begun place)
     (sym c.self.view_is)
     c.requires in
-    let at = drive_found q.backlog.aims place _ c.self.invariant.ready.held c.self.invariant.ready.aimed next.servable.inside
+    let at = drive_found q.backlog.aims place _ c.self.invariant.ready.held c.self.invariant.ready.aimed
+    next.servable.inside
     (c.from-at.ensures ∙ ap (λ (a : Aim). a.drive) c.aim.ensures) in
     let d = c.index-deref-at.result in
     let r = record_at rs place in
@@ -227,7 +235,8 @@ returns-clause-served g c =
     subst (λ (l : Line K). IsNext (g.K.Picker.picks l.picker) l.budget l.drives l.waiting l.begun place)
     (sym c.self.view_is)
     c.requires in
-    let at = drive_found q.backlog.aims place _ c.self.invariant.ready.held c.self.invariant.ready.aimed next.servable.inside
+    let at = drive_found q.backlog.aims place _ c.self.invariant.ready.held c.self.invariant.ready.aimed
+    next.servable.inside
     (c.from-at.ensures ∙ ap (λ (a : Aim). a.drive) c.aim.ensures) in
     let d = c.index-deref-at.result in
     let r = record_at rs place in
