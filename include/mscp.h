@@ -232,7 +232,7 @@ size_t mscp_host_align(void);
 
 /* At least those sizes, for memory that is there from the start, as
  * static uint64_t memory[(MSCP_HEAD + MSCP_SIZE) / sizeof(uint64_t)]; */
-#define MSCP_SIZE 12928u
+#define MSCP_SIZE 13968u
 #define MSCP_HOST_SIZE 1056u
 
 /* The bytes of a handle, at the head of the memory. */
@@ -323,7 +323,7 @@ int32_t mscp_host_receive_at(struct mscp_host *host, const uint8_t *bytes, size_
 /* Makes a controller in the handle's memory: of these limits, of so many units in rising order of their numbers, served
  * by a picker of enum mscp_picker. MSCP_DONE, or the first fault in this order: those of the memory (-11 to -15),
  * MSCP_BAD_PICKER, MSCP_MANY_UNITS, those of the first unit that has one (-21 to -24), MSCP_UNITS_FALL, MSCP_NO_UNITS,
- * those of the limits (-28 to -31). The controller is made on the stack, of which this takes some 26 KiB (no other call
+ * those of the limits (-28 to -31). The controller is made on the stack, of which this takes some 28 KiB (no other call
  * takes over 2), and is moved into the memory. That may go at any time, without a call. */
 MSCP_MUST_USE
 static inline int32_t mscp_init(struct mscp *mscp, const struct mscp_limits *limits, const struct mscp_unit *units,

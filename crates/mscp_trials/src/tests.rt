@@ -8,6 +8,7 @@ mod first;
 mod giving_up;
 mod memory;
 mod messages;
+mod rounds;
 mod scripts;
 mod streams;
 

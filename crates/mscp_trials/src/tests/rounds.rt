@@ -1,0 +1,113 @@
+// A hundred times 63 places are filled with READs and emptied, the newest first.
+
+ghost use Rattle.std.specs.Prelude.{◌≤◌};
+
+use super::config;
+use mscp_control::{Block, Connection, Controller, Picker, Report, Sent, View};
+use mscp_packet::{Command, End, EndBody, MoveKind, Order, write_command};
+use std::process::Abort;
+
+/// Picks the newest command that may start.
+#[derive(Drop)]
+struct Newest;
+
+impl Picker for Newest {
+    ghost use Rattle.std.specs.Prelude.{◌≡◌, ◌+◌, length};
+
+    ghost picks = { λ _ view place. place + 1 ≡ length view };
+
+    fn pick(&self, view: &View) -> usize {
+        view.choices().len().saturating_sub(1)
+    }
+}
+
+/// The longest transfer.
+const BLOCKS: u32 = 8;
+
+/// As many commands as may wait.
+const PLACES: u32 = 63;
+
+/// What lets each be passed by all the others.
+const BUDGET: u32 = 62 * BLOCKS;
+
+/// The first block of a command: they lie all over the unit.
+fn first_block(number: u32) -> u32
+    requires { number ≤ 63 }
+{
+    number * 37 % 900
+}
+
+fn send(rt: &impl Abort, controller: &mut Controller<Newest>, reference: u32, order: Order) {
+    let command = Command {
+        reference,
+        unit: 0,
+        order,
+    };
+    let sent = controller
+        .send(Connection::First, write_command(&command).as_slice())
+        .ok()
+        .expect(rt, "credit");
+    assert_eq!(rt; sent, Sent::Queued(reference));
+}
+
+/// The step that serves the block of a command, when the head is on this block's cylinder: there are 20 blocks on one.
+fn served(reference: u32, lbn: u32, place: u32, from: u32) -> Report {
+    let end = End {
+        reference,
+        unit: 0,
+        code: 0xA1,
+        status: 0,
+        body: EndBody::Moved(512 * 8),
+    };
+    Report::Served {
+        connection: Connection::First,
+        reference,
+        unit: 0,
+        lbn: Some(lbn),
+        started: place == 0,
+        seek: (lbn / 20).abs_diff(from / 20),
+        ended: if place == 7 { Some(end) } else { None },
+    }
+}
+
+/// Serves a READ to its end, from where the head is, and answers where it is then.
+fn serve(rt: &impl Abort, controller: &mut Controller<Newest>, reference: u32, from: u32) -> u32
+    requires { reference ≤ 63 }
+{
+    let first = first_block(reference);
+    let mut head = from;
+    for place in 0..BLOCKS {
+        let report = controller.step(Block::Good);
+        assert_eq!(rt; report, served(reference, first + place, place, head), "block {place} of {reference}");
+        head = first + place;
+    }
+    head
+}
+
+// The figure of the first is its own blocks and the budget less the blocks of those that passed it. A later one waits for all
+// before it too.
+#[test]
+fn sixty_three_places_are_filled_and_emptied(rt: HostRuntime) {
+    let mut controller = Controller::new(config(&rt, 64, u64::from(BUDGET)), Newest);
+    send(&rt, &mut controller, 99, Order::Online);
+    let _online = controller.step(Block::Good);
+    assert!(rt; controller.take(Connection::First).is_some());
+    let mut head = 0;
+    for _round in 0..100 {
+        for number in 1..64u32 {
+            let read = Order::Move(MoveKind::Read, 512 * BLOCKS, first_block(number));
+            send(&rt, &mut controller, number, read);
+            let figure = controller.figure(Connection::First, number);
+            assert_eq!(rt; figure, BLOCKS * number + BUDGET);
+        }
+        for passed in 0..PLACES {
+            let figure = controller.figure(Connection::First, 1);
+            assert_eq!(rt; figure, BLOCKS + BUDGET - BLOCKS * passed);
+            head = serve(&rt, &mut controller, PLACES - passed, head);
+        }
+        for _number in 0..PLACES {
+            assert!(rt; controller.take(Connection::First).is_some());
+        }
+        assert!(rt; controller.take(Connection::First).is_none());
+    }
+}
