@@ -21,8 +21,9 @@
  * docs/FORMATS.md in the sources. */
 #ifndef MSCP_H
 #define MSCP_H
-#if !defined(__x86_64__) || !defined(__LP64__) || !defined(__ELF__)
-#error "mscp.h: the library is for x86-64 with numbers and calls as on Linux, and for no other machine"
+#if !(defined(__x86_64__) || (defined(__aarch64__) && !defined(__AARCH64EB__))) || !defined(__LP64__) || \
+    !defined(__ELF__)
+#error "mscp.h: the library is for x86-64 and 64-bit ARM, with numbers and calls as on Linux, and for no other machine"
 #endif
 #include <stddef.h>
 #include <stdint.h>
