@@ -77,8 +77,8 @@ the_library() {
     input=/dev/null
 }
 
-# The same library for another machine, and both that a page in a browser has. No name begins with one of those above,
-# since what was kept of other sources is found by its name.
+# The same library for 64-bit ARM, and for a page in a browser. Neither name begins with one of those above, since what
+# was kept of other sources is found by its name.
 the_library_of_arm() {
     the_library
     what='the library for ARM'
@@ -88,11 +88,6 @@ the_library_of_a_page() {
     the_library
     what='the library for a page'
     words=(lib --target wasm64-unknown-unknown) kept=$top/out/page-libmscp
-}
-the_program_of_a_page() {
-    what='the program for a page' minutes='10 minutes on four processors, up to 20'
-    words=(lib --target wasm64-unknown-unknown) crate=$top/crates/mscp_page built=$crate/out/libmscp_page.a
-    kept=$top/out/page-mscpq input=/dev/null
 }
 
 # Proves and builds the program or the library, where that isn't done yet from the sources that stand here now. It is
