@@ -1,5 +1,5 @@
-# What ./mscpq, ./install and page/build share: to prove and build by rt, and to keep what was built of just these sources. ./check
-# takes from here how it is stopped.
+# What ./mscpq, ./install and page/build share: to prove and build by rt, and to keep what was built of just these
+# sources. ./check takes from here how it is stopped.
 #
 # What is kept is out/NAME-STAMP, a copy that is made only where rt has proved and built the sources of that stamp. A
 # stamp is a sum over the names and contents of all files below crates/ save those of the crates' own out/, of

@@ -81,7 +81,8 @@ export const configOfForm = () => ({
 
 /** Shows a configuration in the forms. @param {Config} config @param {string} picker */
 export function showConfig(config, picker) {
-    for (const id of /** @type {const} */ (['credits', 'second', 'budget', 'longest', 'timeout'])) byId(id).value = config[id];
+    const limits = /** @type {const} */ (['credits', 'second', 'budget', 'longest', 'timeout']);
+    for (const limit of limits) byId(limit).value = config[limit];
     byId('picker').value = picker;
     const count = config.units.length;
     if (![...byId('count').options].some((option) => Number(option.value) === count)) {

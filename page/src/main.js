@@ -5,6 +5,7 @@ import { commandLine, configOfForm, fillCommands, hostWord, randomRead, showConf
     unitsOfForm } from './forms.js';
 import { readLink, writeLink } from './link.js';
 import { Library } from './memory.js';
+import { referenceOf } from './messages.js';
 import { play, stateAt } from './play.js';
 import { Fault, headerText, readScript } from './script.js';
 import { say, show } from './view.js';
@@ -34,7 +35,6 @@ function playText(/** @type {string} */ text, /** @type {string} */ picker, /** 
         return true;
     } catch (fault) {
         if (!(fault instanceof Fault)) throw fault;
-        if (page) library.clear();
         say(`The script has a fault at ${fault.message}. Nothing was changed.`, true);
         return false;
     }
@@ -42,14 +42,14 @@ function playText(/** @type {string} */ text, /** @type {string} */ picker, /** 
 
 /** @returns {number} a reference number that nobody used */
 function freshReference() {
-    const used = page.played.moments.map(({ event: { action } }) => action.kind === 'send' && action.message.length >= 4 ?
-        new DataView(action.message.buffer).getUint32(0, true) : 0);
+    const used = page.played.moments.map(({ event: { action } }) =>
+        (action.kind === 'send' && action.message.length >= 4 ? referenceOf(action.message) : 0));
     return Math.min(4294967295, used.reduce((most, it) => Math.max(most, it < 4294967295 ? it : 0), 0) + 1);
 }
 
 function refresh() {
     const { played, at, text, picker } = page;
-    show(played, at, { goTo, abort: (command) => actOn('abort', command), poll: (command) => actOn('status', command) });
+    show(played, at, { goTo, actOn });
     const hash = `#${writeLink({ script: text, picker, at: at === played.moments.length ? null : at })}`;
     history.replaceState(null, '', hash);
     byId('link').value = location.href;

@@ -10,7 +10,10 @@ export const OPCODES = [
     { code: 1, name: 'ABORT', word: 'abort', kind: 'immediate', least: 16, written: 16 },
     { code: 2, name: 'GET COMMAND STATUS', word: 'status', kind: 'immediate', least: 16, written: 16 },
     { code: 3, name: 'GET UNIT STATUS', word: 'unitstatus', kind: 'immediate', least: 12, written: 12 },
-    { code: 4, name: 'SET CONTROLLER CHARACTERISTICS', word: 'setcontroller', kind: 'immediate', least: 14, written: 18 },
+    {
+        code: 4, name: 'SET CONTROLLER CHARACTERISTICS', word: 'setcontroller', kind: 'immediate', least: 14,
+        written: 18,
+    },
     { code: 8, name: 'AVAILABLE', word: 'available', kind: 'sequential', least: 12, written: 12 },
     { code: 9, name: 'ONLINE', word: 'online', kind: 'sequential', least: 12, written: 12 },
     { code: 10, name: 'SET UNIT CHARACTERISTICS', word: 'setunit', kind: 'sequential', least: 12, written: 12 },
@@ -32,6 +35,9 @@ export const opcodeOf = (code) => OPCODES.find((opcode) => opcode.code === code)
 
 /** @param {Uint8Array} bytes @returns {string} */
 export const hexOf = (bytes) => Array.from(bytes, (byte) => byte.toString(16).padStart(2, '0')).join('');
+
+/** @param {Uint8Array} message of 4 bytes or more @returns {number} */
+export const referenceOf = (message) => viewOf(message).getUint32(0, true);
 
 /** @param {number} status @returns {string} of four digits */
 export const statusText = (status) => status.toString(16).padStart(4, '0');

@@ -1,5 +1,6 @@
-// What is computed here, beside the library, of the commands that wait: what keeps each from starting, and of which parts
-// its figure is the sum. docs/MODEL.md has the rules. None of this is proved; each sum is compared with the library's figure.
+// What is computed here, beside the library, of the commands that wait: what keeps each from starting, and of which
+// parts its figure is the sum. docs/MODEL.md has the rules. None of this is proved; each sum is compared with the
+// library's figure.
 
 import { OPCODES, readQueued } from './messages.js';
 
@@ -10,7 +11,8 @@ import { OPCODES, readQueued } from './messages.js';
  * @typedef {{cylinder: number, isUp: boolean}} Head
  * @typedef {import('./controller.js').Served} Served
  * @typedef {import('./controller.js').Config} Config
- * @typedef {{mayStart: boolean, inService: boolean, behind: Waiting | null, fences: Waiting[], limits: Waiting[]}} Reasons
+ * @typedef {{mayStart: boolean, inService: boolean, behind: Waiting | null, fences: Waiting[],
+ *   limits: Waiting[]}} Reasons
  * @typedef {{earlier: number, service: number, budget: number, own: number}} Parts
  */
 
@@ -42,7 +44,7 @@ export const queue = (waiting, message, connection, arrival) =>
 export const leave = (waiting, connection, reference) =>
     waiting.filter((command) => !isNamed(command, connection, reference));
 
-/** The commands after a step: a start passes all that came earlier. @param {Waiting[]} waiting @param {Served} served */
+/** The commands after a step: a start passes those before it. @param {Waiting[]} waiting @param {Served} served */
 export function serve(waiting, served) {
     const place = waiting.findIndex((command) => isNamed(command, served.connection, served.reference));
     const { weight } = waiting[place];

@@ -12,7 +12,7 @@ import { stateAt } from './play.js';
 const DASHES = ['', '7 3', '2 3', '9 3 2 3', '12 4', '4 4'];
 const HEIGHT = 260, LEFT = 42, RIGHT = 52, TOP = 12, BOTTOM = 34, LABEL = 13;
 
-/** The figures of each command so far. @param {Play} played @param {number} at @returns {Curve[]} in order of arrival */
+/** The figures of each command so far, oldest first. @param {Play} played @param {number} at @returns {Curve[]} */
 export function curvesOf(played, at) {
     /** @type {Map<number, Curve>} */
     const curves = new Map();
@@ -32,17 +32,22 @@ export function curvesOf(played, at) {
 export const mostOf = (played) => played.moments.reduce((most, { state }) =>
     state.figures.reduce((largest, { figure }) => Math.max(largest, figure), most), 1);
 
-/** Places for labels, each as near to where it is wanted as those above it leave. @param {number[]} wanted */
-function labelPlaces(wanted) {
-    const order = wanted.map((_, place) => place).sort((a, b) => wanted[a] - wanted[b]);
+/**
+ * Heights for labels, each as near to its point as those above it in the same column leave.
+ * @param {[number, number][]} points
+ */
+function labelHeights(points) {
+    const order = points.map((_, place) => place).sort((a, b) => points[a][1] - points[b][1]);
     /** @type {number[]} */
-    const places = [];
-    let least = -Infinity;
+    const heights = [];
+    /** @type {Map<number, number>} */
+    const least = new Map();
     for (const place of order) {
-        places[place] = Math.max(wanted[place], least);
-        least = places[place] + LABEL;
+        const [column, wanted] = points[place];
+        heights[place] = Math.max(wanted, least.get(column) ?? -Infinity);
+        least.set(column, heights[place] + LABEL);
     }
-    return places;
+    return heights;
 }
 
 /** A few round numbers up to the most. @param {number} most @returns {number[]} */
@@ -52,7 +57,9 @@ function ticksOf(most) {
     return Array.from({ length: Math.floor(most / step) + 1 }, (_, n) => n * step);
 }
 
-/** @param {number} width @param {(n: number) => number} x @param {(n: number) => number} y @param {number} most @param {number} steps */
+/** @typedef {(n: number) => number} Scale to a place of the picture */
+
+/** @param {number} width @param {Scale} x @param {Scale} y @param {number} most @param {number} steps */
 function axes(width, x, y, most, steps) {
     const right = width - RIGHT, bottom = HEIGHT - BOTTOM;
     return [
@@ -70,18 +77,18 @@ export function figuresPicture(played, at, width) {
     const y = (/** @type {number} */ n) => HEIGHT - BOTTOM - n / most * (HEIGHT - TOP - BOTTOM);
     const curves = curvesOf(played, at);
     const lasts = curves.map(({ points }) => points[points.length - 1]);
-    const places = labelPlaces(lasts.map(([, figure]) => y(figure) + 4));
+    const heights = labelHeights(lasts.map(([step, figure]) => [step, y(figure) + 4]));
     const now = x(stateAt(played, at).steps);
-    return draw('svg', {
-        width, height: HEIGHT, role: 'img', 'aria-label': `The figures of ${curves.length} commands over ${steps} steps`,
-    }, ...axes(width, x, y, most, steps), draw('path', { class: 'now', d: `M${now} ${TOP}V${HEIGHT - BOTTOM}` }),
+    const title = `The figures of ${curves.length} commands over ${steps} steps`;
+    return draw('svg', { width, height: HEIGHT, role: 'img', 'aria-label': title }, ...axes(width, x, y, most, steps),
+    draw('path', { class: 'now', d: `M${now} ${TOP}V${HEIGHT - BOTTOM}` }),
     ...curves.flatMap(({ name, points }, place) => [
         draw('polyline', {
             class: 'figure', 'stroke-dasharray': DASHES[place % DASHES.length],
             points: points.map(([n, figure]) => `${x(n)},${y(figure)}`).join(' '),
         }),
         draw('circle', { class: 'mark', cx: x(lasts[place][0]), cy: y(lasts[place][1]), r: 3.5 }),
-        draw('text', { x: Math.min(x(lasts[place][0]) + 7, width - RIGHT + 7), y: places[place] }, name),
+        draw('text', { x: Math.min(x(lasts[place][0]) + 7, width - RIGHT + 7), y: heights[place] }, name),
     ]));
 }
 
@@ -101,8 +108,11 @@ export function figuresTable(played, at) {
 
 const AXIS = 34, PATH_STEPS = 12, PATH_HEIGHT = 7, EDGE = 16;
 
-/** Where the head was in the last steps that touched a block of the unit, newest first. */
-function wayOf(/** @type {Play} */ played, /** @type {number} */ at, /** @type {number} */ unit, /** @type {number} */ blocks) {
+/**
+ * Where the head was in the last steps that touched a block of the unit, newest first.
+ * @param {Play} played @param {number} at @param {number} unit @param {number} blocks of a cylinder
+ */
+function wayOf(played, at, unit, blocks) {
     /** @type {number[]} */
     const way = [];
     for (let moment = at; moment > 0 && way.length < PATH_STEPS; moment--) {
@@ -112,33 +122,41 @@ function wayOf(/** @type {Play} */ played, /** @type {number} */ at, /** @type {
     return way;
 }
 
-/** A unit's cylinders, its head, its waiting transfers, and the way of the head so far. */
-function unitPicture(/** @type {Play} */ played, /** @type {number} */ at, /** @type {number} */ number, /** @type {number} */ width) {
+/** @param {number} from @param {number} to the ends @param {number} head @param {boolean} isUp */
+function axisAndHead(from, to, head, isUp) {
+    const turn = isUp ? 9 : -9;
+    return [
+        draw('path', { class: 'axis', d: `M${from} ${AXIS}H${to}` }),
+        ...[from, to, head].map((x) => draw('path', { class: 'axis', d: `M${x} ${AXIS - 5}v10` })),
+        draw('path', { class: 'head', d: `M${head - turn / 2} ${AXIS - 20}l${turn} 7l${-turn} 7z` }),
+    ];
+}
+
+/**
+ * A unit's cylinders, its head, its waiting transfers, and the way of the head so far.
+ * @param {Play} played @param {number} at @param {number} number @param {number} width
+ */
+function unitPicture(played, at, number, width) {
     const state = stateAt(played, at), head = state.heads[number];
     const blocks = cylinderBlocks(played.config, number);
     const unit = played.config.units.find((it) => it.number === number);
     const last = Math.floor(((unit?.size ?? 1) - 1) / blocks);
     const x = (/** @type {number} */ cylinder) => EDGE + cylinder / Math.max(last, 1) * (width - 2 * EDGE);
+    const way = wayOf(played, at, number, blocks), top = AXIS + 38;
+    const y = (/** @type {number} */ n) => top + n * PATH_HEIGHT;
     const transfers = state.waiting.filter((it) => it.unit === number && it.opcode.kind === 'transfer');
-    const way = wayOf(played, at, number, blocks);
-    const turn = head.isUp ? 9 : -9, at0 = x(head.cylinder), top = AXIS + 32;
-    const text = `Unit ${number}, ${state.online[number] ? 'online' : 'available'}: cylinders 0 to ${last}, head on ` +
+    const marks = transfers.flatMap((it, place) => {
+        const where = x(Math.floor(it.block / blocks)), below = AXIS + 16 + place % 2 * 12;
+        return [draw('path', { class: 'figure', d: `M${where} ${AXIS - 5}v10` }),
+            draw('text', { x: where, y: below, 'text-anchor': 'middle' }, String(it.reference))];
+    });
+    const title = `Unit ${number}, ${state.online[number] ? 'online' : 'available'}: cylinders 0 to ${last}, head on ` +
         `${head.cylinder}, going ${head.isUp ? 'up' : 'down'}`;
-    const picture = draw('svg', { width, height: top + PATH_STEPS * PATH_HEIGHT, role: 'img', 'aria-label': text },
-        draw('path', { class: 'axis', d: `M${x(0)} ${AXIS}H${x(last)}M${x(0)} ${AXIS - 5}v10M${x(last)} ${AXIS - 5}v10` }),
-        draw('path', { class: 'head', d: `M${at0 - turn / 2} ${AXIS - 20}l${turn} 7l${-turn} 7z` }),
-        draw('path', { class: 'axis', d: `M${at0} ${AXIS - 8}v12` }),
-        ...transfers.flatMap((it, place) => {
-            const where = x(Math.floor(it.block / blocks));
-            return [draw('path', { class: 'figure', d: `M${where} ${AXIS - 5}v10` }),
-                draw('text', { x: where, y: AXIS + 16 + place % 2 * 12, 'text-anchor': 'middle' }, String(it.reference))];
-        }),
-        draw('polyline', {
-            class: 'way', points: way.map((cylinder, n) => `${x(cylinder)},${top + n * PATH_HEIGHT}`).join(' '),
-        }),
-        ...way.map((cylinder, n) =>
-            draw('circle', { class: 'mark', cx: x(cylinder), cy: top + n * PATH_HEIGHT, r: 2.5 })));
-    return make('div', {}, make('h3', { class: 'small' }, text), picture);
+    const picture = draw('svg', { width, height: y(PATH_STEPS), role: 'img', 'aria-label': title },
+        ...axisAndHead(x(0), x(last), x(head.cylinder), head.isUp), ...marks,
+        draw('polyline', { class: 'way', points: way.map((cylinder, n) => `${x(cylinder)},${y(n)}`).join(' ') }),
+        ...way.map((cylinder, n) => draw('circle', { class: 'mark', cx: x(cylinder), cy: y(n), r: 2.5 })));
+    return make('div', {}, make('h3', { class: 'small' }, title), picture);
 }
 
 /** The cylinders of all units. @param {Play} played @param {number} at @param {number} width */

@@ -96,8 +96,10 @@ class Player {
     /** @param {import('./script.js').Action} action @returns {Pick<Moment, 'report' | 'packet' | 'served'>} */
     meet(action) {
         switch (action.kind) {
-            case 'send':
-                return { report: [this.send(action.connection, action.message)], packet: told(action.message), served: null };
+            case 'send': {
+                const report = [this.send(action.connection, action.message)];
+                return { report, packet: told(action.message), served: null };
+            }
             case 'step': {
                 const { line, served } = this.step(action.status);
                 return { report: [line], packet: null, served };

@@ -26,7 +26,7 @@ function whereOf(command) {
     return `unit ${command.unit}, ${blocks}`;
 }
 
-/** What keeps a command from starting, in words. @param {State} state @param {Waiting} command @param {number} budget */
+/** What keeps a command back, in words. @param {State} state @param {Waiting} command @param {number} budget */
 export function reasonText(state, command, budget) {
     const { mayStart, inService, behind, fences, limits } = reasonsOf(state.waiting, command, budget);
     if (inService) return `▶ in service: ${command.done} of ${command.weight} steps done`;
@@ -34,8 +34,8 @@ export function reasonText(state, command, budget) {
     const reasons = [];
     if (fences.length > 0) reasons.push(`fenced by ${fences.map(nameOf).join(', ')}`);
     for (const other of limits) {
-        reasons.push(`may not pass ${nameOf(other)}: this takes ${command.weight}, and ${budget - other.passed} of that ` +
-            `one's budget is left`);
+        const left = `${budget - other.passed} of that one's budget is left`;
+        reasons.push(`may not pass ${nameOf(other)}: it takes ${command.weight}, and ${left}`);
     }
     if (behind) reasons.push(`${nameOf(behind)} is in service`);
     return `${fences.length + limits.length > 0 ? '■ kept back' : '◷ waits'}: ${reasons.join('; ')}`;

@@ -7,7 +7,8 @@ import { legend, queueItems } from './queue_view.js';
 
 /**
  * @typedef {import('./play.js').Play} Play
- * @typedef {{abort: (command: any) => void, poll: (command: any) => void, goTo: (at: number) => void}} Acts
+ * @typedef {{actOn: (word: 'status' | 'abort', command: import('./model.js').Waiting) => void,
+ *   goTo: (at: number) => void}} Acts
  */
 
 const MOST_ROWS = 200;
@@ -24,8 +25,9 @@ function nowText(played, at) {
     const hosts = played.config.second ? ['of the first host, ', 'of the second'] : [''];
     const credits = hosts.map((host, connection) => `${counted(state.balance[connection], 'credit')} free and ` +
         `${counted(state.untaken[connection], 'end')} to take ${host}`.trim()).join(' ');
-    const event = at === 0 ? 'nothing came yet' : `line ${played.moments[at - 1].event.line}: ${played.moments[at - 1].event.text}`;
-    return `Moment ${at} of ${played.moments.length} (${event}). ${counted(state.steps, 'step')}, ` +
+    const event = at === 0 ? null : played.moments[at - 1].event;
+    const what = event ? `line ${event.line}: ${event.text}` : 'nothing came yet';
+    return `Moment ${at} of ${played.moments.length} (${what}). ${counted(state.steps, 'step')}, ` +
         `${counted(state.seeks, 'cylinder')} crossed; ${credits}.`;
 }
 
@@ -65,17 +67,16 @@ function showLog(played, at, acts) {
 function showReport(played) {
     byId('report').value = reportText(played);
     byId('whose').textContent = played.picker === 'sweep' ?
-        'The report is written here from what the library answered: the program mscpq run prints the same of this script.' :
-        'The report is written here from what the library answered. The program mscpq has the sweep alone, so it may print ' +
-        'another.';
+        'The report is written here from what the library answered: mscpq run prints the same of this script.' :
+        'The report is written here from what the library answered. The program mscpq has the sweep alone, so it may ' +
+        'print another.';
 }
 
 /** Shows all of it. @param {Play} played @param {number} at @param {Acts} acts */
 export function show(played, at, acts) {
     const state = stateAt(played, at), { budget } = played.config;
     showTime(played, at);
-    replace(byId('queue'), ...queueItems(state, budget, mostOf(played), widthOf('queue'), (verb, command) =>
-        (verb === 'abort' ? acts.abort : acts.poll)(command)));
+    replace(byId('queue'), ...queueItems(state, budget, mostOf(played), widthOf('queue'), acts.actOn));
     replace(byId('legend'), ...legend());
     replace(byId('figures-picture'), figuresPicture(played, at, widthOf('figures-picture')));
     replace(byId('figures-table'), figuresTable(played, at));
@@ -84,8 +85,8 @@ export function show(played, at, acts) {
     showReport(played);
     const { credits, second, longest } = played.config;
     const room = credits - 1 + (second ? second - 1 : 0);
-    byId('bound').textContent = `The bound is ${room} × ${longest} + ${budget} = ${room * longest + budget} steps: no ` +
-        'command waits longer.';
+    byId('bound').textContent =
+        `The bound is ${room} × ${longest} + ${budget} = ${room * longest + budget} steps: no command waits longer.`;
     if (!state.agrees) say("This page's sum isn't the library's figure: one of them is wrong.", true);
 }
 
