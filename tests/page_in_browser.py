@@ -191,7 +191,7 @@ def table_has_the_figures():
 def reasons_are_told():
     open_page()
     run_script(HEADER.replace("budget 16", "budget 3").replace("credits 4", "credits 9") + "online 9 0\nstep 1\ntake\n"
-               "read 1 0 512 900\nread 2 0 2048 0\nread 3 0 512 0\navailable 4 0\nread 5 0 512 0\n")
+               "read 1 0 512 900\nread 2 0 2048 0\nread 3 0 1536 0\navailable 4 0\nread 5 0 512 0\n")
     texts = [it for it, _ in items()]
     assert "● may start" in texts[0], texts[0]
     assert "■ kept back: may not pass READ 1: it takes 4, and 3 of that one's budget is left" in texts[1]
