@@ -9,6 +9,7 @@ import { Library } from './memory.js';
  * @typedef {{connection: number, reference: number, unit: number, block: number | null, seek: number, started: boolean,
  *   ended: number | null}} Served
  * @typedef {{connection: number, reference: number, figure: number}} Figure
+ * @typedef {{connection: number, reference: number, fences: boolean, overdrawn: boolean}} Holder
  */
 
 export const STATUS = {
@@ -17,7 +18,7 @@ export const STATUS = {
 export const PICKERS = ['oldest', 'sweep']; // by their numbers
 
 const ROOM_MARK = 0x4D534350524F4F4Dn;
-const LIMITS_SIZE = 32, UNIT_SIZE = 32, SENT_SIZE = 12, PACKET_SIZE = 52, REPORT_SIZE = 20, WAITING_SIZE = 12;
+const LIMITS_SIZE = 32, UNIT_SIZE = 32, PACKET_SIZE = 52, WAITING_SIZE = 12, HOLDER_SIZE = 8;
 const MOST_WAITING = 63, MESSAGE_MOST = 64;
 
 export class Controller {
@@ -128,6 +129,21 @@ export class Controller {
                 reference: view.getUint32(at, true),
                 figure: view.getUint32(at + 4, true),
                 connection: view.getUint8(at + 8),
+            };
+        });
+    }
+
+    /** Who keeps a command back, oldest first. @param {number} connection @param {number} reference @returns {Holder[]} */
+    why(connection, reference) {
+        const count = this.call('mscp_why_at', connection, reference, BigInt(this.list), BigInt(MOST_WAITING));
+        const view = this.library.view();
+        return Array.from({ length: count }, (_, place) => {
+            const at = this.list + HOLDER_SIZE * place;
+            return {
+                reference: view.getUint32(at, true),
+                connection: view.getUint8(at + 4),
+                fences: view.getUint8(at + 5) === 1,
+                overdrawn: view.getUint8(at + 6) === 1,
             };
         });
     }

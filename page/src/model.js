@@ -1,6 +1,6 @@
-// What is computed here, beside the library, of the commands that wait: what keeps each from starting, and of which
-// parts its figure is the sum. docs/MODEL.md has the rules. None of this is proved; each sum is compared with the
-// library's figure.
+// What is computed here, beside the library, of the commands that wait: by how much each was passed, and of which parts
+// its figure is the sum. docs/MODEL.md has the rules. None of this is proved; each sum is compared with the library's
+// figure. Who keeps whom back the library says.
 
 import { OPCODES, readQueued } from './messages.js';
 
@@ -11,13 +11,11 @@ import { OPCODES, readQueued } from './messages.js';
  * @typedef {{cylinder: number, isUp: boolean}} Head
  * @typedef {import('./controller.js').Served} Served
  * @typedef {import('./controller.js').Config} Config
+ * @typedef {import('./controller.js').Holder} Holder
  * @typedef {{mayStart: boolean, inService: boolean, behind: Waiting | null, fences: Waiting[],
  *   limits: Waiting[]}} Reasons
  * @typedef {{earlier: number, service: number, budget: number, own: number}} Parts
  */
-
-/** @param {Waiting} command */
-const isSequential = (command) => command.opcode.kind === 'sequential';
 
 /** @param {Waiting} command @returns {number} steps that are left of it */
 export const leftOf = (command) => command.weight - command.done;
@@ -63,16 +61,20 @@ export function moveHead(head, served, blocks) {
     return { cylinder, isUp: turns ? cylinder > head.cylinder : head.isUp };
 }
 
-/** What keeps a command from starting. @param {Waiting[]} waiting @param {Waiting} command @param {number} budget */
-export function reasonsOf(waiting, command, budget) {
-    const earlier = waiting.slice(0, waiting.indexOf(command));
+/**
+ * What keeps a command from starting: whom the library names, and the command in service.
+ * @param {Waiting[]} waiting @param {Waiting} command @param {Holder[]} holders @returns {Reasons}
+ */
+export function reasonsOf(waiting, command, holders) {
+    const named = (/** @type {Holder[]} */ list) => waiting.filter((other) =>
+        list.some(({ connection, reference }) => isNamed(other, connection, reference)));
     const behind = waiting.find((other) => other.done > 0 && other !== command) ?? null;
-    const fences = earlier.filter((other) =>
-        other.unit === command.unit && (isSequential(command) || isSequential(other)));
-    const limits = earlier.filter((other) => other.passed + command.weight > budget);
     const inService = command.done > 0;
-    const mayStart = !inService && !behind && fences.length === 0 && limits.length === 0;
-    return { mayStart, inService, behind, fences, limits };
+    return {
+        inService, behind, mayStart: !inService && !behind && holders.length === 0,
+        fences: named(holders.filter((it) => it.fences)),
+        limits: named(holders.filter((it) => it.overdrawn)),
+    };
 }
 
 /** Of which parts a figure is the sum. @param {Waiting[]} waiting @param {Waiting} command @param {number} budget */

@@ -9,10 +9,10 @@ import { cylinderBlocks, freshHeads, leave, moveHead, partsOf, queue, serve, sum
  * @typedef {import('./script.js').Script} Script
  * @typedef {import('./model.js').Waiting} Waiting
  * @typedef {import('./controller.js').Figure} Figure
- * What is shown after a moment. `figures` are the library's, in order of arrival.
- * @typedef {{waiting: Waiting[], figures: Figure[], heads: Record<number, import('./model.js').Head>,
- *   online: Record<number, boolean>, balance: number[], untaken: number[], steps: number, seeks: number,
- *   agrees: boolean}} State
+ * What is shown after a moment. `figures`, and `holders`, who keep each back, are the library's, in order of arrival.
+ * @typedef {{waiting: Waiting[], figures: Figure[], holders: import('./controller.js').Holder[][],
+ *   heads: Record<number, import('./model.js').Head>, online: Record<number, boolean>, balance: number[],
+ *   untaken: number[], steps: number, seeks: number, agrees: boolean}} State
  * What happened in a moment: the lines of the report, and the bytes that were sent or taken with their text.
  * @typedef {{event: Event, report: string[], packet: {bytes: string, text: string} | null,
  *   served: import('./controller.js').Served | null, state: State}} Moment
@@ -52,7 +52,9 @@ class Player {
             waiting[place].connection === connection && waiting[place].reference === reference &&
             sumOf(partsOf(waiting, waiting[place], config.budget)) === figure);
         return {
-            waiting, figures, agrees, heads: this.heads, steps: this.steps, seeks: this.seeks,
+            waiting, figures, agrees,
+            holders: waiting.map(({ connection, reference }) => controller.why(connection, reference)),
+            heads: this.heads, steps: this.steps, seeks: this.seeks,
             online: Object.fromEntries(config.units.map(({ number }) => [number, controller.isOnline(number)])),
             balance: [0, 1].map((connection) => controller.balance(connection)),
             untaken: [0, 1].map((connection) => controller.untaken(connection)),

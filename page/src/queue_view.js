@@ -26,9 +26,10 @@ function whereOf(command) {
     return `unit ${command.unit}, ${blocks}`;
 }
 
-/** What keeps a command back, in words. @param {State} state @param {Waiting} command @param {number} budget */
-export function reasonText(state, command, budget) {
-    const { mayStart, inService, behind, fences, limits } = reasonsOf(state.waiting, command, budget);
+/** What keeps a command back, in words. @param {State} state @param {number} place @param {number} budget */
+export function reasonText(state, place, budget) {
+    const command = state.waiting[place];
+    const { mayStart, inService, behind, fences, limits } = reasonsOf(state.waiting, command, state.holders[place]);
     if (inService) return `▶ in service: ${command.done} of ${command.weight} steps done`;
     if (mayStart) return '● may start';
     const reasons = [];
@@ -75,7 +76,7 @@ export function queueItems(state, budget, most, width, act) {
                 make('span', { class: 'row' }, button('status', 'Poll'), button('abort', 'Abort'))),
             bar(counts, figure, most, width),
             make('p', { class: 'small' }, `figure ${figure} = ${sum}`),
-            make('p', { class: 'why' }, reasonText(state, command, budget)));
+            make('p', { class: 'why' }, reasonText(state, place, budget)));
     });
 }
 

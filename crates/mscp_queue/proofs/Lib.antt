@@ -13,6 +13,7 @@ pub mod Nexts
 pub mod Least
 pub mod Aborts
 pub mod Untolled
+pub mod Whys
 pub mod Shaped
 pub mod Masked
 pub mod Cleared
