@@ -133,7 +133,7 @@ export class Controller {
         });
     }
 
-    /** Who keeps a command back, oldest first. @param {number} connection @param {number} reference @returns {Holder[]} */
+    /** Who keeps a command back. @param {number} connection @param {number} reference @returns {Holder[]} */
     why(connection, reference) {
         const count = this.call('mscp_why_at', connection, reference, BigInt(this.list), BigInt(MOST_WAITING));
         const view = this.library.view();

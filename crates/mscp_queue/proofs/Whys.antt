@@ -32,11 +32,13 @@ among_more budget rs place front =
     one tell true = refl
     one tell false = refl
 
-appended : (holders : List Holder) (holder : Holder) (b : Bool) → length (holders ++ cond b (holder ∷ []) []) ≤ length holders + 1
+appended : (holders : List Holder) (holder : Holder) (b : Bool)
+    → length (holders ++ cond b (holder ∷ []) []) ≤ length holders + 1
 appended holders holder true = omega (arith, length-append holders (holder ∷ []))
 appended holders holder false = omega (arith, ap length (append-nil holders))
 
-pub holders_more : {budget : ℕ} {rs : List Record} {place front : ℕ} {holders holders' : List Holder} (b : Bool) (holder : Holder)
+pub holders_more : {budget : ℕ} {rs : List Record} {place front : ℕ} {holders holders' : List Holder} (b : Bool)
+    (holder : Holder)
     → b ≡ keeps_back budget (record_at rs place) (record_at rs front)
     → holder ≡ holder_of budget (record_at rs place) (record_at rs front)
     → holders' ≡ holders ++ cond b (holder ∷ []) []
@@ -85,6 +87,7 @@ none_keeps_back budget rs place (suc count) l =
     ∙ (none_more (holders_among budget rs place count) (holder_of budget r z) (keeps_back budget r z)
     ∙ (ap (λ b. b && not (keeps_back budget r z)) (none_keeps_back budget rs place count (omega (arith, l)))
     ∙ (parted (list_all free front) (list_all affords front) (fences r z) (affords z)
-    ∙ (ap (λ b. b && (list_all affords front && affords z)) (sym (list_all_more free rs count no_record (omega (arith, l))))
+    ∙ (ap (λ b. b && (list_all affords front && affords z))
+    (sym (list_all_more free rs count no_record (omega (arith, l))))
     ∙ ap (λ b. list_all free (take (count + 1) rs) && b)
     (sym (list_all_more affords rs count no_record (omega (arith, l)))))))))

@@ -22,6 +22,7 @@ returns-clause-none c =
     let rs = c.args.backlog.now.waiting in
     let place = c.args.place in
     let inv = c.loop-earlier.invariant in
-    let end : c.loop-earlier.earlier ≡ place = omega (arith, c.loop-earlier-test.false, c.loop-earlier.auto.earlier-end) in
+    let end : c.loop-earlier.earlier ≡ place =
+        omega (arith, c.loop-earlier-test.false, c.loop-earlier.auto.earlier-end) in
     ap is_nobody (inv.told ∙ ap (holders_among c.args.budget rs place) end)
     ∙ none_keeps_back c.args.budget rs place place (omega (arith, c.requires.place))
