@@ -1,5 +1,5 @@
-# What ./mscpq and ./install share: to prove and build by rt, and to keep what was built of just these sources. ./check
-# takes from here how it is stopped.
+# What ./mscpq, ./install and page/build share: to prove and build by rt, and to keep what was built of just these
+# sources. ./check takes from here how it is stopped.
 #
 # What is kept is out/NAME-STAMP, a copy that is made only where rt has proved and built the sources of that stamp. A
 # stamp is a sum over the names and contents of all files below crates/ save those of the crates' own out/, of
@@ -68,13 +68,26 @@ attend() {
 # status of rt run may be the program's, so that gets an input on which it ends with 0.
 the_program() {
     what='the program' minutes='5 minutes on four processors, up to 15'
-    words=run crate=$top/crates/mscpq built=$crate/out/mscpq kept=$top/out/mscpq
+    words=(run) crate=$top/crates/mscpq built=$crate/out/mscpq kept=$top/out/mscpq
     input=$crate/stdin
 }
 the_library() {
     what='the library' minutes='5 minutes on four processors, up to 10'
-    words=lib crate=$top/crates/mscp_c built=$crate/out/libmscp_c.a kept=$top/out/libmscp
+    words=(lib) crate=$top/crates/mscp_c built=$crate/out/libmscp_c.a kept=$top/out/libmscp
     input=/dev/null
+}
+
+# The same library for 64-bit ARM, and for a page in a browser. Neither name begins with one of those above, since what
+# was kept of other sources is found by its name.
+the_library_of_arm() {
+    the_library
+    what='the library for ARM'
+    words=(lib --target aarch64-unknown-linux-gnu) kept=$top/out/arm-libmscp
+}
+the_library_of_a_page() {
+    the_library
+    what='the library for a page'
+    words=(lib --target wasm64-unknown-unknown) kept=$top/out/page-libmscp
 }
 
 # Proves and builds the program or the library, where that isn't done yet from the sources that stand here now. It is
@@ -158,7 +171,7 @@ prove() {
     local status
     said='' doing='reading the sources' checked=''
     follow < <(cd -- "$crate" && tied env -u RT_ALLOW_C -u RT_BACKEND -u RT_SECONDS PYTHONUNBUFFERED=1 TMPDIR="$room" \
-        rt "$words" <"$input" 2>&1 {lock}>&-)
+        rt "${words[@]}" <"$input" 2>&1 {lock}>&-)
     wait "$!"
     status=$?
     [ "$status" -ne 0 ] || return 0

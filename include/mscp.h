@@ -21,8 +21,9 @@
  * docs/FORMATS.md in the sources. */
 #ifndef MSCP_H
 #define MSCP_H
-#if !defined(__x86_64__) || !defined(__LP64__) || !defined(__ELF__)
-#error "mscp.h: the library is for x86-64 with numbers and calls as on Linux, and for no other machine"
+#if !(defined(__x86_64__) || (defined(__aarch64__) && !defined(__AARCH64EB__))) || !defined(__LP64__) || \
+    !defined(__ELF__)
+#error "mscp.h: the library is for x86-64 and 64-bit ARM, with numbers and calls as on Linux, and for no other machine"
 #endif
 #include <stddef.h>
 #include <stdint.h>
@@ -211,6 +212,14 @@ struct mscp_waiting {
     uint8_t connection; /* that it came by, an enum mscp_connection */
 };
 
+/* A command that keeps another one back, in one of these ways or both. */
+struct mscp_holder {
+    uint32_t reference;
+    uint8_t connection; /* that it came by, an enum mscp_connection */
+    uint8_t fences;     /* whether both are of one unit, and one of them is sequential */
+    uint8_t overdrawn;  /* whether it has less left of its budget than the other one takes */
+};
+
 /* What a received end says: of MSCP_ENDED all but the figure, of MSCP_FIRST and MSCP_PROGRESS the figure. The rest is
  * 0. */
 struct mscp_news {
@@ -306,13 +315,15 @@ static inline struct mscp_host *mscp_host_moved(void *memory)
     return handle;
 }
 
-/* The library's own form of five calls: their pointer to a list or to bytes is never NULL. In C call those without
+/* The library's own form of six calls: their pointer to a list or to bytes is never NULL. In C call those without
  * _at. */
 int32_t mscp_init_at(struct mscp *mscp, const struct mscp_limits *limits, const struct mscp_unit *units, size_t count,
                      uint32_t picker);
 int32_t mscp_send_at(struct mscp *mscp, uint32_t connection, const uint8_t *message, size_t length,
                      struct mscp_sent *sent);
 int32_t mscp_look_at(const struct mscp *mscp, struct mscp_waiting *list, size_t room);
+int32_t mscp_why_at(const struct mscp *mscp, uint32_t connection, uint32_t reference, struct mscp_holder *list,
+                    size_t room);
 int32_t mscp_host_submit_at(struct mscp_host *host, const uint8_t *message, size_t length);
 int32_t mscp_host_receive_at(struct mscp_host *host, const uint8_t *bytes, size_t length, struct mscp_news *news);
 
@@ -374,6 +385,16 @@ static inline int32_t mscp_look(const struct mscp *mscp, struct mscp_waiting *li
 {
     struct mscp_waiting none = {0, 0, 0};
     return mscp_look_at(mscp, room == 0 ? &none : list, room);
+}
+
+/* Who keeps the connection's waiting command of this reference number back, oldest first, as many as there is room for.
+ * How many do: 0 to 62; 0 too where none waits of it. While no other command is in service, one of which nobody does may
+ * start. */
+static inline int32_t mscp_why(const struct mscp *mscp, uint32_t connection, uint32_t reference,
+                               struct mscp_holder *list, size_t room)
+{
+    struct mscp_holder none = {0, 0, 0, 0};
+    return mscp_why_at(mscp, connection, reference, room == 0 ? &none : list, room);
 }
 
 /* How many steps the connection's waiting command of this reference number may still wait, at most; 0 where none waits

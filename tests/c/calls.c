@@ -78,6 +78,7 @@ static void calls_before_init(void)
         struct mscp_upcoming upcoming;
         struct mscp_report report;
         struct mscp_waiting figure;
+        struct mscp_holder holder;
         struct mscp_news news;
     } out, before;
     memset(&out, 0xA5, sizeof out);
@@ -88,6 +89,7 @@ static void calls_before_init(void)
     is("finish", mscp_finish(mscp, FIRST, 1, 0, &out.report), MSCP_NOT_MADE);
     is("step", mscp_step(mscp, 0, &out.report), MSCP_NOT_MADE);
     is("look", mscp_look(mscp, &out.figure, 1), MSCP_NOT_MADE);
+    is("why", mscp_why(mscp, FIRST, 1, &out.holder, 1), MSCP_NOT_MADE);
     is("figure", mscp_figure(mscp, FIRST, 1), MSCP_NOT_MADE);
     is("balance", mscp_balance(mscp, FIRST), MSCP_NOT_MADE);
     is("waiting", mscp_waiting(mscp, FIRST), MSCP_NOT_MADE);

@@ -151,6 +151,7 @@ static void finishes(void)
 /* ---- no connection */
 
 union out {
+    struct mscp_holder holder;
     struct mscp_sent sent;
     struct mscp_packet packet;
     struct mscp_report report;
@@ -167,6 +168,7 @@ static void refuse(struct mscp *mscp, uint32_t none, int32_t status)
     is("take", mscp_take(mscp, none, &out.packet), status);
     is("finish", mscp_finish(mscp, none, 5, 0, &out.report), status);
     is("finish of no status", mscp_finish(mscp, none, 5, 4, &out.report), status);
+    is("why", mscp_why(mscp, none, 5, &out.holder, 1), status);
     is("figure", mscp_figure(mscp, none, 5), status);
     is("balance", mscp_balance(mscp, none), status);
     is("waiting", mscp_waiting(mscp, none), status);
@@ -226,6 +228,53 @@ static void without_a_second(void)
     free(same);
 }
 
+/* ---- who keeps whom back */
+
+static int is_holder(const struct mscp_holder *it, uint32_t reference, uint8_t connection, uint8_t fences,
+                     uint8_t overdrawn)
+{
+    return it->reference == reference && it->connection == connection && it->fences == fences &&
+           it->overdrawn == overdrawn;
+}
+
+/* An AVAILABLE stays behind both READs of its unit. */
+static void fences(void)
+{
+    struct mscp *mscp = with_the_same_number();
+    struct mscp_sent sent;
+    struct mscp_holder list[3] = {{7, 7, 7, 7}, {7, 7, 7, 7}, {7, 7, 7, 7}};
+    is("nobody before the first", mscp_why(mscp, FIRST, 5, list, 3), 0);
+    is("nobody before the second", mscp_why(mscp, SECOND, 5, list, 3), 0);
+    is("available", mscp_send(mscp, FIRST, command(6, MSCP_AVAILABLE, 0, 0), 12, &sent), MSCP_QUEUED);
+    is("with room for one", mscp_why(mscp, FIRST, 6, list, 1), 2);
+    is("the first", is_holder(&list[0], 5, FIRST, 1, 0) && is_holder(&list[1], 7, 7, 7, 7), 1);
+    is("both", mscp_why(mscp, FIRST, 6, list, 3), 2);
+    is("the first", is_holder(&list[0], 5, FIRST, 1, 0), 1);
+    is("the second", is_holder(&list[1], 5, SECOND, 1, 0) && is_holder(&list[2], 7, 7, 7, 7), 1);
+    is("with no room", mscp_why(mscp, FIRST, 6, NULL, 0), 2);
+    is("of the other connection", mscp_why(mscp, SECOND, 6, list, 3), 0);
+    free(mscp);
+}
+
+/* With a budget of 3 blocks a READ of 3 may pass one READ, and one of 4 may not. */
+static void budgets(void)
+{
+    const struct mscp_limits limits = {1, 3, 6, 0, 8, 60};
+    size_t size = MSCP_HEAD + mscp_size();
+    struct mscp *mscp = mscp_in_memory(memory_of(size), size);
+    struct mscp_sent sent;
+    struct mscp_holder list[2] = {{7, 7, 7, 7}, {7, 7, 7, 7}};
+    is("init", mscp_init(mscp, &limits, &UNIT, 1, MSCP_OLDEST), MSCP_DONE);
+    is("read", mscp_send(mscp, FIRST, command(1, MSCP_READ, 512, 40), 32, &sent), MSCP_QUEUED);
+    is("of three", mscp_send(mscp, FIRST, command(2, MSCP_READ, 1536, 40), 32, &sent), MSCP_QUEUED);
+    is("of four", mscp_send(mscp, FIRST, command(3, MSCP_READ, 2048, 40), 32, &sent), MSCP_QUEUED);
+    is("nobody", mscp_why(mscp, FIRST, 2, list, 2), 0);
+    is("two", mscp_why(mscp, FIRST, 3, list, 2), 2);
+    is("the first", is_holder(&list[0], 1, FIRST, 0, 1), 1);
+    is("the second", is_holder(&list[1], 2, FIRST, 0, 1), 1);
+    free(mscp);
+}
+
 int main(void)
 {
     credits_of_both();
@@ -234,5 +283,7 @@ int main(void)
     finishes();
     numbers_that_are_none();
     without_a_second();
+    fences();
+    budgets();
     return wrong;
 }

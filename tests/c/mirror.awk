@@ -6,8 +6,8 @@
 # the header has is one without an initializer, of which the compiler warns, as of an enumerator that a switch lacks.
 
 BEGIN {
-    split("SentOut sent PacketOut packet UpcomingOut upcoming ReportOut report FigureOut waiting NewsOut news " \
-        "Limits limits UnitIn unit", words, " ")
+    split("SentOut sent PacketOut packet UpcomingOut upcoming ReportOut report FigureOut waiting HolderOut holder " \
+        "NewsOut news Limits limits UnitIn unit", words, " ")
     for (i = 1; i in words; i += 2)
         name_of[words[i]] = "mscp_" words[i + 1]
     split("u8 uint8_t u16 uint16_t u32 uint32_t u64 uint64_t usize size_t i32 int32_t i64 int64_t", words, " ")
@@ -160,7 +160,7 @@ END {
     for (enum in cases)
         print "int is_" enum "(enum mscp_" enum " it)\n{\n    switch (it) {\n   " cases[enum] \
             "\n        return 1;\n    }\n    return 0;\n}"
-    if (structs != 10 || calls < 23 || marks != 2 || length(cases["picker"]) == 0 || length(cases["opcode"]) == 0 ||
+    if (structs != 11 || calls < 24 || marks != 2 || length(cases["picker"]) == 0 || length(cases["opcode"]) == 0 ||
         length(cases["connection"]) == 0) {
         print "mirror.awk: " structs " structs, " calls " calls, " marks " marks" >"/dev/stderr"
         exit 1

@@ -4,6 +4,7 @@
 #define mscp_init_at init_seen
 #define mscp_send_at send_seen
 #define mscp_look_at look_seen
+#define mscp_why_at why_seen
 #define mscp_host_submit_at submit_seen
 #define mscp_host_receive_at receive_seen
 #include "trying.h"
@@ -34,6 +35,11 @@ int32_t look_seen(const struct mscp *mscp, struct mscp_waiting *list, size_t roo
     return mscp != NULL ? see(list, room) : 0;
 }
 
+int32_t why_seen(const struct mscp *mscp, uint32_t connection, uint32_t reference, struct mscp_holder *list, size_t room)
+{
+    return mscp != NULL && connection == 7 && reference == 9 ? see(list, room) : 0;
+}
+
 int32_t submit_seen(struct mscp_host *host, const uint8_t *message, size_t length)
 {
     return host != NULL ? see(message, length) : 0;
@@ -58,17 +64,20 @@ int main(void)
     static struct mscp_limits limits;
     static struct mscp_unit units[2];
     static struct mscp_waiting list[2];
+    static struct mscp_holder holders[2];
     struct mscp_sent sent;
     struct mscp_news news;
     uint8_t bytes[2] = {0, 0};
     passes("init", mscp_init(&mscp, &limits, units, 2, 3), units, 2);
     passes("send", mscp_send(&mscp, 7, bytes, 2, &sent), bytes, 2);
     passes("look", mscp_look(&mscp, list, 2), list, 2);
+    passes("why", mscp_why(&mscp, 7, 9, holders, 2), holders, 2);
     passes("submit", mscp_host_submit(&host, bytes, 2), bytes, 2);
     passes("receive", mscp_host_receive(&host, bytes, 2, &news), bytes, 2);
     passes("init of none", mscp_init(&mscp, &limits, NULL, 0, 3), NULL, 0);
     passes("send of none", mscp_send(&mscp, 7, NULL, 0, &sent), NULL, 0);
     passes("look at none", mscp_look(&mscp, NULL, 0), NULL, 0);
+    passes("why of none", mscp_why(&mscp, 7, 9, NULL, 0), NULL, 0);
     passes("submit of none", mscp_host_submit(&host, NULL, 0), NULL, 0);
     passes("receive of none", mscp_host_receive(&host, NULL, 0, &news), NULL, 0);
     return wrong;

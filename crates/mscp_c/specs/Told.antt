@@ -14,6 +14,8 @@ use Rattle.mscp_queue.specs.declared.report.Report.{Report}
 use Rattle.mscp_queue.specs.declared.report.Report.TheVariants.{Idle, Served}
 use Rattle.mscp_queue.specs.declared.upcoming.Upcoming.{Upcoming}
 use Rattle.mscp_queue.specs.Figures.{figure_of_name, figures}
+use Rattle.mscp_queue.specs.declared.why.Holder.{Holder}
+use Rattle.mscp_queue.specs.Why.{holders_of_name}
 use Rattle.mscp_control.specs.declared.event.SendFault.{SendFault}
 use Rattle.mscp_control.specs.declared.event.Sent.{Sent}
 use Rattle.mscp_control.specs.declared.event.Sent.TheVariants.{Queued, Answered}
@@ -24,6 +26,7 @@ use Rattle.mscp_c.specs.declared.outs.PacketOut.{PacketOut}
 use Rattle.mscp_c.specs.declared.outs.UpcomingOut.{UpcomingOut}
 use Rattle.mscp_c.specs.declared.outs.ReportOut.{ReportOut}
 use Rattle.mscp_c.specs.declared.outs.FigureOut.{FigureOut}
+use Rattle.mscp_c.specs.declared.outs.HolderOut.{HolderOut}
 use Rattle.mscp_c.specs.Statuses.{send_fault_code}
 
 -- a flag as a number
@@ -144,3 +147,21 @@ figure_told f = record { reference = f.1; figure = f.2; connection = connection_
 -- as many of the figures as there is room for, and then what was there
 abbrev pub figures_told : List (Connection × ℕ × ℕ) → List FigureOut → List FigureOut
 figures_told fs out = map figure_told (take (length out) fs) ++ drop (length fs) out
+
+-- ---- why a command may not start
+
+-- who keeps the connection's command of this reference number back, nobody where none waits of it
+abbrev pub holders_in : Held → Connection → ℕ → List Holder
+holders_in h via reference = holders_of_name h.settings.budget h.waiting (name_on via reference)
+
+abbrev pub holder_told : Holder → HolderOut
+holder_told it = record {
+  reference = it.reference;
+  connection = connection_told it.connection;
+  fences = flag it.fences;
+  overdrawn = flag it.overdrawn;
+}
+
+-- as many of them as there is room for, and then what was there
+abbrev pub holders_told : List Holder → List HolderOut → List HolderOut
+holders_told hs out = map holder_told (take (length out) hs) ++ drop (length hs) out

@@ -57,6 +57,16 @@ pub struct FigureOut {
     pub connection: u8,
 }
 
+/// A command that keeps another one back: its reference number and connection, and in which ways it does.
+#[repr(C)]
+#[derive(Clone, Copy)]
+pub struct HolderOut {
+    pub reference: u32,
+    pub connection: u8,
+    pub fences: u8,
+    pub overdrawn: u8,
+}
+
 /// What a received end says: of a command that ended its end, and of a poll the figure. The rest is 0.
 #[repr(C)]
 #[derive(Clone, Copy)]

@@ -8,11 +8,11 @@ ghost use Rattle.mscp_memory.specs.ControllerHandles.{is_made};
 ghost use Rattle.mscp_c.specs.Given.{connection_given};
 ghost use Rattle.mscp_c.specs.HandleCalls as calls;
 ghost use Rattle.mscp_c.specs.HandleCalls.{AnswersHandle};
-ghost use Rattle.mscp_c.specs.Told.{figure_in, figures_in, figures_told, flag};
+ghost use Rattle.mscp_c.specs.Told.{figure_in, figures_in, figures_told, flag, holders_in, holders_told};
 
-use crate::outs::FigureOut;
+use crate::outs::{FigureOut, HolderOut};
 use crate::status::{BAD_CONNECTION, NOT_MADE};
-use crate::telling::{flag, tell_figures};
+use crate::telling::{flag, tell_figures, tell_holders};
 use crate::units::connection_of;
 use mscp_memory::controller::{Handle, is_made, lend};
 
@@ -51,6 +51,34 @@ pub extern "C" fn mscp_figure(handle: &mut Handle, connection: u32, reference: u
         return i64::from(BAD_CONNECTION);
     };
     i64::from(lend(handle).figure(connection, reference))
+}
+
+/// Who keeps the waiting command of the connection back, oldest first, as many as there is room for: how many do.
+#[unsafe(no_mangle)]
+pub extern "C" fn mscp_why_at(
+    handle: &mut Handle,
+    connection: u32,
+    reference: u32,
+    out: &mut [HolderOut],
+) -> i32
+    ensures count { is_made handle.old ≡ true → IfSome (connection_given connection) (λ via.
+        result ≡ pos (length (holders_in handle.old.held via reference))) }
+    ensures told { is_made handle.old ≡ true → IfSome (connection_given connection) (λ via.
+        out.new ≡ holders_told (holders_in handle.old.held via reference) out.old) }
+    ensures no_connection { is_made handle.old ≡ true → connection_given connection ≡ None
+        → (result ≡ BAD_CONNECTION) × (out.new ≡ out.old) }
+    ensures same { handle.new ≡ handle.old }
+    ensures unmade { is_made handle.old ≡ false → (result ≡ NOT_MADE) × (out.new ≡ out.old) }
+{
+    if !is_made(handle) {
+        return NOT_MADE;
+    }
+    let Some(connection) = connection_of(connection) else {
+        return BAD_CONNECTION;
+    };
+    let list = lend(handle).holders(connection, reference);
+    tell_holders(out, list.as_slice());
+    list.len() as i32
 }
 
 /// How many commands of the connection wait.

@@ -1,12 +1,12 @@
 // How what a call answers is told.
 
 ghost use Rattle.std.specs.Prelude.{◌≡◌};
-ghost use Rattle.mscp_c.specs.Told.{PacketTold, begin_code, block_told, bytes_of, connection_told, flag, figures_told, report_code, report_told, send_code, sent_told, upcoming_told};
+ghost use Rattle.mscp_c.specs.Told.{PacketTold, begin_code, block_told, bytes_of, connection_told, flag, figures_told, holders_told, report_code, report_told, send_code, sent_told, upcoming_told};
 
-use crate::outs::{FigureOut, PacketOut, ReportOut, SentOut, UpcomingOut};
+use crate::outs::{FigureOut, HolderOut, PacketOut, ReportOut, SentOut, UpcomingOut};
 use crate::status::{ANSWERED, DONE, NOTHING, QUEUED, send_fault_code};
 use arrayvec::ArrayVec;
-use mscp_control::{Block, Connection, FaultStatus, Report, SendFault, Sent, Upcoming};
+use mscp_control::{Block, Connection, FaultStatus, Holder, Report, SendFault, Sent, Upcoming};
 use mscp_packet::Order;
 
 /// A flag as a number.
@@ -138,6 +138,21 @@ pub(crate) fn tell_figures(out: &mut [FigureOut], list: &[(Connection, u32, u32)
             reference: list[i].1,
             figure: list[i].2,
             connection: number_of(list[i].0),
+        };
+    }
+}
+
+/// Tells as many of those that keep a command back as there is room for.
+pub(crate) fn tell_holders(out: &mut [HolderOut], list: &[Holder])
+    ensures { out.new ≡ holders_told list.now out.old }
+{
+    let room = out.len();
+    for i in 0..list.len().min(room) {
+        out[i] = HolderOut {
+            reference: list[i].reference,
+            connection: number_of(list[i].connection),
+            fences: flag(list[i].fences),
+            overdrawn: flag(list[i].overdrawn),
         };
     }
 }

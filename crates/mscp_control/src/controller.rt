@@ -7,6 +7,10 @@ ghost use Rattle.mscp_queue.specs.Orders.{first_block, order_weight};
 ghost use Rattle.mscp_queue.specs.Figures.{figure_of_name, figures};
 ghost use Rattle.mscp_queue.specs.Names.{name_on};
 ghost use Rattle.mscp_queue.specs.Outcomes.{IsCoded};
+ghost use Rattle.mscp_queue.specs.Records.{has_name};
+ghost use Rattle.mscp_queue.specs.Views.{is_open_at};
+ghost use Rattle.mscp_queue.specs.Why.{holders_of_name, is_nobody};
+ghost use Rattle.std.specs.List.{position};
 ghost use Rattle.mscp_control.specs.Arrival.{credit_fault, fault_of, holds, is_queued};
 ghost use Rattle.mscp_control.specs.Accounts.{CanEnd, reported};
 ghost use Rattle.mscp_control.specs.Both.{of};
@@ -25,7 +29,7 @@ use arrayvec::ArrayVec;
 use mscp_drive::Units;
 use mscp_packet::status::SUCCESS;
 use mscp_packet::{Command, End, EndBody, Order, read_command, write_end};
-use mscp_queue::{Block, Connection, Picker, Queue, Report, Upcoming, Waiting, end_with};
+use mscp_queue::{Block, Connection, Holder, Picker, Queue, Report, Upcoming, Waiting, end_with};
 use std::marker::Model;
 
 /// Gives the end that a report brings, if it brings one, to the host of its command's connection.
@@ -159,6 +163,18 @@ impl<K: Picker> Controller<K> {
         ensures account { IsBalanced self.now }
     {
         self.queue.figure(connection, reference)
+    }
+
+    /// Who keeps the waiting command of the connection with the reference number back, oldest first: nobody where none
+    /// waits of it. While no other is in service it may start exactly if there is nobody.
+    pub fn holders(&self, connection: Connection, reference: u32) -> ArrayVec<Holder, 64>
+        ensures holders { result.items
+            ≡ holders_of_name self.now.settings.budget self.now.waiting (name_on connection reference) }
+        ensures none { IfSome (position (has_name (name_on connection reference)) self.now.waiting) (λ place.
+            is_nobody result.items ≡ is_open_at self.now.settings.budget self.now.waiting place) }
+        ensures account { IsBalanced self.now }
+    {
+        self.queue.holders(connection, reference)
     }
 
     /// Connection, reference number and figure of each waiting command, oldest first.

@@ -15,6 +15,7 @@ pub mod Least
 pub mod Sweeps
 pub mod Aborts
 pub mod Untolled
+pub mod Whys
 pub mod Shaped
 pub mod Masked
 pub mod Cleared

@@ -5,6 +5,7 @@ pub mod Outcomes
 pub mod Drives
 pub mod Records
 pub mod Views
+pub mod Why
 pub mod Pickers
 pub mod Serving
 pub mod Figures

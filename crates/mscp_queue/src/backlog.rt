@@ -122,6 +122,13 @@ impl Backlog {
         self.slots.len()
     }
 
+    /// By how many blocks each command may be passed.
+    pub fn budget(&self) -> u32
+        ensures { result ≡ self.now.budget }
+    {
+        self.budget
+    }
+
     /// The record at the place.
     pub fn record(&self, place: usize) -> &Record
         requires { place < length self.now.waiting }

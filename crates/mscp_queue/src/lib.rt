@@ -21,6 +21,7 @@ mod start;
 mod tests;
 mod upcoming;
 mod view;
+mod why;
 
 pub use crate::block::{Block, FaultStatus};
 pub use crate::drive::Drive;
@@ -31,3 +32,4 @@ pub use crate::queue::{Queue, Waiting};
 pub use crate::report::Report;
 pub use crate::upcoming::Upcoming;
 pub use crate::view::{Choice, View};
+pub use crate::why::Holder;

@@ -1,7 +1,7 @@
 // The queue of a disk controller: its waiting commands, its drives, and its picker.
 
 ghost use Rattle.std.specs.Prelude.{◌≡◌, ◌+◌, ◌*◌, ◌<◌, ◌≤◌, ◌^◌, [], length, find, option_map, true, false, IfNone, IfSome};
-ghost use Rattle.std.specs.List.{list_any};
+ghost use Rattle.std.specs.List.{list_any, position};
 ghost use Rattle.mscp_packet.specs.Ends.{IsOfKind};
 ghost use Rattle.mscp_queue.specs.Drives.{is_online_in};
 ghost use Rattle.mscp_queue.specs.Figures.{figure_of_name, figures};
@@ -11,6 +11,8 @@ ghost use Rattle.mscp_queue.specs.Names.{name_on};
 ghost use Rattle.mscp_queue.specs.Orders.{order_weight};
 ghost use Rattle.mscp_queue.specs.Records.{aborted_record, has_name};
 ghost use Rattle.mscp_queue.specs.Serving.{IsNext, end_in, is_begun};
+ghost use Rattle.mscp_queue.specs.Views.{is_open_at};
+ghost use Rattle.mscp_queue.specs.Why.{holders_of_name, is_nobody};
 
 use crate::aim::Aim;
 use crate::backlog::Backlog;
@@ -26,6 +28,7 @@ use crate::service::{serve, upcoming};
 use crate::start::{choice_in, picked_place};
 use crate::upcoming::Upcoming;
 use crate::view::View;
+use crate::why::{Holder, holders_at};
 use arrayvec::ArrayVec;
 use mscp_drive::Units;
 use mscp_packet::{Command, End, Order};
@@ -209,6 +212,25 @@ impl<K: Picker> Queue<K> {
         ensures { result.items ≡ figures self.now.budget self.now.waiting }
     {
         self.backlog.look()
+    }
+
+    /// Who keeps the waiting command of the connection with the reference number back, oldest first: nobody where none
+    /// waits of it. While no other is in service it may start exactly if there is nobody.
+    pub fn holders(&self, connection: Connection, reference: u32) -> ArrayVec<Holder, 64>
+        ensures holders { result.items
+            ≡ holders_of_name self.now.budget self.now.waiting (name_on connection reference) }
+        ensures none { IfSome (position (has_name (name_on connection reference)) self.now.waiting) (λ place.
+            is_nobody result.items ≡ is_open_at self.now.budget self.now.waiting place) }
+    {
+        let name = Name {
+            connection,
+            reference,
+        };
+        let place = self.lineup.place_of(name);
+        match place {
+            Some(place) => holders_at(&self.backlog, self.backlog.budget(), place),
+            None => ArrayVec::new(),
+        }
     }
 
     /// Ends the waiting command of the connection with the reference number, in service or not, and gives its end, whose

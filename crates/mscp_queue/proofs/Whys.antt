@@ -1,0 +1,93 @@
+-- Who keeps a command back, found one after the other.
+use Rattle.std.proofs.Common.{◌≡◌, ℕ, zero, suc, ◌+◌, ◌≤◌, Bool, true, false, cond, not, ◌&&◌, ◌||◌, List, [], ◌∷◌, ◌++◌, map, take, length, refl, ap, sym, ◌∙◌, append-nil, subst, arith}
+use Rattle.std.specs.Prelude.{filter, nat_le}
+use Rattle.std.specs.List.{list_all, range_with_len}
+use Rattle.std.proofs.lemmas.List.{length-append, map-append}
+use Rattle.std.proofs.lemmas.List.Elements.{filter-append}
+use Rattle.std.proofs.lemmas.List.Folds.{list_all_more}
+use Rattle.mscp_queue.specs.declared.why.Holder.{Holder}
+use Rattle.mscp_queue.specs.Records.{Record, no_record, record_at, toll}
+use Rattle.mscp_queue.specs.Views.{fences, is_open}
+use Rattle.mscp_queue.specs.Why.{holder_of, holders_among, is_nobody, keeps_back}
+use Rattle.mscp_queue.proofs.Lists.{range_more}
+
+-- what is known of those that were looked at: who of them keeps the record at the place back
+pub record Holders (budget : ℕ) (rs : List Record) (place count : ℕ) (holders : List Holder) : Type 0 where
+  pub told : holders ≡ holders_among budget rs place count
+  pub few : length holders ≤ count
+
+-- one more is looked at
+among_more : (budget : ℕ) (rs : List Record) (place front : ℕ) → holders_among budget rs place (front + 1)
+    ≡ holders_among budget rs place front ++ cond (keeps_back budget (record_at rs place) (record_at rs front))
+    (holder_of budget (record_at rs place) (record_at rs front) ∷ []) []
+among_more budget rs place front =
+    let keep : ℕ → Bool = λ q. keeps_back budget (record_at rs place) (record_at rs q) in
+    let tell : ℕ → Holder = λ q. holder_of budget (record_at rs place) (record_at rs q) in
+    ap (λ ps. map tell (filter keep ps)) (range_more front)
+    ∙ (ap (map tell) (filter-append keep (range_with_len 0 front) (front ∷ []))
+    ∙ (map-append tell (filter keep (range_with_len 0 front)) (filter keep (front ∷ []))
+    ∙ ap (λ hs. holders_among budget rs place front ++ hs) (one tell (keep front))))
+  where
+    one : (tell : ℕ → Holder) (b : Bool) → map tell (cond b (front ∷ []) []) ≡ cond b (tell front ∷ []) []
+    one tell true = refl
+    one tell false = refl
+
+appended : (holders : List Holder) (holder : Holder) (b : Bool)
+    → length (holders ++ cond b (holder ∷ []) []) ≤ length holders + 1
+appended holders holder true = omega (arith, length-append holders (holder ∷ []))
+appended holders holder false = omega (arith, ap length (append-nil holders))
+
+pub holders_more : {budget : ℕ} {rs : List Record} {place front : ℕ} {holders holders' : List Holder} (b : Bool)
+    (holder : Holder)
+    → b ≡ keeps_back budget (record_at rs place) (record_at rs front)
+    → holder ≡ holder_of budget (record_at rs place) (record_at rs front)
+    → holders' ≡ holders ++ cond b (holder ∷ []) []
+    → Holders budget rs place front holders → Holders budget rs place (front + 1) holders'
+holders_more {budget} {rs} {place} {front} {holders} {holders'} b holder is what put h = record {
+  told =
+      let among = holders_among budget rs place front in
+      put ∙ (ap (λ hs. hs ++ cond b (holder ∷ []) []) h.told
+      ∙ (ap (λ b. among ++ cond b (holder ∷ []) []) is
+      ∙ (ap (λ x. among ++ cond (keeps_back budget (record_at rs place) (record_at rs front)) (x ∷ []) []) what
+      ∙ sym (among_more budget rs place front))));
+  few = let k = h.few in omega (arith, ap length put, appended holders holder b);
+}
+
+-- ---- nobody keeps back what may start
+
+none_more : (holders : List Holder) (holder : Holder) (b : Bool)
+    → is_nobody (holders ++ cond b (holder ∷ []) []) ≡ (is_nobody holders && not b)
+none_more [] holder true = refl
+none_more [] holder false = refl
+none_more (x ∷ holders) holder b = refl
+
+-- free and affordable so far, and the next neither fences nor is overdrawn
+parted : (free affordable fences affords : Bool) → ((free && affordable) && not (fences || not affords))
+    ≡ ((free && not fences) && (affordable && affords))
+parted false affordable fences affords = refl
+parted true false true affords = refl
+parted true false false affords = refl
+parted true true true affords = refl
+parted true true false true = refl
+parted true true false false = refl
+
+-- nobody in front of so many keeps the record at the place back exactly if it may start behind these
+pub none_keeps_back : (budget : ℕ) (rs : List Record) (place count : ℕ) → count ≤ length rs
+    → is_nobody (holders_among budget rs place count) ≡ is_open budget (record_at rs place) (take count rs)
+none_keeps_back budget rs place zero l = refl
+none_keeps_back budget rs place (suc count) l =
+    let r = record_at rs place in
+    let z = record_at rs count in
+    let free : Record → Bool = λ z. not (fences r z) in
+    let affords : Record → Bool = λ z. nat_le (z.passed + toll r) budget in
+    let front = take count rs in
+    let e : count + 1 ≡ suc count = omega arith in
+    subst (λ n. is_nobody (holders_among budget rs place n) ≡ is_open budget r (take n rs)) e
+    (ap is_nobody (among_more budget rs place count)
+    ∙ (none_more (holders_among budget rs place count) (holder_of budget r z) (keeps_back budget r z)
+    ∙ (ap (λ b. b && not (keeps_back budget r z)) (none_keeps_back budget rs place count (omega (arith, l)))
+    ∙ (parted (list_all free front) (list_all affords front) (fences r z) (affords z)
+    ∙ (ap (λ b. b && (list_all affords front && affords z))
+    (sym (list_all_more free rs count no_record (omega (arith, l))))
+    ∙ ap (λ b. list_all free (take (count + 1) rs) && b)
+    (sym (list_all_more affords rs count no_record (omega (arith, l)))))))))

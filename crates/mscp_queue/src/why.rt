@@ -1,0 +1,87 @@
+// Why a command may not start.
+
+ghost use Rattle.std.specs.Prelude.{◌≡◌, ◌<◌, ◌≤◌, ◌||◌, ◌++◌, ◌∷◌, [], cond, length};
+ghost use Rattle.mscp_queue.specs.Records.{record_at};
+ghost use Rattle.mscp_queue.specs.Views.{fences, is_open_at};
+ghost use Rattle.mscp_queue.specs.Why.{holder_of, holders_at, is_nobody, is_overdrawn};
+
+use crate::backlog::Backlog;
+use crate::name::Connection;
+use crate::record::Record;
+use arrayvec::ArrayVec;
+
+/// An earlier command that keeps a waiting one back.
+#[derive(Clone, Copy, Debug, Default, PartialEq, Eq)]
+pub struct Holder {
+    /// Its connection.
+    pub connection: Connection,
+    /// Its reference number.
+    pub reference: u32,
+    /// Whether both are of one unit, and one of them is sequential.
+    pub fences: bool,
+    /// Whether it has less left of its budget than the waiting one takes.
+    pub overdrawn: bool,
+}
+
+impl Holder {
+    /// Whether it does so in either way.
+    fn keeps_back(&self) -> bool
+        ensures { result ≡ self.now.fences || self.now.overdrawn }
+    {
+        self.fences || self.overdrawn
+    }
+}
+
+/// Whether the later of two commands has to stay behind the earlier one.
+fn fences(later: &Record, earlier: &Record) -> bool
+    ensures { result ≡ fences later.now earlier.now }
+{
+    later.command().unit == earlier.command().unit
+        && (earlier.is_sequential() || later.is_sequential())
+}
+
+/// Whether the earlier of two commands would be passed by more blocks than the budget, if the later one started.
+fn is_overdrawn(budget: u32, later: &Record, earlier: &Record) -> bool
+    ensures { result ≡ is_overdrawn budget later.now earlier.now }
+{
+    u64::from(earlier.passed()) + u64::from(later.weight()) > u64::from(budget)
+}
+
+/// How the earlier of two commands keeps the later one back: in none of the two ways, where it doesn't.
+fn holder_of(budget: u32, later: &Record, earlier: &Record) -> Holder
+    ensures { result ≡ holder_of budget later.now earlier.now }
+{
+    Holder {
+        connection: earlier.connection(),
+        reference: earlier.command().reference,
+        fences: fences(later, earlier),
+        overdrawn: is_overdrawn(budget, later, earlier),
+    }
+}
+
+/// Appends what is told of a command, if that keeps the other one back.
+fn append_if(keeps_back: bool, holders: &mut ArrayVec<Holder, 64>, holder: Holder)
+    requires room { length holders.old.items < 64 }
+    ensures { holders.new.items ≡ holders.old.items ++ cond keeps_back (holder ∷ []) [] }
+{
+    if keeps_back {
+        holders.push(holder);
+    }
+}
+
+/// Those that keep the command at the place back, oldest first.
+#[tactic(auto, using(crate::proofs::Whys::none_keeps_back))]
+pub(crate) fn holders_at(backlog: &Backlog, budget: u32, place: usize) -> ArrayVec<Holder, 64>
+    requires few { length backlog.now.waiting ≤ 64 }
+    requires place { place < length backlog.now.waiting }
+    ensures holders { result.items ≡ holders_at budget backlog.now.waiting place }
+    ensures none { is_nobody result.items ≡ is_open_at budget backlog.now.waiting place }
+{
+    let mut holders = ArrayVec::new();
+    let later = backlog.record(place);
+    for earlier in 0..place {
+        let holder = holder_of(budget, later, backlog.record(earlier));
+        append_if(holder.keeps_back(), &mut holders, holder);
+    }
+    holders
+}
