@@ -1,5 +1,5 @@
 -- What a call leaves, as a judge stands then.
-use Rattle.std.proofs.Common.{◌≡◌, ◌≢◌, inl, ℕ, zero, suc, ◌+◌, ◌-◌, ◌<◌, ◌≤◌, true, false, List, [], ◌∷◌, ◌++◌, drop, length, replicate, refl, ap, sym, ◌∙◌, subst, arith, length-append, length-drop, drop-drop, append_assoc, append-nil}
+use Rattle.std.proofs.Common.{◌≡◌, ◌≢◌, ◌⊎◌, inl, inr, ℕ, zero, suc, ◌+◌, ◌-◌, ◌<◌, ◌≤◌, true, false, List, [], ◌∷◌, ◌++◌, drop, length, replicate, refl, ap, sym, ◌∙◌, subst, arith, length-append, length-drop, drop-drop, append_assoc, append-nil}
 use Rattle.std.specs.Prelude.{OnOk, Result, Ok, Err}
 use Rattle.std.specs.List.{AllByRecursion, list_all}
 use Rattle.std.proofs.Math.Seq.{drop-append_seam}
@@ -20,12 +20,12 @@ use Rattle.mscp_script.specs.Text.{Reported, entry_lines, with_entry}
 use Rattle.mscp_judge.specs.declared.judge.Judge.{Judge}
 use Rattle.mscp_judge.specs.declared.naming.Named.{Named}
 use Rattle.mscp_judge.specs.Judged.{IsAhead}
-use Rattle.mscp_judge.specs.Logs.{Asked, Log, Mark, MayGoOn, IsLegalLog, asking, events_in, nothing, telling, told, transcript, whole}
+use Rattle.mscp_judge.specs.Logs.{Asked, IsRightThere, Log, Mark, MayGoOn, IsLegalLog, asking, events_in, nothing, telling, told, transcript, whole}
 use Rattle.mscp_judge.specs.Naming.{IsNamed, name_in, nobody}
-use Rattle.mscp_judge.specs.Standing.{BeginsWith, Came, IsSettled, Stands, Stood, due, marked, owed, with_picker}
+use Rattle.mscp_judge.specs.Standing.{BeginsWith, Came, Held, IsHeld, IsSettled, Stands, Stood, due, marked, owed, with_picker}
 use Rattle.mscp_judge.proofs.Feeds.{NoFeed, some_none, step_ends}
 use Rattle.mscp_judge.proofs.Marks.{GoesOn, asked_parts, goes_on, is_legal_log, is_whole, lead, may_go_on, none_asked}
-use Rattle.mscp_judge.proofs.Standing.{ahead_of, all_told, event_on, finished, no_step, opens, refused, step_on, steps_on, told_on, unasked}
+use Rattle.mscp_judge.proofs.Standing.{ahead_of, all_told, event_on, finished, held_of, no_step, opens, opens_with, refused, step_held, step_on, steps_on, told_on, unasked}
 
 -- ---- an event
 
@@ -227,11 +227,42 @@ left_due lines line rest start place e p =
     ∙ drop-append_seam (line ++ 10 ∷ []) rest) in
     ap (λ n. drop n lines) here ∙ (sym (drop-drop (length line + 1) start lines) ∙ (ap (drop (length line + 1)) e ∙ behind))
 
+-- ---- what would have been right
+
+pub stands_held : {A : Type 0} (c : Settings) (log : Log) (judge : Judge A) → Stands c log judge → IsHeld c log judge
+stands_held c log judge s = held_of c (marked log) judge.controller (due judge) (owed judge) [] s.stood
+
+pub ahead_held : {A : Type 0} (c : Settings) (log : Log) (line : List ℕ) (judge : Judge A) → IsAhead c log line judge
+    → IsHeld c log judge
+ahead_held c log line judge s =
+    held_of c (marked log) judge.controller (due judge) (owed judge) (told (line ++ 10 ∷ [])) s.stood
+
+pub right_due : {A : Type 0} (c : Settings) (log : Log) (judge : Judge A) (text : List ℕ) → IsHeld c log judge
+    → (text ≡ []) ⊎ BeginsWith (due judge) text → IsRightThere c log text
+right_due c log judge text s (inl e) = inl e
+right_due c log judge text s (inr b) = inr (may_go_on c (telling log (text ++ 10 ∷ [])).marks
+    (opens_with c (marked log) judge.controller (due judge) judge.block judge.owed text s b))
+
+pub right_step : {A : Type 0} (c : Settings) (log : Log) (name : Named) (old new : Judge A) → IsHeld c log old
+    → due old ≡ [] → 0 < old.owed → Came name old new (events.Step old.block) → new.owed ≡ old.owed - 1
+    → new.block ≡ old.block → IsHeld c log new
+right_step {A} c log name old new s none some came w b =
+    let n = new.owed in
+    let k = old.block in
+    let more : old.owed ≡ suc n = omega (arith, some, w) in
+    let before : Held c (marked log) old.controller [] (events.Step k ∷ replicate n (events.Step k)) =
+    subst (λ i. Held c (marked log) old.controller [] (replicate i (events.Step k))) more
+    (subst (λ bs. Held c (marked log) old.controller bs (owed old)) none s) in
+    let after = step_held c (marked log) old.controller new.controller k (replicate n (events.Step k)) name came.entry
+    before came.answers in
+    subst (λ bs. Held c (marked log) new.controller bs (owed new)) (sym came.due)
+    (subst (λ j. Held c (marked log) new.controller (entry_lines came.entry) (replicate n (events.Step j))) (sym b) after)
+
 -- ---- the whole
 
 pub stands_open : {A : Type 0} (c : Settings) (log : Log) (judge : Judge A) → Stands c log judge → MayGoOn c log.marks
 stands_open c log judge s = may_go_on c log.marks
-    (opens c (marked log) judge.controller (due judge) judge.block judge.owed s.stood)
+    (opens c (marked log) judge.controller (due judge) judge.block judge.owed (stands_held c log judge s))
 
 pub stands_legal : {A : Type 0} (c : Settings) (log : Log) (judge : Judge A) → Stands c log judge → IsSettled judge
     → IsLegalLog c log.marks

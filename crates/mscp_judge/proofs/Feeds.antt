@@ -127,3 +127,8 @@ begins_line bytes line b = (
   ap (λ xs. get_or xs (length line) 0) b.1 ∙ get_or-append_seam line 10 b.0 0,
   ap (take (length line)) b.1 ∙ take-append_seam line (10 ∷ b.0),
 )
+
+-- the first line is what stands before the first line feed
+pub first_is : (bytes line : List ℕ) (i : ℕ) → i < length bytes → line ≡ take i bytes → get_or bytes i 0 ≡ 10
+    → BeginsWith bytes line
+first_is bytes line i l e f = (drop (i + 1) bytes, cut_at 0 bytes i l ∙ (λ j. sym e j ++ f j ∷ drop (i + 1) bytes))

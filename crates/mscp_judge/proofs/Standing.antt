@@ -17,7 +17,7 @@ use Rattle.mscp_script.specs.Text.{entry_lines, step_line}
 use Rattle.mscp_judge.specs.declared.naming.Named.{Named}
 use Rattle.mscp_judge.specs.Logs.{Asked, Mark, answers_in, events_in, told, transcript, whole, written}
 use Rattle.mscp_judge.specs.Naming.{IsNamed, name_in, nobody}
-use Rattle.mscp_judge.specs.Standing.{BeginsWith, EndsLine, Led, Stood, with_picker}
+use Rattle.mscp_judge.specs.Standing.{BeginsWith, EndsLine, Held, Led, Stood, with_picker}
 use Rattle.mscp_judge.proofs.Existing.{steps_exist}
 use Rattle.mscp_judge.proofs.Feeds.{NoFeed, ends_behind, entry_ends, first_line, some_none, step_ends}
 use Rattle.mscp_judge.proofs.Leading.{follow, led_more, turn_of}
@@ -40,12 +40,17 @@ pub record Goes (c : Settings) (parts : List Trace) (now : Trace) (due : List �
   pub are : others ≡ parts ++ (now ++ next) ∷ rest
   pub left_is : left ≡ told due ++ (told (answers_in next) ++ transcript rest)
 
+pub held_of : (c : Settings) (marks : List Mark) (h : Holdings Named) (due : List ℕ) (owed : List Event)
+    (ahead : List Mark) → Stood c marks h due owed ahead → Held c marks h due owed
+held_of c marks h due owed ahead s =
+    record { parts = s.parts; now = s.now; begun = s.begun; valid = s.valid; led = s.led; said = s.said }
+
 -- the marks of a trace that goes on so
 pub known_marks : (c : Settings) (marks : List Mark) (h : Holdings Named) (due : List ℕ) (owed : List Event)
-    (ahead : List Mark) (s : Stood c marks h due owed ahead) (next : Trace) (rest : List Trace) → events_in next ≡ owed
+    (s : Held c marks h due owed) (next : Trace) (rest : List Trace) → events_in next ≡ owed
     → transcript (s.parts ++ (s.now ++ next) ∷ rest)
     ≡ marks ++ (told due ++ (told (answers_in next) ++ transcript rest))
-known_marks c marks h due owed ahead s next rest asks =
+known_marks c marks h due owed s next rest asks =
     let P = transcript s.parts in
     let N = told (answers_in s.now) in
     let X = told (answers_in next) ++ transcript rest in
@@ -64,6 +69,7 @@ pub goes : (c : Settings) (marks : List Mark) (h : Holdings Named) (due : List �
     (ahead : List Mark) (s : Stood c marks h due owed ahead) (others : List Trace) (more : List Mark)
     → IsLegal c (whole others) → marks ++ (ahead ++ more) ≡ transcript others
     → Goes c s.parts s.now due owed others (ahead ++ more)
+unfolding held_of
 goes c marks h due owed ahead s others more l e =
     let k = s.only others more l e in
     record {
@@ -72,7 +78,7 @@ goes c marks h due owed ahead s others more l e =
       asks = k.2;
       are = k.3;
       left_is = append_cancel_left marks (ahead ++ more) (told due ++ (told (answers_in k.0) ++ transcript k.1))
-          (e ∙ (ap transcript k.3 ∙ known_marks c marks h due owed ahead s k.0 k.1 k.2));
+          (e ∙ (ap transcript k.3 ∙ known_marks c marks h due owed (held_of c marks h due owed ahead s) k.0 k.1 k.2));
     }
 
 -- what is told first of it
@@ -373,9 +379,10 @@ finished c marks h s =
     )
 
 -- a legal log goes on from here: the steps that are missing have right answers
-pub opens : (c : Settings) (marks : List Mark) (h : Holdings Named) (due : List ℕ) (k : Block) (n : ℕ)
-    → Stood c marks h due (replicate n (events.Step k)) [] → GoesOn c marks
-opens c marks h due k n s =
+goes_from : (c : Settings) (marks : List Mark) (h : Holdings Named) (due : List ℕ) (k : Block) (n : ℕ)
+    → Held c marks h due (replicate n (events.Step k))
+    → (X : List Mark) × (others : List Trace) × IsLegal c (whole others) × (marks ++ (told due ++ X) ≡ transcript others)
+goes_from c marks h due k n s =
     let T = whole s.parts ++ s.now in
     let owed = replicate n (events.Step k) in
     let f = follow c s.begun T h s.valid s.led in
@@ -384,8 +391,47 @@ opens c marks h due k n s =
     let same : whole others ≡ T ++ u.0 =
     whole_append s.parts ((s.now ++ u.0) ∷ []) ∙ (ap (λ t. whole s.parts ++ t) (append-nil (s.now ++ u.0))
     ∙ sym (append_assoc (whole s.parts) s.now u.0)) in (
-      told due ++ (told (answers_in u.0) ++ transcript []),
+      told (answers_in u.0) ++ transcript [],
       others,
       subst (IsLegal c) (sym same) u.2,
-      sym (known_marks c marks h due owed [] s u.0 [] u.1),
+      sym (known_marks c marks h due owed s u.0 [] u.1),
     )
+
+pub opens : (c : Settings) (marks : List Mark) (h : Holdings Named) (due : List ℕ) (k : Block) (n : ℕ)
+    → Held c marks h due (replicate n (events.Step k)) → GoesOn c marks
+opens c marks h due k n s =
+    let g = goes_from c marks h due k n s in
+    (told due ++ g.0, g.1, g.2, g.3)
+
+-- and it goes on with a line that is due
+pub opens_with : (c : Settings) (marks : List Mark) (h : Holdings Named) (due : List ℕ) (k : Block) (n : ℕ)
+    (line : List ℕ) → Held c marks h due (replicate n (events.Step k)) → BeginsWith due line
+    → GoesOn c (marks ++ told_line line)
+opens_with c marks h due k n line s b =
+    let g = goes_from c marks h due k n s in
+    let parts : told due ≡ told_line line ++ told b.0 =
+    ap told (b.1 ∙ sym (append_assoc line (10 ∷ []) b.0)) ∙ told_append (line ++ 10 ∷ []) b.0 in (
+      told b.0 ++ g.0,
+      g.1,
+      g.2,
+      append_assoc marks (told_line line) (told b.0 ++ g.0)
+          ∙ (ap (λ ms. marks ++ ms) (sym (append_assoc (told_line line) (told b.0) g.0)
+          ∙ ap (λ ms. ms ++ g.0) (sym parts)) ∙ g.3),
+    )
+
+-- a step that is missing is answered
+pub step_held : (c : Settings) (marks : List Mark) (h h' : Holdings Named) (k : Block) (owed : List Event)
+    (name : Named) (entry : Entry) → Held c marks h [] (events.Step k ∷ owed)
+    → Answers (IsNamed name) (with_picker h name) (events.Step k) entry h' → Held c marks h' (entry_lines entry) owed
+step_held c marks h h' k owed name entry s a =
+    let m : Moment = (events.Step k, entry) in
+    let T = whole s.parts ++ s.now in
+    record {
+      parts = s.parts;
+      now = s.now ++ m ∷ [];
+      begun = s.begun;
+      valid = s.valid;
+      led = subst (λ t. Led (fresh c s.begun) t h') (append_assoc (whole s.parts) s.now (m ∷ []))
+          (led_more (fresh c s.begun) h h' T name (events.Step k) entry s.led a);
+      said = said_more marks (transcript s.parts) s.now m owed s.said;
+    }

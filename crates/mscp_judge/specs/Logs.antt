@@ -1,6 +1,6 @@
 -- What a log is, and when it is legal. A log is a script in which each event's line is followed by the lines that were
 -- answered to its events.
-use Rattle.std.specs.Prelude.{◌≡◌, ℕ, ◌+◌, ◌||◌, Bool, true, false, if◌then◌else◌, List, [], ◌∷◌, ◌++◌, map, codes, Result, Ok, Err}
+use Rattle.std.specs.Prelude.{◌≡◌, ◌⊎◌, ℕ, ◌+◌, ◌||◌, Bool, true, false, if◌then◌else◌, List, [], ◌∷◌, ◌++◌, map, codes, Result, Ok, Err}
 use Rattle.std.specs.List.{flat_map}
 use Rattle.std.specs.Str.{bytes_eq}
 use Rattle.mscp_control.specs.declared.event.Event.{Event}
@@ -86,6 +86,10 @@ nothing = record { events = []; marks = [] }
 -- these bytes were told
 abbrev pub telling : Log → List ℕ → Log
 telling log bytes = record log { marks = log.marks ++ told bytes }
+
+-- a legal log goes on with this line, if it isn't empty
+abbrev pub IsRightThere : Settings → Log → List ℕ → Type 0
+IsRightThere c log text = (text ≡ []) ⊎ MayGoOn c (telling log (line text)).marks
 
 -- these events were asked for, and with them these are all
 abbrev pub asking : Log → List Event → List Event → Log

@@ -79,6 +79,19 @@ pub record Stood (c : Settings) (marks : List Mark) (h : Holdings Named) (due : 
       → marks ++ (ahead ++ more) ≡ transcript others
       → (next : Trace) × (rest : List Trace) × (events_in next ≡ owed) × (others ≡ parts ++ (now ++ next) ∷ rest)
 
+-- the same, whatever other traces may be
+pub record Held (c : Settings) (marks : List Mark) (h : Holdings Named) (due : List ℕ) (owed : List Event) : Type 0 where
+  pub parts : List Trace
+  pub now : Trace
+  pub begun : Named
+  pub valid : IsValid c
+  pub led : Led (fresh c begun) (whole parts ++ now) h
+  pub said : marks ++ told due ≡ transcript parts ++ Asked (events_in now ++ owed) ∷ told (answers_in now)
+
+-- a judge holds so after these lines of a log
+abbrev pub IsHeld : {A : Type 0} → Settings → Log → Judge A → Type 0
+IsHeld c log judge = Held c (marked log) judge.controller (due judge) (owed judge)
+
 -- a judge stands so after these lines of a log
 pub record Stands {A : Type 0} (c : Settings) (log : Log) (judge : Judge A) : Type 0 where
   pub stood : Stood c (marked log) judge.controller (due judge) (owed judge) []

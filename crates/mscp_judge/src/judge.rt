@@ -1,21 +1,25 @@
 // A controller that answers what a log says, and what of its answers wasn't told yet.
 
-ghost use Rattle.std.specs.Prelude.{◌≡◌, ◌+◌, ◌-◌, ◌<◌, ◌≤◌, ◌^◌, ◌∷◌, ◌++◌, [], ℕ, List, length, true, false, OnOk, IfOk};
+ghost use Rattle.std.specs.Prelude.{◌≡◌, ◌⊎◌, ◌+◌, ◌-◌, ◌<◌, ◌≤◌, ◌^◌, ◌∷◌, ◌++◌, [], ℕ, List, length, true, false, OnOk, IfOk};
 ghost use Rattle.std.specs.List.{list_all};
 ghost use Rattle.mscp_control.specs.Settings.{Settings};
 ghost use Rattle.mscp_control.specs.declared.event.Event.TheVariants as events;
 ghost use Rattle.mscp_reader.specs.Lexical as lexical;
 ghost use Rattle.mscp_reader.specs.Requests.{events_of};
 ghost use Rattle.mscp_judge.specs.Judged.{IsAhead, IsReady, Tells};
-ghost use Rattle.mscp_judge.specs.Logs.{Log, asking, nothing, telling};
-ghost use Rattle.mscp_judge.specs.Standing.{BeginsWith, Came, IsSettled, Stands, due};
+ghost use Rattle.mscp_judge.specs.Logs.{IsRightThere, Log, asking, nothing, telling};
+ghost use Rattle.mscp_judge.specs.Standing.{BeginsWith, Came, IsHeld, IsSettled, Stands, due};
 
 use crate::naming::{Named, name_in, nobody};
+use arrayvec::ArrayVec;
 use mscp_control::{Block, Config, Connection, Controller, OutOfMemory};
 use mscp_packet::write_command;
 use mscp_reader::{Request, Words};
 use mscp_script::Reporter;
 use std::alloc::Allocator;
+
+/// A line that would have been right. The longest has 107 bytes.
+pub type Right = ArrayVec<u8, 128>;
 
 /// A controller, what it answered to the last events, and how many steps aren't answered yet.
 #[derive(Drop)]
@@ -39,6 +43,23 @@ fn begins_with(bytes: &[u8], line: &[u8]) -> bool
         return false;
     }
     &bytes[..line.len()] == line
+}
+
+/// The first line, without its line feed: nothing, where there is none, or it is too long.
+fn first_line(bytes: &[u8]) -> Right
+    ensures { (result.items ≡ []) ⊎ BeginsWith bytes.now result.items }
+{
+    let mut line = Right::new();
+    for byte in bytes {
+        if *byte == b'\n' {
+            return line;
+        }
+        if line.is_full() {
+            break;
+        }
+        line.push(*byte);
+    }
+    Right::new()
 }
 
 impl<A: Allocator> Judge<A> {
@@ -175,6 +196,23 @@ impl<A: Allocator> Judge<A> {
         }
     }
 
+    /// What would be right next: the first line of what is due. If a step is missing, it is answered first, and the oldest
+    /// command starts that may. It is empty where no answer is right.
+    pub fn right(&mut self) -> Result<Right, OutOfMemory>
+        requires { self.old.reporter.count + 1 < 2 ^ 64 }
+        ensures { IfOk result (λ right. (c : Settings) (log : Log) → IsHeld c log self.old
+            → IsRightThere c log right.items) }
+    {
+        if !self.due().is_empty() {
+            return Ok(first_line(self.due()));
+        }
+        if self.owed == 0 {
+            return Ok(Right::new());
+        }
+        self.step(nobody())?;
+        Ok(first_line(self.due()))
+    }
+
     /// Answers the next step, if nothing is due: the command starts that these words of a line say was served, if it may.
     /// Says whether something is due then.
     fn prepare(&mut self, words: Words<'_>) -> Result<bool, OutOfMemory>
@@ -199,7 +237,7 @@ impl<A: Allocator> Judge<A> {
     fn tell(&mut self, line: &[u8]) -> bool
         requires { list_all lexical.is_printed line.now ≡ true }
         ensures tells { (c : Settings) (log : Log) → IsAhead c log line.now self.old
-            → Tells c (telling log (line.now ++ 10 ∷ [])) self.new result }
+            → Tells c log (telling log (line.now ++ 10 ∷ [])) self.new result }
         ensures count { self.new.reporter.count + self.new.owed ≡ self.old.reporter.count + self.old.owed }
     {
         let due = self.due();
@@ -217,7 +255,7 @@ impl<A: Allocator> Judge<A> {
         requires words { lexical.words words.rest.now ≡ lexical.words line.now }
         requires printed { list_all lexical.is_printed line.now ≡ true }
         ensures tells { IfOk result (λ goes_on. (c : Settings) (log : Log) → Stands c log self.old
-            → Tells c (telling log (line.now ++ 10 ∷ [])) self.new goes_on) }
+            → Tells c log (telling log (line.now ++ 10 ∷ [])) self.new goes_on) }
         ensures count { OnOk result (self.new.reporter.count + self.new.owed
             ≡ self.old.reporter.count + self.old.owed) }
     {

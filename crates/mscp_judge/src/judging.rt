@@ -9,20 +9,21 @@ ghost use Rattle.mscp_judge.specs.Logs.{Log};
 ghost use Rattle.mscp_judge.specs.Standing.{Stands};
 
 use crate::answers::is_answer;
-use crate::judge::Judge;
+use crate::judge::{Judge, Right};
 use mscp_control::Config;
 use mscp_reader::{Line, Lines, ReadFault, request_after, words_of};
 use std::alloc::Allocator;
 
 /// What is said of a log.
-#[derive(Clone, Copy, Debug, PartialEq, Eq)]
+#[derive(Debug, PartialEq, Drop)]
 pub enum Verdict {
     /// It is legal.
     Legal,
-    /// The line of this number is the first that no legal log has there.
-    Wrong(u32),
-    /// Each line is one that a legal log has there, but at the end an answer is missing.
-    Unanswered,
+    /// The line of this number is the first that no legal log has there, and what would have been right: a line, or
+    /// nothing where no answer is right.
+    Wrong(u32, Right),
+    /// Each line is one that a legal log has there, but at the end an answer is missing: such a line.
+    Unanswered(Right),
 }
 
 /// Judges the lines of a log that stand behind its header, whose configuration this is.
@@ -36,13 +37,13 @@ pub fn judge_lines<A: Allocator>(
     let mut judge = Judge::new(alloc, config);
     while let Some(bytes) = lines.cut() {
         if !judge_line(&mut judge, lines.number, bytes)? {
-            return Ok(Verdict::Wrong(lines.number));
+            return Ok(Verdict::Wrong(lines.number, judge.right()?));
         }
     }
     if judge.is_settled() {
         Ok(Verdict::Legal)
     } else {
-        Ok(Verdict::Unanswered)
+        Ok(Verdict::Unanswered(judge.right()?))
     }
 }
 

@@ -5,6 +5,9 @@
 mod answers;
 mod judge;
 mod judging;
+mod log;
 mod naming;
 
+pub use crate::judge::Right;
 pub use crate::judging::{Verdict, judge_lines};
+pub use crate::log::judge_log;

@@ -5,7 +5,7 @@ use Rattle.mscp_reader.specs.Lexical.{words}
 use Rattle.mscp_reader.specs.Requests.{events_of}
 use Rattle.mscp_text.specs.Lines.{line}
 use Rattle.mscp_judge.specs.Logs.{asking, telling}
-use Rattle.mscp_judge.proofs.Coming.{too_early}
+use Rattle.mscp_judge.proofs.Coming.{stands_held, too_early}
 use Rattle.mscp_judge.proofs.Reading.{asks, asks_wrong, says_words, skipped, tells, wrong_words}
 use Rattle.mscp_judge.proofs.judging.judge_line.Goals as goal
 
@@ -58,7 +58,10 @@ returns-then-not-is_settled-clause-hears g c = λ d log s.
           (λ e. true≢false (sym (c.is_empty.ensures.1 e) ∙ c.if-is_empty.false))
           (sym c.is_answer.ensures ∙ c.if-is_answer.false)
           (c.in_ok-request.ensures.next d log.events (s.count ∙ sym c.count.ensures)),
-      too_early d log c.args.judge.now new (log.events ++ new) s (c.is_settled.ensures.no c.if-not-is_settled.true),
+      (
+        too_early d log c.args.judge.now new (log.events ++ new) s (c.is_settled.ensures.no c.if-not-is_settled.true),
+        stands_held d log c.args.judge.now s,
+      ),
     )
 
 pub returns-clause-hears : goal.returns-clause-hears

@@ -7,7 +7,7 @@ use Rattle.mscp_reader.specs.declared.fault.ReadFault.TheVariants as faults
 use Rattle.mscp_judge.specs.declared.judge.Judge.{Judge}
 use Rattle.mscp_judge.specs.Judged.{Hears, Judges, Tells}
 use Rattle.mscp_judge.specs.Logs.{Log, MayGoOn, after_lines, nothing}
-use Rattle.mscp_judge.proofs.Coming.{stands_legal, stands_not, stands_open}
+use Rattle.mscp_judge.proofs.Coming.{stands_held, stands_legal, stands_not, stands_open}
 use Rattle.mscp_judge.proofs.Reading.{lines_more}
 use Rattle.mscp_judge.proofs.judging.judge_lines.Goals as goal
 
@@ -68,7 +68,9 @@ returns-then-not-branch g c =
       read = i.read;
       opens = stands_open c.args.config i.log c.loop-bytes.judge i.stands;
       says = k.1;
-      wrong = subst (λ b. Tells c.args.config k.0 c.judge_line.new.judge b) c.if-not-branch.true k.2;
+      wrong = (subst (λ b. Tells c.args.config i.log k.0 c.judge_line.new.judge b) c.if-not-branch.true k.2).0;
+      right_there = c.in_ok-right.ensures c.args.config i.log
+          (subst (λ b. Tells c.args.config i.log k.0 c.judge_line.new.judge b) c.if-not-branch.true k.2).1;
     }
 
 pub loop-bytes-preserved : goal.loop-bytes-preserved
@@ -84,7 +86,7 @@ loop-bytes-preserved g c =
       number = omega (arith, i.number, c.in-Some.ensures.counted, length-append i.front (bytes ∷ []));
       read = lines_more c.args.lines.now.number nothing i.front bytes i.log k.0 c.cut.new.self.number i.read
           (omega (arith, i.number, c.in-Some.ensures.counted)) k.1;
-      stands = subst (λ b. Tells c.args.config k.0 c.judge_line.new.judge b) c.if-not-branch.false k.2;
+      stands = subst (λ b. Tells c.args.config i.log k.0 c.judge_line.new.judge b) c.if-not-branch.false k.2;
       few = c.in_ok-judge_line.ensures.count;
     }
 
@@ -107,4 +109,5 @@ returns g c =
       read = ap (λ ls. after_lines c.args.lines.now.number nothing ls) all ∙ i.read;
       opens = stands_open c.args.config i.log c.loop-bytes.judge i.stands;
       wrong = stands_not c.args.config i.log c.loop-bytes.judge i.stands (c.is_settled.ensures.no c.if-is_settled.false);
+      right_there = c.in_ok-right-2.ensures c.args.config i.log (stands_held c.args.config i.log c.loop-bytes.judge i.stands);
     }

@@ -1,13 +1,15 @@
 use Rattle.std.proofs.Common.{refl, ap, sym, ◌∙◌, subst, length, drop, ◌-◌, ℕ, List}
 use Rattle.mscp_judge.specs.Standing.{BeginsWith}
-use Rattle.mscp_judge.proofs.Coming.{left_due, told_not, told_so}
+use Rattle.mscp_judge.proofs.Coming.{ahead_held, left_due, told_not, told_so}
 use Rattle.mscp_judge.proofs.judge.Judge.tell.Goals as goal
 
 pub returns-then-not-begins_with-clause-tells : goal.returns-then-not-begins_with-clause-tells
-returns-then-not-begins_with-clause-tells g c = λ d log s.
-    told_not d log c.args.line.now c.args.self.now s c.requires
-    (λ b. c.begins_with.ensures.no c.if-not-begins_with.true
-    (subst (λ bs. BeginsWith bs c.args.line.now) (sym c.due-due.ensures) b))
+returns-then-not-begins_with-clause-tells g c = λ d log s. (
+  told_not d log c.args.line.now c.args.self.now s c.requires
+      (λ b. c.begins_with.ensures.no c.if-not-begins_with.true
+      (subst (λ bs. BeginsWith bs c.args.line.now) (sym c.due-due.ensures) b)),
+  ahead_held d log c.args.line.now c.args.self.now s,
+)
 
 pub returns-clause-tells : goal.returns-clause-tells
 returns-clause-tells g c = λ d log s.
