@@ -116,8 +116,15 @@ asked_steps {A} old new n k q h r t w b c log s =
       stood = subst (λ (g : Holdings Named). Stood c marks g (due new) (owed new) []) (sym h)
           (subst (λ bs. Stood c marks old.controller bs (owed new) []) (sym none)
           (subst (λ xs. Stood c marks old.controller [] xs []) same stood));
-      count = omega (arith, length-append log.events es, length-replicate n (events.Step k), s.count,
-          ap (λ (p : Reported). p.count) r, w, q.answered);
+      count = omega (
+        arith,
+        length-append log.events es,
+        length-replicate n (events.Step k),
+        s.count,
+        ap (λ (p : Reported). p.count) r,
+        w,
+        q.answered,
+      );
     }
 
 -- a line asks, and something is due or missing

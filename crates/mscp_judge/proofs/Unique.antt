@@ -90,7 +90,7 @@ picked_one c t named n z p w s =
     let q = p.3 at.0 l in (
       subst (λ (o : Choice). o.reference < 2 ^ 32) own q.0,
       λ e. sym p.2 ∙ (ap (λ (o : Choice). name_on o.connection o.reference) (sym picked)
-      ∙ q.1 (ap (λ (o : Choice). name_on o.connection o.reference) own ∙ e)),
+          ∙ q.1 (ap (λ (o : Choice). name_on o.connection o.reference) own ∙ e)),
     )
 
 -- the same name is known of two services of one step

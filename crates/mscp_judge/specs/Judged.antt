@@ -1,5 +1,6 @@
 -- What a judge says of the lines of a log.
 use Rattle.std.specs.Prelude.{◌≡◌, ◌≢◌, ◌⊎◌, ℕ, ◌+◌, List, [], ◌∷◌, ◌++◌, length, Bool, true, false, Result, Ok, Err}
+use Rattle.mscp_control.specs.Headline.{Promise}
 use Rattle.mscp_control.specs.Settings.{Settings}
 use Rattle.mscp_reader.specs.Lexical.{lines}
 use Rattle.mscp_reader.specs.Grammar.{Begins, HasGone, IsFault}
@@ -10,7 +11,7 @@ use Rattle.mscp_reader.specs.declared.fault.ScriptFault.{ScriptFault}
 use Rattle.mscp_judge.specs.declared.judge.Judge.{Judge}
 use Rattle.mscp_judge.specs.declared.judging.Verdict.{Verdict}
 use Rattle.mscp_judge.specs.declared.judging.Verdict.TheVariants as verdicts
-use Rattle.mscp_judge.specs.Logs.{IsLegalLog, IsRightThere, Log, MayGoOn, after_line, after_lines, nothing, telling, told}
+use Rattle.mscp_judge.specs.Logs.{IsLegalLog, IsRightThere, Log, MayGoOn, after_line, after_lines, nothing, telling, told, whole}
 use Rattle.mscp_judge.specs.Standing.{IsHeld, Stands, Stood, due, marked, owed}
 
 -- ---- the verdict
@@ -20,6 +21,8 @@ pub record AreLegal (c : Settings) (before : ℕ) (all : List (List ℕ)) : Type
   pub log : Log
   pub read : after_lines before nothing all ≡ Ok log
   pub legal : IsLegalLog c log.marks
+  -- so the promise of each legal trace is kept
+  pub promise : Promise c (whole legal.0)
 
 -- the line of this number is the first that no legal log has there: what stands before it is the beginning of one
 pub record IsFirstWrong (c : Settings) (before : ℕ) (all : List (List ℕ)) (place : ℕ) (right : List ℕ) : Type 0 where

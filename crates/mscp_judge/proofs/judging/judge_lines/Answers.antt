@@ -1,12 +1,13 @@
 use Rattle.std.proofs.Common.{◌≡◌, ℕ, ◌+◌, List, [], ◌∷◌, ◌++◌, length, Ok, Err, refl, ap, sym, ◌∙◌, subst, arith, length-append, append_assoc, append-nil}
 use Rattle.std.proofs.lemmas.Result.{err_from_is_err_and}
 use Rattle.mscp_control.specs.Settings.{Settings}
+use Rattle.mscp_control.proofs.Promise.Progress.{progress}
 use Rattle.mscp_reader.specs.Lexical.{lines}
 use Rattle.mscp_reader.specs.declared.fault.ReadFault.{ReadFault}
 use Rattle.mscp_reader.specs.declared.fault.ReadFault.TheVariants as faults
 use Rattle.mscp_judge.specs.declared.judge.Judge.{Judge}
 use Rattle.mscp_judge.specs.Judged.{Hears, Judges, Tells}
-use Rattle.mscp_judge.specs.Logs.{Log, MayGoOn, after_lines, nothing}
+use Rattle.mscp_judge.specs.Logs.{Log, MayGoOn, after_lines, nothing, whole}
 use Rattle.mscp_judge.proofs.Coming.{stands_held, stands_legal, stands_not, stands_open}
 use Rattle.mscp_judge.proofs.Reading.{lines_more}
 use Rattle.mscp_judge.proofs.judging.judge_lines.Goals as goal
@@ -94,10 +95,13 @@ pub returns-then-is_settled : goal.returns-then-is_settled
 returns-then-is_settled g c =
     let i = c.loop-bytes.invariant in
     let all = i.whole ∙ (ap (λ ls. i.front ++ ls) c.in_default.ensures.line ∙ append-nil i.front) in
+    let legal = stands_legal c.args.config i.log c.loop-bytes.judge i.stands
+    (c.is_settled.ensures.yes c.if-is_settled.true) in
     record {
       log = i.log;
       read = ap (λ ls. after_lines c.args.lines.now.number nothing ls) all ∙ i.read;
-      legal = stands_legal c.args.config i.log c.loop-bytes.judge i.stands (c.is_settled.ensures.yes c.if-is_settled.true);
+      legal = legal;
+      promise = progress c.args.config (whole legal.0) i.stands.stood.valid legal.1;
     }
 
 pub returns : goal.returns
