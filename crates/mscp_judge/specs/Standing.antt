@@ -63,8 +63,8 @@ Led old (m ∷ ms) new =
 abbrev pub marked : Log → List Mark
 marked log = Asked [] ∷ log.marks
 
--- after these marks what is held is that of a trace: of the lines before the last event's, and of that one so far. What is
--- due of its answers wasn't told, and these events aren't answered. Each legal log that begins with the marks, and then
+-- after these marks what is held is that of a trace: of the lines before the last event's, and of that one so far.
+-- What is due of its answers wasn't told, and these events aren't answered. Each legal log that begins with the marks, and then
 -- with those ahead, has this trace, and goes on with these events
 pub record Stood (c : Settings) (marks : List Mark) (h : Holdings Named) (due : List ℕ) (owed : List Event)
     (ahead : List Mark) : Type 0 where
@@ -80,7 +80,8 @@ pub record Stood (c : Settings) (marks : List Mark) (h : Holdings Named) (due : 
       → (next : Trace) × (rest : List Trace) × (events_in next ≡ owed) × (others ≡ parts ++ (now ++ next) ∷ rest)
 
 -- the same, whatever other traces may be
-pub record Held (c : Settings) (marks : List Mark) (h : Holdings Named) (due : List ℕ) (owed : List Event) : Type 0 where
+pub record Held (c : Settings) (marks : List Mark) (h : Holdings Named) (due : List ℕ) (owed : List Event) :
+    Type 0 where
   pub parts : List Trace
   pub now : Trace
   pub begun : Named
