@@ -1,7 +1,7 @@
 -- What a call leaves, as a judge stands then.
-use Rattle.std.proofs.Common.{◌≡◌, ◌≢◌, ◌⊎◌, inl, inr, ℕ, zero, suc, ◌+◌, ◌-◌, ◌<◌, ◌≤◌, true, false, List, [], ◌∷◌, ◌++◌, drop, length, replicate, refl, ap, sym, ◌∙◌, subst, arith, length-append, length-drop, drop-drop, append_assoc, append-nil}
+use Rattle.std.proofs.Common.{◌≡◌, ◌≢◌, ◌⊎◌, inl, inr, ℕ, zero, suc, ◌+◌, ◌-◌, ◌<◌, true, false, List, [], ◌∷◌, ◌++◌, drop, length, replicate, refl, ap, sym, ◌∙◌, subst, arith, length-append, length-drop, drop-drop, append_assoc, append-nil}
 use Rattle.std.specs.Prelude.{OnOk, Result, Ok, Err}
-use Rattle.std.specs.List.{AllByRecursion, list_all}
+use Rattle.std.specs.List.{list_all}
 use Rattle.std.proofs.Math.Seq.{drop-append_seam}
 use Rattle.std.proofs.lemmas.List.{length-replicate}
 use Rattle.std.proofs.lemmas.Bool.{and_parts, false≢true}
@@ -24,14 +24,15 @@ use Rattle.mscp_judge.specs.Logs.{Asked, IsRightThere, Log, Mark, MayGoOn, IsLeg
 use Rattle.mscp_judge.specs.Naming.{IsNamed, name_in, nobody}
 use Rattle.mscp_judge.specs.Standing.{BeginsWith, Came, Held, IsHeld, IsSettled, Stands, Stood, due, marked, owed, with_picker}
 use Rattle.mscp_judge.proofs.Feeds.{NoFeed, some_none, step_ends}
-use Rattle.mscp_judge.proofs.Marks.{GoesOn, asked_parts, goes_on, is_legal_log, is_whole, lead, may_go_on, none_asked}
+use Rattle.mscp_judge.proofs.Marks.{asked_parts, goes_on, is_legal_log, is_whole, lead, may_go_on}
 use Rattle.mscp_judge.proofs.Standing.{ahead_of, all_told, event_on, finished, held_of, no_step, opens, opens_with, refused, step_held, step_on, steps_on, told_on, unasked}
 
 -- ---- an event
 
 -- an answer that is reported, where memory may have been wanted
 pub came_on : {A : Type 0} (r : Result (Unit {0}) OutOfMemory) (old new : Judge A) (name : Named) (event : Event)
-    (entry : Entry) (mid : Reported) → Answers (IsNamed name) (with_picker old.controller name) event entry new.controller
+    (entry : Entry) (mid : Reported) → Answers (IsNamed name)
+    (with_picker old.controller name) event entry new.controller
     → mid ≡ record old.reporter { lines = [] } → OnOk r (new.reporter ≡ with_entry mid entry) → new.told ≡ 0
     → OnOk r (Came name old new event)
 came_on (Ok x) old new name event entry mid a m e z =
@@ -182,7 +183,8 @@ ready_step {A} c log line ws old new same s none some came w b =
     (subst (λ bs. Stood c (marked log) old.controller bs (owed old) []) none s.stood) in
     let a = subst (λ xs. Answers (IsNamed (name_in xs)) (with_picker old.controller (name_in xs)) (events.Step k)
     came.entry new.controller) same came.answers in
-    let stood = step_on c (marked log) old.controller new.controller k (replicate n (events.Step k)) line came.entry before
+    let stood = step_on c (marked log) old.controller new.controller k (replicate n
+    (events.Step k)) line came.entry before
     a in
     record {
       stood = subst (λ bs. Stood c (marked log) new.controller bs (owed new) (told (line ++ 10 ∷ []))) (sym came.due)
@@ -203,7 +205,8 @@ pub told_not : {A : Type 0} (c : Settings) (log : Log) (line : List ℕ) (judge 
     → list_all is_printed line ≡ true → ¬ (BeginsWith (due judge) line)
     → ¬ (MayGoOn c (telling log (line ++ 10 ∷ [])).marks)
 told_not c log line judge s printed not_it g =
-    refused c (marked log) judge.controller (due judge) (owed judge) line s.stood s.some (printed_fed line printed) not_it
+    refused c (marked log) judge.controller (due judge) (owed judge) line s.stood s.some
+    (printed_fed line printed) not_it
     (goes_on c (telling log (line ++ 10 ∷ [])).marks g)
 
 pub told_so : {A : Type 0} (c : Settings) (log : Log) (line : List ℕ) (old new : Judge A) → IsAhead c log line old
@@ -232,7 +235,8 @@ left_due lines line rest start place e p =
     ap (drop (length line + 1)) (sym (append_assoc line (10 ∷ []) rest))
     ∙ (ap (λ n. drop n ((line ++ 10 ∷ []) ++ rest)) (sym (length-append line (10 ∷ [])))
     ∙ drop-append_seam (line ++ 10 ∷ []) rest) in
-    ap (λ n. drop n lines) here ∙ (sym (drop-drop (length line + 1) start lines) ∙ (ap (drop (length line + 1)) e ∙ behind))
+    ap (λ n. drop n lines) here ∙ (sym (drop-drop (length line + 1) start lines) ∙ (ap (drop (length line + 1)) e
+    ∙ behind))
 
 -- ---- what would have been right
 
@@ -263,7 +267,8 @@ right_step {A} c log name old new s none some came w b =
     let after = step_held c (marked log) old.controller new.controller k (replicate n (events.Step k)) name came.entry
     before came.answers in
     subst (λ bs. Held c (marked log) new.controller bs (owed new)) (sym came.due)
-    (subst (λ j. Held c (marked log) new.controller (entry_lines came.entry) (replicate n (events.Step j))) (sym b) after)
+    (subst (λ j. Held c (marked log) new.controller (entry_lines came.entry) (replicate n (events.Step j)))
+    (sym b) after)
 
 -- ---- the whole
 

@@ -1,9 +1,8 @@
 -- The marks of a log, taken apart.
-use Rattle.std.proofs.Common.{◌≡◌, ℕ, ◌+◌, ◌<◌, List, [], ◌∷◌, ◌++◌, map, take, get_or, length, refl, ap, sym, ◌∙◌, subst, arith, length-append, append_assoc, append-nil}
-use Rattle.std.specs.List.{flat_map}
+use Rattle.std.proofs.Common.{◌≡◌, ℕ, List, [], ◌∷◌, ◌++◌, take, get_or, length, refl, ap, sym, ◌∙◌, subst, arith, length-append, append_assoc}
 use Rattle.std.specs.Prelude.{None}
 use Rattle.std.proofs.lemmas.Grind.{flat_map-append}
-use Rattle.std.proofs.lemmas.List.{append_cancel_left, map-append}
+use Rattle.std.proofs.lemmas.List.{map-append}
 use Rattle.std.proofs.Math.Seq.{get_or-append_seam, take-append_seam}
 use Rattle.mscp_queue.specs.declared.name.Connection.TheVariants.{First}
 use Rattle.mscp_control.specs.declared.event.Event.{Event}
@@ -80,7 +79,8 @@ right_there c t m u l =
     (subst (λ (n : Moment). IsRight c (take (length t) (t ++ m ∷ u)) n.0 n.1) here right)
 
 -- the same of the parts of one
-pub right_among : (c : Settings) (parts : List Trace) (now : Trace) (m : Moment) (next : Trace) (rest others : List Trace)
+pub right_among : (c : Settings) (parts : List Trace) (now : Trace) (m : Moment) (next : Trace)
+    (rest others : List Trace)
     → others ≡ parts ++ (now ++ m ∷ next) ∷ rest → IsLegal c (whole others) → IsRight c (whole parts ++ now) m.0 m.1
 right_among c parts now m next rest others e l =
     let w : whole others ≡ (whole parts ++ now) ++ m ∷ (next ++ whole rest) =
@@ -93,7 +93,8 @@ right_among c parts now m next rest others e l =
 
 -- a legal log begins with these marks, the first of which asks for nothing
 abbrev pub GoesOn : Settings → List Mark → Type 0
-GoesOn c marks = (more : List Mark) × (others : List Trace) × IsLegal c (whole others) × (marks ++ more ≡ transcript others)
+GoesOn c marks = (more : List Mark) × (others : List Trace) × IsLegal c (whole others) × (marks ++ more
+    ≡ transcript others)
 
 pub goes_on : (c : Settings) (marks : List Mark) → MayGoOn c marks → GoesOn c (Asked [] ∷ marks)
 goes_on c marks g = (g.0, [] ∷ g.1.0, g.1.1, ap (λ ms. Asked [] ∷ ms) g.1.2)

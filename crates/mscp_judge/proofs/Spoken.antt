@@ -1,9 +1,9 @@
 -- The line of a step says which command was served.
-use Rattle.std.proofs.Common.{◌≡◌, ◌≢◌, ◌==◌, ℕ, ◌+◌, ◌<◌, ◌≤◌, ◌^◌, ◌&&◌, Bool, true, false, not, List, [], ◌∷◌, ◌++◌, length, refl, ap, sym, ◌∙◌, subst, arith, append_assoc}
-use Rattle.std.specs.Prelude.{codes, nat_le, if◌then◌else◌, Ok, Option}
+use Rattle.std.proofs.Common.{◌≡◌, ◌≢◌, ◌==◌, ℕ, ◌<◌, ◌≤◌, ◌^◌, true, not, List, [], ◌∷◌, ◌++◌, length, refl, ap, sym, ◌∙◌, arith, append_assoc}
+use Rattle.std.specs.Prelude.{codes, nat_le, Ok, Option}
 use Rattle.std.specs.Fmt.{decimal}
-use Rattle.std.specs.List.{AllByRecursion, list_all}
-use Rattle.std.specs.Str.Parse.{AllDigits, digits_value}
+use Rattle.std.specs.List.{list_all}
+use Rattle.std.specs.Str.Parse.{AllDigits}
 use Rattle.std.specs.Char.{digit_value}
 use Rattle.std.proofs.lemmas.Bool.Decides.{nat_tests}
 use Rattle.std.proofs.lemmas.Bool.{and_from, and_parts, false≢true, le-leb}
@@ -20,7 +20,6 @@ use Rattle.mscp_reader.specs.Lexical.{is_digit, number, wide, words}
 use Rattle.mscp_reader.proofs.Digits.{few_digits}
 use Rattle.mscp_reader.proofs.PlainLines.{AllSolid, solid_digits, word_front}
 use Rattle.mscp_script.specs.Text.{block_word, connection_word, ended_part, step_line}
-use Rattle.mscp_judge.specs.declared.naming.Named.{Named}
 use Rattle.mscp_judge.specs.Naming.{name_in, name_of, numbered, served}
 use Rattle.mscp_judge.proofs.Feeds.{NoFeed, front_of}
 use Rattle.mscp_judge.proofs.Unique.{Says}
@@ -143,7 +142,8 @@ line_says line X Y Idle e = tt
 line_says line X Y (Served via n unit lbn started seek ended) e = λ h.
     let whole : step_line (Served via n unit lbn started seek ended) ≡ head via n ++ tail unit lbn seek ended =
     ap (λ xs. connection_word via ++ xs) (served_words n unit lbn seek ended)
-    ∙ sym (append_assoc (connection_word via) (codes "serve " ++ (decimal n ++ (32 ∷ []))) (tail unit lbn seek ended)) in
+    ∙ sym (append_assoc (connection_word via) (codes "serve " ++ (decimal n ++ (32 ∷ [])))
+    (tail unit lbn seek ended)) in
     let f = front_of line X (head via n) (tail unit lbn seek ended ++ Y) (head_fed via n h)
     (e ∙ (ap (λ xs. xs ++ Y) whole ∙ append_assoc (head via n) (tail unit lbn seek ended) Y)) in
     ap (λ xs. name_of (name_in (words xs))) f.1 ∙ says_front via n f.0 h

@@ -1,23 +1,22 @@
 -- How a judge stands after one more line.
-use Rattle.std.proofs.Common.{◌≡◌, ◌≢◌, ◌⊎◌, inl, inr, ⊎_elim, ℕ, suc, ◌+◌, true, false, List, [], ◌∷◌, ◌++◌, length, refl, ap, sym, ◌∙◌, subst, arith, length-append, append_assoc, append-nil}
-use Rattle.std.specs.Prelude.{None, replicate}
+use Rattle.std.proofs.Common.{◌≡◌, ◌≢◌, inl, ⊎_elim, ℕ, false, List, [], ◌∷◌, ◌++◌, length, refl, ap, sym, ◌∙◌, subst, arith, append_assoc, append-nil}
+use Rattle.std.specs.Prelude.{replicate}
 use Rattle.std.proofs.lemmas.List.{append_cancel_left}
 use Rattle.mscp_queue.specs.declared.block.Block.{Block}
-use Rattle.mscp_queue.specs.declared.report.Report.{Report}
 use Rattle.mscp_control.specs.declared.event.Event.{Event}
 use Rattle.mscp_control.specs.declared.event.Event.TheVariants as events
 use Rattle.mscp_control.specs.declared.event.Entry.{Entry}
 use Rattle.mscp_control.specs.declared.event.Entry.TheVariants as entries
-use Rattle.mscp_control.specs.Settings.{IsValid, Settings}
+use Rattle.mscp_control.specs.Settings.{Settings}
 use Rattle.mscp_control.specs.History.{Moment, Trace, is_step}
 use Rattle.mscp_control.specs.Holdings.{Answers, Holdings, fresh}
 use Rattle.mscp_control.specs.Legal.{IsLegal, IsRight}
 use Rattle.mscp_reader.specs.Lexical.{words}
-use Rattle.mscp_script.specs.Text.{entry_lines, step_line}
+use Rattle.mscp_script.specs.Text.{entry_lines}
 use Rattle.mscp_judge.specs.declared.naming.Named.{Named}
 use Rattle.mscp_judge.specs.Logs.{Asked, Mark, answers_in, events_in, told, transcript, whole, written}
-use Rattle.mscp_judge.specs.Naming.{IsNamed, name_in, nobody}
-use Rattle.mscp_judge.specs.Standing.{BeginsWith, EndsLine, Held, Led, Stood, with_picker}
+use Rattle.mscp_judge.specs.Naming.{IsNamed, name_in}
+use Rattle.mscp_judge.specs.Standing.{BeginsWith, Held, Led, Stood, with_picker}
 use Rattle.mscp_judge.proofs.Existing.{steps_exist}
 use Rattle.mscp_judge.proofs.Feeds.{NoFeed, ends_behind, entry_ends, first_line, some_none, step_ends}
 use Rattle.mscp_judge.proofs.Leading.{follow, led_more, turn_of}
@@ -158,7 +157,8 @@ step_is c marks h h' k owed line (entries.Stepped report) s a (entries.Stepped o
     let T = whole s.parts ++ s.now in
     let f = follow c s.begun T h s.valid s.led in
     let turn = turn_of c T h h' (name_in (words line)) (events.Step k) (entries.Stepped report) s.valid f a in
-    ap (λ x. entries.Stepped x) (one_report c T k (name_in (words line)) report other f.agrees.follows.known turn.sends.right
+    ap (λ x. entries.Stepped x) (one_report c T k (name_in
+    (words line)) report other f.agrees.follows.known turn.sends.right
     (turn.picked f.unbegun) r (line_says line X Y other e))
 step_is c marks h h' k owed line (entries.Stepped report) s a (entries.Sent x y) X Y r e = absurd r
 step_is c marks h h' k owed line (entries.Stepped report) s a (entries.Taken x y) X Y r e = absurd r
@@ -177,7 +177,8 @@ said_more marks P now m owed e =
     sym (append_assoc (events_in now) (m.0 ∷ []) owed) ∙ ap (λ xs. xs ++ owed) (sym (events_append now (m ∷ []))) in
     let bs : told (answers_in now) ++ told (entry_lines m.1) ≡ told (answers_in (now ++ m ∷ [])) =
     sym (told_append (answers_in now) (entry_lines m.1))
-    ∙ ap told (ap (λ xs. answers_in now ++ xs) (sym (append-nil (entry_lines m.1))) ∙ sym (answers_append now (m ∷ []))) in
+    ∙ ap told (ap (λ xs. answers_in now ++ xs) (sym (append-nil (entry_lines m.1))) ∙ sym (answers_append now
+    (m ∷ []))) in
     ap (λ ms. ms ++ told (entry_lines m.1)) (sym (append-nil marks) ∙ e)
     ∙ (append_assoc P (Asked (events_in now ++ (m.0 ∷ owed)) ∷ told (answers_in now)) (told (entry_lines m.1))
     ∙ (ap (λ ms. P ++ Asked (events_in now ++ (m.0 ∷ owed)) ∷ ms) bs
@@ -238,7 +239,8 @@ transcript_more : (marks : List Mark) (parts : List Trace) (now : Trace)
     → marks ++ told [] ≡ transcript parts ++ Asked (events_in now ++ []) ∷ told (answers_in now)
     → marks ≡ transcript (parts ++ now ∷ [])
 transcript_more marks parts now e =
-    sym (append-nil marks) ∙ (e ∙ (ap (λ es. transcript parts ++ Asked es ∷ told (answers_in now)) (append-nil (events_in now))
+    sym (append-nil marks) ∙ (e ∙ (ap (λ es. transcript parts ++ Asked es ∷ told (answers_in now)) (append-nil
+    (events_in now))
     ∙ (ap (λ ms. transcript parts ++ ms) (sym (append-nil (written now)))
     ∙ sym (transcript_append parts (now ∷ [])))))
 
@@ -381,7 +383,8 @@ finished c marks h s =
 -- a legal log goes on from here: the steps that are missing have right answers
 goes_from : (c : Settings) (marks : List Mark) (h : Holdings Named) (due : List ℕ) (k : Block) (n : ℕ)
     → Held c marks h due (replicate n (events.Step k))
-    → (X : List Mark) × (others : List Trace) × IsLegal c (whole others) × (marks ++ (told due ++ X) ≡ transcript others)
+    → (X : List Mark) × (others : List Trace) × IsLegal c (whole others) × (marks ++ (told due ++ X)
+    ≡ transcript others)
 goes_from c marks h due k n s =
     let T = whole s.parts ++ s.now in
     let owed = replicate n (events.Step k) in

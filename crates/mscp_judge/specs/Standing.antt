@@ -1,6 +1,5 @@
 -- Where a judge stands after some lines of a log that a legal log begins with.
-use Rattle.std.specs.Prelude.{◌≡◌, ◌≢◌, ◌⊎◌, ℕ, ◌+◌, ◌≤◌, List, [], ◌∷◌, ◌++◌, length, drop, replicate}
-use Rattle.mscp_queue.specs.declared.block.Block.{Block}
+use Rattle.std.specs.Prelude.{◌≡◌, ◌⊎◌, ℕ, ◌+◌, List, [], ◌∷◌, ◌++◌, length, drop, replicate}
 use Rattle.mscp_control.specs.declared.event.Event.{Event}
 use Rattle.mscp_control.specs.declared.event.Event.TheVariants as events
 use Rattle.mscp_control.specs.declared.event.Entry.{Entry}
@@ -64,7 +63,8 @@ abbrev pub marked : Log → List Mark
 marked log = Asked [] ∷ log.marks
 
 -- after these marks what is held is that of a trace: of the lines before the last event's, and of that one so far.
--- What is due of its answers wasn't told, and these events aren't answered. Each legal log that begins with the marks, and then
+-- What is due of its answers wasn't told, and these events aren't answered. Each legal log that begins with the marks,
+-- and then
 -- with those ahead, has this trace, and goes on with these events
 pub record Stood (c : Settings) (marks : List Mark) (h : Holdings Named) (due : List ℕ) (owed : List Event)
     (ahead : List Mark) : Type 0 where

@@ -1,4 +1,4 @@
-use Rattle.std.proofs.Common.{length, take, sym, ◌∙◌, true, false}
+use Rattle.std.proofs.Common.{length, take, sym, ◌∙◌}
 use Rattle.std.proofs.lemmas.Bool.{true≢false}
 use Rattle.std.proofs.lemmas.Slice.Eq.{bytes_eq-Decides}
 use Rattle.mscp_judge.proofs.Feeds.{begins_line, line_begins}

@@ -1,7 +1,6 @@
-use Rattle.std.proofs.Common.{◌≢◌, ◌++◌, [], sym, ◌∙◌}
+use Rattle.std.proofs.Common.{◌++◌, sym, ◌∙◌}
 use Rattle.std.proofs.lemmas.Bool.{true≢false}
 use Rattle.std.proofs.lemmas.Result.{err_from_is_err_and}
-use Rattle.mscp_reader.specs.Lexical.{words}
 use Rattle.mscp_reader.specs.Requests.{events_of}
 use Rattle.mscp_text.specs.Lines.{line}
 use Rattle.mscp_judge.specs.Logs.{asking, telling}

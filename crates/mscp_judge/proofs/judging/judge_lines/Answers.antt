@@ -48,7 +48,8 @@ returns-in_err-judge_line g c =
     let i = c.loop-bytes.invariant in
     let p = err_from_is_err_and c.from_residual.result c.from_residual.ensures.1 in
     rw (p.1, p.2)
-    (judged_fault c.args.config c.args.lines.now.number _ i.front c.in-Some.bytes.now (lines c.cut.new.self.rest.now) i.log
+    (judged_fault c.args.config c.args.lines.now.number _ i.front c.in-Some.bytes.now
+    (lines c.cut.new.self.rest.now) i.log
     c.cut.new.self.number c.judge_line.new.judge c.in_err-judge_line.field-0.0
     (i.whole ∙ ap (λ ls. i.front ++ ls) c.in-Some.ensures.line) (omega (arith, i.number, c.in-Some.ensures.counted))
     i.read (stands_open c.args.config i.log c.loop-bytes.judge i.stands)
@@ -112,6 +113,8 @@ returns g c =
       log = i.log;
       read = ap (λ ls. after_lines c.args.lines.now.number nothing ls) all ∙ i.read;
       opens = stands_open c.args.config i.log c.loop-bytes.judge i.stands;
-      wrong = stands_not c.args.config i.log c.loop-bytes.judge i.stands (c.is_settled.ensures.no c.if-is_settled.false);
-      right_there = c.in_ok-right-2.ensures c.args.config i.log (stands_held c.args.config i.log c.loop-bytes.judge i.stands);
+      wrong = stands_not c.args.config i.log c.loop-bytes.judge i.stands
+          (c.is_settled.ensures.no c.if-is_settled.false);
+      right_there = c.in_ok-right-2.ensures c.args.config i.log
+          (stands_held c.args.config i.log c.loop-bytes.judge i.stands);
     }

@@ -1,4 +1,4 @@
-use Rattle.std.proofs.Common.{◌≡◌, ℕ, ◌+◌, ◌≤◌, List, [], ◌∷◌, ◌++◌, length, Ok}
+use Rattle.std.proofs.Common.{◌≡◌, ℕ, ◌+◌, ◌≤◌, List, ◌++◌, length, Ok}
 use Rattle.mscp_reader.specs.Lexical.{lines}
 use Rattle.mscp_judge.specs.Logs.{Log, after_lines, nothing}
 use Rattle.mscp_judge.specs.Standing.{Stands}

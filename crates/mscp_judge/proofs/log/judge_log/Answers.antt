@@ -1,7 +1,5 @@
-use Rattle.std.proofs.Common.{◌≡◌, inl, refl, subst, sym, ◌∙◌, Err, ap, List, ℕ}
+use Rattle.std.proofs.Common.{inl, refl}
 use Rattle.std.proofs.lemmas.Result.{err_from_is_err_and}
-use Rattle.mscp_reader.specs.Grammar.{Begins}
-use Rattle.mscp_reader.specs.Outcome.{rest_outcome}
 use Rattle.mscp_reader.proofs.Sound.{is_fault}
 use Rattle.mscp_judge.proofs.log.judge_log.Goals as goal
 

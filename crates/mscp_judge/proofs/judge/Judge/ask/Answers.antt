@@ -1,4 +1,4 @@
-use Rattle.std.proofs.Common.{refl, ap, sym, ◌∙◌, subst}
+use Rattle.std.proofs.Common.{refl, ◌∙◌, subst}
 use Rattle.std.specs.Prelude.{OnOk}
 use Rattle.mscp_control.specs.declared.event.Event.TheVariants as events
 use Rattle.mscp_queue.specs.declared.block.Block.TheVariants.{Good, Bad}
@@ -12,9 +12,11 @@ returns-in-Send-clause-stands g c =
     let new = c.send.new.self in
     let via = c.in-Send.connection in
     let came = subst (λ b. OnOk c.send.result (Came old.controller.picker old new
-    (events.Send via (record { items = b })))) (c.as_slice.ensures.value ∙ c.write_command.ensures.bytes) c.send.ensures.came
+    (events.Send via (record { items = b })))) (c.as_slice.ensures.value
+    ∙ c.write_command.ensures.bytes) c.send.ensures.came
     in
-    rw c.in-Send.is (asked_one c.send.result old new old.controller.picker _ refl c.requires.settled came c.send.ensures.owed)
+    rw c.in-Send.is (asked_one c.send.result old new old.controller.picker _ refl c.requires.settled came
+    c.send.ensures.owed)
 
 pub returns-in-Packet-clause-stands : goal.returns-in-Packet-clause-stands
 returns-in-Packet-clause-stands g c =

@@ -1,4 +1,4 @@
-use Rattle.std.proofs.Common.{refl, ap, sym, ◌∙◌, subst}
+use Rattle.std.proofs.Common.{subst}
 use Rattle.mscp_judge.specs.Judged.{IsReady}
 use Rattle.mscp_judge.proofs.judge.Judge.hear.Goals as goal
 

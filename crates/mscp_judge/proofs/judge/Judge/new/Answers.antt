@@ -7,5 +7,6 @@ use Rattle.mscp_judge.proofs.judge.Judge.new.Goals as goal
 pub returns-clause-stands : goal.returns-clause-stands
 returns-clause-stands g c =
     stands_new c.args.config _ c.new.ensures.valid
-    (c.new.ensures.fresh ∙ ap (λ p. fresh c.args.config p) c.nobody.ensures) (ap (λ (r : Reported). r.lines) c.new-2.ensures)
+    (c.new.ensures.fresh ∙ ap (λ p. fresh c.args.config p) c.nobody.ensures) (ap (λ
+    (r : Reported). r.lines) c.new-2.ensures)
     (ap (λ (r : Reported). r.count) c.new-2.ensures) refl

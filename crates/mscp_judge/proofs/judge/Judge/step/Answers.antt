@@ -10,7 +10,8 @@ use Rattle.mscp_judge.proofs.judge.Judge.step.Goals as goal
 pub returns-clause-came : goal.returns-clause-came
 returns-clause-came g c =
     let block = c.args.self.now.block in
-    let steps = subst (λ (h : Holdings Named). Steps (IsNamed h.picker) block h c.step-report.result c.step-report.new.self)
+    let steps = subst (λ (h : Holdings Named). Steps
+    (IsNamed h.picker) block h c.step-report.result c.step-report.new.self)
     c.replace_picker.ensures.after c.step-report.ensures.step in
     came_on c.stepped.result c.args.self.now _ c.args.name (events.Step block) (entries.Stepped c.step-report.result)
     c.forget_lines.new.self steps c.forget_lines.ensures c.stepped.ensures refl
