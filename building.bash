@@ -71,6 +71,11 @@ the_program() {
     words=(run) crate=$top/crates/mscpq built=$crate/out/mscpq kept=$top/out/mscpq
     input=$crate/stdin
 }
+the_judge() {
+    what='the judge' minutes='5 minutes on four processors, up to 15'
+    words=run crate=$top/crates/mscpjudge built=$crate/out/mscpjudge kept=$top/out/mscpjudge
+    input=$crate/stdin
+}
 the_library() {
     what='the library' minutes='5 minutes on four processors, up to 10'
     words=(lib) crate=$top/crates/mscp_c built=$crate/out/libmscp_c.a kept=$top/out/libmscp

@@ -111,6 +111,15 @@ impl<K: Picker> Controller<K> {
         self.accounts.clear();
     }
 
+    /// Lets this picker pick from now on, and gives back the one that picked. What was begun stays begun.
+    pub fn replace_picker(&mut self, picker: K) -> K
+        ensures before { result ≡ self.old.picker }
+        ensures after { self.new ≡ record self.old { picker = picker } }
+        ensures account { IsBalanced self.new }
+    {
+        self.queue.replace_picker(picker)
+    }
+
     /// Its settings.
     pub fn config(&self) -> &Config
         ensures value { result.now ≡ self.now.settings }

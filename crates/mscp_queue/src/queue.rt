@@ -33,6 +33,7 @@ use arrayvec::ArrayVec;
 use mscp_drive::Units;
 use mscp_packet::{Command, End, Order};
 use std::marker::Model;
+use std::mem::replace;
 
 /// A command that is to wait, and how many steps it takes.
 #[derive(Clone, Copy, Debug, PartialEq, Eq)]
@@ -143,6 +144,14 @@ impl<K: Picker> Queue<K> {
         renew_drives(self.drives.as_mut_slice());
         self.begun = None;
         self.serving = None;
+    }
+
+    /// Lets this picker pick from now on, and gives back the one that picked. What was begun stays begun.
+    pub fn replace_picker(&mut self, picker: K) -> K
+        ensures before { result ≡ self.old.picker }
+        ensures after { self.new ≡ record self.old { picker = picker } }
+    {
+        replace(&mut self.picker, picker)
     }
 
     /// How many commands wait.

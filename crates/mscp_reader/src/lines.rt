@@ -128,7 +128,7 @@ impl<'a> Lines<'a> {
 
     /// Cuts off the next line: up to a line feed or the end, without a carriage return there.
     #[tactic(auto, using(crate::proofs::Cuts::line_ahead, crate::proofs::Cuts::lines_none))]
-    fn cut(&mut self) -> Option<&'a [u8]>
+    pub fn cut(&mut self) -> Option<&'a [u8]>
         ensures shorter { IfSome result (λ _. length self.new.rest.now < length self.old.rest.now) }
         ensures counted { MatchOption result (self.new.number ≡ self.old.number) (λ _. self.new.number
             ≡ self.old.number + 1) }
@@ -167,7 +167,7 @@ fn without_return(line: &[u8]) -> &[u8]
 }
 
 /// The words of a line of this number, with that number in its fault.
-fn words_of(number: u32, line: &[u8]) -> Result<Words<'_>, ScriptFault>
+pub fn words_of(number: u32, line: &[u8]) -> Result<Words<'_>, ScriptFault>
     requires { 1 ≤ number }
     ensures line { IfErr result (λ fault. 1 ≤ fault.line) }
     ensures words { Gives (λ words. lexical.words words.rest.now) result (in_line number (said_at number line.now)) }

@@ -14,7 +14,8 @@ mod tests;
 mod totals;
 
 pub use crate::choosing::{Deed, LineFault, choose};
-pub use crate::reporting::{report, report_in};
+pub use crate::reading::{ReadAllFault, read_all};
+pub use crate::reporting::{Reporter, report, report_in};
 pub use crate::simulation::{SimFault, simulate, simulate_in};
 pub use crate::stream::{Failed, Sink, Source, Stream};
 pub use mscp_reader::{

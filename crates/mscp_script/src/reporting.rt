@@ -62,6 +62,20 @@ impl<A: Allocator> Reporter<A> {
         self.totals.count
     }
 
+    /// The lines, but for those that were forgotten.
+    pub fn lines(&self) -> &[u8]
+        ensures { result.now ≡ self.now.lines }
+    {
+        &self.out
+    }
+
+    /// Forgets the lines. How many entries were reported, and their totals, stay.
+    pub fn forget_lines(&mut self)
+        ensures { self.new ≡ record self.old { lines = [] } }
+    {
+        self.out.clear();
+    }
+
     /// Reports what became of a message of the connection.
     pub fn sent(
         &mut self,

@@ -1,0 +1,297 @@
+-- What a call leaves, as a judge stands then.
+use Rattle.std.proofs.Common.{◌≡◌, ◌≢◌, ◌⊎◌, inl, inr, ℕ, zero, suc, ◌+◌, ◌-◌, ◌<◌, true, false, List, [], ◌∷◌, ◌++◌, drop, length, replicate, refl, ap, sym, ◌∙◌, subst, arith, length-append, length-drop, drop-drop, append_assoc, append-nil}
+use Rattle.std.specs.Prelude.{OnOk, Result, Ok, Err}
+use Rattle.std.specs.List.{list_all}
+use Rattle.std.proofs.Math.Seq.{drop-append_seam}
+use Rattle.std.proofs.lemmas.List.{length-replicate}
+use Rattle.std.proofs.lemmas.Bool.{and_parts, false≢true}
+use Rattle.mscp_queue.specs.declared.block.Block.{Block}
+use Rattle.mscp_control.specs.declared.event.Event.{Event}
+use Rattle.mscp_control.specs.declared.event.Event.TheVariants as events
+use Rattle.mscp_control.specs.declared.event.Entry.{Entry}
+use Rattle.mscp_control.specs.declared.event.Entry.TheVariants as entries
+use Rattle.mscp_control.specs.declared.memory.OutOfMemory.{OutOfMemory}
+use Rattle.mscp_control.specs.Settings.{IsValid, Settings}
+use Rattle.mscp_control.specs.History.{Trace, is_step}
+use Rattle.mscp_control.specs.Holdings.{Answers, Holdings, fresh}
+use Rattle.mscp_control.specs.Legal.{IsLegal}
+use Rattle.mscp_reader.specs.Lexical.{is_printed, words}
+use Rattle.mscp_script.specs.Text.{Reported, entry_lines, with_entry}
+use Rattle.mscp_judge.specs.declared.judge.Judge.{Judge}
+use Rattle.mscp_judge.specs.declared.naming.Named.{Named}
+use Rattle.mscp_judge.specs.Judged.{IsAhead}
+use Rattle.mscp_judge.specs.Logs.{Asked, IsRightThere, Log, Mark, MayGoOn, IsLegalLog, asking, events_in, nothing, telling, told, transcript, whole}
+use Rattle.mscp_judge.specs.Naming.{IsNamed, name_in, nobody}
+use Rattle.mscp_judge.specs.Standing.{BeginsWith, Came, Held, IsHeld, IsSettled, Stands, Stood, due, marked, owed, with_picker}
+use Rattle.mscp_judge.proofs.Feeds.{NoFeed, some_none, step_ends}
+use Rattle.mscp_judge.proofs.Marks.{asked_parts, goes_on, is_legal_log, is_whole, lead, may_go_on}
+use Rattle.mscp_judge.proofs.Standing.{ahead_of, all_told, event_on, finished, held_of, no_step, opens, opens_with, refused, step_held, step_on, steps_on, told_on, unasked}
+
+-- ---- an event
+
+-- an answer that is reported, where memory may have been wanted
+pub came_on : {A : Type 0} (r : Result (Unit {0}) OutOfMemory) (old new : Judge A) (name : Named) (event : Event)
+    (entry : Entry) (mid : Reported) → Answers (IsNamed name)
+    (with_picker old.controller name) event entry new.controller
+    → mid ≡ record old.reporter { lines = [] } → OnOk r (new.reporter ≡ with_entry mid entry) → new.told ≡ 0
+    → OnOk r (Came name old new event)
+came_on (Ok x) old new name event entry mid a m e z =
+    record {
+      entry = entry;
+      answers = a;
+      due = ap (λ n. drop n new.reporter.lines) z ∙ (ap (λ (q : Reported). q.lines) e
+          ∙ ap (λ (q : Reported). q.lines ++ entry_lines entry) m);
+      count = ap (λ (q : Reported). q.count) e ∙ ap (λ (q : Reported). q.count + 1) m;
+    }
+came_on (Err x) old new name event entry mid a m e z = tt
+
+-- ---- a new judge
+
+pub stands_new : {A : Type 0} (c : Settings) (judge : Judge A) → IsValid c → judge.controller ≡ fresh c nobody
+    → due judge ≡ [] → judge.reporter.count ≡ 0 → judge.owed ≡ 0 → Stands c nothing judge
+stands_new {A} c judge v e d n o =
+    let only : (others : List Trace) (more : List Mark) → IsLegal c (whole others)
+    → Asked [] ∷ more ≡ transcript others
+    → (next : Trace) × (rest : List Trace) × (events_in next ≡ []) × (others ≡ next ∷ rest) =
+    λ others more l f. let p = asked_parts [] more others f in (p.0, p.1, p.3, p.2) in
+    let stood : Stood c (marked nothing) (fresh c nobody) [] [] [] = record {
+      parts = [];
+      now = [];
+      begun = nobody;
+      valid = v;
+      led = refl;
+      said = refl;
+      ends = inl refl;
+      only = only;
+    } in
+    record {
+      stood = subst (λ (h : Holdings Named). Stood c (marked nothing) h (due judge) (owed judge) []) (sym e)
+          (subst (λ bs. Stood c (marked nothing) (fresh c nobody) bs (owed judge) []) (sym d)
+          (subst (λ es. Stood c (marked nothing) (fresh c nobody) [] es [])
+          (ap (λ k. replicate k (events.Step judge.block)) (sym o)) stood));
+      count = omega (arith, n, o);
+    }
+
+-- ---- a line that asks
+
+-- where all is answered and told
+pub settled_stood : {A : Type 0} (c : Settings) (log : Log) (judge : Judge A) → Stands c log judge → IsSettled judge
+    → Stood c (marked log) judge.controller [] [] []
+settled_stood c log judge s q =
+    subst (λ es. Stood c (marked log) judge.controller [] es [])
+    (ap (λ k. replicate k (events.Step judge.block)) q.answered)
+    (subst (λ bs. Stood c (marked log) judge.controller bs (owed judge) []) q.told s.stood)
+
+pub asked_one : {A : Type 0} (r : Result (Unit {0}) OutOfMemory) (old new : Judge A) (name : Named) (event : Event)
+    → is_step event ≡ false → IsSettled old → OnOk r (Came name old new event) → new.owed ≡ old.owed
+    → OnOk r ((c : Settings) (log : Log) → Stands c log old
+    → Stands c (asking log (event ∷ []) (log.events ++ event ∷ [])) new)
+asked_one {A} (Ok x) old new name event o q came w =
+    λ c log s.
+    let marks = marked (asking log (event ∷ []) (log.events ++ event ∷ [])) in
+    let none : new.owed ≡ 0 = w ∙ q.answered in
+    let stood : Stood c marks new.controller (entry_lines came.entry) [] [] =
+    event_on c (marked log) old.controller new.controller name event came.entry o (settled_stood c log old s q)
+    came.answers in
+    record {
+      stood = subst (λ bs. Stood c marks new.controller bs (owed new) []) (sym came.due)
+          (subst (λ es. Stood c marks new.controller (entry_lines came.entry) es [])
+          (ap (λ k. replicate k (events.Step new.block)) (sym none)) stood);
+      count = omega (arith, length-append log.events (event ∷ []), s.count, came.count, w, q.answered);
+    }
+asked_one (Err x) old new name event o q came w = tt
+
+pub asked_steps : {A : Type 0} (old new : Judge A) (n : ℕ) (k : Block) → IsSettled old
+    → new.controller ≡ old.controller → new.reporter ≡ old.reporter → new.told ≡ old.told → new.owed ≡ n
+    → new.block ≡ k → (c : Settings) (log : Log) → Stands c log old
+    → Stands c (asking log (replicate n (events.Step k)) (log.events ++ replicate n (events.Step k))) new
+asked_steps {A} old new n k q h r t w b c log s =
+    let es = replicate n (events.Step k) in
+    let marks = marked (asking log es (log.events ++ es)) in
+    let none : due new ≡ [] = ap (λ (p : Reported). drop new.told p.lines) r
+    ∙ (ap (λ i. drop i old.reporter.lines) t ∙ q.told) in
+    let same : es ≡ owed new = λ i. replicate (sym w i) (events.Step (sym b i)) in
+    let stood : Stood c marks old.controller [] es [] =
+    steps_on c (marked log) old.controller es (settled_stood c log old s q) in
+    record {
+      stood = subst (λ (g : Holdings Named). Stood c marks g (due new) (owed new) []) (sym h)
+          (subst (λ bs. Stood c marks old.controller bs (owed new) []) (sym none)
+          (subst (λ xs. Stood c marks old.controller [] xs []) same stood));
+      count = omega (
+        arith,
+        length-append log.events es,
+        length-replicate n (events.Step k),
+        s.count,
+        ap (λ (p : Reported). p.count) r,
+        w,
+        q.answered,
+      );
+    }
+
+-- a line asks, and something is due or missing
+pub too_early : {A : Type 0} (c : Settings) (log : Log) (judge : Judge A) (es all : List Event) → Stands c log judge
+    → ¬ (IsSettled judge) → ¬ (MayGoOn c (asking log es all).marks)
+too_early {A} c log judge es all s not_it g =
+    let p = goes_on c (asking log es all).marks g in
+    let more = Asked es ∷ p.0 in
+    let e = sym (append_assoc (marked log) (Asked es ∷ []) p.0) ∙ p.3 in
+    let none = all_told c (marked log) judge.controller (due judge) (owed judge) s.stood p.1 more p.2 e refl in
+    not_it (record { told = none; answered = zero_owed judge.owed refl p.1 more p.2 e refl })
+  where
+    zero_owed : (n : ℕ) → judge.owed ≡ n → (others : List Trace) (more : List Mark) → IsLegal c (whole others)
+        → marked log ++ more ≡ transcript others → lead more ≡ [] → judge.owed ≡ 0
+    zero_owed zero z others more l e none = z
+    zero_owed (suc n) z others more l e none =
+        absurd (no_step c (marked log) judge.controller (due judge) judge.block (replicate n (events.Step judge.block))
+        (subst (λ k. Stood c (marked log) judge.controller (due judge) (replicate k (events.Step judge.block)) []) z
+        s.stood) others more l e none)
+
+-- ---- a line that tells
+
+printed_fed : (bytes : List ℕ) → list_all is_printed bytes ≡ true → NoFeed bytes
+printed_fed [] h = tt
+printed_fed (b ∷ bytes) h =
+    let p = and_parts (is_printed b) (list_all is_printed bytes) h in
+    ((λ e. false≢true (sym (ap is_printed e) ∙ p.0)), printed_fed bytes p.1)
+
+pub ready_due : {A : Type 0} (c : Settings) (log : Log) (line : List ℕ) (judge : Judge A) → Stands c log judge
+    → due judge ≢ [] → IsAhead c log line judge
+ready_due c log line judge s some = record {
+  stood = ahead_of c (marked log) judge.controller (due judge) (owed judge) (told (line ++ 10 ∷ [])) s.stood;
+  some =
+      some;
+  count = s.count;
+}
+
+step_lined : (name : Named) (h h' : Holdings Named) (k : Block) (entry : Entry)
+    → Answers (IsNamed name) h (events.Step k) entry h' → entry_lines entry ≢ []
+step_lined name h h' k (entries.Stepped report) a e = let f = step_ends report in some_none f.0 10 [] (sym f.1 ∙ e)
+step_lined name h h' k (entries.Sent x y) a e = absurd a
+step_lined name h h' k (entries.Taken x y) a e = absurd a
+step_lined name h h' k (entries.Looked x) a e = absurd a
+
+pub ready_step : {A : Type 0} (c : Settings) (log : Log) (line : List ℕ) (ws : List (List ℕ)) (old new : Judge A)
+    → ws ≡ words line → Stands c log old → due old ≡ [] → 0 < old.owed
+    → Came (name_in ws) old new (events.Step old.block) → new.owed ≡ old.owed - 1 → new.block ≡ old.block
+    → IsAhead c log line new
+ready_step {A} c log line ws old new same s none some came w b =
+    let n = new.owed in
+    let k = old.block in
+    let more : old.owed ≡ suc n = omega (arith, some, w) in
+    let before : Stood c (marked log) old.controller [] (events.Step k ∷ replicate n (events.Step k)) [] =
+    subst (λ i. Stood c (marked log) old.controller [] (replicate i (events.Step k)) []) more
+    (subst (λ bs. Stood c (marked log) old.controller bs (owed old) []) none s.stood) in
+    let a = subst (λ xs. Answers (IsNamed (name_in xs)) (with_picker old.controller (name_in xs)) (events.Step k)
+    came.entry new.controller) same came.answers in
+    let stood = step_on c (marked log) old.controller new.controller k (replicate n
+    (events.Step k)) line came.entry before
+    a in
+    record {
+      stood = subst (λ bs. Stood c (marked log) new.controller bs (owed new) (told (line ++ 10 ∷ []))) (sym came.due)
+          (subst (λ j. Stood c (marked log) new.controller (entry_lines came.entry) (replicate n (events.Step j))
+          (told (line ++ 10 ∷ []))) (sym b) stood);
+      some = λ e. step_lined (name_in ws) (with_picker old.controller (name_in ws)) new.controller k came.entry
+          came.answers (sym came.due ∙ e);
+      count = omega (arith, s.count, came.count, more);
+    }
+
+pub ready_not : {A : Type 0} (c : Settings) (log : Log) (line : List ℕ) (judge : Judge A) → Stands c log judge
+    → IsSettled judge → ¬ (MayGoOn c (telling log (line ++ 10 ∷ [])).marks)
+ready_not c log line judge s q g =
+    unasked c (marked log) judge.controller line (settled_stood c log judge s q)
+    (goes_on c (telling log (line ++ 10 ∷ [])).marks g)
+
+pub told_not : {A : Type 0} (c : Settings) (log : Log) (line : List ℕ) (judge : Judge A) → IsAhead c log line judge
+    → list_all is_printed line ≡ true → ¬ (BeginsWith (due judge) line)
+    → ¬ (MayGoOn c (telling log (line ++ 10 ∷ [])).marks)
+told_not c log line judge s printed not_it g =
+    refused c (marked log) judge.controller (due judge) (owed judge) line s.stood s.some
+    (printed_fed line printed) not_it
+    (goes_on c (telling log (line ++ 10 ∷ [])).marks g)
+
+pub told_so : {A : Type 0} (c : Settings) (log : Log) (line : List ℕ) (old new : Judge A) → IsAhead c log line old
+    → (begins : BeginsWith (due old) line) → new.controller ≡ old.controller → new.reporter ≡ old.reporter
+    → new.owed ≡ old.owed → new.block ≡ old.block → due new ≡ begins.0
+    → Stands c (telling log (line ++ 10 ∷ [])) new
+told_so {A} c log line old new s begins h r w b d =
+    let marks = marked (telling log (line ++ 10 ∷ [])) in
+    let stood : Stood c marks old.controller begins.0 (owed old) [] =
+    told_on c (marked log) old.controller (due old) (owed old) line begins.0 s.stood begins.1 in
+    let same : owed old ≡ owed new = λ i. replicate (sym w i) (events.Step (sym b i)) in
+    record {
+      stood = subst (λ (g : Holdings Named). Stood c marks g (due new) (owed new) []) (sym h)
+          (subst (λ bs. Stood c marks old.controller bs (owed new) []) (sym d)
+          (subst (λ es. Stood c marks old.controller begins.0 es []) same stood));
+      count = omega (arith, s.count, ap (λ (p : Reported). p.count) r, w);
+    }
+
+-- what is due behind a line that was told
+pub left_due : (lines line rest : List ℕ) (start place : ℕ) → drop start lines ≡ line ++ 10 ∷ rest
+    → place ≡ length lines - (length (drop start lines) - length line - 1) → drop place lines ≡ rest
+left_due lines line rest start place e p =
+    let long = ap length e ∙ length-append line (10 ∷ rest) in
+    let here : place ≡ start + (length line + 1) = omega (arith, p, long, length-drop start lines) in
+    let behind : drop (length line + 1) (line ++ 10 ∷ rest) ≡ rest =
+    ap (drop (length line + 1)) (sym (append_assoc line (10 ∷ []) rest))
+    ∙ (ap (λ n. drop n ((line ++ 10 ∷ []) ++ rest)) (sym (length-append line (10 ∷ [])))
+    ∙ drop-append_seam (line ++ 10 ∷ []) rest) in
+    ap (λ n. drop n lines) here ∙ (sym (drop-drop (length line + 1) start lines) ∙ (ap (drop (length line + 1)) e
+    ∙ behind))
+
+-- ---- what would have been right
+
+pub stands_held : {A : Type 0} (c : Settings) (log : Log) (judge : Judge A) → Stands c log judge → IsHeld c log judge
+stands_held c log judge s = held_of c (marked log) judge.controller (due judge) (owed judge) [] s.stood
+
+pub ahead_held : {A : Type 0} (c : Settings) (log : Log) (line : List ℕ) (judge : Judge A) → IsAhead c log line judge
+    → IsHeld c log judge
+ahead_held c log line judge s =
+    held_of c (marked log) judge.controller (due judge) (owed judge) (told (line ++ 10 ∷ [])) s.stood
+
+pub right_due : {A : Type 0} (c : Settings) (log : Log) (judge : Judge A) (text : List ℕ) → IsHeld c log judge
+    → (text ≡ []) ⊎ BeginsWith (due judge) text → IsRightThere c log text
+right_due c log judge text s (inl e) = inl e
+right_due c log judge text s (inr b) = inr (may_go_on c (telling log (text ++ 10 ∷ [])).marks
+    (opens_with c (marked log) judge.controller (due judge) judge.block judge.owed text s b))
+
+pub right_step : {A : Type 0} (c : Settings) (log : Log) (name : Named) (old new : Judge A) → IsHeld c log old
+    → due old ≡ [] → 0 < old.owed → Came name old new (events.Step old.block) → new.owed ≡ old.owed - 1
+    → new.block ≡ old.block → IsHeld c log new
+right_step {A} c log name old new s none some came w b =
+    let n = new.owed in
+    let k = old.block in
+    let more : old.owed ≡ suc n = omega (arith, some, w) in
+    let before : Held c (marked log) old.controller [] (events.Step k ∷ replicate n (events.Step k)) =
+    subst (λ i. Held c (marked log) old.controller [] (replicate i (events.Step k))) more
+    (subst (λ bs. Held c (marked log) old.controller bs (owed old)) none s) in
+    let after = step_held c (marked log) old.controller new.controller k (replicate n (events.Step k)) name came.entry
+    before came.answers in
+    subst (λ bs. Held c (marked log) new.controller bs (owed new)) (sym came.due)
+    (subst (λ j. Held c (marked log) new.controller (entry_lines came.entry) (replicate n (events.Step j)))
+    (sym b) after)
+
+-- ---- the whole
+
+pub stands_open : {A : Type 0} (c : Settings) (log : Log) (judge : Judge A) → Stands c log judge → MayGoOn c log.marks
+stands_open c log judge s = may_go_on c log.marks
+    (opens c (marked log) judge.controller (due judge) judge.block judge.owed (stands_held c log judge s))
+
+pub stands_legal : {A : Type 0} (c : Settings) (log : Log) (judge : Judge A) → Stands c log judge → IsSettled judge
+    → IsLegalLog c log.marks
+stands_legal c log judge s q =
+    is_legal_log c log.marks (finished c (marked log) judge.controller (settled_stood c log judge s q))
+
+pub stands_not : {A : Type 0} (c : Settings) (log : Log) (judge : Judge A) → Stands c log judge → ¬ (IsSettled judge)
+    → ¬ (IsLegalLog c log.marks)
+stands_not {A} c log judge s not_it g =
+    let p = is_whole c log.marks g in
+    let e : marked log ++ [] ≡ transcript p.0 = append-nil (marked log) ∙ p.2 in
+    let none = all_told c (marked log) judge.controller (due judge) (owed judge) s.stood p.0 [] p.1 e refl in
+    not_it (record { told = none; answered = zero_owed judge.owed refl e })
+  where
+    zero_owed : (n : ℕ) → judge.owed ≡ n → marked log ++ [] ≡ transcript (is_whole c log.marks g).0 → judge.owed ≡ 0
+    zero_owed zero z e = z
+    zero_owed (suc n) z e =
+        absurd (no_step c (marked log) judge.controller (due judge) judge.block (replicate n (events.Step judge.block))
+        (subst (λ k. Stood c (marked log) judge.controller (due judge) (replicate k (events.Step judge.block)) []) z
+        s.stood) (is_whole c log.marks g).0 [] (is_whole c log.marks g).1 e refl)

@@ -1,0 +1,9 @@
+mod Feeds
+mod Unique
+mod Spoken
+mod Leading
+mod Marks
+mod Existing
+mod Standing
+mod Reading
+mod Coming

@@ -1,0 +1,149 @@
+-- The line of a step says which command was served.
+use Rattle.std.proofs.Common.{◌≡◌, ◌≢◌, ◌==◌, ℕ, ◌<◌, ◌≤◌, ◌^◌, true, not, List, [], ◌∷◌, ◌++◌, length, refl, ap, sym, ◌∙◌, arith, append_assoc}
+use Rattle.std.specs.Prelude.{codes, nat_le, Ok, Option}
+use Rattle.std.specs.Fmt.{decimal}
+use Rattle.std.specs.List.{list_all}
+use Rattle.std.specs.Str.Parse.{AllDigits}
+use Rattle.std.specs.Char.{digit_value}
+use Rattle.std.proofs.lemmas.Bool.Decides.{nat_tests}
+use Rattle.std.proofs.lemmas.Bool.{and_from, and_parts, false≢true, le-leb}
+use Rattle.std.proofs.lemmas.Fmt.{decimal_is_IsNumeral}
+use Rattle.std.proofs.lemmas.Str.Parse.{digit_from_value}
+use Rattle.mscp_packet.specs.declared.end.End.{End}
+use Rattle.mscp_queue.specs.declared.name.Connection.{Connection}
+use Rattle.mscp_queue.specs.declared.name.Connection.TheVariants.{First, Second}
+use Rattle.mscp_queue.specs.declared.report.Report.{Report}
+use Rattle.mscp_queue.specs.declared.report.Report.TheVariants.{Idle, Served}
+use Rattle.mscp_queue.specs.Names.{name_on}
+use Rattle.mscp_queue.proofs.Lists.{every_append}
+use Rattle.mscp_reader.specs.Lexical.{is_digit, number, wide, words}
+use Rattle.mscp_reader.proofs.Digits.{few_digits}
+use Rattle.mscp_reader.proofs.PlainLines.{AllSolid, solid_digits, word_front}
+use Rattle.mscp_script.specs.Text.{block_word, connection_word, ended_part, step_line}
+use Rattle.mscp_judge.specs.Naming.{name_in, name_of, numbered, served}
+use Rattle.mscp_judge.proofs.Feeds.{NoFeed, front_of}
+use Rattle.mscp_judge.proofs.Unique.{Says}
+
+-- ---- a number
+
+digit_byte : (b : ℕ) → digit_value b < 10 → is_digit b ≡ true
+digit_byte b h =
+    let r = digit_from_value b h in
+    let low : 48 ≤ b = r.0 in
+    let high : b ≤ 57 = r.1 in
+    grind (arith, nat_tests)
+
+digit_bytes : (ds : List ℕ) → AllDigits 10 ds → list_all is_digit ds ≡ true
+digit_bytes [] h = refl
+digit_bytes (d ∷ ds) h = and_from _ _ (digit_byte d h.0) (digit_bytes ds h.1)
+
+digits_fed : (ds : List ℕ) → list_all is_digit ds ≡ true → NoFeed ds
+digits_fed [] h = tt
+digits_fed (d ∷ ds) h =
+    let p = and_parts (is_digit d) (list_all is_digit ds) h in
+    ((λ e. false≢true (sym (ap is_digit e) ∙ p.0)), digits_fed ds p.1)
+
+-- literal words have no line feed
+fed_literal : (bytes : List ℕ) → list_all (λ b. not (b == 10)) bytes ≡ true → NoFeed bytes
+fed_literal [] h = tt
+fed_literal (b ∷ bytes) h =
+    let p = and_parts (not (b == 10)) (list_all (λ b. not (b == 10)) bytes) h in
+    ((λ e. false≢true (sym (ap (λ x. not (x == 10)) e) ∙ p.0)), fed_literal bytes p.1)
+
+decimal_digits : (n : ℕ) → n < 2 ^ 32 → list_all is_digit (decimal n) ≡ true
+decimal_digits n h = digit_bytes (decimal n) (decimal_is_IsNumeral n (omega (arith, h))).0.1
+
+some_digits : (n : ℕ) → n < 2 ^ 32 → 0 < length (decimal n)
+some_digits n h = (decimal_is_IsNumeral n (omega (arith, h))).0.0
+
+-- the number of the word that a number is written as
+wide_decimal : (n : ℕ) → n < 2 ^ 32 → wide (decimal n) ≡ Ok n
+unfolding number
+wide_decimal n h =
+    let some : nat_le 1 (length (decimal n)) ≡ true = le-leb 1 (length (decimal n)) (omega (arith, some_digits n h)) in
+    let few : nat_le (length (decimal n)) 10 ≡ true = le-leb (length (decimal n)) 10 (few_digits n h) in
+    let all = decimal_digits n h in
+    let value = (decimal_is_IsNumeral n (omega (arith, h))).1 in
+    let most : nat_le n 4294967295 ≡ true = le-leb n 4294967295 (omega (arith, h)) in
+    rw (some, few, all, value, most) refl
+
+-- ---- the words of a line
+
+after_space : (bytes : List ℕ) → words (32 ∷ bytes) ≡ words bytes
+unfolding words
+after_space bytes = refl
+
+-- the words of a line that begins with a word and a number
+two_words : (word bytes : List ℕ) (n : ℕ) → n < 2 ^ 32 → 0 < length word → AllSolid word
+    → words (word ++ (32 ∷ (decimal n ++ (32 ∷ bytes)))) ≡ word ∷ decimal n ∷ words (32 ∷ bytes)
+two_words word bytes n h some solid =
+    word_front word (32 ∷ (decimal n ++ (32 ∷ bytes))) some solid refl
+    ∙ ap (λ ws. word ∷ ws) (after_space (decimal n ++ (32 ∷ bytes))
+    ∙ word_front (decimal n) (32 ∷ bytes) (some_digits n h) (solid_digits (decimal n) (decimal_digits n h)) refl)
+
+first_name : (n : ℕ) (rest : List (List ℕ)) → n < 2 ^ 32
+    → name_of (name_in (codes "serve" ∷ decimal n ∷ rest)) ≡ name_on First n
+unfolding name_in served
+first_name n rest h = ap (λ r. name_of (numbered First r)) (wide_decimal n h)
+
+second_name : (n : ℕ) (rest : List (List ℕ)) → n < 2 ^ 32
+    → name_of (name_in (codes "second" ∷ codes "serve" ∷ decimal n ∷ rest)) ≡ name_on Second n
+unfolding name_in served
+second_name n rest h = ap (λ r. name_of (numbered Second r)) (wide_decimal n h)
+
+-- ---- the line of a step
+
+-- what the line of a step begins with
+abbrev head : Connection → ℕ → List ℕ
+head via n = connection_word via ++ (codes "serve " ++ (decimal n ++ (32 ∷ [])))
+
+-- and what follows
+abbrev tail : ℕ → Option ℕ → ℕ → Option End → List ℕ
+tail unit lbn seek ended =
+    codes "unit " ++ (decimal unit ++ (codes " block " ++ (block_word lbn ++ (codes " seek " ++ (decimal seek
+    ++ (ended_part ended ++ (10 ∷ [])))))))
+
+served_words : (n unit : ℕ) (lbn : Option ℕ) (seek : ℕ) (ended : Option End)
+    → (codes "serve " ++ decimal n ++ codes " unit " ++ decimal unit ++ codes " block "
+    ++ block_word lbn ++ codes " seek " ++ decimal seek ++ ended_part ended) ++ 10 ∷ []
+    ≡ (codes "serve " ++ (decimal n ++ (32 ∷ []))) ++ tail unit lbn seek ended
+served_words n unit lbn seek ended = simp append_assoc refl
+
+first_fed : (n : ℕ) → n < 2 ^ 32 → NoFeed (head First n)
+first_fed n h =
+    every_append (λ b. b ≢ 10) (codes "serve ") (decimal n ++ (32 ∷ [])) (fed_literal (codes "serve ") refl)
+    (every_append (λ b. b ≢ 10) (decimal n) (32 ∷ []) (digits_fed (decimal n) (decimal_digits n h))
+    (fed_literal (32 ∷ []) refl))
+
+head_fed : (via : Connection) (n : ℕ) → n < 2 ^ 32 → NoFeed (head via n)
+head_fed First n h = first_fed n h
+head_fed Second n h =
+    every_append (λ b. b ≢ 10) (codes "second ") (head First n) (fed_literal (codes "second ") refl) (first_fed n h)
+
+-- the words of a line that begins so
+says_front : (via : Connection) (n : ℕ) (more : List ℕ) → n < 2 ^ 32
+    → name_of (name_in (words (head via n ++ more))) ≡ name_on via n
+says_front First n more h =
+    ap (λ xs. name_of (name_in (words (codes "serve " ++ xs)))) (append_assoc (decimal n) (32 ∷ []) more)
+    ∙ (ap (λ ws. name_of (name_in ws)) (two_words (codes "serve") more n h (omega arith) refl)
+    ∙ first_name n (words (32 ∷ more)) h)
+says_front Second n more h =
+    ap (λ xs. name_of (name_in (words (codes "second serve " ++ xs)))) (append_assoc (decimal n) (32 ∷ []) more)
+    ∙ (ap (λ ws. name_of (name_in ws)) (word_front (codes "second")
+    (32 ∷ (codes "serve" ++ (32 ∷ (decimal n ++ (32 ∷ more))))) (omega arith) refl refl
+    ∙ ap (λ ws. codes "second" ∷ ws) (after_space (codes "serve" ++ (32 ∷ (decimal n ++ (32 ∷ more))))
+    ∙ two_words (codes "serve") more n h (omega arith) refl))
+    ∙ second_name n (words (32 ∷ more)) h)
+
+-- A line that goes on as that of a step says the name of the command.
+pub line_says : (line X Y : List ℕ) (report : Report) → line ++ 10 ∷ X ≡ step_line report ++ Y
+    → Says (name_in (words line)) report
+line_says line X Y Idle e = tt
+line_says line X Y (Served via n unit lbn started seek ended) e = λ h.
+    let whole : step_line (Served via n unit lbn started seek ended) ≡ head via n ++ tail unit lbn seek ended =
+    ap (λ xs. connection_word via ++ xs) (served_words n unit lbn seek ended)
+    ∙ sym (append_assoc (connection_word via) (codes "serve " ++ (decimal n ++ (32 ∷ [])))
+    (tail unit lbn seek ended)) in
+    let f = front_of line X (head via n) (tail unit lbn seek ended ++ Y) (head_fed via n h)
+    (e ∙ (ap (λ xs. xs ++ Y) whole ∙ append_assoc (head via n) (tail unit lbn seek ended) Y)) in
+    ap (λ xs. name_of (name_in (words xs))) f.1 ∙ says_front via n f.0 h

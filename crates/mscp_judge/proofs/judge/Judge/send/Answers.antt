@@ -1,0 +1,11 @@
+use Rattle.std.proofs.Common.{refl}
+use Rattle.mscp_control.specs.declared.event.Entry.TheVariants as entries
+use Rattle.mscp_control.specs.declared.event.Event.TheVariants as events
+use Rattle.mscp_judge.proofs.Coming.{came_on}
+use Rattle.mscp_judge.proofs.judge.Judge.send.Goals as goal
+
+pub returns-clause-came : goal.returns-clause-came
+returns-clause-came g c = came_on c.sent.result c.args.self.now _ c.args.self.now.controller.picker
+    (events.Send c.args.connection (record { items = c.args.message.now }))
+    (entries.Sent c.args.connection c.send-sent.result) c.forget_lines.new.self
+    (refl, c.send-sent.ensures.answer, c.send-sent.ensures.after) c.forget_lines.ensures c.sent.ensures refl

@@ -1,0 +1,10 @@
+use Rattle.std.proofs.Common.{refl}
+use Rattle.mscp_control.specs.declared.event.Entry.TheVariants as entries
+use Rattle.mscp_control.specs.declared.event.Event.TheVariants as events
+use Rattle.mscp_judge.proofs.Coming.{came_on}
+use Rattle.mscp_judge.proofs.judge.Judge.take.Goals as goal
+
+pub returns-clause-came : goal.returns-clause-came
+returns-clause-came g c = came_on c.taken.result c.args.self.now _ c.args.self.now.controller.picker
+    (events.Take c.args.connection) (entries.Taken c.args.connection c.take-end.result) c.forget_lines.new.self
+    (refl, c.take-end.ensures.answer, c.take-end.ensures.after) c.forget_lines.ensures c.taken.ensures refl

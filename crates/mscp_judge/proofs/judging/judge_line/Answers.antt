@@ -1,0 +1,75 @@
+use Rattle.std.proofs.Common.{◌++◌, sym, ◌∙◌}
+use Rattle.std.proofs.lemmas.Bool.{true≢false}
+use Rattle.std.proofs.lemmas.Result.{err_from_is_err_and}
+use Rattle.mscp_reader.specs.Requests.{events_of}
+use Rattle.mscp_text.specs.Lines.{line}
+use Rattle.mscp_judge.specs.Logs.{asking, telling}
+use Rattle.mscp_judge.proofs.Coming.{stands_held, too_early}
+use Rattle.mscp_judge.proofs.Reading.{asks, asks_wrong, says_words, skipped, tells, wrong_words}
+use Rattle.mscp_judge.proofs.judging.judge_line.Goals as goal
+
+pub returns-in_err-words-clause-hears : goal.returns-in_err-words-clause-hears
+returns-in_err-words-clause-hears g c =
+    let p = err_from_is_err_and c.from_residual.result c.from_residual.ensures.1 in
+    rw (p.1, p.2) (λ d log s. wrong_words c.args.number log c.args.bytes.now c.in_err-words.field-0.0
+    c.in_err-words.ensures.words)
+
+pub returns-then-is_empty-clause-hears : goal.returns-then-is_empty-clause-hears
+returns-then-is_empty-clause-hears g c = λ d log s. (
+  log,
+  skipped c.args.number log c.args.bytes.now _ c.in_ok-words.ensures.words (c.is_empty.ensures.0 c.if-is_empty.true),
+  s,
+)
+
+pub hear-requires-clause-words : goal.hear-requires-clause-words
+hear-requires-clause-words g c =
+    (says_words c.args.number c.args.bytes.now _ c.in_ok-words.ensures.words
+    (λ e. true≢false (sym (c.is_empty.ensures.1 e) ∙ c.if-is_empty.false))).0
+
+pub hear-requires-clause-printed : goal.hear-requires-clause-printed
+hear-requires-clause-printed g c =
+    (says_words c.args.number c.args.bytes.now _ c.in_ok-words.ensures.words
+    (λ e. true≢false (sym (c.is_empty.ensures.1 e) ∙ c.if-is_empty.false))).1
+
+pub returns-then-is_answer-clause-hears : goal.returns-then-is_answer-clause-hears
+returns-then-is_answer-clause-hears g c = λ d log s. (
+  telling log (line c.args.bytes.now),
+  tells c.args.number log c.args.bytes.now _ c.in_ok-words.ensures.words
+      (λ e. true≢false (sym (c.is_empty.ensures.1 e) ∙ c.if-is_empty.false))
+      (sym c.is_answer.ensures ∙ c.if-is_answer.true),
+  c.in_ok-hear.ensures.tells d log s,
+)
+
+pub returns-in_err-request-clause-hears : goal.returns-in_err-request-clause-hears
+returns-in_err-request-clause-hears g c =
+    let p = err_from_is_err_and c.from_residual-in_err-request.result c.from_residual-in_err-request.ensures.1 in
+    rw (p.1, p.2) (λ d log s.
+    asks_wrong c.args.number log c.args.bytes.now _ d c.in_err-request.field-0.0 c.in_ok-words.ensures.words
+    (λ e. true≢false (sym (c.is_empty.ensures.1 e) ∙ c.if-is_empty.false))
+    (sym c.is_answer.ensures ∙ c.if-is_answer.false)
+    (c.in_err-request.ensures.next d log.events (s.count ∙ sym c.count.ensures)))
+
+pub returns-then-not-is_settled-clause-hears : goal.returns-then-not-is_settled-clause-hears
+returns-then-not-is_settled-clause-hears g c = λ d log s.
+    let new = events_of c.in_ok-request.request in (
+      asking log new (log.events ++ new),
+      asks c.args.number log c.args.bytes.now _ d new c.in_ok-words.ensures.words
+          (λ e. true≢false (sym (c.is_empty.ensures.1 e) ∙ c.if-is_empty.false))
+          (sym c.is_answer.ensures ∙ c.if-is_answer.false)
+          (c.in_ok-request.ensures.next d log.events (s.count ∙ sym c.count.ensures)),
+      (
+        too_early d log c.args.judge.now new (log.events ++ new) s (c.is_settled.ensures.no c.if-not-is_settled.true),
+        stands_held d log c.args.judge.now s,
+      ),
+    )
+
+pub returns-clause-hears : goal.returns-clause-hears
+returns-clause-hears g c = λ d log s.
+    let new = events_of c.in_ok-request.request in (
+      asking log new (log.events ++ new),
+      asks c.args.number log c.args.bytes.now _ d new c.in_ok-words.ensures.words
+          (λ e. true≢false (sym (c.is_empty.ensures.1 e) ∙ c.if-is_empty.false))
+          (sym c.is_answer.ensures ∙ c.if-is_answer.false)
+          (c.in_ok-request.ensures.next d log.events (s.count ∙ sym c.count.ensures)),
+      c.in_ok-ask.ensures.stands d log s,
+    )

@@ -1,0 +1,120 @@
+use Rattle.std.proofs.Common.{◌≡◌, ℕ, ◌+◌, List, [], ◌∷◌, ◌++◌, length, Ok, Err, refl, ap, sym, ◌∙◌, subst, arith, length-append, append_assoc, append-nil}
+use Rattle.std.proofs.lemmas.Result.{err_from_is_err_and}
+use Rattle.mscp_control.specs.Settings.{Settings}
+use Rattle.mscp_control.proofs.Promise.Progress.{progress}
+use Rattle.mscp_reader.specs.Lexical.{lines}
+use Rattle.mscp_reader.specs.declared.fault.ReadFault.{ReadFault}
+use Rattle.mscp_reader.specs.declared.fault.ReadFault.TheVariants as faults
+use Rattle.mscp_judge.specs.declared.judge.Judge.{Judge}
+use Rattle.mscp_judge.specs.Judged.{Hears, Judges, Tells}
+use Rattle.mscp_judge.specs.Logs.{Log, MayGoOn, after_lines, nothing, whole}
+use Rattle.mscp_judge.proofs.Coming.{stands_held, stands_legal, stands_not, stands_open}
+use Rattle.mscp_judge.proofs.Reading.{lines_more}
+use Rattle.mscp_judge.proofs.judging.judge_lines.Goals as goal
+
+-- a line at fault
+judged_fault : {A : Type 0} (c : Settings) (before : ℕ) (all front : List (List ℕ)) (bytes : List ℕ)
+    (back : List (List ℕ)) (log : Log) (number : ℕ) (judge : Judge A) (fault : ReadFault) → all ≡ front ++ bytes ∷ back
+    → number ≡ before + length front + 1 → after_lines before nothing front ≡ Ok log → MayGoOn c log.marks
+    → Hears c number log bytes (Err fault) judge → Judges c before all (Err fault)
+judged_fault c before all front bytes back log number judge (faults.Script fault) w n r o h =
+    record {
+      front = front;
+      line = bytes;
+      back = back;
+      log = log;
+      whole = w;
+      number = h.0 ∙ n;
+      read = r;
+      opens = o;
+      wrong = rw h.0 h.1;
+    }
+judged_fault c before all front bytes back log number judge faults.OutOfMemory w n r o h = tt
+
+pub loop-bytes-init : goal.loop-bytes-init
+unfolding after_lines
+loop-bytes-init g c = record {
+  front = [];
+  log = nothing;
+  whole = refl;
+  number = omega arith;
+  read = refl;
+  stands = c.new-judge.ensures.stands;
+  few = omega (arith, c.new-judge.ensures.count);
+}
+
+pub returns-in_err-judge_line : goal.returns-in_err-judge_line
+returns-in_err-judge_line g c =
+    let i = c.loop-bytes.invariant in
+    let p = err_from_is_err_and c.from_residual.result c.from_residual.ensures.1 in
+    rw (p.1, p.2)
+    (judged_fault c.args.config c.args.lines.now.number _ i.front c.in-Some.bytes.now
+    (lines c.cut.new.self.rest.now) i.log
+    c.cut.new.self.number c.judge_line.new.judge c.in_err-judge_line.field-0.0
+    (i.whole ∙ ap (λ ls. i.front ++ ls) c.in-Some.ensures.line) (omega (arith, i.number, c.in-Some.ensures.counted))
+    i.read (stands_open c.args.config i.log c.loop-bytes.judge i.stands)
+    (c.in_err-judge_line.ensures.hears c.args.config i.log i.stands))
+
+pub returns-then-not-branch : goal.returns-then-not-branch
+returns-then-not-branch g c =
+    let i = c.loop-bytes.invariant in
+    let k = c.in_ok-judge_line.ensures.hears c.args.config i.log i.stands in
+    record {
+      front = i.front;
+      line = c.in-Some.bytes.now;
+      back = lines c.cut.new.self.rest.now;
+      log = i.log;
+      next = k.0;
+      whole = i.whole ∙ ap (λ ls. i.front ++ ls) c.in-Some.ensures.line;
+      number = omega (arith, i.number, c.in-Some.ensures.counted);
+      read = i.read;
+      opens = stands_open c.args.config i.log c.loop-bytes.judge i.stands;
+      says = k.1;
+      wrong = (subst (λ b. Tells c.args.config i.log k.0 c.judge_line.new.judge b) c.if-not-branch.true k.2).0;
+      right_there = c.in_ok-right.ensures c.args.config i.log
+          (subst (λ b. Tells c.args.config i.log k.0 c.judge_line.new.judge b) c.if-not-branch.true k.2).1;
+    }
+
+pub loop-bytes-preserved : goal.loop-bytes-preserved
+loop-bytes-preserved g c =
+    let i = c.loop-bytes.invariant in
+    let bytes = c.in-Some.bytes.now in
+    let k = c.in_ok-judge_line.ensures.hears c.args.config i.log i.stands in
+    record {
+      front = i.front ++ bytes ∷ [];
+      log = k.0;
+      whole = i.whole ∙ (ap (λ ls. i.front ++ ls) c.in-Some.ensures.line
+          ∙ sym (append_assoc i.front (bytes ∷ []) (lines c.cut.new.self.rest.now)));
+      number = omega (arith, i.number, c.in-Some.ensures.counted, length-append i.front (bytes ∷ []));
+      read = lines_more c.args.lines.now.number nothing i.front bytes i.log k.0 c.cut.new.self.number i.read
+          (omega (arith, i.number, c.in-Some.ensures.counted)) k.1;
+      stands = subst (λ b. Tells c.args.config i.log k.0 c.judge_line.new.judge b) c.if-not-branch.false k.2;
+      few = c.in_ok-judge_line.ensures.count;
+    }
+
+pub returns-then-is_settled : goal.returns-then-is_settled
+returns-then-is_settled g c =
+    let i = c.loop-bytes.invariant in
+    let all = i.whole ∙ (ap (λ ls. i.front ++ ls) c.in_default.ensures.line ∙ append-nil i.front) in
+    let legal = stands_legal c.args.config i.log c.loop-bytes.judge i.stands
+    (c.is_settled.ensures.yes c.if-is_settled.true) in
+    record {
+      log = i.log;
+      read = ap (λ ls. after_lines c.args.lines.now.number nothing ls) all ∙ i.read;
+      legal = legal;
+      promise = progress c.args.config (whole legal.0) i.stands.stood.valid legal.1;
+    }
+
+pub returns : goal.returns
+returns g c =
+    let i = c.loop-bytes.invariant in
+    let all = i.whole ∙ (ap (λ ls. i.front ++ ls) c.in_default.ensures.line ∙ append-nil i.front) in
+    record {
+      log = i.log;
+      read = ap (λ ls. after_lines c.args.lines.now.number nothing ls) all ∙ i.read;
+      opens = stands_open c.args.config i.log c.loop-bytes.judge i.stands;
+      wrong = stands_not c.args.config i.log c.loop-bytes.judge i.stands
+          (c.is_settled.ensures.no c.if-is_settled.false);
+      right_there = c.in_ok-right-2.ensures c.args.config i.log
+          (stands_held c.args.config i.log c.loop-bytes.judge i.stands);
+    }

@@ -1,0 +1,112 @@
+-- What a judge says of the lines of a log.
+use Rattle.std.specs.Prelude.{◌≡◌, ◌≢◌, ◌⊎◌, ℕ, ◌+◌, List, [], ◌∷◌, ◌++◌, length, Bool, true, false, Result, Ok, Err}
+use Rattle.mscp_control.specs.Headline.{Promise}
+use Rattle.mscp_control.specs.Settings.{Settings}
+use Rattle.mscp_reader.specs.Lexical.{lines}
+use Rattle.mscp_reader.specs.Grammar.{Begins, HasGone, IsFault}
+use Rattle.mscp_reader.specs.Outcome.{rest_outcome}
+use Rattle.mscp_reader.specs.declared.fault.ReadFault.{ReadFault}
+use Rattle.mscp_reader.specs.declared.fault.ReadFault.TheVariants as faults
+use Rattle.mscp_reader.specs.declared.fault.ScriptFault.{ScriptFault}
+use Rattle.mscp_judge.specs.declared.judge.Judge.{Judge}
+use Rattle.mscp_judge.specs.declared.judging.Verdict.{Verdict}
+use Rattle.mscp_judge.specs.declared.judging.Verdict.TheVariants as verdicts
+use Rattle.mscp_judge.specs.Logs.{IsLegalLog, IsRightThere, Log, MayGoOn, after_line, after_lines, nothing, telling, told, whole}
+use Rattle.mscp_judge.specs.Standing.{IsHeld, Stands, Stood, due, marked, owed}
+
+-- ---- the verdict
+
+-- all lines are right, and they are a legal log
+pub record AreLegal (c : Settings) (before : ℕ) (all : List (List ℕ)) : Type 0 where
+  pub log : Log
+  pub read : after_lines before nothing all ≡ Ok log
+  pub legal : IsLegalLog c log.marks
+  -- so the promise of each legal trace is kept
+  pub promise : Promise c (whole legal.0)
+
+-- the line of this number is the first that no legal log has there: what stands before it is the beginning of one
+pub record IsFirstWrong (c : Settings) (before : ℕ) (all : List (List ℕ)) (place : ℕ) (right : List ℕ) : Type 0 where
+  pub front : List (List ℕ)
+  pub line : List ℕ
+  pub back : List (List ℕ)
+  pub log : Log
+  pub next : Log
+  pub whole : all ≡ front ++ line ∷ back
+  pub number : place ≡ before + length front + 1
+  pub read : after_lines before nothing front ≡ Ok log
+  pub opens : MayGoOn c log.marks
+  pub says : after_line place log line ≡ Ok next
+  pub wrong : ¬ (MayGoOn c next.marks)
+  -- and this would have been right there, if it isn't empty
+  pub right_there : IsRightThere c log right
+
+-- a legal log begins with all lines, and they aren't one: some answer is missing
+pub record AreUnanswered (c : Settings) (before : ℕ) (all : List (List ℕ)) (right : List ℕ) : Type 0 where
+  pub log : Log
+  pub read : after_lines before nothing all ≡ Ok log
+  pub opens : MayGoOn c log.marks
+  pub wrong : ¬ (IsLegalLog c log.marks)
+  -- and with this line it goes on, if that isn't empty
+  pub right_there : IsRightThere c log right
+
+-- the line of the fault's number is no line of a log, for this cause, and what stands before it is the beginning of a
+-- legal log
+pub record IsAtFault (c : Settings) (before : ℕ) (all : List (List ℕ)) (fault : ScriptFault) : Type 0 where
+  pub front : List (List ℕ)
+  pub line : List ℕ
+  pub back : List (List ℕ)
+  pub log : Log
+  pub whole : all ≡ front ++ line ∷ back
+  pub number : fault.line ≡ before + length front + 1
+  pub read : after_lines before nothing front ≡ Ok log
+  pub opens : MayGoOn c log.marks
+  pub wrong : after_line fault.line log line ≡ Err fault.cause
+
+-- what is said of lines that so many stand before
+abbrev pub Judges : Settings → ℕ → List (List ℕ) → Result Verdict ReadFault → Type 0
+Judges c before all (Ok verdicts.Legal) = AreLegal c before all
+Judges c before all (Ok (verdicts.Wrong number right)) = IsFirstWrong c before all number right.items
+Judges c before all (Ok (verdicts.Unanswered right)) = AreUnanswered c before all right.items
+Judges c before all (Err (faults.Script fault)) = IsAtFault c before all fault
+Judges c before all (Err faults.OutOfMemory) = Unit {0}
+
+-- ---- one line
+
+-- a line that told this of an answer was told, or no legal log goes on so
+abbrev pub Tells : {A : Type 0} → Settings → Log → Log → Judge A → Bool → Type 0
+Tells c log next new true = Stands c next new
+Tells c log next new false = (¬ (MayGoOn c next.marks)) × IsHeld c log new
+
+-- something is due, and each legal log that goes on with the line has this trace
+pub record IsAhead {A : Type 0} (c : Settings) (log : Log) (line : List ℕ) (judge : Judge A) : Type 0 where
+  pub stood : Stood c (marked log) judge.controller (due judge) (owed judge) (told (line ++ 10 ∷ []))
+  pub some : due judge ≢ []
+  pub count : length log.events ≡ judge.reporter.count + judge.owed
+
+-- something is due before the line, or no legal log goes on with it
+abbrev pub IsReady : {A : Type 0} → Settings → Log → List ℕ → Judge A → Bool → Type 0
+IsReady c log line judge true = IsAhead c log line judge
+IsReady c log line judge false = (¬ (MayGoOn c (telling log (line ++ 10 ∷ [])).marks)) × IsHeld c log judge
+
+-- what became of a line of this number
+abbrev pub Hears : {A : Type 0}
+    → Settings → ℕ → Log → List ℕ → Result Bool ReadFault → Judge A → Type 0
+Hears c number log line (Ok goes_on) new =
+    (next : Log) × (after_line number log line ≡ Ok next) × Tells c log next new goes_on
+Hears c number log line (Err (faults.Script fault)) new =
+    (fault.line ≡ number) × (after_line number log line ≡ Err fault.cause)
+Hears c number log line (Err faults.OutOfMemory) new = Unit {0}
+
+-- ---- a whole log
+
+-- the reader of scripts comes from the bytes to the settings of a header, and to so many lines and the bytes behind it
+pub record IsHeaded (bytes : List ℕ) (c : Settings) (before : ℕ) (rest : List ℕ) : Type 0 where
+  pub leads : rest_outcome 0 Begins bytes ≡ rest_outcome before (HasGone c []) rest
+
+-- what is said of the bytes of a log: its header has the first fault that they have as a script, or what stands behind
+-- the header is judged
+abbrev pub JudgesLog : List ℕ → Result Verdict ReadFault → Type 0
+JudgesLog bytes result =
+    ((fault : ScriptFault) × (result ≡ Err (faults.Script fault)) × IsFault bytes fault)
+    ⊎ ((c : Settings) × (before : ℕ) × (rest : List ℕ) × IsHeaded bytes c before rest
+    × Judges c before (lines rest) result)

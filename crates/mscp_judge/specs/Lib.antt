@@ -1,0 +1,4 @@
+pub mod Logs
+pub mod Naming
+pub mod Standing
+pub mod Judged

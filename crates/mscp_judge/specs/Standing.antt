@@ -1,0 +1,99 @@
+-- Where a judge stands after some lines of a log that a legal log begins with.
+use Rattle.std.specs.Prelude.{◌≡◌, ◌⊎◌, ℕ, ◌+◌, List, [], ◌∷◌, ◌++◌, length, drop, replicate}
+use Rattle.mscp_control.specs.declared.event.Event.{Event}
+use Rattle.mscp_control.specs.declared.event.Event.TheVariants as events
+use Rattle.mscp_control.specs.declared.event.Entry.{Entry}
+use Rattle.mscp_control.specs.Settings.{IsValid, Settings}
+use Rattle.mscp_control.specs.History.{Trace}
+use Rattle.mscp_control.specs.Holdings.{Answers, Holdings, fresh}
+use Rattle.mscp_control.specs.Legal.{IsLegal}
+use Rattle.mscp_script.specs.Text.{entry_lines}
+use Rattle.mscp_judge.specs.declared.judge.Judge.{Judge}
+use Rattle.mscp_judge.specs.declared.naming.Named.{Named}
+use Rattle.mscp_judge.specs.Logs.{Asked, Log, Mark, answers_in, events_in, told, transcript, whole}
+use Rattle.mscp_judge.specs.Naming.{IsNamed}
+
+-- ---- one event
+
+-- what is held, with this picker
+abbrev pub with_picker : {K : Type 0} → Holdings K → K → Holdings K
+with_picker h picker = record h { picker = picker }
+
+-- bytes that begin with a line
+abbrev pub BeginsWith : List ℕ → List ℕ → Type 0
+BeginsWith bytes line = (rest : List ℕ) × (bytes ≡ line ++ 10 ∷ rest)
+
+-- bytes end with a line feed, or there are none
+abbrev pub EndsLine : List ℕ → Type 0
+EndsLine bytes = (bytes ≡ []) ⊎ ((front : List ℕ) × (bytes ≡ front ++ 10 ∷ []))
+
+-- what is answered and wasn't told yet
+abbrev pub due : {A : Type 0} → Judge A → List ℕ
+due judge = drop judge.told judge.reporter.lines
+
+-- the steps that aren't answered yet
+abbrev pub owed : {A : Type 0} → Judge A → List Event
+owed judge = replicate judge.owed (events.Step judge.block)
+
+-- all is answered and told
+pub record IsSettled {A : Type 0} (judge : Judge A) : Type 0 where
+  pub told : due judge ≡ []
+  pub answered : judge.owed ≡ 0
+
+-- an event came, at which the command of this name was to start: what was answered is due, and nothing else
+pub record Came {A : Type 0} (name : Named) (old new : Judge A) (event : Event) : Type 0 where
+  pub entry : Entry
+  pub answers : Answers (IsNamed name) (with_picker old.controller name) event entry new.controller
+  pub due : due new ≡ entry_lines entry
+  pub count : new.reporter.count ≡ old.reporter.count + 1
+
+-- ---- a trace
+
+-- these moments came to a controller, one after the other, each with a picker of its own
+abbrev pub Led : Holdings Named → Trace → Holdings Named → Type 0
+Led old [] new = new ≡ old
+Led old (m ∷ ms) new =
+    (name : Named) × (next : Holdings Named) × Answers (IsNamed name) (with_picker old name) m.0 m.1 next
+    × Led next ms new
+
+-- ---- the whole
+
+-- what is made of the marks of a log, behind a first one that asks for nothing
+abbrev pub marked : Log → List Mark
+marked log = Asked [] ∷ log.marks
+
+-- after these marks what is held is that of a trace: of the lines before the last event's, and of that one so far.
+-- What is due of its answers wasn't told, and these events aren't answered. Each legal log that begins with the marks,
+-- and then
+-- with those ahead, has this trace, and goes on with these events
+pub record Stood (c : Settings) (marks : List Mark) (h : Holdings Named) (due : List ℕ) (owed : List Event)
+    (ahead : List Mark) : Type 0 where
+  pub parts : List Trace
+  pub now : Trace
+  pub begun : Named
+  pub valid : IsValid c
+  pub led : Led (fresh c begun) (whole parts ++ now) h
+  pub said : marks ++ told due ≡ transcript parts ++ Asked (events_in now ++ owed) ∷ told (answers_in now)
+  pub ends : EndsLine due
+  pub only : (others : List Trace) (more : List Mark) → IsLegal c (whole others)
+      → marks ++ (ahead ++ more) ≡ transcript others
+      → (next : Trace) × (rest : List Trace) × (events_in next ≡ owed) × (others ≡ parts ++ (now ++ next) ∷ rest)
+
+-- the same, whatever other traces may be
+pub record Held (c : Settings) (marks : List Mark) (h : Holdings Named) (due : List ℕ) (owed : List Event) :
+    Type 0 where
+  pub parts : List Trace
+  pub now : Trace
+  pub begun : Named
+  pub valid : IsValid c
+  pub led : Led (fresh c begun) (whole parts ++ now) h
+  pub said : marks ++ told due ≡ transcript parts ++ Asked (events_in now ++ owed) ∷ told (answers_in now)
+
+-- a judge holds so after these lines of a log
+abbrev pub IsHeld : {A : Type 0} → Settings → Log → Judge A → Type 0
+IsHeld c log judge = Held c (marked log) judge.controller (due judge) (owed judge)
+
+-- a judge stands so after these lines of a log
+pub record Stands {A : Type 0} (c : Settings) (log : Log) (judge : Judge A) : Type 0 where
+  pub stood : Stood c (marked log) judge.controller (due judge) (owed judge) []
+  pub count : length log.events ≡ judge.reporter.count + judge.owed

@@ -1,0 +1,267 @@
+// A controller that answers what a log says, and what of its answers wasn't told yet.
+
+ghost use Rattle.std.specs.Prelude.{◌≡◌, ◌⊎◌, ◌+◌, ◌-◌, ◌<◌, ◌≤◌, ◌^◌, ◌∷◌, ◌++◌, [], ℕ, List, length, true, false, OnOk, IfOk};
+ghost use Rattle.std.specs.List.{list_all};
+ghost use Rattle.mscp_control.specs.Settings.{Settings};
+ghost use Rattle.mscp_control.specs.declared.event.Event.TheVariants as events;
+ghost use Rattle.mscp_reader.specs.Lexical as lexical;
+ghost use Rattle.mscp_reader.specs.Requests.{events_of};
+ghost use Rattle.mscp_judge.specs.Judged.{IsAhead, IsReady, Tells};
+ghost use Rattle.mscp_judge.specs.Logs.{IsRightThere, Log, asking, nothing, telling};
+ghost use Rattle.mscp_judge.specs.Standing.{BeginsWith, Came, IsHeld, IsSettled, Stands, due};
+
+use crate::naming::{Named, name_in, nobody};
+use arrayvec::ArrayVec;
+use mscp_control::{Block, Config, Connection, Controller, OutOfMemory};
+use mscp_packet::write_command;
+use mscp_reader::{Request, Words};
+use mscp_script::Reporter;
+use std::alloc::Allocator;
+
+/// A line that would have been right. The longest has 107 bytes.
+pub type Right = ArrayVec<u8, 128>;
+
+/// A controller, what it answered to the last events, and how many steps aren't answered yet.
+#[derive(Drop)]
+pub struct Judge<A: Allocator> {
+    controller: Controller<Named>,
+    reporter: Reporter<A>,
+    // How many bytes of the reporter's lines the log has told.
+    told: usize,
+    // How many steps are to be answered yet, and the outcome of their blocks. A step is answered when its line is read,
+    // since that says which command starts.
+    owed: u32,
+    block: Block,
+}
+
+/// Whether bytes begin with this line, and a line feed behind it.
+fn begins_with(bytes: &[u8], line: &[u8]) -> bool
+    ensures yes { result ≡ true → BeginsWith bytes.now line.now }
+    ensures no { result ≡ false → ¬ (BeginsWith bytes.now line.now) }
+{
+    if bytes.len() <= line.len() || bytes[line.len()] != b'\n' {
+        return false;
+    }
+    &bytes[..line.len()] == line
+}
+
+/// The first line, without its line feed: nothing, where there is none, or it is too long.
+fn first_line(bytes: &[u8]) -> Right
+    ensures { (result.items ≡ []) ⊎ BeginsWith bytes.now result.items }
+{
+    let mut line = Right::new();
+    for byte in bytes {
+        if *byte == b'\n' {
+            return line;
+        }
+        if line.is_full() {
+            break;
+        }
+        line.push(*byte);
+    }
+    Right::new()
+}
+
+impl<A: Allocator> Judge<A> {
+    /// A judge of a controller to which nothing came.
+    pub fn new(alloc: A, config: Config) -> Judge<A>
+        ensures stands { Stands config nothing result }
+        ensures count { result.reporter.count + result.owed ≡ 0 }
+    {
+        Judge {
+            controller: Controller::new(config, nobody()),
+            reporter: Reporter::new(alloc),
+            told: 0,
+            owed: 0,
+            block: Block::Good,
+        }
+    }
+
+    /// How many events were asked for.
+    pub fn count(&self) -> u64
+        requires { self.now.reporter.count + self.now.owed < 2 ^ 64 }
+        ensures { result ≡ self.now.reporter.count + self.now.owed }
+    {
+        self.reporter.count() + u64::from(self.owed)
+    }
+
+    /// What is answered and wasn't told yet.
+    fn due(&self) -> &[u8]
+        ensures { result.now ≡ due self.now }
+    {
+        let lines = self.reporter.lines();
+        &lines[self.told.min(lines.len())..]
+    }
+
+    /// Whether all is answered and told.
+    pub fn is_settled(&self) -> bool
+        ensures yes { result ≡ true → IsSettled self.now }
+        ensures no { result ≡ false → ¬ (IsSettled self.now) }
+    {
+        self.owed == 0 && self.due().is_empty()
+    }
+
+    /// The connection's host sends this message.
+    fn send(&mut self, connection: Connection, message: &[u8]) -> Result<(), OutOfMemory>
+        requires { self.old.reporter.count + 1 < 2 ^ 64 }
+        ensures came { OnOk result (Came self.old.controller.picker self.old self.new
+            (events.Send connection (record { items = message.now }))) }
+        ensures owed { self.new.owed ≡ self.old.owed }
+        ensures block { self.new.block ≡ self.old.block }
+    {
+        self.reporter.forget_lines();
+        self.told = 0;
+        let sent = self.controller.send(connection, message);
+        self.reporter.sent(connection, &sent)
+    }
+
+    /// The connection's host takes an end.
+    fn take(&mut self, connection: Connection) -> Result<(), OutOfMemory>
+        requires { self.old.reporter.count + 1 < 2 ^ 64 }
+        ensures came { OnOk result (Came self.old.controller.picker self.old self.new (events.Take connection)) }
+        ensures owed { self.new.owed ≡ self.old.owed }
+        ensures block { self.new.block ≡ self.old.block }
+    {
+        self.reporter.forget_lines();
+        self.told = 0;
+        let end = self.controller.take(connection);
+        self.reporter.taken(connection, &end)
+    }
+
+    /// The figures of all waiting commands are asked for.
+    fn look(&mut self) -> Result<(), OutOfMemory>
+        requires { self.old.reporter.count + 1 < 2 ^ 64 }
+        ensures came { OnOk result (Came self.old.controller.picker self.old self.new events.Look) }
+        ensures owed { self.new.owed ≡ self.old.owed }
+        ensures block { self.new.block ≡ self.old.block }
+    {
+        self.reporter.forget_lines();
+        self.told = 0;
+        let shown = self.controller.look();
+        self.reporter.looked(&shown)
+    }
+
+    /// A step is answered, at which the command of this name starts, if it may.
+    fn step(&mut self, name: Named) -> Result<(), OutOfMemory>
+        requires count { self.old.reporter.count + 1 < 2 ^ 64 }
+        requires owed { 0 < self.old.owed }
+        ensures came { OnOk result (Came name self.old self.new (events.Step self.old.block)) }
+        ensures owed { self.new.owed ≡ self.old.owed - 1 }
+        ensures block { self.new.block ≡ self.old.block }
+    {
+        self.owed -= 1;
+        self.reporter.forget_lines();
+        self.told = 0;
+        self.controller.replace_picker(name);
+        let report = self.controller.step(self.block);
+        self.reporter.stepped(&report)
+    }
+
+    /// So many steps are asked for, each with this outcome.
+    fn owe(&mut self, count: u32, block: Block)
+        ensures controller { self.new.controller ≡ self.old.controller }
+        ensures reporter { self.new.reporter ≡ self.old.reporter }
+        ensures told { self.new.told ≡ self.old.told }
+        ensures owed { self.new.owed ≡ count }
+        ensures block { self.new.block ≡ block }
+    {
+        self.owed = count;
+        self.block = block;
+    }
+
+    /// A line asks for events.
+    pub fn ask(&mut self, request: &Request) -> Result<(), OutOfMemory>
+        requires settled { IsSettled self.old }
+        requires count { self.old.reporter.count + length (events_of request.now) < 2 ^ 64 }
+        ensures stands { OnOk result ((c : Settings) (log : Log) → Stands c log self.old
+            → Stands c (asking log (events_of request.now) (log.events ++ events_of request.now)) self.new) }
+        ensures count { OnOk result (self.new.reporter.count + self.new.owed
+            ≡ self.old.reporter.count + length (events_of request.now)) }
+    {
+        match request {
+            Request::Send(connection, command) => {
+                self.send(*connection, write_command(command).as_slice())
+            }
+            Request::Packet(connection, bytes) => self.send(*connection, bytes.as_slice()),
+            Request::Take(connection) => self.take(*connection),
+            Request::Look => self.look(),
+            Request::Steps(count) => {
+                self.owe(*count, Block::Good);
+                Ok(())
+            }
+            Request::Bad(code) => {
+                self.owe(1, Block::Bad(*code));
+                Ok(())
+            }
+        }
+    }
+
+    /// What would be right next: the first line of what is due. If a step is missing, it is answered first, and the oldest
+    /// command starts that may. It is empty where no answer is right.
+    pub fn right(&mut self) -> Result<Right, OutOfMemory>
+        requires { self.old.reporter.count + 1 < 2 ^ 64 }
+        ensures { IfOk result (λ right. (c : Settings) (log : Log) → IsHeld c log self.old
+            → IsRightThere c log right.items) }
+    {
+        if !self.due().is_empty() {
+            return Ok(first_line(self.due()));
+        }
+        if self.owed == 0 {
+            return Ok(Right::new());
+        }
+        self.step(nobody())?;
+        Ok(first_line(self.due()))
+    }
+
+    /// Answers the next step, if nothing is due: the command starts that these words of a line say was served, if it may.
+    /// Says whether something is due then.
+    fn prepare(&mut self, words: Words<'_>) -> Result<bool, OutOfMemory>
+        requires { self.old.reporter.count + 1 < 2 ^ 64 }
+        ensures ready { IfOk result (λ ready. (c : Settings) (log : Log) (line : List ℕ)
+            → lexical.words words.entry.rest.now ≡ lexical.words line → Stands c log self.old
+            → IsReady c log line self.new ready) }
+        ensures count { OnOk result (self.new.reporter.count + self.new.owed
+            ≡ self.old.reporter.count + self.old.owed) }
+    {
+        if !self.due().is_empty() {
+            return Ok(true);
+        }
+        if self.owed == 0 {
+            return Ok(false);
+        }
+        self.step(name_in(words))?;
+        Ok(true)
+    }
+
+    /// A line was told, if it is what is due next.
+    fn tell(&mut self, line: &[u8]) -> bool
+        requires { list_all lexical.is_printed line.now ≡ true }
+        ensures tells { (c : Settings) (log : Log) → IsAhead c log line.now self.old
+            → Tells c log (telling log (line.now ++ 10 ∷ [])) self.new result }
+        ensures count { self.new.reporter.count + self.new.owed ≡ self.old.reporter.count + self.old.owed }
+    {
+        let due = self.due();
+        if !begins_with(due, line) {
+            return false;
+        }
+        let left = due.len() - line.len() - 1;
+        self.told = self.reporter.lines().len() - left;
+        true
+    }
+
+    /// A line tells an answer: whether a legal log goes on so. The words are those of the line.
+    pub fn hear(&mut self, line: &[u8], words: Words<'_>) -> Result<bool, OutOfMemory>
+        requires count { self.old.reporter.count + 1 < 2 ^ 64 }
+        requires words { lexical.words words.rest.now ≡ lexical.words line.now }
+        requires printed { list_all lexical.is_printed line.now ≡ true }
+        ensures tells { IfOk result (λ goes_on. (c : Settings) (log : Log) → Stands c log self.old
+            → Tells c log (telling log (line.now ++ 10 ∷ [])) self.new goes_on) }
+        ensures count { OnOk result (self.new.reporter.count + self.new.owed
+            ≡ self.old.reporter.count + self.old.owed) }
+    {
+        if !self.prepare(words)? {
+            return Ok(false);
+        }
+        Ok(self.tell(line))
+    }
+}

@@ -1,0 +1,13 @@
+//! The judge: whether what another controller answered is legal. A log is a script in which each event's line is followed
+//! by the lines that were answered.
+#![tactic(auto)]
+
+mod answers;
+mod judge;
+mod judging;
+mod log;
+mod naming;
+
+pub use crate::judge::Right;
+pub use crate::judging::{Verdict, judge_lines};
+pub use crate::log::judge_log;

@@ -1,0 +1,90 @@
+// The command that a line says was served, and the picker that starts it.
+
+ghost use Rattle.std.specs.Prelude.{◌≡◌, ◌<◌, ◌^◌};
+ghost use Rattle.mscp_queue.specs.Names.{same_name};
+ghost use Rattle.mscp_queue.specs.Views.{choice_name};
+ghost use Rattle.mscp_reader.specs.Lexical as lexical;
+ghost use Rattle.mscp_judge.specs.Naming as naming;
+ghost use Rattle.mscp_judge.specs.Naming.{IsNamed};
+
+use crate::answers::is;
+use mscp_control::{Choice, Connection, Picker, View};
+use mscp_reader::{Words, wide};
+
+/// Picks the command of this name, if it may start.
+#[derive(Clone, Copy, Debug, PartialEq, Eq)]
+pub struct Named {
+    pub connection: Connection,
+    pub reference: u32,
+}
+
+impl Named {
+    /// Whether a choice has this name.
+    fn is_of(self, choice: Choice) -> bool
+        ensures same { result ≡ same_name (choice_name choice) (naming.name_of self) }
+        ensures small { choice.reference < 2 ^ 32 }
+    {
+        choice.connection == self.connection && choice.reference == self.reference
+    }
+}
+
+impl Picker for Named {
+    ghost picks = { λ named view place. IsNamed named view place };
+
+    fn pick(&self, view: &View) -> usize {
+        let choices = view.choices();
+        let mut found = 0;
+        for place in 0..choices.len() {
+            if self.is_of(choices[place]) {
+                found = place;
+            }
+        }
+        found
+    }
+}
+
+/// A name for where none is said.
+pub fn nobody() -> Named
+    ensures { result ≡ naming.nobody }
+{
+    Named {
+        connection: Connection::First,
+        reference: 0,
+    }
+}
+
+/// The name of the command of the connection that these words say was served.
+#[tactic(auto, unfolding(crate::specs::Naming::served))]
+fn served(connection: Connection, mut words: Words<'_>) -> Named
+    ensures { result ≡ naming.served connection (lexical.words words.entry.rest.now) }
+{
+    let Some(word) = words.next_word() else {
+        return nobody();
+    };
+    let Some(number) = words.next_word() else {
+        return nobody();
+    };
+    if !is(word, "serve") {
+        return nobody();
+    }
+    match wide(number) {
+        Ok(reference) => Named {
+            connection,
+            reference,
+        },
+        Err(_) => nobody(),
+    }
+}
+
+/// The name of the command that the line of these words says was served.
+#[tactic(auto, unfolding(crate::specs::Naming::name_in))]
+pub fn name_in(words: Words<'_>) -> Named
+    ensures { result ≡ naming.name_in (lexical.words words.entry.rest.now) }
+{
+    let mut rest = words;
+    match rest.next_word() {
+        Some(word) if is(word, "second") => served(Connection::Second, rest),
+        Some(_) => served(Connection::First, words),
+        None => nobody(),
+    }
+}

@@ -1,0 +1,61 @@
+-- What is written of a log.
+use Rattle.std.specs.Prelude.{◌≡◌, ℕ, List, ◌++◌, codes, Option, Result, Ok, Err}
+use Rattle.std.specs.Fmt.{decimal}
+use Rattle.std.specs.Io.KnownBytes.{Appends}
+use Rattle.mscp_reader.specs.declared.fault.ReadFault.{ReadFault}
+use Rattle.mscp_reader.specs.declared.fault.ReadFault.TheVariants as scripts
+use Rattle.mscp_script.specs.declared.reading.ReadAllFault.{ReadAllFault}
+use Rattle.mscp_script.specs.declared.reading.ReadAllFault.TheVariants as readings
+use Rattle.mscp_script.specs.Simulated.{IsGiven}
+use Rattle.mscp_judge.specs.declared.judging.Verdict.{Verdict}
+use Rattle.mscp_judge.specs.declared.judging.Verdict.TheVariants as verdicts
+use Rattle.mscp_judge.specs.Judged.{JudgesLog}
+use Rattle.mscpjudge.specs.declared.fault.Fault.{Fault}
+use Rattle.mscpjudge.specs.declared.fault.Fault.TheVariants as faults
+use Rattle.mscpjudge.specs.declared.judging.Outcome.{Outcome}
+use Rattle.mscpjudge.specs.declared.judging.Outcome.TheVariants as outcomes
+
+-- what a fault of the reading of all bytes is called
+abbrev pub fault_of_reading : ReadAllFault → Fault
+fault_of_reading readings.Read = faults.Read
+fault_of_reading readings.OutOfMemory = faults.OutOfMemory
+
+-- and a fault of the log
+abbrev pub fault_of_log : ReadFault → Fault
+fault_of_log (scripts.Script fault) = faults.Log fault
+fault_of_log scripts.OutOfMemory = faults.OutOfMemory
+
+-- how a log is judged by a verdict
+abbrev pub outcome_of : Verdict → Outcome
+outcome_of verdicts.Legal = outcomes.Legal
+outcome_of (verdicts.Wrong line right) = outcomes.Wrong
+outcome_of (verdicts.Unanswered right) = outcomes.Wrong
+
+-- the line of what would have been right
+abbrev pub right_text : List ℕ → List ℕ
+right_text right = codes "right: " ++ right ++ codes "\n"
+
+-- the line of a line that isn't legal
+abbrev pub wrong_text : ℕ → List ℕ
+wrong_text line = codes "line " ++ decimal line ++ codes ": not legal\n"
+
+-- the line of a log that isn't whole
+abbrev pub unanswered_text : List ℕ
+unanswered_text = codes "end: not legal\n"
+
+-- the lines that say a verdict
+abbrev pub verdict_text : Verdict → List ℕ
+verdict_text verdicts.Legal = codes "legal\n"
+verdict_text (verdicts.Wrong line right) = wrong_text line ++ right_text right.items
+verdict_text (verdicts.Unanswered right) = unanswered_text ++ right_text right.items
+
+-- what is written is the verdict of the log that the reader gave. Nothing is written on a fault, and a fault of the log
+-- is that of what the reader gave; nothing is said where the write failed
+abbrev pub Says : Result Outcome Fault → Option (List ℕ) → Option (List ℕ) → Option (List ℕ) → Type 0
+Says (Ok outcome) known old new =
+    IsGiven known (λ log. (verdict : Verdict) × JudgesLog log (Ok verdict) × (outcome ≡ outcome_of verdict)
+    × Appends old new (verdict_text verdict))
+Says (Err faults.Write) known old new = Unit {0}
+Says (Err (faults.Log fault)) known old new =
+    (new ≡ old) × IsGiven known (λ log. JudgesLog log (Err (scripts.Script fault)))
+Says (Err fault) known old new = new ≡ old

@@ -1,0 +1,98 @@
+// What is said of a log.
+
+ghost use Rattle.std.specs.Prelude.{◌≡◌, ◌++◌, false, OnOk, IfOk};
+ghost use Rattle.mscpjudge.specs.Said.{Says, outcome_of, right_text, unanswered_text, verdict_text, wrong_text};
+
+use crate::fault::Fault;
+use itoa::Buffer;
+use mscp_judge::{Right, Verdict, judge_log};
+use mscp_script::{Sink, Source, read_all};
+use mscp_text::put;
+use std::alloc::{AllocError, Allocator, Global};
+
+/// How a log was judged.
+#[derive(Clone, Copy, Debug, PartialEq, Eq)]
+pub enum Outcome {
+    /// It is legal.
+    Legal,
+    /// It isn't.
+    Wrong,
+}
+
+/// How a log is judged by this verdict.
+fn outcome_of(verdict: &Verdict) -> Outcome
+    ensures { result ≡ outcome_of verdict.now }
+{
+    match verdict {
+        Verdict::Legal => Outcome::Legal,
+        Verdict::Wrong(..) | Verdict::Unanswered(_) => Outcome::Wrong,
+    }
+}
+
+/// Appends the line of what would have been right.
+fn put_right<A: Allocator>(text: &mut Vec<u8, A>, right: &Right) -> Result<(), AllocError>
+    ensures { OnOk result (text.new.items ≡ text.old.items ++ right_text right.now.items) }
+{
+    put(text, "right: ")?;
+    text.extend_from_slice(right.as_slice())?;
+    put(text, "\n")
+}
+
+/// Appends the lines of a log whose line of this number isn't legal.
+fn put_wrong<A: Allocator>(
+    text: &mut Vec<u8, A>,
+    line: u32,
+    right: &Right,
+) -> Result<(), AllocError>
+    ensures { OnOk result (text.new.items ≡ text.old.items ++ wrong_text line ++ right_text right.now.items) }
+{
+    put(text, "line ")?;
+    put(text, Buffer::new().format(line))?;
+    put(text, ": not legal\n")?;
+    put_right(text, right)
+}
+
+/// Appends the lines of a log that isn't whole.
+fn put_unanswered<A: Allocator>(text: &mut Vec<u8, A>, right: &Right) -> Result<(), AllocError>
+    ensures { OnOk result (text.new.items ≡ text.old.items ++ unanswered_text ++ right_text right.now.items) }
+{
+    put(text, "end: not legal\n")?;
+    put_right(text, right)
+}
+
+/// Appends the lines that say a verdict.
+fn put_verdict<A: Allocator>(text: &mut Vec<u8, A>, verdict: &Verdict) -> Result<(), AllocError>
+    ensures { OnOk result (text.new.items ≡ text.old.items ++ verdict_text verdict.now) }
+{
+    match verdict {
+        Verdict::Legal => put(text, "legal\n"),
+        Verdict::Wrong(line, right) => put_wrong(text, *line, right),
+        Verdict::Unanswered(right) => put_unanswered(text, right),
+    }
+}
+
+/// The lines that say a verdict.
+fn text_of<A: Allocator>(alloc: A, verdict: &Verdict) -> Result<Vec<u8, A>, AllocError>
+    ensures { IfOk result (λ text. text.items ≡ verdict_text verdict.now) }
+{
+    let mut text = Vec::new(alloc);
+    put_verdict(&mut text, verdict)?;
+    Ok(text)
+}
+
+/// Judges the log that a reader gives, and writes what is said of it in one write.
+pub fn judge<R: Source, W: Sink>(
+    alloc: Global,
+    reader: &mut R,
+    writer: &mut W,
+) -> Result<Outcome, Fault>
+    requires reader { R.has_failed reader.old ≡ false }
+    requires writer { W.has_failed writer.old ≡ false }
+    ensures { Says result (R.remaining reader.old) (W.contents writer.old) (W.contents writer.new) }
+{
+    let log = read_all(alloc, reader)?;
+    let verdict = judge_log(alloc, &log)?;
+    let text = text_of(alloc, &verdict)?;
+    writer.write_all(&text)?;
+    Ok(outcome_of(&verdict))
+}
