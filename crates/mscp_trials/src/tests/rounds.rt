@@ -1,6 +1,6 @@
 // A hundred times 63 places are filled with READs and emptied, the newest first.
 
-ghost use Rattle.std.specs.Prelude.{◌≤◌};
+ghost use Rattle.std.specs.Prelude.{◌<◌, ◌≤◌};
 
 use super::config;
 use mscp_control::{Block, Connection, Controller, Picker, Report, Sent, View};
@@ -33,6 +33,7 @@ const BUDGET: u32 = 62 * BLOCKS;
 /// The first block of a command: they lie all over the unit.
 fn first_block(number: u32) -> u32
     requires { number ≤ 63 }
+    ensures { result < 900 }
 {
     number * 37 % 900
 }
