@@ -16,7 +16,7 @@ library.mscp_status_text.argtypes, library.mscp_status_text.restype = [c_int64],
 
 
 def record(*fields):
-    """A struct of fields of one type each, as (uint32, "reference lbn")."""
+    """A struct of these fields: the names of each type stand in one text."""
     named = [(name, kind) for kind, names in fields for name in names.split()]
     return type("Record", (Structure,), {"_fields_": named})
 
@@ -25,7 +25,8 @@ Unit = record((c_uint64, "id"), (c_uint32, "size media serial"), (c_uint16, "num
 Limits = record((c_uint64, "id budget"), (c_uint32, "credits second longest"), (c_uint16, "timeout"))
 Sent = record((c_uint32, "reference aborted"), (c_uint8, "has_aborted"))
 Packet = record((c_uint32, "length"), (c_uint8 * 48, "bytes"))
-Report = record((c_uint32, "reference lbn seek"), (c_uint16, "unit status"), (c_uint8, "touched started ended on"))
+Report = record((c_uint32, "reference lbn seek"), (c_uint16, "unit status"),
+                (c_uint8, "touched started ended connection"))
 News = record((c_uint32, "figure reference moved"), (c_uint16, "unit status"), (c_uint8, "code"))
 
 
