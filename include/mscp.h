@@ -35,6 +35,9 @@ extern "C" {
 #else
 #define MSCP_MUST_USE
 #endif
+#ifndef MSCP_INLINE
+#define MSCP_INLINE static inline /* shared.c makes calls of libmscp.so of these */
+#endif
 
 /* The version of this header, 0.5.0: a byte for each of the three numbers. Where mscp_version answers another number
  * the library is another one's. */
@@ -252,12 +255,12 @@ size_t mscp_host_align(void);
 #define MSCP_HOST_ROOM UINT64_C(0x484F5354524F4F4D)
 
 /* A handle on memory that is yours, for mscp_init. The handle lies where you put it. */
-static inline struct mscp mscp_over(void *memory, size_t length)
+MSCP_INLINE struct mscp mscp_over(void *memory, size_t length)
 {
     struct mscp handle = {memory, (uintptr_t)memory, length, MSCP_ROOM};
     return handle;
 }
-static inline struct mscp_host mscp_host_over(void *memory, size_t length)
+MSCP_INLINE struct mscp_host mscp_host_over(void *memory, size_t length)
 {
     struct mscp_host handle = {memory, (uintptr_t)memory, length, MSCP_HOST_ROOM};
     return handle;
@@ -267,7 +270,7 @@ static inline struct mscp_host mscp_host_over(void *memory, size_t length)
  * MSCP_HEAD + mscp_size() bytes so. Where there isn't even room for a handle this answers one on no memory, for which
  * mscp_init says why: that one isn't in your memory, so free the memory and never what this answers. A controller that
  * is in the memory already is forgotten: of what lies there nothing is known but that it is room. */
-static inline struct mscp *mscp_in_memory(void *memory, size_t length)
+MSCP_INLINE struct mscp *mscp_in_memory(void *memory, size_t length)
 {
     static struct mscp null = {NULL, 0, 0, MSCP_ROOM};
     static struct mscp misaligned = {NULL, 1, 0, MSCP_ROOM};
@@ -281,7 +284,7 @@ static inline struct mscp *mscp_in_memory(void *memory, size_t length)
     *(struct mscp *)memory = mscp_over((char *)memory + MSCP_HEAD, length - MSCP_HEAD);
     return (struct mscp *)memory;
 }
-static inline struct mscp_host *mscp_host_in_memory(void *memory, size_t length)
+MSCP_INLINE struct mscp_host *mscp_host_in_memory(void *memory, size_t length)
 {
     static struct mscp_host null = {NULL, 0, 0, MSCP_HOST_ROOM};
     static struct mscp_host misaligned = {NULL, 1, 0, MSCP_HOST_ROOM};
@@ -300,14 +303,14 @@ static inline struct mscp_host *mscp_host_in_memory(void *memory, size_t length)
  * alignment is the same. A controller and a host have no pointer into themselves, and the drive's work goes on:
  * mscp_begin tells it again. Of a handle of mscp_over the first two fields say where its memory is: set them, and no
  * other. */
-static inline struct mscp *mscp_moved(void *memory)
+MSCP_INLINE struct mscp *mscp_moved(void *memory)
 {
     struct mscp *handle = (struct mscp *)memory;
     handle->at = (char *)memory + MSCP_HEAD;
     handle->address = (uintptr_t)handle->at;
     return handle;
 }
-static inline struct mscp_host *mscp_host_moved(void *memory)
+MSCP_INLINE struct mscp_host *mscp_host_moved(void *memory)
 {
     struct mscp_host *handle = (struct mscp_host *)memory;
     handle->at = (char *)memory + MSCP_HEAD;
@@ -337,8 +340,8 @@ int32_t mscp_host_receive_at(struct mscp_host *host, const uint8_t *bytes, size_
  * those of the limits (-28 to -31). The controller is made on the stack, of which this takes some 28 KiB (no other call
  * takes over 2), and is moved into the memory. That may go at any time, without a call. */
 MSCP_MUST_USE
-static inline int32_t mscp_init(struct mscp *mscp, const struct mscp_limits *limits, const struct mscp_unit *units,
-                                size_t count, uint32_t picker)
+MSCP_INLINE int32_t mscp_init(struct mscp *mscp, const struct mscp_limits *limits, const struct mscp_unit *units,
+                              size_t count, uint32_t picker)
 {
     const struct mscp_unit none = {0, 0, 0, 0, 0, 0, 0, 0};
     return mscp_init_at(mscp, limits, count == 0 ? &none : units, count, picker);
@@ -353,8 +356,8 @@ MSCP_MUST_USE int32_t mscp_reset(struct mscp *mscp);
  * command is no fault: it gets an end that says why. An ABORT and a GET COMMAND STATUS name a command of the same
  * connection. */
 MSCP_MUST_USE
-static inline int32_t mscp_send(struct mscp *mscp, uint32_t connection, const uint8_t *message, size_t length,
-                                struct mscp_sent *sent)
+MSCP_INLINE int32_t mscp_send(struct mscp *mscp, uint32_t connection, const uint8_t *message, size_t length,
+                              struct mscp_sent *sent)
 {
     const uint8_t none = 0;
     return mscp_send_at(mscp, connection, length == 0 ? &none : message, length, sent);
@@ -381,7 +384,7 @@ MSCP_MUST_USE int32_t mscp_step(struct mscp *mscp, uint16_t status, struct mscp_
 
 /* The figures of the waiting commands of both connections, oldest first, as many as there is room for. How many wait: 0
  * to 63. */
-static inline int32_t mscp_look(const struct mscp *mscp, struct mscp_waiting *list, size_t room)
+MSCP_INLINE int32_t mscp_look(const struct mscp *mscp, struct mscp_waiting *list, size_t room)
 {
     struct mscp_waiting none = {0, 0, 0};
     return mscp_look_at(mscp, room == 0 ? &none : list, room);
@@ -390,8 +393,8 @@ static inline int32_t mscp_look(const struct mscp *mscp, struct mscp_waiting *li
 /* Who keeps the connection's waiting command of this reference number back, oldest first, as many as there is room for.
  * How many do: 0 to 62; 0 too where none waits of it. While no other command is in service, one of which nobody does may
  * start. */
-static inline int32_t mscp_why(const struct mscp *mscp, uint32_t connection, uint32_t reference,
-                               struct mscp_holder *list, size_t room)
+MSCP_INLINE int32_t mscp_why(const struct mscp *mscp, uint32_t connection, uint32_t reference,
+                             struct mscp_holder *list, size_t room)
 {
     struct mscp_holder none = {0, 0, 0, 0};
     return mscp_why_at(mscp, connection, reference, room == 0 ? &none : list, room);
@@ -423,7 +426,7 @@ int64_t mscp_host_balance(const struct mscp_host *host);
 /* This message is to be sent. MSCP_DONE: send it; its command is outstanding from now on. Or the first that holds of
  * MSCP_SHORT, MSCP_LONG, MSCP_NO_CREDIT, MSCP_LAST_CREDIT and MSCP_DOUBLED: don't. */
 MSCP_MUST_USE
-static inline int32_t mscp_host_submit(struct mscp_host *host, const uint8_t *message, size_t length)
+MSCP_INLINE int32_t mscp_host_submit(struct mscp_host *host, const uint8_t *message, size_t length)
 {
     const uint8_t none = 0;
     return mscp_host_submit_at(host, length == 0 ? &none : message, length);
@@ -437,8 +440,8 @@ MSCP_MUST_USE int32_t mscp_host_poll(struct mscp_host *host, uint32_t reference,
 /* An end was received. What it says is MSCP_ENDED to MSCP_LOST, and then `news` is filled and its command's credit is
  * free again; or MSCP_UNREADABLE or MSCP_UNKNOWN. */
 MSCP_MUST_USE
-static inline int32_t mscp_host_receive(struct mscp_host *host, const uint8_t *bytes, size_t length,
-                                        struct mscp_news *news)
+MSCP_INLINE int32_t mscp_host_receive(struct mscp_host *host, const uint8_t *bytes, size_t length,
+                                      struct mscp_news *news)
 {
     const uint8_t none = 0;
     return mscp_host_receive_at(host, length == 0 ? &none : bytes, length, news);
@@ -447,7 +450,7 @@ static inline int32_t mscp_host_receive(struct mscp_host *host, const uint8_t *b
 /* ---- statuses as texts */
 
 /* What a status says, for people. */
-static inline const char *mscp_status_text(int64_t status)
+MSCP_INLINE const char *mscp_status_text(int64_t status)
 {
     switch (status) {
     case MSCP_NOTHING: return "there is nothing";

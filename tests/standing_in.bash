@@ -1,15 +1,17 @@
-# What the tests of the scripts share: a tree in a folder with blanks in its name, with a stand-in for rt.
+# What the tests of the scripts share: a tree in a folder with blanks in its name, with stand-ins for rt and for the
+# compiler.
 
 . tests/counting.bash
 make_room
 tree="$room/a tree"
 export STAND_IN=$room/stand_in PATH=$PWD/tests/stand_in:$PATH TMPDIR=$room/tmp
+unset CC
 mkdir "$TMPDIR"
 
 # A tree of three tiny crates with nothing built, and nothing that rt was told or has told.
 plant() {
     rm -rf -- "$tree" "$STAND_IN" "$room/commands"
-    mkdir -p "$STAND_IN" "$tree"/{docs,include} "$tree"/crates/{low,mscp_c,mscpq}/{src/out,specs,proofs/main}
+    mkdir -p "$STAND_IN" "$tree"/{docs/pictures,include,examples} "$tree"/crates/{low,mscp_c,mscpq}/{src/out,specs,proofs/main}
     cp mscpq install building.bash "$tree"
     echo 'a kit' >"$STAND_IN/kit"
     echo 'Handles allowed: none.' >"$tree/HANDLES"
@@ -19,7 +21,16 @@ plant() {
     echo library >"$tree/crates/mscp_c/src/lib.rt"
     echo probe >"$tree/crates/mscpq/stdin"
     echo page >"$tree/docs/mscpq.1"
+    echo calls >"$tree/docs/mscp.3"
+    echo document >"$tree/docs/C.md"
+    echo picture >"$tree/docs/pictures/it.svg"
+    echo changes >"$tree/CHANGELOG.md"
+    echo first >"$tree/README.md"
+    echo examples >"$tree/examples/README.md"
+    printf '%s\n' '#!/bin/sh' >"$tree/examples/worst"
+    chmod +x "$tree/examples/worst"
     echo header >"$tree/include/mscp.h"
+    echo exports >"$tree/include/shared.c"
     echo 1.2.3 >"$tree/VERSION"
 }
 
