@@ -1,6 +1,38 @@
 -- What a queue keeps of its waiting commands for a picker stays true.
-use Rattle.std.proofs.Common.{All, ◌≡◌, ◌≢◌, ◌⊎◌, inl, inr, set, ℕ, ◌+◌, ◌<◌, ◌≤◌, Bool, true, false, cond, not,
-    ◌||◌, List, [], ◌∷◌, ◌++◌, map, take, drop, get_or, length, refl, ap, sym, ◌∙◌, subst, arith}
+use Rattle.std.proofs.Common.{
+  All,
+  ◌≡◌,
+  ◌≢◌,
+  ◌⊎◌,
+  inl,
+  inr,
+  set,
+  ℕ,
+  ◌+◌,
+  ◌<◌,
+  ◌≤◌,
+  Bool,
+  true,
+  false,
+  cond,
+  not,
+  ◌||◌,
+  List,
+  [],
+  ◌∷◌,
+  ◌++◌,
+  map,
+  take,
+  drop,
+  get_or,
+  length,
+  refl,
+  ap,
+  sym,
+  ◌∙◌,
+  subst,
+  arith,
+}
 use Rattle.std.specs.Prelude.{find, nat_eq, nat_lt, unwrap_or, Some, None}
 use Rattle.std.specs.Int.{bit_at}
 use Rattle.std.specs.List.{list_any, position, position_or_len, range_with_len}
@@ -10,8 +42,16 @@ use Rattle.mscp_packet.specs.declared.command.Order.TheVariants as orders
 use Rattle.mscp_drive.specs.declared.head.Head.{Head}
 use Rattle.mscp_drive.specs.Heads.{sweep_cost}
 use Rattle.std.proofs.lemmas.Bool.{eq-eqb, eqb-true, false≢true, ne_eqb}
-use Rattle.std.proofs.lemmas.List.{ext_get_or, get_or_default, get_or-map, get_or-set_other, get_or-set_same,
-    length-set, length-map, map-append}
+use Rattle.std.proofs.lemmas.List.{
+  ext_get_or,
+  get_or_default,
+  get_or-map,
+  get_or-set_other,
+  get_or-set_same,
+  length-set,
+  length-map,
+  map-append,
+}
 use Rattle.mscp_packet.specs.declared.command.Command.{Command}
 use Rattle.mscp_drive.specs.Shape.{Shape, cylinder_of, last_cylinder}
 use Rattle.mscp_queue.specs.Orders.{first_block, is_move, order_cost}
@@ -22,8 +62,18 @@ use Rattle.mscp_queue.specs.declared.view.Choice.{Choice}
 use Rattle.mscp_queue.specs.Aims.{aim_of, no_aim, unit_place}
 use Rattle.mscp_queue.specs.Drives.{drive_of, fresh_drive, has_number, one_block, replaced}
 use Rattle.mscp_queue.specs.Kept.{CanBeShown, is_known, names, units_of}
-use Rattle.mscp_queue.specs.Lineups.{IsLineup, IsRenewed, choice_in, cost_on, costing, costing_if, has_choice_name,
-    no_choice, renewed, sure_of}
+use Rattle.mscp_queue.specs.Lineups.{
+  IsLineup,
+  IsRenewed,
+  choice_in,
+  cost_on,
+  costing,
+  costing_if,
+  has_choice_name,
+  no_choice,
+  renewed,
+  sure_of,
+}
 use Rattle.mscp_queue.specs.Masks.{IsSet}
 use Rattle.mscp_queue.specs.Names.{same_name}
 use Rattle.mscp_queue.specs.Records.{Record, advanced, has_name, name_of, no_record, passed_by, record_at}
@@ -186,11 +236,11 @@ place_within (u ∷ us) n = by (nat_eq u.number n) (place_within us n)
 
 module _ (stale stale' at u : ℕ) (us : List Shape) (few : length us ≤ 16) (set : IsSet true at stale stale') where
   bit_is : (n : ℕ) → bit_at stale' (unit_place us n) ≡ cond (nat_eq (unit_place us n) at) 1 (bit_at stale
-    (unit_place us n))
+      (unit_place us n))
   bit_is n = let within = place_within us n in set (unit_place us n) (omega (arith, within, few))
 
   still : (n : ℕ) → nat_eq (bit_at stale (unit_place us n)) 1 ≡ true → nat_eq (bit_at stale'
-    (unit_place us n)) 1 ≡ true
+      (unit_place us n)) 1 ≡ true
   still n e = by (nat_eq (unit_place us n) at) refl
     where
       by : (b : Bool) → nat_eq (unit_place us n) at ≡ b → nat_eq (bit_at stale' (unit_place us n)) 1 ≡ true

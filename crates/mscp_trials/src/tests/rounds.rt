@@ -79,7 +79,11 @@ fn serve(rt: &impl Abort, controller: &mut Controller<Newest>, reference: u32, f
     let mut head = from;
     for place in 0..BLOCKS {
         let report = controller.step(Block::Good);
-        assert_eq!(rt; report, served(reference, first + place, place, head), "block {place} of {reference}");
+        assert_eq!(rt;
+            report,
+            served(reference, first + place, place, head),
+            "block {place} of {reference}"
+        );
         head = first + place;
     }
     head

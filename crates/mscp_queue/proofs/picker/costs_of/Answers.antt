@@ -19,5 +19,5 @@ loop-place-preserved c =
         c.loop-place-test.true,
         c.loop-place.auto.place-end,
       )) (sym (get_or-map (λ (q : Choice). q.cost) choices place _ 0 c.loop-place-test.true))
-      c.loop-place.invariant.each;
+          c.loop-place.invariant.each;
     }

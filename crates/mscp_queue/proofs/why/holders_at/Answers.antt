@@ -9,10 +9,10 @@ pub loop-earlier-preserved : goal.loop-earlier-preserved
 loop-earlier-preserved c =
     let rs = c.args.backlog.now.waiting in
     let what : c.holder_of-holder.result
-        ≡ holder_of c.args.budget (record_at rs c.args.place) (record_at rs c.loop-earlier.earlier) =
-        c.holder_of-holder.ensures
-        ∙ (ap (λ (r : Record). holder_of c.args.budget r c.record.result.now) c.record-later.ensures
-        ∙ ap (holder_of c.args.budget (record_at rs c.args.place)) c.record.ensures) in
+    ≡ holder_of c.args.budget (record_at rs c.args.place) (record_at rs c.loop-earlier.earlier) =
+    c.holder_of-holder.ensures
+    ∙ (ap (λ (r : Record). holder_of c.args.budget r c.record.result.now) c.record-later.ensures
+    ∙ ap (holder_of c.args.budget (record_at rs c.args.place)) c.record.ensures) in
     holders_more c.keeps_back.result c.holder_of-holder.result
     (c.keeps_back.ensures ∙ ap (λ (h : Holder). h.fences || h.overdrawn) what)
     what c.append_if.ensures c.loop-earlier.invariant
@@ -23,6 +23,6 @@ returns-clause-none c =
     let place = c.args.place in
     let inv = c.loop-earlier.invariant in
     let end : c.loop-earlier.earlier ≡ place =
-        omega (arith, c.loop-earlier-test.false, c.loop-earlier.auto.earlier-end) in
+    omega (arith, c.loop-earlier-test.false, c.loop-earlier.auto.earlier-end) in
     ap is_nobody (inv.told ∙ ap (holders_among c.args.budget rs place) end)
     ∙ none_keeps_back c.args.budget rs place place (omega (arith, c.requires.place))

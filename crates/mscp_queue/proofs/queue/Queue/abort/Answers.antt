@@ -73,7 +73,7 @@ invariant_of-self g c =
       ready = ready_left c.in_ok-place.place c.self.invariant.ready at.inside e.budget e.waiting e.aims
           c.without_place-self-inside.ensures c.without_place-self-inside-2.ensures;
       lined = line_without c.in_ok-place.place c.self.invariant.lined c.remove.ensures.view c.remove.ensures.stale
-      e.waiting;
+          e.waiting;
     }
 
 pub returns-clause-end : goal.returns-clause-end

@@ -170,7 +170,7 @@ invariant_of-self g c =
     record {
       ready = ready;
       lined = lineup_served c.from-at.result r.command.unit _ d' ends c.self.invariant.lined
-      c.self.invariant.ready.held.units.few c.serve-2.ensures.stale
+          c.self.invariant.ready.held.units.few c.serve-2.ensures.stale
           (at.placed ∙ place_same ds r.command.unit) number now same next.servable.inside e.waiting
           c.serve-2.ensures.view;
     }
