@@ -7,11 +7,15 @@ ghost use Rattle.mscp_queue.specs.Figures.{figure_at, figures};
 ghost use Rattle.mscp_queue.specs.Orders.{is_sequential};
 ghost use Rattle.mscp_queue.specs.Records.{advanced, has_name, has_number, is_in_service, is_unstarted, left_of, passed_by, record_at, step_toll};
 ghost use Rattle.mscp_queue.specs.Aims.{no_aim};
+ghost use Rattle.mscp_queue.specs.Drives.{IsOnUnit};
+ghost use Rattle.mscp_queue.specs.Lineups.{AreOnDrive, IsRecosted};
 ghost use Rattle.mscp_queue.specs.Slots.{is_unfenced_at, kinds_of, lowered_by, slot_at};
 
 use crate::aim::Aim;
+use crate::drive::Drive;
 use crate::name::{Connection, Name};
 use crate::record::Record;
+use crate::roll::Roll;
 use crate::slots::{Slot, Slots};
 use arrayvec::ArrayVec;
 use std::marker::Model;
@@ -162,6 +166,17 @@ impl Backlog {
         ensures { result ≡ self.now.budget - (record_at self.now.waiting 0).passed }
     {
         self.budget.saturating_sub(self.slots.item(0).passed())
+    }
+
+    /// Finds anew what the starts on the drive at a place cost, in a roll of the commands.
+    pub fn renew(&self, roll: &mut Roll, drive: &Drive, at: usize)
+        requires drive { at < 16 }
+        requires long { length roll.old ≡ length self.now.waiting }
+        requires head { IsOnUnit drive.now }
+        requires to { AreOnDrive at drive.now self.now.aims }
+        ensures { IsRecosted at drive.now self.now.aims roll.old roll.new }
+    {
+        self.slots.renew(roll, drive, at);
     }
 
     /// Whether no command that came earlier keeps the one at the place back.
