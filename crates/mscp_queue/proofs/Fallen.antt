@@ -104,7 +104,7 @@ not_front k (x ∷ front) n back a e =
     let other : k ≢ x = λ f. on_off (ap bit (sym (has_back x front n back (ap (λ k. has k back) (sym f) ∙ e)) ∙ a.1)) in
     ap (λ b. b || has k front) (ne_eqb k x other) ∙ not_front k front n back a.2 e
 
-slots_front : (front : List ℕ) (n : ℕ) (back : List ℕ) → AreSlots (front ++ n ∷ back) → AreSlots front
+pub slots_front : (front : List ℕ) (n : ℕ) (back : List ℕ) → AreSlots (front ++ n ∷ back) → AreSlots front
 slots_front [] n back a = tt
 slots_front (x ∷ front) n back a = (a.0, in_part x front (n ∷ back) a.1, slots_front front n back a.2)
   where

@@ -22,6 +22,9 @@ pub mod Cleared
 pub mod Freed
 pub mod Shown
 pub mod Fallen
+pub mod Counted
+pub mod Rolls
+pub mod Recosted
 pub mod Dues
 pub mod BacklogSteps
 pub mod Backlogs

@@ -63,7 +63,9 @@ use Rattle.mscp_queue.specs.Aims.{aim_of, no_aim, unit_place}
 use Rattle.mscp_queue.specs.Drives.{drive_of, fresh_drive, has_number, one_block, replaced}
 use Rattle.mscp_queue.specs.Kept.{CanBeShown, is_known, names, units_of}
 use Rattle.mscp_queue.specs.Lineups.{
+  AreOnDrive,
   IsLineup,
+  IsRecosted,
   IsRenewed,
   choice_in,
   cost_on,
@@ -83,6 +85,7 @@ use Rattle.mscp_queue.proofs.Drives.{known_at, place_is}
 use Rattle.mscp_queue.proofs.Turns.{pairs_rise}
 use Rattle.mscp_drive.specs.UnitList.{IsUnitList}
 use Rattle.mscp_queue.specs.declared.aim.Aim.{Aim}
+use Rattle.mscp_queue.proofs.Masked.{same_or}
 use Rattle.mscp_queue.proofs.Placed.{map_map}
 use Rattle.mscp_queue.proofs.Unmoved.{made_served, map_cut}
 
@@ -410,58 +413,6 @@ lineup_renewed {stale} {stale'} {at} {ds} {rs} {old} {new} h made set few known 
           ∙ (both (nat_eq n number) refl ∙ sym (get_or-map of rs k no_record no_choice below))));
     }
 
--- the choices below a place are renewed, and those from it on are as they were
-pub record Renewing (at place : ℕ) (ds : List Drive) (rs : List Record) (old new : List Choice) : Type 0 where
-  pub long : length new ≡ length old
-  pub below : (k : ℕ) → k < place → get_or new k no_choice
-      ≡ renewed (get_or ds at (fresh_drive one_block)).unit.number ds (record_at rs k) (get_or old k no_choice)
-  pub above : (k : ℕ) → place ≤ k → get_or new k no_choice ≡ get_or old k no_choice
-
-pub none_renewed : (at : ℕ) (ds : List Drive) (rs : List Record) (old : List Choice) → Renewing at 0 ds rs old old
-none_renewed at ds rs old = record { long = refl; below = λ k l. absurd (omega (arith, l)); above = λ k l. refl }
-
-pub renew_more : {at place : ℕ} {ds : List Drive} {rs : List Record} {old new new' : List Choice}
-    → Renewing at place ds rs old new → place < length old
-    → new' ≡ set new place (renewed (get_or ds at (fresh_drive one_block)).unit.number ds (record_at rs place)
-    (get_or new place no_choice))
-    → Renewing at (place + 1) ds rs old new'
-renew_more {at} {place} {ds} {rs} {old} {new} {new'} h l e =
-    let number = (get_or ds at (fresh_drive one_block)).unit.number in
-    let long = h.long in
-    let x = renewed number ds (record_at rs place) (get_or new place no_choice) in
-    let other : (k : ℕ) → k ≢ place → get_or new' k no_choice ≡ get_or new k no_choice =
-    λ k d. ap (λ zs. get_or zs k no_choice) e ∙ get_or-set_other new place k x no_choice d in
-    let there : get_or new' place no_choice ≡ renewed number ds (record_at rs place) (get_or old place no_choice) =
-    ap (λ zs. get_or zs place no_choice) e
-    ∙ (get_or-set_same new place x no_choice (omega (arith, l, long))
-    ∙ ap (renewed number ds (record_at rs place)) (h.above place (omega arith))) in
-    record {
-      long = ap length e ∙ (length-set new place x ∙ h.long);
-      below = λ k b. go k (compare k place b) there other;
-      above = λ k b. other k (λ f. omega (arith, b, f)) ∙ h.above k (omega (arith, b));
-    }
-  where
-    compare : (k place : ℕ) → k < place + 1 → (k < place) ⊎ (k ≡ place)
-    compare k place b = grind arith
-
-    go : (k : ℕ) → (k < place) ⊎ (k ≡ place)
-        → get_or new' place no_choice
-        ≡ renewed (get_or ds at (fresh_drive one_block)).unit.number ds (record_at rs place)
-        (get_or old place no_choice)
-        → ((k : ℕ) → k ≢ place → get_or new' k no_choice ≡ get_or new k no_choice)
-        → get_or new' k no_choice
-        ≡ renewed (get_or ds at (fresh_drive one_block)).unit.number ds (record_at rs k) (get_or old k no_choice)
-    go k (inl under) there other = other k (λ f. omega (arith, under, f)) ∙ h.below k under
-    go k (inr f) there other =
-        subst (λ j. get_or new' j no_choice
-        ≡ renewed (get_or ds at (fresh_drive one_block)).unit.number ds (record_at rs j) (get_or old j no_choice))
-        (sym f)
-        there
-
-pub all_renewed : {at place : ℕ} {ds : List Drive} {rs : List Record} {old new : List Choice}
-    → Renewing at place ds rs old new → length old ≤ place → IsRenewed at ds rs old new
-all_renewed h l = record { long = h.long; each = λ k b. h.below k (omega (arith, b, l)) }
-
 -- a transfer's cost
 pub move_cost : (u : Shape) (head : Head) (o : Order) (to : ℕ) → is_move o ≡ true
     → to ≡ cylinder_of u (first_block o) → sweep_cost (last_cylinder u) head.cylinder head.up to ≡ order_cost u head o
@@ -479,32 +430,81 @@ move_cost u head (orders.Invalid opcode status) to m e = absurd (false≢true m)
 pub record IsOn (ds : List Drive) (r : Record) (d : Drive) (to : ℕ) : Type 0 where
   pub within : to ≤ last_cylinder d.unit
   pub cost : cost_on d to ≡ (choice_in ds r).cost
+  pub number : d.unit.number ≡ r.command.unit
 
-pub on_drive : {stale at place : ℕ} {ds : List Drive} {rs : List Record} {aims : List Aim} {old new : List Choice}
-    (d : Drive) (a : Aim)
-    → CanBeShown ds rs aims → IsUnitList (units_of ds) → IsLineup stale ds rs old → Renewing at place ds rs old new
-    → All (λ r. is_move r.command.order ≡ true) rs → at < length ds → place < length rs → d ≡ get_or ds at d
-    → a ≡ get_or aims place no_aim → nat_eq (get_or new place no_choice).unit d.unit.number ≡ true
-    → IsOn ds (record_at rs place) d a.cylinder
-on_drive {stale} {at} {place} {ds} {rs} {aims} {old} {new} d a shown units h made moves inside l found aim e =
+-- a command that aims at the drive at a place
+pub on_drive : {at place : ℕ} {ds : List Drive} {rs : List Record} {aims : List Aim} (d : Drive) (a : Aim)
+    → CanBeShown ds rs aims → All (λ r. is_move r.command.order ≡ true) rs → place < length rs → d ≡ get_or ds at d
+    → a ≡ get_or aims place no_aim → a.drive ≡ at → IsOn ds (record_at rs place) d a.cylinder
+on_drive {at} {place} {ds} {rs} {aims} d a shown moves l found aim e =
     let us = units_of ds in
     let r = record_at rs place in
     let own = sym (get_or_default rs place r no_record l) in
-    let number : r.command.unit ≡ d.unit.number =
-    sym (same_unit h place l) ∙ (ap (λ (c : Choice). c.unit) (sym (made.above place (omega arith)))
-    ∙ eqb-true (get_or new place no_choice).unit d.unit.number e) in
-    let there = place_is ds at r.command.unit d (pairs_rise us units.rising) inside found (sym number) in
     let is : a ≡ aim_of us r.command = aim ∙ own_aim ds rs aims place r no_aim shown l own in
-    let drive : at ≡ a.drive = sym there ∙ (place_same ds r.command.unit ∙ ap (λ (a : Aim). a.drive) (sym is)) in
-    let to = led ds r at a d shown.heads (own_blocks ds rs aims place r shown l own) drive is found in
+    let to = led ds r at a d shown.heads (own_blocks ds rs aims place r shown l own) (sym e) is found in
     let move = moves place no_record l in
     record {
       within = subst (λ k. k ≤ last_cylinder d.unit) (sym to.aimed.cylinder_is)
           (cylinder_within d.unit (first_block r.command.order) (to.aimed.block move));
       cost = move_cost d.unit d.head r.command.order a.cylinder move to.aimed.cylinder_is
           ∙ ap (λ (q : Drive). order_cost q.unit q.head r.command.order) to.drive;
+      number =
+          let there = known_at ds r.command.unit d (own_blocks ds rs aims place r shown l own).0 in
+          ap (λ (q : Drive). q.unit.number) (to.drive ∙ sym there.drive) ∙ there.number;
     }
 
-pub costing_same : (b : Bool) (x y : ℕ) (c : Choice) → (b ≡ true → x ≡ y) → costing_if b x c ≡ costing_if b y c
-costing_same true x y c h = ap (λ n. costing n c) (h refl)
-costing_same false x y c h = refl
+-- a command to the unit of the drive at a place aims there
+aims_there : {at place : ℕ} {ds : List Drive} {rs : List Record} {aims : List Aim} (d : Drive) (a : Aim)
+    → CanBeShown ds rs aims → IsUnitList (units_of ds) → at < length ds → place < length rs → d ≡ get_or ds at d
+    → a ≡ get_or aims place no_aim → (record_at rs place).command.unit ≡ d.unit.number → a.drive ≡ at
+aims_there {at} {place} {ds} {rs} {aims} d a shown units inside l found aim e =
+    let us = units_of ds in
+    let r = record_at rs place in
+    let own = sym (get_or_default rs place r no_record l) in
+    let there = place_is ds at r.command.unit d (pairs_rise us units.rising) inside found (sym e) in
+    let is : a ≡ aim_of us r.command = aim ∙ own_aim ds rs aims place r no_aim shown l own in
+    ap (λ (a : Aim). a.drive) is ∙ (sym (place_same ds r.command.unit) ∙ there)
+
+-- each that aims there has its first block on it
+pub all_on_drive : {at : ℕ} {ds : List Drive} {rs : List Record} {aims : List Aim} (d : Drive) → CanBeShown ds rs aims
+    → All (λ r. is_move r.command.order ≡ true) rs → d ≡ get_or ds at d → AreOnDrive at d aims
+all_on_drive {at} {ds} {rs} {aims} d shown moves found place other l =
+    let many : length aims ≡ length rs = ap length shown.aimed ∙ length-map rs (λ (r : Record). aim_of (units_of ds)
+    r.command) in
+    λ e. (on_drive d (get_or aims place other) shown moves (omega (arith, l, many)) found
+    (get_or_default aims place other no_aim l) e).within
+
+-- so the costs are found anew of those that are to its unit
+pub recosted_renewed : {stale at : ℕ} {ds : List Drive} {rs : List Record} {aims : List Aim} {old new : List Choice}
+    (d : Drive) → CanBeShown ds rs aims → IsUnitList (units_of ds) → IsLineup stale ds rs old
+    → All (λ r. is_move r.command.order ≡ true) rs → at < length ds → d ≡ get_or ds at d
+    → IsRecosted at d aims old new → IsRenewed at ds rs old new
+recosted_renewed {stale} {at} {ds} {rs} {aims} {old} {new} d shown units h moves inside found made = record {
+  long = made.long;
+  each = λ k l.
+      let below : k < length rs = omega (arith, l, as_many h) in
+      let a = get_or aims k no_aim in
+      let x = get_or old k no_choice in
+      let cost = (choice_in ds (record_at rs k)).cost in
+      let unit = same_unit h k below in
+      let number : d.unit.number ≡ (get_or ds at (fresh_drive one_block)).unit.number =
+      ap (λ (q : Drive). q.unit.number) (found ∙ get_or_default ds at d (fresh_drive one_block) inside) in
+      let off : a.drive ≢ at → nat_eq x.unit d.unit.number ≡ false = λ f. ne_eqb x.unit d.unit.number
+      (λ e. f (aims_there d a shown units inside below found refl (sym unit ∙ e))) in
+      let on : a.drive ≡ at → IsOn ds (record_at rs k) d a.cylinder = on_drive d a shown moves below found refl in
+      made.each k l
+      ∙ (both a.drive (cost_on d a.cylinder) cost x (λ e. (on e).cost) (λ e. unit ∙ sym (on e).number) off
+      (same_or a.drive at)
+      ∙ ap (λ n. costing_if (nat_eq x.unit n) cost x) number);
+}
+  where
+    both : (own there cost : ℕ) (x : Choice) → (own ≡ at → there ≡ cost) → (own ≡ at → x.unit ≡ d.unit.number)
+        → (own ≢ at → nat_eq x.unit d.unit.number ≡ false) → (own ≡ at) ⊎ (own ≢ at)
+        → costing_if (nat_eq own at) there x ≡ costing_if (nat_eq x.unit d.unit.number) cost x
+    both own there cost x same unit off (inl e) =
+        ap (λ b. costing_if b there x) (eq-eqb own at e)
+        ∙ (ap (λ n. costing n x) (same e)
+        ∙ ap (λ b. costing_if b cost x) (sym (eq-eqb x.unit d.unit.number (unit e))))
+    both own there cost x same unit off (inr f) =
+        ap (λ b. costing_if b there x) (ne_eqb own at f) ∙ ap (λ b. costing_if b cost x) (sym (off f))
+

@@ -1,14 +1,15 @@
 -- Names are the same exactly where both of their parts are.
 use Rattle.std.proofs.Common.{◌≡◌, ◌≢◌, Bool, true, false, ◌&&◌, ◌||◌, List, [], ◌∷◌, refl, ap, sym, ◌∙◌, subst}
 use Rattle.std.specs.Prelude.{nat_eq}
-use Rattle.std.proofs.lemmas.Bool.{and_parts, and_right, eq-eqb, eqb-true, false≢true, or_parts, true≢false}
+use Rattle.std.proofs.lemmas.Bool.{and_parts, and_right, eq-eqb, eqb-true, false≢true, ne_eqb, or_parts, true≢false}
 use Rattle.std.specs.List.{list_any}
 use Rattle.mscp_queue.specs.declared.name.Connection.{Connection}
 use Rattle.mscp_queue.specs.declared.name.Connection.TheVariants.{First, Second}
 use Rattle.mscp_queue.specs.declared.name.Name.{Name}
 use Rattle.mscp_queue.specs.Names.{name_on, same_connection, same_name}
 use Rattle.mscp_queue.specs.declared.view.Choice.{Choice}
-use Rattle.mscp_queue.specs.Lineups.{has_choice_name, has_choice_number}
+use Rattle.mscp_queue.specs.Lineups.{has_choice_name}
+use Rattle.mscp_queue.specs.Rolls.{has_byte, low_byte}
 
 pub one_side : (a b : Connection) → same_connection a b ≡ true → a ≡ b
 one_side First First h = refl
@@ -44,14 +45,17 @@ is_differ x y d =
     ] in
     both (same_name x y) refl
 
--- where none has the number none has the name
-pub unnumbered : (name : Name) (cs : List Choice) → list_any (has_choice_number name.reference) cs ≡ false
+-- where none has the low byte none has the name
+pub unnumbered : (name : Name) (cs : List Choice) → list_any (has_byte (low_byte name.reference)) cs ≡ false
     → list_any (has_choice_name name) cs ≡ false
 unnumbered name [] h = refl
 unnumbered name (c ∷ cs) h =
-    let p = or_parts (has_choice_number name.reference c) (list_any (has_choice_number name.reference) cs) h in
+    let byte = low_byte name.reference in
+    let p = or_parts (has_byte byte c) (list_any (has_byte byte) cs) h in
     ap (λ b. b || list_any (has_choice_name name) cs)
-    (and_right (same_connection c.connection name.connection) (has_choice_number name.reference c) p.0)
+    (and_right (same_connection c.connection name.connection) (nat_eq c.reference name.reference)
+    (ne_eqb c.reference name.reference
+    (λ e. true≢false (sym (eq-eqb (low_byte c.reference) byte (ap low_byte e)) ∙ p.0))))
     ∙ unnumbered name cs p.1
 
 pub other_side : (a b : Connection) → same_connection a b ≡ false → same_connection b a ≡ false

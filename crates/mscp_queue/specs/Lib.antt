@@ -11,6 +11,7 @@ pub mod Serving
 pub mod Figures
 pub mod Lines
 pub mod Lineups
+pub mod Rolls
 pub mod Kept
 pub mod Aims
 pub mod Lanes

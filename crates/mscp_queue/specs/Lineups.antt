@@ -3,6 +3,7 @@ use Rattle.std.specs.Prelude.{
   ◌≡◌,
   ℕ,
   ◌<◌,
+  ◌≤◌,
   ◌==◌,
   Bool,
   if◌then◌else◌,
@@ -12,6 +13,7 @@ use Rattle.std.specs.Prelude.{
   map,
   nat_eq,
   slice_index_or,
+  All,
 }
 use Rattle.std.specs.Int.{bit_at}
 use Rattle.mscp_packet.specs.declared.class.Class.TheVariants.{Unknown}
@@ -21,7 +23,8 @@ use Rattle.mscp_queue.specs.declared.drive.Drive.{Drive}
 use Rattle.mscp_queue.specs.declared.name.Connection.TheVariants.{First}
 use Rattle.mscp_queue.specs.declared.name.Name.{Name}
 use Rattle.mscp_queue.specs.declared.view.Choice.{Choice}
-use Rattle.mscp_queue.specs.Aims.{unit_place}
+use Rattle.mscp_queue.specs.declared.aim.Aim.{Aim}
+use Rattle.mscp_queue.specs.Aims.{no_aim, unit_place}
 use Rattle.mscp_queue.specs.Drives.{drive_of, fresh_drive, one_block}
 use Rattle.mscp_queue.specs.Kept.{IsReady, units_of}
 use Rattle.mscp_queue.specs.Waiters.{Waiters}
@@ -36,10 +39,6 @@ no_choice = record { connection = First; reference = 0; unit = 0; class = Unknow
 -- the choice is of the command of this name
 abbrev pub has_choice_name : Name → Choice → Bool
 has_choice_name name c = same_name (choice_name c) name
-
--- the choice is of a command of this reference number
-abbrev pub has_choice_number : ℕ → Choice → Bool
-has_choice_number reference c = nat_eq c.reference reference
 
 -- the same choice at another cost
 abbrev pub costing : ℕ → Choice → Choice
@@ -76,6 +75,20 @@ pub record IsRenewed (at : ℕ) (ds : List Drive) (rs : List Record) (old new : 
   pub each : (k : ℕ) → k < length old → slice_index_or new k no_choice
       ≡ renewed (slice_index_or ds at (fresh_drive one_block)).unit.number ds (record_at rs k)
       (slice_index_or old k no_choice)
+
+-- the same choice at the cost on this drive, which stands at a place, if its command aims there
+abbrev pub recosted : ℕ → Drive → Aim → Choice → Choice
+recosted at d a c = costing_if (nat_eq a.drive at) (cost_on d a.cylinder) c
+
+-- the choices of commands that aim so cost what their starts cost on the drive at a place, and the others stay
+pub record IsRecosted (at : ℕ) (d : Drive) (own : List Aim) (old new : List Choice) : Type 0 where
+  pub long : length new ≡ length old
+  pub each : (k : ℕ) → k < length old
+      → slice_index_or new k no_choice ≡ recosted at d (slice_index_or own k no_aim) (slice_index_or old k no_choice)
+
+-- each command that aims at the drive at a place has its first block on a cylinder of it
+abbrev pub AreOnDrive : ℕ → Drive → List Aim → Type 0
+AreOnDrive at d own = All (λ a. a.drive ≡ at → a.cylinder ≤ last_cylinder d.unit) own
 
 -- a queue is ready, and it knows what a picker would see of those that wait
 pub record IsPrepared (room longest : ℕ) (w : Waiters) (ds : List Drive) (begun serving : Option ℕ) (stale : ℕ)

@@ -7,11 +7,15 @@ ghost use Rattle.mscp_queue.specs.Figures.{figure_at, figures};
 ghost use Rattle.mscp_queue.specs.Orders.{is_sequential};
 ghost use Rattle.mscp_queue.specs.Records.{advanced, has_name, has_number, is_in_service, is_unstarted, left_of, passed_by, record_at, step_toll};
 ghost use Rattle.mscp_queue.specs.Aims.{no_aim};
+ghost use Rattle.mscp_queue.specs.Drives.{IsOnUnit};
+ghost use Rattle.mscp_queue.specs.Lineups.{AreOnDrive, IsRecosted};
 ghost use Rattle.mscp_queue.specs.Slots.{is_unfenced_at, kinds_of, lowered_by, slot_at};
 
 use crate::aim::Aim;
+use crate::drive::Drive;
 use crate::name::{Connection, Name};
 use crate::record::Record;
+use crate::roll::Roll;
 use crate::slots::{Slot, Slots};
 use arrayvec::ArrayVec;
 use std::marker::Model;
@@ -50,6 +54,7 @@ impl Model for Backlog {
 }
 
 /// The command at the place starts at this clock, if it wasn't started before.
+#[inline(always)]
 fn start(slots: &mut Slots, place: usize, clock: u64)
     requires place { place < length slots.old }
     requires small { is_unstarted (slot_at slots.old place).item ≡ true
@@ -163,6 +168,17 @@ impl Backlog {
         self.budget.saturating_sub(self.slots.item(0).passed())
     }
 
+    /// Finds anew what the starts on the drive at a place cost, in a roll of the commands.
+    pub fn renew(&self, roll: &mut Roll, drive: &Drive, at: usize)
+        requires drive { at < 16 }
+        requires long { length roll.old ≡ length self.now.waiting }
+        requires head { IsOnUnit drive.now }
+        requires to { AreOnDrive at drive.now self.now.aims }
+        ensures { IsRecosted at drive.now self.now.aims roll.old roll.new }
+    {
+        self.slots.renew(roll, drive, at);
+    }
+
     /// Whether no command that came earlier keeps the one at the place back.
     pub fn is_free(&self, place: usize) -> bool
         requires { place < length self.now.waiting }
@@ -241,6 +257,7 @@ impl Backlog {
     }
 
     /// The command at the place has a step: a start, with which it passes each in front of it, or another.
+    #[inline(always)]
     fn advance(&mut self, place: usize)
         requires place { place < length self.old.waiting }
         requires unfinished { (record_at self.old.waiting place).done < (record_at self.old.waiting place).weight }
@@ -261,7 +278,9 @@ impl Backlog {
         self.clock = set_back(&mut self.slots, self.clock + 1);
     }
 
-    /// The command in service at the place leaves: nobody waits any more for what is left of it.
+    /// The command in service at the place leaves: nobody waits any more for what is left of it. A step that ends nothing is
+    /// quicker with this beside it.
+    #[inline(never)]
     fn leave(&mut self, place: usize)
         requires place { place < length self.old.waiting }
         requires serving { is_in_service (record_at self.old.waiting place) ≡ true }
@@ -292,6 +311,7 @@ impl Backlog {
     }
 
     /// A step of the command at the place: it ends with it, or not.
+    #[inline(always)]
     pub fn serve(&mut self, place: usize, ends: bool)
         requires place { place < length self.old.waiting }
         requires unfinished { (record_at self.old.waiting place).done < (record_at self.old.waiting place).weight }

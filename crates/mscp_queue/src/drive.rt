@@ -29,6 +29,16 @@ impl Drive {
             head: Head::default(),
         }
     }
+
+    /// Goes over to another state and another head of the same unit, which isn't written anew: a step does this.
+    #[inline(always)]
+    pub(crate) fn follow(&mut self, after: &Drive)
+        requires { after.now.unit ≡ self.old.unit }
+        ensures { self.new ≡ after.now }
+    {
+        self.online = after.online;
+        self.head = after.head;
+    }
 }
 
 /// The drive of the smallest unit, which fills the places of a list that isn't full.

@@ -14,6 +14,7 @@ mod picker;
 mod queue;
 mod record;
 mod report;
+mod roll;
 mod service;
 mod slots;
 mod start;

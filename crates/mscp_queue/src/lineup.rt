@@ -8,21 +8,22 @@ ghost use Rattle.mscp_drive.specs.Shape.{last_cylinder};
 ghost use Rattle.mscp_queue.specs.Aims.{no_aim};
 ghost use Rattle.mscp_queue.specs.Drives.{IsOnUnit};
 ghost use Rattle.mscp_queue.specs.Kept.{CanBeShown, units_of};
-ghost use Rattle.mscp_queue.specs.Lineups.{IsLineup, IsRenewed, choice_in, cost_on, costing_if, has_choice_name, has_choice_number, no_choice};
+ghost use Rattle.mscp_queue.specs.Lineups.{IsLineup, IsRenewed, choice_in, cost_on, costing_if, has_choice_name, no_choice};
 ghost use Rattle.mscp_queue.specs.Masks.{IsSet};
 ghost use Rattle.mscp_queue.specs.Orders.{is_move};
 
 use crate::backlog::Backlog;
 use crate::drive::Drive;
-use crate::masks::with_bit;
+use crate::masks::{lowest_set, with_bit};
 use crate::name::Name;
-use crate::view::{Choice, View};
+use crate::roll::Roll;
+use crate::view::Choice;
 
 /// What a picker would see of each command that waits, in order of arrival, if each might start. It is kept from start to
 /// start: only the costs on drives that served since are found anew.
 #[derive(Drop)]
 pub(crate) struct Lineup {
-    pub view: View,
+    pub view: Roll,
     // Bit k is set where the drive at place k served, since the costs on it were found.
     pub stale: u64,
 }
@@ -33,7 +34,7 @@ impl Lineup {
         ensures { result.view ≡ [] }
     {
         Lineup {
-            view: View::empty(),
+            view: Roll::empty(),
             stale: 0,
         }
     }
@@ -77,18 +78,6 @@ impl Lineup {
         }
     }
 
-    /// Whether a command has this reference number, by whichever connection it came. Nearly always none has, so each is
-    /// looked at without a branch.
-    fn has_number(&self, reference: u32) -> bool
-        ensures { result ≡ list_any (has_choice_number reference) self.now.view }
-    {
-        let mut found = false;
-        for choice in self.view.choices() {
-            found |= choice.reference == reference;
-        }
-        found
-    }
-
     /// The place of the command of this name, if it waits.
     pub fn place_of(&self, name: Name) -> Option<usize>
         ensures { result ≡ position (has_choice_name name) self.now.view }
@@ -99,31 +88,12 @@ impl Lineup {
             .position(|choice| choice.name().is(name))
     }
 
-    /// Whether a command has this name.
+    /// Whether a command has this name. A host's next number mostly has a low byte that none of those has which wait.
     #[tactic(auto, using(crate::proofs::Named::unnumbered))]
     pub fn has_any(&self, name: Name) -> bool
         ensures { result ≡ list_any (has_choice_name name) self.now.view }
     {
-        self.has_number(name.reference) && self.place_of(name).is_some()
-    }
-
-    /// Finds anew what the start of the command at the place costs, if it is to the unit of this drive.
-    fn renew_at(&mut self, place: usize, backlog: &Backlog, drive: &Drive)
-        requires place { place < length self.old.view }
-        requires waiting { place < length backlog.now.waiting }
-        requires head { IsOnUnit drive.now }
-        requires to { nat_eq (slice_index_or self.old.view place no_choice).unit drive.now.unit.number ≡ true
-            → (slice_index_or backlog.now.aims place no_aim).cylinder ≤ last_cylinder drive.now.unit }
-        ensures view { self.new.view ≡ slice_set self.old.view place
-            (costing_if (nat_eq (slice_index_or self.old.view place no_choice).unit drive.now.unit.number)
-            (cost_on drive.now (slice_index_or backlog.now.aims place no_aim).cylinder)
-            (slice_index_or self.old.view place no_choice)) }
-        ensures stale { self.new.stale ≡ self.old.stale }
-    {
-        if self.view.choices()[place].unit == drive.unit.number() {
-            let to = backlog.aim(place).cylinder;
-            self.view.set_cost(place, drive.head.cost(&drive.unit, to));
-        }
+        self.view.has_low_byte(name.reference) && self.place_of(name).is_some()
     }
 
     /// Finds anew what the starts on the drive at a place cost, where each that waits is a transfer.
@@ -136,26 +106,7 @@ impl Lineup {
         ensures renewed { IsRenewed at drives.now backlog.now.waiting self.old.view self.new.view }
         ensures stale { self.new.stale ≡ self.old.stale }
     {
-        let drive = &drives[at];
-        for place in 0..backlog.len() {
-            self.renew_at(place, backlog, drive);
-        }
-    }
-
-    /// Finds anew what the starts on the drive at a place cost, if it served, where each that waits is a transfer.
-    fn renew_if_stale(&mut self, backlog: &Backlog, drives: &[Drive], at: usize)
-        requires waiting { CanBeShown drives.now backlog.now.waiting backlog.now.aims }
-        requires transfers { All (λ r. is_move r.command.order ≡ true) backlog.now.waiting }
-        requires drive { at < length drives.now }
-        requires units { IsUnitList (units_of drives.now) }
-        requires lined { IsLineup self.old.stale drives.now backlog.now.waiting self.old.view }
-        ensures lined { IsLineup self.new.stale drives.now backlog.now.waiting self.new.view }
-        ensures stale { IsSet false at self.old.stale self.new.stale }
-    {
-        if self.stale >> at & 1 == 1 {
-            self.renew(backlog, drives, at);
-            self.stale = with_bit(self.stale, at, false);
-        }
+        backlog.renew(&mut self.view, &drives[at], at);
     }
 
     /// Finds anew what the starts cost whose drives served, where each that waits is a transfer.
@@ -166,8 +117,9 @@ impl Lineup {
         requires lined { IsLineup self.old.stale drives.now backlog.now.waiting self.old.view }
         ensures { self.new.view ≡ map (choice_in drives.now) backlog.now.waiting }
     {
-        for at in 0..drives.len() {
-            self.renew_if_stale(backlog, drives, at);
+        while let Some(at) = lowest_set(self.stale, drives.len()) {
+            self.renew(backlog, drives, at);
+            self.stale = with_bit(self.stale, at, false);
         }
     }
 }

@@ -1,6 +1,6 @@
 // Masks of slots. Bit k of a mask stands for slot k.
 
-ghost use Rattle.std.specs.Prelude.{◌≡◌, ◌≢◌, ℕ, ◌<◌, ◌^◌, ◌-◌, min, true, false, length, nat_eq, slice_index_or};
+ghost use Rattle.std.specs.Prelude.{◌≡◌, ◌≢◌, ℕ, ◌<◌, ◌≤◌, ◌^◌, ◌-◌, count_ones, min, true, false, length, nat_eq, slice_index_or, IfNone, IfSome};
 ghost use Rattle.std.specs.Int.{bit_at};
 ghost use Rattle.mscp_queue.specs.Masks.{HasCome, HasLeft, IsBehind, IsLowestFree, IsSet, fences};
 
@@ -22,7 +22,8 @@ pub(crate) struct Masks {
 /// The mask with the bit of a slot set or cleared.
 pub(crate) fn with_bit(mask: u64, slot: usize, on: bool) -> u64
     requires { slot < 64 }
-    ensures { IsSet on slot mask result }
+    ensures set { IsSet on slot mask result }
+    ensures fewer { on ≡ false → result ≤ mask }
 {
     if on {
         mask | (1 << slot)
@@ -56,6 +57,17 @@ pub(crate) fn lowest_free(mask: u64) -> usize
     ensures { IsLowestFree mask result }
 {
     mask.trailing_ones() as usize
+}
+
+/// The lowest of the first so many bits that is set, if one is.
+#[inline(always)]
+pub(crate) fn lowest_set(mask: u64, count: usize) -> Option<usize>
+    requires { count ≤ 64 }
+    ensures some { IfSome result (λ k. (k < count) × (bit_at mask k ≡ 1)) }
+    ensures none { IfNone result ((k : ℕ) → k < count → bit_at mask k ≡ 0) }
+{
+    let lowest = mask.trailing_zeros() as usize;
+    if lowest < count { Some(lowest) } else { None }
 }
 
 impl Masks {
@@ -95,6 +107,15 @@ impl Masks {
         ensures set { IsSet true slot self.old.serving self.new.serving }
     {
         self.serving = with_bit(self.serving, slot, true);
+    }
+
+    /// How many commands came earlier than that of the slot: its place.
+    pub fn place(&self, slot: usize) -> usize
+        requires { slot < 64 }
+        ensures value { result ≡ count_ones (slice_index_or self.now.earlier slot 0) }
+        ensures small { slice_index_or self.now.earlier slot 0 < 2 ^ 64 }
+    {
+        self.earlier[slot].count_ones() as usize
     }
 
     /// Whether no command is sequential.

@@ -346,10 +346,10 @@ impl<K: Picker> Queue<K> {
         let record = *self.backlog.record(place);
         let at = usize::from(self.backlog.aim(place).drive);
         let service = serve(&self.drives[at], &record, block);
+        self.drives[at].follow(&service.drive);
         let ends = service.ended.is_some();
         self.backlog.serve(place, ends);
         self.lineup.serve(place, at, ends);
-        self.drives[at] = service.drive;
         self.begun = None;
         self.serving = place_served(ends, place);
         let command = record.command();

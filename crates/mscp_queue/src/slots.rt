@@ -5,12 +5,16 @@ ghost use Rattle.std.specs.Prelude.{◌≡◌, ◌≢◌, true, false, ◌+◌, 
 ghost use Rattle.std.specs.List.{list_all, list_any};
 ghost use Rattle.mscp_queue.specs.Orders.{is_sequential};
 ghost use Rattle.mscp_queue.specs.Records.{Record as Told, advanced, is_in_service, passed_by};
-ghost use Rattle.mscp_queue.specs.Slots.{dues, held, is_unfenced, items, lowered_by, lowered_unless_serving, no_slot, shown, slot_at, with_due, with_item};
+ghost use Rattle.mscp_queue.specs.Drives.{IsOnUnit};
+ghost use Rattle.mscp_queue.specs.Lineups.{AreOnDrive, IsRecosted};
+ghost use Rattle.mscp_queue.specs.Slots.{aims, dues, held, is_unfenced, items, lowered_by, lowered_unless_serving, no_slot, shown, slot_at, with_due, with_item};
 
 use crate::aim::Aim;
+use crate::drive::Drive;
 use crate::lanes::lower;
-use crate::masks::{Masks, lowest_free};
+use crate::masks::{Masks, lowest_free, lowest_set, with_bit};
 use crate::record::Record;
+use crate::roll::Roll;
 use arrayvec::ArrayVec;
 use std::marker::Model;
 
@@ -186,6 +190,23 @@ impl Slots {
         ensures { result ≡ (slot_at self.now place).due }
     {
         self.dues[usize::from(self.order[place])]
+    }
+
+    /// Finds anew what the starts on the drive at a place cost, in a roll of the commands. It looks at no command that aims
+    /// elsewhere.
+    pub fn renew(&self, roll: &mut Roll, drive: &Drive, at: usize)
+        requires drive { at < 16 }
+        requires long { length roll.old ≡ length self.now }
+        requires head { IsOnUnit drive.now }
+        requires to { AreOnDrive at drive.now (aims self.now) }
+        ensures { IsRecosted at drive.now (aims self.now) roll.old roll.new }
+    {
+        let mut left = self.masks.units[at];
+        while let Some(slot) = lowest_set(left, 64) {
+            left = with_bit(left, slot, false);
+            let to = self.aims[slot].cylinder;
+            roll.set_cost(self.masks.place(slot), drive.head.cost(&drive.unit, to));
+        }
     }
 
     /// Whether no command that came earlier keeps the one at the place back.

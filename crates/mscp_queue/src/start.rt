@@ -201,7 +201,7 @@ pub(crate) fn picked_place<K: Picker>(
 {
     if may_all_start(backlog, longest) {
         lineup.renew_all(backlog, drives);
-        return picker.pick(&lineup.view);
+        return picker.pick(lineup.view.shown());
     }
     view.clear();
     let places = show_each(view, backlog, drives);

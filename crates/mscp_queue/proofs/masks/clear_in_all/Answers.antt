@@ -11,7 +11,7 @@ loop-i-preserved c =
     let inv = c.loop-i.invariant in
     let room : n < length xs = omega (arith, c.loop-i-test.true, inv.long) in
     record {
-      below = next_below old xs n c.args.slot c.with_bit.result room inv.below inv.above c.with_bit.ensures;
-      above = next_above old xs n c.args.slot c.with_bit.result room inv.below inv.above c.with_bit.ensures;
+      below = next_below old xs n c.args.slot c.with_bit.result room inv.below inv.above c.with_bit.ensures.set;
+      above = next_above old xs n c.args.slot c.with_bit.result room inv.below inv.above c.with_bit.ensures.set;
       long = length-set xs n c.with_bit.result ∙ inv.long;
     }

@@ -39,8 +39,8 @@ from_0 n = omega arith
 pub returns-then-may_all_start-clause-inside : goal.returns-then-may_all_start-clause-inside
 returns-then-may_all_start-clause-inside g
     c = (all_picked c.args.backlog.now.budget c.args.drives.now c.args.backlog.now.waiting _ c.requires.some
-    (c.may_all_start.ensures c.if-may_all_start.true) (c.renew_all.ensures
-    ∙ all_choices c.args.drives.now c.args.backlog.now.waiting)).inside c.pick.result c.pick.ensures.place
+    (c.may_all_start.ensures c.if-may_all_start.true) (c.shown.ensures
+    ∙ (c.renew_all.ensures ∙ all_choices c.args.drives.now c.args.backlog.now.waiting))).inside c.pick.result c.pick.ensures.place
 
 pub returns-then-may_all_start-clause-lined : goal.returns-then-may_all_start-clause-lined
 returns-then-may_all_start-clause-lined g c = lineup_of c.renew_all.new.self.stale c.renew_all.ensures
@@ -52,7 +52,7 @@ returns-then-may_all_start-clause-picked g c =
     let rs = c.args.backlog.now.waiting in
     let picks = g.K.Picker.picks c.args.picker.now in
     let all = all_picked b c.args.drives.now rs _ c.requires.some (c.may_all_start.ensures c.if-may_all_start.true)
-    (c.renew_all.ensures ∙ all_choices c.args.drives.now c.args.backlog.now.waiting) in
+    (c.shown.ensures ∙ (c.renew_all.ensures ∙ all_choices c.args.drives.now c.args.backlog.now.waiting)) in
     let inside = all.inside c.pick.result c.pick.ensures.place in (
       c.pick.result,
       omega (arith, ap length all.opens, length-range_with_len 0 (length rs), inside),

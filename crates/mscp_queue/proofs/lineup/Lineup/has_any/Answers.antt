@@ -4,6 +4,6 @@ use Rattle.mscp_queue.specs.Lineups.{has_choice_name}
 use Rattle.mscp_queue.proofs.Placed.{position_any}
 use Rattle.mscp_queue.proofs.lineup.Lineup.has_any.Goals as goal
 
-pub returns-then-has_number : goal.returns-then-has_number
-returns-then-has_number c = c.is_some.ensures ∙ ap is_some c.place_of.ensures
+pub returns-then-has_low_byte : goal.returns-then-has_low_byte
+returns-then-has_low_byte c = c.is_some.ensures ∙ ap is_some c.place_of.ensures
     ∙ position_any (has_choice_name c.args.name) c.args.self.now.view

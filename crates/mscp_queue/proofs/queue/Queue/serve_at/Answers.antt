@@ -1,12 +1,12 @@
 use Rattle.std.proofs.Common.{arith, ◌≡◌, ◌<◌, length, set, get_or, refl, ap, subst, sym, ◌∙◌}
 use Rattle.std.specs.Prelude.{◌||◌, true, is_some, IfSome, None}
 use Rattle.std.specs.List.{refill}
-use Rattle.std.proofs.lemmas.List.{length-map, length-set}
+use Rattle.std.proofs.lemmas.List.{get_or_default, length-map, length-set}
 use Rattle.mscp_packet.specs.Ends.{IsOfKind}
 use Rattle.mscp_queue.specs.declared.aim.Aim.{Aim}
 use Rattle.mscp_queue.specs.declared.drive.Drive.{Drive}
 use Rattle.mscp_queue.specs.declared.report.Report.TheVariants.{Served}
-use Rattle.mscp_queue.specs.Drives.{drive_of, replaced}
+use Rattle.mscp_queue.specs.Drives.{IsOnUnit, drive_of, replaced}
 use Rattle.mscp_queue.specs.Kept.{begun_name, units_of}
 use Rattle.mscp_queue.specs.Lines.{Line, served}
 use Rattle.mscp_queue.specs.Orders.{is_move, is_sequential}
@@ -14,7 +14,7 @@ use Rattle.mscp_queue.specs.Records.{Record, drive_at, no_record, record_at, ste
 use Rattle.mscp_queue.specs.Serving.{IsNext, drive_after, end_given, report_of}
 use Rattle.mscp_queue.proofs.Aims.{place_same}
 use Rattle.mscp_queue.proofs.Drives.{known_at, set_replaced}
-use Rattle.mscp_queue.proofs.Lineups.{lineup_served}
+use Rattle.mscp_queue.proofs.Lineups.{as_many, lineup_served}
 use Rattle.mscp_queue.proofs.Mapped.{refilled}
 use Rattle.mscp_queue.proofs.Ready.{can_serve, drive_found, left_is, ready_step, serves_if}
 use Rattle.mscp_queue.proofs.Shaped.{given_kind}
@@ -109,6 +109,42 @@ bounds-deref_mut-at g c =
     (c.from-at.ensures ∙ ap (λ (a : Aim). a.drive) c.aim.ensures) in
     subst (λ l. c.from-at.result < length l) (sym c.deref_mut.ensures.value) at.inside
 
+pub follow-requires : goal.follow-requires
+follow-requires g c =
+    let K = g.row.K.Denot in
+    let q = c.self.inside in
+    let rs = q.backlog.waiting in
+    let ds = q.drives.items in
+    let place = c.args.place in
+    let next : IsNext (g.K.Picker.picks q.picker) q.backlog.budget ds rs (begun_name rs q.begun) place =
+    subst (λ (l : Line K). IsNext (g.K.Picker.picks l.picker) l.budget l.drives l.waiting l.begun place)
+    (sym c.self.view_is)
+    c.requires in
+    let at = drive_found q.backlog.aims place _ c.self.invariant.ready.held c.self.invariant.ready.aimed
+    next.servable.inside
+    (c.from-at.ensures ∙ ap (λ (a : Aim). a.drive) c.aim.ensures) in
+    let d = c.index-deref-at.result in
+    let k = c.from-at.result in
+    let inside : k < length c.deref_mut.result.now =
+    subst (λ l. k < length l) (sym c.deref_mut.ensures.value) at.inside in
+    ap (λ (z : Drive). z.unit) (c.serve-service.ensures.drive)
+    ∙ ap (λ (z : Drive). z.unit) (c.index-deref-at.is
+    ∙ (ap (λ l. get_or l k d) (c.deref.ensures.0 ∙ sym c.deref_mut.ensures.value)
+    ∙ get_or_default c.deref_mut.result.now k d c.index-deref_mut-at.result inside))
+
+pub serve-requires-2-clause-place : goal.serve-requires-2-clause-place
+serve-requires-2-clause-place g c =
+    let K = g.row.K.Denot in
+    let q = c.self.inside in
+    let rs = q.backlog.waiting in
+    let ds = q.drives.items in
+    let place = c.args.place in
+    let next : IsNext (g.K.Picker.picks q.picker) q.backlog.budget ds rs (begun_name rs q.begun) place =
+    subst (λ (l : Line K). IsNext (g.K.Picker.picks l.picker) l.budget l.drives l.waiting l.begun place)
+    (sym c.self.view_is)
+    c.requires in
+    omega (arith, next.servable.inside, as_many c.self.invariant.lined)
+
 pub invariant_of-self : goal.invariant_of-self
 invariant_of-self g c =
     let K = g.row.K.Denot in
@@ -129,7 +165,8 @@ invariant_of-self g c =
     let drive : d ≡ drive_at ds rs place = c.index-deref-at.is
     ∙ ap (λ l. get_or l c.from-at.result d) c.deref.ensures.0 ∙ at.is d in
     let known = (c.self.invariant.ready.held.each place no_record next.servable.inside).waitable.known in
-    let d' = c.serve-service.result.drive in
+    let d' = c.follow.new.self in
+    let after = c.follow.ensures ∙ c.serve-service.ensures.drive in
     let ds' = refill (length ds) ds (set c.deref_mut.result.now c.from-at.result d') in
     let seen = c.deref_mut.ensures.value in
     let now : ds' ≡ replaced r.command.unit d' ds =
@@ -142,7 +179,7 @@ invariant_of-self g c =
     let drive_is = drive ∙ ap (λ (z : Record). drive_at ds rs place) own in
     let same = units_step r.command.unit d d' ds ds' c.args.block.now c.record.result.now
     c.self.invariant.ready.held.units drive
-    c.serve-service.ensures.drive now in
+    after now in
     let ready = ready_step {k = c.args.block.now} c.self.invariant.ready next.servable (record {
       r = c.record.result.now;
       command = c.record.result.now.command;
@@ -156,16 +193,16 @@ invariant_of-self g c =
       drive = drive ∙ ap (λ (z : Record). drive_of ds z.command.unit) (sym own);
       ended = c.serve-service.ensures.ended;
       some = c.is_some-ends.ensures;
-      after = c.serve-service.ensures.drive;
+      after = after;
       cost = ap step_toll (sym own);
-      on = c.serve-service.ensures.on_unit;
+      on = λ inside on. subst IsOnUnit (sym c.follow.ensures) (c.serve-service.ensures.on_unit inside on);
       records = e.waiting;
       serves_on = serves_if c.place_served-self-inside.result ends place c.place_served-self-inside.ensures;
       drives = now ∙ ap (λ (z : Record). replaced z.command.unit d' ds) (sym own);
     }) e.budget e.aims c.place_served-self-inside.ensures
     same in
     let there = known_at ds r.command.unit d known in
-    let number : d'.unit.number ≡ r.command.unit = ap (λ (z : Drive). z.unit.number) c.serve-service.ensures.drive
+    let number : d'.unit.number ≡ r.command.unit = ap (λ (z : Drive). z.unit.number) after
     ∙ (ap (λ (z : Drive). z.unit.number) (drive ∙ sym there.drive) ∙ there.number) in
     record {
       ready = ready;
@@ -195,7 +232,8 @@ returns-clause-units g c =
     let drive : d ≡ drive_at ds rs place = c.index-deref-at.is
     ∙ ap (λ l. get_or l c.from-at.result d) c.deref.ensures.0 ∙ at.is d in
     let known = (c.self.invariant.ready.held.each place no_record next.servable.inside).waitable.known in
-    let d' = c.serve-service.result.drive in
+    let d' = c.follow.new.self in
+    let after = c.follow.ensures ∙ c.serve-service.ensures.drive in
     let ds' = refill (length ds) ds (set c.deref_mut.result.now c.from-at.result d') in
     let seen = c.deref_mut.ensures.value in
     let now : ds' ≡ replaced r.command.unit d' ds =
@@ -204,7 +242,7 @@ returns-clause-units g c =
     ∙ (ap (λ l. set l c.from-at.result d') seen
     ∙ set_replaced ds c.from-at.result r.command.unit d' d c.self.invariant.ready.held.units known at.placed) in
     units_step r.command.unit d d' ds ds' c.args.block.now c.record.result.now c.self.invariant.ready.held.units drive
-    c.serve-service.ensures.drive now
+    after now
     ∙ ap (λ (l : Line K). units_of l.drives) c.self.view_is
 
 pub returns-clause-shaped : goal.returns-clause-shaped
@@ -244,7 +282,8 @@ returns-clause-served g c =
     let drive : d ≡ drive_at ds rs place = c.index-deref-at.is
     ∙ ap (λ l. get_or l c.from-at.result d) c.deref.ensures.0 ∙ at.is d in
     let known = (c.self.invariant.ready.held.each place no_record next.servable.inside).waitable.known in
-    let d' = c.serve-service.result.drive in
+    let d' = c.follow.new.self in
+    let after = c.follow.ensures ∙ c.serve-service.ensures.drive in
     let ds' = refill (length ds) ds (set c.deref_mut.result.now c.from-at.result d') in
     let seen = c.deref_mut.ensures.value in
     let now : ds' ≡ replaced r.command.unit d' ds =
@@ -274,7 +313,7 @@ returns-clause-served g c =
         longest = q.longest;
         waiting = (e.waiting ∙ left_is k place rs (drive_at ds rs place) c.is_some-ends.result (ended
             ∙ (λ i. is_some (end_given k (drive i) (own i))))) i;
-        drives = (now ∙ ap (λ (w : Drive). replaced r.command.unit w ds) (s.drive
+        drives = (now ∙ ap (λ (w : Drive). replaced r.command.unit w ds) (after
             ∙ (λ i. drive_after k (drive i) (own i)))) i;
         begun = None;
         picker = q.picker;

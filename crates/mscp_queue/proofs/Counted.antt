@@ -1,0 +1,136 @@
+-- How many bits of a mask are set: as many as there are slots in it.
+use Rattle.std.proofs.Common.{◌≡◌, ◌≢◌, ◌<◌, ◌≤◌, ◌+◌, ◌^◌, ◌%◌, ◌/◌, ◌*◌, ◌⊎◌, inl, inr, ℕ, zero, suc, true, false, ◌||◌, nat_eq, List, [], ◌∷◌, count_ones, length, get_or, take, drop, sym, subst, ap, ◌∙◌, refl, arith}
+use Rattle.std.specs.Int.{bit_at}
+use Rattle.std.proofs.lemmas.Bool.{eq-eqb, ne_eqb}
+use Rattle.std.proofs.lemmas.List.{length-take-le}
+use Rattle.std.proofs.lemmas.Nat.Bits.{bit_at-suc, bit_at_lowest}
+use lib.Count.{ones_step, ones-le}
+use native.Mathlib.Nat.{pow-suc}
+use Rattle.std.specs.Prelude.{slice_index_or}
+use Rattle.mscp_queue.specs.declared.masks.Masks.{Masks}
+use Rattle.mscp_queue.specs.Masks.{AreEarlier, AreMasks, AreSlots, IsMaskOf, Kind, bit, has}
+use Rattle.mscp_queue.proofs.Fallen.{slots_front}
+use Rattle.mscp_queue.proofs.Freed.{earlier_at}
+use Rattle.mscp_queue.proofs.Masked.{same_or, slot_has}
+use Rattle.mscp_queue.proofs.Shown.{IsNumber, cut_order}
+
+-- the sum of a function's values at the numbers below w
+total : ℕ → (ℕ → ℕ) → ℕ
+total zero f = 0
+total (suc w) f = f 0 + total w (λ k. f (suc k))
+
+total_on : (w : ℕ) (f g : ℕ → ℕ) → ((k : ℕ) → k < w → f k ≡ g k) → total w f ≡ total w g
+unfolding total
+total_on zero f g h = refl
+total_on (suc w) f g h = ap (λ n. n + total w (λ k. f (suc k))) (h 0 (omega arith))
+    ∙ ap (λ n. g 0 + n) (total_on w (λ k. f (suc k)) (λ k. g (suc k)) (λ k l. h (suc k) (omega (arith, l))))
+
+total_more : (w : ℕ) (f g : ℕ → ℕ) → total w (λ k. f k + g k) ≡ total w f + total w g
+unfolding total
+total_more zero f g = omega arith
+total_more (suc w) f g = let rest = total_more w (λ k. f (suc k)) (λ k. g (suc k)) in omega (arith, rest)
+
+total_none : (w : ℕ) → total w (λ k. 0) ≡ 0
+unfolding total
+total_none zero = refl
+total_none (suc w) = let rest = total_none w in omega (arith, rest)
+
+same_suc : (k s : ℕ) → nat_eq (suc k) (suc s) ≡ nat_eq k s
+same_suc k s = by (same_or k s)
+  where
+    by : (k ≡ s) ⊎ (k ≢ s) → nat_eq (suc k) (suc s) ≡ nat_eq k s
+    by (inl e) = eq-eqb (suc k) (suc s) (ap suc e) ∙ sym (eq-eqb k s e)
+    by (inr d) = ne_eqb (suc k) (suc s) (λ e. d (omega (arith, e))) ∙ sym (ne_eqb k s d)
+
+total_one : (w s : ℕ) → s < w → total w (λ k. bit (nat_eq k s)) ≡ 1
+unfolding total
+total_one zero s l = absurd (omega (arith, l))
+total_one (suc w) zero l =
+    let rest = total_on w (λ k. bit (nat_eq (suc k) 0)) (λ k. 0)
+    (λ k b. ap bit (ne_eqb (suc k) 0 (λ e. omega (arith, e)))) ∙ total_none w in
+    omega (arith, rest)
+total_one (suc w) (suc s) l =
+    let first : bit (nat_eq 0 (suc s)) ≡ 0 = ap bit (ne_eqb 0 (suc s) (λ e. omega (arith, e))) in
+    let rest = total_on w (λ k. bit (nat_eq (suc k) (suc s))) (λ k. bit (nat_eq k s)) (λ k b. ap bit (same_suc k s))
+    ∙ total_one w s (omega (arith, l)) in
+    omega (arith, first, rest)
+
+-- slots that stand once are as many as there are
+total_has : (w : ℕ) (xs : List ℕ) → 64 ≤ w → AreSlots xs → total w (λ k. bit (has k xs)) ≡ length xs
+total_has w [] l a = total_none w
+total_has w (s ∷ xs) l a =
+    let low = a.0 in
+    let one = total_one w s (omega (arith, l, low)) in
+    let rest = total_has w xs l a.2 in
+    let parts : (k : ℕ) → bit (nat_eq k s || has k xs) ≡ bit (nat_eq k s) + bit (has k xs) = λ k. by k (same_or k s) in
+    let both = total_on w (λ k. bit (nat_eq k s || has k xs)) (λ k. bit (nat_eq k s) + bit (has k xs)) (λ k b. parts k)
+    ∙ total_more w (λ k. bit (nat_eq k s)) (λ k. bit (has k xs)) in
+    omega (arith, both, one, rest)
+  where
+    by : (k : ℕ) → (k ≡ s) ⊎ (k ≢ s) → bit (nat_eq k s || has k xs) ≡ bit (nat_eq k s) + bit (has k xs)
+    by k (inl e) =
+        let gone : has k xs ≡ false = ap (λ k. has k xs) e ∙ a.1 in
+        (λ i. bit (eq-eqb k s e i || gone i)) ∙ sym (λ i. bit (eq-eqb k s e i) + bit (gone i))
+    by k (inr d) =
+        let off = ne_eqb k s d in
+        let same : bit (has k xs) ≡ 0 + bit (has k xs) = omega arith in
+        ap (λ b. bit (b || has k xs)) off ∙ (same ∙ ap (λ b. bit b + bit (has k xs)) (sym off))
+
+-- ---- the bits of a number
+
+total_bits : (w m : ℕ) → m < 2 ^ w → count_ones m ≡ total w (bit_at m)
+unfolding total
+total_bits zero m l = let none = ones-le 0 m l in omega (arith, none)
+total_bits (suc w) m l =
+    let rest = total_bits w (m / 2) (omega (arith, l, pow-suc 2 w)) in
+    ones_step m ∙ (ap (λ n. m % 2 + n) rest
+    ∙ (λ i. sym (bit_at_lowest m) i + total w (λ k. sym (bit_at-suc m k) i)))
+
+pub ones_has : (m : ℕ) (xs : List ℕ) → m < 2 ^ 64 → IsMaskOf m (λ k. has k xs) → AreSlots xs
+    → count_ones m ≡ length xs
+ones_has m xs small is a =
+    total_bits 64 m small ∙ (total_on 64 (bit_at m) (λ k. bit (has k xs)) is ∙ total_has 64 xs (omega arith) a)
+
+-- ---- the place of a slot
+
+-- as many came earlier
+pub place_counted : {kinds : ℕ → Kind} {order : List ℕ} {m : Masks} {place n : ℕ} → AreMasks kinds order m
+    → IsNumber order place n → slice_index_or m.earlier n 0 < 2 ^ 64
+    → count_ones (slice_index_or m.earlier n 0) ≡ place
+place_counted {kinds} {order} {m} {place} {n} masks h small =
+    let front = take place order in
+    let back = drop (place + 1) order in
+    let cut = cut_order order place n h in
+    let earlier : ℕ → ℕ = λ k. slice_index_or m.earlier k 0 in
+    ones_has (earlier n) front small
+    (earlier_at earlier [] front n back (subst (AreEarlier earlier []) cut masks.of_earlier))
+    (slots_front front n back (subst AreSlots cut masks.apart))
+    ∙ length-take-le place order (let l = h.inside in omega (arith, l))
+
+-- a slot that is taken stands at a place
+pub placed : (order : List ℕ) (n : ℕ) → has n order ≡ true → (place : ℕ) × (place < length order)
+    × (n ≡ get_or order place 0)
+placed [] n e = let bad = ap bit e in absurd (omega (arith, bad))
+placed (s ∷ order) n e = by (same_or n s) (placed order n)
+  where
+    by : (n ≡ s) ⊎ (n ≢ s)
+        → (has n order ≡ true → (place : ℕ) × (place < length order) × (n ≡ get_or order place 0))
+        → (place : ℕ) × (place < length (s ∷ order)) × (n ≡ get_or (s ∷ order) place 0)
+    by (inl f) rest = (0, omega arith, f)
+    by (inr d) rest =
+        let r = rest (ap (λ b. b || has n order) (sym (ne_eqb n s d)) ∙ e) in
+        (suc r.0, (let l = r.1 in omega (arith, l)), r.2)
+
+-- at one alone
+pub one_place : (order : List ℕ) (k p : ℕ) → AreSlots order → k < length order → p < length order
+    → get_or order k 0 ≡ get_or order p 0 → k ≡ p
+one_place [] k p a l b e = absurd (omega (arith, l))
+one_place (s ∷ order) zero zero a l b e = refl
+one_place (s ∷ order) zero (suc p) a l b e =
+    let bad = ap bit (sym (ap (λ n. has n order) e ∙ slot_has order p (omega (arith, b))) ∙ a.1) in
+    absurd (omega (arith, bad))
+one_place (s ∷ order) (suc k) zero a l b e =
+    let bad = ap bit (sym (ap (λ n. has n order) (sym e) ∙ slot_has order k (omega (arith, l))) ∙ a.1) in
+    absurd (omega (arith, bad))
+one_place (s ∷ order) (suc k) (suc p) a l b e =
+    ap suc (one_place order k p a.2 (omega (arith, l)) (omega (arith, b)) e)

@@ -1,0 +1,29 @@
+use Rattle.std.proofs.Common.{◌⊎◌, inl, inr, ◌≡◌, ◌≢◌, ◌<◌, ◌≤◌, ℕ, ap, ◌∙◌, sym, subst, arith, w64}
+use Rattle.std.specs.Int.{bit_at, trailing_zeros}
+use Rattle.std.specs.Int.Count.{trailing_of_zero}
+use Rattle.std.proofs.lemmas.Nat.Bits.{bit_at-trailing_zeros, bit_at-zero}
+use Rattle.mscp_queue.proofs.Masked.{same_or}
+use Rattle.mscp_queue.proofs.masks.lowest_set.Goals as goal
+
+-- the lowest bit that is set, of a mask that may have none
+lowest : (m : ℕ) → m < 18446744073709551616 → (m ≡ 0) ⊎ (m ≢ 0)
+    → (trailing_zeros w64 m < 64 → bit_at m (trailing_zeros w64 m) ≡ 1)
+    × ((k : ℕ) → k < trailing_zeros w64 m → bit_at m k ≡ 0)
+lowest m small (inl e) =
+    let last : trailing_zeros w64 m ≡ 64 = ap (trailing_zeros w64) e ∙ trailing_of_zero 64 in
+    (λ l. absurd (omega (arith, l, last)), λ k l. ap (λ n. bit_at n k) e ∙ bit_at-zero k)
+lowest m small (inr f) =
+    let t = bit_at-trailing_zeros w64 m (positive m f) small in (λ l. t.1, t.2)
+  where
+    positive : (m : ℕ) → m ≢ 0 → 0 < m
+    positive m h = grind (arith, h)
+
+pub returns-then-lowest-count-clause-some : goal.returns-then-lowest-count-clause-some
+returns-then-lowest-count-clause-some c =
+    let m = c.args.mask in
+    (c.if-lowest-count.true, (lowest m c.ranges.mask.fits (same_or m 0)).0
+    (omega (arith, c.if-lowest-count.true, c.requires)))
+
+pub returns-else-lowest-count-clause-none : goal.returns-else-lowest-count-clause-none
+returns-else-lowest-count-clause-none c = λ k l.
+    (lowest c.args.mask c.ranges.mask.fits (same_or c.args.mask 0)).1 k (omega (arith, l, c.if-lowest-count.false))

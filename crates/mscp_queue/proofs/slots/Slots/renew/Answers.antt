@@ -1,0 +1,73 @@
+use Rattle.std.proofs.Common.{arith, ◌≡◌, ◌≤◌, List, length, get_or, set, ◌∙◌, ap, refl, sym, subst}
+use Rattle.mscp_drive.specs.Shape.{last_cylinder}
+use Rattle.mscp_queue.specs.declared.aim.Aim.{Aim}
+use Rattle.mscp_queue.specs.Aims.{no_aim}
+use Rattle.mscp_queue.specs.Lineups.{cost_on, costing, no_choice}
+use Rattle.mscp_queue.specs.Slots.{aims}
+use Rattle.mscp_queue.proofs.Counted.{one_place, place_counted}
+use Rattle.mscp_queue.proofs.Masked.{slot_low}
+use Rattle.mscp_queue.proofs.Recosted.{all_left, less_left, next_slot, none_left, recost_more, there}
+use Rattle.mscp_queue.proofs.Shown.{long_shown}
+use Rattle.mscp_queue.proofs.slots.Slots.renew.Goals as goal
+
+pub loop-slot-init : goal.loop-slot-init
+loop-slot-init c =
+    all_left c.args.at c.args.drive.now c.self.inside.dues c.args.self.now c.args.roll.now c.self.invariant c.self.view_is
+    c.requires.long
+
+pub cost-requires-clause-target : goal.cost-requires-clause-target
+cost-requires-clause-target c =
+    let h = c.loop-slot.invariant in
+    let next = next_slot h c.in-Some.ensures.some in
+    let t = there c.self.inside.dues c.args.self.now c.self.invariant c.self.view_is c.requires.long h next in
+    subst (λ (a : Aim). a.cylinder ≤ last_cylinder c.args.drive.now.unit) (sym t.aim)
+    (c.requires.to next.place no_aim t.inside t.drive)
+
+pub set_cost-requires : goal.set_cost-requires
+set_cost-requires c =
+    let s = c.self.inside in
+    let h = c.loop-slot.invariant in
+    let next = next_slot h c.in-Some.ensures.some in
+    let place = c.place.ensures.value ∙ place_counted c.self.invariant.masks next.number c.place.ensures.small in
+    let inside = next.number.inside in
+    let long = h.long in
+    omega (
+      arith,
+      place,
+      inside,
+      long,
+      c.requires.long,
+      long_shown s.records s.aims s.dues s.order.items c.args.self.now c.self.view_is,
+    )
+
+pub loop-slot-smaller : goal.loop-slot-smaller
+loop-slot-smaller c =
+    let some = c.in-Some.ensures.some in
+    less_left c.loop-slot.left c.with_bit-left.result c.in-Some.slot some.0 some.1 c.with_bit-left.ensures.set
+    (c.with_bit-left.ensures.fewer refl)
+
+pub loop-slot-preserved : goal.loop-slot-preserved
+loop-slot-preserved c =
+    let s = c.self.inside in
+    let order = s.order.items in
+    let now = c.args.self.now in
+    let h = c.loop-slot.invariant in
+    let next = next_slot h c.in-Some.ensures.some in
+    let t = there s.dues now c.self.invariant c.self.view_is c.requires.long h next in
+    let place = c.place.ensures.value ∙ place_counted c.self.invariant.masks next.number c.place.ensures.small in
+    let many = c.requires.long ∙ sym (long_shown s.records s.aims s.dues order now c.self.view_is) in
+    let apart = c.self.invariant.masks.apart in
+    recost_more c.cost.result h next many c.with_bit-left.ensures.set (λ p q l b e. one_place order p q apart l b e)
+    (λ k l. slot_low order k apart l)
+    (c.cost.ensures ∙ ap (λ (a : Aim). cost_on c.args.drive.now a.cylinder) t.aim)
+    (c.set_cost.ensures
+    ∙ ap (λ k. set c.loop-slot.roll k (costing c.cost.result (get_or c.loop-slot.roll k no_choice))) place)
+
+pub returns : goal.returns
+returns c =
+    let s = c.self.inside in
+    let order = s.order.items in
+    let many = long_shown s.records s.aims s.dues order c.args.self.now c.self.view_is in
+    none_left c.loop-slot.invariant
+    (λ k l. slot_low order k c.self.invariant.masks.apart (omega (arith, l, many, c.requires.long)))
+    c.in_default.ensures.none
