@@ -1,7 +1,8 @@
 -- What a judge says of the lines of a log.
-use Rattle.std.specs.Prelude.{◌≡◌, ◌≢◌, ℕ, ◌+◌, ◌≤◌, nat_lt, if◌then◌else◌, List, [], ◌∷◌, ◌++◌, length, Bool, true, false, Result, Ok, Err}
+use Rattle.std.specs.Prelude.{◌≡◌, ◌≢◌, ℕ, ◌+◌, ◌<◌, ◌≤◌, List, [], ◌∷◌, ◌++◌, length, Bool, true, false, Result, Ok, Err}
 use Rattle.mscp_control.specs.Headline.{Promise}
 use Rattle.mscp_control.specs.Settings.{Settings}
+use Rattle.mscp_control.specs.declared.event.Event.{Event}
 use Rattle.mscp_reader.specs.Lexical.{lines}
 use Rattle.mscp_reader.specs.Grammar.{Place, Begins, HasGone}
 use Rattle.mscp_reader.specs.Outcome.{headed}
@@ -107,21 +108,21 @@ JudgesBehind (Ok (HasGone c events, before, behind)) result = Judges c before be
 JudgesBehind (Ok (place, before, behind)) result = ⊥
 
 -- what is said of bytes: that they are too many, or what is said of a log of these lines
-abbrev pub JudgesLog : List ℕ → Result Verdict ReadFault → Type 0
-JudgesLog bytes result =
-    if nat_lt 16777216 (length bytes) then result ≡ Err (faults.Script (record { line = 0; cause = causes.Size }))
-    else JudgesBehind (headed 0 Begins (lines bytes)) result
+pub record JudgesLog (bytes : List ℕ) (result : Result Verdict ReadFault) : Type 0 where
+  pub large : 16777216 < length bytes → result ≡ Err (faults.Script (record { line = 0; cause = causes.Size }))
+  pub small : length bytes ≤ 16777216 → JudgesBehind (headed 0 Begins (lines bytes)) result
 
 -- ---- a legal one
 
 -- the bytes are a log that a trace is legal of: a header, and lines that are legal under its configuration
 pub record HasLegalTrace (bytes : List ℕ) : Type 0 where
   pub c : Settings
+  pub events : List Event
   pub before : ℕ
   pub behind : List (List ℕ)
   pub log : Log
   pub small : length bytes ≤ 16777216
-  pub header : headed 0 Begins (lines bytes) ≡ Ok (HasGone c [], before, behind)
+  pub header : headed 0 Begins (lines bytes) ≡ Ok (HasGone c events, before, behind)
   pub read : after_lines before nothing behind ≡ Ok log
   pub legal : IsLegalLog c log.marks
 
