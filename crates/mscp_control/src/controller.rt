@@ -1,13 +1,13 @@
 // A controller: its queue, and the account of each connection's host.
 
-ghost use Rattle.std.specs.Prelude.{◌≡◌, ◌+◌, ◌≤◌, ◌^◌, true, false, length, slice_get, IfErr, IfSome, None, Some};
+ghost use Rattle.std.specs.Prelude.{All, ◌≡◌, ◌+◌, ◌≤◌, ◌^◌, true, false, length, slice_get, IfErr, IfNone, IfSome, None, Some};
 ghost use Rattle.mscp_packet.specs.Ends.{IsEnd, IsOfKind};
 ghost use Rattle.mscp_queue.specs.Drives.{is_online_in};
 ghost use Rattle.mscp_queue.specs.Orders.{first_block, order_weight};
 ghost use Rattle.mscp_queue.specs.Figures.{figure_of_name, figures};
 ghost use Rattle.mscp_queue.specs.Names.{name_on};
 ghost use Rattle.mscp_queue.specs.Outcomes.{IsCoded};
-ghost use Rattle.mscp_queue.specs.Records.{has_name};
+ghost use Rattle.mscp_queue.specs.Records.{IsServing, has_name, record_at};
 ghost use Rattle.mscp_queue.specs.Views.{is_open_at};
 ghost use Rattle.mscp_queue.specs.Why.{holders_of_name, is_nobody};
 ghost use Rattle.std.specs.List.{position};
@@ -184,6 +184,24 @@ impl<K: Picker> Controller<K> {
         ensures account { IsBalanced self.now }
     {
         self.queue.holders(connection, reference)
+    }
+
+    /// Connection and reference number of the command in service, if one is.
+    pub fn serving(&self) -> Option<(Connection, u32)>
+        ensures some { IfSome result (λ served. IsServing (name_on served.0 served.1) self.now.waiting) }
+        ensures none { IfNone result (All (λ r. r.done ≡ 0) self.now.waiting) }
+        ensures account { IsBalanced self.now }
+    {
+        self.queue.serving()
+    }
+
+    /// By how many blocks the oldest waiting command was passed, 0 where none waits. No other was passed by more.
+    pub fn most_passed(&self) -> u32
+        ensures oldest { result ≡ (record_at self.now.waiting 0).passed }
+        ensures most { All (λ r. r.passed ≤ result) self.now.waiting }
+        ensures account { IsBalanced self.now }
+    {
+        self.queue.most_passed()
     }
 
     /// Connection, reference number and figure of each waiting command, oldest first.

@@ -7,3 +7,4 @@ mod Existing
 mod Standing
 mod Reading
 mod Coming
+pub mod Exactly

@@ -1,10 +1,12 @@
 -- What a judge says of the lines of a log.
-use Rattle.std.specs.Prelude.{◌≡◌, ◌≢◌, ◌⊎◌, ℕ, ◌+◌, List, [], ◌∷◌, ◌++◌, length, Bool, true, false, Result, Ok, Err}
+use Rattle.std.specs.Prelude.{◌≡◌, ◌≢◌, ℕ, ◌+◌, ◌<◌, ◌≤◌, List, [], ◌∷◌, ◌++◌, length, Bool, true, false, Result, Ok, Err}
 use Rattle.mscp_control.specs.Headline.{Promise}
 use Rattle.mscp_control.specs.Settings.{Settings}
+use Rattle.mscp_control.specs.declared.event.Event.{Event}
 use Rattle.mscp_reader.specs.Lexical.{lines}
-use Rattle.mscp_reader.specs.Grammar.{Begins, HasGone, IsFault}
-use Rattle.mscp_reader.specs.Outcome.{rest_outcome}
+use Rattle.mscp_reader.specs.Grammar.{Place, Begins, HasGone}
+use Rattle.mscp_reader.specs.Outcome.{headed}
+use Rattle.mscp_reader.specs.declared.fault.Cause.TheVariants as causes
 use Rattle.mscp_reader.specs.declared.fault.ReadFault.{ReadFault}
 use Rattle.mscp_reader.specs.declared.fault.ReadFault.TheVariants as faults
 use Rattle.mscp_reader.specs.declared.fault.ScriptFault.{ScriptFault}
@@ -99,14 +101,33 @@ Hears c number log line (Err faults.OutOfMemory) new = Unit {0}
 
 -- ---- a whole log
 
--- the reader of scripts comes from the bytes to the settings of a header, and to so many lines and the bytes behind it
-pub record IsHeaded (bytes : List ℕ) (c : Settings) (before : ℕ) (rest : List ℕ) : Type 0 where
-  pub leads : rest_outcome 0 Begins bytes ≡ rest_outcome before (HasGone c []) rest
+-- what is said of a log, of whose header this was found: its fault, or what is said of the lines behind it
+abbrev pub JudgesBehind : Result (Place × ℕ × List (List ℕ)) ScriptFault → Result Verdict ReadFault → Type 0
+JudgesBehind (Err fault) result = result ≡ Err (faults.Script fault)
+JudgesBehind (Ok (HasGone c events, before, behind)) result = Judges c before behind result
+JudgesBehind (Ok (place, before, behind)) result = ⊥
 
--- what is said of the bytes of a log: its header has the first fault that they have as a script, or what stands behind
--- the header is judged
-abbrev pub JudgesLog : List ℕ → Result Verdict ReadFault → Type 0
-JudgesLog bytes result =
-    ((fault : ScriptFault) × (result ≡ Err (faults.Script fault)) × IsFault bytes fault)
-    ⊎ ((c : Settings) × (before : ℕ) × (rest : List ℕ) × IsHeaded bytes c before rest
-    × Judges c before (lines rest) result)
+-- what is said of bytes: that they are too many, or what is said of a log of these lines
+pub record JudgesLog (bytes : List ℕ) (result : Result Verdict ReadFault) : Type 0 where
+  pub large : 16777216 < length bytes → result ≡ Err (faults.Script (record { line = 0; cause = causes.Size }))
+  pub small : length bytes ≤ 16777216 → JudgesBehind (headed 0 Begins (lines bytes)) result
+
+-- ---- a legal one
+
+-- the bytes are a log that a trace is legal of: a header, and lines that are legal under its configuration
+pub record HasLegalTrace (bytes : List ℕ) : Type 0 where
+  pub c : Settings
+  pub events : List Event
+  pub before : ℕ
+  pub behind : List (List ℕ)
+  pub log : Log
+  pub small : length bytes ≤ 16777216
+  pub header : headed 0 Begins (lines bytes) ≡ Ok (HasGone c events, before, behind)
+  pub read : after_lines before nothing behind ≡ Ok log
+  pub legal : IsLegalLog c log.marks
+
+-- it is judged to be legal, unless memory runs out
+abbrev pub IsLegalVerdict : Result Verdict ReadFault → Type 0
+IsLegalVerdict (Ok verdicts.Legal) = Unit {0}
+IsLegalVerdict (Err faults.OutOfMemory) = Unit {0}
+IsLegalVerdict result = ⊥

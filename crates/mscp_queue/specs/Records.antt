@@ -1,5 +1,5 @@
 -- The waiting commands as records, in order of arrival.
-use Rattle.std.specs.Prelude.{ℕ, ◌+◌, ◌-◌, cond, Bool, not, nat_eq, nat_lt, filter, List, [], ◌∷◌, slice_index_or, Option, Some, None, if◌then◌else◌}
+use Rattle.std.specs.Prelude.{◌≡◌, ℕ, ◌+◌, ◌-◌, ◌<◌, cond, Bool, true, not, nat_eq, nat_lt, filter, List, [], ◌∷◌, length, slice_index_or, Option, Some, None, if◌then◌else◌}
 use Rattle.mscp_packet.specs.declared.command.Command.{Command}
 use Rattle.mscp_packet.specs.declared.command.Order.TheVariants as orders
 use Rattle.mscp_packet.specs.declared.end.End.{End}
@@ -81,6 +81,12 @@ left_of r = r.weight - r.done
 -- the record's command was served and waits for its next step (profile)
 abbrev pub is_in_service : Record → Bool
 is_in_service r = nat_lt 0 r.done
+
+-- a record of this name is in service
+abbrev pub IsServing : Name → List Record → Type 0
+IsServing name rs =
+    (place : ℕ) × (place < length rs) × (is_in_service (record_at rs place) ≡ true)
+    × (name_of (record_at rs place) ≡ name)
 
 -- how many steps are left of a record, if it is in service
 abbrev pub left_if_serving : Record → ℕ

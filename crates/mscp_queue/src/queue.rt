@@ -1,6 +1,6 @@
 // The queue of a disk controller: its waiting commands, its drives, and its picker.
 
-ghost use Rattle.std.specs.Prelude.{◌≡◌, ◌+◌, ◌*◌, ◌<◌, ◌≤◌, ◌^◌, [], length, find, option_map, true, false, IfNone, IfSome};
+ghost use Rattle.std.specs.Prelude.{All, ◌≡◌, ◌+◌, ◌*◌, ◌<◌, ◌≤◌, ◌^◌, [], length, find, option_map, true, false, IfNone, IfSome};
 ghost use Rattle.std.specs.List.{list_any, position};
 ghost use Rattle.mscp_packet.specs.Ends.{IsOfKind};
 ghost use Rattle.mscp_queue.specs.Drives.{is_online_in};
@@ -9,7 +9,7 @@ ghost use Rattle.mscp_queue.specs.Kept.{IsWaitable, place_served, place_without,
 ghost use Rattle.mscp_queue.specs.Lines.{Begins, BeginsAt, Line, Serves, ServesAt, aborting, fresh, pushed};
 ghost use Rattle.mscp_queue.specs.Names.{name_on};
 ghost use Rattle.mscp_queue.specs.Orders.{order_weight};
-ghost use Rattle.mscp_queue.specs.Records.{aborted_record, has_name};
+ghost use Rattle.mscp_queue.specs.Records.{IsServing, aborted_record, has_name, record_at};
 ghost use Rattle.mscp_queue.specs.Serving.{IsNext, end_in, is_begun};
 ghost use Rattle.mscp_queue.specs.Views.{is_open_at};
 ghost use Rattle.mscp_queue.specs.Why.{holders_of_name, is_nobody};
@@ -240,6 +240,27 @@ impl<K: Picker> Queue<K> {
             Some(place) => holders_at(&self.backlog, self.backlog.budget(), place),
             None => ArrayVec::new(),
         }
+    }
+
+    /// Connection and reference number of the command in service, if one is.
+    pub fn serving(&self) -> Option<(Connection, u32)>
+        ensures some { IfSome result (λ served. IsServing (name_on served.0 served.1) self.now.waiting) }
+        ensures none { IfNone result (All (λ r. r.done ≡ 0) self.now.waiting) }
+    {
+        let place = self.serving?;
+        let name = self.backlog.record(place).name();
+        Some((name.connection, name.reference))
+    }
+
+    /// By how many blocks the oldest waiting command was passed, 0 where none waits. No other was passed by more.
+    pub fn most_passed(&self) -> u32
+        ensures oldest { result ≡ (record_at self.now.waiting 0).passed }
+        ensures most { All (λ r. r.passed ≤ result) self.now.waiting }
+    {
+        if self.backlog.len() == 0 {
+            return 0;
+        }
+        self.backlog.record(0).passed()
     }
 
     /// Ends the waiting command of the connection with the reference number, in service or not, and gives its end, whose

@@ -1,6 +1,7 @@
 pub mod Cuts
 pub mod PlainLines
 pub mod Digits
+pub mod Headers
 pub mod Outcomes
 pub mod Rising
 pub mod Sound

@@ -16,7 +16,7 @@ use Rattle.mscp_reader.specs.Outcome.{Fails, Sets, Leads, budget_of, in_line, li
 use Rattle.mscp_reader.specs.declared.header.Limit.{Limit}
 use Rattle.mscp_reader.specs.declared.header.Limit.TheVariants as ways
 
-from_ok : {A : Type 0} (n : ℕ) (r : Result A Cause) (x : A) → in_line n r ≡ Ok x → r ≡ Ok x
+pub from_ok : {A : Type 0} (n : ℕ) (r : Result A Cause) (x : A) → in_line n r ≡ Ok x → r ≡ Ok x
 from_ok n (Ok y) x e = cc
 from_ok n (Err cause) x e = cc
 
@@ -93,12 +93,6 @@ pub gives_made : {X Y Z : Type 0} (view : X → Y) (make : Y → Z) (r : Result 
     → Gives view r read → Gives (λ x. make (view x)) r (read >>= λ y. Ok (make y))
 gives_made view make (Ok x) read g = rw g refl
 gives_made view make (Err cause) read g = rw g refl
-
-pub line_leads : {X : Type 0} (view : X → Place) (n : ℕ) (p : Place) (words : List (List ℕ)) (bytes : List ℕ)
-    (o : Result (Settings × List Event) ScriptFault) (r : Result X Cause) → Gives view r (next p words)
-    → o ≡ onward n p words (lines bytes) → Leads view o n bytes (in_line n r)
-line_leads view n p words bytes o (Ok x) g h = h ∙ onward_ok n p (view x) words (lines bytes) (ap (in_line n) g)
-line_leads view n p words bytes o (Err cause) g h = h ∙ onward_err n p words (lines bytes) _ (ap (in_line n) g)
 
 pub gives_same : {Y Z : Type 0} (make : Y → Z) (r read : Result Y Cause) → r ≡ read
     → Gives make r (read >>= λ y. Ok (make y))

@@ -67,6 +67,33 @@ Leads view before number rest (Err fault) = before ≡ Err fault
 
 -- ---- the header
 
+-- these lines, which so many stand before, where the header ended before them; else this
+abbrev pub gone_or : ℕ → Place → List (List ℕ) → Result (Place × ℕ × List (List ℕ)) ScriptFault
+    → Result (Place × ℕ × List (List ℕ)) ScriptFault
+gone_or before (HasGone settings events) behind other = Ok (HasGone settings events, before, behind)
+gone_or before place behind other = other
+
+-- where the lines of a header lead, how many lines there are up to its end, and those behind it; or its first fault
+unfoldable pub headed : ℕ → Place → List (List ℕ) → Result (Place × ℕ × List (List ℕ)) ScriptFault
+headed before place [] = gone_or before place [] (Err (record { line = before + 1; cause = causes.Header }))
+headed before place (line ∷ rest) =
+    gone_or before place (line ∷ rest)
+    (in_line (before + 1) (after_line before place line) >>= λ after. headed (before + 1) after rest)
+
+-- the same of a line of these words, the last of so many, and of those after it
+unfoldable pub headed_on : ℕ → Place → List (List ℕ) → List (List ℕ) → Result (Place × ℕ × List (List ℕ)) ScriptFault
+headed_on number place words rest = in_line number (next place words) >>= λ after. headed number after rest
+
+-- the same of the rest of a script
+abbrev pub rest_headed : ℕ → Place → List ℕ → Result (Place × ℕ × List (List ℕ)) ScriptFault
+rest_headed before place bytes = headed before place (lines bytes)
+
+-- what was returned is where the next lines of the header lead
+abbrev pub Heads : {X : Type 0} → (X → Place) → Result (Place × ℕ × List (List ℕ)) ScriptFault → ℕ → List ℕ
+    → Result X ScriptFault → Type 0
+Heads view before number rest (Ok x) = before ≡ rest_headed number (view x) rest
+Heads view before number rest (Err fault) = before ≡ Err fault
+
 -- the budget that a limit gives, of transfers of so many blocks
 abbrev pub budget_of : Limit → ℕ → ℕ
 budget_of (limits.Budget blocks) longest = blocks

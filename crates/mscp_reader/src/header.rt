@@ -9,7 +9,7 @@ ghost use Rattle.mscp_reader.specs.Lexical as lexical;
 ghost use Rattle.mscp_reader.specs.Grammar as grammar;
 ghost use Rattle.mscp_reader.specs.Grammar.{Place, Begins, HasCredits, HasTimeout, HasUnits, HasGone};
 ghost use Rattle.mscp_control.specs.Both.{Both};
-ghost use Rattle.mscp_reader.specs.Outcome.{Sets, Leads, both_of, budget_of, in_line, limited, rest_outcome, settled, place_after};
+ghost use Rattle.mscp_reader.specs.Outcome.{Sets, Heads, Leads, both_of, budget_of, in_line, limited, rest_headed, rest_outcome, settled, place_after};
 
 use crate::fault::{Cause, ScriptFault};
 use crate::lines::Lines;
@@ -53,6 +53,10 @@ struct Limits {
 /// Reads the header, up to its `go`.
 pub fn read_header(lines: &mut Lines<'_>) -> Result<Config, ScriptFault>
     ensures fault { IfErr result (λ fault. 1 ≤ fault.line) }
+    // The lines of the header lead there, or have this fault.
+    ensures heads { Heads (λ config. HasGone config []) (rest_headed lines.old.number Begins lines.old.rest.now)
+        lines.new.number lines.new.rest.now result }
+    // So what comes of the script is what comes of the lines behind it.
     ensures leads { Leads (λ config. HasGone config []) (rest_outcome lines.old.number Begins lines.old.rest.now)
         lines.new.number lines.new.rest.now result }
 {
@@ -69,7 +73,7 @@ pub fn read_header(lines: &mut Lines<'_>) -> Result<Config, ScriptFault>
 /// Reads the lines before the units.
 fn read_limits(lines: &mut Lines<'_>) -> Result<Limits, ScriptFault>
     ensures fault { IfErr result (λ fault. 1 ≤ fault.line) }
-    ensures leads { Leads (λ limits. HasTimeout (settled limits [])) (rest_outcome lines.old.number Begins
+    ensures heads { Heads (λ limits. HasTimeout (settled limits [])) (rest_headed lines.old.number Begins
         lines.old.rest.now) lines.new.number lines.new.rest.now result }
 {
     let credits = read_credits(lines)?;
@@ -87,7 +91,7 @@ fn read_limits(lines: &mut Lines<'_>) -> Result<Limits, ScriptFault>
 /// Reads the line of the credits.
 fn read_credits(lines: &mut Lines<'_>) -> Result<Credits, ScriptFault>
     ensures fault { IfErr result (λ fault. 1 ≤ fault.line) }
-    ensures leads { Leads (λ all. HasCredits (both_of all)) (rest_outcome lines.old.number Begins lines.old.rest.now)
+    ensures heads { Heads (λ all. HasCredits (both_of all)) (rest_headed lines.old.number Begins lines.old.rest.now)
         lines.new.number lines.new.rest.now result }
 {
     let line = lines.header_line()?;
@@ -98,7 +102,7 @@ fn read_credits(lines: &mut Lines<'_>) -> Result<Credits, ScriptFault>
 fn read_setting(lines: &mut Lines<'_>, name: &[u8], most: u32) -> Result<u32, ScriptFault>
     ensures fault { IfErr result (λ fault. 1 ≤ fault.line) }
     ensures bound { IfOk result (λ value. value ≤ most) }
-    ensures leads { (p : Place) (made : ℕ → Place) → Sets p name.now most made → Leads made (rest_outcome
+    ensures heads { (p : Place) (made : ℕ → Place) → Sets p name.now most made → Heads made (rest_headed
         lines.old.number p lines.old.rest.now) lines.new.number lines.new.rest.now result }
 {
     let line = lines.header_line()?;
@@ -108,7 +112,7 @@ fn read_setting(lines: &mut Lines<'_>, name: &[u8], most: u32) -> Result<u32, Sc
 /// Reads the line of the budget.
 fn read_limit(lines: &mut Lines<'_>) -> Result<Limit, ScriptFault>
     ensures fault { IfErr result (λ fault. 1 ≤ fault.line) }
-    ensures leads { (all : Both ℕ) → Leads (limited all) (rest_outcome lines.old.number (HasCredits all)
+    ensures heads { (all : Both ℕ) → Heads (limited all) (rest_headed lines.old.number (HasCredits all)
         lines.old.rest.now) lines.new.number lines.new.rest.now result }
 {
     let line = lines.header_line()?;
@@ -124,7 +128,7 @@ fn read_unit(
     requires { units.old.items ≡ [] }
     ensures fault { IfErr result (λ fault. 1 ≤ fault.line) }
     ensures list { OnOk result (IsUnitList units.new.items) }
-    ensures leads { Leads (λ done. HasUnits (settled limits units.new.items)) (rest_outcome lines.old.number
+    ensures heads { Heads (λ done. HasUnits (settled limits units.new.items)) (rest_headed lines.old.number
         (HasTimeout (settled limits [])) lines.old.rest.now) lines.new.number lines.new.rest.now result }
 {
     let line = lines.header_line()?;
@@ -141,7 +145,7 @@ fn read_unit_or_go(
     ensures shorter { OnOk result (length lines.new.rest.now < length lines.old.rest.now) }
     ensures fault { IfErr result (λ fault. 1 ≤ fault.line) }
     ensures list { OnOk result (IsUnitList units.new.items) }
-    ensures leads { Leads (place_after (settled limits units.new.items)) (rest_outcome lines.old.number (HasUnits
+    ensures heads { Heads (place_after (settled limits units.new.items)) (rest_headed lines.old.number (HasUnits
         (settled limits units.old.items)) lines.old.rest.now) lines.new.number lines.new.rest.now result }
 {
     let line = lines.header_line()?;

@@ -9,7 +9,7 @@ ghost use Rattle.mscp_reader.specs.Plain.{plain_request};
 ghost use Rattle.mscp_reader.specs.Requests.{request};
 ghost use Rattle.mscp_reader.specs.Grammar.{Place, IsInHeader};
 ghost use Rattle.mscp_reader.specs.Grammar.{said_at};
-ghost use Rattle.mscp_reader.specs.Outcome.{in_line, lines_outcome, rest_outcome, onward, all_read};
+ghost use Rattle.mscp_reader.specs.Outcome.{headed_on, in_line, lines_outcome, rest_headed, rest_outcome, onward, all_read};
 ghost use Rattle.mscp_reader.specs.declared.script.TheConstants.{MOST_BYTES};
 
 use crate::fault::{Cause, ScriptFault};
@@ -72,6 +72,15 @@ impl<'a> Lines<'a> {
             ≡ onward self.new.number p (lexical.words line.words.rest.now) (lexical.lines self.new.rest.now))) }
         ensures wrong { IfErr result (λ fault. (p : Place) → rest_outcome self.old.number p self.old.rest.now ≡ Err
             fault) }
+        // The same of a header.
+        ensures head_none { IfOk result (λ found. IfNone found ((p : Place) → IsInHeader p
+            → rest_headed self.old.number p self.old.rest.now
+            ≡ Err (record { line = self.new.number + 1; cause = Cause.Header }))) }
+        ensures head_some { IfOk result (λ found. IfSome found (λ line. (p : Place) → IsInHeader p
+            → rest_headed self.old.number p self.old.rest.now
+            ≡ headed_on self.new.number p (lexical.words line.words.rest.now) (lexical.lines self.new.rest.now))) }
+        ensures head_wrong { IfErr result (λ fault. (p : Place) → IsInHeader p
+            → rest_headed self.old.number p self.old.rest.now ≡ Err fault) }
     {
         while let Some(bytes) = self.cut() {
             let words = words_of(self.number, bytes)?;
@@ -90,10 +99,11 @@ impl<'a> Lines<'a> {
         ensures shorter { IfOk result (λ _. length self.new.rest.now < length self.old.rest.now) }
         ensures fault { IfErr result (λ fault. 1 ≤ fault.line) }
         ensures number { IfOk result (λ line. line.number ≡ self.new.number) }
-        ensures some { IfOk result (λ line. (p : Place) → rest_outcome self.old.number p self.old.rest.now
-            ≡ onward self.new.number p (lexical.words line.words.rest.now) (lexical.lines self.new.rest.now)) }
-        ensures wrong { IfErr result (λ fault. (p : Place) → IsInHeader p → rest_outcome self.old.number p
-            self.old.rest.now ≡ Err fault) }
+        ensures some { IfOk result (λ line. (p : Place) → IsInHeader p
+            → rest_headed self.old.number p self.old.rest.now
+            ≡ headed_on self.new.number p (lexical.words line.words.rest.now) (lexical.lines self.new.rest.now)) }
+        ensures wrong { IfErr result (λ fault. (p : Place) → IsInHeader p
+            → rest_headed self.old.number p self.old.rest.now ≡ Err fault) }
     {
         match self.next_line()? {
             Some(line) => Ok(line),

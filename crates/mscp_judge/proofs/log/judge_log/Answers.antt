@@ -1,15 +1,28 @@
-use Rattle.std.proofs.Common.{inl, refl}
-use Rattle.std.proofs.lemmas.Result.{err_from_is_err_and}
-use Rattle.mscp_reader.proofs.Sound.{is_fault}
+use Rattle.std.proofs.Common.{◌≡◌, ℕ, [], ◌∙◌, ap, subst, sym, arith}
+use Rattle.std.specs.Prelude.{Ok}
+use Rattle.mscp_reader.specs.Lexical.{lines}
+use Rattle.mscp_reader.specs.Grammar.{Begins, HasGone}
+use Rattle.mscp_reader.specs.Outcome.{headed}
+use Rattle.mscp_reader.proofs.Headers.{headed_gone}
+use Rattle.mscp_judge.specs.Judged.{JudgesBehind, JudgesLog}
+use Rattle.mscp_judge.proofs.Exactly.{legal_alone, legal_is_found}
 use Rattle.mscp_judge.proofs.log.judge_log.Goals as goal
 
-pub returns-in_err-config : goal.returns-in_err-config
-returns-in_err-config g c =
-    let p = err_from_is_err_and c.from_residual-in_err-config.result c.from_residual-in_err-config.ensures.1 in
-    let fault = c.in_err-config.field-0.0 in
-    let l = c.in_ok-lines.ensures in
-    rw (p.1, p.2) (inl (
-      fault,
-      refl,
-      is_fault c.args.bytes.now fault l.small (rw (l.lines.0, l.lines.1) at c.in_err-config.ensures.leads),
-    ))
+pub returns-clause-judges : goal.returns-clause-judges
+returns-clause-judges g c =
+    let header : headed 0 Begins (lines c.args.bytes.now)
+    ≡ Ok (HasGone c.in_ok-config.config [], c.read_header.new.lines.number, lines c.read_header.new.lines.rest.now) =
+    (rw (c.in_ok-lines.ensures.lines.0, c.in_ok-lines.ensures.lines.1) at c.in_ok-config.ensures.heads)
+    ∙ headed_gone c.read_header.new.lines.number c.in_ok-config.config [] (lines c.read_header.new.lines.rest.now) in
+    record {
+      large = λ l. absurd (omega (arith, l, c.in_ok-lines.ensures.small));
+      small = λ l. subst (λ r. JudgesBehind r c.judge_lines.result) (sym header) c.judge_lines.ensures;
+    }
+
+pub returns-clause-legal : goal.returns-clause-legal
+returns-clause-legal g c =
+    legal_is_found c.args.bytes.now c.judge_lines.result (returns-clause-judges g c)
+
+pub returns-clause-only : goal.returns-clause-only
+returns-clause-only g c =
+    legal_alone c.args.bytes.now c.judge_lines.result c.in_ok-lines.ensures.small (returns-clause-judges g c)

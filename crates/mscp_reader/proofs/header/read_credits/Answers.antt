@@ -1,12 +1,13 @@
 use Rattle.mscp_reader.specs.Lexical.{words}
 use Rattle.mscp_reader.specs.Grammar.{Begins, HasCredits}
 use Rattle.mscp_reader.specs.Outcome.{both_of}
-use Rattle.mscp_reader.proofs.Outcomes.{line_leads, next_credits}
+use Rattle.mscp_reader.proofs.Headers.{line_heads}
+use Rattle.mscp_reader.proofs.Outcomes.{next_credits}
 use Rattle.mscp_reader.proofs.header.read_credits.Goals as goal
 
-pub returns-clause-leads : goal.returns-clause-leads
-returns-clause-leads c =
+pub returns-clause-heads : goal.returns-clause-heads
+returns-clause-heads c =
     rw (c.at.ensures, c.in_ok-line.ensures.number)
-    (line_leads (λ all. HasCredits (both_of all)) c.header_line.new.self.number Begins
+    (line_heads (λ all. HasCredits (both_of all)) c.header_line.new.self.number Begins
     (words c.in_ok-line.line.words.rest.now) _ _ c.credits_of.result (rw next_credits c.credits_of.ensures)
-    (c.in_ok-line.ensures.some _))
+    (c.in_ok-line.ensures.some _ tt))

@@ -1,14 +1,14 @@
 use Rattle.std.proofs.Common.{◌≡◌, length}
 use Rattle.mscp_drive.specs.UnitList.{IsUnitList}
 use Rattle.mscp_reader.specs.Grammar.{Begins, HasUnits}
-use Rattle.mscp_reader.specs.Outcome.{rest_outcome, settled}
+use Rattle.mscp_reader.specs.Outcome.{rest_headed, settled}
 use Rattle.mscp_reader.proofs.header.read_header.Given as goal
 
 abbrev pub invariant-loop-config : goal.invariant-loop-config
 invariant-loop-config l = record {
   list : IsUnitList l.units.items;
-  same : rest_outcome l.fn.lines.number Begins l.fn.lines.rest.now
-      ≡ rest_outcome l.lines.number (HasUnits (settled l.limits l.units.items)) l.lines.rest.now;
+  same : rest_headed l.fn.lines.number Begins l.fn.lines.rest.now
+      ≡ rest_headed l.lines.number (HasUnits (settled l.limits l.units.items)) l.lines.rest.now;
 }
 
 abbrev pub decreases-loop-config : goal.decreases-loop-config

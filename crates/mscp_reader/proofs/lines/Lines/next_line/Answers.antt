@@ -5,6 +5,7 @@ use Rattle.mscp_reader.specs.Lexical.{words}
 use Rattle.mscp_reader.specs.Grammar.{said_at}
 use Rattle.mscp_reader.specs.Outcome.{in_line}
 use Rattle.mscp_reader.proofs.Outcomes.{skips, speaks, wrong, at_end}
+use Rattle.mscp_reader.proofs.Headers.{header_ends, header_skips, header_speaks, header_wrong}
 use Rattle.mscp_reader.proofs.lines.Lines.next_line.Goals as goal
 
 pub returns-in_err-words-clause-wrong : goal.returns-in_err-words-clause-wrong
@@ -13,6 +14,25 @@ returns-in_err-words-clause-wrong c =
     (λ q. c.loop-bytes.invariant.same q ∙ rw c.in-Some.ensures.line
     (wrong c.loop-bytes.self.number _ _ c.in_err-words.field-0.0
     (rw c.in-Some.ensures.counted at (c.in_err-words.ensures.words)) q))
+
+pub returns-in_err-words-clause-head_wrong : goal.returns-in_err-words-clause-head_wrong
+returns-in_err-words-clause-head_wrong c =
+    let p = err_from_is_err_and c.from_residual.result c.from_residual.ensures.1 in rw (p.1, p.2)
+    (λ q h. c.loop-bytes.invariant.same_head q h ∙ rw c.in-Some.ensures.line
+    (header_wrong c.loop-bytes.self.number _ _ c.in_err-words.field-0.0
+    (rw c.in-Some.ensures.counted at (c.in_err-words.ensures.words)) q h))
+
+pub returns-then-not-is_empty-clause-head_some : goal.returns-then-not-is_empty-clause-head_some
+returns-then-not-is_empty-clause-head_some c =
+    let said : in_line (c.loop-bytes.self.number + 1) (said_at (c.loop-bytes.self.number + 1) c.in-Some.bytes.now)
+    ≡ Ok (words c.in_ok-words.words.rest.now) = rw c.in-Some.ensures.counted at (c.in_ok-words.ensures.words) in
+    λ p h. c.loop-bytes.invariant.same_head p h ∙ rw (c.in-Some.ensures.line, c.in-Some.ensures.counted)
+    (header_speaks c.loop-bytes.self.number _ _ (words c.in_ok-words.words.rest.now) said (grind (arith,
+    common_steps)) p h)
+
+pub returns-clause-head_none : goal.returns-clause-head_none
+returns-clause-head_none c = λ p h. c.loop-bytes.invariant.same_head p h
+    ∙ rw (c.in_default.ensures.line, c.in_default.ensures.counted) (header_ends _ p h)
 
 pub returns-then-not-is_empty-clause-some : goal.returns-then-not-is_empty-clause-some
 returns-then-not-is_empty-clause-some c =
@@ -30,6 +50,9 @@ loop-bytes-preserved c =
       same = λ p. c.loop-bytes.invariant.same p ∙ rw (c.in-Some.ensures.line, c.in-Some.ensures.counted)
           (skips c.loop-bytes.self.number _ _ (words c.in_ok-words.words.rest.now) said (grind (arith, common_steps))
           p);
+      same_head = λ p h. c.loop-bytes.invariant.same_head p h ∙ rw (c.in-Some.ensures.line, c.in-Some.ensures.counted)
+          (header_skips c.loop-bytes.self.number _ _ (words c.in_ok-words.words.rest.now) said (grind (arith,
+          common_steps)) p h);
     }
 
 pub returns-clause-none : goal.returns-clause-none
