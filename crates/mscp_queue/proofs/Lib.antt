@@ -33,3 +33,4 @@ pub mod Drives
 pub mod Starting
 pub mod Ready
 pub mod Lineups
+pub mod Restored

@@ -9,6 +9,8 @@ ghost use Rattle.mscp_queue.specs.Records.{advanced, has_name, has_number, is_in
 ghost use Rattle.mscp_queue.specs.Aims.{no_aim};
 ghost use Rattle.mscp_queue.specs.Slots.{is_unfenced_at, kinds_of, lowered_by, slot_at};
 
+mod restoring;
+
 use crate::aim::Aim;
 use crate::name::{Connection, Name};
 use crate::record::Record;
