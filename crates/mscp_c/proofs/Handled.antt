@@ -10,7 +10,9 @@ use Rattle.mscp_queue.specs.declared.block.Block.{Block}
 use Rattle.mscp_queue.specs.declared.drive.Drive.{Drive}
 use Rattle.mscp_queue.specs.declared.view.Choice.{Choice}
 use Rattle.mscp_queue.specs.Drives.{is_online_in}
+use Rattle.mscp_queue.specs.declared.why.Holder.{Holder}
 use Rattle.mscp_queue.specs.Figures.{figure_of_name}
+use Rattle.mscp_queue.specs.Why.{holders_of_name}
 use Rattle.mscp_queue.specs.Lines.{Line}
 use Rattle.mscp_queue.specs.Records.{Record, name_of}
 use Rattle.mscp_queue.proofs.Placed.{filter_map_of}
@@ -20,6 +22,7 @@ use Rattle.mscp_control.specs.Settings.{Settings, IsValid}
 use Rattle.mscp_control.specs.Account.{balance, untaken}
 use Rattle.mscp_control.specs.Both.{of}
 use Rattle.mscp_control.specs.Figures.{figure_of}
+use Rattle.mscp_control.specs.Holders.{holders_of}
 use Rattle.mscp_control.specs.History.{Trace}
 use Rattle.mscp_control.specs.Holdings.{Holdings, answer_to_message, balance_of, end_taken, fresh, waiting_on}
 use Rattle.mscp_control.specs.Commands.{connection, name, waiting, waiting_by}
@@ -31,15 +34,16 @@ use Rattle.mscp_memory.specs.declared.controller.handle.Handle.{Handle}
 use Rattle.mscp_memory.specs.declared.policy.Policy.{Policy}
 use Rattle.mscp_memory.specs.ControllerRoom.{Held}
 use Rattle.mscp_memory.specs.Policies.{PolicyPicks}
+use Rattle.mscp_c.specs.declared.outs.HolderOut.{HolderOut}
 use Rattle.mscp_c.specs.declared.outs.PacketOut.{PacketOut}
 use Rattle.mscp_c.specs.declared.outs.ReportOut.{ReportOut}
 use Rattle.mscp_c.specs.declared.outs.SentOut.{SentOut}
 use Rattle.mscp_c.specs.declared.status.TheConstants.{BAD_CONNECTION, BAD_STATUS}
 use Rattle.mscp_c.specs.Given.{connection_given}
-use Rattle.mscp_c.specs.Told.{block_told, figure_in, figures_in, flag}
+use Rattle.mscp_c.specs.Told.{block_told, figure_in, figures_in, flag, holders_in, holders_told}
 use Rattle.mscp_c.specs.Served.{TellsFinish, TellsStep}
 use Rattle.mscp_c.specs.HandleCalls as made
-use Rattle.mscp_c.specs.HandleCalls.{AnsweredByHandle, AnswersFinish, AnswersHandle, AnswersOf, AnswersSend, AnswersTake, HandleCall, HandlesKeepThePromise, Refuses, Tells, TellsAll, TellsBlock, TellsFinished, TellsRefused, TellsSent, TellsStepped, TellsTaken}
+use Rattle.mscp_c.specs.HandleCalls.{AnsweredByHandle, AnswersFinish, AnswersHandle, AnswersOf, AnswersSend, AnswersTake, AnswersWhy, HandleCall, HandlesKeepThePromise, Refuses, Tells, TellsAll, TellsBlock, TellsFinished, TellsRefused, TellsSent, TellsStepped, TellsTaken, TellsWhy}
 
 -- ---- one more call of a controller
 
@@ -192,6 +196,30 @@ stepped c policy so_far h h' block before status after (Some k) e r f =
       follows = follows_more c policy so_far h h' call f r.step;
     }
 
+-- of a connection it is told who keeps a command back
+asked_why : (c : Settings) (policy : Policy) (so_far : List Call) (h h' : Handle) (number reference : ℕ)
+    (before : List HolderOut) (status : ℤ) (after : List HolderOut) (o : Option Connection)
+    → connection_given number ≡ o
+    → ((via : Connection) → holders_in h.held via reference ≡ holders_of c (history so_far) (name_on via reference))
+    → MatchOption o (Refuses BAD_CONNECTION h before status h' after)
+    (λ via. AnswersWhy via h reference before status after h')
+    → Follows c policy so_far h → Goes c policy so_far (made.Why number reference before status after) h'
+asked_why c policy so_far h h' number reference before status after None e same r f =
+    refused c policy so_far h h' (made.Why number reference before status after) BAD_CONNECTION before status after r f
+    (subst (λ o. MatchOption o (TellsRefused BAD_CONNECTION before status after [])
+    (λ via. TellsWhy c so_far via reference before status after [])) (sym e))
+asked_why c policy so_far h h' number reference before status after (Some via) e same r f =
+    record {
+      next = [];
+      tells = subst (λ o. MatchOption o (TellsRefused BAD_CONNECTION before status after [])
+          (λ via. TellsWhy c so_far via reference before status after [])) (sym e) (
+            refl,
+            r.0 ∙ ap (λ (hs : List Holder). pos (length hs)) (same via),
+            r.1 ∙ ap (λ hs. holders_told hs before) (same via),
+          );
+      follows = follows_same c policy so_far h h' f r.2;
+    }
+
 -- the commands of a connection that wait, counted by their names
 named_on : (via : Connection) (rs : List Record) → length (waiting_on via rs)
     ≡ length (filter (λ (n : Name). same_connection n.connection via) (map name_of rs))
@@ -248,6 +276,11 @@ goes c policy law valid so_far h h' (made.Figure number reference answer) f r =
     (λ via. (λ i. figure_of_name (k.settings i).budget h.held.waiting (name_on via reference))
     ∙ k.figure (name_on via reference)) r.0 in
     record { next = []; tells = (refl, told); follows = follows_same c policy so_far h h' f r.1 }
+goes c policy law valid so_far h h' (made.Why number reference before status after) f r =
+    let k = law c so_far h.held valid f.called in
+    asked_why c policy so_far h h' number reference before status after (connection_given number) refl
+    (λ via. (λ i. holders_of_name (k.settings i).budget h.held.waiting (name_on via reference))
+    ∙ k.kept_back (name_on via reference)) r f
 goes c policy law valid so_far h h' (made.Balance number answer) f r =
     let k = law c so_far h.held valid f.called in
     let told = answers_same number answer (λ via. balance_of via h.held) (λ via. balance c via (history so_far))

@@ -18,6 +18,7 @@ use Rattle.mscp_control.specs.Holdings.{after_message, after_take, answer_to_mes
 use Rattle.mscp_control.specs.Commands.{waiting_by}
 use Rattle.mscp_control.specs.Account.{untaken, balance}
 use Rattle.mscp_control.specs.Figures.{figure_of}
+use Rattle.mscp_control.specs.Holders.{holders_of}
 use Rattle.mscp_control.specs.Calls as calls
 use Rattle.mscp_control.specs.Calls.{Call, history}
 use Rattle.mscp_control.specs.Controllers.{KeepsPromise, drive_now}
@@ -32,8 +33,9 @@ use Rattle.mscp_c.specs.declared.outs.PacketOut.{PacketOut}
 use Rattle.mscp_c.specs.declared.outs.UpcomingOut.{UpcomingOut}
 use Rattle.mscp_c.specs.declared.outs.ReportOut.{ReportOut}
 use Rattle.mscp_c.specs.declared.outs.FigureOut.{FigureOut}
+use Rattle.mscp_c.specs.declared.outs.HolderOut.{HolderOut}
 use Rattle.mscp_c.specs.Given.{connection_given}
-use Rattle.mscp_c.specs.Told.{TakeTold, begin_code, block_told, figure_in, figures_in, figures_told, flag, report_code, report_told, send_code, sent_told, take_code, upcoming_told}
+use Rattle.mscp_c.specs.Told.{TakeTold, begin_code, block_told, figure_in, figures_in, figures_told, flag, holders_in, holders_told, report_code, report_told, send_code, sent_told, take_code, upcoming_told}
 use Rattle.mscp_c.specs.Served.{TellsBegin, TellsFinish, TellsStep, finish_code, finish_told}
 
 -- ---- calls
@@ -53,6 +55,8 @@ pub data HandleCall : Type 0 where
   Look : List FigureOut → ℤ → List FigureOut → HandleCall
   -- the number of a connection, and a reference number
   Figure : ℕ → ℕ → ℤ → HandleCall
+  -- the same, and who keeps the command back
+  Why : ℕ → ℕ → List HolderOut → ℤ → List HolderOut → HandleCall
   -- the number of a connection
   Balance : ℕ → ℤ → HandleCall
   Waiting : ℕ → ℤ → HandleCall
@@ -88,6 +92,12 @@ AnswersFinish via old reference block before status after new =
     MatchOption (block_told block) (Refuses BAD_STATUS old before status new after)
     (λ k. TellsFinish via reference k old before status new after)
 
+-- the same of who keeps a command back
+abbrev pub AnswersWhy : Connection → Handle → ℕ → List HolderOut → ℤ → List HolderOut → Handle → Type 0
+AnswersWhy via old reference before status after new =
+    (status ≡ pos (length (holders_in old.held via reference)))
+    × (after ≡ holders_told (holders_in old.held via reference) before) × (new ≡ old)
+
 -- what a call on a handle that was made answers, and what is there then
 abbrev pub AnswersHandle : Handle → HandleCall → Handle → Type 0
 AnswersHandle old (Send number message before status after) new =
@@ -107,6 +117,9 @@ AnswersHandle old (Look before status after) new =
     (status ≡ pos (length (figures_in old.held))) × (after ≡ figures_told (figures_in old.held) before) × (new ≡ old)
 AnswersHandle old (Figure number reference answer) new =
     AnswersOf number (λ via. figure_in old.held via reference) answer × (new ≡ old)
+AnswersHandle old (Why number reference before status after) new =
+    MatchOption (connection_given number) (Refuses BAD_CONNECTION old before status new after)
+    (λ via. AnswersWhy via old reference before status after new)
 AnswersHandle old (Balance number answer) new = AnswersOf number (λ via. balance_of via old.held) answer × (new ≡ old)
 AnswersHandle old (Waiting number answer) new =
     AnswersOf number (λ via. length (waiting_on via old.held.waiting)) answer × (new ≡ old)
@@ -153,6 +166,13 @@ TellsStepped k before status after next =
     (report : Report) × (next ≡ calls.Plain (events.Step k) (entries.Stepped report) ∷ [])
     × (status ≡ report_code report) × (after ≡ report_told report before)
 
+-- the number was that of this connection: who keeps the command back after the calls so far is told
+abbrev pub TellsWhy :
+    Settings → List Call → Connection → ℕ → List HolderOut → ℤ → List HolderOut → List Call → Type 0
+TellsWhy c so_far via reference before status after next =
+    (next ≡ []) × (status ≡ pos (length (holders_of c (history so_far) (name_on via reference))))
+    × (after ≡ holders_told (holders_of c (history so_far) (name_on via reference)) before)
+
 -- after these calls of a controller the call on its handle is the next of them, or is none and tells what is so after
 -- their history: status, numbers and out-struct tell what the controller answers (profile)
 abbrev pub Tells : Settings → List Call → HandleCall → List Call → Type 0
@@ -176,6 +196,9 @@ Tells c so_far (Look before status after) next =
     × (status ≡ pos (length list.items)) × (after ≡ figures_told list.items before)
 Tells c so_far (Figure number reference answer) next =
     (next ≡ []) × AnswersOf number (λ via. figure_of c (history so_far) (name_on via reference)) answer
+Tells c so_far (Why number reference before status after) next =
+    MatchOption (connection_given number) (TellsRefused BAD_CONNECTION before status after next)
+    (λ via. TellsWhy c so_far via reference before status after next)
 Tells c so_far (Balance number answer) next =
     (next ≡ []) × AnswersOf number (λ via. balance c via (history so_far)) answer
 Tells c so_far (Waiting number answer) next =

@@ -29,7 +29,8 @@ pub fn made_handles_are_valid(handle: &mut Handle)
 /// Calls on a handle, one after the other from an init or a reset on, are calls of a controller, with all that is promised
 /// of one that somebody holds: the messages, takes, looks, begins, finishes and steps are those calls, in their order, and
 /// statuses and out-structs tell what the controller answers. Figures, and of each connection the balance, how many
-/// commands wait and how many ends weren't taken, and who is online, are those of the history so far.
+/// commands wait and how many ends weren't taken, who keeps a command back, and who is online, are those of the history so
+/// far.
 pub fn handles_keep_the_promise(policy: Policy)
     ensures { HandlesKeepThePromise policy }
 {

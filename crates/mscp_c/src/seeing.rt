@@ -68,6 +68,8 @@ pub extern "C" fn mscp_why_at(
     ensures no_connection { is_made handle.old ≡ true → connection_given connection ≡ None
         → (result ≡ BAD_CONNECTION) × (out.new ≡ out.old) }
     ensures same { handle.new ≡ handle.old }
+    ensures call { is_made handle.old ≡ true
+        → AnswersHandle handle.old (calls.Why connection reference out.old result out.new) handle.new }
     ensures unmade { is_made handle.old ≡ false → (result ≡ NOT_MADE) × (out.new ≡ out.old) }
 {
     if !is_made(handle) {

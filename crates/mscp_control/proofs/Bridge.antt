@@ -10,6 +10,7 @@ pub mod Drives
 pub mod Aborting
 pub mod Sending
 pub mod Viewed
+pub mod Holders
 pub mod Servable
 pub mod Stepped
 pub mod Swept

@@ -1,5 +1,5 @@
 -- What is promised of a controller that somebody holds, from its making or its last reset on: a reset leaves it as new.
-use Rattle.std.specs.Prelude.{◌≡◌, ℕ, List, map}
+use Rattle.std.specs.Prelude.{◌≡◌, ℕ, true, List, map}
 use Rattle.mscp_drive.specs.Shape.{Shape}
 use Rattle.mscp_queue.specs.declared.drive.Drive.{Drive}
 use Rattle.mscp_queue.specs.declared.name.Connection.{Connection}
@@ -7,17 +7,20 @@ use Rattle.mscp_queue.specs.declared.name.Name.{Name}
 use Rattle.mscp_queue.specs.declared.view.Choice.{Choice}
 use Rattle.mscp_queue.specs.Figures.{figure_of_name}
 use Rattle.mscp_queue.specs.Kept.{names}
+use Rattle.mscp_queue.specs.Why.{holders_of_name, is_nobody}
 use Rattle.mscp_control.specs.Settings.{Settings, IsValid}
 use Rattle.mscp_control.specs.Both.{of}
 use Rattle.mscp_control.specs.Holdings.{Holdings, balance_of, fresh}
 use Rattle.mscp_control.specs.History.{Trace}
-use Rattle.mscp_control.specs.Commands.{name, waiting}
+use Rattle.mscp_control.specs.Commands.{is_idle, name, waiting}
 use Rattle.mscp_control.specs.Account.{untaken, balance}
 use Rattle.mscp_control.specs.Figures.{figure_of}
+use Rattle.mscp_control.specs.Holders.{holders, holders_of}
+use Rattle.mscp_control.specs.Passing.{is_startable}
 use Rattle.mscp_control.specs.Units.{head, is_online}
 use Rattle.mscp_control.specs.Legal.{IsLegal, IsPick}
 use Rattle.mscp_control.specs.Sweeping.{IsSwept, Sweeps}
-use Rattle.mscp_control.specs.Headline.{Promise}
+use Rattle.mscp_control.specs.Headline.{EachWaiting, Promise}
 use Rattle.mscp_control.specs.Calls.{AtEachCall, AnsweredCalls, Call, HoldsToBegun, IsRightCall, StartsChosen, history}
 
 -- a unit with its state and its head after t (manual, heads are the profile's)
@@ -47,6 +50,11 @@ pub record KeepsPromise {K : Type 0} (picks : List Choice → ℕ → Type 0) (c
   pub untaken : (via : Connection) → of via held.untaken ≡ untaken c via (history calls)
   -- the figure that it now tells of a name is that of the history (profile)
   pub figure : (name : Name) → figure_of_name c.budget held.waiting name ≡ figure_of c (history calls) name
+  -- those that it now says keep the command of a name back are those of the history, and a waiting command that nobody
+  -- keeps back is one that may start while nothing is in service, and no other is (profile)
+  pub kept_back : (name : Name) → holders_of_name c.budget held.waiting name ≡ holders_of c (history calls) name
+  pub unheld : EachWaiting (history calls) (λ x. is_idle (history calls) ≡ true
+      → is_startable c (history calls) x ≡ is_nobody (holders c (history calls) x))
   -- its drives are the units with the states and heads of the history, the way that each head goes too (manual, heads
   -- are the profile's)
   pub drives : held.drives ≡ map (drive_now c (history calls)) c.units

@@ -8,6 +8,7 @@ pub mod History
 pub mod Commands
 pub mod Passing
 pub mod Figures
+pub mod Holders
 pub mod Units
 pub mod Ends
 pub mod Both

@@ -40,7 +40,8 @@ pub fn runs_keep_the_promise<K: Picker>(picker: &K)
 /// aborted; a finish is stale exactly where no command of its name is begun. Each start is one that the
 /// picker may pick in the view at its begin, or at the step where nothing was begun: where it picks as `Sweep` does,
 /// the one of least cost in that view, and of those the oldest. The figures and balances that it tells are always
-/// those of that trace, and so are the states and the heads of its units. After a reset it is as new, and what follows
+/// those of that trace, and so are the states and the heads of its units, and those that keep a command back: while nothing
+/// is in service a waiting command may start exactly if nobody keeps it back. After a reset it is as new, and what follows
 /// is a trace of its own. The messages of the law may have any length: one of over 64 bytes, for which an `Event` has
 /// no room, is refused and changes nothing.
 pub fn controllers_keep_the_promise<K: Picker>(picker: &K)

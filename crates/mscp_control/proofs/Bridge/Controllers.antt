@@ -5,6 +5,7 @@ use Rattle.mscp_queue.specs.declared.view.Choice.{Choice}
 use Rattle.mscp_queue.specs.Figures.{figure_of_name}
 use Rattle.mscp_queue.specs.declared.name.Name.{Name}
 use Rattle.mscp_queue.specs.Records.{name_of}
+use Rattle.mscp_queue.specs.Why.{holders_of_name}
 use Rattle.mscp_queue.specs.Kept.{names}
 use Rattle.mscp_queue.proofs.Placed.{map_map}
 use Rattle.mscp_control.specs.declared.event.Event.{Event}
@@ -20,6 +21,7 @@ use Rattle.mscp_control.specs.Controllers.{KeepsPromise}
 use Rattle.mscp_control.proofs.Bridge.Swept.{sweeping, swept_pick}
 use Rattle.mscp_control.specs.Commands.{waiting}
 use Rattle.mscp_control.proofs.Bridge.Held.{figure_of_held, held_of}
+use Rattle.mscp_control.proofs.Bridge.Holders.{holders_of_held, startable_unheld}
 use Rattle.mscp_control.proofs.Promise.Progress.{progress}
 use Rattle.mscp_control.proofs.Bridge.Sending.{balance_held}
 use Rattle.mscp_control.proofs.Bridge.Following.{as_many, comes}
@@ -87,6 +89,8 @@ keeps_promise c picks picker calls h v r =
       waiting = ap names f.waits ∙ map_map (held_of t) name_of (waiting t);
       untaken = f.ends;
       figure = λ name. ap (λ ws. figure_of_name c.budget ws name) f.waits ∙ figure_of_held c t name;
+      kept_back = λ name. ap (λ ws. holders_of_name c.budget ws name) f.waits ∙ holders_of_held c t name;
+      unheld = λ x l idle. startable_unheld c t x idle;
       drives = k.agrees.driven.drives;
       balance = λ via. ap (λ (s : Settings). credits_of s via - (length (waiting_on via h.waiting) + length
           (of via h.untaken)))

@@ -91,7 +91,7 @@ figures_held c t =
     ap (λ n. figures_from c.budget (map (held_of t) (waiting t)) (range_with_len 0 n))
     (length-map (waiting t) (held_of t)) ∙ figures_part c t [] (waiting t) 0 refl refl
 
-has_held : (t : Trace) (r : Name) (xs : List ℕ) → AllByRecursion (λ x. same_name (name t x) r ≡ false) xs
+pub has_held : (t : Trace) (r : Name) (xs : List ℕ) → AllByRecursion (λ x. same_name (name t x) r ≡ false) xs
     → AllByRecursion (λ w. has_name r w ≡ false) (map (held_of t) xs)
 has_held t r [] h = tt
 has_held t r (x ∷ xs) h = (h.0, has_held t r xs h.1)

@@ -38,7 +38,7 @@ pub record_held : (t : Trace) (place : ℕ) → place < length (waiting t)
 record_held t place l = get_or-map (held_of t) (waiting t) place 0 no_record l
 
 -- a filter of the elements, by their places
-filter_places : (p : ℕ → Bool) (q : ℕ → Bool) (g : ℕ → ℕ) (a : ℕ) (xs : List ℕ)
+pub filter_places : (p : ℕ → Bool) (q : ℕ → Bool) (g : ℕ → ℕ) (a : ℕ) (xs : List ℕ)
     → ((i : ℕ) → i < length xs → (g (a + i) ≡ get_or xs i 0) × (p (get_or xs i 0) ≡ q (a + i)))
     → filter p xs ≡ map g (filter q (range_with_len a (length xs)))
 filter_places p q g a [] h = refl
@@ -58,7 +58,7 @@ filter_places p q g a (x ∷ xs) h =
     [ true ↦ ap (λ y. y ∷ map g (filter q (range_with_len (a + 1) (length xs)))) (sym gx) | false ↦ refl ])
 
 -- those in front of a place
-front_held : (t : Trace) (place : ℕ) → place < length (waiting t)
+pub front_held : (t : Trace) (place : ℕ) → place < length (waiting t)
     → earlier t (waiting_at t place) ≡ take place (waiting t)
 front_held t place l =
     let cut = cut_at t place l in earlier_is t (waiting_at t place) (take place (waiting t))
