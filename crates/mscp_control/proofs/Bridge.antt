@@ -21,3 +21,4 @@ pub mod Calling
 pub mod Controllers
 pub mod Answering
 pub mod Legals
+pub mod Restored

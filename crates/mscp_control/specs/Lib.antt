@@ -3,6 +3,7 @@ pub mod Arrival
 pub mod Outcomes
 pub mod Holdings
 pub mod Kept
+pub mod Restored
 pub mod History
 pub mod Commands
 pub mod Passing

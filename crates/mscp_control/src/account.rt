@@ -4,6 +4,8 @@ ghost use Rattle.std.specs.Prelude.{◌≡◌, ◌+◌, ◌<◌, ◌≤◌, leng
 ghost use Rattle.std.specs.List.{list_any};
 ghost use Rattle.mscp_control.specs.Accounts.{account, come, ended, fresh, left, put_account, taken};
 
+mod restoring;
+
 use arrayvec::ArrayVec;
 use mscp_packet::End;
 use mscp_queue::Connection;

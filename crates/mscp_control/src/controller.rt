@@ -17,6 +17,7 @@ ghost use Rattle.mscp_control.specs.Both.{of};
 ghost use Rattle.mscp_control.specs.Settings.{IsValid, credits_of};
 ghost use Rattle.mscp_control.specs.Holdings.{Answers, Finishes, Foretells, IsBalanced, Steps, aborting, after_message, after_take, answer_to_message, answered_end, arrives, balance_of, end_taken, with_end, fresh, outstanding_of, queued, reference_aborted, taken_as, waiting_on};
 
+mod restoring;
 #[cfg(test)]
 mod tests;
 

@@ -25,5 +25,6 @@ pub use crate::memory::OutOfMemory;
 pub use crate::running::{run, run_in, run_into};
 pub use crate::worst_case::worst;
 pub use mscp_queue::{
-    Block, Choice, Connection, FaultStatus, Holder, Oldest, Picker, Report, Sweep, Upcoming, View,
+    Block, Choice, Connection, Drive, FaultStatus, Holder, Name, Oldest, Picker, Record, Report,
+    Sweep, Upcoming, View,
 };

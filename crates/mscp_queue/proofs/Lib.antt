@@ -36,3 +36,4 @@ pub mod Drives
 pub mod Starting
 pub mod Ready
 pub mod Lineups
+pub mod Restored

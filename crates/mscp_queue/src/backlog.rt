@@ -11,6 +11,8 @@ ghost use Rattle.mscp_queue.specs.Drives.{IsOnUnit};
 ghost use Rattle.mscp_queue.specs.Lineups.{AreOnDrive, IsRecosted};
 ghost use Rattle.mscp_queue.specs.Slots.{is_unfenced_at, kinds_of, lowered_by, slot_at};
 
+mod restoring;
+
 use crate::aim::Aim;
 use crate::drive::Drive;
 use crate::name::{Connection, Name};

@@ -30,6 +30,7 @@ pub use crate::name::{Connection, Name};
 pub use crate::outcome::{end_with, endcode_of};
 pub use crate::picker::{Oldest, Picker, Sweep};
 pub use crate::queue::{Queue, Waiting};
+pub use crate::record::Record;
 pub use crate::report::Report;
 pub use crate::upcoming::Upcoming;
 pub use crate::view::{Choice, View};

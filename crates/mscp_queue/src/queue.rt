@@ -14,6 +14,8 @@ ghost use Rattle.mscp_queue.specs.Serving.{IsNext, end_in, is_begun};
 ghost use Rattle.mscp_queue.specs.Views.{is_open_at};
 ghost use Rattle.mscp_queue.specs.Why.{holders_of_name, is_nobody};
 
+mod restoring;
+
 use crate::aim::Aim;
 use crate::backlog::Backlog;
 use crate::block::Block;

@@ -70,6 +70,17 @@ impl Record {
         }
     }
 
+    /// The record as it was once its command had `done` steps, and was passed by `passed` blocks.
+    pub fn resumed(self, done: u32, passed: u32) -> Record
+        ensures { result ≡ record self { done = done; good = done; passed = passed } }
+    {
+        Record {
+            done,
+            passed,
+            ..self
+        }
+    }
+
     /// The connection that the command came by, and that its end goes to.
     pub fn connection(&self) -> Connection
         ensures { result ≡ self.now.connection }

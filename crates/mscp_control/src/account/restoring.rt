@@ -1,0 +1,58 @@
+// The accounts of the connections' hosts as they were.
+
+ghost use Rattle.std.specs.Prelude.{◌≡◌, ◌≤◌, length};
+ghost use Rattle.mscp_queue.specs.declared.name.Connection.TheVariants.{First, Second};
+ghost use Rattle.mscp_control.specs.Accounts.{account};
+ghost use Rattle.mscp_control.specs.Holdings.{waiting_on};
+
+use crate::account::{Account, Accounts};
+use arrayvec::ArrayVec;
+use mscp_packet::End;
+use mscp_queue::{Connection, Record};
+
+/// How many of the records are of commands of the connection.
+fn count_on(connection: Connection, records: &[Record]) -> u32
+    requires { length records.now ≤ 64 }
+    ensures { result ≡ length (waiting_on connection records.now) }
+{
+    let mut count = 0;
+    for place in 0..records.len() {
+        if records[place].connection() == connection {
+            count += 1;
+        }
+    }
+    count
+}
+
+impl Accounts {
+    /// The accounts where these commands wait, and these ends of each connection weren't taken.
+    pub(crate) fn restored(
+        waiting: &[Record],
+        first: ArrayVec<End, 64>,
+        second: ArrayVec<End, 64>,
+    ) -> Accounts
+        requires { length waiting.now ≤ 64 }
+        ensures { result ≡ record {
+          first = record { waiting = length (waiting_on First waiting.now); untaken = first };
+          second = record { waiting = length (waiting_on Second waiting.now); untaken = second };
+        } }
+    {
+        Accounts {
+            first: Account {
+                waiting: count_on(Connection::First, waiting),
+                untaken: first,
+            },
+            second: Account {
+                waiting: count_on(Connection::Second, waiting),
+                untaken: second,
+            },
+        }
+    }
+
+    /// The ends of the connection that weren't taken, oldest first.
+    pub(crate) fn ends(&self, connection: Connection) -> &[End]
+        ensures { result.now ≡ (account connection self.now).untaken.items }
+    {
+        self.of(connection).untaken.as_slice()
+    }
+}

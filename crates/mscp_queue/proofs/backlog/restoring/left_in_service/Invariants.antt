@@ -1,0 +1,11 @@
+use Rattle.std.proofs.Common.{◌≡◌, ◌*◌, ◌<◌, ◌≤◌, ◌^◌, take}
+use Rattle.std.specs.Prelude.{sum_by}
+use Rattle.mscp_queue.specs.Records.{left_if_serving}
+use Rattle.mscp_queue.proofs.backlog.restoring.left_in_service.Given as goal
+
+abbrev pub invariant-loop-place : goal.invariant-loop-place
+invariant-loop-place l =
+    record {
+      sum : l.left ≡ sum_by left_if_serving (take l.place l.records);
+      small : l.left ≤ l.place * 2 ^ 32;
+    }

@@ -1,0 +1,127 @@
+// A queue as it was, and what is to be kept of one so that it can be again.
+
+ghost use Rattle.std.specs.Prelude.{◌≡◌, ◌<◌, ◌≤◌, true, ◌||◌, All, length, map, IfNone, IfSome, None};
+ghost use Rattle.std.specs.List.{position};
+ghost use Rattle.mscp_queue.specs.Kept.{ArePassedInOrder, HasBlocks, IsHeld, units_of};
+ghost use Rattle.mscp_queue.specs.Drives.{IsOnUnit};
+ghost use Rattle.mscp_queue.specs.Lineups.{choice_in, has_choice_name};
+ghost use Rattle.mscp_queue.specs.Orders.{is_move, is_sequential};
+ghost use Rattle.mscp_queue.specs.Records.{is_in_service, record_at};
+
+use crate::aim::Aim;
+use crate::backlog::Backlog;
+use crate::drive::Drive;
+use crate::lineup::Lineup;
+use crate::name::Name;
+use crate::picker::Picker;
+use crate::queue::Queue;
+use crate::record::Record;
+use crate::start::choice_in;
+use crate::view::View;
+use arrayvec::ArrayVec;
+
+/// What a picker would see of each of the records, if each might start.
+fn lineup_of(drives: &[Drive], records: &[Record]) -> Lineup
+    requires few { length records.now ≤ 64 }
+    requires drives { length drives.now ≤ 16 }
+    requires waitable { All (λ r. (is_sequential r.command.order || is_move r.command.order) ≡ true) records.now }
+    requires blocks { All (λ r. HasBlocks (units_of drives.now) r.command) records.now }
+    requires heads { All IsOnUnit drives.now }
+    ensures { result.view ≡ map (choice_in drives.now) records.now }
+{
+    let mut lineup = Lineup::new();
+    for place in 0..records.len() {
+        let record = &records[place];
+        let aim = Aim::of(&record.command(), drives);
+        lineup.come(choice_in(drives, record, aim));
+    }
+    lineup
+}
+
+/// The place of the command in service, if one is.
+fn place_served(records: &[Record]) -> Option<usize>
+    ensures { result ≡ position is_in_service records.now }
+{
+    records.iter().position(|record| record.done() > 0)
+}
+
+/// The place of what was begun, if something was.
+fn place_begun(lineup: &Lineup, begun: Option<Name>) -> Option<usize>
+    ensures some { IfSome begun (λ name. result ≡ position (has_choice_name name) lineup.now.view) }
+    ensures none { IfNone begun (result ≡ None) }
+{
+    lineup.place_of(begun?)
+}
+
+impl<K: Picker> Queue<K> {
+    /// The queue with these limits, drives and picker in which these commands wait, and which has begun the one of this
+    /// name, if one is named.
+    pub fn restored(
+        room: u32,
+        budget: u32,
+        longest: u32,
+        records: &[Record],
+        drives: ArrayVec<Drive, 16>,
+        begun: Option<Name>,
+        picker: K,
+    ) -> Queue<K>
+        requires held { IsHeld room budget longest records.now drives.items begun true }
+        requires order { ArePassedInOrder records.now }
+        ensures { result ≡ record {
+          room = room;
+          budget = budget;
+          longest = longest;
+          waiting = records.now;
+          drives = drives.items;
+          begun = begun;
+          picker = picker;
+        } }
+    {
+        let backlog = Backlog::restored(budget, records, drives.as_slice());
+        let lineup = lineup_of(drives.as_slice(), records);
+        let begun = place_begun(&lineup, begun);
+        Queue {
+            room,
+            longest,
+            backlog,
+            drives,
+            begun,
+            serving: place_served(records),
+            picker,
+            lineup,
+            view: View::empty(),
+        }
+    }
+
+    /// The record of the waiting command at the place, in order of arrival.
+    pub fn record(&self, place: usize) -> Record
+        requires { place < length self.now.waiting }
+        ensures { result ≡ record_at self.now.waiting place }
+    {
+        *self.backlog.record(place)
+    }
+
+    /// The drives, in the order of their units. With what else is seen of the queue they are what one can be made of again.
+    pub fn drives(&self) -> &[Drive]
+        ensures value { result.now ≡ self.now.drives }
+        ensures held { IsHeld self.now.room self.now.budget self.now.longest self.now.waiting self.now.drives
+            self.now.begun true }
+        ensures order { ArePassedInOrder self.now.waiting }
+    {
+        self.drives.as_slice()
+    }
+
+    /// The name of what was begun, if something was.
+    pub fn begun(&self) -> Option<Name>
+        ensures { result ≡ self.now.begun }
+    {
+        Some(self.backlog.record(self.begun?).name())
+    }
+
+    /// Who picks.
+    pub fn picker(&self) -> &K
+        ensures { result.now ≡ self.now.picker }
+    {
+        &self.picker
+    }
+}

@@ -1,0 +1,26 @@
+-- Bytes that grow at their end.
+use Rattle.std.proofs.Common.{◌≡◌, ℕ, zero, suc, ◌≤◌, List, [], ◌∷◌, ◌++◌, take, length, append_assoc, refl, ap, sym, ◌∙◌, arith}
+use Rattle.std.specs.Prelude.{replicate}
+use Rattle.byteorder.specs.Endian.{little_bytes}
+
+-- the first of many zeros are zeros
+pub first_zeros : (n k : ℕ) → k ≤ n → take {A = ℕ} k (replicate n 0) ≡ replicate k 0
+first_zeros n zero l = refl
+first_zeros zero (suc k) l = absurd (omega (arith, l))
+first_zeros (suc n) (suc k) l = ap (λ xs. 0 ∷ xs) (first_zeros n k (omega (arith, l)))
+
+-- a number of so many bytes behind others
+pub grow : (xs a : List ℕ) (n x x' : ℕ) {ys zs : List ℕ} → ys ≡ xs ++ a → zs ≡ ys ++ little_bytes n x → x ≡ x'
+    → zs ≡ xs ++ (a ++ little_bytes n x')
+grow xs a n x x' e f g =
+    f ∙ (ap (λ l. l ++ little_bytes n x) e ∙ (append_assoc xs a (little_bytes n x)
+    ∙ ap (λ n'. xs ++ (a ++ little_bytes n n')) g))
+
+-- more bytes behind others
+pub more : (xs a b b' : List ℕ) {ys zs : List ℕ} → ys ≡ xs ++ a → zs ≡ ys ++ b → b ≡ b' → zs ≡ xs ++ (a ++ b')
+more xs a b b' e f g =
+    f ∙ (ap (λ l. l ++ b) e ∙ (append_assoc xs a b ∙ ap (λ t. xs ++ (a ++ t)) g))
+
+-- the first bytes behind others
+pub first : (xs b b' : List ℕ) {zs : List ℕ} → zs ≡ xs ++ b → b ≡ b' → zs ≡ xs ++ b'
+first xs b b' f g = f ∙ ap (λ t. xs ++ t) g

@@ -1,0 +1,14 @@
+use Rattle.std.proofs.Common.{All, ◌≡◌, ◌+◌, ◌*◌, ◌++◌, take}
+use Rattle.std.specs.Prelude.{flat_map}
+use Rattle.arrayvec.specs.ArrayVec.{array_vec_len}
+use Rattle.mscp_packet.specs.Ends.{HasEndRange}
+use Rattle.mscp_saved.specs.Saved.{end_cell}
+use Rattle.mscp_saved.proofs.writing.put_ends.Given as goal
+
+abbrev pub invariant-loop-place : goal.invariant-loop-place
+invariant-loop-place l =
+    record {
+      items : l.out.items ≡ l.fn.out.items ++ flat_map end_cell (take l.place l.ends);
+      len : array_vec_len l.out ≡ array_vec_len l.fn.out + 48 * l.place;
+      range : All HasEndRange (take l.place l.ends);
+    }

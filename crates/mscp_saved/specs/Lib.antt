@@ -1,0 +1,4 @@
+pub mod Saved
+pub mod Read
+pub mod Restored
+pub mod Ranges

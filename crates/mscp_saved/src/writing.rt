@@ -1,0 +1,312 @@
+// A controller to bytes.
+
+ghost use Rattle.std.specs.Prelude.{◌≡◌, ◌+◌, ◌*◌, ◌≤◌, ◌<◌, ◌^◌, ◌++◌, [], flat_map, length, All, IfSome, slice_index_or};
+ghost use Rattle.arrayvec.specs.ArrayVec.{array_vec_len};
+ghost use Rattle.mscp_packet.specs.Commands.{IsValidOrder};
+ghost use Rattle.mscp_packet.specs.Ends.{HasBodyRange, HasEndRange};
+ghost use Rattle.mscp_queue.specs.declared.name.Connection.TheVariants.{First, Second};
+ghost use Rattle.mscp_control.specs.Both.{of};
+ghost use Rattle.mscp_control.specs.Restored.{IsSound};
+ghost use Rattle.mscp_saved.specs.Ranges.{HasDriveRange, HasLimitRange, HasRange, HasUnitRange, HasWaitingRange};
+ghost use Rattle.mscp_saved.specs.Saved.{begun_bytes, connection_byte, counts_bytes, drive_bytes, end_cell, flag_byte, frame_bytes, head_bytes, identifiers_bytes, limits_bytes, saved_bytes, settings_bytes, sizes_bytes, waiting_bytes};
+
+pub use crate::fields::ROOM;
+
+use crate::fields::{put_eight, put_four, put_one, put_padded, put_two};
+use arrayvec::ArrayVec;
+use mscp_control::{Config, Connection, Controller, Drive, Name, Picker, Record};
+use mscp_drive::Unit;
+use mscp_packet::{End, EndBody, write_command, write_end};
+
+/// "MSCQ", as a number.
+pub(crate) const MAGIC: u32 = 0x5143_534D;
+
+/// The version of the format.
+pub(crate) const VERSION: u32 = 1;
+
+/// The number of a connection.
+fn connection_byte(connection: Connection) -> u8
+    ensures { result ≡ connection_byte connection }
+{
+    match connection {
+        Connection::First => 1,
+        Connection::Second => 2,
+    }
+}
+
+/// Whether something is so, as a number.
+fn flag_byte(so: bool) -> u8
+    ensures { result ≡ flag_byte so }
+{
+    if so { 1 } else { 0 }
+}
+
+/// Appends a unit's number and its sizes.
+fn put_sizes(out: &mut ArrayVec<u8, ROOM>, unit: &Unit)
+    requires { array_vec_len out.old + 12 ≤ 3664 }
+    ensures items { out.new.items ≡ out.old.items ++ sizes_bytes unit.now }
+    ensures len { array_vec_len out.new ≡ array_vec_len out.old + 12 }
+{
+    put_two(out, unit.number());
+    put_two(out, unit.track());
+    put_two(out, unit.group());
+    put_two(out, unit.cylinder_size());
+    put_four(out, unit.size());
+}
+
+/// Appends a unit's identifiers.
+fn put_identifiers(out: &mut ArrayVec<u8, ROOM>, unit: &Unit)
+    requires { array_vec_len out.old + 16 ≤ 3664 }
+    ensures items { out.new.items ≡ out.old.items ++ identifiers_bytes unit.now }
+    ensures len { array_vec_len out.new ≡ array_vec_len out.old + 16 }
+{
+    put_eight(out, unit.id());
+    put_four(out, unit.media());
+    put_four(out, unit.serial());
+}
+
+/// The numbers of a unit fit their types.
+fn read_unit(unit: &Unit)
+    ensures { HasUnitRange unit.now }
+{
+    let _ = (unit.number(), unit.track(), unit.group(), unit.cylinder_size());
+    let _ = (unit.size(), unit.id(), unit.media(), unit.serial());
+}
+
+/// Appends a drive.
+fn put_drive(out: &mut ArrayVec<u8, ROOM>, drive: &Drive)
+    requires { array_vec_len out.old + 34 ≤ 3664 }
+    ensures items { out.new.items ≡ out.old.items ++ drive_bytes drive.now }
+    ensures len { array_vec_len out.new ≡ array_vec_len out.old + 34 }
+    ensures range { HasDriveRange drive.now }
+{
+    read_unit(&drive.unit);
+    put_sizes(out, &drive.unit);
+    put_identifiers(out, &drive.unit);
+    put_one(out, flag_byte(drive.online));
+    put_one(out, flag_byte(drive.head.up));
+    put_four(out, drive.head.cylinder);
+}
+
+/// Appends a waiting command.
+fn put_waiting(out: &mut ArrayVec<u8, ROOM>, waiting: &Record)
+    requires { array_vec_len out.old + 41 ≤ 3664 }
+    ensures items { out.new.items ≡ out.old.items ++ waiting_bytes waiting.now }
+    ensures len { array_vec_len out.new ≡ array_vec_len out.old + 41 }
+    ensures range { HasWaitingRange waiting.now }
+{
+    let message = write_command(&waiting.command());
+    put_padded(out, message.as_slice(), 32);
+    put_four(out, waiting.done());
+    put_four(out, waiting.passed());
+    put_one(out, connection_byte(waiting.connection()));
+}
+
+/// The numbers of an end's body fit their types.
+fn read_body(body: &EndBody)
+    ensures { HasBodyRange body.now }
+{
+    match body {
+        EndBody::Bare => {}
+        EndBody::Abort(other) => {
+            let _other = *other;
+        }
+        EndBody::Status { other, figure } => {
+            let _ = (*other, *figure);
+        }
+        EndBody::UnitStatus {
+            id,
+            media,
+            track,
+            group,
+            cylinder,
+        } => {
+            let _ = (*id, *media, *track, *group, *cylinder);
+        }
+        EndBody::Controller { timeout, id } => {
+            let _ = (*timeout, *id);
+        }
+        EndBody::Online {
+            id,
+            media,
+            size,
+            serial,
+        } => {
+            let _ = (*id, *media, *size, *serial);
+        }
+        EndBody::Moved(count) => {
+            let _count = *count;
+        }
+    }
+}
+
+/// The numbers of an end fit their types.
+fn read_numbers(reference: u32, unit: u16, status: u16)
+    ensures { (reference < 2 ^ 32) × (unit < 2 ^ 16) × (status < 2 ^ 16) }
+{
+    let _ = (reference, unit, status);
+}
+
+/// Appends an end.
+fn put_end(out: &mut ArrayVec<u8, ROOM>, end: &End)
+    requires { array_vec_len out.old + 48 ≤ 3664 }
+    ensures items { out.new.items ≡ out.old.items ++ end_cell end.now }
+    ensures len { array_vec_len out.new ≡ array_vec_len out.old + 48 }
+    ensures range { HasEndRange end.now }
+{
+    read_numbers(end.reference, end.unit, end.status);
+    read_body(&end.body);
+    put_padded(out, write_end(end).as_slice(), 48);
+}
+
+/// Appends what was begun.
+fn put_begun(out: &mut ArrayVec<u8, ROOM>, begun: Option<Name>)
+    requires { array_vec_len out.old + 5 ≤ 3664 }
+    ensures items { out.new.items ≡ out.old.items ++ begun_bytes begun }
+    ensures len { array_vec_len out.new ≡ array_vec_len out.old + 5 }
+    ensures range { IfSome begun (λ name. name.reference < 2 ^ 32) }
+{
+    match begun {
+        Some(name) => {
+            put_one(out, connection_byte(name.connection));
+            put_four(out, name.reference);
+        }
+        None => {
+            put_one(out, 0);
+            put_four(out, 0);
+        }
+    }
+}
+
+/// Appends what tells how long all is.
+fn put_frame<K: Picker>(out: &mut ArrayVec<u8, ROOM>, controller: &Controller<K>)
+    requires sound { IsSound controller.now }
+    requires start { out.old.items ≡ [] }
+    ensures items { out.new.items ≡ frame_bytes controller.now }
+    ensures len { array_vec_len out.new ≡ 12 }
+{
+    let ends = controller.ends(Connection::First).len() + controller.ends(Connection::Second).len();
+    let length = 48 + 34 * controller.drives().len() + 41 * controller.len() + 48 * ends;
+    put_four(out, MAGIC);
+    put_four(out, VERSION);
+    put_four(out, length as u32);
+}
+
+/// Appends the limits.
+fn put_limits(out: &mut ArrayVec<u8, ROOM>, config: &Config)
+    requires { array_vec_len out.old ≡ 12 }
+    ensures items { out.new.items ≡ out.old.items ++ limits_bytes config.now }
+    ensures len { array_vec_len out.new ≡ 28 }
+    ensures range { HasLimitRange config.now }
+{
+    let _ = (config.timeout(), config.id());
+    put_four(out, config.credits());
+    put_four(out, config.second());
+    put_four(out, config.budget());
+    put_four(out, config.longest());
+}
+
+/// Appends the settings, but for the units.
+fn put_settings<K: Picker>(out: &mut ArrayVec<u8, ROOM>, controller: &Controller<K>, picker: u8)
+    requires sound { IsSound controller.now }
+    requires start { array_vec_len out.old ≡ 12 }
+    ensures items { out.new.items ≡ out.old.items ++ settings_bytes picker controller.now }
+    ensures len { array_vec_len out.new ≡ 40 }
+    ensures range { HasLimitRange controller.now.settings }
+{
+    let config = controller.config();
+    put_limits(out, config);
+    put_two(out, config.timeout());
+    put_one(out, picker);
+    put_one(out, controller.drives().len() as u8);
+    put_eight(out, config.id());
+}
+
+/// Appends how much there is of each part, and what was begun.
+fn put_counts<K: Picker>(out: &mut ArrayVec<u8, ROOM>, controller: &Controller<K>)
+    requires sound { IsSound controller.now }
+    requires start { array_vec_len out.old ≡ 40 }
+    ensures items { out.new.items ≡ out.old.items ++ counts_bytes controller.now }
+    ensures len { array_vec_len out.new ≡ 48 }
+    ensures range { IfSome controller.now.begun (λ name. name.reference < 2 ^ 32) }
+{
+    put_one(out, controller.len() as u8);
+    put_one(out, controller.ends(Connection::First).len() as u8);
+    put_one(out, controller.ends(Connection::Second).len() as u8);
+    put_begun(out, controller.begun());
+}
+
+/// Appends the head.
+fn put_head<K: Picker>(out: &mut ArrayVec<u8, ROOM>, controller: &Controller<K>, picker: u8)
+    requires sound { IsSound controller.now }
+    requires start { out.old.items ≡ [] }
+    ensures items { out.new.items ≡ head_bytes picker controller.now }
+    ensures len { array_vec_len out.new ≡ 48 }
+    ensures limits { HasLimitRange controller.now.settings }
+    ensures begun { IfSome controller.now.begun (λ name. name.reference < 2 ^ 32) }
+{
+    put_frame(out, controller);
+    put_settings(out, controller, picker);
+    put_counts(out, controller);
+}
+
+/// Appends drives.
+fn put_drives(out: &mut ArrayVec<u8, ROOM>, drives: &[Drive])
+    requires { array_vec_len out.old + 34 * length drives.now ≤ 3664 }
+    ensures items { out.new.items ≡ out.old.items ++ flat_map drive_bytes drives.now }
+    ensures len { array_vec_len out.new ≡ array_vec_len out.old + 34 * length drives.now }
+    ensures range { All HasDriveRange drives.now }
+{
+    for place in 0..drives.len() {
+        put_drive(out, &drives[place]);
+    }
+}
+
+/// Appends the waiting commands.
+fn put_all_waiting<K: Picker>(out: &mut ArrayVec<u8, ROOM>, controller: &Controller<K>)
+    requires { array_vec_len out.old + 41 * length controller.now.waiting ≤ 3664 }
+    ensures items { out.new.items ≡ out.old.items ++ flat_map waiting_bytes controller.now.waiting }
+    ensures len { array_vec_len out.new ≡ array_vec_len out.old + 41 * length controller.now.waiting }
+    ensures range { All HasWaitingRange controller.now.waiting }
+{
+    for place in 0..controller.len() {
+        put_waiting(out, &controller.record(place));
+    }
+}
+
+/// The end at a place.
+fn end_at(ends: &[End], place: usize) -> End
+    requires { place < length ends.now }
+    ensures { result ≡ slice_index_or ends.now place result }
+{
+    ends[place]
+}
+
+/// Appends ends.
+fn put_ends(out: &mut ArrayVec<u8, ROOM>, ends: &[End])
+    requires { array_vec_len out.old + 48 * length ends.now ≤ 3664 }
+    ensures items { out.new.items ≡ out.old.items ++ flat_map end_cell ends.now }
+    ensures len { array_vec_len out.new ≡ array_vec_len out.old + 48 * length ends.now }
+    ensures range { All HasEndRange ends.now }
+{
+    for place in 0..ends.len() {
+        put_end(out, &end_at(ends, place));
+    }
+}
+
+/// All that callers see of a controller, as bytes, at most `ROOM`. The picker is told by a number, which is the caller's.
+/// What is the same to callers has the same bytes.
+pub fn save<K: Picker>(controller: &Controller<K>, picker: u8) -> ArrayVec<u8, ROOM>
+    ensures bytes { result.items ≡ saved_bytes picker controller.now }
+    ensures range { HasRange controller.now }
+    ensures sound { IsSound controller.now }
+{
+    let drives = controller.drives();
+    let mut out = ArrayVec::new();
+    put_head(&mut out, controller, picker);
+    put_drives(&mut out, drives);
+    put_all_waiting(&mut out, controller);
+    put_ends(&mut out, controller.ends(Connection::First));
+    put_ends(&mut out, controller.ends(Connection::Second));
+    out
+}
