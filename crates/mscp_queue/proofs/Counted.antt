@@ -1,5 +1,5 @@
 -- How many bits of a mask are set: as many as there are slots in it.
-use Rattle.std.proofs.Common.{◌≡◌, ◌≢◌, ◌<◌, ◌≤◌, ◌+◌, ◌^◌, ◌%◌, ◌/◌, ◌*◌, ◌⊎◌, inl, inr, ℕ, zero, suc, true, false, ◌||◌, nat_eq, List, [], ◌∷◌, count_ones, length, get_or, take, drop, sym, subst, ap, ◌∙◌, refl, arith}
+use Rattle.std.proofs.Common.{◌≡◌, ◌≢◌, ◌<◌, ◌≤◌, ◌+◌, ◌^◌, ◌%◌, ◌/◌, ◌⊎◌, inl, inr, ℕ, zero, suc, true, false, ◌||◌, nat_eq, List, [], ◌∷◌, count_ones, length, get_or, take, drop, sym, subst, ap, ◌∙◌, refl, arith}
 use Rattle.std.specs.Int.{bit_at}
 use Rattle.std.proofs.lemmas.Bool.{eq-eqb, ne_eqb}
 use Rattle.std.proofs.lemmas.List.{length-take-le}

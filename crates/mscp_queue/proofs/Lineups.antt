@@ -42,16 +42,7 @@ use Rattle.mscp_packet.specs.declared.command.Order.TheVariants as orders
 use Rattle.mscp_drive.specs.declared.head.Head.{Head}
 use Rattle.mscp_drive.specs.Heads.{sweep_cost}
 use Rattle.std.proofs.lemmas.Bool.{eq-eqb, eqb-true, false≢true, ne_eqb}
-use Rattle.std.proofs.lemmas.List.{
-  ext_get_or,
-  get_or_default,
-  get_or-map,
-  get_or-set_other,
-  get_or-set_same,
-  length-set,
-  length-map,
-  map-append,
-}
+use Rattle.std.proofs.lemmas.List.{ext_get_or, get_or_default, get_or-map, length-map, map-append}
 use Rattle.mscp_packet.specs.declared.command.Command.{Command}
 use Rattle.mscp_drive.specs.Shape.{Shape, cylinder_of, last_cylinder}
 use Rattle.mscp_queue.specs.Orders.{first_block, is_move, order_cost}
@@ -62,20 +53,7 @@ use Rattle.mscp_queue.specs.declared.view.Choice.{Choice}
 use Rattle.mscp_queue.specs.Aims.{aim_of, no_aim, unit_place}
 use Rattle.mscp_queue.specs.Drives.{drive_of, fresh_drive, has_number, one_block, replaced}
 use Rattle.mscp_queue.specs.Kept.{CanBeShown, is_known, names, units_of}
-use Rattle.mscp_queue.specs.Lineups.{
-  AreOnDrive,
-  IsLineup,
-  IsRecosted,
-  IsRenewed,
-  choice_in,
-  cost_on,
-  costing,
-  costing_if,
-  has_choice_name,
-  no_choice,
-  renewed,
-  sure_of,
-}
+use Rattle.mscp_queue.specs.Lineups.{AreOnDrive, IsLineup, IsRecosted, IsRenewed, choice_in, cost_on, costing, costing_if, has_choice_name, no_choice, sure_of}
 use Rattle.mscp_queue.specs.Masks.{IsSet}
 use Rattle.mscp_queue.specs.Names.{same_name}
 use Rattle.mscp_queue.specs.Records.{Record, advanced, has_name, name_of, no_record, passed_by, record_at}
@@ -507,4 +485,3 @@ recosted_renewed {stale} {at} {ds} {rs} {aims} {old} {new} d shown units h moves
         ∙ ap (λ b. costing_if b cost x) (sym (eq-eqb x.unit d.unit.number (unit e))))
     both own there cost x same unit off (inr f) =
         ap (λ b. costing_if b there x) (ne_eqb own at f) ∙ ap (λ b. costing_if b cost x) (sym (off f))
-

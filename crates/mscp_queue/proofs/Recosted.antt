@@ -1,22 +1,20 @@
 -- The costs on one drive are found anew, slot by slot.
-use Rattle.std.proofs.Common.{All, ◌≡◌, ◌≢◌, ◌<◌, ◌≤◌, ◌+◌, ◌^◌, ◌⊎◌, inl, inr, ℕ, Bool, true, false, cond, ◌&&◌, nat_eq, List, [], map, set, get_or, length, sym, subst, ap, ◌∙◌, refl, arith}
+use Rattle.std.proofs.Common.{◌≡◌, ◌≢◌, ◌<◌, ◌≤◌, ◌⊎◌, inl, inr, ℕ, Bool, true, false, cond, ◌&&◌, nat_eq, List, set, get_or, length, sym, subst, ap, ◌∙◌, refl, arith}
 use Rattle.std.specs.Prelude.{slice_index_or}
 use Rattle.std.specs.Int.{bit_at}
 use Rattle.std.proofs.lemmas.Bool.{eq-eqb, eqb-true, ne_eqb}
 use Rattle.std.proofs.lemmas.List.{get_or-map, get_or-set_other, get_or-set_same, length-map, length-set}
-use Rattle.std.proofs.lemmas.Nat.Bits.{bit_at-lt}
-use Rattle.mscp_drive.specs.Shape.{last_cylinder}
 use Rattle.mscp_queue.specs.declared.aim.Aim.{Aim}
 use Rattle.mscp_queue.specs.declared.drive.Drive.{Drive}
 use Rattle.mscp_queue.specs.declared.masks.Masks.{Masks}
 use Rattle.mscp_queue.specs.declared.slots.Slot.{Slot}
 use Rattle.mscp_queue.specs.declared.view.Choice.{Choice}
 use Rattle.mscp_queue.specs.Aims.{no_aim}
-use Rattle.mscp_queue.specs.Lineups.{AreOnDrive, IsRecosted, cost_on, costing, no_choice, recosted}
+use Rattle.mscp_queue.specs.Lineups.{IsRecosted, cost_on, costing, no_choice, recosted}
 use Rattle.mscp_queue.specs.Masks.{IsSet, bit, has}
 use Rattle.mscp_queue.specs.Records.{Record}
-use Rattle.mscp_queue.specs.Slots.{AreKept, aims, held, kind_at, no_slot, shown, slot_at}
-use Rattle.mscp_queue.proofs.Counted.{one_place, place_counted, placed}
+use Rattle.mscp_queue.specs.Slots.{AreKept, aims, kind_at, no_slot, shown}
+use Rattle.mscp_queue.proofs.Counted.{placed}
 use Rattle.mscp_queue.proofs.Masked.{one_bit, same_or, slot_has, slot_low}
 use Rattle.mscp_queue.proofs.Shown.{IsNumber, long_shown, slot_is}
 

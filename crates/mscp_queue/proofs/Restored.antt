@@ -1,5 +1,5 @@
 -- A queue as it was: its waiting commands in their slots, and what it knows of them.
-use Rattle.std.proofs.Common.{All, ◌≡◌, ◌+◌, ◌<◌, ◌≤◌, ◌^◌, ℕ, zero, suc, Bool, true, false, ◌||◌, cond, List, [], ◌∷◌, ◌++◌, map, drop, get_or, length, append_assoc, append-nil, refl, ap, sym, subst, ◌∙◌, arith}
+use Rattle.std.proofs.Common.{All, ◌≡◌, ◌+◌, ◌<◌, ◌≤◌, ◌^◌, ℕ, zero, suc, Bool, true, false, ◌||◌, List, [], ◌∷◌, ◌++◌, drop, get_or, length, append_assoc, append-nil, refl, ap, sym, subst, ◌∙◌, arith}
 use Rattle.std.specs.Prelude.{sum_by, is_some, unwrap_or, Option, Some, None, IfNone, IfSome}
 use Rattle.std.specs.List.{list_any, position}
 use Rattle.std.proofs.lemmas.Bool.{false≢true, ltb-false, true≢false}
@@ -13,7 +13,6 @@ use Rattle.mscp_queue.specs.Orders.{is_move, is_sequential}
 use Rattle.mscp_queue.specs.Waiters.{Waiters}
 use Rattle.mscp_queue.proofs.Named.{same_is}
 use Rattle.mscp_queue.proofs.Placed.{position_any}
-use Rattle.mscp_queue.specs.declared.aim.Aim.{Aim}
 use Rattle.mscp_queue.specs.declared.slots.Slot.{Slot}
 use Rattle.mscp_drive.specs.Shape.{Shape}
 use Rattle.mscp_queue.specs.Aims.{aim_of, aims_of}
@@ -141,9 +140,10 @@ begun_some budget rs name None still e =
     absurd (false≢true (ap is_some e ∙ (position_any (has_name name) rs
     ∙ any_at (has_name name) rs still.0 no_record still.1.inside still.2)))
 begun_some budget rs name (Some k) still e =
-    let found = position-Some (has_name name) rs k no_record (sym e) in
-    (ap (λ n. Some n) (same_is (name_of (record_at rs k)) name found.1),
-    λ j is. subst (λ n. n < length rs) (some_same is) found.0)
+    let found = position-Some (has_name name) rs k no_record (sym e) in (
+      ap (λ n. Some n) (same_is (name_of (record_at rs k)) name found.1),
+      λ j is. subst (λ n. n < length rs) (some_same is) found.0,
+    )
 
 pub begun_back : (budget : ℕ) (rs : List Record) (begun : Option Name) (place : Option ℕ)
     → ((name : Name) → begun ≡ Some name → IsStillServable budget rs name)

@@ -1,9 +1,9 @@
 -- A roll's counts stay those of its commands.
 use Rattle.std.proofs.Common.{◌≡◌, ◌≢◌, ◌<◌, ◌≤◌, ◌+◌, ◌⊎◌, inl, inr, ℕ, zero, suc, Bool, true, false, cond, ◌||◌, List, [], ◌∷◌, ◌++◌, take, drop, set, get_or, length, sym, subst, ap, ◌∙◌, refl, arith}
-use Rattle.std.specs.Prelude.{nat_eq, nat_lt, count_by, replicate}
+use Rattle.std.specs.Prelude.{nat_lt, count_by}
 use Rattle.std.specs.List.{list_any}
 use Rattle.std.proofs.lemmas.Bool.{eq-eqb, ne_eqb}
-use Rattle.std.proofs.lemmas.List.{get_or-set_other, get_or-set_same, take-append-drop}
+use Rattle.std.proofs.lemmas.List.{get_or-set_other, get_or-set_same}
 use Rattle.std.proofs.lemmas.List.Sums.{count_by-le-length, sum_by-append, sum_by-cons}
 use Rattle.mscp_queue.specs.declared.view.Choice.{Choice}
 use Rattle.mscp_queue.specs.Lineups.{costing, no_choice}
@@ -144,6 +144,8 @@ some_counted {counts} {choices} place own h low l is =
 pub counted_costing : {counts : List ℕ} {choices new : List Choice} (place cost : ℕ) → IsCounted counts choices
     → place < length choices → new ≡ set choices place (costing cost (get_or choices place no_choice))
     → IsCounted counts new
-counted_costing {counts} {choices} {new} place cost h l e = record { each = λ byte b.
-    h.each byte b ∙ (sym (count_set (has_byte byte) no_choice choices place (costing cost (get_or choices place no_choice)) l
-    refl) ∙ ap (count_by (has_byte byte)) (sym e)) }
+counted_costing {counts} {choices} {new} place cost h l e = record {
+  each = λ byte b.
+      h.each byte b ∙ (sym (count_set (has_byte byte) no_choice choices place (costing cost (get_or choices place no_choice)) l
+      refl) ∙ ap (count_by (has_byte byte)) (sym e));
+}

@@ -1,4 +1,4 @@
-use Rattle.std.proofs.Common.{◌⊎◌, inl, inr, ◌≡◌, ◌≢◌, ◌<◌, ◌≤◌, ℕ, ap, ◌∙◌, sym, subst, arith, w64}
+use Rattle.std.proofs.Common.{◌⊎◌, inl, inr, ◌≡◌, ◌≢◌, ◌<◌, ℕ, ap, ◌∙◌, arith, w64}
 use Rattle.std.specs.Int.{bit_at, trailing_zeros}
 use Rattle.std.specs.Int.Count.{trailing_of_zero}
 use Rattle.std.proofs.lemmas.Nat.Bits.{bit_at-trailing_zeros, bit_at-zero}
@@ -20,9 +20,11 @@ lowest m small (inr f) =
 
 pub returns-then-lowest-count-clause-some : goal.returns-then-lowest-count-clause-some
 returns-then-lowest-count-clause-some c =
-    let m = c.args.mask in
-    (c.if-lowest-count.true, (lowest m c.ranges.mask.fits (same_or m 0)).0
-    (omega (arith, c.if-lowest-count.true, c.requires)))
+    let m = c.args.mask in (
+      c.if-lowest-count.true,
+      (lowest m c.ranges.mask.fits (same_or m 0)).0
+          (omega (arith, c.if-lowest-count.true, c.requires)),
+    )
 
 pub returns-else-lowest-count-clause-none : goal.returns-else-lowest-count-clause-none
 returns-else-lowest-count-clause-none c = λ k l.

@@ -1,5 +1,4 @@
-use Rattle.std.proofs.Common.{arith}
-use Rattle.mscp_queue.proofs.Lineups.{all_on_drive, as_many, recosted_renewed}
+use Rattle.mscp_queue.proofs.Lineups.{all_on_drive, recosted_renewed}
 use Rattle.mscp_queue.proofs.lineup.Lineup.renew.Goals as goal
 
 pub renew-requires-clause-to : goal.renew-requires-clause-to

@@ -1,5 +1,5 @@
 use Rattle.std.proofs.Common.{◌≡◌, ℕ, List, ap, subst, sym, ◌∙◌}
-use Rattle.std.specs.Prelude.{map, Option, Some, None, IfNone, IfSome}
+use Rattle.std.specs.Prelude.{map, Option, Some, None, IfSome}
 use Rattle.std.specs.List.{position}
 use Rattle.mscp_queue.specs.declared.name.Name.{Name}
 use Rattle.mscp_queue.specs.Aims.{aims_of}

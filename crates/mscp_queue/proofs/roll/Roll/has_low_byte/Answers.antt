@@ -1,5 +1,5 @@
 use Rattle.std.proofs.Common.{ap, ◌∙◌}
-use Rattle.std.specs.Prelude.{get_or, nat_lt}
+use Rattle.std.specs.Prelude.{nat_lt}
 use Rattle.std.specs.List.{list_any}
 use Rattle.mscp_queue.specs.Rolls.{has_byte}
 use Rattle.mscp_queue.proofs.Rolls.{any_counted}

@@ -1,9 +1,8 @@
-use Rattle.std.proofs.Common.{arith, ◌≡◌, ◌≤◌, List, length, get_or, set, ◌∙◌, ap, refl, sym, subst}
+use Rattle.std.proofs.Common.{arith, ◌≤◌, get_or, set, ◌∙◌, ap, refl, sym, subst}
 use Rattle.mscp_drive.specs.Shape.{last_cylinder}
 use Rattle.mscp_queue.specs.declared.aim.Aim.{Aim}
 use Rattle.mscp_queue.specs.Aims.{no_aim}
 use Rattle.mscp_queue.specs.Lineups.{cost_on, costing, no_choice}
-use Rattle.mscp_queue.specs.Slots.{aims}
 use Rattle.mscp_queue.proofs.Counted.{one_place, place_counted}
 use Rattle.mscp_queue.proofs.Masked.{slot_low}
 use Rattle.mscp_queue.proofs.Recosted.{all_left, less_left, next_slot, none_left, recost_more, there}
