@@ -12,7 +12,6 @@ use Rattle.mscp_reader.specs.Grammar.{Place, Begins, HasBudget, HasCredits, HasP
 use Rattle.mscp_reader.specs.Outcome.{Heads, Leads, gone_or, headed, headed_on, in_line, lines_outcome, rest_headed, rest_outcome}
 use Rattle.mscp_reader.proofs.Outcomes.{at_end, ended_early, from_ok}
 
-
 -- before the header's end
 open_header : (n : ℕ) (p : Place) (behind : List (List ℕ)) (other : Result (Place × ℕ × List (List ℕ)) ScriptFault)
     → IsInHeader p → gone_or n p behind other ≡ other

@@ -1,4 +1,2 @@
 pub mod Saved
-pub mod Read
-pub mod Restored
 pub mod Ranges

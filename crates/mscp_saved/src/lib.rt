@@ -1,9 +1,7 @@
-//! A controller as bytes, and a controller from bytes.
+//! A controller as bytes.
 #![tactic(auto)]
 
-mod fault;
 mod fields;
 mod writing;
 
-pub use crate::fault::RestoreFault;
 pub use crate::writing::{ROOM, save};

@@ -11,7 +11,6 @@ ghost use Rattle.mscp_saved.specs.Ranges.{HasDriveRange, HasLimitRange, HasRange
 ghost use Rattle.mscp_saved.specs.Saved.{begun_bytes, connection_byte, counts_bytes, drive_bytes, end_cell, flag_byte, frame_bytes, head_bytes, identifiers_bytes, limits_bytes, saved_bytes, settings_bytes, sizes_bytes, waiting_bytes};
 
 pub use crate::fields::ROOM;
-
 use crate::fields::{put_eight, put_four, put_one, put_padded, put_two};
 use arrayvec::ArrayVec;
 use mscp_control::{Config, Connection, Controller, Drive, Name, Picker, Record};
@@ -69,7 +68,12 @@ fn put_identifiers(out: &mut ArrayVec<u8, ROOM>, unit: &Unit)
 fn read_unit(unit: &Unit)
     ensures { HasUnitRange unit.now }
 {
-    let _ = (unit.number(), unit.track(), unit.group(), unit.cylinder_size());
+    let _ = (
+        unit.number(),
+        unit.track(),
+        unit.group(),
+        unit.cylinder_size(),
+    );
     let _ = (unit.size(), unit.id(), unit.media(), unit.serial());
 }
 

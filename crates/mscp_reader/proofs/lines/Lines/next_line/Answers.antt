@@ -27,8 +27,10 @@ returns-then-not-is_empty-clause-head_some c =
     let said : in_line (c.loop-bytes.self.number + 1) (said_at (c.loop-bytes.self.number + 1) c.in-Some.bytes.now)
     ≡ Ok (words c.in_ok-words.words.rest.now) = rw c.in-Some.ensures.counted at (c.in_ok-words.ensures.words) in
     λ p h. c.loop-bytes.invariant.same_head p h ∙ rw (c.in-Some.ensures.line, c.in-Some.ensures.counted)
-    (header_speaks c.loop-bytes.self.number _ _ (words c.in_ok-words.words.rest.now) said (grind (arith,
-    common_steps)) p h)
+    (header_speaks c.loop-bytes.self.number _ _ (words c.in_ok-words.words.rest.now) said (grind (
+      arith,
+      common_steps,
+    )) p h)
 
 pub returns-clause-head_none : goal.returns-clause-head_none
 returns-clause-head_none c = λ p h. c.loop-bytes.invariant.same_head p h
@@ -51,8 +53,10 @@ loop-bytes-preserved c =
           (skips c.loop-bytes.self.number _ _ (words c.in_ok-words.words.rest.now) said (grind (arith, common_steps))
           p);
       same_head = λ p h. c.loop-bytes.invariant.same_head p h ∙ rw (c.in-Some.ensures.line, c.in-Some.ensures.counted)
-          (header_skips c.loop-bytes.self.number _ _ (words c.in_ok-words.words.rest.now) said (grind (arith,
-          common_steps)) p h);
+          (header_skips c.loop-bytes.self.number _ _ (words c.in_ok-words.words.rest.now) said (grind (
+            arith,
+            common_steps,
+          )) p h);
     }
 
 pub returns-clause-none : goal.returns-clause-none
