@@ -244,7 +244,7 @@ size_t mscp_host_align(void);
 
 /* At least those sizes, for memory that is there from the start, as
  * static uint64_t memory[(MSCP_HEAD + MSCP_SIZE) / sizeof(uint64_t)]; */
-#define MSCP_SIZE 13968u
+#define MSCP_SIZE 14224u
 #define MSCP_HOST_SIZE 1056u
 
 /* The bytes of a handle, at the head of the memory. */

@@ -106,7 +106,8 @@ frame_bytes h =
 
 -- the settings but for the units; between them the picker's number, which is its caller's, and how many drives there are
 abbrev pub limits_bytes : Settings → List ℕ
-limits_bytes c = little_bytes 4 c.credits ++ little_bytes 4 c.second ++ little_bytes 4 c.budget ++ little_bytes 4 c.longest
+limits_bytes c =
+    little_bytes 4 c.credits ++ little_bytes 4 c.second ++ little_bytes 4 c.budget ++ little_bytes 4 c.longest
 
 abbrev pub settings_bytes : {K : Type 0} → ℕ → Holdings K → List ℕ
 settings_bytes picker h =
