@@ -1,5 +1,5 @@
 -- What a judge says of the lines of a log.
-use Rattle.std.specs.Prelude.{◌≡◌, ◌≢◌, ℕ, ◌+◌, ◌<◌, ◌≤◌, List, [], ◌∷◌, ◌++◌, length, Bool, true, false, Result, Ok, Err}
+use Rattle.std.specs.Prelude.{◌≡◌, ◌≢◌, ◌⊎◌, ℕ, ◌+◌, ◌<◌, ◌≤◌, List, [], ◌∷◌, ◌++◌, length, Bool, true, false, Option, Some, None, Result, Ok, Err}
 use Rattle.mscp_control.specs.Headline.{Promise}
 use Rattle.mscp_control.specs.Settings.{Settings}
 use Rattle.mscp_control.specs.declared.event.Event.{Event}
@@ -10,10 +10,17 @@ use Rattle.mscp_reader.specs.declared.fault.Cause.TheVariants as causes
 use Rattle.mscp_reader.specs.declared.fault.ReadFault.{ReadFault}
 use Rattle.mscp_reader.specs.declared.fault.ReadFault.TheVariants as faults
 use Rattle.mscp_reader.specs.declared.fault.ScriptFault.{ScriptFault}
+use Rattle.mscp_control.specs.Holdings.{Holdings}
 use Rattle.mscp_judge.specs.declared.judge.Judge.{Judge}
+use Rattle.mscp_judge.specs.declared.naming.Named.{Named}
+use Rattle.mscp_judge.specs.declared.rules.Breach.{Breach}
+use Rattle.mscp_judge.specs.declared.rules.Rule.{Rule}
+use Rattle.mscp_judge.specs.declared.rules.Rule.TheVariants as rules
 use Rattle.mscp_judge.specs.declared.judging.Verdict.{Verdict}
 use Rattle.mscp_judge.specs.declared.judging.Verdict.TheVariants as verdicts
 use Rattle.mscp_judge.specs.Logs.{IsLegalLog, IsRightThere, Log, MayGoOn, after_line, after_lines, nothing, telling, told, whole}
+use Rattle.mscp_judge.specs.Rules.{IsRule}
+use Rattle.mscp_judge.specs.Starts.{AreStarts, IsStarting}
 use Rattle.mscp_judge.specs.Standing.{IsHeld, Stands, Stood, due, marked, owed}
 
 -- ---- the verdict
@@ -26,8 +33,20 @@ pub record AreLegal (c : Settings) (before : ℕ) (all : List (List ℕ)) : Type
   -- so the promise of each legal trace is kept
   pub promise : Promise c (whole legal.0)
 
+-- a line breaks this rule after these lines of a log, and there these commands may start: the trace so far is that of
+-- each legal log that begins so
+pub record IsBroken (c : Settings) (log : Log) (breach : Breach) (breaks : Holdings Named → List ℕ → List Event → Type 0)
+    : Type 0 where
+  pub h : Holdings Named
+  pub due : List ℕ
+  pub owed : List Event
+  pub stood : Stood c (marked log) h due owed []
+  pub rule : breaks h due owed
+  pub starts : AreStarts c (whole stood.parts ++ stood.now) due owed breach.rule breach.starts.items
+
 -- the line of this number is the first that no legal log has there: what stands before it is the beginning of one
-pub record IsFirstWrong (c : Settings) (before : ℕ) (all : List (List ℕ)) (place : ℕ) (right : List ℕ) : Type 0 where
+pub record IsFirstWrong (c : Settings) (before : ℕ) (all : List (List ℕ)) (place : ℕ) (breach : Breach)
+    (right : List ℕ) : Type 0 where
   pub front : List (List ℕ)
   pub line : List ℕ
   pub back : List (List ℕ)
@@ -39,15 +58,19 @@ pub record IsFirstWrong (c : Settings) (before : ℕ) (all : List (List ℕ)) (p
   pub opens : MayGoOn c log.marks
   pub says : after_line place log line ≡ Ok next
   pub wrong : ¬ (MayGoOn c next.marks)
+  -- this is the rule that it breaks
+  pub broken : IsBroken c log breach (λ h due owed. IsRule h due owed line breach.rule)
   -- and this would have been right there, if it isn't empty
   pub right_there : IsRightThere c log right
 
 -- a legal log begins with all lines, and they aren't one: some answer is missing
-pub record AreUnanswered (c : Settings) (before : ℕ) (all : List (List ℕ)) (right : List ℕ) : Type 0 where
+pub record AreUnanswered (c : Settings) (before : ℕ) (all : List (List ℕ)) (breach : Breach) (right : List ℕ)
+    : Type 0 where
   pub log : Log
   pub read : after_lines before nothing all ≡ Ok log
   pub opens : MayGoOn c log.marks
   pub wrong : ¬ (IsLegalLog c log.marks)
+  pub broken : IsBroken c log breach (λ h due owed. breach.rule ≡ rules.Missing)
   -- and with this line it goes on, if that isn't empty
   pub right_there : IsRightThere c log right
 
@@ -67,17 +90,22 @@ pub record IsAtFault (c : Settings) (before : ℕ) (all : List (List ℕ)) (faul
 -- what is said of lines that so many stand before
 abbrev pub Judges : Settings → ℕ → List (List ℕ) → Result Verdict ReadFault → Type 0
 Judges c before all (Ok verdicts.Legal) = AreLegal c before all
-Judges c before all (Ok (verdicts.Wrong number right)) = IsFirstWrong c before all number right.items
-Judges c before all (Ok (verdicts.Unanswered right)) = AreUnanswered c before all right.items
+Judges c before all (Ok (verdicts.Wrong w)) = IsFirstWrong c before all w.line w.breach w.right.items
+Judges c before all (Ok (verdicts.Unanswered u)) = AreUnanswered c before all u.breach u.right.items
 Judges c before all (Err (faults.Script fault)) = IsAtFault c before all fault
 Judges c before all (Err faults.OutOfMemory) = Unit {0}
 
 -- ---- one line
 
 -- a line that told this of an answer was told, or no legal log goes on so
-abbrev pub Tells : {A : Type 0} → Settings → Log → Log → Judge A → Bool → Type 0
-Tells c log next new true = Stands c next new
-Tells c log next new false = (¬ (MayGoOn c next.marks)) × IsHeld c log new
+abbrev pub IsTold : {A : Type 0} → Settings → Log → Log → Judge A → Bool → Type 0
+IsTold c log next new true = Stands c next new
+IsTold c log next new false = (¬ (MayGoOn c next.marks)) × IsHeld c log new
+
+-- the same, if it breaks a rule
+abbrev pub Tells : {A : Type 0} → Settings → Log → Log → Judge A → Option Breach → Type 0
+Tells c log next new None = IsTold c log next new true
+Tells c log next new (Some breach) = IsTold c log next new false
 
 -- something is due, and each legal log that goes on with the line has this trace
 pub record IsAhead {A : Type 0} (c : Settings) (log : Log) (line : List ℕ) (judge : Judge A) : Type 0 where
@@ -85,16 +113,21 @@ pub record IsAhead {A : Type 0} (c : Settings) (log : Log) (line : List ℕ) (ju
   pub some : due judge ≢ []
   pub count : length log.events ≡ judge.reporter.count + judge.owed
 
--- something is due before the line, or no legal log goes on with it
-abbrev pub IsReady : {A : Type 0} → Settings → Log → List ℕ → Judge A → Bool → Type 0
-IsReady c log line judge true = IsAhead c log line judge
-IsReady c log line judge false = (¬ (MayGoOn c (telling log (line ++ 10 ∷ [])).marks)) × IsHeld c log judge
+-- these are the commands that may start, if a step is to be answered, and the rule isn't that of another service
+pub record IsListed {A : Type 0} (judge : Judge A) (rule : Rule) (starts : List Named) : Type 0 where
+  pub none : (due judge ≢ []) ⊎ ((owed judge ≡ []) ⊎ (rule ≡ rules.Service)) → starts ≡ []
+  pub all : due judge ≡ [] → owed judge ≢ [] → rule ≢ rules.Service → IsStarting judge.controller starts
+
+-- a line breaks this
+pub record Breaks {A : Type 0} (judge : Judge A) (line : List ℕ) (breach : Breach) : Type 0 where
+  pub rule : IsRule judge.controller (due judge) (owed judge) line breach.rule
+  pub starts : IsListed judge breach.rule breach.starts.items
 
 -- what became of a line of this number
 abbrev pub Hears : {A : Type 0}
-    → Settings → ℕ → Log → List ℕ → Result Bool ReadFault → Judge A → Type 0
-Hears c number log line (Ok goes_on) new =
-    (next : Log) × (after_line number log line ≡ Ok next) × Tells c log next new goes_on
+    → Settings → ℕ → Log → List ℕ → Result (Option Breach) ReadFault → Judge A → Type 0
+Hears c number log line (Ok breach) new =
+    (next : Log) × (after_line number log line ≡ Ok next) × Tells c log next new breach
 Hears c number log line (Err (faults.Script fault)) new =
     (fault.line ≡ number) × (after_line number log line ≡ Err fault.cause)
 Hears c number log line (Err faults.OutOfMemory) new = Unit {0}

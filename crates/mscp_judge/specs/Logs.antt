@@ -74,6 +74,23 @@ abbrev pub is_answer : List (List ℕ) → Bool
 is_answer [] = false
 is_answer (word ∷ rest) = if bytes_eq word (codes "second") then is_second_answer rest else is_answer_word word
 
+-- the words behind the word `second` say that a command was served
+abbrev pub is_second_service : List (List ℕ) → Bool
+is_second_service [] = false
+is_second_service (word ∷ rest) = bytes_eq word (codes "serve")
+
+-- the line of these words answers a step
+abbrev pub is_step_answer : List (List ℕ) → Bool
+is_step_answer [] = false
+is_step_answer (word ∷ rest) =
+    if bytes_eq word (codes "second") then is_second_service rest
+    else bytes_eq word (codes "serve") || bytes_eq word (codes "idle")
+
+-- and says that it was idle
+abbrev pub is_idle_answer : List (List ℕ) → Bool
+is_idle_answer [] = false
+is_idle_answer (word ∷ rest) = bytes_eq word (codes "idle")
+
 -- what lines have said: the events so far, and the marks so far
 pub record Log : Type 0 where
   pub events : List Event

@@ -44,3 +44,31 @@ pub fn is_answer(words: Words<'_>) -> bool
         None => false,
     }
 }
+
+/// Whether the line of these words answers a step.
+pub fn is_step(words: Words<'_>) -> bool
+    ensures { result ≡ logs.is_step_answer (lexical.words words.entry.rest.now) }
+{
+    let mut rest = words;
+    let Some(word) = rest.next_word() else {
+        return false;
+    };
+    if !is(word, "second") {
+        return is(word, "serve") || is(word, "idle");
+    }
+    match rest.next_word() {
+        Some(word) => is(word, "serve"),
+        None => false,
+    }
+}
+
+/// Whether the line of these words says that a step was idle.
+pub fn is_idle(words: Words<'_>) -> bool
+    ensures { result ≡ logs.is_idle_answer (lexical.words words.entry.rest.now) }
+{
+    let mut rest = words;
+    match rest.next_word() {
+        Some(word) => is(word, "idle"),
+        None => false,
+    }
+}

@@ -1,16 +1,20 @@
 // A controller that answers what a log says, and what of its answers wasn't told yet.
 
-ghost use Rattle.std.specs.Prelude.{◌≡◌, ◌⊎◌, ◌+◌, ◌-◌, ◌<◌, ◌≤◌, ◌^◌, ◌∷◌, ◌++◌, [], ℕ, List, length, true, false, OnOk, IfOk};
+ghost use Rattle.std.specs.Prelude.{◌≡◌, ◌≢◌, ◌⊎◌, ◌+◌, ◌-◌, ◌<◌, ◌≤◌, ◌^◌, ◌∷◌, ◌++◌, [], ℕ, List, length, true, false, OnOk, IfOk, IfSome};
 ghost use Rattle.std.specs.List.{list_all};
 ghost use Rattle.mscp_control.specs.Settings.{Settings};
 ghost use Rattle.mscp_control.specs.declared.event.Event.TheVariants as events;
 ghost use Rattle.mscp_reader.specs.Lexical as lexical;
 ghost use Rattle.mscp_reader.specs.Requests.{events_of};
-ghost use Rattle.mscp_judge.specs.Judged.{IsAhead, IsReady, Tells};
-ghost use Rattle.mscp_judge.specs.Logs.{IsRightThere, Log, asking, nothing, telling};
+ghost use Rattle.mscp_judge.specs.Judged.{Breaks, IsAhead, IsListed, IsTold, Tells};
+ghost use Rattle.mscp_judge.specs.Logs.{IsRightThere, Log, asking, is_answer, nothing, telling};
+ghost use Rattle.mscp_judge.specs.Rules.{first_line};
 ghost use Rattle.mscp_judge.specs.Standing.{BeginsWith, Came, IsHeld, IsSettled, Stands, due};
 
+use crate::comparing::due_rule;
 use crate::naming::{Named, name_in, nobody};
+use crate::rules::{Breach, Rule};
+use crate::starting::{starts, step_breach};
 use arrayvec::ArrayVec;
 use mscp_control::{Block, Config, Connection, Controller, OutOfMemory};
 use mscp_packet::write_command;
@@ -43,6 +47,18 @@ fn begins_with(bytes: &[u8], line: &[u8]) -> bool
         return false;
     }
     &bytes[..line.len()] == line
+}
+
+/// The first line, without its line feed, or all where there is none.
+fn line_of(bytes: &[u8]) -> &[u8]
+    ensures { result.now ≡ first_line bytes.now }
+{
+    for place in 0..bytes.len() {
+        if bytes[place] == b'\n' {
+            return &bytes[..place];
+        }
+    }
+    bytes
 }
 
 /// The first line, without its line feed: nothing, where there is none, or it is too long.
@@ -213,31 +229,12 @@ impl<A: Allocator> Judge<A> {
         Ok(first_line(self.due()))
     }
 
-    /// Answers the next step, if nothing is due: the command starts that these words of a line say was served, if it may.
-    /// Says whether something is due then.
-    fn prepare(&mut self, words: Words<'_>) -> Result<bool, OutOfMemory>
-        requires { self.old.reporter.count + 1 < 2 ^ 64 }
-        ensures ready { IfOk result (λ ready. (c : Settings) (log : Log) (line : List ℕ)
-            → lexical.words words.entry.rest.now ≡ lexical.words line → Stands c log self.old
-            → IsReady c log line self.new ready) }
-        ensures count { OnOk result (self.new.reporter.count + self.new.owed
-            ≡ self.old.reporter.count + self.old.owed) }
-    {
-        if !self.due().is_empty() {
-            return Ok(true);
-        }
-        if self.owed == 0 {
-            return Ok(false);
-        }
-        self.step(name_in(words))?;
-        Ok(true)
-    }
-
     /// A line was told, if it is what is due next.
     fn tell(&mut self, line: &[u8]) -> bool
         requires { list_all lexical.is_printed line.now ≡ true }
         ensures tells { (c : Settings) (log : Log) → IsAhead c log line.now self.old
-            → Tells c log (telling log (line.now ++ 10 ∷ [])) self.new result }
+            → IsTold c log (telling log (line.now ++ 10 ∷ [])) self.new result }
+        ensures kept { result ≡ false → self.new ≡ self.old }
         ensures count { self.new.reporter.count + self.new.owed ≡ self.old.reporter.count + self.old.owed }
     {
         let due = self.due();
@@ -249,19 +246,78 @@ impl<A: Allocator> Judge<A> {
         true
     }
 
-    /// A line tells an answer: whether a legal log goes on so. The words are those of the line.
-    pub fn hear(&mut self, line: &[u8], words: Words<'_>) -> Result<bool, OutOfMemory>
-        requires count { self.old.reporter.count + 1 < 2 ^ 64 }
+    /// A line tells what is due, or breaks a rule.
+    fn tell_due(&mut self, line: &[u8], words: Words<'_>) -> Option<Breach>
+        requires due { due self.old ≢ [] }
         requires words { lexical.words words.rest.now ≡ lexical.words line.now }
+        requires answer { is_answer (lexical.words line.now) ≡ true }
         requires printed { list_all lexical.is_printed line.now ≡ true }
-        ensures tells { IfOk result (λ goes_on. (c : Settings) (log : Log) → Stands c log self.old
-            → Tells c log (telling log (line.now ++ 10 ∷ [])) self.new goes_on) }
+        ensures tells { (c : Settings) (log : Log) → Stands c log self.old
+            → Tells c log (telling log (line.now ++ 10 ∷ [])) self.new result }
+        ensures breaks { IfSome result (Breaks self.old line.now) }
+        ensures count { self.new.reporter.count + self.new.owed ≡ self.old.reporter.count + self.old.owed }
+    {
+        if self.tell(line) {
+            return None;
+        }
+        let right = Words::new(line_of(self.due()));
+        Some(Breach::of(due_rule(right, words)))
+    }
+
+    /// A line tells what the next step does, at which the command starts that it names, or it breaks a rule.
+    fn tell_step(&mut self, line: &[u8], words: Words<'_>) -> Result<Option<Breach>, OutOfMemory>
+        requires count { self.old.reporter.count + 1 < 2 ^ 64 }
+        requires due { due self.old ≡ [] }
+        requires owed { 0 < self.old.owed }
+        requires words { lexical.words words.rest.now ≡ lexical.words line.now }
+        requires answer { is_answer (lexical.words line.now) ≡ true }
+        requires printed { list_all lexical.is_printed line.now ≡ true }
+        ensures tells { IfOk result (λ breach. (c : Settings) (log : Log) → Stands c log self.old
+            → Tells c log (telling log (line.now ++ 10 ∷ [])) self.new breach) }
+        ensures breaks { IfOk result (λ breach. IfSome breach (Breaks self.old line.now)) }
         ensures count { OnOk result (self.new.reporter.count + self.new.owed
             ≡ self.old.reporter.count + self.old.owed) }
     {
-        if !self.prepare(words)? {
-            return Ok(false);
+        let breach = step_breach(&self.controller, words);
+        self.step(name_in(words))?;
+        if self.tell(line) {
+            return Ok(None);
         }
-        Ok(self.tell(line))
+        Ok(Some(breach))
+    }
+
+    /// A line tells an answer: the rule that it breaks, if it breaks one. The words are those of the line.
+    pub fn hear(&mut self, line: &[u8], words: Words<'_>) -> Result<Option<Breach>, OutOfMemory>
+        requires count { self.old.reporter.count + 1 < 2 ^ 64 }
+        requires words { lexical.words words.rest.now ≡ lexical.words line.now }
+        requires answer { is_answer (lexical.words line.now) ≡ true }
+        requires printed { list_all lexical.is_printed line.now ≡ true }
+        ensures tells { IfOk result (λ breach. (c : Settings) (log : Log) → Stands c log self.old
+            → Tells c log (telling log (line.now ++ 10 ∷ [])) self.new breach) }
+        ensures breaks { IfOk result (λ breach. IfSome breach (Breaks self.old line.now)) }
+        ensures count { OnOk result (self.new.reporter.count + self.new.owed
+            ≡ self.old.reporter.count + self.old.owed) }
+    {
+        if !self.due().is_empty() {
+            return Ok(self.tell_due(line, words));
+        }
+        if self.owed == 0 {
+            return Ok(Some(Breach::of(Rule::NoEvent)));
+        }
+        self.tell_step(line, words)
+    }
+
+    /// What is broken where an answer is missing.
+    pub fn missing(&self) -> Breach
+        ensures rule { result.rule ≡ Rule.Missing }
+        ensures starts { IsListed self.now Rule.Missing result.starts.items }
+    {
+        if self.owed == 0 || !self.due().is_empty() {
+            return Breach::of(Rule::Missing);
+        }
+        Breach {
+            rule: Rule::Missing,
+            starts: starts(&self.controller),
+        }
     }
 }

@@ -3,11 +3,16 @@
 #![tactic(auto)]
 
 mod answers;
+mod comparing;
 mod judge;
 mod judging;
 mod log;
 mod naming;
+mod rules;
+mod starting;
 
 pub use crate::judge::Right;
-pub use crate::judging::{Verdict, judge_lines};
+pub use crate::judging::{Unanswered, Verdict, Wrong, judge_lines};
 pub use crate::log::judge_log;
+pub use crate::naming::Named;
+pub use crate::rules::{Breach, Figure, Rule};

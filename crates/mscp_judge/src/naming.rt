@@ -11,8 +11,9 @@ use crate::answers::is;
 use mscp_control::{Choice, Connection, Picker, View};
 use mscp_reader::{Words, wide};
 
-/// Picks the command of this name, if it may start.
-#[derive(Clone, Copy, Debug, PartialEq, Eq)]
+/// The name of a command: the connection that it came by, and its reference number. As a picker it picks that command, if
+/// it may start.
+#[derive(Clone, Copy, Debug, Default, PartialEq, Eq)]
 pub struct Named {
     pub connection: Connection,
     pub reference: u32,

@@ -17,7 +17,7 @@ pub use crate::fault::{Cause, ReadFault, ScriptFault};
 pub use crate::header::read_header;
 pub use crate::law::scripts_have_one_meaning;
 pub use crate::lines::{Line, Lines, PlainLine, words_of};
-pub use crate::numbers::wide;
+pub use crate::numbers::{message, wide};
 pub use crate::plain::Plain;
 pub use crate::script::{MOST_BYTES, Script, lines_of, read_script, read_script_in};
 pub use crate::words::Words;
