@@ -31,7 +31,8 @@ grown_all log asked (Ok es) = (Asked (events_of asked) ∷ [], refl)
 grown_all log asked (Err cause) = tt
 
 grown_request : (log : Log) (r : Result Request Cause)
-    → Grown log (r >>= λ asked. more_events log.events (events_of asked) >>= λ all. Ok (asking log (events_of asked) all))
+    → Grown log (r >>= λ asked. more_events log.events (events_of asked)
+    >>= λ all. Ok (asking log (events_of asked) all))
 grown_request log (Ok asked) = grown_all log asked (more_events log.events (events_of asked))
 grown_request log (Err cause) = tt
 
@@ -56,7 +57,8 @@ grown_on : (log : Log) (n : ℕ) (rest : List (List ℕ)) (r : Result Log Cause)
     → ((next : Log) → Grown next (after_lines n next rest)) → Grown log (r >>= λ next. after_lines n next rest)
 grown_on log n rest (Ok next) g ih = last_too g (after_lines n next rest) (ih next)
   where
-    last_too : (more : List Mark) × (next.marks ≡ log.marks ++ more) → (r : Result Log Cause) → Grown next r → Grown log r
+    last_too : (more : List Mark) × (next.marks ≡ log.marks ++ more) → (r : Result Log Cause) → Grown next r
+        → Grown log r
     last_too g (Ok last) h = (g.0 ++ h.0, h.1 ∙ (ap (λ ms. ms ++ h.0) g.1 ∙ append_assoc log.marks g.0 h.0))
     last_too g (Err cause) h = tt
 grown_on log n rest (Err cause) g ih = tt

@@ -56,7 +56,8 @@ all_left {rs} {aimed} {order} {m} at d ds now old kept view long =
     ∙ ap (λ (a : Aim). bit (nat_eq a.drive at)) (aim_at rs aimed ds order now k view (omega (arith, l, long)))) in
     record {
       long = refl;
-      taken = λ n l e. and_left (has n order) (nat_eq (kind_at rs aimed n).drive at) (sym (kept.masks.of_units at n l) ∙ e);
+      taken = λ n l e. and_left (has n order) (nat_eq (kind_at rs aimed n).drive at)
+          (sym (kept.masks.of_units at n l) ∙ e);
       aimed = λ k l e. eqb-true (get_or own k no_aim).drive at (one_bit (nat_eq (get_or own k no_aim).drive at)
           (sym (told k l) ∙ e));
       kept = λ k l e. refl;

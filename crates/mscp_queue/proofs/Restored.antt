@@ -157,7 +157,8 @@ begun_back budget rs (Some name) place still some none =
 -- where nobody is in service nobody had a step
 idle_where : (rs : List Record) → is_some (position is_in_service rs) ≡ false → All (λ r. r.done ≡ 0) rs
 idle_where rs e = All-from_get_or (λ (r : Record). r.done ≡ 0) rs no_record (λ k l.
-    let not_served : is_in_service (record_at rs k) ≡ false = none_at is_in_service rs k no_record l (sym (position_any is_in_service rs) ∙ e) in
+    let not_served : is_in_service (record_at rs k) ≡ false =
+    none_at is_in_service rs k no_record l (sym (position_any is_in_service rs) ∙ e) in
     omega (arith, ltb-false 0 (record_at rs k).done not_served))
 
 pub ready_restored : {room budget longest : ℕ} {w : Waiters} {rs : List Record} {ds : List Drive}

@@ -80,7 +80,8 @@ few_counted {counts} {choices} byte h l few =
     omega (arith, is, le, few)
 
 -- what a count becomes is what the test says of one choice more, or one less
-module _ {counts : List ℕ} {choices : List Choice} (h : IsCounted counts choices) (own n : ℕ) (long : 256 ≤ length counts)
+module _ {counts : List ℕ} {choices : List Choice} (h : IsCounted counts choices) (own n : ℕ)
+    (long : 256 ≤ length counts)
     (low : own < 256) where
   pub counted_set : {new : List Choice}
       → n ≡ count_by (has_byte own) new
@@ -88,7 +89,8 @@ module _ {counts : List ℕ} {choices : List Choice} (h : IsCounted counts choic
       → IsCounted (set counts own n) new
   counted_set {new} here other = record { each = λ byte l. by byte l (same_or byte own) }
     where
-      by : (byte : ℕ) → byte < 256 → (byte ≡ own) ⊎ (byte ≢ own) → get_or (set counts own n) byte 0 ≡ count_by (has_byte byte) new
+      by : (byte : ℕ) → byte < 256 → (byte ≡ own) ⊎ (byte ≢ own)
+          → get_or (set counts own n) byte 0 ≡ count_by (has_byte byte) new
       by byte l (inl e) =
           ap (λ k. get_or (set counts own n) k 0) e
           ∙ (get_or-set_same counts own n 0 (omega (arith, low, long))
@@ -144,8 +146,10 @@ some_counted {counts} {choices} place own h low l is =
 pub counted_costing : {counts : List ℕ} {choices new : List Choice} (place cost : ℕ) → IsCounted counts choices
     → place < length choices → new ≡ set choices place (costing cost (get_or choices place no_choice))
     → IsCounted counts new
-counted_costing {counts} {choices} {new} place cost h l e = record {
-  each = λ byte b.
-      h.each byte b ∙ (sym (count_set (has_byte byte) no_choice choices place (costing cost (get_or choices place no_choice)) l
-      refl) ∙ ap (count_by (has_byte byte)) (sym e));
-}
+counted_costing {counts} {choices} {new} place cost h l e =
+    let x = costing cost (get_or choices place no_choice) in
+    record {
+      each = λ byte b.
+          h.each byte b
+          ∙ (sym (count_set (has_byte byte) no_choice choices place x l refl) ∙ ap (count_by (has_byte byte)) (sym e));
+    }

@@ -104,7 +104,8 @@ frame_bytes h =
     ++ little_bytes 4 (saved_length (length h.drives) (length h.waiting)
     (length h.untaken.first + length h.untaken.second))
 
--- the settings but for the units; between them the picker's number, which is its caller's, and how many drives there are
+-- the settings but for the units; between them the picker's number, which is its caller's, and how many drives
+-- there are
 abbrev pub limits_bytes : Settings → List ℕ
 limits_bytes c =
     little_bytes 4 c.credits ++ little_bytes 4 c.second ++ little_bytes 4 c.budget ++ little_bytes 4 c.longest

@@ -40,7 +40,8 @@ pub returns-then-may_all_start-clause-inside : goal.returns-then-may_all_start-c
 returns-then-may_all_start-clause-inside g
     c = (all_picked c.args.backlog.now.budget c.args.drives.now c.args.backlog.now.waiting _ c.requires.some
     (c.may_all_start.ensures c.if-may_all_start.true) (c.shown.ensures
-    ∙ (c.renew_all.ensures ∙ all_choices c.args.drives.now c.args.backlog.now.waiting))).inside c.pick.result c.pick.ensures.place
+    ∙ (c.renew_all.ensures ∙ all_choices c.args.drives.now c.args.backlog.now.waiting))).inside c.pick.result
+    c.pick.ensures.place
 
 pub returns-then-may_all_start-clause-lined : goal.returns-then-may_all_start-clause-lined
 returns-then-may_all_start-clause-lined g c = lineup_of c.renew_all.new.self.stale c.renew_all.ensures

@@ -11,7 +11,8 @@ loop-place-preserved c =
     let i = c.loop-place.place in
     let d = c.index-drives-place.result in
     record {
-      items = written_more drive_bytes c.args.out.now.items ds i d d c.loop-place-test.true (sym c.index-drives-place.is)
+      items = written_more drive_bytes c.args.out.now.items ds i d d c.loop-place-test.true
+          (sym c.index-drives-place.is)
           inv.items c.put_drive.ensures.items;
       len = omega (arith, inv.len, c.put_drive.ensures.len);
       range = each_more HasDriveRange ds i d d c.loop-place-test.true (sym c.index-drives-place.is) inv.range

@@ -15,7 +15,8 @@ pub invariant_of-self : goal.invariant_of-self
 invariant_of-self c =
     let view = c.self.inside.view in
     let place = c.args.place in
-    let inside : place < length view = subst (λ (cs : List Choice). place < length cs) (sym c.self.view_is) c.requires in
+    let inside : place < length view =
+    subst (λ (cs : List Choice). place < length cs) (sym c.self.view_is) c.requires in
     let own : c.low_byte.result ≡ low_byte (get_or view place no_choice).reference =
     c.low_byte.ensures.value ∙ read view c.choices.result.now place _ c.choices.ensures.value inside in
     let some = some_counted place c.low_byte.result c.self.invariant c.low_byte.ensures.small inside own in

@@ -11,8 +11,8 @@ use Rattle.mscp_queue.proofs.slots.Slots.renew.Goals as goal
 
 pub loop-slot-init : goal.loop-slot-init
 loop-slot-init c =
-    all_left c.args.at c.args.drive.now c.self.inside.dues c.args.self.now c.args.roll.now c.self.invariant c.self.view_is
-    c.requires.long
+    all_left c.args.at c.args.drive.now c.self.inside.dues c.args.self.now c.args.roll.now c.self.invariant
+    c.self.view_is c.requires.long
 
 pub cost-requires-clause-target : goal.cost-requires-clause-target
 cost-requires-clause-target c =
