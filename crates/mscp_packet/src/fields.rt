@@ -1,5 +1,4 @@
-// The numbers of a message at their places, and a message that grows at its end. All numbers are
-// little-endian.
+//! Numbers in bytes at their places, and bytes that grow at their end. All numbers are little-endian.
 
 ghost use Rattle.std.specs.Prelude.{◌≡◌, ◌+◌, ◌≤◌, ◌++◌, length};
 ghost use Rattle.byteorder.specs.Endian.{little_bytes};
@@ -34,8 +33,8 @@ pub fn eight_at(b: &[u8], at: usize) -> u64
 }
 
 /// Appends bytes.
-pub fn put(out: &mut ArrayVec<u8, 48>, bytes: &[u8])
-    requires { array_vec_len out.old + length bytes.now ≤ 48 }
+pub fn put<const N: usize>(out: &mut ArrayVec<u8, N>, bytes: &[u8])
+    requires { array_vec_len out.old + length bytes.now ≤ N }
     ensures items { out.new.items ≡ out.old.items ++ bytes.now }
     ensures len { array_vec_len out.new ≡ array_vec_len out.old + length bytes.now }
 {
@@ -44,8 +43,8 @@ pub fn put(out: &mut ArrayVec<u8, 48>, bytes: &[u8])
 }
 
 /// Appends a number of two bytes.
-pub fn put_two(out: &mut ArrayVec<u8, 48>, x: u16)
-    requires { array_vec_len out.old + 2 ≤ 48 }
+pub fn put_two<const N: usize>(out: &mut ArrayVec<u8, N>, x: u16)
+    requires { array_vec_len out.old + 2 ≤ N }
     ensures items { out.new.items ≡ out.old.items ++ little_bytes 2 x }
     ensures len { array_vec_len out.new ≡ array_vec_len out.old + 2 }
 {
@@ -55,8 +54,8 @@ pub fn put_two(out: &mut ArrayVec<u8, 48>, x: u16)
 }
 
 /// Appends a number of four bytes.
-pub fn put_four(out: &mut ArrayVec<u8, 48>, x: u32)
-    requires { array_vec_len out.old + 4 ≤ 48 }
+pub fn put_four<const N: usize>(out: &mut ArrayVec<u8, N>, x: u32)
+    requires { array_vec_len out.old + 4 ≤ N }
     ensures items { out.new.items ≡ out.old.items ++ little_bytes 4 x }
     ensures len { array_vec_len out.new ≡ array_vec_len out.old + 4 }
 {
@@ -66,8 +65,8 @@ pub fn put_four(out: &mut ArrayVec<u8, 48>, x: u32)
 }
 
 /// Appends a number of eight bytes.
-pub fn put_eight(out: &mut ArrayVec<u8, 48>, x: u64)
-    requires { array_vec_len out.old + 8 ≤ 48 }
+pub fn put_eight<const N: usize>(out: &mut ArrayVec<u8, N>, x: u64)
+    requires { array_vec_len out.old + 8 ≤ N }
     ensures items { out.new.items ≡ out.old.items ++ little_bytes 8 x }
     ensures len { array_vec_len out.new ≡ array_vec_len out.old + 8 }
 {

@@ -4,7 +4,7 @@
 mod class;
 mod command;
 mod end;
-mod fields;
+pub mod fields;
 mod law;
 mod reading;
 pub mod status;
