@@ -50,6 +50,8 @@ uint32_t mscp_version(void);
 #define MSCP_MESSAGE_MAX 64u
 #define MSCP_PACKET_MAX 48u   /* bytes that a call writes of a message or an end, at most */
 #define MSCP_BLOCK 512u       /* bytes of a block */
+#define MSCP_SAVED_MAX 3664u  /* bytes that a controller is saved as, at most */
+#define MSCP_HOST_SAVED_MAX 794u /* bytes that a host is saved as, at most */
 
 /* What a call answers: 0 and up what came of it, below 0 why it was refused. */
 enum mscp_status {
@@ -80,7 +82,7 @@ enum mscp_status {
     MSCP_NO_HANDLE = -12,   /* an init of what is no handle */
     MSCP_NO_MEMORY = -13,   /* an init: the memory is NULL */
     MSCP_MISALIGNED = -14,  /* an init: its address isn't a multiple of the alignment */
-    MSCP_SMALL = -15,       /* an init: it has fewer bytes than the size */
+    MSCP_SMALL = -15,       /* an init: it has fewer bytes than the size; a save: fewer than what is saved has */
 
     MSCP_BAD_PICKER = -20,    /* mscp_init: no enum mscp_picker */
     MSCP_ZERO_TRACK = -21,    /* the first unit that is refused has a track of no blocks */
@@ -95,7 +97,24 @@ enum mscp_status {
     MSCP_BAD_TIMEOUT = -30,   /* the timeout isn't 1 to 255 seconds */
     MSCP_BAD_BOUND = -31,     /* the bound of figures doesn't fit 32 bits: see struct mscp_limits */
 
-    MSCP_BAD_CONNECTION = -32 /* no enum mscp_connection */
+    MSCP_BAD_CONNECTION = -32, /* no enum mscp_connection */
+
+    /* mscp_restore and mscp_host_restore: the bytes .. */
+    MSCP_SAVED_LENGTH = -40,  /* aren't as many as they say */
+    MSCP_SAVED_MAGIC = -41,   /* don't begin with "MSCQ", or "MSCH" for a host */
+    MSCP_SAVED_VERSION = -42, /* are of a version of the format that isn't known */
+    MSCP_SAVED_LIMITS = -43,  /* say limits that no controller has; of a host, credits that aren't 2 to 64 */
+    MSCP_SAVED_UNITS = -44,   /* units that no controller has */
+    MSCP_SAVED_HEADS = -45,   /* a head on no cylinder of its unit */
+    MSCP_SAVED_CREDITS = -46, /* more commands and ends than the credits of a connection cover */
+    MSCP_SAVED_COMMAND = -47, /* a waiting command that would not wait */
+    MSCP_SAVED_DOUBLED = -48, /* two of one connection and reference number */
+    MSCP_SAVED_STEPS = -49,   /* one with no steps left, or two in service */
+    MSCP_SAVED_PASSED = -50,  /* one that was passed by more blocks than the budget, or than an older one */
+    MSCP_SAVED_ENDS = -51,    /* an end without an endcode */
+    MSCP_SAVED_BEGUN = -52,   /* that a command is begun which doesn't wait, or may not be served */
+    MSCP_SAVED_PICKER = -53,  /* no enum mscp_picker */
+    MSCP_SAVED_FORM = -54     /* say what a controller, or a host, may hold, but not as it is saved */
 };
 
 /* By which connection a host talks to the controller. Each has its own credits, ends and reference numbers. */
@@ -318,7 +337,7 @@ MSCP_INLINE struct mscp_host *mscp_host_moved(void *memory)
     return handle;
 }
 
-/* The library's own form of six calls: their pointer to a list or to bytes is never NULL. In C call those without
+/* The library's own form of ten calls: their pointer to a list or to bytes is never NULL. In C call those without
  * _at. */
 int32_t mscp_init_at(struct mscp *mscp, const struct mscp_limits *limits, const struct mscp_unit *units, size_t count,
                      uint32_t picker);
@@ -327,12 +346,16 @@ int32_t mscp_send_at(struct mscp *mscp, uint32_t connection, const uint8_t *mess
 int32_t mscp_look_at(const struct mscp *mscp, struct mscp_waiting *list, size_t room);
 int32_t mscp_why_at(const struct mscp *mscp, uint32_t connection, uint32_t reference, struct mscp_holder *list,
                     size_t room);
+int32_t mscp_save_at(const struct mscp *mscp, uint8_t *bytes, size_t room, size_t *length);
+int32_t mscp_restore_at(struct mscp *mscp, const uint8_t *bytes, size_t length);
 int32_t mscp_host_submit_at(struct mscp_host *host, const uint8_t *message, size_t length);
 int32_t mscp_host_receive_at(struct mscp_host *host, const uint8_t *bytes, size_t length, struct mscp_news *news);
+int32_t mscp_host_save_at(const struct mscp_host *host, uint8_t *bytes, size_t room, size_t *length);
+int32_t mscp_host_restore_at(struct mscp_host *host, const uint8_t *bytes, size_t length);
 
-/* ---- the controller. Each call but mscp_init answers MSCP_NOT_MADE where there is none. Then each of a connection
- * answers MSCP_BAD_CONNECTION where its number is no enum mscp_connection, and nothing changes. A second connection
- * that has no credits takes no message in, and has no ends. */
+/* ---- the controller. Each call but mscp_init and mscp_restore answers MSCP_NOT_MADE where there is none. Then each of
+ * a connection answers MSCP_BAD_CONNECTION where its number is no enum mscp_connection, and nothing changes. A second
+ * connection that has no credits takes no message in, and has no ends. */
 
 /* Makes a controller in the handle's memory: of these limits, of so many units in rising order of their numbers, served
  * by a picker of enum mscp_picker. MSCP_DONE, or the first fault in this order: those of the memory (-11 to -15),
@@ -413,7 +436,33 @@ int64_t mscp_balance(const struct mscp *mscp, uint32_t connection);
 /* Whether the unit of this number is online: 1, or 0 where it isn't, or isn't configured. */
 int32_t mscp_is_online(const struct mscp *mscp, uint16_t unit);
 
-/* ---- the host's end. Each call but mscp_host_init answers MSCP_NOT_MADE where there is none. */
+/* ---- a controller as bytes */
+
+/* As many bytes as a controller is saved as, at most: MSCP_SAVED_MAX. */
+size_t mscp_save_size(void);
+
+/* All that the calls tell of the controller, and its limits, units and picker, as bytes: at the front of those that
+ * there is room for, and how many they are. docs/FORMATS.md has their layout. MSCP_DONE, or MSCP_SMALL where there is
+ * less room. The same state has the same bytes, on every machine. */
+MSCP_MUST_USE
+MSCP_INLINE int32_t mscp_save(const struct mscp *mscp, uint8_t *bytes, size_t room, size_t *length)
+{
+    uint8_t none = 0;
+    return mscp_save_at(mscp, room == 0 ? &none : bytes, room, length);
+}
+
+/* Makes the controller that was saved, in the handle's memory: whatever is called then answers as if it had been called
+ * there. MSCP_DONE, or the first fault of those of the memory (-11 to -15) and those of the bytes (-40 to -54). Bytes of
+ * a stranger make a controller with which every call is safe, or none; what came to it before, only who saved it knows.
+ * This takes some 36 KiB of the stack. */
+MSCP_MUST_USE
+MSCP_INLINE int32_t mscp_restore(struct mscp *mscp, const uint8_t *bytes, size_t length)
+{
+    const uint8_t none = 0;
+    return mscp_restore_at(mscp, length == 0 ? &none : bytes, length);
+}
+
+/* ---- the host's end. Each call but mscp_host_init and mscp_host_restore answers MSCP_NOT_MADE where there is none. */
 
 /* Makes a host in the handle's memory, with as many credits as its connection has: 2 to 64. MSCP_DONE, or a fault of
  * the memory (-11 to -15), or MSCP_BAD_CREDITS. Do it anew (in fresh memory, or over a new handle) when the port is
@@ -445,6 +494,26 @@ MSCP_INLINE int32_t mscp_host_receive(struct mscp_host *host, const uint8_t *byt
 {
     const uint8_t none = 0;
     return mscp_host_receive_at(host, length == 0 ? &none : bytes, length, news);
+}
+
+/* As many bytes as a host is saved as, at most: MSCP_HOST_SAVED_MAX. */
+size_t mscp_host_save_size(void);
+
+/* All that the host keeps, as mscp_save does it of a controller. */
+MSCP_MUST_USE
+MSCP_INLINE int32_t mscp_host_save(const struct mscp_host *host, uint8_t *bytes, size_t room, size_t *length)
+{
+    uint8_t none = 0;
+    return mscp_host_save_at(host, room == 0 ? &none : bytes, room, length);
+}
+
+/* Makes the host that was saved, in the handle's memory. MSCP_DONE, or the first fault of those of the memory (-11 to
+ * -15) and MSCP_SAVED_LENGTH, _MAGIC, _VERSION, _LIMITS, _CREDITS and _FORM. */
+MSCP_MUST_USE
+MSCP_INLINE int32_t mscp_host_restore(struct mscp_host *host, const uint8_t *bytes, size_t length)
+{
+    const uint8_t none = 0;
+    return mscp_host_restore_at(host, length == 0 ? &none : bytes, length);
 }
 
 /* ---- statuses as texts */
@@ -492,6 +561,21 @@ MSCP_INLINE const char *mscp_status_text(int64_t status)
     case MSCP_BAD_TIMEOUT: return "a timeout that isn't 1 to 255 seconds";
     case MSCP_BAD_BOUND: return "a bound of figures that doesn't fit 32 bits";
     case MSCP_BAD_CONNECTION: return "no connection of this number";
+    case MSCP_SAVED_LENGTH: return "saved bytes that aren't as many as they say";
+    case MSCP_SAVED_MAGIC: return "bytes that don't begin as saved ones";
+    case MSCP_SAVED_VERSION: return "saved bytes of an unknown version";
+    case MSCP_SAVED_LIMITS: return "saved limits that nothing has";
+    case MSCP_SAVED_UNITS: return "saved units that no controller has";
+    case MSCP_SAVED_HEADS: return "a saved head on no cylinder";
+    case MSCP_SAVED_CREDITS: return "more saved commands and ends than credits cover";
+    case MSCP_SAVED_COMMAND: return "a saved command that would not wait";
+    case MSCP_SAVED_DOUBLED: return "two saved commands of one number";
+    case MSCP_SAVED_STEPS: return "a saved command with no steps left, or two in service";
+    case MSCP_SAVED_PASSED: return "a saved command that was passed too often";
+    case MSCP_SAVED_ENDS: return "a saved end without an endcode";
+    case MSCP_SAVED_BEGUN: return "a saved command that may not be begun";
+    case MSCP_SAVED_PICKER: return "no picker of the saved number";
+    case MSCP_SAVED_FORM: return "bytes that nothing is saved as";
     default: return "unknown status";
     }
 }

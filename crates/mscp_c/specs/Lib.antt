@@ -5,3 +5,4 @@ pub mod Served
 pub mod Statuses
 pub mod Told
 pub mod HandleCalls
+pub mod Saving

@@ -10,6 +10,8 @@ use Rattle.mscp_control.specs.declared.event.SendFault.{SendFault}
 use Rattle.mscp_control.specs.declared.event.SendFault.TheVariants as sends
 use Rattle.mscp_host.specs.declared.news.HostFault.{HostFault}
 use Rattle.mscp_host.specs.declared.news.HostFault.TheVariants as hosts
+use Rattle.mscp_host.specs.declared.restoring.RestoreFault as hosted
+use Rattle.mscp_host.specs.declared.restoring.RestoreFault.TheVariants as host_bytes
 use Rattle.mscp_memory.specs.declared.fault.RoomFault.{RoomFault}
 use Rattle.mscp_memory.specs.declared.fault.RoomFault.TheVariants as rooms
 use Rattle.mscp_c.specs.declared.status.TheConstants as status
@@ -62,3 +64,12 @@ host_code hosts.LastCredit = status.LAST_CREDIT
 host_code hosts.Doubled = status.DOUBLED
 host_code hosts.Unreadable = status.UNREADABLE
 host_code hosts.Unknown = status.UNKNOWN
+
+-- of bytes that are no saved host
+abbrev pub host_restore_code : hosted.RestoreFault → ℤ
+host_restore_code host_bytes.Length = status.SAVED_LENGTH
+host_restore_code host_bytes.Magic = status.SAVED_MAGIC
+host_restore_code host_bytes.Version = status.SAVED_VERSION
+host_restore_code host_bytes.Credits = status.SAVED_LIMITS
+host_restore_code host_bytes.Outstanding = status.SAVED_CREDITS
+host_restore_code host_bytes.Form = status.SAVED_FORM

@@ -10,8 +10,10 @@ use crate::status::{
     ANSWERED, BAD_BOUND, BAD_CONNECTION, BAD_CREDITS, BAD_LONGEST, BAD_PICKER, BAD_STATUS,
     BAD_TIMEOUT, BUSY, DONE, DOUBLED, ENDED, FIRST, LAST_CREDIT, LATE, LONG, LOST, MADE,
     MANY_UNITS, MISALIGNED, NO_CREDIT, NO_HANDLE, NO_MEMORY, NO_UNITS, NOT_MADE, NOTHING, PROGRESS,
-    QUEUED, RESET, SHORT, SMALL, STALE, UNITS_FALL, UNKNOWN, UNREADABLE, ZERO_CYLINDER, ZERO_GROUP,
-    ZERO_SIZE, ZERO_TRACK,
+    QUEUED, RESET, SAVED_BEGUN, SAVED_COMMAND, SAVED_CREDITS, SAVED_DOUBLED, SAVED_ENDS,
+    SAVED_FORM, SAVED_HEADS, SAVED_LENGTH, SAVED_LIMITS, SAVED_MAGIC, SAVED_PASSED, SAVED_PICKER,
+    SAVED_STEPS, SAVED_UNITS, SAVED_VERSION, SHORT, SMALL, STALE, UNITS_FALL, UNKNOWN, UNREADABLE,
+    ZERO_CYLINDER, ZERO_GROUP, ZERO_SIZE, ZERO_TRACK,
 };
 use mscp_control::controllers_keep_the_promise;
 use mscp_memory::Policy;
@@ -78,4 +80,19 @@ pub fn statuses_are_these()
     ensures bad_timeout { BAD_TIMEOUT ≡ minus 30 }
     ensures bad_bound { BAD_BOUND ≡ minus 31 }
     ensures bad_connection { BAD_CONNECTION ≡ minus 32 }
+    ensures saved_length { SAVED_LENGTH ≡ minus 40 }
+    ensures saved_magic { SAVED_MAGIC ≡ minus 41 }
+    ensures saved_version { SAVED_VERSION ≡ minus 42 }
+    ensures saved_limits { SAVED_LIMITS ≡ minus 43 }
+    ensures saved_units { SAVED_UNITS ≡ minus 44 }
+    ensures saved_heads { SAVED_HEADS ≡ minus 45 }
+    ensures saved_credits { SAVED_CREDITS ≡ minus 46 }
+    ensures saved_command { SAVED_COMMAND ≡ minus 47 }
+    ensures saved_doubled { SAVED_DOUBLED ≡ minus 48 }
+    ensures saved_steps { SAVED_STEPS ≡ minus 49 }
+    ensures saved_passed { SAVED_PASSED ≡ minus 50 }
+    ensures saved_ends { SAVED_ENDS ≡ minus 51 }
+    ensures saved_begun { SAVED_BEGUN ≡ minus 52 }
+    ensures saved_picker { SAVED_PICKER ≡ minus 53 }
+    ensures saved_form { SAVED_FORM ≡ minus 54 }
 {}

@@ -1,11 +1,14 @@
 //! The calls of the C library: a controller, and a host, in memory that a program in C owns.
 #![tactic(auto)]
 
+mod controller_saving;
 mod hearing;
+mod host_saving;
 mod hosting;
 mod law;
 mod making;
 mod outs;
+mod saving;
 mod seeing;
 mod sending;
 mod serving;

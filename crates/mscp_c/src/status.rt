@@ -1,13 +1,13 @@
 // What the calls answer: 0 and up what came of a call, below 0 why it was refused.
 
 ghost use Rattle.std.specs.Prelude.{◌≡◌};
-ghost use Rattle.mscp_c.specs.Statuses.{host_code, limits_code, room_code, send_fault_code, unit_code, units_code};
+ghost use Rattle.mscp_c.specs.Statuses.{host_code, host_restore_code, limits_code, room_code, send_fault_code, unit_code, units_code};
 ghost use Rattle.mscp_c.specs.Made.{init_code};
 
 use crate::units::InitFault;
 use mscp_control::{ConfigFault, SendFault};
 use mscp_drive::{UnitFault, UnitsFault};
-use mscp_host::HostFault;
+use mscp_host::{HostFault, RestoreFault as HostRestoreFault};
 use mscp_memory::RoomFault;
 
 /// There is nothing: no command waits, no end was made, no poll is to be sent.
@@ -91,6 +91,37 @@ pub(crate) const BAD_BOUND: i32 = -31;
 
 /// No connection has this number.
 pub(crate) const BAD_CONNECTION: i32 = -32;
+
+/// Bytes that are no saved controller, and no saved host.
+pub(crate) const SAVED_LENGTH: i32 = -40;
+
+pub(crate) const SAVED_MAGIC: i32 = -41;
+
+pub(crate) const SAVED_VERSION: i32 = -42;
+
+pub(crate) const SAVED_LIMITS: i32 = -43;
+
+pub(crate) const SAVED_UNITS: i32 = -44;
+
+pub(crate) const SAVED_HEADS: i32 = -45;
+
+pub(crate) const SAVED_CREDITS: i32 = -46;
+
+pub(crate) const SAVED_COMMAND: i32 = -47;
+
+pub(crate) const SAVED_DOUBLED: i32 = -48;
+
+pub(crate) const SAVED_STEPS: i32 = -49;
+
+pub(crate) const SAVED_PASSED: i32 = -50;
+
+pub(crate) const SAVED_ENDS: i32 = -51;
+
+pub(crate) const SAVED_BEGUN: i32 = -52;
+
+pub(crate) const SAVED_PICKER: i32 = -53;
+
+pub(crate) const SAVED_FORM: i32 = -54;
 
 /// The status of memory that is no room.
 pub(crate) fn room_code(fault: RoomFault) -> i32
@@ -178,5 +209,19 @@ pub(crate) fn host_code(fault: HostFault) -> i32
         HostFault::Doubled => DOUBLED,
         HostFault::Unreadable => UNREADABLE,
         HostFault::Unknown => UNKNOWN,
+    }
+}
+
+/// The status of bytes that are no saved host.
+pub(crate) fn host_restore_code(fault: HostRestoreFault) -> i32
+    ensures { result ≡ host_restore_code fault }
+{
+    match fault {
+        HostRestoreFault::Length => SAVED_LENGTH,
+        HostRestoreFault::Magic => SAVED_MAGIC,
+        HostRestoreFault::Version => SAVED_VERSION,
+        HostRestoreFault::Credits => SAVED_LIMITS,
+        HostRestoreFault::Outstanding => SAVED_CREDITS,
+        HostRestoreFault::Form => SAVED_FORM,
     }
 }

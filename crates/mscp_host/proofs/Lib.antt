@@ -1,2 +1,4 @@
 pub mod Places
 pub mod Hearing
+pub mod Back
+pub mod Heads

@@ -1,1 +1,3 @@
 pub mod Accounts
+pub mod Restored
+pub mod Saved

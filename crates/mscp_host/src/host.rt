@@ -17,9 +17,9 @@ use std::marker::Model;
 /// no memory beside its own.
 #[derive(Debug, Drop)]
 pub struct Host {
-    credits: u32,
-    outstanding: ArrayVec<Submission, 64>,
-    watch: Option<Watch>,
+    pub(crate) credits: u32,
+    pub(crate) outstanding: ArrayVec<Submission, 64>,
+    pub(crate) watch: Option<Watch>,
 }
 
 // A clause sees the credits, the outstanding submissions, oldest first, and the poll in flight.

@@ -4,6 +4,8 @@
 mod host;
 mod news;
 mod outstanding;
+mod restoring;
+mod saving;
 mod submission;
 #[cfg(test)]
 mod tests;
@@ -11,3 +13,5 @@ mod watch;
 
 pub use crate::host::Host;
 pub use crate::news::{HostFault, News, Poll};
+pub use crate::restoring::RestoreFault;
+pub use crate::saving::ROOM;

@@ -1,4 +1,5 @@
 mod driver;
+mod saving;
 
 use super::*;
 use mscp_packet::{Command, End, EndBody, MoveKind, Order, write_end};

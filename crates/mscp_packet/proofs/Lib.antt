@@ -4,3 +4,4 @@ pub mod Commands
 pub mod Ends
 pub mod Tables
 pub mod Kept
+pub mod Parts

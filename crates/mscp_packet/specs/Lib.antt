@@ -5,3 +5,4 @@ pub mod Opcodes
 pub mod Commands
 pub mod Ends
 pub mod Table
+pub mod Parts

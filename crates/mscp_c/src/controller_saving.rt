@@ -1,0 +1,49 @@
+// A controller as bytes, and back.
+
+ghost use Rattle.std.specs.Prelude.{◌≡◌, true, false};
+ghost use Rattle.mscp_memory.specs.ControllerHandles.{is_made};
+ghost use Rattle.mscp_c.specs.Saving.{length_after, policy_number, room_after, save_code, saved_by};
+
+use crate::saving::tell_saved;
+use crate::status::NOT_MADE;
+use mscp_memory::Policy;
+use mscp_memory::controller::{Handle, is_made, lend};
+use mscp_saved::{ROOM, save};
+
+/// The most bytes that a controller is saved as.
+#[unsafe(no_mangle)]
+pub extern "C" fn mscp_save_size() -> usize
+    ensures { result ≡ 3664 }
+{
+    ROOM
+}
+
+/// The number of a policy.
+fn policy_number(policy: Policy) -> u8
+    ensures { result ≡ policy_number policy }
+{
+    match policy {
+        Policy::Oldest => 0,
+        Policy::Sweep => 1,
+    }
+}
+
+/// All that callers see of the controller, as bytes at the front of the room, and how many they are.
+#[unsafe(no_mangle)]
+pub extern "C" fn mscp_save_at(handle: &mut Handle, room: &mut [u8], length: &mut usize) -> i32
+    ensures code { is_made handle.old ≡ true → result ≡ save_code (saved_by handle.old.held) room.old }
+    ensures told { is_made handle.old ≡ true → room.new ≡ room_after (saved_by handle.old.held) room.old }
+    ensures count { is_made handle.old ≡ true
+        → length.new ≡ length_after (saved_by handle.old.held) room.old length.old }
+    ensures same { handle.new ≡ handle.old }
+    ensures unmade { is_made handle.old ≡ false
+        → (result ≡ NOT_MADE) × (room.new ≡ room.old) × (length.new ≡ length.old) }
+{
+    if !is_made(handle) {
+        return NOT_MADE;
+    }
+    let controller = lend(handle);
+    let number = policy_number(*controller.picker());
+    let bytes = save(controller, number);
+    tell_saved(room, length, bytes.as_slice())
+}

@@ -1,0 +1,56 @@
+// A host as bytes, and back.
+
+ghost use Rattle.std.specs.Prelude.{◌≡◌, true, false, Ok};
+ghost use Rattle.mscp_host.specs.Restored.{restored};
+ghost use Rattle.mscp_host.specs.Saved.{saved_bytes};
+ghost use Rattle.mscp_memory.specs.HostHandles.{is_made};
+ghost use Rattle.mscp_c.specs.Saving.{host_restores, length_after, room_after, save_code};
+
+use crate::saving::tell_saved;
+use crate::status::{DONE, NOT_MADE, host_restore_code, room_code};
+use mscp_host::{Host, ROOM};
+use mscp_memory::host::{Handle, is_made, lend, place, room_fault};
+
+/// The most bytes that a host is saved as.
+#[unsafe(no_mangle)]
+pub extern "C" fn mscp_host_save_size() -> usize
+    ensures { result ≡ 794 }
+{
+    ROOM
+}
+
+/// All that the host keeps, as bytes at the front of the room, and how many they are.
+#[unsafe(no_mangle)]
+pub extern "C" fn mscp_host_save_at(handle: &mut Handle, room: &mut [u8], length: &mut usize) -> i32
+    ensures code { is_made handle.old ≡ true → result ≡ save_code (saved_bytes handle.old.held) room.old }
+    ensures told { is_made handle.old ≡ true → room.new ≡ room_after (saved_bytes handle.old.held) room.old }
+    ensures count { is_made handle.old ≡ true
+        → length.new ≡ length_after (saved_bytes handle.old.held) room.old length.old }
+    ensures back { is_made handle.old ≡ true → restored (saved_bytes handle.old.held) ≡ Ok handle.old.held }
+    ensures same { handle.new ≡ handle.old }
+    ensures unmade { is_made handle.old ≡ false
+        → (result ≡ NOT_MADE) × (room.new ≡ room.old) × (length.new ≡ length.old) }
+{
+    if !is_made(handle) {
+        return NOT_MADE;
+    }
+    let bytes = lend(handle).save();
+    tell_saved(room, length, bytes.as_slice())
+}
+
+/// The host that bytes say is in the room that the handle has.
+#[unsafe(no_mangle)]
+pub extern "C" fn mscp_host_restore_at(handle: &mut Handle, bytes: &[u8]) -> i32
+    ensures { (result, handle.new) ≡ host_restores handle.old bytes.now }
+{
+    if let Some(fault) = room_fault(handle) {
+        return room_code(fault);
+    }
+    match Host::restore(bytes) {
+        Ok(host) => {
+            place(handle, host);
+            DONE
+        }
+        Err(fault) => host_restore_code(fault),
+    }
+}

@@ -1,0 +1,13 @@
+use Rattle.std.proofs.Common.{All, ◌≡◌, ◌+◌, ◌*◌, ◌++◌, take}
+use Rattle.std.specs.Prelude.{flat_map}
+use Rattle.arrayvec.specs.ArrayVec.{array_vec_len}
+use Rattle.mscp_host.specs.Saved.{HasSubmissionRange, submission_bytes}
+use Rattle.mscp_host.proofs.saving.put_submissions.Given as goal
+
+abbrev pub invariant-loop-submission : goal.invariant-loop-submission
+invariant-loop-submission l =
+    record {
+      items : l.out.items ≡ l.fn.out.items ++ flat_map submission_bytes (take l.submission-index l.submissions);
+      len : array_vec_len l.out ≡ array_vec_len l.fn.out + 12 * l.submission-index;
+      range : All HasSubmissionRange (take l.submission-index l.submissions);
+    }

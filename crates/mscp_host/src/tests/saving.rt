@@ -1,0 +1,103 @@
+// A host as bytes, and back.
+
+use super::*;
+
+/// A host of 4 credits: a READ of which 18 was told, and its second poll.
+fn polled_twice(rt: &impl Abort) -> Host {
+    let mut host = new_host(rt, 4);
+    assert!(rt; host.submit(&read(1)).is_ok());
+    assert!(rt; asks(host.poll(7), &status_bytes(7, 1)));
+    assert!(rt; hears(&mut host, answer(7, 1, 18)) == Ok(News::First(18)));
+    assert!(rt; asks(host.poll(8), &status_bytes(8, 1)));
+    host
+}
+
+/// The bytes of that host.
+#[rattlefmt::skip]
+const POLLED_TWICE: [u8; 50] = [
+    // "MSCH", version 1, 50 bytes, 4 credits
+    0x4D, 0x53, 0x43, 0x48, 1, 0, 0, 0, 50, 0, 0, 0, 4, 0, 0, 0,
+    // two submissions, and poll 8 of command 1, which is outstanding
+    2, 2, 8, 0, 0, 0, 1, 0, 0, 0,
+    // READ 1, of which 18 was told
+    1, 0, 0, 0, 0, 0, 0x21, 1, 18, 0, 0, 0,
+    // GET COMMAND STATUS 8, of which nothing was
+    8, 0, 0, 0, 0, 0, 0x02, 0, 0, 0, 0, 0,
+];
+
+/// These bytes with another one at a place.
+fn with(mut bytes: [u8; 50], place: usize, byte: u8) -> [u8; 50]
+    requires { place < 50 }
+{
+    bytes[place] = byte;
+    bytes
+}
+
+#[test]
+fn a_host_comes_back(rt: HostRuntime) -> Result<(), Fail> {
+    let saved = polled_twice(&rt).save();
+    assert!(rt; saved.as_slice() == POLLED_TWICE.as_slice());
+    let mut host = Host::restore(saved.as_slice()).expect(&rt, "what was saved");
+    assert_eq!(rt; host.balance(), 2);
+    assert!(rt; host.poll(9) == Ok(Poll::Busy));
+    assert!(rt; hears(&mut host, answer(8, 1, 18)) == Ok(News::Reset));
+    assert!(rt; hears(&mut host, read_end(1)) == Ok(News::Ended(read_end(1))));
+    assert_eq!(rt; host.balance(), 4);
+    Ok(())
+}
+
+#[test]
+fn other_bytes_are_refused(rt: HostRuntime) -> Result<(), Fail> {
+    let faults = [
+        (8, 51, RestoreFault::Length),
+        (16, 1, RestoreFault::Length),
+        (0, 0, RestoreFault::Magic),
+        (4, 2, RestoreFault::Version),
+        (12, 1, RestoreFault::Credits),
+        (12, 65, RestoreFault::Credits),
+        (17, 0, RestoreFault::Form),
+        (17, 3, RestoreFault::Form),
+        (33, 0, RestoreFault::Form),
+        (33, 2, RestoreFault::Form),
+        (46, 1, RestoreFault::Form),
+    ];
+    for (place, byte, fault) in faults {
+        let bytes = with(POLLED_TWICE, place, byte);
+        assert!(rt; Host::restore(bytes.as_slice()).err() == Some(fault));
+    }
+    assert!(rt; Host::restore(&POLLED_TWICE[..49]).err() == Some(RestoreFault::Length));
+    assert!(rt; Host::restore(&[]).err() == Some(RestoreFault::Length));
+    Ok(())
+}
+
+#[test]
+fn more_submissions_than_credits_are_refused(rt: HostRuntime) -> Result<(), Fail> {
+    let mut bytes = [0; 62];
+    bytes[..50].copy_from_slice(&with(with(POLLED_TWICE, 8, 62), 16, 3));
+    assert!(rt; Host::restore(&bytes).is_ok());
+    bytes[12] = 2;
+    assert!(rt; Host::restore(&bytes).err() == Some(RestoreFault::Outstanding));
+    Ok(())
+}
+
+#[test]
+fn what_a_flipped_bit_says_is_saved_as_it_stands(rt: HostRuntime) -> Result<(), Fail> {
+    let mut restored = 0;
+    for place in 0..50 {
+        for bit in 0..8 {
+            let flipped = POLLED_TWICE[place] ^ (1 << bit);
+            let bytes = with(POLLED_TWICE, place, flipped);
+            if let Ok(mut host) = Host::restore(&bytes) {
+                restored += 1;
+                assert!(rt; host.save().as_slice() == bytes.as_slice());
+                let _ = hears(&mut host, answer(8, 1, 17));
+                let _ = host.submit(&read(2));
+                let _ = host.poll(9);
+            }
+        }
+    }
+    // Credits of 5, 6, 12, 20 and 36; each bit of the poll's two numbers; of a submission each bit of its number, its unit
+    // and its opcode byte; of the READ each bit of its figure; and of the poll that 0 was told of it.
+    assert_eq!(rt; restored, 5 + 64 + 2 * 56 + 32 + 1);
+    Ok(())
+}
