@@ -1,4 +1,5 @@
-use Rattle.std.proofs.Common.{◌≡◌, ◌∙◌, ap, sym, rules}
+use Rattle.std.proofs.Common.{◌≡◌, ◌∙◌, ℕ, List, ap}
+use Rattle.mscp_memory.specs.declared.policy.Policy.{Policy}
 use Rattle.mscp_memory.specs.ControllerRoom.{Held}
 use Rattle.mscp_memory.specs.ControllerHandles.{with_held}
 use Rattle.mscp_memory.specs.declared.controller.handle.Handle.{Handle}
@@ -8,10 +9,13 @@ use Rattle.mscp_c.proofs.controller_saving.mscp_save_at.Goals as goal
 
 pub returns-clause-told : goal.returns-clause-told
 returns-clause-told c made =
-    let held : c.lend-controller.result.now ≡ c.args.handle.now.held
+    let own = c.lend-controller.result.now in
+    let held : own ≡ c.args.handle.now.held
         = c.lend-controller.ensures.value ∙ ap (λ (h : Handle). h.held) c.is_made.ensures.same in
-    let bytes : c.save-bytes.result.items ≡ saved_by c.args.handle.now.held = ? in
-    c.tell_saved.ensures.told ∙ ap (λ b. room_after b c.args.room.now) ?
+    let number = c.policy_number-number.ensures ∙ ap policy_number c.picker.ensures in
+    let bytes : c.save-bytes.result.items ≡ saved_by c.args.handle.now.held
+        = c.save-bytes.ensures.bytes ∙ (ap (λ (n : ℕ). saved_bytes n own) number ∙ ap saved_by held) in
+    c.tell_saved.ensures.told ∙ ap (λ (b : List ℕ). room_after b c.args.room.now) (c.as_slice.ensures.value ∙ bytes)
 
 pub returns-clause-same : goal.returns-clause-same
 returns-clause-same c =
