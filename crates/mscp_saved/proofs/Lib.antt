@@ -1,3 +1,9 @@
 pub mod Bytes
 pub mod Sizes
 pub mod Parts
+pub mod PartsRead
+pub mod Rising
+pub mod Framed
+pub mod Configured
+pub mod Sound
+pub mod Outcomes

@@ -1,8 +1,6 @@
 -- How much there is of each part of a controller.
-use Rattle.std.proofs.Common.{◌≡◌, ◌+◌, ◌<◌, ◌≤◌, List, length, ap, sym, ◌∙◌, arith}
+use Rattle.std.proofs.Common.{◌+◌, ◌<◌, ◌≤◌, length, arith}
 use Rattle.std.proofs.lemmas.List.{length-map}
-use Rattle.mscp_packet.specs.declared.end.End.{End}
-use Rattle.mscp_drive.specs.Shape.{Shape}
 use Rattle.mscp_queue.specs.declared.drive.Drive.{Drive}
 use Rattle.mscp_queue.specs.Records.{Record}
 use Rattle.mscp_control.specs.Holdings.{Holdings}

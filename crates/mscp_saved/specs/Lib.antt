@@ -1,2 +1,4 @@
 pub mod Saved
 pub mod Ranges
+pub mod Read
+pub mod Restored

@@ -1,9 +1,8 @@
 -- The numbers of what callers see of a controller fit their types.
-use Rattle.std.specs.Prelude.{ℕ, ◌^◌, ◌<◌, All, Option, IfSome}
+use Rattle.std.specs.Prelude.{◌^◌, ◌<◌, All, IfSome}
 use Rattle.mscp_packet.specs.Commands.{HasCommandRange}
 use Rattle.mscp_packet.specs.Ends.{HasEndRange}
 use Rattle.mscp_queue.specs.declared.drive.Drive.{Drive}
-use Rattle.mscp_queue.specs.declared.name.Name.{Name}
 use Rattle.mscp_queue.specs.Records.{Record}
 use Rattle.mscp_drive.specs.Shape.{Shape}
 use Rattle.mscp_control.specs.Holdings.{Holdings}

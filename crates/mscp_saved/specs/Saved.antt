@@ -2,7 +2,6 @@
 -- as one: a connection, and whether something is so.
 use Rattle.std.specs.Prelude.{ℕ, ◌+◌, ◌-◌, ◌*◌, Bool, if◌then◌else◌, List, [], ◌∷◌, ◌++◌, length, flat_map, replicate, Option, Some, None}
 use Rattle.byteorder.specs.Endian.{little_bytes}
-use Rattle.mscp_packet.specs.declared.command.Command.{Command}
 use Rattle.mscp_packet.specs.declared.end.End.{End}
 use Rattle.mscp_packet.specs.Commands.{command_bytes}
 use Rattle.mscp_packet.specs.Ends.{end_bytes}

@@ -1,7 +1,14 @@
-//! A controller as bytes.
+//! A controller as bytes, and from them.
 #![tactic(auto)]
 
+mod checking;
+mod fault;
 mod fields;
+mod framing;
+mod reading;
+mod restoring;
 mod writing;
 
+pub use crate::fault::RestoreFault;
+pub use crate::restoring::restore;
 pub use crate::writing::{ROOM, save};

@@ -1,0 +1,138 @@
+-- What comes of bytes, step by step.
+use Rattle.std.proofs.Common.{All, ◌≡◌, ℕ, zero, suc, List, true, drop, refl, ap, sym, subst, ◌∙◌}
+use Rattle.std.specs.Prelude.{Option, Some, None, slice_index, Ok, Err}
+use Rattle.std.proofs.lemmas.List.Elements.{All-nil, All-push}
+use Rattle.mscp_packet.specs.declared.end.BodyKind.{BodyKind}
+use Rattle.mscp_packet.specs.declared.end.BodyKind.TheVariants as kinds
+use Rattle.mscp_packet.specs.declared.end.End.{End}
+use Rattle.mscp_packet.specs.Ends.{body_at, kind_of_body, kind_of_code}
+use Rattle.mscp_queue.specs.declared.drive.Drive.{Drive}
+use Rattle.mscp_queue.specs.declared.name.Name.{Name}
+use Rattle.mscp_queue.specs.Kept.{IsWaitable}
+use Rattle.mscp_queue.specs.Records.{Record}
+use Rattle.mscp_control.specs.Restored.{IsSound, made_of}
+use Rattle.mscp_control.specs.Settings.{IsValid, Settings}
+use Rattle.mscp_saved.specs.declared.fault.RestoreFault.{RestoreFault}
+use Rattle.mscp_saved.specs.declared.fault.RestoreFault.TheVariants as faults
+use Rattle.mscp_saved.specs.Read.{all_waiting_in, begun_in, drives_in, end_in, end_with, first_count, first_in, first_place, held_in, part, parts_in, second_count, second_in, second_place, settings_in, waiting_count, waiting_in, waiting_place}
+use Rattle.mscp_saved.specs.Saved.{end_size, waiting_size}
+use Rattle.mscp_saved.specs.Restored.{first_of, form_fault, frame_fault, is_framed, parts_fault, restored, settings_fault, unless}
+use Rattle.mscp_saved.proofs.Sound.{IsReadWaiting, IsShapedIf, next, sound_of}
+
+-- ---- what is read
+
+parts_all : {X : Type 0} (P : X → Type 0) (f : List ℕ → X) → ((b : List ℕ) → P (f b)) → (size n : ℕ) (b : List ℕ)
+    → All P (parts_in f size n b)
+parts_all P f h size zero b = All-nil P
+parts_all P f h size (suc n) b =
+    All-push P (parts_in f size n b) (f (part size n b)) (parts_all P f h size n b) (h (part size n b))
+
+read_waiting : (b : List ℕ) → IsReadWaiting (waiting_in b)
+read_waiting b = record { weight = refl; good = refl }
+
+kind_back : (kind : BodyKind) (b : List ℕ) → Some kind ≡ Some (kind_of_body (body_at kind b))
+kind_back kinds.Bare b = refl
+kind_back kinds.Abort b = refl
+kind_back kinds.Status b = refl
+kind_back kinds.UnitStatus b = refl
+kind_back kinds.Controller b = refl
+kind_back kinds.Online b = refl
+kind_back kinds.Moved b = refl
+
+shaped_with : (o : Option BodyKind) (b : List ℕ) → kind_of_code (slice_index b 8) ≡ o → IsShapedIf (end_with o b)
+shaped_with None b e = λ some. absurd (some refl)
+shaped_with (Some kind) b e = λ some. e ∙ kind_back kind b
+
+shaped_in : (b : List ℕ) → IsShapedIf (end_in b)
+shaped_in b = shaped_with (kind_of_code (slice_index b 8)) b refl
+
+-- ---- what is said
+
+-- what is read of these bytes
+pub record IsRead (b : List ℕ) (c : Settings) (ds : List Drive) (rs : List Record) (first second : List End)
+    (begun : Option Name) : Type 0 where
+  pub settings : c ≡ settings_in b ds
+  pub drives : ds ≡ drives_in b
+  pub waiting : rs ≡ all_waiting_in b
+  pub first_ends : first ≡ first_in b
+  pub second_ends : second ≡ second_in b
+  pub named : begun ≡ begun_in b
+
+pub held_is : {K : Type 0} (picker : K) {b : List ℕ} {c : Settings} {ds : List Drive} {rs : List Record}
+    {first second : List End} {begun : Option Name} → IsRead b c ds rs first second begun
+    → made_of c rs first second ds begun picker ≡ held_in picker b
+held_is picker {b} h = λ i.
+    made_of ((h.settings ∙ ap (settings_in b) h.drives) i) (h.waiting i) (h.first_ends i) (h.second_ends i)
+    (h.drives i) (h.named i) picker
+
+pub sound_read : {K : Type 0} (picker : K) {b : List ℕ} {c : Settings} {ds : List Drive} {rs : List Record}
+    {first second : List End} {begun : Option Name} → IsRead b c ds rs first second begun → IsValid c
+    → parts_fault c ds rs first second begun ≡ None → All (λ r. IsWaitable c.longest c.units r.command) rs
+    → IsSound (made_of c rs first second ds begun picker)
+sound_read picker {b} {c} {ds} {rs} {first} {second} {begun} h valid none waitable =
+    sound_of c ds rs first second begun picker valid (sym (ap (λ (c : Settings). c.units) h.settings)) none waitable
+    (subst (All IsReadWaiting) (sym h.waiting) (parts_all IsReadWaiting waiting_in read_waiting waiting_size
+    (waiting_count b) (drop (waiting_place b) b)))
+    (subst (All IsShapedIf) (sym h.first_ends) (parts_all IsShapedIf end_in shaped_in end_size
+    (first_count b) (drop (first_place b) b)))
+    (subst (All IsShapedIf) (sym h.second_ends) (parts_all IsShapedIf end_in shaped_in end_size
+    (second_count b) (drop (second_place b) b)))
+
+-- ---- what comes of it
+
+-- a fault, or what there is where there is none
+pub ok_is : {X : Type 0} {x y : X} {o : Option RestoreFault} → Ok y ≡ unless x o → (o ≡ None) × (y ≡ x)
+ok_is {x = x} {y} {o} e = by o e
+  where
+    by : (o : Option RestoreFault) → Ok y ≡ unless x o → (o ≡ None) × (y ≡ x)
+    by None e = (refl, cc)
+    by (Some fault) e = cc
+
+pub err_is : {X : Type 0} (x : X) {o : Option RestoreFault} {fault : RestoreFault} → Err fault ≡ unless x o
+    → o ≡ Some fault
+err_is x {o} {fault} e = by o e
+  where
+    by : (o : Option RestoreFault) → Err fault ≡ unless x o → o ≡ Some fault
+    by None e = cc
+    by (Some other) e = cc
+
+-- what was read is what is said
+pub read_of : (b : List ℕ) {c : Settings} {d d1 d2 : List Drive} {w w2 : List Record} {f f2 s s2 : List End}
+    {g : Option Name} → d ≡ drives_in b → d1 ≡ d → Ok c ≡ unless (settings_in b d1) (settings_fault (settings_in b d1))
+    → d2 ≡ d → w ≡ all_waiting_in b → w2 ≡ w → f ≡ first_in b → f2 ≡ f → s ≡ second_in b → s2 ≡ s → g ≡ begun_in b
+    → IsRead b c d2 w2 f2 s2 g
+read_of b {c} {d} {d1} {d2} ds one made two ws w fs f ss s g = record {
+  settings = (ok_is made).1 ∙ ap (settings_in b) (one ∙ sym two);
+  drives = two ∙ ds;
+  waiting = w ∙ ws;
+  first_ends = f ∙ fs;
+  second_ends = s ∙ ss;
+  named = g;
+}
+
+-- the settings have no fault
+pub settings_good : (b : List ℕ) {c : Settings} {d d1 : List Drive} → d ≡ drives_in b → d1 ≡ d
+    → Ok c ≡ unless (settings_in b d1) (settings_fault (settings_in b d1))
+    → settings_fault (settings_in b (drives_in b)) ≡ None
+settings_good b ds one made = sym (ap (λ d. settings_fault (settings_in b d)) (one ∙ ds)) ∙ (ok_is made).0
+
+pub parts_back : {b : List ℕ} {c : Settings} {ds : List Drive} {rs : List Record} {first second : List End}
+    {begun : Option Name} → IsRead b c ds rs first second begun
+    → parts_fault (settings_in b (drives_in b)) (drives_in b) (all_waiting_in b) (first_in b) (second_in b) (begun_in b)
+    ≡ parts_fault c ds rs first second begun
+parts_back {b} h = sym (λ i.
+    parts_fault ((h.settings ∙ ap (settings_in b) h.drives) i) (h.drives i) (h.waiting i) (h.first_ends i)
+    (h.second_ends i) (h.named i))
+
+-- there is a head
+pub frame_none : (b : List ℕ) → frame_fault b ≡ None → is_framed b ≡ true
+frame_none b e = (next (is_framed b) faults.Length _ e).0
+
+-- what comes of bytes with these faults
+pub comes : {K : Type 0} (number : ℕ) (picker : K) (b : List ℕ) (frame settings parts form : Option RestoreFault)
+    → frame_fault b ≡ frame → settings_fault (settings_in b (drives_in b)) ≡ settings
+    → parts_fault (settings_in b (drives_in b)) (drives_in b) (all_waiting_in b) (first_in b) (second_in b) (begun_in b)
+    ≡ parts → form_fault number b (held_in picker b) ≡ form
+    → unless (held_in picker b) (first_of frame (first_of settings (first_of parts form))) ≡ restored number picker b
+comes number picker b frame settings parts form e1 e2 e3 e4 =
+    λ i. unless (held_in picker b) (first_of (sym e1 i) (first_of (sym e2 i) (first_of (sym e3 i) (sym e4 i))))

@@ -1,0 +1,6 @@
+use Rattle.std.proofs.Common.{◌≡◌, drop}
+use Rattle.mscp_saved.specs.Restored.{are_apart}
+use Rattle.mscp_saved.proofs.checking.are_apart.Given as goal
+
+abbrev pub invariant-loop-place : goal.invariant-loop-place
+invariant-loop-place l = are_apart l.waiting ≡ are_apart (drop l.place l.waiting)

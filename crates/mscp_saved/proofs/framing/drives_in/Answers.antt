@@ -1,0 +1,11 @@
+use Rattle.std.proofs.Common.{drop, ap, ◌∙◌}
+use Rattle.std.proofs.lemmas.List.{take_rest}
+use Rattle.mscp_saved.specs.Read.{drive_in, parts_in}
+use Rattle.mscp_saved.proofs.framing.drives_in.Goals as goal
+
+pub returns-clause-value : goal.returns-clause-value
+returns-clause-value c =
+    let b = c.args.b.now in
+    c.read_drives.ensures
+    ∙ (ap (parts_in drive_in 34 c.from.result) (take_rest b 48)
+    ∙ ap (λ n. parts_in drive_in 34 n (drop 48 b)) c.from.ensures)

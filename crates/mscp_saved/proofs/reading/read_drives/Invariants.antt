@@ -1,0 +1,8 @@
+use Rattle.std.proofs.Common.{◌≡◌}
+use Rattle.arrayvec.specs.ArrayVec.{array_vec_len}
+use Rattle.mscp_saved.specs.Read.{drive_in, parts_in}
+use Rattle.mscp_saved.proofs.reading.read_drives.Given as goal
+
+abbrev pub invariant-loop-place : goal.invariant-loop-place
+invariant-loop-place l =
+    record { items : l.drives.items ≡ parts_in drive_in 34 l.place l.b; len : array_vec_len l.drives ≡ l.place }

@@ -1,0 +1,8 @@
+use Rattle.std.proofs.Common.{◌≡◌}
+use Rattle.arrayvec.specs.ArrayVec.{array_vec_len}
+use Rattle.mscp_saved.specs.Read.{waiting_in, parts_in}
+use Rattle.mscp_saved.proofs.reading.read_waiting.Given as goal
+
+abbrev pub invariant-loop-place : goal.invariant-loop-place
+invariant-loop-place l =
+    record { items : l.waiting.items ≡ parts_in waiting_in 41 l.place l.b; len : array_vec_len l.waiting ≡ l.place }

@@ -1,0 +1,11 @@
+use Rattle.std.proofs.Common.{◌≡◌, take}
+use Rattle.arrayvec.specs.ArrayVec.{array_vec_len}
+use Rattle.mscp_queue.specs.Kept.{units_of}
+use Rattle.mscp_saved.proofs.restoring.units_of.Given as goal
+
+abbrev pub invariant-loop-drive : goal.invariant-loop-drive
+invariant-loop-drive l =
+    record {
+      items : l.units.items ≡ units_of (take l.drive-index l.drives);
+      len : array_vec_len l.units ≡ l.drive-index;
+    }

@@ -1,0 +1,188 @@
+// The parts of a saved controller from bytes.
+
+ghost use Rattle.std.specs.Prelude.{◌≡◌, ◌+◌, ◌*◌, ◌≤◌, drop, length, slice_index};
+ghost use Rattle.mscp_packet.specs.Commands.{command_of};
+ghost use Rattle.mscp_queue.specs.Kept.{units_of};
+ghost use Rattle.mscp_queue.specs.Orders.{order_weight};
+ghost use Rattle.mscp_saved.specs.Read.{begun_in, connection_in, drive_in, end_in, no_end, part, parts_in, sized, unit_in, waiting_in};
+ghost use Rattle.mscp_saved.specs.Restored.{settings_fault, unless};
+ghost use Rattle.mscp_drive.specs.Shape.{shape};
+
+use crate::fields::{eight_at, four_at, two_at};
+use arrayvec::ArrayVec;
+use mscp_control::{Connection, Drive, Name, Record};
+use mscp_drive::{Head, Unit};
+use mscp_packet::{Command, End, EndBody, Order, read_command, read_end};
+
+/// The bytes of the part at a place, where all parts have one size.
+fn part(b: &[u8], size: usize, place: usize) -> &[u8]
+    requires { size * place + size ≤ length b.now }
+    ensures value { result.now ≡ part size place b.now }
+    ensures len { length result.now ≡ size }
+{
+    &b[size * place..][..size]
+}
+
+/// The connection of a number.
+fn connection_in(byte: u8) -> Connection
+    ensures { result ≡ connection_in byte }
+{
+    if byte == 1 {
+        Connection::First
+    } else {
+        Connection::Second
+    }
+}
+
+/// The unit of these sizes and identifiers, or one of one block where a size is zero.
+fn sized(
+    number: u16,
+    track: u16,
+    group: u16,
+    cylinder: u16,
+    size: u32,
+    id: u64,
+    media: u32,
+    serial: u32,
+) -> Unit
+    ensures { result ≡ sized (shape number track group cylinder size id media serial) }
+{
+    match Unit::new(number, track, group, cylinder, size, id, media, serial) {
+        Ok(unit) => unit,
+        Err(_) => Unit::default(),
+    }
+}
+
+/// The unit in the bytes of a drive.
+fn unit_in(b: &[u8]) -> Unit
+    requires { length b.now ≡ 34 }
+    ensures { result ≡ unit_in b.now }
+{
+    sized(
+        two_at(b, 0),
+        two_at(b, 2),
+        two_at(b, 4),
+        two_at(b, 6),
+        four_at(b, 8),
+        eight_at(b, 12),
+        four_at(b, 20),
+        four_at(b, 24),
+    )
+}
+
+/// The drive in the bytes of one.
+fn drive_in(b: &[u8]) -> Drive
+    requires { length b.now ≡ 34 }
+    ensures { result ≡ drive_in b.now }
+{
+    let head = Head {
+        cylinder: four_at(b, 30),
+        up: b[29] == 1,
+    };
+    Drive {
+        unit: unit_in(b),
+        online: b[28] == 1,
+        head,
+    }
+}
+
+/// So many drives, behind one another from the first byte on.
+pub(crate) fn read_drives(b: &[u8], count: usize) -> ArrayVec<Drive, 16>
+    requires few { count ≤ 16 }
+    requires long { 34 * count ≤ length b.now }
+    ensures { result.items ≡ parts_in drive_in 34 count b.now }
+{
+    let mut drives = ArrayVec::new();
+    for place in 0..count {
+        drives.push(drive_in(part(b, 34, place)));
+    }
+    drives
+}
+
+/// The command in the bytes of a message.
+fn command_in(b: &[u8]) -> Command
+    requires { length b.now ≡ 32 }
+    ensures { result ≡ command_of b.now }
+{
+    let Ok(command) = read_command(b) else {
+        unreachable!();
+    };
+    command
+}
+
+/// How many steps an order takes: one for each block of a transfer, and at least one.
+fn weight_of(order: &Order) -> u32
+    ensures { result ≡ order_weight order.now }
+{
+    match order {
+        Order::Move(_, count, _) => count.div_ceil(512).max(1),
+        _ => 1,
+    }
+}
+
+/// The waiting command in the bytes of one.
+fn waiting_in(b: &[u8]) -> Record
+    requires { length b.now ≡ 41 }
+    ensures { result ≡ waiting_in b.now }
+{
+    let command = command_in(&b[..32]);
+    let record = Record::new(connection_in(b[40]), command, weight_of(&command.order));
+    record.resumed(four_at(b, 32), four_at(b, 36))
+}
+
+/// So many waiting commands, behind one another from the first byte on.
+pub(crate) fn read_waiting(b: &[u8], count: usize) -> ArrayVec<Record, 64>
+    requires few { count ≤ 64 }
+    requires long { 41 * count ≤ length b.now }
+    ensures { result.items ≡ parts_in waiting_in 41 count b.now }
+{
+    let mut waiting = ArrayVec::new();
+    for place in 0..count {
+        waiting.push(waiting_in(part(b, 41, place)));
+    }
+    waiting
+}
+
+/// The end in the bytes of one, or what is read as one and is none.
+fn end_in(b: &[u8]) -> End
+    requires { length b.now ≡ 48 }
+    ensures { result ≡ end_in b.now }
+{
+    match read_end(b) {
+        Ok(end) => end,
+        Err(_) => End {
+            reference: 0,
+            unit: 0,
+            code: 0,
+            status: 0,
+            body: EndBody::Bare,
+        },
+    }
+}
+
+/// So many ends, behind one another from the first byte on.
+pub(crate) fn read_ends(b: &[u8], count: usize) -> ArrayVec<End, 64>
+    requires few { count ≤ 64 }
+    requires long { 48 * count ≤ length b.now }
+    ensures { result.items ≡ parts_in end_in 48 count b.now }
+{
+    let mut ends = ArrayVec::new();
+    for place in 0..count {
+        ends.push(end_in(part(b, 48, place)));
+    }
+    ends
+}
+
+/// What was begun, by the head, if something was.
+pub(crate) fn begun_in(b: &[u8]) -> Option<Name>
+    requires { 48 ≤ length b.now }
+    ensures { result ≡ begun_in b.now }
+{
+    if b[43] == 0 {
+        return None;
+    }
+    Some(Name {
+        connection: connection_in(b[43]),
+        reference: four_at(b, 44),
+    })
+}
