@@ -103,8 +103,8 @@ enum mscp_status {
     MSCP_SAVED_LENGTH = -40,  /* aren't as many as they say */
     MSCP_SAVED_MAGIC = -41,   /* don't begin with "MSCQ", or "MSCH" for a host */
     MSCP_SAVED_VERSION = -42, /* are of a version of the format that isn't known */
-    MSCP_SAVED_LIMITS = -43,  /* say limits that no controller has; of a host, credits that aren't 2 to 64 */
-    MSCP_SAVED_UNITS = -44,   /* units that no controller has */
+    MSCP_SAVED_UNITS = -43,   /* say units that no controller has */
+    MSCP_SAVED_LIMITS = -44,  /* limits that no controller has; of a host, credits that aren't 2 to 64 */
     MSCP_SAVED_HEADS = -45,   /* a head on no cylinder of its unit */
     MSCP_SAVED_CREDITS = -46, /* more commands and ends than the credits of a connection cover */
     MSCP_SAVED_COMMAND = -47, /* a waiting command that would not wait */
@@ -360,8 +360,9 @@ int32_t mscp_host_restore_at(struct mscp_host *host, const uint8_t *bytes, size_
 /* Makes a controller in the handle's memory: of these limits, of so many units in rising order of their numbers, served
  * by a picker of enum mscp_picker. MSCP_DONE, or the first fault in this order: those of the memory (-11 to -15),
  * MSCP_BAD_PICKER, MSCP_MANY_UNITS, those of the first unit that has one (-21 to -24), MSCP_UNITS_FALL, MSCP_NO_UNITS,
- * those of the limits (-28 to -31). The controller is made on the stack, of which this takes some 28 KiB (no other call
- * takes over 2), and is moved into the memory. That may go at any time, without a call. */
+ * those of the limits (-28 to -31). The controller is made on the stack, of which this takes some 29 KiB, and is moved
+ * into the memory. No other call takes over 2 KiB of the stack, but for those that save and restore. The memory may go
+ * at any time, without a call. */
 MSCP_MUST_USE
 MSCP_INLINE int32_t mscp_init(struct mscp *mscp, const struct mscp_limits *limits, const struct mscp_unit *units,
                               size_t count, uint32_t picker)
@@ -454,7 +455,7 @@ MSCP_INLINE int32_t mscp_save(const struct mscp *mscp, uint8_t *bytes, size_t ro
 /* Makes the controller that was saved, in the handle's memory: whatever is called then answers as if it had been called
  * there. MSCP_DONE, or the first fault of those of the memory (-11 to -15) and those of the bytes (-40 to -54). Bytes of
  * a stranger make a controller with which every call is safe, or none; what came to it before, only who saved it knows.
- * This takes some 36 KiB of the stack. */
+ * This takes some 112 KiB of the stack, and mscp_save some 11. */
 MSCP_MUST_USE
 MSCP_INLINE int32_t mscp_restore(struct mscp *mscp, const uint8_t *bytes, size_t length)
 {
@@ -508,7 +509,8 @@ MSCP_INLINE int32_t mscp_host_save(const struct mscp_host *host, uint8_t *bytes,
 }
 
 /* Makes the host that was saved, in the handle's memory. MSCP_DONE, or the first fault of those of the memory (-11 to
- * -15) and MSCP_SAVED_LENGTH, _MAGIC, _VERSION, _LIMITS, _CREDITS and _FORM. */
+ * -15) and MSCP_SAVED_LENGTH, _MAGIC, _VERSION, _LIMITS, _CREDITS and _FORM. This takes some 6 KiB of the stack, and
+ * mscp_host_save some 3. */
 MSCP_MUST_USE
 MSCP_INLINE int32_t mscp_host_restore(struct mscp_host *host, const uint8_t *bytes, size_t length)
 {

@@ -1,5 +1,5 @@
 /* How much stack each call of mscp.h takes: each runs on a stack that was painted. Prints a line for each, and ends with 1
- * where one that isn't an init takes more than 2 KiB. */
+ * where one takes more than mscp.h says. */
 #include "mscp.h"
 #include <stdio.h>
 #include <stdlib.h>
@@ -8,22 +8,25 @@
 
 enum {
     NOTHING, SEND, BEGIN, FINISH, STEP, TAKE, LOOK, FIGURE, BALANCE, WAITING, UNTAKEN, IS_ONLINE, RESET, SUBMIT, POLL,
-    RECEIVE, HOST_BALANCE, INIT, HOST_INIT, CALLS
+    RECEIVE, HOST_BALANCE, SAVE, HOST_SAVE, INIT, HOST_INIT, RESTORE, HOST_RESTORE, CALLS
 };
 static const char *const NAMES[CALLS] = {
     "nothing", "send", "begin", "finish", "step", "take", "look", "figure", "balance", "waiting", "untaken",
-    "is_online", "reset", "host_submit", "host_poll", "host_receive", "host_balance", "init", "host_init",
+    "is_online", "reset", "host_submit", "host_poll", "host_receive", "host_balance", "save", "host_save", "init", "host_init",
+    "restore", "host_restore",
 };
 
 /* Aligned for anything. */
 static union { long double number; void *pointer; unsigned char bytes[1 << 15]; } room, host_room, fresh, fresh_host;
-static unsigned char stack[1 << 16];
+static unsigned char stack[1 << 18];
 static ucontext_t home, there;
 static struct mscp *mscp;
 static struct mscp_host *host;
 static const struct mscp_limits LIMITS = {1, 16, 64, 0, 8, 60};
 static struct mscp_unit units[16];
 static volatile int64_t answered; /* by the last call */
+static uint8_t bytes[MSCP_SAVED_MAX], host_bytes[MSCP_HOST_SAVED_MAX]; /* as both are saved */
+static size_t saved, host_saved;
 
 static void run(int call)
 {
@@ -52,6 +55,12 @@ static void run(int call)
     case POLL: answered = mscp_host_poll(host, 99, &packet); break;
     case RECEIVE: answered = mscp_host_receive(host, end, 20, &news); break;
     case HOST_BALANCE: answered = mscp_host_balance(host); break;
+    case SAVE: answered = mscp_save(mscp, bytes, sizeof bytes, &saved); break;
+    case HOST_SAVE: answered = mscp_host_save(host, host_bytes, sizeof host_bytes, &host_saved); break;
+    case RESTORE: answered = mscp_restore(mscp_in_memory(&fresh, sizeof fresh), bytes, saved); break;
+    case HOST_RESTORE:
+        answered = mscp_host_restore(mscp_host_in_memory(&fresh_host, sizeof fresh_host), host_bytes, host_saved);
+        break;
     case INIT: answered = mscp_init(mscp_in_memory(&fresh, sizeof fresh), &LIMITS, units, 16, MSCP_SWEEP); break;
     case HOST_INIT: answered = mscp_host_init(mscp_host_in_memory(&fresh_host, sizeof fresh_host), 64); break;
     }
@@ -108,6 +117,19 @@ static void prepare(void)
     }
 }
 
+/* The most that mscp.h says of a call. */
+static size_t most(int call)
+{
+    switch (call) {
+    case SAVE: return 12 * 1024;
+    case HOST_SAVE: return 3 * 1024;
+    case INIT: return 30 * 1024;
+    case RESTORE: return 114 * 1024;
+    case HOST_RESTORE: return 6 * 1024;
+    default: return 2 * 1024;
+    }
+}
+
 /* Each call is made once before: the first call of a function of the C library may go through the dynamic linker, which
  * takes some stack of its own. */
 int main(void)
@@ -120,9 +142,9 @@ int main(void)
     prepare();
     frame = depth(NOTHING);
     for (int call = SEND; call < CALLS; call++) {
-        size_t bytes = depth(call) - frame;
-        printf("mscp_%s %zu\n", NAMES[call], bytes);
-        wrong |= call < INIT && bytes > 2048;
+        size_t taken = depth(call) - frame;
+        printf("mscp_%s %zu\n", NAMES[call], taken);
+        wrong |= taken > most(call);
     }
     return wrong;
 }

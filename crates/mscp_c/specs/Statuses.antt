@@ -14,6 +14,8 @@ use Rattle.mscp_host.specs.declared.restoring.RestoreFault as hosted
 use Rattle.mscp_host.specs.declared.restoring.RestoreFault.TheVariants as host_bytes
 use Rattle.mscp_memory.specs.declared.fault.RoomFault.{RoomFault}
 use Rattle.mscp_memory.specs.declared.fault.RoomFault.TheVariants as rooms
+use Rattle.mscp_saved.specs.declared.fault.RestoreFault.{RestoreFault}
+use Rattle.mscp_saved.specs.declared.fault.RestoreFault.TheVariants as bytes
 use Rattle.mscp_c.specs.declared.status.TheConstants as status
 
 -- the number -n, where n isn't 0
@@ -64,6 +66,24 @@ host_code hosts.LastCredit = status.LAST_CREDIT
 host_code hosts.Doubled = status.DOUBLED
 host_code hosts.Unreadable = status.UNREADABLE
 host_code hosts.Unknown = status.UNKNOWN
+
+-- of bytes that are no saved controller
+abbrev pub restore_code : RestoreFault → ℤ
+restore_code bytes.Length = status.SAVED_LENGTH
+restore_code bytes.Magic = status.SAVED_MAGIC
+restore_code bytes.Version = status.SAVED_VERSION
+restore_code bytes.Units = status.SAVED_UNITS
+restore_code bytes.Limits = status.SAVED_LIMITS
+restore_code bytes.Heads = status.SAVED_HEADS
+restore_code bytes.Credits = status.SAVED_CREDITS
+restore_code bytes.Command = status.SAVED_COMMAND
+restore_code bytes.Doubled = status.SAVED_DOUBLED
+restore_code bytes.Steps = status.SAVED_STEPS
+restore_code bytes.Passed = status.SAVED_PASSED
+restore_code bytes.Ends = status.SAVED_ENDS
+restore_code bytes.Begun = status.SAVED_BEGUN
+restore_code bytes.Picker = status.SAVED_PICKER
+restore_code bytes.Form = status.SAVED_FORM
 
 -- of bytes that are no saved host
 abbrev pub host_restore_code : hosted.RestoreFault → ℤ

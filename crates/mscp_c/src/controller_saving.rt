@@ -2,13 +2,14 @@
 
 ghost use Rattle.std.specs.Prelude.{◌≡◌, true, false};
 ghost use Rattle.mscp_memory.specs.ControllerHandles.{is_made};
-ghost use Rattle.mscp_c.specs.Saving.{length_after, policy_number, room_after, save_code, saved_by};
+ghost use Rattle.mscp_c.specs.Saving.{length_after, policy_named, policy_number, restored_by, restores, room_after, save_code, saved_by};
 
 use crate::saving::tell_saved;
-use crate::status::NOT_MADE;
+use crate::status::{DONE, NOT_MADE, restore_code, room_code};
+use mscp_control::Controller;
 use mscp_memory::Policy;
-use mscp_memory::controller::{Handle, is_made, lend};
-use mscp_saved::{ROOM, save};
+use mscp_memory::controller::{Handle, is_made, lend, place, room_fault};
+use mscp_saved::{ROOM, RestoreFault, restore, save};
 
 /// The most bytes that a controller is saved as.
 #[unsafe(no_mangle)]
@@ -46,4 +47,40 @@ pub extern "C" fn mscp_save_at(handle: &mut Handle, room: &mut [u8], length: &mu
     let number = policy_number(*controller.picker());
     let bytes = save(controller, number);
     tell_saved(room, length, bytes.as_slice())
+}
+
+/// The policy that bytes name, or another one where they name none.
+fn policy_named(bytes: &[u8]) -> Policy
+    ensures { result ≡ policy_named bytes.now }
+{
+    if bytes.len() > 30 && bytes[30] == 1 {
+        Policy::Sweep
+    } else {
+        Policy::Oldest
+    }
+}
+
+/// The controller that bytes say, with the policy that they name, or why there is none.
+fn restored_by(bytes: &[u8]) -> Result<Controller<Policy>, RestoreFault>
+    ensures { result ≡ restored_by bytes.now }
+{
+    let policy = policy_named(bytes);
+    restore(bytes, policy_number(policy), policy)
+}
+
+/// The controller that bytes say is in the room that the handle has.
+#[unsafe(no_mangle)]
+pub extern "C" fn mscp_restore_at(handle: &mut Handle, bytes: &[u8]) -> i32
+    ensures { (result, handle.new) ≡ restores handle.old bytes.now }
+{
+    if let Some(fault) = room_fault(handle) {
+        return room_code(fault);
+    }
+    match restored_by(bytes) {
+        Ok(controller) => {
+            place(handle, controller);
+            DONE
+        }
+        Err(fault) => restore_code(fault),
+    }
 }

@@ -83,8 +83,8 @@ pub fn statuses_are_these()
     ensures saved_length { SAVED_LENGTH ≡ minus 40 }
     ensures saved_magic { SAVED_MAGIC ≡ minus 41 }
     ensures saved_version { SAVED_VERSION ≡ minus 42 }
-    ensures saved_limits { SAVED_LIMITS ≡ minus 43 }
-    ensures saved_units { SAVED_UNITS ≡ minus 44 }
+    ensures saved_limits { SAVED_LIMITS ≡ minus 44 }
+    ensures saved_units { SAVED_UNITS ≡ minus 43 }
     ensures saved_heads { SAVED_HEADS ≡ minus 45 }
     ensures saved_credits { SAVED_CREDITS ≡ minus 46 }
     ensures saved_command { SAVED_COMMAND ≡ minus 47 }

@@ -1,7 +1,7 @@
 // What the calls answer: 0 and up what came of a call, below 0 why it was refused.
 
 ghost use Rattle.std.specs.Prelude.{◌≡◌};
-ghost use Rattle.mscp_c.specs.Statuses.{host_code, host_restore_code, limits_code, room_code, send_fault_code, unit_code, units_code};
+ghost use Rattle.mscp_c.specs.Statuses.{host_code, host_restore_code, limits_code, restore_code, room_code, send_fault_code, unit_code, units_code};
 ghost use Rattle.mscp_c.specs.Made.{init_code};
 
 use crate::units::InitFault;
@@ -9,6 +9,7 @@ use mscp_control::{ConfigFault, SendFault};
 use mscp_drive::{UnitFault, UnitsFault};
 use mscp_host::{HostFault, RestoreFault as HostRestoreFault};
 use mscp_memory::RoomFault;
+use mscp_saved::RestoreFault;
 
 /// There is nothing: no command waits, no end was made, no poll is to be sent.
 pub(crate) const NOTHING: i32 = 0;
@@ -99,9 +100,9 @@ pub(crate) const SAVED_MAGIC: i32 = -41;
 
 pub(crate) const SAVED_VERSION: i32 = -42;
 
-pub(crate) const SAVED_LIMITS: i32 = -43;
+pub(crate) const SAVED_LIMITS: i32 = -44;
 
-pub(crate) const SAVED_UNITS: i32 = -44;
+pub(crate) const SAVED_UNITS: i32 = -43;
 
 pub(crate) const SAVED_HEADS: i32 = -45;
 
@@ -209,6 +210,29 @@ pub(crate) fn host_code(fault: HostFault) -> i32
         HostFault::Doubled => DOUBLED,
         HostFault::Unreadable => UNREADABLE,
         HostFault::Unknown => UNKNOWN,
+    }
+}
+
+/// The status of bytes that are no saved controller.
+pub(crate) fn restore_code(fault: RestoreFault) -> i32
+    ensures { result ≡ restore_code fault }
+{
+    match fault {
+        RestoreFault::Length => SAVED_LENGTH,
+        RestoreFault::Magic => SAVED_MAGIC,
+        RestoreFault::Version => SAVED_VERSION,
+        RestoreFault::Units => SAVED_UNITS,
+        RestoreFault::Limits => SAVED_LIMITS,
+        RestoreFault::Heads => SAVED_HEADS,
+        RestoreFault::Credits => SAVED_CREDITS,
+        RestoreFault::Command => SAVED_COMMAND,
+        RestoreFault::Doubled => SAVED_DOUBLED,
+        RestoreFault::Steps => SAVED_STEPS,
+        RestoreFault::Passed => SAVED_PASSED,
+        RestoreFault::Ends => SAVED_ENDS,
+        RestoreFault::Begun => SAVED_BEGUN,
+        RestoreFault::Picker => SAVED_PICKER,
+        RestoreFault::Form => SAVED_FORM,
     }
 }
 
