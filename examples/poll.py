@@ -2,11 +2,14 @@
 """A host brings a unit online and sends a READ of three blocks, which it polls until it has ended, by ctypes:
 
     python3 poll.py PREFIX/lib/libmscp.so
+    python3 poll.py PREFIX/lib/libmscp.so STATE     (the same in two processes)
 
-The structs are those of mscp.h, and so are the numbers of statuses and opcodes.
+With a file STATE both ends, the controller and the host, are saved to it after the first block; run again, this goes on
+from there. The structs are those of mscp.h, and so are the numbers of statuses and opcodes.
 """
 from ctypes import CDLL, Structure, byref, c_char_p, c_int64, c_size_t, c_uint8, c_uint16, c_uint32, c_uint64, sizeof
-from struct import pack
+from os.path import exists
+from struct import calcsize, pack, unpack
 from sys import argv, exit
 
 FIRST, SWEEP, ONLINE, READ = 0, 1, 9, 33
@@ -83,15 +86,42 @@ def step():
     return report.ended
 
 
+def save(path):
+    with open(path, "wb") as file:
+        for name, handle in (("mscp_save", mscp), ("mscp_host_save", host)):
+            room, length = (c_uint8 * library.mscp_save_size())(), c_size_t()
+            call(name, handle, room, c_size_t(sizeof(room)), byref(length))
+            file.write(pack("<I", length.value) + bytes(room[:length.value]))
+
+
+def restore(path):
+    with open(path, "rb") as file:
+        for name, handle in (("mscp_restore", mscp), ("mscp_host_restore", host)):
+            saved = file.read(*unpack("<I", file.read(calcsize("<I"))))
+            call(name, handle, saved, c_size_t(len(saved)))
+
+
+def begin():
+    unit = Unit(id=1, size=64, serial=1, track=4, group=2, cylinder=1)
+    limits = Limits(id=1, budget=16, credits=4, longest=8, timeout=60)
+    call("mscp_init", mscp, byref(limits), byref(unit), c_size_t(1), SWEEP)
+    call("mscp_host_init", host, 4)
+    submit(1, ONLINE)
+    step()
+    submit(2, READ, length=3 * 512, block=40)
+    poll(100)
+
+
 mscp = memory(library.mscp_in_memory, library.mscp_size)
 host = memory(library.mscp_host_in_memory, library.mscp_host_size)
-unit = Unit(id=1, size=64, serial=1, track=4, group=2, cylinder=1)
-limits = Limits(id=1, budget=16, credits=4, longest=8, timeout=60)
-call("mscp_init", mscp, byref(limits), byref(unit), c_size_t(1), SWEEP)
-call("mscp_host_init", host, 4)
-submit(1, ONLINE)
-step()
-submit(2, READ, length=3 * 512, block=40)
-poll(100)
+state = argv[2] if len(argv) > 2 else None
+if state and exists(state):
+    restore(state)
+    state = None
+else:
+    begin()
 while not step():
     poll(101)
+    if state:
+        save(state)
+        exit()
