@@ -7,3 +7,5 @@ pub mod Framed
 pub mod Configured
 pub mod Sound
 pub mod Outcomes
+pub mod BackParts
+pub mod Back
