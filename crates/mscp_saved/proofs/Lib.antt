@@ -9,3 +9,5 @@ pub mod Sound
 pub mod Outcomes
 pub mod BackParts
 pub mod Back
+pub mod HeldBack
+pub mod Complete
