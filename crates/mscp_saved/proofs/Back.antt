@@ -1,15 +1,13 @@
 -- The bytes of a part say that part.
-use Rattle.std.proofs.Common.{All, ◌≡◌, ℕ, zero, suc, ◌+◌, ◌*◌, ◌<◌, ◌≤◌, ◌^◌, Bool, true, false, ◌||◌, List, [], ◌∷◌, ◌++◌, take, drop, length, append_assoc, refl, ap, sym, subst, ◌∙◌, arith}
-use Rattle.std.specs.Prelude.{flat_map, slice_index, if◌then◌else◌, nat_eq, nat_lt, ◌&&◌, Option, Some, None}
-use Rattle.std.specs.List.{AllByRecursion}
+use Rattle.std.proofs.Common.{◌≡◌, ℕ, ◌<◌, ◌^◌, Bool, true, false, ◌||◌, List, [], ◌++◌, take, drop, length, refl, ap, sym, subst, ◌∙◌}
+use Rattle.std.specs.Prelude.{slice_index, if◌then◌else◌, nat_eq, ◌&&◌, Option, Some, None}
 use Rattle.std.proofs.lemmas.Bool.{false≢true, lt-ltb}
-use Rattle.mscp_packet.specs.Commands.{HasCommandRange, HasRange, command_bytes, command_of}
-use Rattle.mscp_packet.specs.Ends.{HasBodyRange, HasEndRange, IsOfKind, end_at, kind_of_body, kind_of_code}
+use Rattle.mscp_packet.specs.Commands.{HasRange, command_bytes, command_of}
+use Rattle.mscp_packet.specs.Ends.{HasEndRange, IsOfKind}
 use Rattle.mscp_packet.specs.declared.command.Command.{Command}
 use Rattle.mscp_packet.specs.declared.command.MoveKind.TheVariants as moves
 use Rattle.mscp_packet.specs.declared.command.Order.{Order}
 use Rattle.mscp_packet.specs.declared.command.Order.TheVariants as orders
-use Rattle.mscp_packet.specs.declared.end.BodyKind.{BodyKind}
 use Rattle.mscp_packet.specs.declared.end.End.{End}
 use Rattle.mscp_packet.specs.declared.end.EndBody.{EndBody}
 use Rattle.mscp_packet.specs.declared.end.EndBody.TheVariants as bodies
@@ -24,7 +22,7 @@ use Rattle.mscp_queue.specs.Drives.{one_block}
 use Rattle.mscp_queue.specs.Orders.{is_move, is_sequential, order_weight}
 use Rattle.mscp_queue.specs.Records.{Record}
 use Rattle.mscp_saved.specs.Ranges.{HasDriveRange, HasUnitRange, HasWaitingRange}
-use Rattle.mscp_saved.specs.Read.{connection_in, drive_in, end_in, end_with, name_in, part, parts_in, sized, unit_in, waiting_in}
+use Rattle.mscp_saved.specs.Read.{connection_in, drive_in, end_in, end_with, name_in, sized, waiting_in}
 use Rattle.mscp_saved.proofs.BackParts.{IsBack}
 use Rattle.mscp_saved.specs.Saved.{begun_connection, begun_reference, connection_byte, drive_bytes, end_cell, flag_byte, padded, waiting_bytes}
 
@@ -202,7 +200,7 @@ end_back n u code status (bodies.UnitStatus id media track group cylinder) t k h
       code = code;
       status = two status h.2 i;
       body = bodies.UnitStatus (eight id h.3.0 i) (four media h.3.1 i) (two track h.3.2 i) (two group h.3.3 i)
-      (two cylinder h.3.4 i);
+          (two cylinder h.3.4 i);
     }
 end_back n u code status (bodies.Controller timeout id) t k h =
     ap (λ o. end_with o (take 48 (end_cell (end n u code status (bodies.Controller timeout id)) ++ t))) k ∙ λ i. record {

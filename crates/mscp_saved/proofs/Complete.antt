@@ -1,37 +1,33 @@
 -- What is sound passes each test.
-use Rattle.std.proofs.Common.{All, ◌≡◌, ◌≢◌, ℕ, zero, suc, ◌+◌, ◌*◌, ◌<◌, ◌≤◌, ◌^◌, Bool, true, false, ◌&&◌, ◌||◌, List, [], ◌∷◌, get_or, length, map, refl, ap, sym, subst, ◌∙◌, arith}
-use Rattle.std.specs.Prelude.{◌⊎◌, ◌==◌, max, filter, nat_eq, nat_le, nat_lt, not, if◌then◌else◌, unwrap_or, Option, Some, None, is_none, is_some, IfSome}
+use Rattle.std.proofs.Common.{All, ◌≡◌, ◌≢◌, ℕ, zero, suc, ◌+◌, ◌<◌, ◌≤◌, ◌^◌, Bool, true, false, ◌&&◌, ◌||◌, List, [], ◌∷◌, get_or, length, refl, ap, sym, subst, ◌∙◌, arith}
+use Rattle.std.specs.Prelude.{◌⊎◌, ◌==◌, filter, nat_eq, nat_le, nat_lt, not, if◌then◌else◌, unwrap_or, Option, Some, None, is_none, is_some}
 use Rattle.std.specs.List.{AllByRecursion, list_all, position}
 use Rattle.std.proofs.lemmas.Bool.{and_from, eq-eqb, false≢true, le-leb, le-ltb, lt-leb, lt-ltb, ne_eqb, not_from_false, or_left, or_right}
-use Rattle.std.proofs.lemmas.List.Elements.{All-from_recursion, recursion_from_All}
-use Rattle.mscp_packet.specs.declared.command.Command.{Command}
+use Rattle.std.proofs.lemmas.List.Elements.{recursion_from_All}
 use Rattle.mscp_packet.specs.declared.command.Order.{Order}
 use Rattle.mscp_packet.specs.declared.command.Order.TheVariants as orders
 use Rattle.mscp_packet.specs.declared.end.End.{End}
 use Rattle.mscp_packet.specs.Ends.{IsOfKind, kind_of_body, kind_of_code}
-use Rattle.mscp_drive.specs.Extent.{blocks, invalid_block, invalid_byte_count, range_fault, weight}
+use Rattle.mscp_drive.specs.Extent.{blocks, invalid_block, invalid_byte_count, weight}
 use Rattle.mscp_drive.specs.Shape.{Shape, last_cylinder}
-use Rattle.mscp_drive.specs.UnitList as list
 use Rattle.mscp_queue.specs.declared.drive.Drive.{Drive}
 use Rattle.mscp_queue.specs.declared.name.Connection.{Connection}
 use Rattle.mscp_queue.specs.declared.name.Connection.TheVariants.{First, Second}
 use Rattle.mscp_queue.specs.declared.name.Name.{Name}
 use Rattle.mscp_queue.specs.Drives.{IsOnUnit, one_block}
-use Rattle.mscp_queue.specs.Kept.{AreApart, ArePassedInOrder, IsInside, IsKept, IsStillServable, IsWaitable, is_known, names, units_of}
-use Rattle.mscp_queue.specs.Orders.{is_move, is_sequential, order_weight}
-use Rattle.mscp_queue.specs.Records.{Record, has_name, is_in_service, is_unstarted, name_of, no_record, record_at}
+use Rattle.mscp_queue.specs.Kept.{AreApart, ArePassedInOrder, IsStillServable, IsWaitable, names}
+use Rattle.mscp_queue.specs.Records.{Record, has_name, is_in_service, is_unstarted, name_of, record_at}
 use Rattle.mscp_queue.specs.Serving.{IsServable}
 use Rattle.mscp_queue.specs.Views.{is_open_at}
-use Rattle.mscp_queue.proofs.Lists.{every_weaker}
 use Rattle.mscp_queue.proofs.Named.{is_differ, same_is}
 use Rattle.mscp_queue.proofs.Nexts.{name_found}
-use Rattle.mscp_control.specs.Arrival.{is_immediate, is_queued, move_fault, unit_fault}
+use Rattle.mscp_control.specs.Arrival.{is_queued, move_fault, unit_fault}
 use Rattle.mscp_control.specs.Holdings.{Holdings, waiting_on}
 use Rattle.mscp_control.specs.Restored.{IsCovered, IsSound}
 use Rattle.mscp_control.specs.Settings.{IsValid, Settings, bound, credits_of, limit_fault, room_of, unit_found}
 use Rattle.mscp_control.specs.declared.config.ConfigFault.TheVariants.{Credits, Longest, Timeout, Figure}
 use Rattle.mscp_saved.specs.declared.fault.RestoreFault.TheVariants as faults
-use Rattle.mscp_saved.specs.Restored.{are_apart, are_ends, are_on_units, are_passed, are_queued, are_unfinished, are_units, is_covered, may_be_begun, may_serve, may_serve_at, parts_fault, settings_fault}
+use Rattle.mscp_saved.specs.Restored.{are_apart, are_ends, are_on_units, are_passed, is_covered, may_be_begun, may_serve, may_serve_at, parts_fault, settings_fault}
 use Rattle.mscp_saved.proofs.Rising.{test_of_units}
 use Rattle.mscp_saved.proofs.Sound.{Passes}
 

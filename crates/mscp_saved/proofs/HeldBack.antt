@@ -1,18 +1,13 @@
 -- The bytes of a controller say it.
-use Rattle.std.proofs.Common.{◌≡◌, ℕ, ◌+◌, ◌*◌, ◌<◌, ◌≤◌, ◌^◌, List, [], ◌∷◌, ◌++◌, drop, length, append_assoc, append-nil, refl, ap, sym, ◌∙◌, arith}
-use Rattle.std.specs.Prelude.{flat_map, slice_index, Option, Some, None, IfSome}
+use Rattle.std.proofs.Common.{◌≡◌, ℕ, ◌+◌, ◌*◌, ◌<◌, ◌^◌, List, [], ◌++◌, drop, length, append_assoc, append-nil, ap, sym, ◌∙◌, arith}
+use Rattle.std.specs.Prelude.{flat_map, Option, Some, None, IfSome}
 use Rattle.std.specs.List.{AllByRecursion}
 use Rattle.std.proofs.lemmas.List.{drop-drop, length-append}
-use Rattle.mscp_packet.specs.declared.end.End.{End}
-use Rattle.mscp_packet.specs.Number.{num}
 use Rattle.mscp_packet.proofs.Numbers.{eight, four, two}
-use Rattle.mscp_queue.specs.declared.drive.Drive.{Drive}
 use Rattle.mscp_queue.specs.declared.name.Name.{Name}
 use Rattle.mscp_queue.specs.Kept.{units_of}
-use Rattle.mscp_queue.specs.Records.{Record}
 use Rattle.mscp_control.specs.Holdings.{Holdings}
 use Rattle.mscp_control.specs.Restored.{made_of}
-use Rattle.mscp_control.specs.Settings.{Settings}
 use Rattle.mscp_saved.specs.Ranges.{HasRange}
 use Rattle.mscp_saved.specs.Read.{all_waiting_in, begun_in, drive_in, drives_in, end_in, first_in, held_in, name_in, parts_in, second_in, settings_in, waiting_in}
 use Rattle.mscp_saved.specs.Saved.{begun_connection, begun_reference, drive_bytes, end_cell, saved_bytes, saved_length, waiting_bytes}

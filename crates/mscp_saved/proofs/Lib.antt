@@ -11,3 +11,4 @@ pub mod BackParts
 pub mod Back
 pub mod HeldBack
 pub mod Complete
+pub mod Faithful
