@@ -7,3 +7,8 @@ pub mod Framed
 pub mod Configured
 pub mod Sound
 pub mod Outcomes
+pub mod BackParts
+pub mod Back
+pub mod HeldBack
+pub mod Complete
+pub mod Faithful

@@ -2,3 +2,4 @@ pub mod Saved
 pub mod Ranges
 pub mod Read
 pub mod Restored
+pub mod Faithful

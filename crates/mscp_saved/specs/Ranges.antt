@@ -8,7 +8,7 @@ use Rattle.mscp_drive.specs.Shape.{Shape}
 use Rattle.mscp_control.specs.Holdings.{Holdings}
 use Rattle.mscp_control.specs.Settings.{Settings}
 
--- those of a unit
+-- those of a unit, no size of which is zero
 pub record HasUnitRange (u : Shape) : Type 0 where
   pub number : u.number < 2 ^ 16
   pub track : u.track < 2 ^ 16
@@ -18,6 +18,10 @@ pub record HasUnitRange (u : Shape) : Type 0 where
   pub id : u.id < 2 ^ 64
   pub media : u.media < 2 ^ 32
   pub serial : u.serial < 2 ^ 32
+  pub some_track : 0 < u.track
+  pub some_group : 0 < u.group
+  pub some_cylinder : 0 < u.cylinder
+  pub some_size : 0 < u.size
 
 -- those of a drive
 pub record HasDriveRange (d : Drive) : Type 0 where

@@ -52,9 +52,16 @@ abbrev pub flag_byte : Bool → ℕ
 flag_byte so = if so then 1 else 0
 
 -- what was begun, if something was: its connection, and its reference number
+abbrev pub begun_connection : Option Name → ℕ
+begun_connection None = 0
+begun_connection (Some name) = connection_byte name.connection
+
+abbrev pub begun_reference : Option Name → ℕ
+begun_reference None = 0
+begun_reference (Some name) = name.reference
+
 abbrev pub begun_bytes : Option Name → List ℕ
-begun_bytes None = 0 ∷ little_bytes 4 0
-begun_bytes (Some name) = connection_byte name.connection ∷ little_bytes 4 name.reference
+begun_bytes begun = begun_connection begun ∷ little_bytes 4 (begun_reference begun)
 
 -- bytes, and zeros up to a size
 abbrev pub padded : ℕ → List ℕ → List ℕ

@@ -5,10 +5,12 @@ mod checking;
 mod fault;
 mod fields;
 mod framing;
+mod law;
 mod reading;
 mod restoring;
 mod writing;
 
 pub use crate::fault::RestoreFault;
+pub use crate::law::restoring_is_faithful;
 pub use crate::restoring::restore;
 pub use crate::writing::{ROOM, save};

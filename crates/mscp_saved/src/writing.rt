@@ -64,7 +64,7 @@ fn put_identifiers(out: &mut ArrayVec<u8, ROOM>, unit: &Unit)
     put_four(out, unit.serial());
 }
 
-/// The numbers of a unit fit their types.
+/// The numbers of a unit fit their types, and no size of it is zero.
 fn read_unit(unit: &Unit)
     ensures { HasUnitRange unit.now }
 {

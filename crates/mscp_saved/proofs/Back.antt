@@ -1,0 +1,289 @@
+-- The bytes of a part say that part.
+use Rattle.std.proofs.Common.{◌≡◌, ℕ, ◌<◌, ◌^◌, Bool, true, false, ◌||◌, List, [], ◌++◌, take, drop, length, refl, ap, sym, subst, ◌∙◌}
+use Rattle.std.specs.Prelude.{slice_index, if◌then◌else◌, nat_eq, ◌&&◌, Option, Some, None}
+use Rattle.std.proofs.lemmas.Bool.{false≢true, lt-ltb}
+use Rattle.mscp_packet.specs.Commands.{HasRange, command_bytes, command_of}
+use Rattle.mscp_packet.specs.Ends.{HasEndRange, IsOfKind}
+use Rattle.mscp_packet.specs.declared.command.Command.{Command}
+use Rattle.mscp_packet.specs.declared.command.MoveKind.TheVariants as moves
+use Rattle.mscp_packet.specs.declared.command.Order.{Order}
+use Rattle.mscp_packet.specs.declared.command.Order.TheVariants as orders
+use Rattle.mscp_packet.specs.declared.end.End.{End}
+use Rattle.mscp_packet.specs.declared.end.EndBody.{EndBody}
+use Rattle.mscp_packet.specs.declared.end.EndBody.TheVariants as bodies
+use Rattle.mscp_packet.specs.Number.{num}
+use Rattle.mscp_packet.proofs.Numbers.{eight, four, two}
+use Rattle.mscp_drive.specs.Shape.{Shape}
+use Rattle.mscp_queue.specs.declared.drive.Drive.{Drive}
+use Rattle.mscp_queue.specs.declared.name.Connection.{Connection}
+use Rattle.mscp_queue.specs.declared.name.Connection.TheVariants.{First, Second}
+use Rattle.mscp_queue.specs.declared.name.Name.{Name}
+use Rattle.mscp_queue.specs.Drives.{one_block}
+use Rattle.mscp_queue.specs.Orders.{is_move, is_sequential, order_weight}
+use Rattle.mscp_queue.specs.Records.{Record}
+use Rattle.mscp_saved.specs.Ranges.{HasDriveRange, HasUnitRange, HasWaitingRange}
+use Rattle.mscp_saved.specs.Read.{connection_in, drive_in, end_in, end_with, name_in, sized, waiting_in}
+use Rattle.mscp_saved.proofs.BackParts.{IsBack}
+use Rattle.mscp_saved.specs.Saved.{begun_connection, begun_reference, connection_byte, drive_bytes, end_cell, flag_byte, padded, waiting_bytes}
+
+-- ---- a drive
+
+flag_back : (so : Bool) → nat_eq (flag_byte so) 1 ≡ so
+flag_back true = refl
+flag_back false = refl
+
+pub connection_back : (via : Connection) → connection_in (connection_byte via) ≡ via
+connection_back First = refl
+connection_back Second = refl
+
+sized_is : (u : Shape) → HasUnitRange u → sized u ≡ u
+sized_is u h =
+    λ i. if lt-ltb 0 u.track h.some_track i && (lt-ltb 0 u.group h.some_group i
+    && (lt-ltb 0 u.cylinder h.some_cylinder i && lt-ltb 0 u.size h.some_size i)) then u else one_block
+
+pub drive_back : (d : Drive) (t : List ℕ) → HasDriveRange d
+    → drive_in (take 34 (drive_bytes d ++ t)) ≡ d
+drive_back d t h = λ i. record {
+  unit = (ap sized (λ i. record {
+    number = two d.unit.number h.unit.number i;
+    track = two d.unit.track h.unit.track i;
+    group = two d.unit.group h.unit.group i;
+    cylinder = two d.unit.cylinder h.unit.cylinder i;
+    size = four d.unit.size h.unit.size i;
+    id = eight d.unit.id h.unit.id i;
+    media = four d.unit.media h.unit.media i;
+    serial = four d.unit.serial h.unit.serial i;
+  }) ∙ sized_is d.unit h.unit) i;
+  online = flag_back d.online i;
+  head = record { up = flag_back d.head.up i; cylinder = four d.head.cylinder h.cylinder i };
+}
+
+-- ---- a waiting command
+
+command_back : (n u : ℕ) (o : Order) (t : List ℕ) → (is_sequential o || is_move o) ≡ true
+    → n < 2 ^ 32 → u < 2 ^ 16 → HasRange o
+    → command_of (take 32 (padded 32 (command_bytes (record { reference = n; unit = u; order = o })) ++ t))
+    ≡ record { reference = n; unit = u; order = o }
+unfolding command_of
+command_back n u orders.Available t w a b h =
+    λ i. record { reference = four n a i; unit = two u b i; order = orders.Available }
+command_back n u orders.Online t w a b h =
+    λ i. record { reference = four n a i; unit = two u b i; order = orders.Online }
+command_back n u orders.SetUnit t w a b h =
+    λ i. record { reference = four n a i; unit = two u b i; order = orders.SetUnit }
+command_back n u (orders.Move moves.Access count block) t w a b h = λ i. record {
+  reference = four n a i;
+  unit = two u b i;
+  order = orders.Move moves.Access (four count h.0 i) (four block h.1 i);
+}
+command_back n u (orders.Move moves.Erase count block) t w a b h = λ i. record {
+  reference = four n a i;
+  unit = two u b i;
+  order = orders.Move moves.Erase (four count h.0 i) (four block h.1 i);
+}
+command_back n u (orders.Move moves.Compare count block) t w a b h = λ i. record {
+  reference = four n a i;
+  unit = two u b i;
+  order = orders.Move moves.Compare (four count h.0 i) (four block h.1 i);
+}
+command_back n u (orders.Move moves.Read count block) t w a b h = λ i. record {
+  reference = four n a i;
+  unit = two u b i;
+  order = orders.Move moves.Read (four count h.0 i) (four block h.1 i);
+}
+command_back n u (orders.Move moves.Write count block) t w a b h = λ i. record {
+  reference = four n a i;
+  unit = two u b i;
+  order = orders.Move moves.Write (four count h.0 i) (four block h.1 i);
+}
+command_back n u o t w a b h = absurd (false≢true w)
+
+-- what bytes say that have a command, a connection and two numbers at their places
+record_back : (via : Connection) (c : Command) (d p : ℕ) (b : List ℕ) → command_of (take 32 b) ≡ c
+    → connection_in (slice_index b 40) ≡ via → num b 32 4 ≡ d → num b 36 4 ≡ p
+    → waiting_in b
+    ≡ record { connection = via; command = c; weight = order_weight c.order; done = d; good = d; passed = p }
+record_back via c d p b e v f g = λ i.
+    record { connection = v i; command = e i; weight = order_weight (e i).order; done = f i; good = f i; passed = g i }
+
+abbrev waiter : Connection → ℕ → ℕ → Order → ℕ → ℕ → Record
+waiter via n u o d p = record {
+  connection = via;
+  command = record { reference = n; unit = u; order = o };
+  weight = order_weight o;
+  done = d;
+  good = d;
+  passed = p;
+}
+
+abbrev command : ℕ → ℕ → Order → Command
+command n u o = record { reference = n; unit = u; order = o }
+
+waiter_back : (via : Connection) (n u : ℕ) (o : Order) (d p : ℕ) (t : List ℕ)
+    → (is_sequential o || is_move o) ≡ true → n < 2 ^ 32 → u < 2 ^ 16 → HasRange o → d < 2 ^ 32 → p < 2 ^ 32
+    → waiting_in (take 41 (waiting_bytes (waiter via n u o d p) ++ t)) ≡ waiter via n u o d p
+waiter_back via n u orders.Available d p t w a b h f g =
+    record_back via (command n u orders.Available) d p (take 41 (waiting_bytes (waiter via n u orders.Available d p) ++ t))
+    (command_back n u orders.Available [] w a b h) (connection_back via) (four d f) (four p g)
+waiter_back via n u orders.Online d p t w a b h f g =
+    record_back via (command n u orders.Online) d p (take 41 (waiting_bytes (waiter via n u orders.Online d p) ++ t))
+    (command_back n u orders.Online [] w a b h) (connection_back via) (four d f) (four p g)
+waiter_back via n u orders.SetUnit d p t w a b h f g =
+    record_back via (command n u orders.SetUnit) d p (take 41 (waiting_bytes (waiter via n u orders.SetUnit d p) ++ t))
+    (command_back n u orders.SetUnit [] w a b h) (connection_back via) (four d f) (four p g)
+waiter_back via n u (orders.Move moves.Access count block) d p t w a b h f g =
+    let o = orders.Move moves.Access count block in
+    record_back via (command n u o) d p (take 41 (waiting_bytes (waiter via n u o d p) ++ t))
+    (command_back n u o [] w a b h) (connection_back via) (four d f) (four p g)
+waiter_back via n u (orders.Move moves.Erase count block) d p t w a b h f g =
+    let o = orders.Move moves.Erase count block in
+    record_back via (command n u o) d p (take 41 (waiting_bytes (waiter via n u o d p) ++ t))
+    (command_back n u o [] w a b h) (connection_back via) (four d f) (four p g)
+waiter_back via n u (orders.Move moves.Compare count block) d p t w a b h f g =
+    let o = orders.Move moves.Compare count block in
+    record_back via (command n u o) d p (take 41 (waiting_bytes (waiter via n u o d p) ++ t))
+    (command_back n u o [] w a b h) (connection_back via) (four d f) (four p g)
+waiter_back via n u (orders.Move moves.Read count block) d p t w a b h f g =
+    let o = orders.Move moves.Read count block in
+    record_back via (command n u o) d p (take 41 (waiting_bytes (waiter via n u o d p) ++ t))
+    (command_back n u o [] w a b h) (connection_back via) (four d f) (four p g)
+waiter_back via n u (orders.Move moves.Write count block) d p t w a b h f g =
+    let o = orders.Move moves.Write count block in
+    record_back via (command n u o) d p (take 41 (waiting_bytes (waiter via n u o d p) ++ t))
+    (command_back n u o [] w a b h) (connection_back via) (four d f) (four p g)
+waiter_back via n u o d p t w a b h f g = absurd (false≢true w)
+
+waiter_rest : (via : Connection) (n u : ℕ) (o : Order) (d p : ℕ) (t : List ℕ)
+    → (is_sequential o || is_move o) ≡ true → drop 41 (waiting_bytes (waiter via n u o d p) ++ t) ≡ t
+waiter_rest via n u orders.Available d p t w = refl
+waiter_rest via n u orders.Online d p t w = refl
+waiter_rest via n u orders.SetUnit d p t w = refl
+waiter_rest via n u (orders.Move kind count block) d p t w = refl
+waiter_rest via n u o d p t w = absurd (false≢true w)
+
+-- ---- an end
+
+abbrev end : ℕ → ℕ → ℕ → ℕ → EndBody → End
+end n u code status body = record { reference = n; unit = u; code = code; status = status; body = body }
+
+end_back : (n u code status : ℕ) (body : EndBody) (t : List ℕ) → IsOfKind (end n u code status body)
+    → HasEndRange (end n u code status body)
+    → end_in (take 48 (end_cell (end n u code status body) ++ t)) ≡ end n u code status body
+end_back n u code status bodies.Bare t k h =
+    ap (λ o. end_with o (take 48 (end_cell (end n u code status bodies.Bare) ++ t))) k ∙ λ i. record {
+      reference = four n h.0 i;
+      unit = two u h.1 i;
+      code = code;
+      status = two status h.2 i;
+      body = bodies.Bare;
+    }
+end_back n u code status (bodies.Abort other) t k h =
+    ap (λ o. end_with o (take 48 (end_cell (end n u code status (bodies.Abort other)) ++ t))) k ∙ λ i. record {
+      reference = four n h.0 i;
+      unit = two u h.1 i;
+      code = code;
+      status = two status h.2 i;
+      body = bodies.Abort (four other h.3 i);
+    }
+end_back n u code status (bodies.Status other figure) t k h =
+    ap (λ o. end_with o (take 48 (end_cell (end n u code status (bodies.Status other figure)) ++ t))) k ∙ λ i. record {
+      reference = four n h.0 i;
+      unit = two u h.1 i;
+      code = code;
+      status = two status h.2 i;
+      body = bodies.Status (four other h.3.0 i) (four figure h.3.1 i);
+    }
+end_back n u code status (bodies.UnitStatus id media track group cylinder) t k h =
+    ap (λ o. end_with o (take 48 (end_cell (end n u code status (bodies.UnitStatus id media track group cylinder)) ++ t))) k ∙ λ i. record {
+      reference = four n h.0 i;
+      unit = two u h.1 i;
+      code = code;
+      status = two status h.2 i;
+      body = bodies.UnitStatus (eight id h.3.0 i) (four media h.3.1 i) (two track h.3.2 i) (two group h.3.3 i)
+          (two cylinder h.3.4 i);
+    }
+end_back n u code status (bodies.Controller timeout id) t k h =
+    ap (λ o. end_with o (take 48 (end_cell (end n u code status (bodies.Controller timeout id)) ++ t))) k ∙ λ i. record {
+      reference = four n h.0 i;
+      unit = two u h.1 i;
+      code = code;
+      status = two status h.2 i;
+      body = bodies.Controller (two timeout h.3.0 i) (eight id h.3.1 i);
+    }
+end_back n u code status (bodies.Online id media size serial) t k h =
+    ap (λ o. end_with o (take 48 (end_cell (end n u code status (bodies.Online id media size serial)) ++ t))) k ∙ λ i. record {
+      reference = four n h.0 i;
+      unit = two u h.1 i;
+      code = code;
+      status = two status h.2 i;
+      body = bodies.Online (eight id h.3.0 i) (four media h.3.1 i) (four size h.3.2 i) (four serial h.3.3 i);
+    }
+end_back n u code status (bodies.Moved count) t k h =
+    ap (λ o. end_with o (take 48 (end_cell (end n u code status (bodies.Moved count)) ++ t))) k ∙ λ i. record {
+      reference = four n h.0 i;
+      unit = two u h.1 i;
+      code = code;
+      status = two status h.2 i;
+      body = bodies.Moved (four count h.3 i);
+    }
+
+end_rest : (n u code status : ℕ) (body : EndBody) (t : List ℕ)
+    → drop 48 (end_cell (end n u code status body) ++ t) ≡ t
+end_rest n u code status bodies.Bare t = refl
+end_rest n u code status (bodies.Abort other) t = refl
+end_rest n u code status (bodies.Status other figure) t = refl
+end_rest n u code status (bodies.UnitStatus id media track group cylinder) t = refl
+end_rest n u code status (bodies.Controller timeout id) t = refl
+end_rest n u code status (bodies.Online id media size serial) t = refl
+end_rest n u code status (bodies.Moved count) t = refl
+
+-- ---- each part
+
+pub drive_is_back : (d : Drive) → HasDriveRange d → IsBack drive_in drive_bytes 34 d
+drive_is_back d h = record { back = λ t. drive_back d t h; rest = λ t. refl; long = refl }
+
+waiter_long : (via : Connection) (n u : ℕ) (o : Order) (d p : ℕ) → (is_sequential o || is_move o) ≡ true
+    → length (waiting_bytes (waiter via n u o d p)) ≡ 41
+waiter_long via n u orders.Available d p w = refl
+waiter_long via n u orders.Online d p w = refl
+waiter_long via n u orders.SetUnit d p w = refl
+waiter_long via n u (orders.Move kind count block) d p w = refl
+waiter_long via n u o d p w = absurd (false≢true w)
+
+-- of a waiting command it is known how many steps it takes, and that all that it had were good
+pub waiting_is_back : (r : Record) → HasWaitingRange r → (is_sequential r.command.order || is_move r.command.order) ≡ true
+    → r.weight ≡ order_weight r.command.order → r.good ≡ r.done → IsBack waiting_in waiting_bytes 41 r
+waiting_is_back r h w weight good =
+    let c = r.command in
+    subst (IsBack waiting_in waiting_bytes 41)
+    (λ i. record {
+      connection = r.connection;
+      command = c;
+      weight = sym weight i;
+      done = r.done;
+      good = sym good i;
+      passed = r.passed;
+    })
+    (record {
+      back = λ t. waiter_back r.connection c.reference c.unit c.order r.done r.passed t w h.command.0 h.command.1
+          h.command.2 h.done h.passed;
+      rest = λ t. waiter_rest r.connection c.reference c.unit c.order r.done r.passed t w;
+      long = waiter_long r.connection c.reference c.unit c.order r.done r.passed w;
+    })
+
+end_long : (n u code status : ℕ) (body : EndBody) → length (end_cell (end n u code status body)) ≡ 48
+end_long n u code status bodies.Bare = refl
+end_long n u code status body = refl
+
+pub end_is_back : (e : End) → IsOfKind e → HasEndRange e → IsBack (λ b. end_in b) end_cell 48 e
+end_is_back e k h = record {
+  back = λ t. end_back e.reference e.unit e.code e.status e.body t k h;
+  rest = λ t. end_rest e.reference e.unit e.code e.status e.body t;
+  long = end_long e.reference e.unit e.code e.status e.body;
+}
+
+pub begun_back : (begun : Option Name) → name_in (begun_connection begun) (begun_reference begun) ≡ begun
+begun_back None = refl
+begun_back (Some name) = elim name.connection as (λ via.
+    name_in (connection_byte via) name.reference ≡ Some (record { connection = via; reference = name.reference }))
+    [ First ↦ refl | Second ↦ refl ]
