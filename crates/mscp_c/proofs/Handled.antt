@@ -91,6 +91,14 @@ follows_same : (c : Settings) (policy : Policy) (so_far : List Call) (h h' : Han
 follows_same c policy so_far h h' f e = subst (Follows c policy (so_far ++ [])) (sym e)
     (subst (λ xs. Follows c policy xs h) (sym (append-nil so_far)) f)
 
+-- the handle is another one, whose memory holds the same
+follows_elsewhere : (c : Settings) (policy : Policy) (so_far : List Call) (h h' : Handle) → Follows c policy so_far h
+    → h'.held ≡ h.held → Follows c policy (so_far ++ []) h'
+follows_elsewhere c policy so_far h h' f e = subst (λ xs. Follows c policy xs h') (sym (append-nil so_far)) (record {
+  picker = ap (λ (x : Held). x.picker) e ∙ f.picker;
+  called = subst (λ (x : Held). AnsweredCalls (PolicyPicks policy) (fresh c policy) so_far x) (sym e) f.called;
+})
+
 -- ---- a call on a handle
 
 -- a number that is none is refused, and nothing is told
@@ -306,6 +314,8 @@ goes c policy law valid so_far h h' (made.Online unit answer) f r =
       tells = (refl, r.0 ∙ ap (λ (ds : List Drive). pos (flag (is_online_in ds unit))) k.drives);
       follows = follows_same c policy so_far h h' f r.1;
     }
+goes c policy law valid so_far h h' (made.Resume bytes) f r =
+    record { next = []; tells = refl; follows = follows_elsewhere c policy so_far h h' f r.1 }
 
 -- ---- all calls
 

@@ -1,5 +1,5 @@
 -- What somebody calls from C who holds a handle on a controller, what is told, and what is promised of it.
-use Rattle.std.specs.Prelude.{◌≡◌, ℕ, ℤ, pos, List, [], ◌∷◌, ◌++◌, length, map, Option, MatchOption, Result}
+use Rattle.std.specs.Prelude.{◌≡◌, ℕ, ℤ, pos, List, [], ◌∷◌, ◌++◌, length, map, Option, MatchOption, Result, Ok}
 use Rattle.arrayvec.specs.ArrayVec.{ArrayVec}
 use Rattle.mscp_queue.specs.Names.{name_on}
 use Rattle.mscp_queue.specs.declared.name.Connection.{Connection}
@@ -36,6 +36,7 @@ use Rattle.mscp_c.specs.declared.outs.FigureOut.{FigureOut}
 use Rattle.mscp_c.specs.declared.outs.HolderOut.{HolderOut}
 use Rattle.mscp_c.specs.Given.{connection_given}
 use Rattle.mscp_c.specs.Told.{TakeTold, begin_code, block_told, figure_in, figures_in, figures_told, flag, holders_in, holders_told, report_code, report_told, send_code, sent_told, take_code, upcoming_told}
+use Rattle.mscp_c.specs.Saving.{restored_by}
 use Rattle.mscp_c.specs.Served.{TellsBegin, TellsFinish, TellsStep, finish_code, finish_told}
 
 -- ---- calls
@@ -63,6 +64,8 @@ pub data HandleCall : Type 0 where
   Untaken : ℕ → ℤ → HandleCall
   -- the number of a unit
   Online : ℕ → ℤ → HandleCall
+  -- from here on a handle on other memory goes on, for which the controller was restored from these bytes
+  Resume : List ℕ → HandleCall
 
 -- a number that is no connection, or no status of a block, is refused with this status, and nothing changes
 abbrev pub Refuses : {Out : Type 0} → ℤ → Handle → Out → ℤ → Handle → Out → Type 0
@@ -126,6 +129,7 @@ AnswersHandle old (Waiting number answer) new =
 AnswersHandle old (Untaken number answer) new =
     AnswersOf number (λ via. length (of via old.held.untaken)) answer × (new ≡ old)
 AnswersHandle old (Online unit answer) new = (answer ≡ pos (flag (is_online_in old.held.drives unit))) × (new ≡ old)
+AnswersHandle old (Resume bytes) new = (restored_by bytes ≡ Ok old.held) × (new.held ≡ old.held)
 
 -- the same of calls, one after the other
 abbrev pub AnsweredByHandle : Handle → List HandleCall → Handle → Type 0
@@ -207,6 +211,7 @@ Tells c so_far (Untaken number answer) next =
     (next ≡ []) × AnswersOf number (λ via. length (untaken c via (history so_far))) answer
 Tells c so_far (Online unit answer) next =
     (next ≡ []) × (answer ≡ pos (flag (is_online_in (map (drive_now c (history so_far)) c.units) unit)))
+Tells c so_far (Resume bytes) next = next ≡ []
 
 -- the same of calls, one after the other
 abbrev pub TellsAll : Settings → List Call → List HandleCall → List Call → Type 0

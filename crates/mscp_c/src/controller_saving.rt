@@ -1,7 +1,10 @@
 // A controller as bytes, and back.
 
-ghost use Rattle.std.specs.Prelude.{◌≡◌, true, false};
-ghost use Rattle.mscp_memory.specs.ControllerHandles.{is_made};
+ghost use Rattle.std.specs.Prelude.{◌≡◌, true, false, Ok};
+ghost use Rattle.mscp_memory.specs.ControllerHandles.{is_made, is_room};
+ghost use Rattle.mscp_memory.specs.declared.controller.handle.Handle.{Handle};
+ghost use Rattle.mscp_c.specs.HandleCalls as calls;
+ghost use Rattle.mscp_c.specs.HandleCalls.{AnswersHandle};
 ghost use Rattle.mscp_c.specs.Saving.{length_after, policy_named, policy_number, restored_by, restores, room_after, save_code, saved_by};
 
 use crate::saving::tell_saved;
@@ -36,6 +39,7 @@ pub extern "C" fn mscp_save_at(handle: &mut Handle, room: &mut [u8], length: &mu
     ensures told { is_made handle.old ≡ true → room.new ≡ room_after (saved_by handle.old.held) room.old }
     ensures count { is_made handle.old ≡ true
         → length.new ≡ length_after (saved_by handle.old.held) room.old length.old }
+    ensures back { is_made handle.old ≡ true → restored_by (saved_by handle.old.held) ≡ Ok handle.old.held }
     ensures same { handle.new ≡ handle.old }
     ensures unmade { is_made handle.old ≡ false
         → (result ≡ NOT_MADE) × (room.new ≡ room.old) × (length.new ≡ length.old) }
@@ -71,7 +75,9 @@ fn restored_by(bytes: &[u8]) -> Result<Controller<Policy>, RestoreFault>
 /// The controller that bytes say is in the room that the handle has.
 #[unsafe(no_mangle)]
 pub extern "C" fn mscp_restore_at(handle: &mut Handle, bytes: &[u8]) -> i32
-    ensures { (result, handle.new) ≡ restores handle.old bytes.now }
+    ensures value { (result, handle.new) ≡ restores handle.old bytes.now }
+    ensures call { (from : Handle) → restored_by bytes.now ≡ Ok from.held → is_room handle.old ≡ true
+        → (result ≡ DONE) × AnswersHandle from (calls.Resume bytes.now) handle.new }
 {
     if let Some(fault) = room_fault(handle) {
         return room_code(fault);

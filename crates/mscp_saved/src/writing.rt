@@ -1,6 +1,6 @@
 // A controller to bytes.
 
-ghost use Rattle.std.specs.Prelude.{◌≡◌, ◌+◌, ◌*◌, ◌≤◌, ◌<◌, ◌^◌, ◌++◌, [], flat_map, length, All, IfSome, slice_index_or};
+ghost use Rattle.std.specs.Prelude.{◌≡◌, ◌+◌, ◌*◌, ◌≤◌, ◌<◌, ◌^◌, ◌++◌, [], flat_map, length, All, IfSome, slice_index_or, Ok};
 ghost use Rattle.arrayvec.specs.ArrayVec.{array_vec_len};
 ghost use Rattle.mscp_packet.specs.Commands.{IsValidOrder};
 ghost use Rattle.mscp_packet.specs.Ends.{HasBodyRange, HasEndRange};
@@ -8,6 +8,7 @@ ghost use Rattle.mscp_queue.specs.declared.name.Connection.TheVariants.{First, S
 ghost use Rattle.mscp_control.specs.Both.{of};
 ghost use Rattle.mscp_control.specs.Restored.{IsSound};
 ghost use Rattle.mscp_saved.specs.Ranges.{HasDriveRange, HasLimitRange, HasRange, HasUnitRange, HasWaitingRange};
+ghost use Rattle.mscp_saved.specs.Restored.{restored};
 ghost use Rattle.mscp_saved.specs.Saved.{begun_bytes, connection_byte, counts_bytes, drive_bytes, end_cell, flag_byte, frame_bytes, head_bytes, identifiers_bytes, limits_bytes, saved_bytes, settings_bytes, sizes_bytes, waiting_bytes};
 
 pub use crate::fields::ROOM;
@@ -298,9 +299,8 @@ fn put_ends(out: &mut ArrayVec<u8, ROOM>, ends: &[End])
     }
 }
 
-/// All that callers see of a controller, as bytes, at most `ROOM`. The picker is told by a number, which is the caller's.
-/// What is the same to callers has the same bytes.
-pub fn save<K: Picker>(controller: &Controller<K>, picker: u8) -> ArrayVec<u8, ROOM>
+/// All that callers see of a controller, as bytes.
+fn write_all<K: Picker>(controller: &Controller<K>, picker: u8) -> ArrayVec<u8, ROOM>
     ensures bytes { result.items ≡ saved_bytes picker controller.now }
     ensures range { HasRange controller.now }
     ensures sound { IsSound controller.now }
@@ -313,4 +313,13 @@ pub fn save<K: Picker>(controller: &Controller<K>, picker: u8) -> ArrayVec<u8, R
     put_ends(&mut out, controller.ends(Connection::First));
     put_ends(&mut out, controller.ends(Connection::Second));
     out
+}
+
+/// All that callers see of a controller, as bytes, at most `ROOM`. The picker is told by a number, which is the caller's.
+/// What is the same to callers has the same bytes, and `restore` makes the same of them again.
+pub fn save<K: Picker>(controller: &Controller<K>, picker: u8) -> ArrayVec<u8, ROOM>
+    ensures bytes { result.items ≡ saved_bytes picker controller.now }
+    ensures back { restored picker controller.now.picker result.items ≡ Ok controller.now }
+{
+    write_all(controller, picker)
 }

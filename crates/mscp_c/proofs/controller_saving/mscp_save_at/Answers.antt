@@ -1,11 +1,41 @@
-use Rattle.std.proofs.Common.{◌≡◌, ◌∙◌, ℕ, List, ap}
+use Rattle.std.proofs.Common.{◌≡◌, ◌∙◌, ℕ, nat_eq, List, Ok, ap, refl, subst, sym}
+use Rattle.std.specs.Prelude.{if◌then◌else◌}
 use Rattle.mscp_memory.specs.declared.policy.Policy.{Policy}
+use Rattle.mscp_memory.specs.declared.policy.Policy.TheVariants.{Oldest, Sweep}
 use Rattle.mscp_memory.specs.ControllerRoom.{Held}
 use Rattle.mscp_memory.specs.ControllerHandles.{with_held}
 use Rattle.mscp_memory.specs.declared.controller.handle.Handle.{Handle}
 use Rattle.mscp_saved.specs.Saved.{saved_bytes}
-use Rattle.mscp_c.specs.Saving.{policy_number, room_after, saved_by}
+use Rattle.mscp_saved.specs.Restored.{restored}
+use Rattle.mscp_c.specs.Saving.{policy_named, policy_number, restored_by, room_after, saved_by}
 use Rattle.mscp_c.proofs.controller_saving.mscp_save_at.Goals as goal
+
+-- the policy that a saved controller names is its own
+number_back : (policy : Policy) → (if nat_eq (policy_number policy) 1 then Sweep else Oldest) ≡ policy
+number_back Oldest = refl
+number_back Sweep = refl
+
+named_back : (h : Held) → policy_named (saved_by h) ≡ h.picker
+named_back h = number_back h.picker
+
+-- so it is restored as it was
+all_back : (h : Held) (n : ℕ) (b : List ℕ) → n ≡ policy_number h.picker → b ≡ saved_bytes n h
+    → restored n h.picker b ≡ Ok h → restored_by (saved_by h) ≡ Ok h
+all_back h n b e f r =
+    let own = saved_by h in
+    ap (λ (p : Policy). restored (policy_number p) p own) (named_back h)
+    ∙ (sym (ap (λ (k : ℕ). restored k h.picker own) e)
+    ∙ (sym (ap (restored n h.picker) (f ∙ ap (λ (k : ℕ). saved_bytes k h) e)) ∙ r))
+
+pub returns-clause-back : goal.returns-clause-back
+returns-clause-back c made =
+    let own = c.lend-controller.result.now in
+    let held : own ≡ c.args.handle.now.held
+    = c.lend-controller.ensures.value ∙ ap (λ (h : Handle). h.held) c.is_made.ensures.same in
+    let number = c.policy_number-number.ensures ∙ ap policy_number c.picker.ensures in
+    subst (λ (h : Held). restored_by (saved_by h) ≡ Ok h) held
+    (all_back own c.policy_number-number.result c.save-bytes.result.items number c.save-bytes.ensures.bytes
+    c.save-bytes.ensures.back)
 
 pub returns-clause-told : goal.returns-clause-told
 returns-clause-told c made =
