@@ -99,12 +99,11 @@ enum mscp_status {
 
     MSCP_BAD_CONNECTION = -32, /* no enum mscp_connection */
 
-    /* mscp_restore and mscp_host_restore: the bytes .. */
-    MSCP_SAVED_LENGTH = -40,  /* aren't as many as they say */
-    MSCP_SAVED_MAGIC = -41,   /* don't begin with "MSCQ", or "MSCH" for a host */
-    MSCP_SAVED_VERSION = -42, /* are of a version of the format that isn't known */
-    MSCP_SAVED_UNITS = -43,   /* say units that no controller has */
-    MSCP_SAVED_LIMITS = -44,  /* limits that no controller has; of a host, credits that aren't 2 to 64 */
+    MSCP_SAVED_LENGTH = -40,  /* a restore: the bytes aren't as many as they say */
+    MSCP_SAVED_MAGIC = -41,   /* they don't begin with "MSCQ", or "MSCH" for a host */
+    MSCP_SAVED_VERSION = -42, /* they are of a version of the format that isn't known */
+    MSCP_SAVED_UNITS = -43,   /* they say units that no controller has */
+    MSCP_SAVED_LIMITS = -44,  /* limits that no controller has, or credits that no host has */
     MSCP_SAVED_HEADS = -45,   /* a head on no cylinder of its unit */
     MSCP_SAVED_CREDITS = -46, /* more commands and ends than the credits of a connection cover */
     MSCP_SAVED_COMMAND = -47, /* a waiting command that would not wait */
@@ -114,7 +113,7 @@ enum mscp_status {
     MSCP_SAVED_ENDS = -51,    /* an end without an endcode */
     MSCP_SAVED_BEGUN = -52,   /* that a command is begun which doesn't wait, or may not be served */
     MSCP_SAVED_PICKER = -53,  /* no enum mscp_picker */
-    MSCP_SAVED_FORM = -54     /* say what a controller, or a host, may hold, but not as it is saved */
+    MSCP_SAVED_FORM = -54     /* they say what may be, but not as it is saved */
 };
 
 /* By which connection a host talks to the controller. Each has its own credits, ends and reference numbers. */

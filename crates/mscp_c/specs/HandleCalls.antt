@@ -36,7 +36,7 @@ use Rattle.mscp_c.specs.declared.outs.FigureOut.{FigureOut}
 use Rattle.mscp_c.specs.declared.outs.HolderOut.{HolderOut}
 use Rattle.mscp_c.specs.Given.{connection_given}
 use Rattle.mscp_c.specs.Told.{TakeTold, begin_code, block_told, figure_in, figures_in, figures_told, flag, holders_in, holders_told, report_code, report_told, send_code, sent_told, take_code, upcoming_told}
-use Rattle.mscp_c.specs.Saving.{restored_by}
+use Rattle.mscp_c.specs.Restoring.{restored_by}
 use Rattle.mscp_c.specs.Served.{TellsBegin, TellsFinish, TellsStep, finish_code, finish_told}
 
 -- ---- calls

@@ -5,4 +5,6 @@ pub mod Served
 pub mod Statuses
 pub mod Told
 pub mod HandleCalls
+pub mod Restoring
 pub mod Saving
+pub mod HostSaving

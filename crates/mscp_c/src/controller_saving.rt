@@ -5,7 +5,8 @@ ghost use Rattle.mscp_memory.specs.ControllerHandles.{is_made, is_room};
 ghost use Rattle.mscp_memory.specs.declared.controller.handle.Handle.{Handle};
 ghost use Rattle.mscp_c.specs.HandleCalls as calls;
 ghost use Rattle.mscp_c.specs.HandleCalls.{AnswersHandle};
-ghost use Rattle.mscp_c.specs.Saving.{length_after, policy_named, policy_number, restored_by, restores, room_after, save_code, saved_by};
+ghost use Rattle.mscp_c.specs.Restoring.{policy_named, policy_number, restored_by, saved_by};
+ghost use Rattle.mscp_c.specs.Saving.{length_after, restores, room_after, save_code};
 
 use crate::saving::tell_saved;
 use crate::status::{DONE, NOT_MADE, restore_code, room_code};

@@ -4,7 +4,8 @@ ghost use Rattle.std.specs.Prelude.{◌≡◌, true, false, Ok};
 ghost use Rattle.mscp_host.specs.Restored.{restored};
 ghost use Rattle.mscp_host.specs.Saved.{saved_bytes};
 ghost use Rattle.mscp_memory.specs.HostHandles.{is_made};
-ghost use Rattle.mscp_c.specs.Saving.{host_restores, length_after, room_after, save_code};
+ghost use Rattle.mscp_c.specs.Saving.{length_after, room_after, save_code};
+ghost use Rattle.mscp_c.specs.HostSaving.{restores};
 
 use crate::saving::tell_saved;
 use crate::status::{DONE, NOT_MADE, host_restore_code, room_code};
@@ -41,7 +42,7 @@ pub extern "C" fn mscp_host_save_at(handle: &mut Handle, room: &mut [u8], length
 /// The host that bytes say is in the room that the handle has.
 #[unsafe(no_mangle)]
 pub extern "C" fn mscp_host_restore_at(handle: &mut Handle, bytes: &[u8]) -> i32
-    ensures { (result, handle.new) ≡ host_restores handle.old bytes.now }
+    ensures { (result, handle.new) ≡ restores handle.old bytes.now }
 {
     if let Some(fault) = room_fault(handle) {
         return room_code(fault);

@@ -7,7 +7,8 @@ use Rattle.mscp_memory.specs.ControllerHandles.{with_held}
 use Rattle.mscp_memory.specs.declared.controller.handle.Handle.{Handle}
 use Rattle.mscp_saved.specs.Saved.{saved_bytes}
 use Rattle.mscp_saved.specs.Restored.{restored}
-use Rattle.mscp_c.specs.Saving.{policy_named, policy_number, restored_by, room_after, saved_by}
+use Rattle.mscp_c.specs.Restoring.{policy_named, policy_number, restored_by, saved_by}
+use Rattle.mscp_c.specs.Saving.{room_after}
 use Rattle.mscp_c.proofs.controller_saving.mscp_save_at.Goals as goal
 
 -- the policy that a saved controller names is its own

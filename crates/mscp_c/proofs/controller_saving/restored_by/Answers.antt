@@ -1,7 +1,7 @@
 use Rattle.std.proofs.Common.{◌∙◌, ℕ, ap}
 use Rattle.mscp_memory.specs.declared.policy.Policy.{Policy}
 use Rattle.mscp_saved.specs.Restored.{restored}
-use Rattle.mscp_c.specs.Saving.{policy_number}
+use Rattle.mscp_c.specs.Restoring.{policy_number}
 use Rattle.mscp_c.proofs.controller_saving.restored_by.Goals as goal
 
 pub returns : goal.returns
