@@ -123,7 +123,8 @@ waiter_back : (via : Connection) (n u : ℕ) (o : Order) (d p : ℕ) (t : List �
     → (is_sequential o || is_move o) ≡ true → n < 2 ^ 32 → u < 2 ^ 16 → HasRange o → d < 2 ^ 32 → p < 2 ^ 32
     → waiting_in (take 41 (waiting_bytes (waiter via n u o d p) ++ t)) ≡ waiter via n u o d p
 waiter_back via n u orders.Available d p t w a b h f g =
-    record_back via (command n u orders.Available) d p (take 41 (waiting_bytes (waiter via n u orders.Available d p) ++ t))
+    record_back via (command n u orders.Available) d p
+    (take 41 (waiting_bytes (waiter via n u orders.Available d p) ++ t))
     (command_back n u orders.Available [] w a b h) (connection_back via) (four d f) (four p g)
 waiter_back via n u orders.Online d p t w a b h f g =
     record_back via (command n u orders.Online) d p (take 41 (waiting_bytes (waiter via n u orders.Online d p) ++ t))
@@ -170,7 +171,8 @@ end_back : (n u code status : ℕ) (body : EndBody) (t : List ℕ) → IsOfKind 
     → HasEndRange (end n u code status body)
     → end_in (take 48 (end_cell (end n u code status body) ++ t)) ≡ end n u code status body
 end_back n u code status bodies.Bare t k h =
-    ap (λ o. end_with o (take 48 (end_cell (end n u code status bodies.Bare) ++ t))) k ∙ λ i. record {
+    ap (λ o. end_with o (take 48 (end_cell (end n u code status bodies.Bare) ++ t))) k
+    ∙ λ i. record {
       reference = four n h.0 i;
       unit = two u h.1 i;
       code = code;
@@ -178,7 +180,8 @@ end_back n u code status bodies.Bare t k h =
       body = bodies.Bare;
     }
 end_back n u code status (bodies.Abort other) t k h =
-    ap (λ o. end_with o (take 48 (end_cell (end n u code status (bodies.Abort other)) ++ t))) k ∙ λ i. record {
+    ap (λ o. end_with o (take 48 (end_cell (end n u code status (bodies.Abort other)) ++ t))) k
+    ∙ λ i. record {
       reference = four n h.0 i;
       unit = two u h.1 i;
       code = code;
@@ -186,7 +189,8 @@ end_back n u code status (bodies.Abort other) t k h =
       body = bodies.Abort (four other h.3 i);
     }
 end_back n u code status (bodies.Status other figure) t k h =
-    ap (λ o. end_with o (take 48 (end_cell (end n u code status (bodies.Status other figure)) ++ t))) k ∙ λ i. record {
+    ap (λ o. end_with o (take 48 (end_cell (end n u code status (bodies.Status other figure)) ++ t))) k
+    ∙ λ i. record {
       reference = four n h.0 i;
       unit = two u h.1 i;
       code = code;
@@ -194,7 +198,9 @@ end_back n u code status (bodies.Status other figure) t k h =
       body = bodies.Status (four other h.3.0 i) (four figure h.3.1 i);
     }
 end_back n u code status (bodies.UnitStatus id media track group cylinder) t k h =
-    ap (λ o. end_with o (take 48 (end_cell (end n u code status (bodies.UnitStatus id media track group cylinder)) ++ t))) k ∙ λ i. record {
+    ap (λ o. end_with o
+    (take 48 (end_cell (end n u code status (bodies.UnitStatus id media track group cylinder)) ++ t))) k
+    ∙ λ i. record {
       reference = four n h.0 i;
       unit = two u h.1 i;
       code = code;
@@ -203,7 +209,8 @@ end_back n u code status (bodies.UnitStatus id media track group cylinder) t k h
           (two cylinder h.3.4 i);
     }
 end_back n u code status (bodies.Controller timeout id) t k h =
-    ap (λ o. end_with o (take 48 (end_cell (end n u code status (bodies.Controller timeout id)) ++ t))) k ∙ λ i. record {
+    ap (λ o. end_with o (take 48 (end_cell (end n u code status (bodies.Controller timeout id)) ++ t))) k
+    ∙ λ i. record {
       reference = four n h.0 i;
       unit = two u h.1 i;
       code = code;
@@ -211,7 +218,8 @@ end_back n u code status (bodies.Controller timeout id) t k h =
       body = bodies.Controller (two timeout h.3.0 i) (eight id h.3.1 i);
     }
 end_back n u code status (bodies.Online id media size serial) t k h =
-    ap (λ o. end_with o (take 48 (end_cell (end n u code status (bodies.Online id media size serial)) ++ t))) k ∙ λ i. record {
+    ap (λ o. end_with o (take 48 (end_cell (end n u code status (bodies.Online id media size serial)) ++ t))) k
+    ∙ λ i. record {
       reference = four n h.0 i;
       unit = two u h.1 i;
       code = code;
@@ -219,7 +227,8 @@ end_back n u code status (bodies.Online id media size serial) t k h =
       body = bodies.Online (eight id h.3.0 i) (four media h.3.1 i) (four size h.3.2 i) (four serial h.3.3 i);
     }
 end_back n u code status (bodies.Moved count) t k h =
-    ap (λ o. end_with o (take 48 (end_cell (end n u code status (bodies.Moved count)) ++ t))) k ∙ λ i. record {
+    ap (λ o. end_with o (take 48 (end_cell (end n u code status (bodies.Moved count)) ++ t))) k
+    ∙ λ i. record {
       reference = four n h.0 i;
       unit = two u h.1 i;
       code = code;
@@ -251,8 +260,9 @@ waiter_long via n u (orders.Move kind count block) d p w = refl
 waiter_long via n u o d p w = absurd (false≢true w)
 
 -- of a waiting command it is known how many steps it takes, and that all that it had were good
-pub waiting_is_back : (r : Record) → HasWaitingRange r → (is_sequential r.command.order || is_move r.command.order) ≡ true
-    → r.weight ≡ order_weight r.command.order → r.good ≡ r.done → IsBack waiting_in waiting_bytes 41 r
+pub waiting_is_back : (r : Record) → HasWaitingRange r
+    → (is_sequential r.command.order || is_move r.command.order) ≡ true → r.weight ≡ order_weight r.command.order
+    → r.good ≡ r.done → IsBack waiting_in waiting_bytes 41 r
 waiting_is_back r h w weight good =
     let c = r.command in
     subst (IsBack waiting_in waiting_bytes 41)

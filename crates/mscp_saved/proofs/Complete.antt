@@ -169,7 +169,8 @@ passes_all h s =
       apart = apart_passes rs q.apart;
       unfinished = and_from (list_all (λ (r : Record). nat_lt r.done r.weight) rs)
           (nat_le (length (filter is_in_service rs)) 1)
-          (each_passes (λ (r : Record). nat_lt r.done r.weight) (λ r. r.done < r.weight) (λ r. lt-ltb r.done r.weight) rs
+          (each_passes (λ (r : Record). nat_lt r.done r.weight) (λ r. r.done < r.weight)
+          (λ r. lt-ltb r.done r.weight) rs
           (recursion_from_All (λ (r : Record). r.done < r.weight) rs left))
           (le-leb (length (filter is_in_service rs)) 1 q.one);
       passed = passed_pass c.budget rs (recursion_from_All (λ (r : Record). r.passed ≤ c.budget) rs few) s.order;

@@ -17,7 +17,8 @@ framed_of b h =
     let p = and_parts (nat_le 48 (length b)) _ h in
     let q = and_parts (nat_eq (num b 8 4) (length b)) _ p.1 in
     let r = and_parts (nat_eq (told_length b) (length b)) _ q.1 in
-    let s = and_parts (nat_le (drive_count b) 16) (nat_le (waiting_count b + (first_count b + second_count b)) 64) r.1 in
+    let s = and_parts (nat_le (drive_count b) 16) (nat_le (waiting_count b + (first_count b + second_count b)) 64)
+    r.1 in
     record {
       head = leb-true 48 (length b) p.0;
       length_is = eqb-true (told_length b) (length b) r.0;

@@ -198,8 +198,9 @@ still_of budget rs begun e name is = at (position (has_name name) rs) refl
 -- ---- all
 
 pub sound_of : {K : Type 0} (c : Settings) (ds : List Drive) (rs : List Record) (first second : List End)
-    (begun : Option Name) (picker : K) → IsValid c → units_of ds ≡ c.units → parts_fault c ds rs first second begun ≡ None
-    → All (λ r. IsWaitable c.longest c.units r.command) rs → All IsReadWaiting rs → All IsShapedIf first
+    (begun : Option Name) (picker : K) → IsValid c → units_of ds ≡ c.units
+    → parts_fault c ds rs first second begun ≡ None → All (λ r. IsWaitable c.longest c.units r.command) rs
+    → All IsReadWaiting rs → All IsShapedIf first
     → All IsShapedIf second → IsSound (made_of c rs first second ds begun picker)
 sound_of c ds rs first second begun picker valid units none waitable read shaped shaped_second =
     let t = passes_of c ds rs first second begun none in

@@ -25,7 +25,8 @@ use Rattle.mscp_saved.specs.Saved.{head_size, magic, saved_bytes, saved_length, 
 abbrev pub told_length : List ℕ → ℕ
 told_length b = saved_length (drive_count b) (waiting_count b) (first_count b + second_count b)
 
--- there is a head, and as many bytes as it tells, which are those of its parts; and no more parts than any controller has
+-- there is a head, and as many bytes as it tells, which are those of its parts; and no more parts than a controller may
+-- have
 abbrev pub is_framed : List ℕ → Bool
 is_framed b =
     nat_le head_size (length b) && (nat_eq (num b 8 4) (length b) && (nat_eq (told_length b) (length b)
@@ -104,8 +105,8 @@ settings_fault c =
     if not (are_units c.units) then Some faults.Units else (
     if is_some (limit_fault c) then Some faults.Limits else None)
 
--- why a controller with these settings can't hold these drives, waiting commands and ends, and have begun this, the first
--- that holds
+-- why a controller with these settings can't hold these drives, waiting commands and ends, and have begun this, the
+-- first that holds
 abbrev pub parts_fault : Settings → List Drive → List Record → List End → List End → Option Name → Option RestoreFault
 parts_fault c ds rs first second begun =
     if not (are_on_units ds) then Some faults.Heads else (

@@ -54,9 +54,10 @@ fn count_taken(rt: &impl Abort, saved: &[u8]) -> usize {
 
 #[test]
 fn a_flipped_bit_does_no_harm(rt: HostRuntime) {
+    // Any numbers may stand for the controller's identifier and those of its unit: these are 192 bits.
     let fresh = save(&controller(&rt, 4, 2, 16), 7);
-    assert!(rt; count_taken(&rt, fresh.as_slice()) > 100);
-    assert!(rt; count_taken(&rt, small(&rt).as_slice()) > 200);
+    assert!(rt; count_taken(&rt, fresh.as_slice()) >= 192);
+    assert!(rt; count_taken(&rt, small(&rt).as_slice()) >= 192);
     let mixed = save(&mixed(&rt), 7);
-    assert!(rt; count_taken(&rt, mixed.as_slice()) > 300);
+    assert!(rt; count_taken(&rt, mixed.as_slice()) >= 192);
 }

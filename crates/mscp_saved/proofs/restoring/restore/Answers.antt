@@ -23,7 +23,8 @@ returns-in-Some-parts_fault g c =
     let b = c.args.bytes.now in
     let framed = sym c.frame_fault.ensures ∙ c.in_default.is in
     let made = sym c.in_ok-config.was ∙ c.settings_in.ensures in
-    let read = read_of c.args.bytes.now c.drives_in-drives.ensures.value c.as_slice.ensures.value made c.as_slice-2.ensures.value
+    let read = read_of c.args.bytes.now c.drives_in-drives.ensures.value c.as_slice.ensures.value made
+    c.as_slice-2.ensures.value
     c.all_waiting_in-waiting.ensures.value c.as_slice-3.ensures.value
     c.first_in-first.ensures.value c.as_slice-4.ensures.value
     c.second_in-second.ensures.value c.as_slice-5.ensures.value c.begun_in-begun.ensures in
@@ -34,7 +35,8 @@ returns-in-Some-parts_fault g c =
 pub restored-controller-requires : goal.restored-controller-requires
 restored-controller-requires g c =
     let made = sym c.in_ok-config.was ∙ c.settings_in.ensures in
-    let read = read_of c.args.bytes.now c.drives_in-drives.ensures.value c.as_slice.ensures.value made c.as_slice-2.ensures.value
+    let read = read_of c.args.bytes.now c.drives_in-drives.ensures.value c.as_slice.ensures.value made
+    c.as_slice-2.ensures.value
     c.all_waiting_in-waiting.ensures.value c.as_slice-3.ensures.value
     c.first_in-first.ensures.value c.as_slice-4.ensures.value
     c.second_in-second.ensures.value c.as_slice-5.ensures.value c.begun_in-begun.ensures in
