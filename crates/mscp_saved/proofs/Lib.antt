@@ -1,6 +1,5 @@
 pub mod Bytes
 pub mod Sizes
-pub mod Parts
 pub mod PartsRead
 pub mod Rising
 pub mod Framed

@@ -5,12 +5,12 @@ ghost use Rattle.mscp_saved.specs.Read.{all_waiting_in, drive_count, drives_in, 
 ghost use Rattle.mscp_saved.specs.Restored.{frame_fault, is_framed};
 
 use crate::fault::RestoreFault;
-use crate::fields::four_at;
 use crate::reading::{read_drives, read_ends, read_waiting};
 use crate::writing::{MAGIC, VERSION};
 use arrayvec::ArrayVec;
 use mscp_control::{Drive, Record};
 use mscp_packet::End;
+use mscp_packet::fields::four_at;
 
 /// Whether there is a head, and as many bytes as it tells, which are those of its parts; and no more parts than any
 /// controller has.

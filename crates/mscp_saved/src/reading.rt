@@ -8,10 +8,10 @@ ghost use Rattle.mscp_saved.specs.Read.{begun_in, connection_in, drive_in, end_i
 ghost use Rattle.mscp_saved.specs.Restored.{settings_fault, unless};
 ghost use Rattle.mscp_drive.specs.Shape.{shape};
 
-use crate::fields::{eight_at, four_at, two_at};
 use arrayvec::ArrayVec;
 use mscp_control::{Connection, Drive, Name, Record};
 use mscp_drive::{Head, Unit};
+use mscp_packet::fields::{eight_at, four_at, two_at};
 use mscp_packet::{Command, End, EndBody, Order, read_command, read_end};
 
 /// The bytes of the part at a place, where all parts have one size.

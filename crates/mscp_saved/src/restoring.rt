@@ -7,13 +7,13 @@ ghost use Rattle.mscp_saved.specs.Restored.{form_fault, restored, settings_fault
 
 use crate::checking::parts_fault;
 use crate::fault::RestoreFault;
-use crate::fields::{eight_at, four_at, two_at};
 use crate::framing::{all_waiting_in, drives_in, first_in, frame_fault, second_in};
 use crate::reading::begun_in;
 use crate::writing::save;
 use arrayvec::ArrayVec;
 use mscp_control::{Config, Controller, Drive, Picker};
 use mscp_drive::{Unit, Units};
+use mscp_packet::fields::{eight_at, four_at, two_at};
 
 /// The units of drives.
 fn units_of(drives: &[Drive]) -> ArrayVec<Unit, 16>

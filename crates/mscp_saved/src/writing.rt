@@ -12,10 +12,11 @@ ghost use Rattle.mscp_saved.specs.Restored.{restored};
 ghost use Rattle.mscp_saved.specs.Saved.{begun_bytes, connection_byte, counts_bytes, drive_bytes, end_cell, flag_byte, frame_bytes, head_bytes, identifiers_bytes, limits_bytes, saved_bytes, settings_bytes, sizes_bytes, waiting_bytes};
 
 pub use crate::fields::ROOM;
-use crate::fields::{put_eight, put_four, put_one, put_padded, put_two};
+use crate::fields::{put_one, put_padded};
 use arrayvec::ArrayVec;
 use mscp_control::{Config, Connection, Controller, Drive, Name, Picker, Record};
 use mscp_drive::Unit;
+use mscp_packet::fields::{put_eight, put_four, put_two};
 use mscp_packet::{End, EndBody, write_command, write_end};
 
 /// "MSCQ", as a number.
