@@ -1,9 +1,11 @@
 // A controller from bytes.
 
-ghost use Rattle.std.specs.Prelude.{◌≡◌, ◌+◌, ◌*◌, ◌≤◌, IfNone, length};
+ghost use Rattle.std.specs.Prelude.{◌≡◌, ◌≤◌, IfOk, length};
 ghost use Rattle.mscp_queue.specs.Kept.{units_of};
+ghost use Rattle.mscp_control.specs.Restored.{IsSound};
 ghost use Rattle.mscp_saved.specs.Read.{settings_in};
 ghost use Rattle.mscp_saved.specs.Restored.{form_fault, restored, settings_fault, unless};
+ghost use Rattle.mscp_saved.specs.Saved.{saved_bytes};
 
 use crate::checking::parts_fault;
 use crate::fault::RestoreFault;
@@ -49,12 +51,14 @@ fn settings_in(b: &[u8], drives: &[Drive]) -> Result<Config, RestoreFault>
 /// Why the controller isn't saved as these bytes, with a picker of this number: the first fault, if there is one.
 fn form_fault<K: Picker>(number: u8, b: &[u8], controller: &Controller<K>) -> Option<RestoreFault>
     requires { 48 ≤ length b.now }
-    ensures { result ≡ form_fault number b.now controller.now }
+    ensures fault { result ≡ form_fault number b.now controller.now }
+    ensures sound { IsSound controller.now }
 {
+    let saved = save(controller, number);
     if b[30] != number {
         return Some(RestoreFault::Picker);
     }
-    if save(controller, number).as_slice() != b {
+    if saved.as_slice() != b {
         return Some(RestoreFault::Form);
     }
     None
@@ -68,7 +72,9 @@ pub fn restore<K: Picker + Drop>(
     number: u8,
     picker: K,
 ) -> Result<Controller<K>, RestoreFault>
-    ensures { result ≡ restored number picker bytes.now }
+    ensures value { result ≡ restored number picker bytes.now }
+    ensures sound { IfOk result (λ h. IsSound h) }
+    ensures same { IfOk result (λ h. saved_bytes number h ≡ bytes.now) }
 {
     if let Some(fault) = frame_fault(bytes) {
         return Err(fault);

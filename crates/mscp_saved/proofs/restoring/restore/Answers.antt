@@ -4,12 +4,13 @@ use Rattle.std.proofs.lemmas.Result.{err_from_is_err_and}
 use Rattle.mscp_control.specs.Restored.{IsSound, made_of}
 use Rattle.mscp_saved.specs.Read.{settings_in}
 use Rattle.mscp_saved.specs.Restored.{form_fault, settings_fault}
+use Rattle.mscp_saved.proofs.Faithful.{same_of}
 use Rattle.mscp_saved.proofs.Framed.{framed_of}
 use Rattle.mscp_saved.proofs.Outcomes.{comes, err_is, frame_none, held_is, parts_back, read_of, settings_good, sound_read}
 use Rattle.mscp_saved.proofs.restoring.restore.Goals as goal
 
-pub returns-in_err-config : goal.returns-in_err-config
-returns-in_err-config g c =
+pub returns-in_err-config-clause-value : goal.returns-in_err-config-clause-value
+returns-in_err-config-clause-value g c =
     let b = c.args.bytes.now in
     let p = err_from_is_err_and c.from_residual.result c.from_residual.ensures.1 in
     let framed = sym c.frame_fault.ensures ∙ c.in_default.is in
@@ -18,8 +19,8 @@ returns-in_err-config g c =
     p.1 ∙ (ap Err p.2 ∙ comes c.args.number c.args.picker b None (Some c.in_err-config.field-0.0) _ _ framed
     (sym (ap (λ d. settings_fault (settings_in b d)) ds) ∙ fault) refl refl)
 
-pub returns-in-Some-parts_fault : goal.returns-in-Some-parts_fault
-returns-in-Some-parts_fault g c =
+pub returns-in-Some-parts_fault-clause-value : goal.returns-in-Some-parts_fault-clause-value
+returns-in-Some-parts_fault-clause-value g c =
     let b = c.args.bytes.now in
     let framed = sym c.frame_fault.ensures ∙ c.in_default.is in
     let made = sym c.in_ok-config.was ∙ c.settings_in.ensures in
@@ -52,8 +53,8 @@ pub form_fault-requires : goal.form_fault-requires
 form_fault-requires g c =
     (framed_of c.args.bytes.now (frame_none c.args.bytes.now (sym c.frame_fault.ensures ∙ c.in_default.is))).head
 
-pub returns-in-Some-form_fault : goal.returns-in-Some-form_fault
-returns-in-Some-form_fault g c =
+pub returns-in-Some-form_fault-clause-value : goal.returns-in-Some-form_fault-clause-value
+returns-in-Some-form_fault-clause-value g c =
     let b = c.args.bytes.now in
     let framed = sym c.frame_fault.ensures ∙ c.in_default.is in
     let made = sym c.in_ok-config.was ∙ c.settings_in.ensures in
@@ -68,10 +69,10 @@ returns-in-Some-form_fault g c =
     (settings_good b c.drives_in-drives.ensures.value c.as_slice.ensures.value made)
     (parts_back read ∙ (sym c.parts_fault.ensures.fault ∙ c.in_default-parts_fault.is))
     (sym (ap (form_fault c.args.number b) (c.restored-controller.ensures ∙ held))
-    ∙ (sym c.form_fault.ensures ∙ c.in-Some-form_fault.is))
+    ∙ (sym c.form_fault.ensures.fault ∙ c.in-Some-form_fault.is))
 
-pub returns : goal.returns
-returns g c =
+pub returns-clause-value : goal.returns-clause-value
+returns-clause-value g c =
     let b = c.args.bytes.now in
     let framed = sym c.frame_fault.ensures ∙ c.in_default.is in
     let made = sym c.in_ok-config.was ∙ c.settings_in.ensures in
@@ -87,4 +88,9 @@ returns g c =
     (settings_good b c.drives_in-drives.ensures.value c.as_slice.ensures.value made)
     (parts_back read ∙ (sym c.parts_fault.ensures.fault ∙ c.in_default-parts_fault.is))
     (sym (ap (form_fault c.args.number b) (c.restored-controller.ensures ∙ held))
-    ∙ (sym c.form_fault.ensures ∙ c.in_default-form_fault.is))
+    ∙ (sym c.form_fault.ensures.fault ∙ c.in_default-form_fault.is))
+
+pub returns-clause-same : goal.returns-clause-same
+returns-clause-same g c =
+    (same_of c.args.number c.args.picker c.restored-controller.result c.args.bytes.now
+    (sym (returns-clause-value g c))).0
