@@ -27,8 +27,8 @@ length_after bytes room before = if fits bytes room then length bytes else befor
 
 -- ---- a restore
 
--- the status, and the handle after it: the first fault of the memory, that of the bytes, or the controller that they say
--- is in the room
+-- the status, and the handle after it: the first fault of the memory, that of the bytes, or the controller that they
+-- say is in the room
 abbrev pub placed_or : Handle → Result Held RestoreFault → ℤ × Handle
 placed_or h (Ok held) = (DONE, placed h held)
 placed_or h (Err fault) = (restore_code fault, h)

@@ -321,6 +321,7 @@ fn write_all<K: Picker>(controller: &Controller<K>, picker: u8) -> ArrayVec<u8, 
 pub fn save<K: Picker>(controller: &Controller<K>, picker: u8) -> ArrayVec<u8, ROOM>
     ensures bytes { result.items ≡ saved_bytes picker controller.now }
     ensures back { restored picker controller.now.picker result.items ≡ Ok controller.now }
+    ensures sound { IsSound controller.now }
 {
     write_all(controller, picker)
 }

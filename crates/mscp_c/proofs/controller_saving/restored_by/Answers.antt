@@ -8,5 +8,5 @@ pub returns : goal.returns
 returns c =
     let b = c.args.bytes.now in
     let policy = c.policy_named-policy.result in
-    c.restore.ensures ∙ (ap (λ (n : ℕ). restored n policy b) c.policy_number.ensures
+    c.restore.ensures.value ∙ (ap (λ (n : ℕ). restored n policy b) c.policy_number.ensures
     ∙ ap (λ (p : Policy). restored (policy_number p) p b) c.policy_named-policy.ensures)
