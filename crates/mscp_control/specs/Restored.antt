@@ -1,5 +1,5 @@
 -- What a controller can be made of again: what callers see of one that was.
-use Rattle.std.specs.Prelude.{◌≡◌, ℕ, ◌+◌, ◌≤◌, true, List, length, All, Option}
+use Rattle.std.specs.Prelude.{◌≡◌, ◌+◌, ◌≤◌, true, List, length, All, Option}
 use Rattle.mscp_packet.specs.declared.end.End.{End}
 use Rattle.mscp_packet.specs.Ends.{IsOfKind}
 use Rattle.mscp_queue.specs.declared.drive.Drive.{Drive}

@@ -7,7 +7,7 @@ use Rattle.std.proofs.lemmas.List.{get_or-take, length-append, length-map, lengt
 use Rattle.mscp_queue.specs.declared.name.Name.{Name}
 use Rattle.mscp_queue.specs.declared.why.Holder.{Holder}
 use Rattle.mscp_queue.specs.Names.{same_name}
-use Rattle.mscp_queue.specs.Records.{Record, has_name, record_at}
+use Rattle.mscp_queue.specs.Records.{has_name, record_at}
 use Rattle.mscp_queue.specs.Why as records
 use Rattle.mscp_queue.specs.Why.{is_nobody}
 use Rattle.mscp_queue.proofs.Lists.{every_kept, every_weaker, range_below}
