@@ -1,11 +1,9 @@
 // The parts of a saved controller from bytes.
 
-ghost use Rattle.std.specs.Prelude.{◌≡◌, ◌+◌, ◌*◌, ◌≤◌, drop, length, slice_index};
+ghost use Rattle.std.specs.Prelude.{◌≡◌, ◌+◌, ◌*◌, ◌≤◌, length};
 ghost use Rattle.mscp_packet.specs.Commands.{command_of};
-ghost use Rattle.mscp_queue.specs.Kept.{units_of};
 ghost use Rattle.mscp_queue.specs.Orders.{order_weight};
-ghost use Rattle.mscp_saved.specs.Read.{begun_in, connection_in, drive_in, end_in, no_end, part, parts_in, sized, unit_in, waiting_in};
-ghost use Rattle.mscp_saved.specs.Restored.{settings_fault, unless};
+ghost use Rattle.mscp_saved.specs.Read.{begun_in, connection_in, drive_in, end_in, part, parts_in, sized, unit_in, waiting_in};
 ghost use Rattle.mscp_drive.specs.Shape.{shape};
 
 use arrayvec::ArrayVec;

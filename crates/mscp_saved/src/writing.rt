@@ -2,7 +2,6 @@
 
 ghost use Rattle.std.specs.Prelude.{◌≡◌, ◌+◌, ◌*◌, ◌≤◌, ◌<◌, ◌^◌, ◌++◌, [], flat_map, length, All, IfSome, slice_index_or, Ok};
 ghost use Rattle.arrayvec.specs.ArrayVec.{array_vec_len};
-ghost use Rattle.mscp_packet.specs.Commands.{IsValidOrder};
 ghost use Rattle.mscp_packet.specs.Ends.{HasBodyRange, HasEndRange};
 ghost use Rattle.mscp_queue.specs.declared.name.Connection.TheVariants.{First, Second};
 ghost use Rattle.mscp_control.specs.Both.{of};
