@@ -299,10 +299,11 @@ fn put_ends(out: &mut ArrayVec<u8, ROOM>, ends: &[End])
     }
 }
 
-/// All that callers see of a controller, as bytes.
-fn write_all<K: Picker>(controller: &Controller<K>, picker: u8) -> ArrayVec<u8, ROOM>
+/// All that callers see of a controller, as bytes, at most `ROOM`. The picker is told by a number, which is the caller's.
+/// What is the same to callers has the same bytes, and `restore` makes the same of them again.
+pub fn save<K: Picker>(controller: &Controller<K>, picker: u8) -> ArrayVec<u8, ROOM>
     ensures bytes { result.items ≡ saved_bytes picker controller.now }
-    ensures range { HasRange controller.now }
+    ensures back { restored picker controller.now.picker result.items ≡ Ok controller.now }
     ensures sound { IsSound controller.now }
 {
     let drives = controller.drives();
@@ -313,14 +314,4 @@ fn write_all<K: Picker>(controller: &Controller<K>, picker: u8) -> ArrayVec<u8, 
     put_ends(&mut out, controller.ends(Connection::First));
     put_ends(&mut out, controller.ends(Connection::Second));
     out
-}
-
-/// All that callers see of a controller, as bytes, at most `ROOM`. The picker is told by a number, which is the caller's.
-/// What is the same to callers has the same bytes, and `restore` makes the same of them again.
-pub fn save<K: Picker>(controller: &Controller<K>, picker: u8) -> ArrayVec<u8, ROOM>
-    ensures bytes { result.items ≡ saved_bytes picker controller.now }
-    ensures back { restored picker controller.now.picker result.items ≡ Ok controller.now }
-    ensures sound { IsSound controller.now }
-{
-    write_all(controller, picker)
 }

@@ -1,10 +1,54 @@
-use Rattle.std.proofs.Common.{◌∙◌, ap}
+use Rattle.std.proofs.Common.{All, ◌≡◌, ◌∙◌, List, length, ap, subst, arith, rules}
+use Rattle.mscp_packet.specs.declared.end.End.{End}
+use Rattle.mscp_packet.specs.Ends.{HasEndRange}
+use Rattle.mscp_queue.specs.declared.drive.Drive.{Drive}
+use Rattle.mscp_saved.specs.Ranges.{HasDriveRange, HasRange}
 use Rattle.mscp_saved.specs.Restored.{restored}
+use Rattle.mscp_saved.specs.Saved.{saved_bytes}
 use Rattle.mscp_saved.proofs.Faithful.{back_of}
+use Rattle.mscp_saved.proofs.Sizes.{sizes_of}
 use Rattle.mscp_saved.proofs.writing.save.Goals as goal
+
+pub put_ends-requires : goal.put_ends-requires
+put_ends-requires g c =
+    let sizes = sizes_of c.drives-drives.ensures.sound in
+    omega (
+      arith,
+      sizes.drives,
+      sizes.parts,
+      c.put_head.ensures.len,
+      c.put_drives.ensures.len,
+      c.put_all_waiting.ensures.len,
+      ap (λ (ds : List Drive). length ds) c.drives-drives.ensures.value,
+      ap (λ (es : List End). length es) c.ends.ensures,
+    )
+
+pub put_ends-requires-2 : goal.put_ends-requires-2
+put_ends-requires-2 g c =
+    let sizes = sizes_of c.drives-drives.ensures.sound in
+    omega (
+      arith,
+      sizes.drives,
+      sizes.parts,
+      c.put_head.ensures.len,
+      c.put_drives.ensures.len,
+      c.put_all_waiting.ensures.len,
+      c.put_ends.ensures.len,
+      ap (λ (ds : List Drive). length ds) c.drives-drives.ensures.value,
+      ap (λ (es : List End). length es) c.ends.ensures,
+      ap (λ (es : List End). length es) c.ends-2.ensures,
+    )
 
 pub returns-clause-back : goal.returns-clause-back
 returns-clause-back g c =
     let h = c.args.controller.now in
-    ap (restored c.args.picker h.picker) c.write_all.ensures.bytes
-    ∙ back_of c.args.picker h c.write_all.ensures.sound c.write_all.ensures.range
+    let range : HasRange h = record {
+      limits = c.put_head.ensures.limits;
+      drives = subst (All HasDriveRange) c.drives-drives.ensures.value c.put_drives.ensures.range;
+      waiting = c.put_all_waiting.ensures.range;
+      first = subst (All HasEndRange) c.ends.ensures c.put_ends.ensures.range;
+      second = subst (All HasEndRange) c.ends-2.ensures c.put_ends-2.ensures.range;
+      begun = c.put_head.ensures.begun;
+    } in
+    let bytes : c.put_ends-2.new.out.items ≡ saved_bytes c.args.picker h = search rules in
+    ap (restored c.args.picker h.picker) bytes ∙ back_of c.args.picker h c.drives-drives.ensures.sound range
