@@ -5,6 +5,8 @@ mod Leading
 mod Marks
 mod Existing
 mod Standing
+mod Tallies
+mod Counted
 mod Reading
 mod Coming
 pub mod Exactly

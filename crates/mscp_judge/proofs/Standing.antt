@@ -81,7 +81,7 @@ goes c marks h due owed ahead s others more l e =
     }
 
 -- what is told first of it
-leads : (line due : List ℕ) (more : List Mark) (X : List Mark) → told_line line ++ more ≡ told due ++ X
+pub leads : (line due : List ℕ) (more : List Mark) (X : List Mark) → told_line line ++ more ≡ told due ++ X
     → line ++ 10 ∷ lead more ≡ due ++ lead X
 leads line due more X e =
     sym (append_assoc line (10 ∷ []) (lead more)) ∙ (sym (lead_told (line ++ 10 ∷ []) more)
@@ -90,7 +90,7 @@ leads line due more X e =
 -- ---- a line that tells
 
 -- with the line ahead
-pub ahead_of : (c : Settings) (marks : List Mark) (h : Holdings Named) (due : List ℕ) (owed : List Event)
+unfoldable pub ahead_of : (c : Settings) (marks : List Mark) (h : Holdings Named) (due : List ℕ) (owed : List Event)
     (ahead : List Mark) → Stood c marks h due owed [] → Stood c marks h due owed ahead
 ahead_of c marks h due owed ahead s = record {
   parts = s.parts;
@@ -104,7 +104,7 @@ ahead_of c marks h due owed ahead s = record {
 }
 
 -- the line was due
-pub told_on : (c : Settings) (marks : List Mark) (h : Holdings Named) (due : List ℕ) (owed : List Event)
+unfoldable pub told_on : (c : Settings) (marks : List Mark) (h : Holdings Named) (due : List ℕ) (owed : List Event)
     (line rest : List ℕ) → Stood c marks h due owed (told_line line) → due ≡ line ++ 10 ∷ rest
     → Stood c (marks ++ told_line line) h rest owed []
 told_on c marks h due owed line rest s e =
@@ -148,7 +148,7 @@ unasked c marks h line s g =
 -- ---- a step
 
 -- the moment of a step is right, and no other is, if it is the line's command that starts
-step_is : (c : Settings) (marks : List Mark) (h h' : Holdings Named) (k : Block) (owed : List Event) (line : List ℕ)
+pub step_is : (c : Settings) (marks : List Mark) (h h' : Holdings Named) (k : Block) (owed : List Event) (line : List ℕ)
     (entry : Entry) (s : Stood c marks h [] (events.Step k ∷ owed) [])
     → Answers (IsNamed (name_in (words line))) (with_picker h (name_in (words line))) (events.Step k) entry h'
     → (other : Entry) (X Y : List ℕ) → IsRight c (whole s.parts ++ s.now) (events.Step k) other
@@ -168,7 +168,7 @@ step_is c marks h h' k owed line (entries.Taken x y) s a other X Y r e = absurd 
 step_is c marks h h' k owed line (entries.Looked x) s a other X Y r e = absurd a
 
 -- what is said of an answer more
-said_more : (marks : List Mark) (P : List Mark) (now : Trace) (m : Moment) (owed : List Event)
+pub said_more : (marks : List Mark) (P : List Mark) (now : Trace) (m : Moment) (owed : List Event)
     → marks ++ told [] ≡ P ++ Asked (events_in now ++ (m.0 ∷ owed)) ∷ told (answers_in now)
     → marks ++ told (entry_lines m.1)
     ≡ P ++ Asked (events_in (now ++ m ∷ []) ++ owed) ∷ told (answers_in (now ++ m ∷ []))
@@ -185,7 +185,7 @@ said_more marks P now m owed e =
     ∙ ap (λ xs. P ++ Asked xs ∷ told (answers_in (now ++ m ∷ []))) es))
 
 -- a step is answered, at which the command starts that the line names, if it may
-pub step_on : (c : Settings) (marks : List Mark) (h h' : Holdings Named) (k : Block) (owed : List Event)
+unfoldable pub step_on : (c : Settings) (marks : List Mark) (h h' : Holdings Named) (k : Block) (owed : List Event)
     (line : List ℕ) (entry : Entry) → Stood c marks h [] (events.Step k ∷ owed) []
     → Answers (IsNamed (name_in (words line))) (with_picker h (name_in (words line))) (events.Step k) entry h'
     → Stood c marks h' (entry_lines entry) owed (told_line line)
@@ -232,10 +232,10 @@ parts_more : (parts : List Trace) (now next : Trace) (rest : List Trace)
     → parts ++ now ∷ (next ∷ rest) ≡ (parts ++ now ∷ []) ++ next ∷ rest
 parts_more parts now next rest = sym (append_assoc parts (now ∷ []) (next ∷ rest))
 
-whole_more : (parts : List Trace) (now : Trace) → whole (parts ++ now ∷ []) ≡ whole parts ++ now
+pub whole_more : (parts : List Trace) (now : Trace) → whole (parts ++ now ∷ []) ≡ whole parts ++ now
 whole_more parts now = whole_append parts (now ∷ []) ∙ ap (λ t. whole parts ++ t) (append-nil now)
 
-transcript_more : (marks : List Mark) (parts : List Trace) (now : Trace)
+pub transcript_more : (marks : List Mark) (parts : List Trace) (now : Trace)
     → marks ++ told [] ≡ transcript parts ++ Asked (events_in now ++ []) ∷ told (answers_in now)
     → marks ≡ transcript (parts ++ now ∷ [])
 transcript_more marks parts now e =
@@ -263,14 +263,14 @@ asks_next c marks h es s others more l e =
           ∙ (ap (λ (r : List Trace). s.parts ++ s.now ∷ r) q.2 ∙ parts_more s.parts s.now q.0 q.1))),
     )
 
-said_asked : (marks : List Mark) (parts : List Trace) (now : Trace) (es : List Event)
+pub said_asked : (marks : List Mark) (parts : List Trace) (now : Trace) (es : List Event)
     → marks ++ told [] ≡ transcript parts ++ Asked (events_in now ++ []) ∷ told (answers_in now)
     → (marks ++ Asked es ∷ []) ++ told [] ≡ transcript (parts ++ now ∷ []) ++ Asked es ∷ told []
 said_asked marks parts now es e = append-nil (marks ++ Asked es ∷ []) ∙ ap (λ ms. ms ++ Asked es ∷ [])
     (transcript_more marks parts now e)
 
 -- steps are asked for
-pub steps_on : (c : Settings) (marks : List Mark) (h : Holdings Named) (es : List Event) → Stood c marks h [] [] []
+unfoldable pub steps_on : (c : Settings) (marks : List Mark) (h : Holdings Named) (es : List Event) → Stood c marks h [] [] []
     → Stood c (marks ++ Asked es ∷ []) h [] es []
 steps_on c marks h es s = record {
   parts = s.parts ++ s.now ∷ [];
@@ -285,7 +285,7 @@ steps_on c marks h es s = record {
 }
 
 -- another event is asked for, which is answered at once
-pub event_on : (c : Settings) (marks : List Mark) (h h' : Holdings Named) (name : Named) (event : Event)
+unfoldable pub event_on : (c : Settings) (marks : List Mark) (h h' : Holdings Named) (name : Named) (event : Event)
     (entry : Entry) → is_step event ≡ false → Stood c marks h [] [] []
     → Answers (IsNamed name) (with_picker h name) event entry h'
     → Stood c (marks ++ Asked (event ∷ []) ∷ []) h' (entry_lines entry) [] []
@@ -372,7 +372,7 @@ no_step c marks h due k owed s others more l e none =
     (first_none (entry_lines n.1) (answers_in q.1) told_none)
 
 -- all is answered and told
-pub finished : (c : Settings) (marks : List Mark) (h : Holdings Named) → Stood c marks h [] [] [] → IsWhole c marks
+unfoldable pub finished : (c : Settings) (marks : List Mark) (h : Holdings Named) → Stood c marks h [] [] [] → IsWhole c marks
 finished c marks h s =
     let f = follow c s.begun (whole s.parts ++ s.now) h s.valid s.led in (
       s.parts ++ s.now ∷ [],

@@ -11,20 +11,24 @@ use Rattle.mscp_reader.specs.declared.fault.ReadFault.{ReadFault}
 use Rattle.mscp_reader.specs.declared.fault.ReadFault.TheVariants as faults
 use Rattle.mscp_reader.specs.declared.fault.ScriptFault.{ScriptFault}
 use Rattle.mscp_judge.specs.declared.judge.Judge.{Judge}
+use Rattle.mscp_judge.specs.declared.totals.Totals.{Totals}
 use Rattle.mscp_judge.specs.declared.judging.Verdict.{Verdict}
 use Rattle.mscp_judge.specs.declared.judging.Verdict.TheVariants as verdicts
 use Rattle.mscp_judge.specs.Logs.{IsLegalLog, IsRightThere, Log, MayGoOn, after_line, after_lines, nothing, telling, told, whole}
-use Rattle.mscp_judge.specs.Standing.{IsHeld, Stands, Stood, due, marked, owed}
+use Rattle.mscp_judge.specs.Standing.{Counted, IsHeld, Stands, due, marked, owed, totals_of}
+use Rattle.mscp_judge.specs.Totals.{AreTotals}
 
 -- ---- the verdict
 
 -- all lines are right, and they are a legal log
-pub record AreLegal (c : Settings) (before : ℕ) (all : List (List ℕ)) : Type 0 where
+pub record AreLegal (c : Settings) (before : ℕ) (all : List (List ℕ)) (totals : Totals) : Type 0 where
   pub log : Log
   pub read : after_lines before nothing all ≡ Ok log
   pub legal : IsLegalLog c log.marks
   -- so the promise of each legal trace is kept
   pub promise : Promise c (whole legal.0)
+  -- and these are its totals
+  pub totals_are : AreTotals c (whole legal.0) totals
 
 -- the line of this number is the first that no legal log has there: what stands before it is the beginning of one
 pub record IsFirstWrong (c : Settings) (before : ℕ) (all : List (List ℕ)) (place : ℕ) (right : List ℕ) : Type 0 where
@@ -66,7 +70,7 @@ pub record IsAtFault (c : Settings) (before : ℕ) (all : List (List ℕ)) (faul
 
 -- what is said of lines that so many stand before
 abbrev pub Judges : Settings → ℕ → List (List ℕ) → Result Verdict ReadFault → Type 0
-Judges c before all (Ok verdicts.Legal) = AreLegal c before all
+Judges c before all (Ok (verdicts.Legal totals)) = AreLegal c before all totals
 Judges c before all (Ok (verdicts.Wrong number right)) = IsFirstWrong c before all number right.items
 Judges c before all (Ok (verdicts.Unanswered right)) = AreUnanswered c before all right.items
 Judges c before all (Err (faults.Script fault)) = IsAtFault c before all fault
@@ -81,7 +85,8 @@ Tells c log next new false = (¬ (MayGoOn c next.marks)) × IsHeld c log new
 
 -- something is due, and each legal log that goes on with the line has this trace
 pub record IsAhead {A : Type 0} (c : Settings) (log : Log) (line : List ℕ) (judge : Judge A) : Type 0 where
-  pub stood : Stood c (marked log) judge.controller (due judge) (owed judge) (told (line ++ 10 ∷ []))
+  pub counted : Counted c (marked log) judge.controller (due judge) (owed judge) (told (line ++ 10 ∷ []))
+      (totals_of c judge)
   pub some : due judge ≢ []
   pub count : length log.events ≡ judge.reporter.count + judge.owed
 
@@ -128,6 +133,6 @@ pub record HasLegalTrace (bytes : List ℕ) : Type 0 where
 
 -- it is judged to be legal, unless memory runs out
 abbrev pub IsLegalVerdict : Result Verdict ReadFault → Type 0
-IsLegalVerdict (Ok verdicts.Legal) = Unit {0}
+IsLegalVerdict (Ok (verdicts.Legal totals)) = Unit {0}
 IsLegalVerdict (Err faults.OutOfMemory) = Unit {0}
 IsLegalVerdict result = ⊥

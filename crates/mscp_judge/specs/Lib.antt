@@ -1,4 +1,5 @@
 pub mod Logs
 pub mod Naming
+pub mod Totals
 pub mod Standing
 pub mod Judged

@@ -8,9 +8,10 @@ ghost use Rattle.mscp_reader.specs.Lexical as lexical;
 ghost use Rattle.mscp_reader.specs.Requests.{events_of};
 ghost use Rattle.mscp_judge.specs.Judged.{IsAhead, IsReady, Tells};
 ghost use Rattle.mscp_judge.specs.Logs.{IsRightThere, Log, asking, nothing, telling};
-ghost use Rattle.mscp_judge.specs.Standing.{BeginsWith, Came, IsHeld, IsSettled, Stands, due};
+ghost use Rattle.mscp_judge.specs.Standing.{BeginsWith, Came, IsHeld, IsSettled, Stands, due, totals_of};
 
 use crate::naming::{Named, name_in, nobody};
+use crate::totals::{Peaks, Totals, bound_of, figure_queued};
 use arrayvec::ArrayVec;
 use mscp_control::{Block, Config, Connection, Controller, OutOfMemory};
 use mscp_packet::write_command;
@@ -26,6 +27,7 @@ pub type Right = ArrayVec<u8, 128>;
 pub struct Judge<A: Allocator> {
     controller: Controller<Named>,
     reporter: Reporter<A>,
+    peaks: Peaks,
     // How many bytes of the reporter's lines the log has told.
     told: usize,
     // How many steps are to be answered yet, and the outcome of their blocks. A step is answered when its line is read,
@@ -71,6 +73,7 @@ impl<A: Allocator> Judge<A> {
         Judge {
             controller: Controller::new(config, nobody()),
             reporter: Reporter::new(alloc),
+            peaks: Peaks::none(),
             told: 0,
             owed: 0,
             block: Block::Good,
@@ -83,6 +86,19 @@ impl<A: Allocator> Judge<A> {
         ensures { result ≡ self.now.reporter.count + self.now.owed }
     {
         self.reporter.count() + u64::from(self.owed)
+    }
+
+    /// The totals of the events so far.
+    pub fn totals(&self) -> Totals
+        ensures { result ≡ totals_of self.now.controller.settings self.now }
+    {
+        Totals {
+            moments: self.reporter.count(),
+            steps: self.reporter.steps(),
+            figure: self.peaks.figure,
+            bound: bound_of(self.controller.config()),
+            passed: self.peaks.passed,
+        }
     }
 
     /// What is answered and wasn't told yet.
@@ -112,6 +128,8 @@ impl<A: Allocator> Judge<A> {
         self.reporter.forget_lines();
         self.told = 0;
         let sent = self.controller.send(connection, message);
+        let figure = figure_queued(&self.controller, connection, &sent);
+        self.peaks.rise(figure, self.controller.most_passed());
         self.reporter.sent(connection, &sent)
     }
 
@@ -125,6 +143,7 @@ impl<A: Allocator> Judge<A> {
         self.reporter.forget_lines();
         self.told = 0;
         let end = self.controller.take(connection);
+        self.peaks.rise(0, self.controller.most_passed());
         self.reporter.taken(connection, &end)
     }
 
@@ -138,6 +157,7 @@ impl<A: Allocator> Judge<A> {
         self.reporter.forget_lines();
         self.told = 0;
         let shown = self.controller.look();
+        self.peaks.rise(0, self.controller.most_passed());
         self.reporter.looked(&shown)
     }
 
@@ -154,6 +174,7 @@ impl<A: Allocator> Judge<A> {
         self.told = 0;
         self.controller.replace_picker(name);
         let report = self.controller.step(self.block);
+        self.peaks.rise(0, self.controller.most_passed());
         self.reporter.stepped(&report)
     }
 
@@ -161,6 +182,7 @@ impl<A: Allocator> Judge<A> {
     fn owe(&mut self, count: u32, block: Block)
         ensures controller { self.new.controller ≡ self.old.controller }
         ensures reporter { self.new.reporter ≡ self.old.reporter }
+        ensures peaks { self.new.peaks ≡ self.old.peaks }
         ensures told { self.new.told ≡ self.old.told }
         ensures owed { self.new.owed ≡ count }
         ensures block { self.new.block ≡ block }

@@ -10,6 +10,7 @@ ghost use Rattle.mscp_judge.specs.Standing.{Stands};
 
 use crate::answers::is_answer;
 use crate::judge::{Judge, Right};
+use crate::totals::Totals;
 use mscp_control::Config;
 use mscp_reader::{Line, Lines, ReadFault, request_after, words_of};
 use std::alloc::Allocator;
@@ -17,8 +18,8 @@ use std::alloc::Allocator;
 /// What is said of a log.
 #[derive(Debug, PartialEq, Drop)]
 pub enum Verdict {
-    /// It is legal.
-    Legal,
+    /// It is legal, and these are its totals.
+    Legal(Totals),
     /// The line of this number is the first that no legal log has there, and what would have been right: a line, or
     /// nothing where no answer is right.
     Wrong(u32, Right),
@@ -41,7 +42,7 @@ pub fn judge_lines<A: Allocator>(
         }
     }
     if judge.is_settled() {
-        Ok(Verdict::Legal)
+        Ok(Verdict::Legal(judge.totals()))
     } else {
         Ok(Verdict::Unanswered(judge.right()?))
     }

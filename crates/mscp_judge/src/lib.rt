@@ -7,7 +7,9 @@ mod judge;
 mod judging;
 mod log;
 mod naming;
+mod totals;
 
 pub use crate::judge::Right;
 pub use crate::judging::{Verdict, judge_lines};
 pub use crate::log::judge_log;
+pub use crate::totals::Totals;

@@ -9,6 +9,7 @@ use Rattle.mscp_script.specs.declared.reading.ReadAllFault.TheVariants as readin
 use Rattle.mscp_script.specs.Simulated.{IsGiven}
 use Rattle.mscp_judge.specs.declared.judging.Verdict.{Verdict}
 use Rattle.mscp_judge.specs.declared.judging.Verdict.TheVariants as verdicts
+use Rattle.mscp_judge.specs.declared.totals.Totals.{Totals}
 use Rattle.mscp_judge.specs.Judged.{JudgesLog}
 use Rattle.mscpjudge.specs.declared.fault.Fault.{Fault}
 use Rattle.mscpjudge.specs.declared.fault.Fault.TheVariants as faults
@@ -27,9 +28,21 @@ fault_of_log scripts.OutOfMemory = faults.OutOfMemory
 
 -- how a log is judged by a verdict
 abbrev pub outcome_of : Verdict → Outcome
-outcome_of verdicts.Legal = outcomes.Legal
+outcome_of (verdicts.Legal totals) = outcomes.Legal
 outcome_of (verdicts.Wrong line right) = outcomes.Wrong
 outcome_of (verdicts.Unanswered right) = outcomes.Wrong
+
+-- the rest of the line of the totals
+abbrev pub peaks_text : Totals → List ℕ
+peaks_text totals =
+    codes " figure " ++ decimal totals.figure ++ codes " bound " ++ decimal totals.bound
+    ++ codes " passed " ++ decimal totals.passed ++ codes "\n"
+
+-- the lines of a log that is legal, and has these totals
+abbrev pub legal_text : Totals → List ℕ
+legal_text totals =
+    codes "legal\nmoments " ++ decimal totals.moments ++ codes " steps " ++ decimal totals.steps
+    ++ peaks_text totals
 
 -- the line of what would have been right
 abbrev pub right_text : List ℕ → List ℕ
@@ -45,7 +58,7 @@ unanswered_text = codes "end: not legal\n"
 
 -- the lines that say a verdict
 abbrev pub verdict_text : Verdict → List ℕ
-verdict_text verdicts.Legal = codes "legal\n"
+verdict_text (verdicts.Legal totals) = legal_text totals
 verdict_text (verdicts.Wrong line right) = wrong_text line ++ right_text right.items
 verdict_text (verdicts.Unanswered right) = unanswered_text ++ right_text right.items
 

@@ -1,13 +1,13 @@
 // What is said of a log.
 
 ghost use Rattle.std.specs.Prelude.{◌≡◌, ◌++◌, false, OnOk, IfOk};
-ghost use Rattle.mscpjudge.specs.Said.{Says, outcome_of, right_text, unanswered_text, verdict_text, wrong_text};
+ghost use Rattle.mscpjudge.specs.Said.{Says, legal_text, outcome_of, peaks_text, right_text, unanswered_text, verdict_text, wrong_text};
 
 use crate::fault::Fault;
 use itoa::Buffer;
-use mscp_judge::{Right, Verdict, judge_log};
+use mscp_judge::{Right, Totals, Verdict, judge_log};
 use mscp_script::{Sink, Source, read_all};
-use mscp_text::put;
+use mscp_text::{put, put_field};
 use std::alloc::{AllocError, Allocator, Global};
 
 /// How a log was judged.
@@ -24,9 +24,29 @@ fn outcome_of(verdict: &Verdict) -> Outcome
     ensures { result ≡ outcome_of verdict.now }
 {
     match verdict {
-        Verdict::Legal => Outcome::Legal,
+        Verdict::Legal(_) => Outcome::Legal,
         Verdict::Wrong(..) | Verdict::Unanswered(_) => Outcome::Wrong,
     }
+}
+
+/// Appends the rest of the line of the totals: the largest figure, the bound, and the most blocks by which a command was
+/// passed.
+fn put_peaks<A: Allocator>(text: &mut Vec<u8, A>, totals: &Totals) -> Result<(), AllocError>
+    ensures { OnOk result (text.new.items ≡ text.old.items ++ peaks_text totals.now) }
+{
+    put_field(text, " figure ", totals.figure)?;
+    put_field(text, " bound ", totals.bound)?;
+    put_field(text, " passed ", totals.passed)?;
+    put(text, "\n")
+}
+
+/// Appends the lines of a log that is legal, and has these totals.
+fn put_legal<A: Allocator>(text: &mut Vec<u8, A>, totals: &Totals) -> Result<(), AllocError>
+    ensures { OnOk result (text.new.items ≡ text.old.items ++ legal_text totals.now) }
+{
+    put_field(text, "legal\nmoments ", totals.moments)?;
+    put_field(text, " steps ", totals.steps)?;
+    put_peaks(text, totals)
 }
 
 /// Appends the line of what would have been right.
@@ -65,7 +85,7 @@ fn put_verdict<A: Allocator>(text: &mut Vec<u8, A>, verdict: &Verdict) -> Result
     ensures { OnOk result (text.new.items ≡ text.old.items ++ verdict_text verdict.now) }
 {
     match verdict {
-        Verdict::Legal => put(text, "legal\n"),
+        Verdict::Legal(totals) => put_legal(text, totals),
         Verdict::Wrong(line, right) => put_wrong(text, *line, right),
         Verdict::Unanswered(right) => put_unanswered(text, right),
     }

@@ -8,7 +8,10 @@ use Rattle.mscp_reader.specs.declared.fault.ReadFault.TheVariants as faults
 use Rattle.mscp_judge.specs.declared.judge.Judge.{Judge}
 use Rattle.mscp_judge.specs.Judged.{Hears, Judges, Tells}
 use Rattle.mscp_judge.specs.Logs.{Log, MayGoOn, after_lines, nothing, whole}
-use Rattle.mscp_judge.proofs.Coming.{stands_held, stands_legal, stands_not, stands_open}
+use Rattle.mscp_judge.specs.declared.totals.Totals.{Totals}
+use Rattle.mscp_judge.specs.Standing.{totals_of}
+use Rattle.mscp_judge.specs.Totals.{AreTotals}
+use Rattle.mscp_judge.proofs.Coming.{stands_held, stands_legal, stands_not, stands_open, stands_settings}
 use Rattle.mscp_judge.proofs.Reading.{lines_more}
 use Rattle.mscp_judge.proofs.judging.judge_lines.Goals as goal
 
@@ -96,13 +99,17 @@ pub returns-then-is_settled : goal.returns-then-is_settled
 returns-then-is_settled g c =
     let i = c.loop-bytes.invariant in
     let all = i.whole ∙ (ap (λ ls. i.front ++ ls) c.in_default.ensures.line ∙ append-nil i.front) in
-    let legal = stands_legal c.args.config i.log c.loop-bytes.judge i.stands
+    let known = stands_legal c.args.config i.log c.loop-bytes.judge i.stands
     (c.is_settled.ensures.yes c.if-is_settled.true) in
+    let legal = known.0 in
     record {
       log = i.log;
       read = ap (λ ls. after_lines c.args.lines.now.number nothing ls) all ∙ i.read;
       legal = legal;
-      promise = progress c.args.config (whole legal.0) i.stands.stood.valid legal.1;
+      promise = progress c.args.config (whole legal.0) i.stands.counted.stood.valid legal.1;
+      totals_are = subst (λ (t : Totals). AreTotals c.args.config (whole legal.0) t)
+          (sym (c.totals.ensures ∙ ap (λ d. totals_of d c.loop-bytes.judge)
+          (stands_settings c.args.config i.log c.loop-bytes.judge i.stands))) known.1;
     }
 
 pub returns : goal.returns

@@ -3,8 +3,13 @@ use Rattle.std.proofs.lemmas.Grind.{common_steps}
 use Rattle.mscp_control.specs.declared.event.Event.TheVariants as events
 use Rattle.mscp_judge.specs.declared.naming.Named.{Named}
 use Rattle.mscp_judge.specs.Standing.{Came}
-use Rattle.mscp_judge.proofs.Coming.{ready_not, ready_step, stands_held}
+use Rattle.mscp_judge.proofs.Coming.{ready_due, ready_not, ready_step, stands_held}
 use Rattle.mscp_judge.proofs.judge.Judge.prepare.Goals as goal
+
+pub returns-then-not-is_empty-clause-ready : goal.returns-then-not-is_empty-clause-ready
+returns-then-not-is_empty-clause-ready g c = λ d log line e s.
+    ready_due d log line c.args.self.now s
+    (λ n. let none : c.due.result.now ≡ [] = c.due.ensures ∙ n in let no : ⊥ = grind (arith, common_steps) in no)
 
 pub returns-then-self-eq0-clause-ready : goal.returns-then-self-eq0-clause-ready
 returns-then-self-eq0-clause-ready g c =
