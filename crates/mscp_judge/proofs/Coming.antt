@@ -29,7 +29,9 @@ use Rattle.mscp_judge.specs.Totals.{AreTotals, IsLarger, figure_queued}
 use Rattle.mscp_judge.proofs.Feeds.{NoFeed, some_none, step_ends}
 use Rattle.mscp_judge.proofs.Leading.{follow}
 use Rattle.mscp_judge.proofs.Marks.{asked_parts, goes_on, is_legal_log, is_whole, lead, may_go_on}
-use Rattle.mscp_judge.proofs.Standing.{all_told, finished, held_of, no_step, opens, opens_with, refused, step_held, unasked}
+use Rattle.mscp_judge.proofs.Standing.{held_of, refused, unasked}
+use Rattle.mscp_judge.proofs.Stepping.{step_held}
+use Rattle.mscp_judge.proofs.Ending.{all_told, finished, no_step, opens, opens_with}
 use Rattle.mscp_judge.proofs.Counted.{ahead_counted, event_counted, finished_run, step_counted, steps_counted, told_counted}
 use Rattle.mscp_judge.proofs.Tallies.{totals_none}
 

@@ -1,11 +1,11 @@
 -- How a judge stands after one more line, with the totals so far.
-use Rattle.std.proofs.Common.{◌≡◌, ℕ, false, List, [], ◌∷◌, ◌++◌, refl, ap, sym, ◌∙◌, subst, append_assoc, append-nil}
+use Rattle.std.proofs.Common.{◌≡◌, ℕ, false, List, [], ◌∷◌, ◌++◌, sym, ◌∙◌, subst, append_assoc, append-nil}
 use Rattle.mscp_queue.specs.declared.block.Block.{Block}
 use Rattle.mscp_control.specs.declared.event.Event.{Event}
 use Rattle.mscp_control.specs.declared.event.Event.TheVariants as events
 use Rattle.mscp_control.specs.declared.event.Entry.{Entry}
 use Rattle.mscp_control.specs.Settings.{Settings}
-use Rattle.mscp_control.specs.History.{Moment, Trace, is_step}
+use Rattle.mscp_control.specs.History.{is_step}
 use Rattle.mscp_control.specs.Holdings.{Answers, Holdings}
 use Rattle.mscp_reader.specs.Lexical.{words}
 use Rattle.mscp_script.specs.Text.{entry_lines}
@@ -17,7 +17,10 @@ use Rattle.mscp_judge.specs.Standing.{Counted, Stood, marked, run_of, with_picke
 use Rattle.mscp_judge.specs.Totals.{Adds, AreTotals}
 use Rattle.mscp_judge.proofs.Leading.{follow}
 use Rattle.mscp_judge.proofs.Marks.{is_legal_log, legal_run}
-use Rattle.mscp_judge.proofs.Standing.{ahead_of, event_on, finished, step_on, steps_on, told_line, told_on, whole_more}
+use Rattle.mscp_judge.proofs.Standing.{ahead_of, told_line, told_on}
+use Rattle.mscp_judge.proofs.Stepping.{step_on}
+use Rattle.mscp_judge.proofs.Asking.{event_on, steps_on, whole_more}
+use Rattle.mscp_judge.proofs.Ending.{finished}
 use Rattle.mscp_judge.proofs.Tallies.{totals_more}
 
 pub ahead_counted : (c : Settings) (marks : List Mark) (h : Holdings Named) (due : List ℕ) (owed : List Event)
@@ -37,7 +40,8 @@ told_counted c marks h due owed line rest totals s e =
 -- the totals of a trace with a moment more
 more : (c : Settings) (marks : List Mark) (h h' : Holdings Named) (name : Named) (owed : List Event) (event : Event)
     (entry : Entry) (old new : Totals) → Answers (IsNamed name) (with_picker h name) event entry h'
-    → Adds h' entry old new → (k : Counted c marks h [] owed [] old) → AreTotals c (run_of k.stood ++ (event, entry) ∷ []) new
+    → Adds h' entry old new → (k : Counted c marks h [] owed [] old)
+    → AreTotals c (run_of k.stood ++ (event, entry) ∷ []) new
 more c marks h h' name owed event entry old new a adds k =
     totals_more c (run_of k.stood) h h' name event entry old new k.stood.valid
     (follow c k.stood.begun (run_of k.stood) h k.stood.valid k.stood.led) a k.are adds

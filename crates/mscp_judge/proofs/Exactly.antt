@@ -1,5 +1,5 @@
 -- A log of which there is a legal trace is judged to be legal, and no other.
-use Rattle.std.proofs.Common.{◌≡◌, ℕ, ◌+◌, ◌<◌, ◌≤◌, true, false, List, [], ◌∷◌, ◌++◌, length, refl, ap, sym, ◌∙◌, subst, arith, append_assoc, append-nil}
+use Rattle.std.proofs.Common.{◌≡◌, ℕ, ◌+◌, ◌≤◌, true, false, List, [], ◌∷◌, ◌++◌, length, refl, ap, sym, ◌∙◌, subst, arith, append_assoc, append-nil}
 use Rattle.std.specs.Prelude.{if◌then◌else◌, Result, Ok, Err}
 use Rattle.mscp_control.specs.Settings.{Settings}
 use Rattle.mscp_control.specs.declared.event.Event.{Event}
@@ -18,7 +18,7 @@ use Rattle.mscp_judge.specs.declared.totals.Totals.{Totals}
 use Rattle.mscp_judge.specs.declared.judging.Verdict.{Verdict}
 use Rattle.mscp_judge.specs.declared.judging.Verdict.TheVariants as verdicts
 use Rattle.mscp_judge.specs.Logs.{Asked, IsLegalLog, Log, Mark, MayGoOn, after_line, after_lines, after_request, after_words, asking, is_answer, nothing, telling, told}
-use Rattle.mscp_judge.specs.Judged.{AreLegal, AreUnanswered, HasLegalTrace, IsAtFault, IsFirstWrong, IsLegalVerdict, Judges, JudgesBehind, JudgesLog}
+use Rattle.mscp_judge.specs.Judged.{HasLegalTrace, IsLegalVerdict, Judges, JudgesBehind, JudgesLog}
 
 -- ---- marks are added, and none is lost
 
@@ -128,7 +128,7 @@ exactly : (c : Settings) (before : ℕ) (all : List (List ℕ)) (log : Log) (res
     → after_lines before nothing all ≡ Ok log → IsLegalLog c log.marks → Judges c before all result
     → IsLegalVerdict result
 exactly c before all log (Ok (verdicts.Legal totals)) e l j = tt
-exactly c before all log (Ok (verdicts.Wrong number right)) e l j =
+exactly c before all log (Ok (verdicts.Wrong number rule right)) e l j =
     let b = behind_line before all j.front j.line j.back j.log log number j.whole j.number j.read e in
     let rest = ap (λ r. r >>= λ next. after_lines number next j.back) (sym j.says) ∙ b in
     j.wrong (open_at c number j.next log j.back rest l)

@@ -1,6 +1,6 @@
 -- What one moment more adds to the totals of a run.
-use Rattle.std.proofs.Common.{◌≡◌, ◌≢◌, ◌⊎◌, inl, inr, ⊎_elim, ℕ, zero, suc, ◌+◌, ◌<◌, ◌≤◌, Bool, true, false, cond, List, [], ◌∷◌, ◌++◌, map, take, get_or, length, refl, ap, sym, ◌∙◌, subst, arith, length-append, append-nil}
-use Rattle.std.specs.Prelude.{All, Contains, count_by, filter, not, if◌then◌else◌, Ok, Err, Result}
+use Rattle.std.proofs.Common.{◌≡◌, ◌≢◌, ◌⊎◌, inl, inr, ⊎_elim, ℕ, zero, suc, ◌+◌, ◌≤◌, Bool, true, false, cond, List, [], ◌∷◌, ◌++◌, map, take, get_or, length, refl, ap, sym, ◌∙◌, subst, arith, length-append}
+use Rattle.std.specs.Prelude.{Contains, filter, not, Ok, Err}
 use Rattle.std.specs.List.{AllByRecursion}
 use Rattle.std.proofs.lemmas.List.{take-append-le, take_all}
 use Rattle.std.proofs.lemmas.List.Elements.{All-contains, All-contains_itself, recursion_from_All, All-from_recursion}
@@ -8,29 +8,27 @@ use Rattle.std.proofs.lemmas.List.Sums.{sum_by_push}
 use Rattle.std.proofs.lemmas.Bool.{cases_lt, false≢true}
 use Rattle.mscp_packet.specs.Commands.{command_of}
 use Rattle.mscp_queue.specs.declared.name.Connection.{Connection}
-use Rattle.mscp_queue.specs.declared.name.Name.{Name}
 use Rattle.mscp_queue.specs.Figures.{figure_of_name}
 use Rattle.mscp_queue.specs.Names.{name_on}
 use Rattle.mscp_queue.specs.Records.{Record, record_at}
-use Rattle.mscp_queue.proofs.Lists.{every_append, every_filter, every_mapped, every_weaker, every_kept}
+use Rattle.mscp_queue.proofs.Lists.{every_append, every_mapped, every_kept}
 use Rattle.mscp_control.specs.declared.event.Event.{Event}
 use Rattle.mscp_control.specs.declared.event.Event.TheVariants as events
 use Rattle.mscp_control.specs.declared.event.Entry.{Entry}
 use Rattle.mscp_control.specs.declared.event.Entry.TheVariants as entries
 use Rattle.mscp_control.specs.declared.event.Sent.{Sent}
 use Rattle.mscp_control.specs.declared.event.Sent.TheVariants as sents
-use Rattle.mscp_control.specs.declared.event.SendFault.{SendFault}
 use Rattle.mscp_control.specs.Arrival.{is_queued}
 use Rattle.mscp_control.specs.Credits.{arrival}
 use Rattle.mscp_control.specs.Settings.{IsValid, Settings, bound}
-use Rattle.mscp_control.specs.History.{Moment, Trace, connection_of, is_step, queues, sent_bytes}
+use Rattle.mscp_control.specs.History.{Moment, Trace, is_step, queues}
 use Rattle.mscp_control.specs.Commands.{ends_in, name, waiting}
 use Rattle.mscp_control.specs.Passing.{passed}
 use Rattle.mscp_control.specs.Figures.{figure, figure_of}
 use Rattle.mscp_control.specs.Headline.{EachWaiting}
 use Rattle.mscp_control.specs.Holdings.{Answers, Holdings}
-use Rattle.mscp_control.specs.Legal.{IsLegal, IsRight}
-use Rattle.mscp_control.proofs.Promise.Apart.{name_last, queued_name}
+use Rattle.mscp_control.specs.Legal.{IsRight}
+use Rattle.mscp_control.proofs.Promise.Apart.{name_last}
 use Rattle.mscp_control.proofs.Promise.Arrivals.{arrives, queued_right, taken_when}
 use Rattle.mscp_control.proofs.Promise.Falling.{falling}
 use Rattle.mscp_control.proofs.Promise.Grows.{is_waiting_last, waiting_more}

@@ -1,5 +1,6 @@
 pub mod Logs
 pub mod Naming
 pub mod Totals
+pub mod Rules
 pub mod Standing
 pub mod Judged

@@ -1,16 +1,24 @@
 // A controller that answers what a log says, and what of its answers wasn't told yet.
 
-ghost use Rattle.std.specs.Prelude.{◌≡◌, ◌⊎◌, ◌+◌, ◌-◌, ◌<◌, ◌≤◌, ◌^◌, ◌∷◌, ◌++◌, [], ℕ, List, length, true, false, OnOk, IfOk};
+ghost use Rattle.std.specs.Prelude.{◌≡◌, ◌≢◌, IfSome, ◌⊎◌, ◌+◌, ◌-◌, ◌<◌, ◌≤◌, ◌^◌, ◌∷◌, ◌++◌, [], ℕ, List, length, true, false, OnOk, IfOk};
 ghost use Rattle.std.specs.List.{list_all};
-ghost use Rattle.mscp_control.specs.Settings.{Settings};
+ghost use Rattle.mscp_control.specs.History.{Trace};
+ghost use Rattle.mscp_control.specs.Holdings.{fresh};
+ghost use Rattle.mscp_control.specs.Settings.{IsValid, Settings};
 ghost use Rattle.mscp_control.specs.declared.event.Event.TheVariants as events;
 ghost use Rattle.mscp_reader.specs.Lexical as lexical;
 ghost use Rattle.mscp_reader.specs.Requests.{events_of};
-ghost use Rattle.mscp_judge.specs.Judged.{IsAhead, IsReady, Tells};
-ghost use Rattle.mscp_judge.specs.Logs.{IsRightThere, Log, asking, nothing, telling};
-ghost use Rattle.mscp_judge.specs.Standing.{BeginsWith, Came, IsHeld, IsSettled, Stands, due, totals_of};
+ghost use Rattle.mscp_judge.specs.declared.naming.Named as named;
+ghost use Rattle.mscp_judge.specs.Judged.{Breaks, IsAhead, IsTold, Tells};
+ghost use Rattle.mscp_judge.specs.Logs.{IsRightThere, Log, asking, is_answer, nothing, telling};
+ghost use Rattle.mscp_judge.specs.Naming as naming;
+ghost use Rattle.mscp_judge.specs.Naming.{name_of};
+ghost use Rattle.mscp_judge.specs.Rules.{IsStepRule, due_rule, is_service};
+ghost use Rattle.mscp_judge.specs.Standing.{BeginsWith, Came, IsHeld, IsSettled, Led, Stands, due, totals_of};
 
+use crate::answers::is_service;
 use crate::naming::{Named, name_in, nobody};
+use crate::rules::{Rule, due_rule, step_rule};
 use crate::totals::{Peaks, Totals, bound_of, figure_queued};
 use arrayvec::ArrayVec;
 use mscp_control::{Block, Config, Connection, Controller, OutOfMemory};
@@ -235,31 +243,12 @@ impl<A: Allocator> Judge<A> {
         Ok(first_line(self.due()))
     }
 
-    /// Answers the next step, if nothing is due: the command starts that these words of a line say was served, if it may.
-    /// Says whether something is due then.
-    fn prepare(&mut self, words: Words<'_>) -> Result<bool, OutOfMemory>
-        requires { self.old.reporter.count + 1 < 2 ^ 64 }
-        ensures ready { IfOk result (λ ready. (c : Settings) (log : Log) (line : List ℕ)
-            → lexical.words words.entry.rest.now ≡ lexical.words line → Stands c log self.old
-            → IsReady c log line self.new ready) }
-        ensures count { OnOk result (self.new.reporter.count + self.new.owed
-            ≡ self.old.reporter.count + self.old.owed) }
-    {
-        if !self.due().is_empty() {
-            return Ok(true);
-        }
-        if self.owed == 0 {
-            return Ok(false);
-        }
-        self.step(name_in(words))?;
-        Ok(true)
-    }
-
     /// A line was told, if it is what is due next.
     fn tell(&mut self, line: &[u8]) -> bool
         requires { list_all lexical.is_printed line.now ≡ true }
         ensures tells { (c : Settings) (log : Log) → IsAhead c log line.now self.old
-            → Tells c log (telling log (line.now ++ 10 ∷ [])) self.new result }
+            → IsTold c log (telling log (line.now ++ 10 ∷ [])) self.new result }
+        ensures kept { result ≡ false → self.new ≡ self.old }
         ensures count { self.new.reporter.count + self.new.owed ≡ self.old.reporter.count + self.old.owed }
     {
         let due = self.due();
@@ -271,19 +260,76 @@ impl<A: Allocator> Judge<A> {
         true
     }
 
-    /// A line tells an answer: whether a legal log goes on so. The words are those of the line.
-    pub fn hear(&mut self, line: &[u8], words: Words<'_>) -> Result<bool, OutOfMemory>
-        requires count { self.old.reporter.count + 1 < 2 ^ 64 }
-        requires words { lexical.words words.rest.now ≡ lexical.words line.now }
+    /// A line tells what is due, or breaks a rule.
+    fn tell_due(&mut self, line: &[u8]) -> Option<Rule>
+        requires due { due self.old ≢ [] }
         requires printed { list_all lexical.is_printed line.now ≡ true }
-        ensures tells { IfOk result (λ goes_on. (c : Settings) (log : Log) → Stands c log self.old
-            → Tells c log (telling log (line.now ++ 10 ∷ [])) self.new goes_on) }
+        ensures tells { (c : Settings) (log : Log) → Stands c log self.old
+            → Tells c log (telling log (line.now ++ 10 ∷ [])) self.new result }
+        ensures rule { IfSome result (λ rule. rule ≡ due_rule (due self.old) line.now) }
+        ensures count { self.new.reporter.count + self.new.owed ≡ self.old.reporter.count + self.old.owed }
+    {
+        if self.tell(line) {
+            return None;
+        }
+        Some(due_rule(self.due(), line))
+    }
+
+    /// The rule that the line of these words breaks, if it isn't what the next step answers.
+    fn next_rule(&self, words: Words<'_>) -> Rule
+        ensures idle { is_service (lexical.words words.entry.rest.now) ≡ false → result ≡ Rule.Idle }
+        ensures step { is_service (lexical.words words.entry.rest.now) ≡ true
+            → (c : Settings) (t : Trace) (begun : named.Named) → IsValid c
+            → Led (fresh c begun) t self.now.controller
+            → IsStepRule c t (name_of (naming.name_in (lexical.words words.entry.rest.now))) result }
+    {
+        if is_service(words) {
+            step_rule(&self.controller, name_in(words))
+        } else {
+            Rule::Idle
+        }
+    }
+
+    /// A line tells what the next step does, at which the command starts that it names, or it breaks a rule.
+    fn tell_step(&mut self, line: &[u8], words: Words<'_>) -> Result<Option<Rule>, OutOfMemory>
+        requires count { self.old.reporter.count + 1 < 2 ^ 64 }
+        requires due { due self.old ≡ [] }
+        requires owed { 0 < self.old.owed }
+        requires words { lexical.words words.rest.now ≡ lexical.words line.now }
+        requires answer { is_answer (lexical.words line.now) ≡ true }
+        requires printed { list_all lexical.is_printed line.now ≡ true }
+        ensures tells { IfOk result (λ broken. (c : Settings) (log : Log) → Stands c log self.old
+            → Tells c log (telling log (line.now ++ 10 ∷ [])) self.new broken) }
+        ensures breaks { IfOk result (λ broken. Breaks self.old line.now broken) }
         ensures count { OnOk result (self.new.reporter.count + self.new.owed
             ≡ self.old.reporter.count + self.old.owed) }
     {
-        if !self.prepare(words)? {
-            return Ok(false);
+        let rule = self.next_rule(words);
+        self.step(name_in(words))?;
+        if self.tell(line) {
+            return Ok(None);
         }
-        Ok(self.tell(line))
+        Ok(Some(rule))
+    }
+
+    /// A line tells an answer: the rule that it breaks, or that a legal log goes on so. The words are those of the line.
+    pub fn hear(&mut self, line: &[u8], words: Words<'_>) -> Result<Option<Rule>, OutOfMemory>
+        requires count { self.old.reporter.count + 1 < 2 ^ 64 }
+        requires words { lexical.words words.rest.now ≡ lexical.words line.now }
+        requires answer { is_answer (lexical.words line.now) ≡ true }
+        requires printed { list_all lexical.is_printed line.now ≡ true }
+        ensures tells { IfOk result (λ broken. (c : Settings) (log : Log) → Stands c log self.old
+            → Tells c log (telling log (line.now ++ 10 ∷ [])) self.new broken) }
+        ensures breaks { IfOk result (λ broken. Breaks self.old line.now broken) }
+        ensures count { OnOk result (self.new.reporter.count + self.new.owed
+            ≡ self.old.reporter.count + self.old.owed) }
+    {
+        if !self.due().is_empty() {
+            return Ok(self.tell_due(line));
+        }
+        if self.owed == 0 {
+            return Ok(Some(Rule::Unasked));
+        }
+        self.tell_step(line, words)
     }
 }

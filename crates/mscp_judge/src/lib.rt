@@ -7,9 +7,12 @@ mod judge;
 mod judging;
 mod log;
 mod naming;
+mod rules;
 mod totals;
 
 pub use crate::judge::Right;
 pub use crate::judging::{Verdict, judge_lines};
 pub use crate::log::judge_log;
+pub use crate::naming::Named;
+pub use crate::rules::Rule;
 pub use crate::totals::Totals;

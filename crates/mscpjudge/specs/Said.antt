@@ -1,5 +1,5 @@
 -- What is written of a log.
-use Rattle.std.specs.Prelude.{◌≡◌, ℕ, List, ◌++◌, codes, Option, Result, Ok, Err}
+use Rattle.std.specs.Prelude.{◌≡◌, ℕ, List, ◌++◌, codes, if◌then◌else◌, Option, Result, Ok, Err}
 use Rattle.std.specs.Fmt.{decimal}
 use Rattle.std.specs.Io.KnownBytes.{Appends}
 use Rattle.mscp_reader.specs.declared.fault.ReadFault.{ReadFault}
@@ -9,6 +9,12 @@ use Rattle.mscp_script.specs.declared.reading.ReadAllFault.TheVariants as readin
 use Rattle.mscp_script.specs.Simulated.{IsGiven}
 use Rattle.mscp_judge.specs.declared.judging.Verdict.{Verdict}
 use Rattle.mscp_judge.specs.declared.judging.Verdict.TheVariants as verdicts
+use Rattle.mscp_queue.specs.declared.name.Connection.{Connection}
+use Rattle.mscp_queue.specs.declared.name.Connection.TheVariants.{First, Second}
+use Rattle.mscp_queue.specs.declared.why.Holder.{Holder}
+use Rattle.mscp_judge.specs.declared.naming.Named.{Named}
+use Rattle.mscp_judge.specs.declared.rules.Rule.{Rule}
+use Rattle.mscp_judge.specs.declared.rules.Rule.TheVariants as rules
 use Rattle.mscp_judge.specs.declared.totals.Totals.{Totals}
 use Rattle.mscp_judge.specs.Judged.{JudgesLog}
 use Rattle.mscpjudge.specs.declared.fault.Fault.{Fault}
@@ -29,7 +35,7 @@ fault_of_log scripts.OutOfMemory = faults.OutOfMemory
 -- how a log is judged by a verdict
 abbrev pub outcome_of : Verdict → Outcome
 outcome_of (verdicts.Legal totals) = outcomes.Legal
-outcome_of (verdicts.Wrong line right) = outcomes.Wrong
+outcome_of (verdicts.Wrong line rule right) = outcomes.Wrong
 outcome_of (verdicts.Unanswered right) = outcomes.Wrong
 
 -- the rest of the line of the totals
@@ -48,9 +54,39 @@ legal_text totals =
 abbrev pub right_text : List ℕ → List ℕ
 right_text right = codes "right: " ++ right ++ codes "\n"
 
--- the line of a line that isn't legal
-abbrev pub wrong_text : ℕ → List ℕ
-wrong_text line = codes "line " ++ decimal line ++ codes ": not legal\n"
+-- the name of a command. One of the first connection is its reference number alone
+abbrev pub name_text : Connection → ℕ → List ℕ
+name_text First reference = decimal reference
+name_text Second reference = codes "second " ++ decimal reference
+
+-- how an earlier command keeps one back
+abbrev pub holder_text : Holder → List ℕ
+holder_text holder =
+    (if holder.fences then codes "fence of " else codes "passing limit of ")
+    ++ name_text holder.connection holder.reference
+
+-- which command is in service
+abbrev pub served_text : Named → List ℕ
+served_text named = codes "in service is " ++ name_text named.connection named.reference
+
+-- the words of a rule
+abbrev pub rule_text : Rule → List ℕ
+rule_text rules.Unasked = codes "no event"
+rule_text rules.Missing = codes "answer missing"
+rule_text rules.Message = codes "message"
+rule_text rules.Figure = codes "figure"
+rule_text rules.Order = codes "order of ends"
+rule_text rules.End = codes "end"
+rule_text rules.Idle = codes "step"
+rule_text rules.NotWaiting = codes "not waiting"
+rule_text (rules.InService named) = served_text named
+rule_text (rules.KeptBack holder) = holder_text holder
+rule_text rules.Service = codes "service"
+
+-- the lines of a line that isn't legal, for this rule
+abbrev pub wrong_text : ℕ → Rule → List ℕ
+wrong_text line rule =
+    codes "line " ++ decimal line ++ codes ": not legal\nrule: " ++ rule_text rule ++ codes "\n"
 
 -- the line of a log that isn't whole
 abbrev pub unanswered_text : List ℕ
@@ -59,7 +95,7 @@ unanswered_text = codes "end: not legal\n"
 -- the lines that say a verdict
 abbrev pub verdict_text : Verdict → List ℕ
 verdict_text (verdicts.Legal totals) = legal_text totals
-verdict_text (verdicts.Wrong line right) = wrong_text line ++ right_text right.items
+verdict_text (verdicts.Wrong line rule right) = wrong_text line rule ++ right_text right.items
 verdict_text (verdicts.Unanswered right) = unanswered_text ++ right_text right.items
 
 -- what is written is the verdict of the log that the reader gave. Nothing is written on a fault, and a fault of the log

@@ -1,11 +1,11 @@
 // What is said of a log.
 
 ghost use Rattle.std.specs.Prelude.{◌≡◌, ◌++◌, false, OnOk, IfOk};
-ghost use Rattle.mscpjudge.specs.Said.{Says, legal_text, outcome_of, peaks_text, right_text, unanswered_text, verdict_text, wrong_text};
+ghost use Rattle.mscpjudge.specs.Said.{Says, holder_text, legal_text, name_text, outcome_of, peaks_text, right_text, rule_text, served_text, unanswered_text, verdict_text, wrong_text};
 
 use crate::fault::Fault;
-use itoa::Buffer;
-use mscp_judge::{Right, Totals, Verdict, judge_log};
+use mscp_control::{Connection, Holder};
+use mscp_judge::{Named, Right, Rule, Totals, Verdict, judge_log};
 use mscp_script::{Sink, Source, read_all};
 use mscp_text::{put, put_field};
 use std::alloc::{AllocError, Allocator, Global};
@@ -58,17 +58,75 @@ fn put_right<A: Allocator>(text: &mut Vec<u8, A>, right: &Right) -> Result<(), A
     put(text, "\n")
 }
 
-/// Appends the lines of a log whose line of this number isn't legal.
+/// Appends the name of a command. One of the first connection is its reference number alone.
+fn put_name<A: Allocator>(
+    text: &mut Vec<u8, A>,
+    connection: Connection,
+    reference: u32,
+) -> Result<(), AllocError>
+    ensures { OnOk result (text.new.items ≡ text.old.items ++ name_text connection reference) }
+{
+    match connection {
+        Connection::First => put_field(text, "", reference),
+        Connection::Second => put_field(text, "second ", reference),
+    }
+}
+
+/// Appends how an earlier command keeps one back.
+fn put_holder<A: Allocator>(text: &mut Vec<u8, A>, holder: &Holder) -> Result<(), AllocError>
+    ensures { OnOk result (text.new.items ≡ text.old.items ++ holder_text holder.now) }
+{
+    put(
+        text,
+        if holder.fences {
+            "fence of "
+        } else {
+            "passing limit of "
+        },
+    )?;
+    put_name(text, holder.connection, holder.reference)
+}
+
+/// Appends which command is in service.
+fn put_served<A: Allocator>(text: &mut Vec<u8, A>, named: &Named) -> Result<(), AllocError>
+    ensures { OnOk result (text.new.items ≡ text.old.items ++ served_text named.now) }
+{
+    put(text, "in service is ")?;
+    put_name(text, named.connection, named.reference)
+}
+
+/// Appends the words of a rule.
+fn put_rule<A: Allocator>(text: &mut Vec<u8, A>, rule: &Rule) -> Result<(), AllocError>
+    ensures { OnOk result (text.new.items ≡ text.old.items ++ rule_text rule.now) }
+{
+    match rule {
+        Rule::Unasked => put(text, "no event"),
+        Rule::Missing => put(text, "answer missing"),
+        Rule::Message => put(text, "message"),
+        Rule::Figure => put(text, "figure"),
+        Rule::Order => put(text, "order of ends"),
+        Rule::End => put(text, "end"),
+        Rule::Idle => put(text, "step"),
+        Rule::NotWaiting => put(text, "not waiting"),
+        Rule::InService(named) => put_served(text, named),
+        Rule::KeptBack(holder) => put_holder(text, holder),
+        Rule::Service => put(text, "service"),
+    }
+}
+
+/// Appends the lines of a log whose line of this number isn't legal, for this rule.
 fn put_wrong<A: Allocator>(
     text: &mut Vec<u8, A>,
     line: u32,
+    rule: &Rule,
     right: &Right,
 ) -> Result<(), AllocError>
-    ensures { OnOk result (text.new.items ≡ text.old.items ++ wrong_text line ++ right_text right.now.items) }
+    ensures { OnOk result (text.new.items ≡ text.old.items ++ wrong_text line rule.now ++ right_text right.now.items) }
 {
-    put(text, "line ")?;
-    put(text, Buffer::new().format(line))?;
-    put(text, ": not legal\n")?;
+    put_field(text, "line ", line)?;
+    put(text, ": not legal\nrule: ")?;
+    put_rule(text, rule)?;
+    put(text, "\n")?;
     put_right(text, right)
 }
 
@@ -86,7 +144,7 @@ fn put_verdict<A: Allocator>(text: &mut Vec<u8, A>, verdict: &Verdict) -> Result
 {
     match verdict {
         Verdict::Legal(totals) => put_legal(text, totals),
-        Verdict::Wrong(line, right) => put_wrong(text, *line, right),
+        Verdict::Wrong(line, rule, right) => put_wrong(text, *line, rule, right),
         Verdict::Unanswered(right) => put_unanswered(text, right),
     }
 }
