@@ -284,6 +284,11 @@ left_due lines line rest start place e p =
     ap (λ n. drop n lines) here ∙ (sym (drop-drop (length line + 1) start lines) ∙ (ap (drop (length line + 1)) e
     ∙ behind))
 
+-- a judge that keeps other starts stands as well
+pub stands_with : {A : Type 0} (c : Settings) (log : Log) (old new : Judge A)
+    → new ≡ record old { starts = new.starts } → Stands c log old → Stands c log new
+stands_with c log old new e s = subst (Stands c log) (sym e) (record { counted = s.counted; count = s.count })
+
 -- ---- what would have been right
 
 pub stands_held : {A : Type 0} (c : Settings) (log : Log) (judge : Judge A) → Stands c log judge → IsHeld c log judge

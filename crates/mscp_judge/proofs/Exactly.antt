@@ -128,7 +128,7 @@ exactly : (c : Settings) (before : ℕ) (all : List (List ℕ)) (log : Log) (res
     → after_lines before nothing all ≡ Ok log → IsLegalLog c log.marks → Judges c before all result
     → IsLegalVerdict result
 exactly c before all log (Ok (verdicts.Legal totals)) e l j = tt
-exactly c before all log (Ok (verdicts.Wrong number rule right)) e l j =
+exactly c before all log (Ok (verdicts.Wrong number rule starts right)) e l j =
     let b = behind_line before all j.front j.line j.back j.log log number j.whole j.number j.read e in
     let rest = ap (λ r. r >>= λ next. after_lines number next j.back) (sym j.says) ∙ b in
     j.wrong (open_at c number j.next log j.back rest l)

@@ -10,7 +10,7 @@ mod Asking
 mod Ending
 mod Tallies
 mod Counted
-mod Starting
+mod Hindered
 mod Breaking
 mod Reading
 mod Coming

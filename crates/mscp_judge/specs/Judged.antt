@@ -4,7 +4,7 @@ use Rattle.mscp_control.specs.Headline.{Promise}
 use Rattle.mscp_control.specs.Holdings.{Holdings}
 use Rattle.mscp_control.specs.Settings.{Settings}
 use Rattle.mscp_control.specs.declared.event.Event.{Event}
-use Rattle.mscp_reader.specs.Lexical.{lines}
+use Rattle.mscp_reader.specs.Lexical.{lines, words}
 use Rattle.mscp_reader.specs.Grammar.{Place, Begins, HasGone}
 use Rattle.mscp_reader.specs.Outcome.{headed}
 use Rattle.mscp_reader.specs.declared.fault.Cause.TheVariants as causes
@@ -14,11 +14,13 @@ use Rattle.mscp_reader.specs.declared.fault.ScriptFault.{ScriptFault}
 use Rattle.mscp_judge.specs.declared.judge.Judge.{Judge}
 use Rattle.mscp_judge.specs.declared.naming.Named.{Named}
 use Rattle.mscp_judge.specs.declared.rules.Rule.{Rule}
+use Rattle.mscp_judge.specs.declared.rules.Rule.TheVariants as rules
 use Rattle.mscp_judge.specs.declared.totals.Totals.{Totals}
 use Rattle.mscp_judge.specs.declared.judging.Verdict.{Verdict}
 use Rattle.mscp_judge.specs.declared.judging.Verdict.TheVariants as verdicts
-use Rattle.mscp_judge.specs.Logs.{IsLegalLog, IsRightThere, Log, MayGoOn, after_line, after_lines, nothing, told, whole}
+use Rattle.mscp_judge.specs.Logs.{IsLegalLog, IsRightThere, Log, MayGoOn, after_line, after_lines, is_answer, nothing, told, whole}
 use Rattle.mscp_judge.specs.Rules.{IsRule}
+use Rattle.mscp_judge.specs.Starts.{starts_in}
 use Rattle.mscp_judge.specs.Standing.{Counted, IsHeld, Stands, Stood, due, marked, owed, run_of, totals_of}
 use Rattle.mscp_judge.specs.Totals.{AreTotals}
 
@@ -36,16 +38,19 @@ pub record AreLegal (c : Settings) (before : ℕ) (all : List (List ℕ)) (total
 
 -- a line breaks this rule where these lines stand before it: each legal log that begins so begins with one run, after
 -- which it does
-pub record IsBroken (c : Settings) (log : Log) (line : List ℕ) (rule : Rule) : Type 0 where
+pub record IsBroken (c : Settings) (log : Log) (line : List ℕ) (rule : Rule) (starts : List Named) : Type 0 where
   pub h : Holdings Named
   pub due : List ℕ
   pub owed : List Event
   pub stood : Stood c (marked log) h due owed []
   pub rule_is : IsRule c (run_of stood) due owed line rule
+  -- where a step is to be answered, and the line names no command that may be served, these may start
+  pub starts_are : is_answer (words line) ≡ true → due ≡ [] → owed ≢ [] → rule ≢ rules.Service
+      → starts ≡ starts_in c (run_of stood)
 
 -- the line of this number is the first that no legal log has there: what stands before it is the beginning of one
-pub record IsFirstWrong (c : Settings) (before : ℕ) (all : List (List ℕ)) (place : ℕ) (rule : Rule) (right : List ℕ) :
-    Type 0 where
+pub record IsFirstWrong (c : Settings) (before : ℕ) (all : List (List ℕ)) (place : ℕ) (rule : Rule)
+    (starts : List Named) (right : List ℕ) : Type 0 where
   pub front : List (List ℕ)
   pub line : List ℕ
   pub back : List (List ℕ)
@@ -58,7 +63,7 @@ pub record IsFirstWrong (c : Settings) (before : ℕ) (all : List (List ℕ)) (p
   pub says : after_line place log line ≡ Ok next
   pub wrong : ¬ (MayGoOn c next.marks)
   -- this is the rule that it breaks
-  pub broken : IsBroken c log line rule
+  pub broken : IsBroken c log line rule starts
   -- and this would have been right there, if it isn't empty
   pub right_there : IsRightThere c log right
 
@@ -87,7 +92,8 @@ pub record IsAtFault (c : Settings) (before : ℕ) (all : List (List ℕ)) (faul
 -- what is said of lines that so many stand before
 abbrev pub Judges : Settings → ℕ → List (List ℕ) → Result Verdict ReadFault → Type 0
 Judges c before all (Ok (verdicts.Legal totals)) = AreLegal c before all totals
-Judges c before all (Ok (verdicts.Wrong number rule right)) = IsFirstWrong c before all number rule right.items
+Judges c before all (Ok (verdicts.Wrong number rule starts right)) =
+    IsFirstWrong c before all number rule starts.items right.items
 Judges c before all (Ok (verdicts.Unanswered right)) = AreUnanswered c before all right.items
 Judges c before all (Err (faults.Script fault)) = IsAtFault c before all fault
 Judges c before all (Err faults.OutOfMemory) = Unit {0}
@@ -104,10 +110,11 @@ abbrev pub Tells : {A : Type 0} → Settings → Log → Log → Judge A → Opt
 Tells c log next new None = IsTold c log next new true
 Tells c log next new (Some rule) = IsTold c log next new false
 
--- the rule that a line breaks which comes to a judge, if it breaks one
-abbrev pub Breaks : {A : Type 0} → Judge A → List ℕ → Option Rule → Type 0
-Breaks judge line None = Unit {0}
-Breaks judge line (Some rule) = (c : Settings) (log : Log) → Stands c log judge → IsBroken c log line rule
+-- the rule that a line breaks which comes to a judge, if it breaks one, and what may start there
+abbrev pub Breaks : {A : Type 0} → Judge A → List ℕ → Option Rule → List Named → Type 0
+Breaks judge line None starts = Unit {0}
+Breaks judge line (Some rule) starts =
+    (c : Settings) (log : Log) → Stands c log judge → IsBroken c log line rule starts
 
 -- something is due, and each legal log that goes on with the line has this trace
 pub record IsAhead {A : Type 0} (c : Settings) (log : Log) (line : List ℕ) (judge : Judge A) : Type 0 where

@@ -14,11 +14,13 @@ ghost use Rattle.mscp_judge.specs.Logs.{IsRightThere, Log, asking, is_answer, no
 ghost use Rattle.mscp_judge.specs.Naming as naming;
 ghost use Rattle.mscp_judge.specs.Naming.{name_of};
 ghost use Rattle.mscp_judge.specs.Rules.{IsStepRule, due_rule, is_service};
+ghost use Rattle.mscp_judge.specs.Starts.{starts_in};
 ghost use Rattle.mscp_judge.specs.Standing.{BeginsWith, Came, IsHeld, IsSettled, Led, Stands, due, totals_of};
 
 use crate::answers::is_service;
 use crate::naming::{Named, name_in, nobody};
 use crate::rules::{Rule, due_rule, step_rule};
+use crate::starting::{Starts, starts};
 use crate::totals::{Peaks, Totals, bound_of, figure_queued};
 use arrayvec::ArrayVec;
 use mscp_control::{Block, Config, Connection, Controller, OutOfMemory};
@@ -26,6 +28,7 @@ use mscp_packet::write_command;
 use mscp_reader::{Request, Words};
 use mscp_script::Reporter;
 use std::alloc::Allocator;
+use std::mem::replace;
 
 /// A line that would have been right. The longest has 107 bytes.
 pub type Right = ArrayVec<u8, 128>;
@@ -38,6 +41,8 @@ pub struct Judge<A: Allocator> {
     peaks: Peaks,
     // How many bytes of the reporter's lines the log has told.
     told: usize,
+    // What might have started at the last step whose line names none of these.
+    starts: Starts,
     // How many steps are to be answered yet, and the outcome of their blocks. A step is answered when its line is read,
     // since that says which command starts.
     owed: u32,
@@ -83,6 +88,7 @@ impl<A: Allocator> Judge<A> {
             reporter: Reporter::new(alloc),
             peaks: Peaks::none(),
             told: 0,
+            starts: Starts::new(),
             owed: 0,
             block: Block::Good,
         }
@@ -174,6 +180,7 @@ impl<A: Allocator> Judge<A> {
         requires count { self.old.reporter.count + 1 < 2 ^ 64 }
         requires owed { 0 < self.old.owed }
         ensures came { OnOk result (Came name self.old self.new (events.Step self.old.block)) }
+        ensures starts { self.new.starts ≡ self.old.starts }
         ensures owed { self.new.owed ≡ self.old.owed - 1 }
         ensures block { self.new.block ≡ self.old.block }
     {
@@ -290,6 +297,29 @@ impl<A: Allocator> Judge<A> {
         }
     }
 
+    /// Keeps what may start, if the line of the next step breaks this rule and names nothing that may.
+    fn keep_starts(&mut self, rule: &Rule)
+        ensures kept { self.new ≡ record self.old { starts = self.new.starts } }
+        ensures starts { rule.now ≢ Rule.Service → (c : Settings) (t : Trace) (begun : named.Named) → IsValid c
+            → Led (fresh c begun) t self.old.controller → self.new.starts.items ≡ starts_in c t }
+        ensures count { self.new.reporter.count ≡ self.old.reporter.count }
+        ensures owed { self.new.owed ≡ self.old.owed }
+    {
+        match rule {
+            Rule::Service => {}
+            _ => self.starts = starts(&self.controller),
+        }
+    }
+
+    /// Gives away what was kept so.
+    pub fn take_starts(&mut self) -> Starts
+        ensures starts { result ≡ self.old.starts }
+        ensures held { (c : Settings) (log : Log) → IsHeld c log self.old → IsHeld c log self.new }
+        ensures count { self.new.reporter.count + self.new.owed ≡ self.old.reporter.count + self.old.owed }
+    {
+        replace(&mut self.starts, Starts::new())
+    }
+
     /// A line tells what the next step does, at which the command starts that it names, or it breaks a rule.
     fn tell_step(&mut self, line: &[u8], words: Words<'_>) -> Result<Option<Rule>, OutOfMemory>
         requires count { self.old.reporter.count + 1 < 2 ^ 64 }
@@ -300,11 +330,12 @@ impl<A: Allocator> Judge<A> {
         requires printed { list_all lexical.is_printed line.now ≡ true }
         ensures tells { IfOk result (λ broken. (c : Settings) (log : Log) → Stands c log self.old
             → Tells c log (telling log (line.now ++ 10 ∷ [])) self.new broken) }
-        ensures breaks { IfOk result (λ broken. Breaks self.old line.now broken) }
+        ensures breaks { IfOk result (λ broken. Breaks self.old line.now broken self.new.starts.items) }
         ensures count { OnOk result (self.new.reporter.count + self.new.owed
             ≡ self.old.reporter.count + self.old.owed) }
     {
         let rule = self.next_rule(words);
+        self.keep_starts(&rule);
         self.step(name_in(words))?;
         if self.tell(line) {
             return Ok(None);
@@ -320,7 +351,7 @@ impl<A: Allocator> Judge<A> {
         requires printed { list_all lexical.is_printed line.now ≡ true }
         ensures tells { IfOk result (λ broken. (c : Settings) (log : Log) → Stands c log self.old
             → Tells c log (telling log (line.now ++ 10 ∷ [])) self.new broken) }
-        ensures breaks { IfOk result (λ broken. Breaks self.old line.now broken) }
+        ensures breaks { IfOk result (λ broken. Breaks self.old line.now broken self.new.starts.items) }
         ensures count { OnOk result (self.new.reporter.count + self.new.owed
             ≡ self.old.reporter.count + self.old.owed) }
     {

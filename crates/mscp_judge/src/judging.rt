@@ -11,6 +11,7 @@ ghost use Rattle.mscp_judge.specs.Standing.{Stands};
 use crate::answers::is_answer;
 use crate::judge::{Judge, Right};
 use crate::rules::Rule;
+use crate::starting::Starts;
 use crate::totals::Totals;
 use mscp_control::Config;
 use mscp_reader::{Line, Lines, ReadFault, request_after, words_of};
@@ -22,8 +23,9 @@ pub enum Verdict {
     /// It is legal, and these are its totals.
     Legal(Totals),
     /// The line of this number is the first that no legal log has there, the rule that it breaks, and what would have
-    /// been right: a line, or nothing where no answer is right.
-    Wrong(u32, Rule, Right),
+    /// been right: a line, or nothing where no answer is right. Where a step is to be answered, and the rule isn't
+    /// `Service`, these commands may start.
+    Wrong(u32, Rule, Starts, Right),
     /// Each line is one that a legal log has there, but at the end an answer is missing: such a line.
     Unanswered(Right),
 }
@@ -39,7 +41,8 @@ pub fn judge_lines<A: Allocator>(
     let mut judge = Judge::new(alloc, config);
     while let Some(bytes) = lines.cut() {
         if let Some(rule) = judge_line(&mut judge, lines.number, bytes)? {
-            return Ok(Verdict::Wrong(lines.number, rule, judge.right()?));
+            let starts = judge.take_starts();
+            return Ok(Verdict::Wrong(lines.number, rule, starts, judge.right()?));
         }
     }
     if judge.is_settled() {
@@ -59,7 +62,7 @@ fn judge_line<A: Allocator>(
     requires count { judge.old.reporter.count + judge.old.owed ≤ MOST_EVENTS }
     ensures hears { (c : Settings) (log : Log) → Stands c log judge.old
         → Hears c number log bytes.now result judge.new }
-    ensures breaks { IfOk result (λ broken. Breaks judge.old bytes.now broken) }
+    ensures breaks { IfOk result (λ broken. Breaks judge.old bytes.now broken judge.new.starts.items) }
     ensures count { IfOk result (λ _. judge.new.reporter.count + judge.new.owed ≤ MOST_EVENTS) }
 {
     let words = words_of(number, bytes)?;

@@ -1,5 +1,6 @@
 -- What is written of a log.
-use Rattle.std.specs.Prelude.{◌≡◌, ℕ, List, ◌++◌, codes, if◌then◌else◌, Option, Result, Ok, Err}
+use Rattle.std.specs.Prelude.{◌≡◌, ℕ, Bool, true, false, List, [], ◌++◌, codes, if◌then◌else◌, Option, Result, Ok, Err}
+use Rattle.std.specs.List.{flat_map}
 use Rattle.std.specs.Fmt.{decimal}
 use Rattle.std.specs.Io.KnownBytes.{Appends}
 use Rattle.mscp_reader.specs.declared.fault.ReadFault.{ReadFault}
@@ -35,7 +36,7 @@ fault_of_log scripts.OutOfMemory = faults.OutOfMemory
 -- how a log is judged by a verdict
 abbrev pub outcome_of : Verdict → Outcome
 outcome_of (verdicts.Legal totals) = outcomes.Legal
-outcome_of (verdicts.Wrong line rule right) = outcomes.Wrong
+outcome_of (verdicts.Wrong line rule starts right) = outcomes.Wrong
 outcome_of (verdicts.Unanswered right) = outcomes.Wrong
 
 -- the rest of the line of the totals
@@ -88,6 +89,22 @@ abbrev pub wrong_text : ℕ → Rule → List ℕ
 wrong_text line rule =
     codes "line " ++ decimal line ++ codes ": not legal\nrule: " ++ rule_text rule ++ codes "\n"
 
+-- where a step is to be answered, and the line names no command that may be served, what may start is told
+abbrev pub has_starts : Rule → Bool
+has_starts rules.Idle = true
+has_starts rules.NotWaiting = true
+has_starts (rules.KeptBack holder) = true
+has_starts rule = false
+
+-- a name behind a space
+abbrev pub spaced_name : Named → List ℕ
+spaced_name named = codes " " ++ name_text named.connection named.reference
+
+-- the line of the commands that may start
+abbrev pub starts_text : Rule → List Named → List ℕ
+starts_text rule starts =
+    if has_starts rule then codes "may start:" ++ flat_map spaced_name starts ++ codes "\n" else []
+
 -- the line of a log that isn't whole
 abbrev pub unanswered_text : List ℕ
 unanswered_text = codes "end: not legal\n"
@@ -95,7 +112,8 @@ unanswered_text = codes "end: not legal\n"
 -- the lines that say a verdict
 abbrev pub verdict_text : Verdict → List ℕ
 verdict_text (verdicts.Legal totals) = legal_text totals
-verdict_text (verdicts.Wrong line rule right) = wrong_text line rule ++ right_text right.items
+verdict_text (verdicts.Wrong line rule starts right) =
+    wrong_text line rule ++ starts_text rule starts.items ++ right_text right.items
 verdict_text (verdicts.Unanswered right) = unanswered_text ++ right_text right.items
 
 -- what is written is the verdict of the log that the reader gave. Nothing is written on a fault, and a fault of the log

@@ -1,7 +1,8 @@
 // What is said of a log.
 
 ghost use Rattle.std.specs.Prelude.{◌≡◌, ◌++◌, false, OnOk, IfOk};
-ghost use Rattle.mscpjudge.specs.Said.{Says, holder_text, legal_text, name_text, outcome_of, peaks_text, right_text, rule_text, served_text, unanswered_text, verdict_text, wrong_text};
+ghost use Rattle.std.specs.List.{flat_map};
+ghost use Rattle.mscpjudge.specs.Said.{Says, has_starts, holder_text, legal_text, name_text, outcome_of, peaks_text, right_text, rule_text, served_text, spaced_name, starts_text, unanswered_text, verdict_text, wrong_text};
 
 use crate::fault::Fault;
 use mscp_control::{Connection, Holder};
@@ -114,19 +115,60 @@ fn put_rule<A: Allocator>(text: &mut Vec<u8, A>, rule: &Rule) -> Result<(), Allo
     }
 }
 
+/// Whether it is told which commands may start, where this rule is broken: where a step is to be answered, and the line
+/// names none that may be served.
+fn has_starts(rule: &Rule) -> bool
+    ensures { result ≡ has_starts rule.now }
+{
+    match rule {
+        Rule::Idle | Rule::NotWaiting | Rule::KeptBack(_) => true,
+        _ => false,
+    }
+}
+
+/// Appends these names, each behind a space.
+fn put_names<A: Allocator>(text: &mut Vec<u8, A>, names: &[Named]) -> Result<(), AllocError>
+    ensures { OnOk result (text.new.items ≡ text.old.items ++ flat_map spaced_name names.now) }
+{
+    for named in names {
+        put(text, " ")?;
+        put_name(text, named.connection, named.reference)?;
+    }
+    Ok(())
+}
+
+/// Appends the line of the commands that may start.
+fn put_starts<A: Allocator>(
+    text: &mut Vec<u8, A>,
+    rule: &Rule,
+    starts: &[Named],
+) -> Result<(), AllocError>
+    ensures { OnOk result (text.new.items ≡ text.old.items ++ starts_text rule.now starts.now) }
+{
+    if !has_starts(rule) {
+        return Ok(());
+    }
+    put(text, "may start:")?;
+    put_names(text, starts)?;
+    put(text, "\n")
+}
+
 /// Appends the lines of a log whose line of this number isn't legal, for this rule.
 fn put_wrong<A: Allocator>(
     text: &mut Vec<u8, A>,
     line: u32,
     rule: &Rule,
+    starts: &[Named],
     right: &Right,
 ) -> Result<(), AllocError>
-    ensures { OnOk result (text.new.items ≡ text.old.items ++ wrong_text line rule.now ++ right_text right.now.items) }
+    ensures { OnOk result (text.new.items
+        ≡ text.old.items ++ wrong_text line rule.now ++ starts_text rule.now starts.now ++ right_text right.now.items) }
 {
     put_field(text, "line ", line)?;
     put(text, ": not legal\nrule: ")?;
     put_rule(text, rule)?;
     put(text, "\n")?;
+    put_starts(text, rule, starts)?;
     put_right(text, right)
 }
 
@@ -144,7 +186,9 @@ fn put_verdict<A: Allocator>(text: &mut Vec<u8, A>, verdict: &Verdict) -> Result
 {
     match verdict {
         Verdict::Legal(totals) => put_legal(text, totals),
-        Verdict::Wrong(line, rule, right) => put_wrong(text, *line, rule, right),
+        Verdict::Wrong(line, rule, starts, right) => {
+            put_wrong(text, *line, rule, starts.as_slice(), right)
+        }
         Verdict::Unanswered(right) => put_unanswered(text, right),
     }
 }

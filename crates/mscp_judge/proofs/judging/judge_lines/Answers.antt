@@ -6,7 +6,7 @@ use Rattle.mscp_reader.specs.Lexical.{lines}
 use Rattle.mscp_reader.specs.declared.fault.ReadFault.{ReadFault}
 use Rattle.mscp_reader.specs.declared.fault.ReadFault.TheVariants as faults
 use Rattle.mscp_judge.specs.declared.judge.Judge.{Judge}
-use Rattle.mscp_judge.specs.Judged.{Breaks, Hears, Judges, Tells}
+use Rattle.mscp_judge.specs.Judged.{Breaks, Hears, IsBroken, Judges, Tells}
 use Rattle.mscp_judge.specs.Logs.{Log, MayGoOn, after_lines, nothing, whole}
 use Rattle.mscp_judge.specs.declared.totals.Totals.{Totals}
 use Rattle.mscp_judge.specs.Standing.{totals_of}
@@ -63,8 +63,9 @@ returns-in-Some-2 g c =
     let i = c.loop-bytes.invariant in
     let k = c.in_ok-rule.ensures.hears c.args.config i.log i.stands in
     let told = subst (λ b. Tells c.args.config i.log k.0 c.judge_line.new.judge b) c.in-Some-2.is k.2 in
-    let breaks = subst (λ b. Breaks c.loop-bytes.judge c.in-Some.bytes.now b) c.in-Some-2.is
-    c.in_ok-rule.ensures.breaks in
+    let breaks = subst (λ b. Breaks c.loop-bytes.judge c.in-Some.bytes.now b c.judge_line.new.judge.starts.items)
+    c.in-Some-2.is c.in_ok-rule.ensures.breaks in
+    let starts = c.take_starts-starts in
     record {
       front = i.front;
       line = c.in-Some.bytes.now;
@@ -77,8 +78,9 @@ returns-in-Some-2 g c =
       opens = stands_open c.args.config i.log c.loop-bytes.judge i.stands;
       says = k.1;
       wrong = told.0;
-      broken = breaks c.args.config i.log i.stands;
-      right_there = c.in_ok-right.ensures c.args.config i.log told.1;
+      broken = subst (λ ns. IsBroken c.args.config i.log c.in-Some.bytes.now c.in-Some-2.rule ns)
+          (sym (ap (λ x. x.items) starts.ensures.starts)) (breaks c.args.config i.log i.stands);
+      right_there = c.in_ok-right.ensures c.args.config i.log (starts.ensures.held c.args.config i.log told.1);
     }
 
 pub loop-bytes-preserved : goal.loop-bytes-preserved

@@ -5,7 +5,7 @@ use Rattle.mscp_judge.specs.declared.rules.Rule.TheVariants as rules
 use Rattle.mscp_judge.specs.Naming.{name_of}
 use Rattle.mscp_judge.specs.Rules.{IsStepRule}
 use Rattle.mscp_judge.proofs.Leading.{follow}
-use Rattle.mscp_judge.proofs.Starting.{is_another, is_free_to, is_kept_back, is_nowhere, is_own, some_first}
+use Rattle.mscp_judge.proofs.Hindered.{is_another, is_free_to, is_kept_back, is_nowhere, is_own, some_first}
 use Rattle.mscp_judge.proofs.rules.step_rule.Goals as goal
 
 pub returns-then-eq : goal.returns-then-eq

@@ -1,10 +1,10 @@
 -- What keeps a step from serving a command, as a controller and as the history have it.
 use Rattle.std.proofs.Common.{◌≡◌, ◌≢◌, inl, inr, ⊎_elim, ℕ, ◌<◌, ◌≤◌, Bool, true, false, List, [], ◌∷◌, map, take, length, refl, ap, sym, ◌∙◌, subst, arith}
-use Rattle.std.specs.Prelude.{All, Contains, find, nat_eq, slice_index_or, Some}
+use Rattle.std.specs.Prelude.{All, Contains, filter, find, nat_eq, nat_lt, slice_index_or, Some}
 use Rattle.std.specs.List.{AllByRecursion}
-use Rattle.std.proofs.lemmas.Bool.{eq-eqb}
+use Rattle.std.proofs.lemmas.Bool.{cases_Bool, eq-eqb, true≢false}
 use Rattle.std.proofs.lemmas.List.{length-map, take_all}
-use Rattle.std.proofs.lemmas.List.Elements.{recursion_from_All}
+use Rattle.std.proofs.lemmas.List.Elements.{All-contains, All-from_recursion, recursion_from_All}
 use Rattle.mscp_queue.specs.declared.name.Connection.TheVariants.{First}
 use Rattle.mscp_queue.specs.declared.name.Name.{Name}
 use Rattle.mscp_queue.specs.declared.why.Holder.{Holder}
@@ -12,9 +12,9 @@ use Rattle.mscp_queue.specs.Figures.{figure_of_name}
 use Rattle.mscp_queue.specs.Names.{same_name}
 use Rattle.mscp_queue.specs.Records.{IsServing, Record, is_in_service, name_of as record_name}
 use Rattle.mscp_queue.specs.Why.{holders_of_name, is_nobody}
-use Rattle.mscp_queue.proofs.Lists.{every_mapped, every_parts, every_weaker}
-use Rattle.mscp_queue.proofs.Named.{same_is}
-use Rattle.mscp_queue.proofs.Placed.{find_cases, find_first, find_none}
+use Rattle.mscp_queue.proofs.Lists.{every_from, every_mapped, every_parts, every_weaker, filter_none, filter_on}
+use Rattle.mscp_queue.proofs.Named.{is_differ, is_same, same_is}
+use Rattle.mscp_queue.proofs.Placed.{filter_map_of, find_cases, find_first, find_none, map_map}
 use Rattle.mscp_control.specs.Settings.{IsValid, Settings}
 use Rattle.mscp_control.specs.History.{Trace}
 use Rattle.mscp_control.specs.Commands.{done, in_service, is_idle, is_waiting, name, waiting}
@@ -22,16 +22,22 @@ use Rattle.mscp_control.specs.Figures.{figure_found, figure_of}
 use Rattle.mscp_control.specs.Headline.{EachWaiting}
 use Rattle.mscp_control.specs.Holders.{holders, holders_found, holders_of}
 use Rattle.mscp_control.specs.Holdings.{Holdings}
-use Rattle.mscp_control.proofs.Bridge.Held.{figure_of_held, held_of}
+use Rattle.mscp_control.specs.Legal.{shown}
+use Rattle.mscp_control.specs.Passing.{is_startable, startable}
+use Rattle.mscp_control.proofs.Bridge.Held.{figure_of_held, figures_held, held_of}
 use Rattle.mscp_control.proofs.Bridge.Holders.{holders_of_held, startable_unheld}
 use Rattle.mscp_control.proofs.Bridge.Servable.{all_of, waits_at}
 use Rattle.mscp_control.proofs.Bridge.Viewed.{record_held, waiting_at}
-use Rattle.mscp_control.proofs.Promise.Progress.{progress}
-use Rattle.mscp_control.proofs.Promise.Waits.{waiting_waits}
+use Rattle.mscp_control.proofs.Promise.Among.{alone}
+use Rattle.mscp_control.proofs.Promise.Falls.{every_split}
+use Rattle.mscp_control.proofs.Promise.Progress.{progress, waits_in}
+use Rattle.mscp_control.proofs.Promise.Starts.{startable_parts}
+use Rattle.mscp_control.proofs.Promise.Waits.{cut_of, waiting_waits}
 use Rattle.mscp_judge.specs.declared.naming.Named.{Named}
 use Rattle.mscp_judge.specs.declared.rules.Rule.TheVariants as rules
 use Rattle.mscp_judge.specs.Naming.{name_of}
 use Rattle.mscp_judge.specs.Rules.{IsStepRule}
+use Rattle.mscp_judge.specs.Starts.{is_open, named, named_in, names, starts_in}
 use Rattle.mscp_judge.proofs.Leading.{Follow}
 
 -- ---- a command in service
@@ -134,3 +140,54 @@ no_holder = record { connection = First; reference = 0; fences = false; overdraw
 pub some_first : (hs : List Holder) → hs ≢ [] → (rest : List Holder) × (hs ≡ slice_index_or hs 0 no_holder ∷ rest)
 some_first [] some = absurd (some refl)
 some_first (holder ∷ rest) some = (rest, refl)
+
+-- ---- all that may start
+
+-- of the name of a waiting command nobody is told exactly if nobody keeps it back
+own_holders : (c : Settings) (t : Trace) (h : Holdings Named) → Follow c t h
+    → AllByRecursion (λ y. holders_of c t (name t y) ≡ holders c t y) (waiting t)
+unfolding holders_of
+own_holders c t h k =
+    every_split (λ y. holders_of c t (name t y) ≡ holders c t y) (waiting t)
+    (λ A y B e.
+    let a = alone t y A B k.agrees.follows.known.steady.apart (cut_of t A y B e) in
+    let q : ℕ → Bool = λ x. same_name (name t x) (name t y) in
+    ap (holders_found c t) (ap (find q) e ∙ find_first q A y B
+    (every_weaker (λ x. name t x ≢ name t y) (λ x. q x ≡ false) (λ x n. is_differ (name t x) (name t y) n) A a.before)
+    (is_same (name t y) (name t y) refl)))
+
+pub all_open : (c : Settings) (t : Trace) (h : Holdings Named) → Follow c t h → All (λ r. r.done ≡ 0) h.waiting
+    → filter (is_open h.settings.budget h.waiting) (names h.settings.budget h.waiting) ≡ starts_in c t
+unfolding startable
+all_open c t h k idle =
+    let W = waiting t in
+    let rs = map (held_of t) W in
+    let p = is_open c.budget rs in
+    let now = idle_held t h.waiting k.agrees.follows.waits idle in
+    let named_all : names c.budget rs ≡ map (named_in t) W =
+    ap (map named) (figures_held c t) ∙ map_map (shown c t) named W in
+    let each = every_weaker (λ y. holders_of c t (name t y) ≡ holders c t y)
+    (λ y. p (named_in t y) ≡ is_startable c t y)
+    (λ y e. ap is_nobody (holders_of_held c t (name t y) ∙ e) ∙ sym (startable_unheld c t y now)) W
+    (own_holders c t h k) in
+    (λ i. filter (is_open (k.settings i).budget (k.agrees.follows.waits i))
+    (names (k.settings i).budget (k.agrees.follows.waits i)))
+    ∙ (ap (filter p) named_all ∙ (filter_map_of (named_in t) p W
+    ∙ ap (map (named_in t)) (filter_on (λ y. p (named_in t y)) (is_startable c t) W each)))
+
+pub none_open : (c : Settings) (t : Trace) (h : Holdings Named) (n : Name) → Follow c t h → IsServing n h.waiting
+    → [] ≡ starts_in c t
+unfolding startable
+none_open c t h n k s =
+    let x = served_at t n h.waiting k.agrees.follows.waits s in
+    let served : (y : ℕ) → is_startable c t y ≡ true → ⊥ = λ y e.
+    let idle = one_in (waiting t) (startable_parts c t y e).idle x.0 (waits_in t x.0 x.1) in
+    true≢false (sym x.2 ∙ ap (nat_lt 0) idle) in
+    sym (ap (map (named_in t)) (filter_none (is_startable c t) (waiting t)
+    (every_from (λ y. is_startable c t y ≡ false) (λ y. never y (served y)) (waiting t))))
+  where
+    one_in : (xs : List ℕ) → AllByRecursion (λ z. done t z ≡ 0) xs → (z : ℕ) → Contains xs z → done t z ≡ 0
+    one_in xs all z w = All-contains (λ y. done t y ≡ 0) xs z (All-from_recursion (λ y. done t y ≡ 0) xs all) w
+
+    never : (y : ℕ) → (is_startable c t y ≡ true → ⊥) → is_startable c t y ≡ false
+    never y cannot = ⊎_elim (λ e. absurd (cannot e)) (λ e. e) (cases_Bool (is_startable c t y))
