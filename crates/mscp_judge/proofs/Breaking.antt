@@ -19,7 +19,7 @@ use Rattle.mscp_judge.specs.Standing.{Led, Stands, due, owed, run_of}
 broken : {A : Type 0} (c : Settings) (log : Log) (line : List ℕ) (judge : Judge A) (rule : Rule)
     (starts : List Named) (s : Stands c log judge)
     → IsRule c (run_of s.counted.stood) (due judge) (owed judge) line rule
-    → (is_answer (words line) ≡ true → due judge ≡ [] → owed judge ≢ [] → rule ≢ rules.Service
+    → (is_answer (words line) ≡ true → due judge ≡ [] → owed judge ≢ [] → rule ≢ rules.Service → rule ≢ rules.Idle
     → starts ≡ starts_in c (run_of s.counted.stood)) → IsBroken c log line rule starts
 broken c log line judge rule starts s r o = record {
   h = judge.controller;
@@ -71,7 +71,8 @@ pub broken_step : {A : Type 0} (c : Settings) (log : Log) (line : List ℕ) (jud
     → (is_service (words line) ≡ false → rule ≡ rules.Idle)
     → (is_service (words line) ≡ true → (t : Trace) (begun : Named) → IsValid c → Led (fresh c begun) t judge.controller
     → IsStepRule c t (name_of (name_in (words line))) rule)
-    → (rule ≢ rules.Service → (t : Trace) (begun : Named) → IsValid c → Led (fresh c begun) t judge.controller
+    → (rule ≢ rules.Service → rule ≢ rules.Idle → (t : Trace) (begun : Named) → IsValid c
+    → Led (fresh c begun) t judge.controller
     → starts ≡ starts_in c t) → IsBroken c log line rule starts
 broken_step c log line judge rule starts s none a some idle step may = broken c log line judge rule starts s (record {
   asks = λ n. absurd (true≢false (sym a ∙ n));
@@ -79,4 +80,4 @@ broken_step c log line judge rule starts s none a some idle step may = broken c 
   unasked = λ b d o. absurd (some o);
   idle = λ b d o e. idle e;
   step = λ b d o e. step e (run_of s.counted.stood) s.counted.stood.begun s.counted.stood.valid s.counted.stood.led;
-}) (λ b d o e. may e (run_of s.counted.stood) s.counted.stood.begun s.counted.stood.valid s.counted.stood.led)
+}) (λ b d o e f. may e f (run_of s.counted.stood) s.counted.stood.begun s.counted.stood.valid s.counted.stood.led)

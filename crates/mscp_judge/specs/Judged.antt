@@ -44,8 +44,8 @@ pub record IsBroken (c : Settings) (log : Log) (line : List ℕ) (rule : Rule) (
   pub owed : List Event
   pub stood : Stood c (marked log) h due owed []
   pub rule_is : IsRule c (run_of stood) due owed line rule
-  -- where a step is to be answered, and the line names no command that may be served, these may start
-  pub starts_are : is_answer (words line) ≡ true → due ≡ [] → owed ≢ [] → rule ≢ rules.Service
+  -- where a step is to be answered, and the line names a command that may not be served, these may start
+  pub starts_are : is_answer (words line) ≡ true → due ≡ [] → owed ≢ [] → rule ≢ rules.Service → rule ≢ rules.Idle
       → starts ≡ starts_in c (run_of stood)
 
 -- the line of this number is the first that no legal log has there: what stands before it is the beginning of one

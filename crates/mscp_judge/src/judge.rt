@@ -297,16 +297,16 @@ impl<A: Allocator> Judge<A> {
         }
     }
 
-    /// Keeps what may start, if the line of the next step breaks this rule and names nothing that may.
+    /// Keeps what may start, if the line of the next step breaks this rule and names a command that may not.
     fn keep_starts(&mut self, rule: &Rule)
         ensures kept { self.new ≡ record self.old { starts = self.new.starts } }
-        ensures starts { rule.now ≢ Rule.Service → (c : Settings) (t : Trace) (begun : named.Named) → IsValid c
+        ensures starts { rule.now ≢ Rule.Service → rule.now ≢ Rule.Idle → (c : Settings) (t : Trace) (begun : named.Named) → IsValid c
             → Led (fresh c begun) t self.old.controller → self.new.starts.items ≡ starts_in c t }
         ensures count { self.new.reporter.count ≡ self.old.reporter.count }
         ensures owed { self.new.owed ≡ self.old.owed }
     {
         match rule {
-            Rule::Service => {}
+            Rule::Service | Rule::Idle => {}
             _ => self.starts = starts(&self.controller),
         }
     }

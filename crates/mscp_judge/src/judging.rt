@@ -23,8 +23,8 @@ pub enum Verdict {
     /// It is legal, and these are its totals.
     Legal(Totals),
     /// The line of this number is the first that no legal log has there, the rule that it breaks, and what would have
-    /// been right: a line, or nothing where no answer is right. Where a step is to be answered, and the rule isn't
-    /// `Service`, these commands may start.
+    /// been right: a line, or nothing where no answer is right. Where a step is to be answered, and the rule is
+    /// neither `Service` nor `Idle`, these commands may start.
     Wrong(u32, Rule, Starts, Right),
     /// Each line is one that a legal log has there, but at the end an answer is missing: such a line.
     Unanswered(Right),

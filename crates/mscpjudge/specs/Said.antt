@@ -89,9 +89,8 @@ abbrev pub wrong_text : ℕ → Rule → List ℕ
 wrong_text line rule =
     codes "line " ++ decimal line ++ codes ": not legal\nrule: " ++ rule_text rule ++ codes "\n"
 
--- where a step is to be answered, and the line names no command that may be served, what may start is told
+-- where a step is to be answered, and the line names a command that may not be served, what may start is told
 abbrev pub has_starts : Rule → Bool
-has_starts rules.Idle = true
 has_starts rules.NotWaiting = true
 has_starts (rules.KeptBack holder) = true
 has_starts rule = false

@@ -116,12 +116,12 @@ fn put_rule<A: Allocator>(text: &mut Vec<u8, A>, rule: &Rule) -> Result<(), Allo
 }
 
 /// Whether it is told which commands may start, where this rule is broken: where a step is to be answered, and the line
-/// names none that may be served.
+/// names one that may not be served.
 fn has_starts(rule: &Rule) -> bool
     ensures { result ≡ has_starts rule.now }
 {
     match rule {
-        Rule::Idle | Rule::NotWaiting | Rule::KeptBack(_) => true,
+        Rule::NotWaiting | Rule::KeptBack(_) => true,
         _ => false,
     }
 }

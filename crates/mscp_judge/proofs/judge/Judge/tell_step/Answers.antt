@@ -52,4 +52,4 @@ returns-clause-breaks g c =
     (λ e. c.next_rule-rule.ensures.idle (ap is_service c.requires.words ∙ e))
     (λ e t begun v led. subst (λ ws. IsStepRule d t (name_of (name_in ws)) c.next_rule-rule.result) c.requires.words
     (c.next_rule-rule.ensures.step (ap is_service c.requires.words ∙ e) d t begun v led))
-    (λ e t begun v led. same ∙ c.keep_starts.ensures.starts e d t begun v led)
+    (λ e f t begun v led. same ∙ c.keep_starts.ensures.starts e f d t begun v led)
