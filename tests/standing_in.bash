@@ -8,19 +8,21 @@ export STAND_IN=$room/stand_in PATH=$PWD/tests/stand_in:$PATH TMPDIR=$room/tmp
 unset CC
 mkdir "$TMPDIR"
 
-# A tree of three tiny crates with nothing built, and nothing that rt was told or has told.
+# A tree of four tiny crates with nothing built, and nothing that rt was told or has told.
 plant() {
     rm -rf -- "$tree" "$STAND_IN" "$room/commands"
-    mkdir -p "$STAND_IN" "$tree"/{docs/pictures,include,examples} "$tree"/crates/{low,mscp_c,mscpq}/{src/out,specs,proofs/main}
+    mkdir -p "$STAND_IN" "$tree"/{docs/pictures,include,examples} "$tree"/crates/{low,mscp_c,mscpq,mscpjudge}/{src/out,specs,proofs/main}
     cp mscpq install building.bash "$tree"
     echo 'a kit' >"$STAND_IN/kit"
     echo 'Handles allowed: none.' >"$tree/HANDLES"
-    printf '%s\n' '# The crates.' 'low: std' 'mscpq: low' 'mscp_c staticlib: low' >"$tree/crates.txt"
+    printf '%s\n' '# The crates.' 'low: std' 'mscpq: low' 'mscp_c staticlib: low' 'mscpjudge: low' >"$tree/crates.txt"
     echo low >"$tree/crates/low/src/lib.rt"
     echo main >"$tree/crates/mscpq/src/main.rt"
+    echo judge >"$tree/crates/mscpjudge/src/main.rt"
     echo library >"$tree/crates/mscp_c/src/lib.rt"
-    echo probe >"$tree/crates/mscpq/stdin"
+    echo probe | tee "$tree/crates/mscpq/stdin" >"$tree/crates/mscpjudge/stdin"
     echo page >"$tree/docs/mscpq.1"
+    echo judging >"$tree/docs/mscpjudge.1"
     echo calls >"$tree/docs/mscp.3"
     echo document >"$tree/docs/C.md"
     echo picture >"$tree/docs/pictures/it.svg"

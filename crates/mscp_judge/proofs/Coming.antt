@@ -1,6 +1,6 @@
 -- What a call leaves, as a judge stands then.
 use Rattle.std.proofs.Common.{◌≡◌, ◌≢◌, ◌⊎◌, inl, inr, ℕ, zero, suc, ◌+◌, ◌-◌, ◌<◌, true, false, List, [], ◌∷◌, ◌++◌, drop, length, replicate, refl, ap, sym, ◌∙◌, subst, arith, length-append, length-drop, drop-drop, append_assoc, append-nil}
-use Rattle.std.specs.Prelude.{OnOk, Result, Ok, Err}
+use Rattle.std.specs.Prelude.{All, OnOk, Result, Ok, Err, ◌≤◌}
 use Rattle.std.specs.List.{list_all}
 use Rattle.std.proofs.Math.Seq.{drop-append_seam}
 use Rattle.std.proofs.lemmas.List.{length-replicate}
@@ -11,21 +11,29 @@ use Rattle.mscp_control.specs.declared.event.Event.TheVariants as events
 use Rattle.mscp_control.specs.declared.event.Entry.{Entry}
 use Rattle.mscp_control.specs.declared.event.Entry.TheVariants as entries
 use Rattle.mscp_control.specs.declared.memory.OutOfMemory.{OutOfMemory}
-use Rattle.mscp_control.specs.Settings.{IsValid, Settings}
+use Rattle.mscp_queue.specs.Records.{Record, record_at}
+use Rattle.mscp_control.specs.Settings.{IsValid, Settings, bound}
 use Rattle.mscp_control.specs.History.{Trace, is_step}
 use Rattle.mscp_control.specs.Holdings.{Answers, Holdings, fresh}
 use Rattle.mscp_control.specs.Legal.{IsLegal}
 use Rattle.mscp_reader.specs.Lexical.{is_printed, words}
-use Rattle.mscp_script.specs.Text.{Reported, entry_lines, with_entry}
+use Rattle.mscp_script.specs.Text.{Reported, entry_lines, reported, step_count, with_entry}
 use Rattle.mscp_judge.specs.declared.judge.Judge.{Judge}
 use Rattle.mscp_judge.specs.declared.naming.Named.{Named}
+use Rattle.mscp_judge.specs.declared.totals.Totals.{Totals}
 use Rattle.mscp_judge.specs.Judged.{IsAhead}
 use Rattle.mscp_judge.specs.Logs.{Asked, IsRightThere, Log, Mark, MayGoOn, IsLegalLog, asking, events_in, nothing, telling, told, transcript, whole}
 use Rattle.mscp_judge.specs.Naming.{IsNamed, name_in, nobody}
-use Rattle.mscp_judge.specs.Standing.{BeginsWith, Came, Held, IsHeld, IsSettled, Stands, Stood, due, marked, owed, with_picker}
+use Rattle.mscp_judge.specs.Standing.{BeginsWith, Came, Counted, Held, IsHeld, IsSettled, Stands, Stood, due, marked, owed, run_of, totals_of, with_picker}
+use Rattle.mscp_judge.specs.Totals.{AreTotals, IsLarger, figure_queued}
 use Rattle.mscp_judge.proofs.Feeds.{NoFeed, some_none, step_ends}
+use Rattle.mscp_judge.proofs.Leading.{follow}
 use Rattle.mscp_judge.proofs.Marks.{asked_parts, goes_on, is_legal_log, is_whole, lead, may_go_on}
-use Rattle.mscp_judge.proofs.Standing.{ahead_of, all_told, event_on, finished, held_of, no_step, opens, opens_with, refused, step_held, step_on, steps_on, told_on, unasked}
+use Rattle.mscp_judge.proofs.Standing.{held_of, refused, unasked}
+use Rattle.mscp_judge.proofs.Stepping.{step_held}
+use Rattle.mscp_judge.proofs.Ending.{all_told, finished, no_step, opens, opens_with}
+use Rattle.mscp_judge.proofs.Counted.{ahead_counted, event_counted, finished_run, step_counted, steps_counted, told_counted}
+use Rattle.mscp_judge.proofs.Tallies.{totals_none}
 
 -- ---- an event
 
@@ -34,53 +42,71 @@ pub came_on : {A : Type 0} (r : Result (Unit {0}) OutOfMemory) (old new : Judge 
     (entry : Entry) (mid : Reported) → Answers (IsNamed name)
     (with_picker old.controller name) event entry new.controller
     → mid ≡ record old.reporter { lines = [] } → OnOk r (new.reporter ≡ with_entry mid entry) → new.told ≡ 0
+    → (figure passed : ℕ) → figure ≡ figure_queued new.controller entry
+    → passed ≡ (record_at new.controller.waiting 0).passed → IsLarger old.peaks.figure figure new.peaks.figure
+    → IsLarger old.peaks.passed passed new.peaks.passed → All (λ r. r.passed ≤ passed) new.controller.waiting
     → OnOk r (Came name old new event)
-came_on (Ok x) old new name event entry mid a m e z =
+came_on (Ok x) old new name event entry mid a m e z figure passed f p lf lp o =
     record {
       entry = entry;
       answers = a;
       due = ap (λ n. drop n new.reporter.lines) z ∙ (ap (λ (q : Reported). q.lines) e
           ∙ ap (λ (q : Reported). q.lines ++ entry_lines entry) m);
       count = ap (λ (q : Reported). q.count) e ∙ ap (λ (q : Reported). q.count + 1) m;
+      adds = λ c. record {
+        moments = ap (λ (q : Reported). q.count) e ∙ ap (λ (q : Reported). q.count + 1) m;
+        steps = ap (λ (q : Reported). q.steps) e ∙ ap (λ (q : Reported). q.steps + step_count entry) m;
+        figure = subst (λ n. IsLarger old.peaks.figure n new.peaks.figure) f lf;
+        bound = refl;
+        passed = subst (λ n. IsLarger old.peaks.passed n new.peaks.passed) p lp;
+        oldest = subst (λ n. All (λ (r : Record). r.passed ≤ n) new.controller.waiting) p o;
+      };
     }
-came_on (Err x) old new name event entry mid a m e z = tt
+came_on (Err x) old new name event entry mid a m e z figure passed f p lf lp o = tt
 
 -- ---- a new judge
 
 pub stands_new : {A : Type 0} (c : Settings) (judge : Judge A) → IsValid c → judge.controller ≡ fresh c nobody
-    → due judge ≡ [] → judge.reporter.count ≡ 0 → judge.owed ≡ 0 → Stands c nothing judge
-stands_new {A} c judge v e d n o =
+    → due judge ≡ [] → judge.reporter ≡ reported [] → judge.owed ≡ 0 → judge.peaks.figure ≡ 0
+    → judge.peaks.passed ≡ 0 → Stands c nothing judge
+stands_new {A} c judge v e d r o f p =
+    let n = ap (λ (q : Reported). q.count) r in
     let only : (others : List Trace) (more : List Mark) → IsLegal c (whole others)
     → Asked [] ∷ more ≡ transcript others
     → (next : Trace) × (rest : List Trace) × (events_in next ≡ []) × (others ≡ next ∷ rest) =
     λ others more l f. let p = asked_parts [] more others f in (p.0, p.1, p.3, p.2) in
-    let stood : Stood c (marked nothing) (fresh c nobody) [] [] [] = record {
-      parts = [];
-      now = [];
-      begun = nobody;
-      valid = v;
-      led = refl;
-      said = refl;
-      ends = inl refl;
-      only = only;
+    let totals = totals_of c judge in
+    let counted : Counted c (marked nothing) (fresh c nobody) [] [] [] totals = record {
+      stood = record {
+        parts = [];
+        now = [];
+        begun = nobody;
+        valid = v;
+        led = refl;
+        said = refl;
+        ends = inl refl;
+        only = only;
+      };
+      are = totals_none c totals n (ap (λ (q : Reported). q.steps) r) f refl p;
     } in
     record {
-      stood = subst (λ (h : Holdings Named). Stood c (marked nothing) h (due judge) (owed judge) []) (sym e)
-          (subst (λ bs. Stood c (marked nothing) (fresh c nobody) bs (owed judge) []) (sym d)
-          (subst (λ es. Stood c (marked nothing) (fresh c nobody) [] es [])
-          (ap (λ k. replicate k (events.Step judge.block)) (sym o)) stood));
+      counted = subst (λ (h : Holdings Named). Counted c (marked nothing) h (due judge) (owed judge) [] totals) (sym e)
+          (subst (λ bs. Counted c (marked nothing) (fresh c nobody) bs (owed judge) [] totals) (sym d)
+          (subst (λ es. Counted c (marked nothing) (fresh c nobody) [] es [] totals)
+          (ap (λ k. replicate k (events.Step judge.block)) (sym o)) counted));
       count = omega (arith, n, o);
     }
 
 -- ---- a line that asks
 
 -- where all is answered and told
-pub settled_stood : {A : Type 0} (c : Settings) (log : Log) (judge : Judge A) → Stands c log judge → IsSettled judge
-    → Stood c (marked log) judge.controller [] [] []
-settled_stood c log judge s q =
-    subst (λ es. Stood c (marked log) judge.controller [] es [])
+pub settled : {A : Type 0} (c : Settings) (log : Log) (judge : Judge A) → Stands c log judge → IsSettled judge
+    → Counted c (marked log) judge.controller [] [] [] (totals_of c judge)
+settled c log judge s q =
+    let totals = totals_of c judge in
+    subst (λ es. Counted c (marked log) judge.controller [] es [] totals)
     (ap (λ k. replicate k (events.Step judge.block)) q.answered)
-    (subst (λ bs. Stood c (marked log) judge.controller bs (owed judge) []) q.told s.stood)
+    (subst (λ bs. Counted c (marked log) judge.controller bs (owed judge) [] totals) q.told s.counted)
 
 pub asked_one : {A : Type 0} (r : Result (Unit {0}) OutOfMemory) (old new : Judge A) (name : Named) (event : Event)
     → is_step event ≡ false → IsSettled old → OnOk r (Came name old new event) → new.owed ≡ old.owed
@@ -90,33 +116,47 @@ asked_one {A} (Ok x) old new name event o q came w =
     λ c log s.
     let marks = marked (asking log (event ∷ []) (log.events ++ event ∷ [])) in
     let none : new.owed ≡ 0 = w ∙ q.answered in
-    let stood : Stood c marks new.controller (entry_lines came.entry) [] [] =
-    event_on c (marked log) old.controller new.controller name event came.entry o (settled_stood c log old s q)
-    came.answers in
+    let totals = totals_of c new in
+    let counted : Counted c marks new.controller (entry_lines came.entry) [] [] totals =
+    event_counted c (marked log) old.controller new.controller name event came.entry (totals_of c old) totals o
+    (settled c log old s q) came.answers (came.adds c) in
     record {
-      stood = subst (λ bs. Stood c marks new.controller bs (owed new) []) (sym came.due)
-          (subst (λ es. Stood c marks new.controller (entry_lines came.entry) es [])
-          (ap (λ k. replicate k (events.Step new.block)) (sym none)) stood);
+      counted = subst (λ bs. Counted c marks new.controller bs (owed new) [] totals) (sym came.due)
+          (subst (λ es. Counted c marks new.controller (entry_lines came.entry) es [] totals)
+          (ap (λ k. replicate k (events.Step new.block)) (sym none)) counted);
       count = omega (arith, length-append log.events (event ∷ []), s.count, came.count, w, q.answered);
     }
 asked_one (Err x) old new name event o q came w = tt
 
+-- what tells the same has the same totals
+same_totals : {A : Type 0} (c : Settings) (old new : Judge A) → new.reporter ≡ old.reporter → new.peaks ≡ old.peaks
+    → totals_of c old ≡ totals_of c new
+same_totals c old new r p = λ i. record {
+  moments = (sym r i).count;
+  steps = (sym r i).steps;
+  figure = (sym p i).figure;
+  bound = bound c;
+  passed = (sym p i).passed;
+}
+
 pub asked_steps : {A : Type 0} (old new : Judge A) (n : ℕ) (k : Block) → IsSettled old
-    → new.controller ≡ old.controller → new.reporter ≡ old.reporter → new.told ≡ old.told → new.owed ≡ n
-    → new.block ≡ k → (c : Settings) (log : Log) → Stands c log old
+    → new.controller ≡ old.controller → new.reporter ≡ old.reporter → new.peaks ≡ old.peaks → new.told ≡ old.told
+    → new.owed ≡ n → new.block ≡ k → (c : Settings) (log : Log) → Stands c log old
     → Stands c (asking log (replicate n (events.Step k)) (log.events ++ replicate n (events.Step k))) new
-asked_steps {A} old new n k q h r t w b c log s =
+asked_steps {A} old new n k q h r p t w b c log s =
     let es = replicate n (events.Step k) in
     let marks = marked (asking log es (log.events ++ es)) in
     let none : due new ≡ [] = ap (λ (p : Reported). drop new.told p.lines) r
     ∙ (ap (λ i. drop i old.reporter.lines) t ∙ q.told) in
     let same : es ≡ owed new = λ i. replicate (sym w i) (events.Step (sym b i)) in
-    let stood : Stood c marks old.controller [] es [] =
-    steps_on c (marked log) old.controller es (settled_stood c log old s q) in
+    let totals = totals_of c new in
+    let counted : Counted c marks old.controller [] es [] totals =
+    subst (λ (x : Totals). Counted c marks old.controller [] es [] x) (same_totals c old new r p)
+    (steps_counted c (marked log) old.controller es (totals_of c old) (settled c log old s q)) in
     record {
-      stood = subst (λ (g : Holdings Named). Stood c marks g (due new) (owed new) []) (sym h)
-          (subst (λ bs. Stood c marks old.controller bs (owed new) []) (sym none)
-          (subst (λ xs. Stood c marks old.controller [] xs []) same stood));
+      counted = subst (λ (g : Holdings Named). Counted c marks g (due new) (owed new) [] totals) (sym h)
+          (subst (λ bs. Counted c marks old.controller bs (owed new) [] totals) (sym none)
+          (subst (λ xs. Counted c marks old.controller [] xs [] totals) same counted));
       count = omega (
         arith,
         length-append log.events es,
@@ -135,7 +175,7 @@ too_early {A} c log judge es all s not_it g =
     let p = goes_on c (asking log es all).marks g in
     let more = Asked es ∷ p.0 in
     let e = sym (append_assoc (marked log) (Asked es ∷ []) p.0) ∙ p.3 in
-    let none = all_told c (marked log) judge.controller (due judge) (owed judge) s.stood p.1 more p.2 e refl in
+    let none = all_told c (marked log) judge.controller (due judge) (owed judge) s.counted.stood p.1 more p.2 e refl in
     not_it (record { told = none; answered = zero_owed judge.owed refl p.1 more p.2 e refl })
   where
     zero_owed : (n : ℕ) → judge.owed ≡ n → (others : List Trace) (more : List Mark) → IsLegal c (whole others)
@@ -144,7 +184,7 @@ too_early {A} c log judge es all s not_it g =
     zero_owed (suc n) z others more l e none =
         absurd (no_step c (marked log) judge.controller (due judge) judge.block (replicate n (events.Step judge.block))
         (subst (λ k. Stood c (marked log) judge.controller (due judge) (replicate k (events.Step judge.block)) []) z
-        s.stood) others more l e none)
+        s.counted.stood) others more l e none)
 
 -- ---- a line that tells
 
@@ -157,7 +197,8 @@ printed_fed (b ∷ bytes) h =
 pub ready_due : {A : Type 0} (c : Settings) (log : Log) (line : List ℕ) (judge : Judge A) → Stands c log judge
     → due judge ≢ [] → IsAhead c log line judge
 ready_due c log line judge s some = record {
-  stood = ahead_of c (marked log) judge.controller (due judge) (owed judge) (told (line ++ 10 ∷ [])) s.stood;
+  counted = ahead_counted c (marked log) judge.controller (due judge) (owed judge) (told (line ++ 10 ∷ []))
+      (totals_of c judge) s.counted;
   some =
       some;
   count = s.count;
@@ -178,18 +219,20 @@ ready_step {A} c log line ws old new same s none some came w b =
     let n = new.owed in
     let k = old.block in
     let more : old.owed ≡ suc n = omega (arith, some, w) in
-    let before : Stood c (marked log) old.controller [] (events.Step k ∷ replicate n (events.Step k)) [] =
-    subst (λ i. Stood c (marked log) old.controller [] (replicate i (events.Step k)) []) more
-    (subst (λ bs. Stood c (marked log) old.controller bs (owed old) []) none s.stood) in
+    let total = totals_of c old in
+    let totals = totals_of c new in
+    let before : Counted c (marked log) old.controller [] (events.Step k ∷ replicate n (events.Step k)) [] total =
+    subst (λ i. Counted c (marked log) old.controller [] (replicate i (events.Step k)) [] total) more
+    (subst (λ bs. Counted c (marked log) old.controller bs (owed old) [] total) none s.counted) in
     let a = subst (λ xs. Answers (IsNamed (name_in xs)) (with_picker old.controller (name_in xs)) (events.Step k)
     came.entry new.controller) same came.answers in
-    let stood = step_on c (marked log) old.controller new.controller k (replicate n
-    (events.Step k)) line came.entry before
-    a in
+    let counted = step_counted c (marked log) old.controller new.controller k (replicate n (events.Step k)) line
+    came.entry total totals before a (came.adds c) in
+    let ahead = told (line ++ 10 ∷ []) in
     record {
-      stood = subst (λ bs. Stood c (marked log) new.controller bs (owed new) (told (line ++ 10 ∷ []))) (sym came.due)
-          (subst (λ j. Stood c (marked log) new.controller (entry_lines came.entry) (replicate n (events.Step j))
-          (told (line ++ 10 ∷ []))) (sym b) stood);
+      counted = subst (λ bs. Counted c (marked log) new.controller bs (owed new) ahead totals) (sym came.due)
+          (subst (λ j. Counted c (marked log) new.controller (entry_lines came.entry) (replicate n (events.Step j))
+          ahead totals) (sym b) counted);
       some = λ e. step_lined (name_in ws) (with_picker old.controller (name_in ws)) new.controller k came.entry
           came.answers (sym came.due ∙ e);
       count = omega (arith, s.count, came.count, more);
@@ -198,30 +241,33 @@ ready_step {A} c log line ws old new same s none some came w b =
 pub ready_not : {A : Type 0} (c : Settings) (log : Log) (line : List ℕ) (judge : Judge A) → Stands c log judge
     → IsSettled judge → ¬ (MayGoOn c (telling log (line ++ 10 ∷ [])).marks)
 ready_not c log line judge s q g =
-    unasked c (marked log) judge.controller line (settled_stood c log judge s q)
+    unasked c (marked log) judge.controller line ((settled c log judge s q).stood)
     (goes_on c (telling log (line ++ 10 ∷ [])).marks g)
 
 pub told_not : {A : Type 0} (c : Settings) (log : Log) (line : List ℕ) (judge : Judge A) → IsAhead c log line judge
     → list_all is_printed line ≡ true → ¬ (BeginsWith (due judge) line)
     → ¬ (MayGoOn c (telling log (line ++ 10 ∷ [])).marks)
 told_not c log line judge s printed not_it g =
-    refused c (marked log) judge.controller (due judge) (owed judge) line s.stood s.some
+    refused c (marked log) judge.controller (due judge) (owed judge) line s.counted.stood s.some
     (printed_fed line printed) not_it
     (goes_on c (telling log (line ++ 10 ∷ [])).marks g)
 
 pub told_so : {A : Type 0} (c : Settings) (log : Log) (line : List ℕ) (old new : Judge A) → IsAhead c log line old
     → (begins : BeginsWith (due old) line) → new.controller ≡ old.controller → new.reporter ≡ old.reporter
-    → new.owed ≡ old.owed → new.block ≡ old.block → due new ≡ begins.0
+    → new.peaks ≡ old.peaks → new.owed ≡ old.owed → new.block ≡ old.block → due new ≡ begins.0
     → Stands c (telling log (line ++ 10 ∷ [])) new
-told_so {A} c log line old new s begins h r w b d =
+told_so {A} c log line old new s begins h r p w b d =
     let marks = marked (telling log (line ++ 10 ∷ [])) in
-    let stood : Stood c marks old.controller begins.0 (owed old) [] =
-    told_on c (marked log) old.controller (due old) (owed old) line begins.0 s.stood begins.1 in
+    let totals = totals_of c new in
+    let counted : Counted c marks old.controller begins.0 (owed old) [] totals =
+    subst (λ (x : Totals). Counted c marks old.controller begins.0 (owed old) [] x) (same_totals c old new r p)
+    (told_counted c (marked log) old.controller (due old) (owed old) line begins.0 (totals_of c old) s.counted
+    begins.1) in
     let same : owed old ≡ owed new = λ i. replicate (sym w i) (events.Step (sym b i)) in
     record {
-      stood = subst (λ (g : Holdings Named). Stood c marks g (due new) (owed new) []) (sym h)
-          (subst (λ bs. Stood c marks old.controller bs (owed new) []) (sym d)
-          (subst (λ es. Stood c marks old.controller begins.0 es []) same stood));
+      counted = subst (λ (g : Holdings Named). Counted c marks g (due new) (owed new) [] totals) (sym h)
+          (subst (λ bs. Counted c marks old.controller bs (owed new) [] totals) (sym d)
+          (subst (λ es. Counted c marks old.controller begins.0 es [] totals) same counted));
       count = omega (arith, s.count, ap (λ (p : Reported). p.count) r, w);
     }
 
@@ -238,15 +284,20 @@ left_due lines line rest start place e p =
     ap (λ n. drop n lines) here ∙ (sym (drop-drop (length line + 1) start lines) ∙ (ap (drop (length line + 1)) e
     ∙ behind))
 
+-- a judge that keeps other starts stands as well
+pub stands_with : {A : Type 0} (c : Settings) (log : Log) (old new : Judge A)
+    → new ≡ record old { starts = new.starts } → Stands c log old → Stands c log new
+stands_with c log old new e s = subst (Stands c log) (sym e) (record { counted = s.counted; count = s.count })
+
 -- ---- what would have been right
 
 pub stands_held : {A : Type 0} (c : Settings) (log : Log) (judge : Judge A) → Stands c log judge → IsHeld c log judge
-stands_held c log judge s = held_of c (marked log) judge.controller (due judge) (owed judge) [] s.stood
+stands_held c log judge s = held_of c (marked log) judge.controller (due judge) (owed judge) [] s.counted.stood
 
 pub ahead_held : {A : Type 0} (c : Settings) (log : Log) (line : List ℕ) (judge : Judge A) → IsAhead c log line judge
     → IsHeld c log judge
 ahead_held c log line judge s =
-    held_of c (marked log) judge.controller (due judge) (owed judge) (told (line ++ 10 ∷ [])) s.stood
+    held_of c (marked log) judge.controller (due judge) (owed judge) (told (line ++ 10 ∷ [])) s.counted.stood
 
 pub right_due : {A : Type 0} (c : Settings) (log : Log) (judge : Judge A) (text : List ℕ) → IsHeld c log judge
     → (text ≡ []) ⊎ BeginsWith (due judge) text → IsRightThere c log text
@@ -277,16 +328,28 @@ stands_open c log judge s = may_go_on c log.marks
     (opens c (marked log) judge.controller (due judge) judge.block judge.owed (stands_held c log judge s))
 
 pub stands_legal : {A : Type 0} (c : Settings) (log : Log) (judge : Judge A) → Stands c log judge → IsSettled judge
-    → IsLegalLog c log.marks
+    → (legal : IsLegalLog c log.marks) × AreTotals c (whole legal.0) (totals_of c judge)
 stands_legal c log judge s q =
-    is_legal_log c log.marks (finished c (marked log) judge.controller (settled_stood c log judge s q))
+    let known = settled c log judge s q in
+    let made = finished c (marked log) judge.controller known.stood in
+    let legal = is_legal_log c log.marks made in (
+      legal,
+      subst (λ t. AreTotals c t (totals_of c judge)) (finished_run c log judge.controller known.stood)
+          known.are,
+    )
+
+pub stands_settings : {A : Type 0} (c : Settings) (log : Log) (judge : Judge A) → Stands c log judge
+    → judge.controller.settings ≡ c
+stands_settings c log judge s =
+    let stood = s.counted.stood in
+    (follow c stood.begun (run_of stood) judge.controller stood.valid stood.led).settings
 
 pub stands_not : {A : Type 0} (c : Settings) (log : Log) (judge : Judge A) → Stands c log judge → ¬ (IsSettled judge)
     → ¬ (IsLegalLog c log.marks)
 stands_not {A} c log judge s not_it g =
     let p = is_whole c log.marks g in
     let e : marked log ++ [] ≡ transcript p.0 = append-nil (marked log) ∙ p.2 in
-    let none = all_told c (marked log) judge.controller (due judge) (owed judge) s.stood p.0 [] p.1 e refl in
+    let none = all_told c (marked log) judge.controller (due judge) (owed judge) s.counted.stood p.0 [] p.1 e refl in
     not_it (record { told = none; answered = zero_owed judge.owed refl e })
   where
     zero_owed : (n : ℕ) → judge.owed ≡ n → marked log ++ [] ≡ transcript (is_whole c log.marks g).0 → judge.owed ≡ 0
@@ -294,4 +357,4 @@ stands_not {A} c log judge s not_it g =
     zero_owed (suc n) z e =
         absurd (no_step c (marked log) judge.controller (due judge) judge.block (replicate n (events.Step judge.block))
         (subst (λ k. Stood c (marked log) judge.controller (due judge) (replicate k (events.Step judge.block)) []) z
-        s.stood) (is_whole c log.marks g).0 [] (is_whole c log.marks g).1 e refl)
+        s.counted.stood) (is_whole c log.marks g).0 [] (is_whole c log.marks g).1 e refl)

@@ -1,5 +1,5 @@
 -- A log of which there is a legal trace is judged to be legal, and no other.
-use Rattle.std.proofs.Common.{◌≡◌, ℕ, ◌+◌, ◌<◌, ◌≤◌, true, false, List, [], ◌∷◌, ◌++◌, length, refl, ap, sym, ◌∙◌, subst, arith, append_assoc, append-nil}
+use Rattle.std.proofs.Common.{◌≡◌, ℕ, ◌+◌, ◌≤◌, true, false, List, [], ◌∷◌, ◌++◌, length, refl, ap, sym, ◌∙◌, subst, arith, append_assoc, append-nil}
 use Rattle.std.specs.Prelude.{if◌then◌else◌, Result, Ok, Err}
 use Rattle.mscp_control.specs.Settings.{Settings}
 use Rattle.mscp_control.specs.declared.event.Event.{Event}
@@ -14,10 +14,11 @@ use Rattle.mscp_reader.specs.declared.fault.Cause.{Cause}
 use Rattle.mscp_reader.specs.declared.fault.ScriptFault.{ScriptFault}
 use Rattle.mscp_reader.specs.declared.fault.ReadFault.{ReadFault}
 use Rattle.mscp_reader.specs.declared.fault.ReadFault.TheVariants as faults
+use Rattle.mscp_judge.specs.declared.totals.Totals.{Totals}
 use Rattle.mscp_judge.specs.declared.judging.Verdict.{Verdict}
 use Rattle.mscp_judge.specs.declared.judging.Verdict.TheVariants as verdicts
 use Rattle.mscp_judge.specs.Logs.{Asked, IsLegalLog, Log, Mark, MayGoOn, after_line, after_lines, after_request, after_words, asking, is_answer, nothing, telling, told}
-use Rattle.mscp_judge.specs.Judged.{AreLegal, AreUnanswered, HasLegalTrace, IsAtFault, IsFirstWrong, IsLegalVerdict, Judges, JudgesBehind, JudgesLog}
+use Rattle.mscp_judge.specs.Judged.{HasLegalTrace, IsLegalVerdict, Judges, JudgesBehind, JudgesLog}
 
 -- ---- marks are added, and none is lost
 
@@ -126,8 +127,8 @@ no_log (Err other) f cause log e g = cc
 exactly : (c : Settings) (before : ℕ) (all : List (List ℕ)) (log : Log) (result : Result Verdict ReadFault)
     → after_lines before nothing all ≡ Ok log → IsLegalLog c log.marks → Judges c before all result
     → IsLegalVerdict result
-exactly c before all log (Ok verdicts.Legal) e l j = tt
-exactly c before all log (Ok (verdicts.Wrong number right)) e l j =
+exactly c before all log (Ok (verdicts.Legal totals)) e l j = tt
+exactly c before all log (Ok (verdicts.Wrong number rule starts right)) e l j =
     let b = behind_line before all j.front j.line j.back j.log log number j.whole j.number j.read e in
     let rest = ap (λ r. r >>= λ next. after_lines number next j.back) (sym j.says) ∙ b in
     j.wrong (open_at c number j.next log j.back rest l)
@@ -146,11 +147,11 @@ legal_is_found bytes result j h =
 
 -- ---- and no other
 
-only_behind : (bytes : List ℕ) → length bytes ≤ 16777216
+only_behind : (totals : Totals) (bytes : List ℕ) → length bytes ≤ 16777216
     → (r : Result (Place × ℕ × List (List ℕ)) ScriptFault) → headed 0 Begins (lines bytes) ≡ r
-    → JudgesBehind r (Ok verdicts.Legal) → HasLegalTrace bytes
-only_behind bytes small (Err fault) e j = cc
-only_behind bytes small (Ok (HasGone c events, before, behind)) e j = record {
+    → JudgesBehind r (Ok (verdicts.Legal totals)) → HasLegalTrace bytes
+only_behind totals bytes small (Err fault) e j = cc
+only_behind totals bytes small (Ok (HasGone c events, before, behind)) e j = record {
   c = c;
   events = events;
   before = before;
@@ -161,16 +162,16 @@ only_behind bytes small (Ok (HasGone c events, before, behind)) e j = record {
   read = j.read;
   legal = j.legal;
 }
-only_behind bytes small (Ok (Begins, before, behind)) e j = absurd j
-only_behind bytes small (Ok (HasCredits credits, before, behind)) e j = absurd j
-only_behind bytes small (Ok (HasBudget credits budget, before, behind)) e j = absurd j
-only_behind bytes small (Ok (HasPassing credits passing, before, behind)) e j = absurd j
-only_behind bytes small (Ok (HasLongest credits budget longest, before, behind)) e j = absurd j
-only_behind bytes small (Ok (HasTimeout settings, before, behind)) e j = absurd j
-only_behind bytes small (Ok (HasUnits settings, before, behind)) e j = absurd j
+only_behind totals bytes small (Ok (Begins, before, behind)) e j = absurd j
+only_behind totals bytes small (Ok (HasCredits credits, before, behind)) e j = absurd j
+only_behind totals bytes small (Ok (HasBudget credits budget, before, behind)) e j = absurd j
+only_behind totals bytes small (Ok (HasPassing credits passing, before, behind)) e j = absurd j
+only_behind totals bytes small (Ok (HasLongest credits budget longest, before, behind)) e j = absurd j
+only_behind totals bytes small (Ok (HasTimeout settings, before, behind)) e j = absurd j
+only_behind totals bytes small (Ok (HasUnits settings, before, behind)) e j = absurd j
 
 pub legal_alone : (bytes : List ℕ) (result : Result Verdict ReadFault) → length bytes ≤ 16777216
-    → JudgesLog bytes result → result ≡ Ok verdicts.Legal → HasLegalTrace bytes
-legal_alone bytes result small j e =
-    only_behind bytes small (headed 0 Begins (lines bytes)) refl
+    → JudgesLog bytes result → (totals : Totals) → result ≡ Ok (verdicts.Legal totals) → HasLegalTrace bytes
+legal_alone bytes result small j totals e =
+    only_behind totals bytes small (headed 0 Begins (lines bytes)) refl
     (subst (λ r. JudgesBehind (headed 0 Begins (lines bytes)) r) e (j.small small))

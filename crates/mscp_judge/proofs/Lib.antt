@@ -5,6 +5,13 @@ mod Leading
 mod Marks
 mod Existing
 mod Standing
+mod Stepping
+mod Asking
+mod Ending
+mod Tallies
+mod Counted
+mod Hindered
+mod Breaking
 mod Reading
 mod Coming
 pub mod Exactly

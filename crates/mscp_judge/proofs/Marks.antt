@@ -110,6 +110,14 @@ without_first c marks others l e =
       p.4 ∙ ap (λ (q : Trace). told (answers_in q) ++ transcript p.1) none,
     )
 
+-- the trace stays the same
+without_first_run : (c : Settings) (marks : List Mark) (others : List Trace) (l : IsLegal c (whole others))
+    (e : Asked [] ∷ marks ≡ transcript others) → whole others ≡ whole (without_first c marks others l e).0
+unfolding without_first
+without_first_run c marks others l e =
+    let p = asked_parts [] marks others e in
+    ap whole (p.2 ∙ ap (λ (q : Trace). q ∷ p.1) (none_asked p.0 p.3))
+
 pub may_go_on : (c : Settings) (marks : List Mark) → GoesOn c (Asked [] ∷ marks) → MayGoOn c marks
 may_go_on c marks g = (g.0, without_first c (marks ++ g.0) g.1 g.2 g.3)
 
@@ -122,3 +130,8 @@ is_whole c marks g = ([] ∷ g.0, g.1, ap (λ ms. Asked [] ∷ ms) g.2)
 
 pub is_legal_log : (c : Settings) (marks : List Mark) → IsWhole c (Asked [] ∷ marks) → IsLegalLog c marks
 is_legal_log c marks g = without_first c marks g.0 g.1 g.2
+
+pub legal_run : (c : Settings) (marks : List Mark) (g : IsWhole c (Asked [] ∷ marks))
+    → whole g.0 ≡ whole (is_legal_log c marks g).0
+unfolding is_legal_log
+legal_run c marks g = without_first_run c marks g.0 g.1 g.2

@@ -1,9 +1,10 @@
 -- What a judge says of the lines of a log.
-use Rattle.std.specs.Prelude.{◌≡◌, ◌≢◌, ℕ, ◌+◌, ◌<◌, ◌≤◌, List, [], ◌∷◌, ◌++◌, length, Bool, true, false, Result, Ok, Err}
+use Rattle.std.specs.Prelude.{◌≡◌, ◌≢◌, ℕ, ◌+◌, ◌<◌, ◌≤◌, List, [], ◌∷◌, ◌++◌, length, Bool, true, false, Option, Some, None, Result, Ok, Err}
 use Rattle.mscp_control.specs.Headline.{Promise}
+use Rattle.mscp_control.specs.Holdings.{Holdings}
 use Rattle.mscp_control.specs.Settings.{Settings}
 use Rattle.mscp_control.specs.declared.event.Event.{Event}
-use Rattle.mscp_reader.specs.Lexical.{lines}
+use Rattle.mscp_reader.specs.Lexical.{lines, words}
 use Rattle.mscp_reader.specs.Grammar.{Place, Begins, HasGone}
 use Rattle.mscp_reader.specs.Outcome.{headed}
 use Rattle.mscp_reader.specs.declared.fault.Cause.TheVariants as causes
@@ -11,23 +12,45 @@ use Rattle.mscp_reader.specs.declared.fault.ReadFault.{ReadFault}
 use Rattle.mscp_reader.specs.declared.fault.ReadFault.TheVariants as faults
 use Rattle.mscp_reader.specs.declared.fault.ScriptFault.{ScriptFault}
 use Rattle.mscp_judge.specs.declared.judge.Judge.{Judge}
+use Rattle.mscp_judge.specs.declared.naming.Named.{Named}
+use Rattle.mscp_judge.specs.declared.rules.Rule.{Rule}
+use Rattle.mscp_judge.specs.declared.rules.Rule.TheVariants as rules
+use Rattle.mscp_judge.specs.declared.totals.Totals.{Totals}
 use Rattle.mscp_judge.specs.declared.judging.Verdict.{Verdict}
 use Rattle.mscp_judge.specs.declared.judging.Verdict.TheVariants as verdicts
-use Rattle.mscp_judge.specs.Logs.{IsLegalLog, IsRightThere, Log, MayGoOn, after_line, after_lines, nothing, telling, told, whole}
-use Rattle.mscp_judge.specs.Standing.{IsHeld, Stands, Stood, due, marked, owed}
+use Rattle.mscp_judge.specs.Logs.{IsLegalLog, IsRightThere, Log, MayGoOn, after_line, after_lines, is_answer, nothing, told, whole}
+use Rattle.mscp_judge.specs.Rules.{IsRule}
+use Rattle.mscp_judge.specs.Starts.{starts_in}
+use Rattle.mscp_judge.specs.Standing.{Counted, IsHeld, Stands, Stood, due, marked, owed, run_of, totals_of}
+use Rattle.mscp_judge.specs.Totals.{AreTotals}
 
 -- ---- the verdict
 
 -- all lines are right, and they are a legal log
-pub record AreLegal (c : Settings) (before : ℕ) (all : List (List ℕ)) : Type 0 where
+pub record AreLegal (c : Settings) (before : ℕ) (all : List (List ℕ)) (totals : Totals) : Type 0 where
   pub log : Log
   pub read : after_lines before nothing all ≡ Ok log
   pub legal : IsLegalLog c log.marks
   -- so the promise of each legal trace is kept
   pub promise : Promise c (whole legal.0)
+  -- and these are its totals
+  pub totals_are : AreTotals c (whole legal.0) totals
+
+-- a line breaks this rule where these lines stand before it: each legal log that begins so begins with one run, after
+-- which it does
+pub record IsBroken (c : Settings) (log : Log) (line : List ℕ) (rule : Rule) (starts : List Named) : Type 0 where
+  pub h : Holdings Named
+  pub due : List ℕ
+  pub owed : List Event
+  pub stood : Stood c (marked log) h due owed []
+  pub rule_is : IsRule c (run_of stood) due owed line rule
+  -- where a step is to be answered, and the line names a command that may not be served, these may start
+  pub starts_are : is_answer (words line) ≡ true → due ≡ [] → owed ≢ [] → rule ≢ rules.Service → rule ≢ rules.Idle
+      → starts ≡ starts_in c (run_of stood)
 
 -- the line of this number is the first that no legal log has there: what stands before it is the beginning of one
-pub record IsFirstWrong (c : Settings) (before : ℕ) (all : List (List ℕ)) (place : ℕ) (right : List ℕ) : Type 0 where
+pub record IsFirstWrong (c : Settings) (before : ℕ) (all : List (List ℕ)) (place : ℕ) (rule : Rule)
+    (starts : List Named) (right : List ℕ) : Type 0 where
   pub front : List (List ℕ)
   pub line : List ℕ
   pub back : List (List ℕ)
@@ -39,6 +62,8 @@ pub record IsFirstWrong (c : Settings) (before : ℕ) (all : List (List ℕ)) (p
   pub opens : MayGoOn c log.marks
   pub says : after_line place log line ≡ Ok next
   pub wrong : ¬ (MayGoOn c next.marks)
+  -- this is the rule that it breaks
+  pub broken : IsBroken c log line rule starts
   -- and this would have been right there, if it isn't empty
   pub right_there : IsRightThere c log right
 
@@ -66,8 +91,9 @@ pub record IsAtFault (c : Settings) (before : ℕ) (all : List (List ℕ)) (faul
 
 -- what is said of lines that so many stand before
 abbrev pub Judges : Settings → ℕ → List (List ℕ) → Result Verdict ReadFault → Type 0
-Judges c before all (Ok verdicts.Legal) = AreLegal c before all
-Judges c before all (Ok (verdicts.Wrong number right)) = IsFirstWrong c before all number right.items
+Judges c before all (Ok (verdicts.Legal totals)) = AreLegal c before all totals
+Judges c before all (Ok (verdicts.Wrong number rule starts right)) =
+    IsFirstWrong c before all number rule starts.items right.items
 Judges c before all (Ok (verdicts.Unanswered right)) = AreUnanswered c before all right.items
 Judges c before all (Err (faults.Script fault)) = IsAtFault c before all fault
 Judges c before all (Err faults.OutOfMemory) = Unit {0}
@@ -75,26 +101,33 @@ Judges c before all (Err faults.OutOfMemory) = Unit {0}
 -- ---- one line
 
 -- a line that told this of an answer was told, or no legal log goes on so
-abbrev pub Tells : {A : Type 0} → Settings → Log → Log → Judge A → Bool → Type 0
-Tells c log next new true = Stands c next new
-Tells c log next new false = (¬ (MayGoOn c next.marks)) × IsHeld c log new
+abbrev pub IsTold : {A : Type 0} → Settings → Log → Log → Judge A → Bool → Type 0
+IsTold c log next new true = Stands c next new
+IsTold c log next new false = (¬ (MayGoOn c next.marks)) × IsHeld c log new
+
+-- the same, where it breaks a rule or breaks none
+abbrev pub Tells : {A : Type 0} → Settings → Log → Log → Judge A → Option Rule → Type 0
+Tells c log next new None = IsTold c log next new true
+Tells c log next new (Some rule) = IsTold c log next new false
+
+-- the rule that a line breaks which comes to a judge, if it breaks one, and what may start there
+abbrev pub Breaks : {A : Type 0} → Judge A → List ℕ → Option Rule → List Named → Type 0
+Breaks judge line None starts = Unit {0}
+Breaks judge line (Some rule) starts =
+    (c : Settings) (log : Log) → Stands c log judge → IsBroken c log line rule starts
 
 -- something is due, and each legal log that goes on with the line has this trace
 pub record IsAhead {A : Type 0} (c : Settings) (log : Log) (line : List ℕ) (judge : Judge A) : Type 0 where
-  pub stood : Stood c (marked log) judge.controller (due judge) (owed judge) (told (line ++ 10 ∷ []))
+  pub counted : Counted c (marked log) judge.controller (due judge) (owed judge) (told (line ++ 10 ∷ []))
+      (totals_of c judge)
   pub some : due judge ≢ []
   pub count : length log.events ≡ judge.reporter.count + judge.owed
 
--- something is due before the line, or no legal log goes on with it
-abbrev pub IsReady : {A : Type 0} → Settings → Log → List ℕ → Judge A → Bool → Type 0
-IsReady c log line judge true = IsAhead c log line judge
-IsReady c log line judge false = (¬ (MayGoOn c (telling log (line ++ 10 ∷ [])).marks)) × IsHeld c log judge
-
 -- what became of a line of this number
 abbrev pub Hears : {A : Type 0}
-    → Settings → ℕ → Log → List ℕ → Result Bool ReadFault → Judge A → Type 0
-Hears c number log line (Ok goes_on) new =
-    (next : Log) × (after_line number log line ≡ Ok next) × Tells c log next new goes_on
+    → Settings → ℕ → Log → List ℕ → Result (Option Rule) ReadFault → Judge A → Type 0
+Hears c number log line (Ok broken) new =
+    (next : Log) × (after_line number log line ≡ Ok next) × Tells c log next new broken
 Hears c number log line (Err (faults.Script fault)) new =
     (fault.line ≡ number) × (after_line number log line ≡ Err fault.cause)
 Hears c number log line (Err faults.OutOfMemory) new = Unit {0}
@@ -128,6 +161,6 @@ pub record HasLegalTrace (bytes : List ℕ) : Type 0 where
 
 -- it is judged to be legal, unless memory runs out
 abbrev pub IsLegalVerdict : Result Verdict ReadFault → Type 0
-IsLegalVerdict (Ok verdicts.Legal) = Unit {0}
+IsLegalVerdict (Ok (verdicts.Legal totals)) = Unit {0}
 IsLegalVerdict (Err faults.OutOfMemory) = Unit {0}
 IsLegalVerdict result = ⊥

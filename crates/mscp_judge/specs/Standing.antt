@@ -3,15 +3,17 @@ use Rattle.std.specs.Prelude.{◌≡◌, ◌⊎◌, ℕ, ◌+◌, List, [], ◌�
 use Rattle.mscp_control.specs.declared.event.Event.{Event}
 use Rattle.mscp_control.specs.declared.event.Event.TheVariants as events
 use Rattle.mscp_control.specs.declared.event.Entry.{Entry}
-use Rattle.mscp_control.specs.Settings.{IsValid, Settings}
+use Rattle.mscp_control.specs.Settings.{IsValid, Settings, bound}
 use Rattle.mscp_control.specs.History.{Trace}
 use Rattle.mscp_control.specs.Holdings.{Answers, Holdings, fresh}
 use Rattle.mscp_control.specs.Legal.{IsLegal}
 use Rattle.mscp_script.specs.Text.{entry_lines}
 use Rattle.mscp_judge.specs.declared.judge.Judge.{Judge}
 use Rattle.mscp_judge.specs.declared.naming.Named.{Named}
+use Rattle.mscp_judge.specs.declared.totals.Totals.{Totals}
 use Rattle.mscp_judge.specs.Logs.{Asked, Log, Mark, answers_in, events_in, told, transcript, whole}
 use Rattle.mscp_judge.specs.Naming.{IsNamed}
+use Rattle.mscp_judge.specs.Totals.{Adds, AreTotals}
 
 -- ---- one event
 
@@ -40,12 +42,24 @@ pub record IsSettled {A : Type 0} (judge : Judge A) : Type 0 where
   pub told : due judge ≡ []
   pub answered : judge.owed ≡ 0
 
--- an event came, at which the command of this name was to start: what was answered is due, and nothing else
+-- the totals that a judge holds
+abbrev pub totals_of : {A : Type 0} → Settings → Judge A → Totals
+totals_of c judge = record {
+  moments = judge.reporter.count;
+  steps = judge.reporter.steps;
+  figure = judge.peaks.figure;
+  bound = bound c;
+  passed = judge.peaks.passed;
+}
+
+-- an event came, at which the command of this name was to start: what was answered is due, and nothing else, and it is
+-- added to the totals
 pub record Came {A : Type 0} (name : Named) (old new : Judge A) (event : Event) : Type 0 where
   pub entry : Entry
   pub answers : Answers (IsNamed name) (with_picker old.controller name) event entry new.controller
   pub due : due new ≡ entry_lines entry
   pub count : new.reporter.count ≡ old.reporter.count + 1
+  pub adds : (c : Settings) → Adds new.controller entry (totals_of c old) (totals_of c new)
 
 -- ---- a trace
 
@@ -79,6 +93,17 @@ pub record Stood (c : Settings) (marks : List Mark) (h : Holdings Named) (due : 
       → marks ++ (ahead ++ more) ≡ transcript others
       → (next : Trace) × (rest : List Trace) × (events_in next ≡ owed) × (others ≡ parts ++ (now ++ next) ∷ rest)
 
+-- its trace so far
+abbrev pub run_of : {c : Settings} {marks : List Mark} {h : Holdings Named} {due : List ℕ} {owed : List Event}
+    {ahead : List Mark} → Stood c marks h due owed ahead → Trace
+run_of stood = whole stood.parts ++ stood.now
+
+-- and these are the totals of that trace
+pub record Counted (c : Settings) (marks : List Mark) (h : Holdings Named) (due : List ℕ) (owed : List Event)
+    (ahead : List Mark) (totals : Totals) : Type 0 where
+  pub stood : Stood c marks h due owed ahead
+  pub are : AreTotals c (run_of stood) totals
+
 -- the same, whatever other traces may be
 pub record Held (c : Settings) (marks : List Mark) (h : Holdings Named) (due : List ℕ) (owed : List Event) :
     Type 0 where
@@ -95,5 +120,5 @@ IsHeld c log judge = Held c (marked log) judge.controller (due judge) (owed judg
 
 -- a judge stands so after these lines of a log
 pub record Stands {A : Type 0} (c : Settings) (log : Log) (judge : Judge A) : Type 0 where
-  pub stood : Stood c (marked log) judge.controller (due judge) (owed judge) []
+  pub counted : Counted c (marked log) judge.controller (due judge) (owed judge) [] (totals_of c judge)
   pub count : length log.events ≡ judge.reporter.count + judge.owed

@@ -4,6 +4,7 @@ ghost use Rattle.std.specs.Prelude.{◌≡◌};
 ghost use Rattle.std.specs.Str.{bytes_eq};
 ghost use Rattle.mscp_reader.specs.Lexical as lexical;
 ghost use Rattle.mscp_judge.specs.Logs as logs;
+ghost use Rattle.mscp_judge.specs.Rules as rules;
 
 use mscp_reader::Words;
 
@@ -41,6 +42,23 @@ pub fn is_answer(words: Words<'_>) -> bool
     }
     match rest.next_word() {
         Some(word) => is_answer_word(word),
+        None => false,
+    }
+}
+
+/// Whether the line of these words says that a command was served.
+pub fn is_service(words: Words<'_>) -> bool
+    ensures { result ≡ rules.is_service (lexical.words words.entry.rest.now) }
+{
+    let mut rest = words;
+    let Some(word) = rest.next_word() else {
+        return false;
+    };
+    if !is(word, "second") {
+        return is(word, "serve");
+    }
+    match rest.next_word() {
+        Some(word) => is(word, "serve"),
         None => false,
     }
 }

@@ -1,22 +1,34 @@
 // A controller that answers what a log says, and what of its answers wasn't told yet.
 
-ghost use Rattle.std.specs.Prelude.{◌≡◌, ◌⊎◌, ◌+◌, ◌-◌, ◌<◌, ◌≤◌, ◌^◌, ◌∷◌, ◌++◌, [], ℕ, List, length, true, false, OnOk, IfOk};
+ghost use Rattle.std.specs.Prelude.{◌≡◌, ◌≢◌, IfSome, ◌⊎◌, ◌+◌, ◌-◌, ◌<◌, ◌≤◌, ◌^◌, ◌∷◌, ◌++◌, [], ℕ, List, length, true, false, OnOk, IfOk};
 ghost use Rattle.std.specs.List.{list_all};
-ghost use Rattle.mscp_control.specs.Settings.{Settings};
+ghost use Rattle.mscp_control.specs.History.{Trace};
+ghost use Rattle.mscp_control.specs.Holdings.{fresh};
+ghost use Rattle.mscp_control.specs.Settings.{IsValid, Settings};
 ghost use Rattle.mscp_control.specs.declared.event.Event.TheVariants as events;
 ghost use Rattle.mscp_reader.specs.Lexical as lexical;
 ghost use Rattle.mscp_reader.specs.Requests.{events_of};
-ghost use Rattle.mscp_judge.specs.Judged.{IsAhead, IsReady, Tells};
-ghost use Rattle.mscp_judge.specs.Logs.{IsRightThere, Log, asking, nothing, telling};
-ghost use Rattle.mscp_judge.specs.Standing.{BeginsWith, Came, IsHeld, IsSettled, Stands, due};
+ghost use Rattle.mscp_judge.specs.declared.naming.Named as named;
+ghost use Rattle.mscp_judge.specs.Judged.{Breaks, IsAhead, IsTold, Tells};
+ghost use Rattle.mscp_judge.specs.Logs.{IsRightThere, Log, asking, is_answer, nothing, telling};
+ghost use Rattle.mscp_judge.specs.Naming as naming;
+ghost use Rattle.mscp_judge.specs.Naming.{name_of};
+ghost use Rattle.mscp_judge.specs.Rules.{IsStepRule, due_rule, is_service};
+ghost use Rattle.mscp_judge.specs.Starts.{starts_in};
+ghost use Rattle.mscp_judge.specs.Standing.{BeginsWith, Came, IsHeld, IsSettled, Led, Stands, due, totals_of};
 
+use crate::answers::is_service;
 use crate::naming::{Named, name_in, nobody};
+use crate::rules::{Rule, due_rule, step_rule};
+use crate::starting::{Starts, starts};
+use crate::totals::{Peaks, Totals, bound_of, figure_queued};
 use arrayvec::ArrayVec;
 use mscp_control::{Block, Config, Connection, Controller, OutOfMemory};
 use mscp_packet::write_command;
 use mscp_reader::{Request, Words};
 use mscp_script::Reporter;
 use std::alloc::Allocator;
+use std::mem::replace;
 
 /// A line that would have been right. The longest has 107 bytes.
 pub type Right = ArrayVec<u8, 128>;
@@ -26,8 +38,11 @@ pub type Right = ArrayVec<u8, 128>;
 pub struct Judge<A: Allocator> {
     controller: Controller<Named>,
     reporter: Reporter<A>,
+    peaks: Peaks,
     // How many bytes of the reporter's lines the log has told.
     told: usize,
+    // What might have started at the last step whose line names none of these.
+    starts: Starts,
     // How many steps are to be answered yet, and the outcome of their blocks. A step is answered when its line is read,
     // since that says which command starts.
     owed: u32,
@@ -71,7 +86,9 @@ impl<A: Allocator> Judge<A> {
         Judge {
             controller: Controller::new(config, nobody()),
             reporter: Reporter::new(alloc),
+            peaks: Peaks::none(),
             told: 0,
+            starts: Starts::new(),
             owed: 0,
             block: Block::Good,
         }
@@ -83,6 +100,19 @@ impl<A: Allocator> Judge<A> {
         ensures { result ≡ self.now.reporter.count + self.now.owed }
     {
         self.reporter.count() + u64::from(self.owed)
+    }
+
+    /// The totals of the events so far.
+    pub fn totals(&self) -> Totals
+        ensures { result ≡ totals_of self.now.controller.settings self.now }
+    {
+        Totals {
+            moments: self.reporter.count(),
+            steps: self.reporter.steps(),
+            figure: self.peaks.figure,
+            bound: bound_of(self.controller.config()),
+            passed: self.peaks.passed,
+        }
     }
 
     /// What is answered and wasn't told yet.
@@ -112,6 +142,8 @@ impl<A: Allocator> Judge<A> {
         self.reporter.forget_lines();
         self.told = 0;
         let sent = self.controller.send(connection, message);
+        let figure = figure_queued(&self.controller, connection, &sent);
+        self.peaks.rise(figure, self.controller.most_passed());
         self.reporter.sent(connection, &sent)
     }
 
@@ -125,6 +157,7 @@ impl<A: Allocator> Judge<A> {
         self.reporter.forget_lines();
         self.told = 0;
         let end = self.controller.take(connection);
+        self.peaks.rise(0, self.controller.most_passed());
         self.reporter.taken(connection, &end)
     }
 
@@ -138,6 +171,7 @@ impl<A: Allocator> Judge<A> {
         self.reporter.forget_lines();
         self.told = 0;
         let shown = self.controller.look();
+        self.peaks.rise(0, self.controller.most_passed());
         self.reporter.looked(&shown)
     }
 
@@ -146,6 +180,7 @@ impl<A: Allocator> Judge<A> {
         requires count { self.old.reporter.count + 1 < 2 ^ 64 }
         requires owed { 0 < self.old.owed }
         ensures came { OnOk result (Came name self.old self.new (events.Step self.old.block)) }
+        ensures starts { self.new.starts ≡ self.old.starts }
         ensures owed { self.new.owed ≡ self.old.owed - 1 }
         ensures block { self.new.block ≡ self.old.block }
     {
@@ -154,6 +189,7 @@ impl<A: Allocator> Judge<A> {
         self.told = 0;
         self.controller.replace_picker(name);
         let report = self.controller.step(self.block);
+        self.peaks.rise(0, self.controller.most_passed());
         self.reporter.stepped(&report)
     }
 
@@ -161,6 +197,7 @@ impl<A: Allocator> Judge<A> {
     fn owe(&mut self, count: u32, block: Block)
         ensures controller { self.new.controller ≡ self.old.controller }
         ensures reporter { self.new.reporter ≡ self.old.reporter }
+        ensures peaks { self.new.peaks ≡ self.old.peaks }
         ensures told { self.new.told ≡ self.old.told }
         ensures owed { self.new.owed ≡ count }
         ensures block { self.new.block ≡ block }
@@ -213,31 +250,12 @@ impl<A: Allocator> Judge<A> {
         Ok(first_line(self.due()))
     }
 
-    /// Answers the next step, if nothing is due: the command starts that these words of a line say was served, if it may.
-    /// Says whether something is due then.
-    fn prepare(&mut self, words: Words<'_>) -> Result<bool, OutOfMemory>
-        requires { self.old.reporter.count + 1 < 2 ^ 64 }
-        ensures ready { IfOk result (λ ready. (c : Settings) (log : Log) (line : List ℕ)
-            → lexical.words words.entry.rest.now ≡ lexical.words line → Stands c log self.old
-            → IsReady c log line self.new ready) }
-        ensures count { OnOk result (self.new.reporter.count + self.new.owed
-            ≡ self.old.reporter.count + self.old.owed) }
-    {
-        if !self.due().is_empty() {
-            return Ok(true);
-        }
-        if self.owed == 0 {
-            return Ok(false);
-        }
-        self.step(name_in(words))?;
-        Ok(true)
-    }
-
     /// A line was told, if it is what is due next.
     fn tell(&mut self, line: &[u8]) -> bool
         requires { list_all lexical.is_printed line.now ≡ true }
         ensures tells { (c : Settings) (log : Log) → IsAhead c log line.now self.old
-            → Tells c log (telling log (line.now ++ 10 ∷ [])) self.new result }
+            → IsTold c log (telling log (line.now ++ 10 ∷ [])) self.new result }
+        ensures kept { result ≡ false → self.new ≡ self.old }
         ensures count { self.new.reporter.count + self.new.owed ≡ self.old.reporter.count + self.old.owed }
     {
         let due = self.due();
@@ -249,19 +267,100 @@ impl<A: Allocator> Judge<A> {
         true
     }
 
-    /// A line tells an answer: whether a legal log goes on so. The words are those of the line.
-    pub fn hear(&mut self, line: &[u8], words: Words<'_>) -> Result<bool, OutOfMemory>
-        requires count { self.old.reporter.count + 1 < 2 ^ 64 }
-        requires words { lexical.words words.rest.now ≡ lexical.words line.now }
+    /// A line tells what is due, or breaks a rule.
+    fn tell_due(&mut self, line: &[u8]) -> Option<Rule>
+        requires due { due self.old ≢ [] }
         requires printed { list_all lexical.is_printed line.now ≡ true }
-        ensures tells { IfOk result (λ goes_on. (c : Settings) (log : Log) → Stands c log self.old
-            → Tells c log (telling log (line.now ++ 10 ∷ [])) self.new goes_on) }
+        ensures tells { (c : Settings) (log : Log) → Stands c log self.old
+            → Tells c log (telling log (line.now ++ 10 ∷ [])) self.new result }
+        ensures rule { IfSome result (λ rule. rule ≡ due_rule (due self.old) line.now) }
+        ensures count { self.new.reporter.count + self.new.owed ≡ self.old.reporter.count + self.old.owed }
+    {
+        if self.tell(line) {
+            return None;
+        }
+        Some(due_rule(self.due(), line))
+    }
+
+    /// The rule that the line of these words breaks, if it isn't what the next step answers.
+    fn next_rule(&self, words: Words<'_>) -> Rule
+        ensures idle { is_service (lexical.words words.entry.rest.now) ≡ false → result ≡ Rule.Idle }
+        ensures step { is_service (lexical.words words.entry.rest.now) ≡ true
+            → (c : Settings) (t : Trace) (begun : named.Named) → IsValid c
+            → Led (fresh c begun) t self.now.controller
+            → IsStepRule c t (name_of (naming.name_in (lexical.words words.entry.rest.now))) result }
+    {
+        if is_service(words) {
+            step_rule(&self.controller, name_in(words))
+        } else {
+            Rule::Idle
+        }
+    }
+
+    /// Keeps what may start, if the line of the next step breaks this rule and names a command that may not.
+    fn keep_starts(&mut self, rule: &Rule)
+        ensures kept { self.new ≡ record self.old { starts = self.new.starts } }
+        ensures starts { rule.now ≢ Rule.Service → rule.now ≢ Rule.Idle → (c : Settings) (t : Trace) (begun : named.Named) → IsValid c
+            → Led (fresh c begun) t self.old.controller → self.new.starts.items ≡ starts_in c t }
+        ensures count { self.new.reporter.count ≡ self.old.reporter.count }
+        ensures owed { self.new.owed ≡ self.old.owed }
+    {
+        match rule {
+            Rule::Service | Rule::Idle => {}
+            _ => self.starts = starts(&self.controller),
+        }
+    }
+
+    /// Gives away what was kept so.
+    pub fn take_starts(&mut self) -> Starts
+        ensures starts { result ≡ self.old.starts }
+        ensures held { (c : Settings) (log : Log) → IsHeld c log self.old → IsHeld c log self.new }
+        ensures count { self.new.reporter.count + self.new.owed ≡ self.old.reporter.count + self.old.owed }
+    {
+        replace(&mut self.starts, Starts::new())
+    }
+
+    /// A line tells what the next step does, at which the command starts that it names, or it breaks a rule.
+    fn tell_step(&mut self, line: &[u8], words: Words<'_>) -> Result<Option<Rule>, OutOfMemory>
+        requires count { self.old.reporter.count + 1 < 2 ^ 64 }
+        requires due { due self.old ≡ [] }
+        requires owed { 0 < self.old.owed }
+        requires words { lexical.words words.rest.now ≡ lexical.words line.now }
+        requires answer { is_answer (lexical.words line.now) ≡ true }
+        requires printed { list_all lexical.is_printed line.now ≡ true }
+        ensures tells { IfOk result (λ broken. (c : Settings) (log : Log) → Stands c log self.old
+            → Tells c log (telling log (line.now ++ 10 ∷ [])) self.new broken) }
+        ensures breaks { IfOk result (λ broken. Breaks self.old line.now broken self.new.starts.items) }
         ensures count { OnOk result (self.new.reporter.count + self.new.owed
             ≡ self.old.reporter.count + self.old.owed) }
     {
-        if !self.prepare(words)? {
-            return Ok(false);
+        let rule = self.next_rule(words);
+        self.keep_starts(&rule);
+        self.step(name_in(words))?;
+        if self.tell(line) {
+            return Ok(None);
         }
-        Ok(self.tell(line))
+        Ok(Some(rule))
+    }
+
+    /// A line tells an answer: the rule that it breaks, or that a legal log goes on so. The words are those of the line.
+    pub fn hear(&mut self, line: &[u8], words: Words<'_>) -> Result<Option<Rule>, OutOfMemory>
+        requires count { self.old.reporter.count + 1 < 2 ^ 64 }
+        requires words { lexical.words words.rest.now ≡ lexical.words line.now }
+        requires answer { is_answer (lexical.words line.now) ≡ true }
+        requires printed { list_all lexical.is_printed line.now ≡ true }
+        ensures tells { IfOk result (λ broken. (c : Settings) (log : Log) → Stands c log self.old
+            → Tells c log (telling log (line.now ++ 10 ∷ [])) self.new broken) }
+        ensures breaks { IfOk result (λ broken. Breaks self.old line.now broken self.new.starts.items) }
+        ensures count { OnOk result (self.new.reporter.count + self.new.owed
+            ≡ self.old.reporter.count + self.old.owed) }
+    {
+        if !self.due().is_empty() {
+            return Ok(self.tell_due(line));
+        }
+        if self.owed == 0 {
+            return Ok(Some(Rule::Unasked));
+        }
+        self.tell_step(line, words)
     }
 }

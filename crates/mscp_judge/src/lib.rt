@@ -7,7 +7,14 @@ mod judge;
 mod judging;
 mod log;
 mod naming;
+mod rules;
+mod starting;
+mod totals;
 
 pub use crate::judge::Right;
 pub use crate::judging::{Verdict, judge_lines};
 pub use crate::log::judge_log;
+pub use crate::naming::Named;
+pub use crate::rules::Rule;
+pub use crate::starting::Starts;
+pub use crate::totals::Totals;

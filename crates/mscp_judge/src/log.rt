@@ -1,6 +1,7 @@
 // A whole log: its header, and the lines behind it.
 
 ghost use Rattle.std.specs.Prelude.{◌≡◌, Ok};
+ghost use Rattle.mscp_judge.specs.declared.totals.Totals.{Totals};
 ghost use Rattle.mscp_judge.specs.Judged.{HasLegalTrace, IsLegalVerdict, JudgesLog};
 
 use crate::judging::{Verdict, judge_lines};
@@ -13,7 +14,7 @@ pub fn judge_log<A: Allocator>(alloc: A, bytes: &[u8]) -> Result<Verdict, ReadFa
     // So each log of which there is a legal trace is judged to be legal,
     ensures legal { HasLegalTrace bytes.now → IsLegalVerdict result }
     // and no other.
-    ensures only { result ≡ Ok Verdict.Legal → HasLegalTrace bytes.now }
+    ensures only { (totals : Totals) → result ≡ Ok (Verdict.Legal totals) → HasLegalTrace bytes.now }
 {
     let mut lines = lines_of(bytes)?;
     let config = read_header(&mut lines)?;

@@ -12,7 +12,7 @@ use mscp_control::{Choice, Connection, Picker, View};
 use mscp_reader::{Words, wide};
 
 /// Picks the command of this name, if it may start.
-#[derive(Clone, Copy, Debug, PartialEq, Eq)]
+#[derive(Clone, Copy, Debug, Default, PartialEq, Eq)]
 pub struct Named {
     pub connection: Connection,
     pub reference: u32,

@@ -62,6 +62,13 @@ impl<A: Allocator> Reporter<A> {
         self.totals.count
     }
 
+    /// How many of them are of steps, idle ones too.
+    pub fn steps(&self) -> u64
+        ensures { result ≡ self.now.steps }
+    {
+        self.totals.steps
+    }
+
     /// The lines, but for those that were forgotten.
     pub fn lines(&self) -> &[u8]
         ensures { result.now ≡ self.now.lines }

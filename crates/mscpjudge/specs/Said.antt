@@ -1,5 +1,6 @@
 -- What is written of a log.
-use Rattle.std.specs.Prelude.{◌≡◌, ℕ, List, ◌++◌, codes, Option, Result, Ok, Err}
+use Rattle.std.specs.Prelude.{◌≡◌, ℕ, Bool, true, false, List, [], ◌++◌, codes, if◌then◌else◌, Option, Result, Ok, Err}
+use Rattle.std.specs.List.{flat_map}
 use Rattle.std.specs.Fmt.{decimal}
 use Rattle.std.specs.Io.KnownBytes.{Appends}
 use Rattle.mscp_reader.specs.declared.fault.ReadFault.{ReadFault}
@@ -9,6 +10,13 @@ use Rattle.mscp_script.specs.declared.reading.ReadAllFault.TheVariants as readin
 use Rattle.mscp_script.specs.Simulated.{IsGiven}
 use Rattle.mscp_judge.specs.declared.judging.Verdict.{Verdict}
 use Rattle.mscp_judge.specs.declared.judging.Verdict.TheVariants as verdicts
+use Rattle.mscp_queue.specs.declared.name.Connection.{Connection}
+use Rattle.mscp_queue.specs.declared.name.Connection.TheVariants.{First, Second}
+use Rattle.mscp_queue.specs.declared.why.Holder.{Holder}
+use Rattle.mscp_judge.specs.declared.naming.Named.{Named}
+use Rattle.mscp_judge.specs.declared.rules.Rule.{Rule}
+use Rattle.mscp_judge.specs.declared.rules.Rule.TheVariants as rules
+use Rattle.mscp_judge.specs.declared.totals.Totals.{Totals}
 use Rattle.mscp_judge.specs.Judged.{JudgesLog}
 use Rattle.mscpjudge.specs.declared.fault.Fault.{Fault}
 use Rattle.mscpjudge.specs.declared.fault.Fault.TheVariants as faults
@@ -27,17 +35,74 @@ fault_of_log scripts.OutOfMemory = faults.OutOfMemory
 
 -- how a log is judged by a verdict
 abbrev pub outcome_of : Verdict → Outcome
-outcome_of verdicts.Legal = outcomes.Legal
-outcome_of (verdicts.Wrong line right) = outcomes.Wrong
+outcome_of (verdicts.Legal totals) = outcomes.Legal
+outcome_of (verdicts.Wrong line rule starts right) = outcomes.Wrong
 outcome_of (verdicts.Unanswered right) = outcomes.Wrong
+
+-- the rest of the line of the totals
+abbrev pub peaks_text : Totals → List ℕ
+peaks_text totals =
+    codes " figure " ++ decimal totals.figure ++ codes " bound " ++ decimal totals.bound
+    ++ codes " passed " ++ decimal totals.passed ++ codes "\n"
+
+-- the lines of a log that is legal, and has these totals
+abbrev pub legal_text : Totals → List ℕ
+legal_text totals =
+    codes "legal\nmoments " ++ decimal totals.moments ++ codes " steps " ++ decimal totals.steps
+    ++ peaks_text totals
 
 -- the line of what would have been right
 abbrev pub right_text : List ℕ → List ℕ
 right_text right = codes "right: " ++ right ++ codes "\n"
 
--- the line of a line that isn't legal
-abbrev pub wrong_text : ℕ → List ℕ
-wrong_text line = codes "line " ++ decimal line ++ codes ": not legal\n"
+-- the name of a command. One of the first connection is its reference number alone
+abbrev pub name_text : Connection → ℕ → List ℕ
+name_text First reference = decimal reference
+name_text Second reference = codes "second " ++ decimal reference
+
+-- how an earlier command keeps one back
+abbrev pub holder_text : Holder → List ℕ
+holder_text holder =
+    (if holder.fences then codes "fence of " else codes "passing limit of ")
+    ++ name_text holder.connection holder.reference
+
+-- which command is in service
+abbrev pub served_text : Named → List ℕ
+served_text named = codes "in service is " ++ name_text named.connection named.reference
+
+-- the words of a rule
+abbrev pub rule_text : Rule → List ℕ
+rule_text rules.Unasked = codes "no event"
+rule_text rules.Missing = codes "answer missing"
+rule_text rules.Message = codes "message"
+rule_text rules.Figure = codes "figure"
+rule_text rules.Order = codes "order of ends"
+rule_text rules.End = codes "end"
+rule_text rules.Idle = codes "step"
+rule_text rules.NotWaiting = codes "not waiting"
+rule_text (rules.InService named) = served_text named
+rule_text (rules.KeptBack holder) = holder_text holder
+rule_text rules.Service = codes "service"
+
+-- the lines of a line that isn't legal, for this rule
+abbrev pub wrong_text : ℕ → Rule → List ℕ
+wrong_text line rule =
+    codes "line " ++ decimal line ++ codes ": not legal\nrule: " ++ rule_text rule ++ codes "\n"
+
+-- where a step is to be answered, and the line names a command that may not be served, what may start is told
+abbrev pub has_starts : Rule → Bool
+has_starts rules.NotWaiting = true
+has_starts (rules.KeptBack holder) = true
+has_starts rule = false
+
+-- a name behind a space
+abbrev pub spaced_name : Named → List ℕ
+spaced_name named = codes " " ++ name_text named.connection named.reference
+
+-- the line of the commands that may start
+abbrev pub starts_text : Rule → List Named → List ℕ
+starts_text rule starts =
+    if has_starts rule then codes "may start:" ++ flat_map spaced_name starts ++ codes "\n" else []
 
 -- the line of a log that isn't whole
 abbrev pub unanswered_text : List ℕ
@@ -45,8 +110,9 @@ unanswered_text = codes "end: not legal\n"
 
 -- the lines that say a verdict
 abbrev pub verdict_text : Verdict → List ℕ
-verdict_text verdicts.Legal = codes "legal\n"
-verdict_text (verdicts.Wrong line right) = wrong_text line ++ right_text right.items
+verdict_text (verdicts.Legal totals) = legal_text totals
+verdict_text (verdicts.Wrong line rule starts right) =
+    wrong_text line rule ++ starts_text rule starts.items ++ right_text right.items
 verdict_text (verdicts.Unanswered right) = unanswered_text ++ right_text right.items
 
 -- what is written is the verdict of the log that the reader gave. Nothing is written on a fault, and a fault of the log

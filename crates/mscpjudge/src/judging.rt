@@ -1,13 +1,14 @@
 // What is said of a log.
 
 ghost use Rattle.std.specs.Prelude.{◌≡◌, ◌++◌, false, OnOk, IfOk};
-ghost use Rattle.mscpjudge.specs.Said.{Says, outcome_of, right_text, unanswered_text, verdict_text, wrong_text};
+ghost use Rattle.std.specs.List.{flat_map};
+ghost use Rattle.mscpjudge.specs.Said.{Says, has_starts, holder_text, legal_text, name_text, outcome_of, peaks_text, right_text, rule_text, served_text, spaced_name, starts_text, unanswered_text, verdict_text, wrong_text};
 
 use crate::fault::Fault;
-use itoa::Buffer;
-use mscp_judge::{Right, Verdict, judge_log};
+use mscp_control::{Connection, Holder};
+use mscp_judge::{Named, Right, Rule, Totals, Verdict, judge_log};
 use mscp_script::{Sink, Source, read_all};
-use mscp_text::put;
+use mscp_text::{put, put_field};
 use std::alloc::{AllocError, Allocator, Global};
 
 /// How a log was judged.
@@ -24,9 +25,29 @@ fn outcome_of(verdict: &Verdict) -> Outcome
     ensures { result ≡ outcome_of verdict.now }
 {
     match verdict {
-        Verdict::Legal => Outcome::Legal,
+        Verdict::Legal(_) => Outcome::Legal,
         Verdict::Wrong(..) | Verdict::Unanswered(_) => Outcome::Wrong,
     }
+}
+
+/// Appends the rest of the line of the totals: the largest figure, the bound, and the most blocks by which a command was
+/// passed.
+fn put_peaks<A: Allocator>(text: &mut Vec<u8, A>, totals: &Totals) -> Result<(), AllocError>
+    ensures { OnOk result (text.new.items ≡ text.old.items ++ peaks_text totals.now) }
+{
+    put_field(text, " figure ", totals.figure)?;
+    put_field(text, " bound ", totals.bound)?;
+    put_field(text, " passed ", totals.passed)?;
+    put(text, "\n")
+}
+
+/// Appends the lines of a log that is legal, and has these totals.
+fn put_legal<A: Allocator>(text: &mut Vec<u8, A>, totals: &Totals) -> Result<(), AllocError>
+    ensures { OnOk result (text.new.items ≡ text.old.items ++ legal_text totals.now) }
+{
+    put_field(text, "legal\nmoments ", totals.moments)?;
+    put_field(text, " steps ", totals.steps)?;
+    put_peaks(text, totals)
 }
 
 /// Appends the line of what would have been right.
@@ -38,17 +59,116 @@ fn put_right<A: Allocator>(text: &mut Vec<u8, A>, right: &Right) -> Result<(), A
     put(text, "\n")
 }
 
-/// Appends the lines of a log whose line of this number isn't legal.
+/// Appends the name of a command. One of the first connection is its reference number alone.
+fn put_name<A: Allocator>(
+    text: &mut Vec<u8, A>,
+    connection: Connection,
+    reference: u32,
+) -> Result<(), AllocError>
+    ensures { OnOk result (text.new.items ≡ text.old.items ++ name_text connection reference) }
+{
+    match connection {
+        Connection::First => put_field(text, "", reference),
+        Connection::Second => put_field(text, "second ", reference),
+    }
+}
+
+/// Appends how an earlier command keeps one back.
+fn put_holder<A: Allocator>(text: &mut Vec<u8, A>, holder: &Holder) -> Result<(), AllocError>
+    ensures { OnOk result (text.new.items ≡ text.old.items ++ holder_text holder.now) }
+{
+    put(
+        text,
+        if holder.fences {
+            "fence of "
+        } else {
+            "passing limit of "
+        },
+    )?;
+    put_name(text, holder.connection, holder.reference)
+}
+
+/// Appends which command is in service.
+fn put_served<A: Allocator>(text: &mut Vec<u8, A>, named: &Named) -> Result<(), AllocError>
+    ensures { OnOk result (text.new.items ≡ text.old.items ++ served_text named.now) }
+{
+    put(text, "in service is ")?;
+    put_name(text, named.connection, named.reference)
+}
+
+/// Appends the words of a rule.
+fn put_rule<A: Allocator>(text: &mut Vec<u8, A>, rule: &Rule) -> Result<(), AllocError>
+    ensures { OnOk result (text.new.items ≡ text.old.items ++ rule_text rule.now) }
+{
+    match rule {
+        Rule::Unasked => put(text, "no event"),
+        Rule::Missing => put(text, "answer missing"),
+        Rule::Message => put(text, "message"),
+        Rule::Figure => put(text, "figure"),
+        Rule::Order => put(text, "order of ends"),
+        Rule::End => put(text, "end"),
+        Rule::Idle => put(text, "step"),
+        Rule::NotWaiting => put(text, "not waiting"),
+        Rule::InService(named) => put_served(text, named),
+        Rule::KeptBack(holder) => put_holder(text, holder),
+        Rule::Service => put(text, "service"),
+    }
+}
+
+/// Whether it is told which commands may start, where this rule is broken: where a step is to be answered, and the line
+/// names one that may not be served.
+fn has_starts(rule: &Rule) -> bool
+    ensures { result ≡ has_starts rule.now }
+{
+    match rule {
+        Rule::NotWaiting | Rule::KeptBack(_) => true,
+        _ => false,
+    }
+}
+
+/// Appends these names, each behind a space.
+fn put_names<A: Allocator>(text: &mut Vec<u8, A>, names: &[Named]) -> Result<(), AllocError>
+    ensures { OnOk result (text.new.items ≡ text.old.items ++ flat_map spaced_name names.now) }
+{
+    for named in names {
+        put(text, " ")?;
+        put_name(text, named.connection, named.reference)?;
+    }
+    Ok(())
+}
+
+/// Appends the line of the commands that may start.
+fn put_starts<A: Allocator>(
+    text: &mut Vec<u8, A>,
+    rule: &Rule,
+    starts: &[Named],
+) -> Result<(), AllocError>
+    ensures { OnOk result (text.new.items ≡ text.old.items ++ starts_text rule.now starts.now) }
+{
+    if !has_starts(rule) {
+        return Ok(());
+    }
+    put(text, "may start:")?;
+    put_names(text, starts)?;
+    put(text, "\n")
+}
+
+/// Appends the lines of a log whose line of this number isn't legal, for this rule.
 fn put_wrong<A: Allocator>(
     text: &mut Vec<u8, A>,
     line: u32,
+    rule: &Rule,
+    starts: &[Named],
     right: &Right,
 ) -> Result<(), AllocError>
-    ensures { OnOk result (text.new.items ≡ text.old.items ++ wrong_text line ++ right_text right.now.items) }
+    ensures { OnOk result (text.new.items
+        ≡ text.old.items ++ wrong_text line rule.now ++ starts_text rule.now starts.now ++ right_text right.now.items) }
 {
-    put(text, "line ")?;
-    put(text, Buffer::new().format(line))?;
-    put(text, ": not legal\n")?;
+    put_field(text, "line ", line)?;
+    put(text, ": not legal\nrule: ")?;
+    put_rule(text, rule)?;
+    put(text, "\n")?;
+    put_starts(text, rule, starts)?;
     put_right(text, right)
 }
 
@@ -65,8 +185,10 @@ fn put_verdict<A: Allocator>(text: &mut Vec<u8, A>, verdict: &Verdict) -> Result
     ensures { OnOk result (text.new.items ≡ text.old.items ++ verdict_text verdict.now) }
 {
     match verdict {
-        Verdict::Legal => put(text, "legal\n"),
-        Verdict::Wrong(line, right) => put_wrong(text, *line, right),
+        Verdict::Legal(totals) => put_legal(text, totals),
+        Verdict::Wrong(line, rule, starts, right) => {
+            put_wrong(text, *line, rule, starts.as_slice(), right)
+        }
         Verdict::Unanswered(right) => put_unanswered(text, right),
     }
 }

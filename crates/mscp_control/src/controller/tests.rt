@@ -82,7 +82,9 @@ fn a_bad_block_ends_its_transfer(rt: HostRuntime) {
     let sent = send(&mut controller, &transfer(1, 1024, 0));
     assert_eq!(rt; sent, Ok(Sent::Queued(1)));
     assert_eq!(rt; controller.figure(Connection::First, 1), 18);
+    assert_eq!(rt; (controller.serving(), controller.most_passed()), (None, 0));
     let _first = controller.step(Block::Good);
+    assert_eq!(rt; controller.serving(), Some((Connection::First, 1)));
     let status = FaultStatus::new(0x000B).expect(&rt, "a status");
     let report = controller.step(Block::Bad(status));
     let end = End {

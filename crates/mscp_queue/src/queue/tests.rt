@@ -82,8 +82,13 @@ fn an_abort_raises_no_figure(rt: HostRuntime) {
             queue.push(read(1, 1, 800));
             queue.push(read(2, 4, 0));
             assert_eq!(rt; figures(&queue), [5, 9, 0], "from {clock}");
+            assert_eq!(rt; (queue.serving(), queue.most_passed()), (None, 0));
             queue.serve(Block::Good);
             assert_eq!(rt; figures(&queue), [4, 3, 0], "from {clock}");
+            assert_eq!(rt;
+                (queue.serving(), queue.most_passed()),
+                (Some((Connection::First, 2)), 4)
+            );
             queue.abort(Connection::First, aborted);
             assert_eq!(rt; figures(&queue), left, "from {clock}, without {aborted}");
         }

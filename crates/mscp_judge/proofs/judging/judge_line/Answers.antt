@@ -1,9 +1,10 @@
-use Rattle.std.proofs.Common.{◌++◌, sym, ◌∙◌}
+use Rattle.std.proofs.Common.{◌++◌, ap, sym, ◌∙◌}
 use Rattle.std.proofs.lemmas.Bool.{true≢false}
 use Rattle.std.proofs.lemmas.Result.{err_from_is_err_and}
 use Rattle.mscp_reader.specs.Requests.{events_of}
 use Rattle.mscp_text.specs.Lines.{line}
-use Rattle.mscp_judge.specs.Logs.{asking, telling}
+use Rattle.mscp_judge.specs.Logs.{asking, is_answer, telling}
+use Rattle.mscp_judge.proofs.Breaking.{broken_early}
 use Rattle.mscp_judge.proofs.Coming.{stands_held, too_early}
 use Rattle.mscp_judge.proofs.Reading.{asks, asks_wrong, says_words, skipped, tells, wrong_words}
 use Rattle.mscp_judge.proofs.judging.judge_line.Goals as goal
@@ -25,6 +26,10 @@ pub hear-requires-clause-words : goal.hear-requires-clause-words
 hear-requires-clause-words g c =
     (says_words c.args.number c.args.bytes.now _ c.in_ok-words.ensures.words
     (λ e. true≢false (sym (c.is_empty.ensures.1 e) ∙ c.if-is_empty.false))).0
+
+pub hear-requires-clause-answer : goal.hear-requires-clause-answer
+hear-requires-clause-answer g c =
+    ap is_answer (sym (hear-requires-clause-words g c)) ∙ (sym c.is_answer.ensures ∙ c.if-is_answer.true)
 
 pub hear-requires-clause-printed : goal.hear-requires-clause-printed
 hear-requires-clause-printed g c =
@@ -62,6 +67,13 @@ returns-then-not-is_settled-clause-hears g c = λ d log s.
         stands_held d log c.args.judge.now s,
       ),
     )
+
+pub returns-then-not-is_settled-clause-breaks : goal.returns-then-not-is_settled-clause-breaks
+returns-then-not-is_settled-clause-breaks g c = λ d log s.
+    broken_early d log c.args.bytes.now c.args.judge.now _ s
+    (ap is_answer (sym (says_words c.args.number c.args.bytes.now _ c.in_ok-words.ensures.words
+    (λ e. true≢false (sym (c.is_empty.ensures.1 e) ∙ c.if-is_empty.false))).0)
+    ∙ (sym c.is_answer.ensures ∙ c.if-is_answer.false))
 
 pub returns-clause-hears : goal.returns-clause-hears
 returns-clause-hears g c = λ d log s.

@@ -6,9 +6,12 @@ use Rattle.mscp_reader.specs.Lexical.{lines}
 use Rattle.mscp_reader.specs.declared.fault.ReadFault.{ReadFault}
 use Rattle.mscp_reader.specs.declared.fault.ReadFault.TheVariants as faults
 use Rattle.mscp_judge.specs.declared.judge.Judge.{Judge}
-use Rattle.mscp_judge.specs.Judged.{Hears, Judges, Tells}
+use Rattle.mscp_judge.specs.Judged.{Breaks, Hears, IsBroken, Judges, Tells}
 use Rattle.mscp_judge.specs.Logs.{Log, MayGoOn, after_lines, nothing, whole}
-use Rattle.mscp_judge.proofs.Coming.{stands_held, stands_legal, stands_not, stands_open}
+use Rattle.mscp_judge.specs.declared.totals.Totals.{Totals}
+use Rattle.mscp_judge.specs.Standing.{totals_of}
+use Rattle.mscp_judge.specs.Totals.{AreTotals}
+use Rattle.mscp_judge.proofs.Coming.{stands_held, stands_legal, stands_not, stands_open, stands_settings}
 use Rattle.mscp_judge.proofs.Reading.{lines_more}
 use Rattle.mscp_judge.proofs.judging.judge_lines.Goals as goal
 
@@ -43,22 +46,26 @@ loop-bytes-init g c = record {
   few = omega (arith, c.new-judge.ensures.count);
 }
 
-pub returns-in_err-judge_line : goal.returns-in_err-judge_line
-returns-in_err-judge_line g c =
+pub returns-in_err-rule : goal.returns-in_err-rule
+returns-in_err-rule g c =
     let i = c.loop-bytes.invariant in
     let p = err_from_is_err_and c.from_residual.result c.from_residual.ensures.1 in
     rw (p.1, p.2)
     (judged_fault c.args.config c.args.lines.now.number _ i.front c.in-Some.bytes.now
     (lines c.cut.new.self.rest.now) i.log
-    c.cut.new.self.number c.judge_line.new.judge c.in_err-judge_line.field-0.0
+    c.cut.new.self.number c.judge_line.new.judge c.in_err-rule.field-0.0
     (i.whole ∙ ap (λ ls. i.front ++ ls) c.in-Some.ensures.line) (omega (arith, i.number, c.in-Some.ensures.counted))
     i.read (stands_open c.args.config i.log c.loop-bytes.judge i.stands)
-    (c.in_err-judge_line.ensures.hears c.args.config i.log i.stands))
+    (c.in_err-rule.ensures.hears c.args.config i.log i.stands))
 
-pub returns-then-not-branch : goal.returns-then-not-branch
-returns-then-not-branch g c =
+pub returns-in-Some-2 : goal.returns-in-Some-2
+returns-in-Some-2 g c =
     let i = c.loop-bytes.invariant in
-    let k = c.in_ok-judge_line.ensures.hears c.args.config i.log i.stands in
+    let k = c.in_ok-rule.ensures.hears c.args.config i.log i.stands in
+    let told = subst (λ b. Tells c.args.config i.log k.0 c.judge_line.new.judge b) c.in-Some-2.is k.2 in
+    let breaks = subst (λ b. Breaks c.loop-bytes.judge c.in-Some.bytes.now b c.judge_line.new.judge.starts.items)
+    c.in-Some-2.is c.in_ok-rule.ensures.breaks in
+    let starts = c.take_starts-starts in
     record {
       front = i.front;
       line = c.in-Some.bytes.now;
@@ -70,16 +77,17 @@ returns-then-not-branch g c =
       read = i.read;
       opens = stands_open c.args.config i.log c.loop-bytes.judge i.stands;
       says = k.1;
-      wrong = (subst (λ b. Tells c.args.config i.log k.0 c.judge_line.new.judge b) c.if-not-branch.true k.2).0;
-      right_there = c.in_ok-right.ensures c.args.config i.log
-          (subst (λ b. Tells c.args.config i.log k.0 c.judge_line.new.judge b) c.if-not-branch.true k.2).1;
+      wrong = told.0;
+      broken = subst (λ ns. IsBroken c.args.config i.log c.in-Some.bytes.now c.in-Some-2.rule ns)
+          (sym (ap (λ x. x.items) starts.ensures.starts)) (breaks c.args.config i.log i.stands);
+      right_there = c.in_ok-right.ensures c.args.config i.log (starts.ensures.held c.args.config i.log told.1);
     }
 
 pub loop-bytes-preserved : goal.loop-bytes-preserved
 loop-bytes-preserved g c =
     let i = c.loop-bytes.invariant in
     let bytes = c.in-Some.bytes.now in
-    let k = c.in_ok-judge_line.ensures.hears c.args.config i.log i.stands in
+    let k = c.in_ok-rule.ensures.hears c.args.config i.log i.stands in
     record {
       front = i.front ++ bytes ∷ [];
       log = k.0;
@@ -88,21 +96,25 @@ loop-bytes-preserved g c =
       number = omega (arith, i.number, c.in-Some.ensures.counted, length-append i.front (bytes ∷ []));
       read = lines_more c.args.lines.now.number nothing i.front bytes i.log k.0 c.cut.new.self.number i.read
           (omega (arith, i.number, c.in-Some.ensures.counted)) k.1;
-      stands = subst (λ b. Tells c.args.config i.log k.0 c.judge_line.new.judge b) c.if-not-branch.false k.2;
-      few = c.in_ok-judge_line.ensures.count;
+      stands = subst (λ b. Tells c.args.config i.log k.0 c.judge_line.new.judge b) c.in_default-2.is k.2;
+      few = c.in_ok-rule.ensures.count;
     }
 
 pub returns-then-is_settled : goal.returns-then-is_settled
 returns-then-is_settled g c =
     let i = c.loop-bytes.invariant in
     let all = i.whole ∙ (ap (λ ls. i.front ++ ls) c.in_default.ensures.line ∙ append-nil i.front) in
-    let legal = stands_legal c.args.config i.log c.loop-bytes.judge i.stands
+    let known = stands_legal c.args.config i.log c.loop-bytes.judge i.stands
     (c.is_settled.ensures.yes c.if-is_settled.true) in
+    let legal = known.0 in
     record {
       log = i.log;
       read = ap (λ ls. after_lines c.args.lines.now.number nothing ls) all ∙ i.read;
       legal = legal;
-      promise = progress c.args.config (whole legal.0) i.stands.stood.valid legal.1;
+      promise = progress c.args.config (whole legal.0) i.stands.counted.stood.valid legal.1;
+      totals_are = subst (λ (t : Totals). AreTotals c.args.config (whole legal.0) t)
+          (sym (c.totals.ensures ∙ ap (λ d. totals_of d c.loop-bytes.judge)
+          (stands_settings c.args.config i.log c.loop-bytes.judge i.stands))) known.1;
     }
 
 pub returns : goal.returns

@@ -1,10 +1,10 @@
-use Rattle.std.proofs.Common.{◌≡◌, ℕ, [], ◌∙◌, ap, subst, sym, arith}
+use Rattle.std.proofs.Common.{◌≡◌, [], ◌∙◌, subst, sym, arith}
 use Rattle.std.specs.Prelude.{Ok}
 use Rattle.mscp_reader.specs.Lexical.{lines}
 use Rattle.mscp_reader.specs.Grammar.{Begins, HasGone}
 use Rattle.mscp_reader.specs.Outcome.{headed}
 use Rattle.mscp_reader.proofs.Headers.{headed_gone}
-use Rattle.mscp_judge.specs.Judged.{JudgesBehind, JudgesLog}
+use Rattle.mscp_judge.specs.Judged.{JudgesBehind}
 use Rattle.mscp_judge.proofs.Exactly.{legal_alone, legal_is_found}
 use Rattle.mscp_judge.proofs.log.judge_log.Goals as goal
 

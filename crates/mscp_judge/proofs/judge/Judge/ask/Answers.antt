@@ -41,10 +41,11 @@ returns-in-Look-clause-stands g c =
 pub returns-in-Steps-clause-stands : goal.returns-in-Steps-clause-stands
 returns-in-Steps-clause-stands g c =
     rw c.in-Steps.is (asked_steps c.args.self.now c.owe.new.self c.in-Steps.count Good c.requires.settled
-    c.owe.ensures.controller c.owe.ensures.reporter c.owe.ensures.told c.owe.ensures.owed c.owe.ensures.block)
+    c.owe.ensures.controller c.owe.ensures.reporter c.owe.ensures.peaks c.owe.ensures.told c.owe.ensures.owed
+    c.owe.ensures.block)
 
 pub returns-in-Bad-clause-stands : goal.returns-in-Bad-clause-stands
 returns-in-Bad-clause-stands g c =
     rw c.in-Bad.is (asked_steps c.args.self.now c.owe-in-Bad.new.self 1 (Bad c.in-Bad.code) c.requires.settled
-    c.owe-in-Bad.ensures.controller c.owe-in-Bad.ensures.reporter c.owe-in-Bad.ensures.told c.owe-in-Bad.ensures.owed
-    c.owe-in-Bad.ensures.block)
+    c.owe-in-Bad.ensures.controller c.owe-in-Bad.ensures.reporter c.owe-in-Bad.ensures.peaks c.owe-in-Bad.ensures.told
+    c.owe-in-Bad.ensures.owed c.owe-in-Bad.ensures.block)

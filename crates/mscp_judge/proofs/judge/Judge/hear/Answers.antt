@@ -1,13 +1,26 @@
-use Rattle.std.proofs.Common.{subst}
-use Rattle.mscp_judge.specs.Judged.{IsReady}
+use Rattle.std.proofs.Common.{◌≡◌, [], sym, ◌∙◌, ap, arith}
+use Rattle.std.proofs.lemmas.Grind.{common_steps}
+use Rattle.std.specs.Prelude.{replicate}
+use Rattle.mscp_control.specs.declared.event.Event.TheVariants as events
+use Rattle.mscp_judge.proofs.Breaking.{broken_unasked}
+use Rattle.mscp_judge.proofs.Coming.{ready_not, stands_held}
 use Rattle.mscp_judge.proofs.judge.Judge.hear.Goals as goal
 
-pub returns-then-not-branch-clause-tells : goal.returns-then-not-branch-clause-tells
-returns-then-not-branch-clause-tells g c = λ d log s.
-    subst (λ b. IsReady d log c.args.line.now c.prepare.new.self b) c.if-not-branch.true
-    (c.in_ok-prepare.ensures.ready d log c.args.line.now c.requires.words s)
+pub tell_due-requires-clause-due : goal.tell_due-requires-clause-due
+tell_due-requires-clause-due g c =
+    λ e. let none : c.due.result.now ≡ [] = c.due.ensures ∙ e in let no : ⊥ = grind (arith, common_steps) in no
 
-pub returns-clause-tells : goal.returns-clause-tells
-returns-clause-tells g c = λ d log s.
-    c.tell.ensures.tells d log (subst (λ b. IsReady d log c.args.line.now c.prepare.new.self b) c.if-not-branch.false
-    (c.in_ok-prepare.ensures.ready d log c.args.line.now c.requires.words s))
+pub returns-then-self-eq0-clause-tells : goal.returns-then-self-eq0-clause-tells
+returns-then-self-eq0-clause-tells g c =
+    let none : c.due.result.now ≡ [] = grind (arith, common_steps) in
+    λ d log s. (
+      ready_not d log c.args.line.now c.args.self.now s
+          (record { told = sym c.due.ensures ∙ none; answered = c.if-self-eq0.true }),
+      stands_held d log c.args.self.now s,
+    )
+
+pub returns-then-self-eq0-clause-breaks : goal.returns-then-self-eq0-clause-breaks
+returns-then-self-eq0-clause-breaks g c =
+    let none : c.due.result.now ≡ [] = grind (arith, common_steps) in
+    λ d log s. broken_unasked d log c.args.line.now c.args.self.now _ s (sym c.due.ensures ∙ none)
+    (ap (λ n. replicate n (events.Step c.args.self.now.block)) c.if-self-eq0.true) c.requires.answer

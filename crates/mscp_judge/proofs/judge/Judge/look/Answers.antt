@@ -8,3 +8,5 @@ pub returns-clause-came : goal.returns-clause-came
 returns-clause-came g c = came_on c.looked.result c.args.self.now _ c.args.self.now.controller.picker events.Look
     (entries.Looked c.look-shown.result) c.forget_lines.new.self (c.look-shown.ensures.value, refl)
     c.forget_lines.ensures c.looked.ensures refl
+    0 _ refl c.most_passed.ensures.oldest c.rise.ensures.figure
+    c.rise.ensures.passed c.most_passed.ensures.most

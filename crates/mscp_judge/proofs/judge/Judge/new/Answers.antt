@@ -9,4 +9,4 @@ returns-clause-stands g c =
     stands_new c.args.config _ c.new.ensures.valid
     (c.new.ensures.fresh ∙ ap (λ p. fresh c.args.config p) c.nobody.ensures) (ap (λ
     (r : Reported). r.lines) c.new-2.ensures)
-    (ap (λ (r : Reported). r.count) c.new-2.ensures) refl
+    c.new-2.ensures refl c.none.ensures.figure c.none.ensures.passed

@@ -15,3 +15,5 @@ returns-clause-came g c =
     c.replace_picker.ensures.after c.step-report.ensures.step in
     came_on c.stepped.result c.args.self.now _ c.args.name (events.Step block) (entries.Stepped c.step-report.result)
     c.forget_lines.new.self steps c.forget_lines.ensures c.stepped.ensures refl
+    0 _ refl c.most_passed.ensures.oldest c.rise.ensures.figure
+    c.rise.ensures.passed c.most_passed.ensures.most

@@ -8,3 +8,5 @@ pub returns-clause-came : goal.returns-clause-came
 returns-clause-came g c = came_on c.taken.result c.args.self.now _ c.args.self.now.controller.picker
     (events.Take c.args.connection) (entries.Taken c.args.connection c.take-end.result) c.forget_lines.new.self
     (refl, c.take-end.ensures.answer, c.take-end.ensures.after) c.forget_lines.ensures c.taken.ensures refl
+    0 _ refl c.most_passed.ensures.oldest c.rise.ensures.figure
+    c.rise.ensures.passed c.most_passed.ensures.most

@@ -16,6 +16,6 @@ returns-clause-tells g c = λ d log s.
     let begins = subst (λ bs. BeginsWith bs c.args.line.now) c.due-due.ensures
     (c.begins_with.ensures.yes c.if-not-begins_with.false) in
     let lines = c.args.self.now.reporter.lines in
-    told_so d log c.args.line.now c.args.self.now _ s begins refl refl refl refl
+    told_so d log c.args.line.now c.args.self.now _ s begins refl refl refl refl refl
     (left_due lines c.args.line.now begins.0 c.args.self.now.told _ begins.1
     (λ i. length (c.lines.ensures i) - (length (c.due-due.ensures i) - length c.args.line.now - 1)))

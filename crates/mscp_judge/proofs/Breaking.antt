@@ -1,0 +1,83 @@
+-- The rule that a line breaks which comes to a judge.
+use Rattle.std.proofs.Common.{◌≡◌, ◌≢◌, ℕ, true, false, List, [], refl, sym, ◌∙◌}
+use Rattle.std.proofs.lemmas.Bool.{true≢false}
+use Rattle.mscp_control.specs.Settings.{IsValid, Settings}
+use Rattle.mscp_control.specs.History.{Trace}
+use Rattle.mscp_control.specs.Holdings.{fresh}
+use Rattle.mscp_reader.specs.Lexical.{words}
+use Rattle.mscp_judge.specs.declared.judge.Judge.{Judge}
+use Rattle.mscp_judge.specs.declared.naming.Named.{Named}
+use Rattle.mscp_judge.specs.declared.rules.Rule.{Rule}
+use Rattle.mscp_judge.specs.declared.rules.Rule.TheVariants as rules
+use Rattle.mscp_judge.specs.Judged.{IsBroken}
+use Rattle.mscp_judge.specs.Logs.{Log, is_answer}
+use Rattle.mscp_judge.specs.Naming.{name_in, name_of}
+use Rattle.mscp_judge.specs.Rules.{IsRule, IsStepRule, due_rule, is_service}
+use Rattle.mscp_judge.specs.Starts.{starts_in}
+use Rattle.mscp_judge.specs.Standing.{Led, Stands, due, owed, run_of}
+
+broken : {A : Type 0} (c : Settings) (log : Log) (line : List ℕ) (judge : Judge A) (rule : Rule)
+    (starts : List Named) (s : Stands c log judge)
+    → IsRule c (run_of s.counted.stood) (due judge) (owed judge) line rule
+    → (is_answer (words line) ≡ true → due judge ≡ [] → owed judge ≢ [] → rule ≢ rules.Service → rule ≢ rules.Idle
+    → starts ≡ starts_in c (run_of s.counted.stood)) → IsBroken c log line rule starts
+broken c log line judge rule starts s r o = record {
+  h = judge.controller;
+  due = due judge;
+  owed = owed judge;
+  stood = s.counted.stood;
+  rule_is = r;
+  starts_are = o;
+}
+
+-- a line that asks too early
+pub broken_early : {A : Type 0} (c : Settings) (log : Log) (line : List ℕ) (judge : Judge A) (starts : List Named)
+    → Stands c log judge → is_answer (words line) ≡ false → IsBroken c log line rules.Missing starts
+broken_early c log line judge starts s n = broken c log line judge rules.Missing starts s (record {
+  asks = λ e. refl;
+  told = λ e. absurd (true≢false (sym e ∙ n));
+  unasked = λ e. absurd (true≢false (sym e ∙ n));
+  idle = λ e. absurd (true≢false (sym e ∙ n));
+  step = λ e. absurd (true≢false (sym e ∙ n));
+}) (λ e. absurd (true≢false (sym e ∙ n)))
+
+-- one that tells where something is due
+pub broken_due : {A : Type 0} (c : Settings) (log : Log) (line : List ℕ) (judge : Judge A) (rule : Rule)
+    (starts : List Named) → Stands c log judge → due judge ≢ [] → is_answer (words line) ≡ true
+    → rule ≡ due_rule (due judge) line → IsBroken c log line rule starts
+broken_due c log line judge rule starts s some a e = broken c log line judge rule starts s (record {
+  asks = λ n. absurd (true≢false (sym a ∙ n));
+  told = λ b d. e;
+  unasked = λ b none. absurd (some none);
+  idle = λ b none. absurd (some none);
+  step = λ b none. absurd (some none);
+}) (λ b none. absurd (some none))
+
+-- one that tells where nothing is asked
+pub broken_unasked : {A : Type 0} (c : Settings) (log : Log) (line : List ℕ) (judge : Judge A) (starts : List Named)
+    → Stands c log judge → due judge ≡ [] → owed judge ≡ [] → is_answer (words line) ≡ true
+    → IsBroken c log line rules.Unasked starts
+broken_unasked c log line judge starts s none all a = broken c log line judge rules.Unasked starts s (record {
+  asks = λ n. absurd (true≢false (sym a ∙ n));
+  told = λ b some. absurd (some none);
+  unasked = λ b d o. refl;
+  idle = λ b d o. absurd (o all);
+  step = λ b d o. absurd (o all);
+}) (λ b d o. absurd (o all))
+
+-- and one where a step is to be answered
+pub broken_step : {A : Type 0} (c : Settings) (log : Log) (line : List ℕ) (judge : Judge A) (rule : Rule)
+    (starts : List Named) → Stands c log judge → due judge ≡ [] → is_answer (words line) ≡ true → owed judge ≢ []
+    → (is_service (words line) ≡ false → rule ≡ rules.Idle)
+    → (is_service (words line) ≡ true → (t : Trace) (begun : Named) → IsValid c → Led (fresh c begun) t judge.controller
+    → IsStepRule c t (name_of (name_in (words line))) rule)
+    → (rule ≢ rules.Service → rule ≢ rules.Idle → (t : Trace) (begun : Named) → IsValid c
+    → Led (fresh c begun) t judge.controller
+    → starts ≡ starts_in c t) → IsBroken c log line rule starts
+broken_step c log line judge rule starts s none a some idle step may = broken c log line judge rule starts s (record {
+  asks = λ n. absurd (true≢false (sym a ∙ n));
+  told = λ b d. absurd (d none);
+  unasked = λ b d o. absurd (some o);
+  idle = λ b d o e. idle e;
+  step = λ b d o e. step e (run_of s.counted.stood) s.counted.stood.begun s.counted.stood.valid s.counted.stood.led;
+}) (λ b d o e f. may e f (run_of s.counted.stood) s.counted.stood.begun s.counted.stood.valid s.counted.stood.led)

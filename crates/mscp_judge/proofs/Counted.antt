@@ -1,0 +1,85 @@
+-- How a judge stands after one more line, with the totals so far.
+use Rattle.std.proofs.Common.{◌≡◌, ℕ, false, List, [], ◌∷◌, ◌++◌, sym, ◌∙◌, subst, append_assoc, append-nil}
+use Rattle.mscp_queue.specs.declared.block.Block.{Block}
+use Rattle.mscp_control.specs.declared.event.Event.{Event}
+use Rattle.mscp_control.specs.declared.event.Event.TheVariants as events
+use Rattle.mscp_control.specs.declared.event.Entry.{Entry}
+use Rattle.mscp_control.specs.Settings.{Settings}
+use Rattle.mscp_control.specs.History.{is_step}
+use Rattle.mscp_control.specs.Holdings.{Answers, Holdings}
+use Rattle.mscp_reader.specs.Lexical.{words}
+use Rattle.mscp_script.specs.Text.{entry_lines}
+use Rattle.mscp_judge.specs.declared.naming.Named.{Named}
+use Rattle.mscp_judge.specs.declared.totals.Totals.{Totals}
+use Rattle.mscp_judge.specs.Logs.{Asked, Log, Mark, whole}
+use Rattle.mscp_judge.specs.Naming.{IsNamed, name_in}
+use Rattle.mscp_judge.specs.Standing.{Counted, Stood, marked, run_of, with_picker}
+use Rattle.mscp_judge.specs.Totals.{Adds, AreTotals}
+use Rattle.mscp_judge.proofs.Leading.{follow}
+use Rattle.mscp_judge.proofs.Marks.{is_legal_log, legal_run}
+use Rattle.mscp_judge.proofs.Standing.{ahead_of, told_line, told_on}
+use Rattle.mscp_judge.proofs.Stepping.{step_on}
+use Rattle.mscp_judge.proofs.Asking.{event_on, steps_on, whole_more}
+use Rattle.mscp_judge.proofs.Ending.{finished}
+use Rattle.mscp_judge.proofs.Tallies.{totals_more}
+
+pub ahead_counted : (c : Settings) (marks : List Mark) (h : Holdings Named) (due : List ℕ) (owed : List Event)
+    (ahead : List Mark) (totals : Totals) → Counted c marks h due owed [] totals
+    → Counted c marks h due owed ahead totals
+unfolding ahead_of
+ahead_counted c marks h due owed ahead totals s =
+    record { stood = ahead_of c marks h due owed ahead s.stood; are = s.are }
+
+pub told_counted : (c : Settings) (marks : List Mark) (h : Holdings Named) (due : List ℕ) (owed : List Event)
+    (line rest : List ℕ) (totals : Totals) → Counted c marks h due owed (told_line line) totals
+    → due ≡ line ++ 10 ∷ rest → Counted c (marks ++ told_line line) h rest owed [] totals
+unfolding told_on
+told_counted c marks h due owed line rest totals s e =
+    record { stood = told_on c marks h due owed line rest s.stood e; are = s.are }
+
+-- the totals of a trace with a moment more
+more : (c : Settings) (marks : List Mark) (h h' : Holdings Named) (name : Named) (owed : List Event) (event : Event)
+    (entry : Entry) (old new : Totals) → Answers (IsNamed name) (with_picker h name) event entry h'
+    → Adds h' entry old new → (k : Counted c marks h [] owed [] old)
+    → AreTotals c (run_of k.stood ++ (event, entry) ∷ []) new
+more c marks h h' name owed event entry old new a adds k =
+    totals_more c (run_of k.stood) h h' name event entry old new k.stood.valid
+    (follow c k.stood.begun (run_of k.stood) h k.stood.valid k.stood.led) a k.are adds
+
+pub step_counted : (c : Settings) (marks : List Mark) (h h' : Holdings Named) (k : Block) (owed : List Event)
+    (line : List ℕ) (entry : Entry) (old new : Totals) → Counted c marks h [] (events.Step k ∷ owed) [] old
+    → Answers (IsNamed (name_in (words line))) (with_picker h (name_in (words line))) (events.Step k) entry h'
+    → Adds h' entry old new → Counted c marks h' (entry_lines entry) owed (told_line line) new
+unfolding step_on
+step_counted c marks h h' k owed line entry old new s a adds = record {
+  stood = step_on c marks h h' k owed line entry s.stood a;
+  are = subst (λ t. AreTotals c t new) (append_assoc (whole s.stood.parts) s.stood.now ((events.Step k, entry) ∷ []))
+      (more c marks h h' (name_in (words line)) (events.Step k ∷ owed) (events.Step k) entry old new a adds s);
+}
+
+pub steps_counted : (c : Settings) (marks : List Mark) (h : Holdings Named) (es : List Event) (totals : Totals)
+    → Counted c marks h [] [] [] totals → Counted c (marks ++ Asked es ∷ []) h [] es [] totals
+unfolding steps_on
+steps_counted c marks h es totals s = record {
+  stood = steps_on c marks h es s.stood;
+  are = subst (λ t. AreTotals c t totals) (sym (append-nil (whole (s.stood.parts ++ s.stood.now ∷ []))
+      ∙ whole_more s.stood.parts s.stood.now)) s.are;
+}
+
+pub event_counted : (c : Settings) (marks : List Mark) (h h' : Holdings Named) (name : Named) (event : Event)
+    (entry : Entry) (old new : Totals) → is_step event ≡ false → Counted c marks h [] [] [] old
+    → Answers (IsNamed name) (with_picker h name) event entry h' → Adds h' entry old new
+    → Counted c (marks ++ Asked (event ∷ []) ∷ []) h' (entry_lines entry) [] [] new
+unfolding event_on
+event_counted c marks h h' name event entry old new o s a adds = record {
+  stood = event_on c marks h h' name event entry o s.stood a;
+  are = subst (λ t. AreTotals c (t ++ (event, entry) ∷ []) new) (sym (whole_more s.stood.parts s.stood.now))
+      (more c marks h h' name [] event entry old new a adds s);
+}
+
+-- the trace of a log of which all is told
+pub finished_run : (c : Settings) (log : Log) (h : Holdings Named) (s : Stood c (marked log) h [] [] [])
+    → run_of s ≡ whole (is_legal_log c log.marks (finished c (marked log) h s)).0
+unfolding finished
+finished_run c log h s =
+    sym (whole_more s.parts s.now) ∙ legal_run c log.marks (finished c (marked log) h s)

@@ -1,0 +1,193 @@
+-- What keeps a step from serving a command, as a controller and as the history have it.
+use Rattle.std.proofs.Common.{◌≡◌, ◌≢◌, inl, inr, ⊎_elim, ℕ, ◌<◌, ◌≤◌, Bool, true, false, List, [], ◌∷◌, map, take, length, refl, ap, sym, ◌∙◌, subst, arith}
+use Rattle.std.specs.Prelude.{All, Contains, filter, find, nat_eq, nat_lt, slice_index_or, Some}
+use Rattle.std.specs.List.{AllByRecursion}
+use Rattle.std.proofs.lemmas.Bool.{cases_Bool, eq-eqb, true≢false}
+use Rattle.std.proofs.lemmas.List.{length-map, take_all}
+use Rattle.std.proofs.lemmas.List.Elements.{All-contains, All-from_recursion, recursion_from_All}
+use Rattle.mscp_queue.specs.declared.name.Connection.TheVariants.{First}
+use Rattle.mscp_queue.specs.declared.name.Name.{Name}
+use Rattle.mscp_queue.specs.declared.why.Holder.{Holder}
+use Rattle.mscp_queue.specs.Figures.{figure_of_name}
+use Rattle.mscp_queue.specs.Names.{same_name}
+use Rattle.mscp_queue.specs.Records.{IsServing, Record, is_in_service, name_of as record_name}
+use Rattle.mscp_queue.specs.Why.{holders_of_name, is_nobody}
+use Rattle.mscp_queue.proofs.Lists.{every_from, every_mapped, every_parts, every_weaker, filter_none, filter_on}
+use Rattle.mscp_queue.proofs.Named.{is_differ, is_same, same_is}
+use Rattle.mscp_queue.proofs.Placed.{filter_map_of, find_cases, find_first, find_none, map_map}
+use Rattle.mscp_control.specs.Settings.{IsValid, Settings}
+use Rattle.mscp_control.specs.History.{Trace}
+use Rattle.mscp_control.specs.Commands.{done, in_service, is_idle, is_waiting, name, waiting}
+use Rattle.mscp_control.specs.Figures.{figure_found, figure_of}
+use Rattle.mscp_control.specs.Headline.{EachWaiting}
+use Rattle.mscp_control.specs.Holders.{holders, holders_found, holders_of}
+use Rattle.mscp_control.specs.Holdings.{Holdings}
+use Rattle.mscp_control.specs.Legal.{shown}
+use Rattle.mscp_control.specs.Passing.{is_startable, startable}
+use Rattle.mscp_control.proofs.Bridge.Held.{figure_of_held, figures_held, held_of}
+use Rattle.mscp_control.proofs.Bridge.Holders.{holders_of_held, startable_unheld}
+use Rattle.mscp_control.proofs.Bridge.Servable.{all_of, waits_at}
+use Rattle.mscp_control.proofs.Bridge.Viewed.{record_held, waiting_at}
+use Rattle.mscp_control.proofs.Promise.Among.{alone}
+use Rattle.mscp_control.proofs.Promise.Falls.{every_split}
+use Rattle.mscp_control.proofs.Promise.Progress.{progress, waits_in}
+use Rattle.mscp_control.proofs.Promise.Starts.{startable_parts}
+use Rattle.mscp_control.proofs.Promise.Waits.{cut_of, waiting_waits}
+use Rattle.mscp_judge.specs.declared.naming.Named.{Named}
+use Rattle.mscp_judge.specs.declared.rules.Rule.TheVariants as rules
+use Rattle.mscp_judge.specs.Naming.{name_of}
+use Rattle.mscp_judge.specs.Rules.{IsStepRule}
+use Rattle.mscp_judge.specs.Starts.{is_open, named, named_in, names, starts_in}
+use Rattle.mscp_judge.proofs.Leading.{Follow}
+
+-- ---- a command in service
+
+served_at : (t : Trace) (n : Name) (rs : List Record) → rs ≡ map (held_of t) (waiting t) → IsServing n rs
+    → (x : ℕ) × (is_waiting t x ≡ true) × (in_service t x ≡ true) × (name t x ≡ n)
+served_at t n rs e s =
+    let r = subst (IsServing n) e s in
+    let inside : r.0 < length (waiting t) = omega (arith, r.1, length-map (waiting t) (held_of t)) in
+    let own = record_held t r.0 inside in (
+      waiting_at t r.0,
+      waits_at t r.0 inside,
+      ap is_in_service (sym own) ∙ r.2,
+      ap record_name (sym own) ∙ r.3,
+    )
+
+pub is_own : (c : Settings) (t : Trace) (h : Holdings Named) (n : Name) → Follow c t h → IsServing n h.waiting
+    → IsStepRule c t n rules.Service
+is_own c t h n k s =
+    let x = served_at t n h.waiting k.agrees.follows.waits s in
+    (x.0, x.1, inl x.2, x.3)
+
+pub is_another : (c : Settings) (t : Trace) (h : Holdings Named) (named served : Named) → Follow c t h
+    → IsServing (name_of served) h.waiting → served ≢ named → IsStepRule c t (name_of named) (rules.InService served)
+is_another c t h named served k s differ =
+    let x = served_at t (name_of served) h.waiting k.agrees.follows.waits s in
+    (x.0, x.1, x.2, x.3, λ e. differ (λ i. record { connection = (e i).connection; reference = (e i).reference }))
+
+-- ---- no command of the name
+
+-- the figure of a name that waits isn't 0
+figured : (c : Settings) (t : Trace) (h : Holdings Named) → IsValid c → Follow c t h
+    → EachWaiting t (λ x. 1 ≤ figure_of c t (name t x))
+figured c t h v k x w =
+    let p = progress c t v k.legal in
+    let whole = take_all (length t) t (omega arith) in
+    let there : Contains (waiting (take (length t) t)) x = subst (λ u. Contains (waiting u) x) (sym whole) w in
+    subst (λ u. 1 ≤ figure_of c u (name u x)) whole
+    (let own = p.own (length t) (omega arith) x there in
+    let some = (p.positive (length t) (omega arith) x).0 there in omega (arith, own, some))
+
+pub is_nowhere : (c : Settings) (t : Trace) (h : Holdings Named) (n : Name) → IsValid c → Follow c t h
+    → figure_of_name h.settings.budget h.waiting n ≡ 0 → IsStepRule c t n rules.NotWaiting
+is_nowhere c t h n v k e x w named =
+    let same : figure_of_name h.settings.budget h.waiting n ≡ figure_of c t n =
+    (λ i. figure_of_name (k.settings i).budget (k.agrees.follows.waits i) n) ∙ figure_of_held c t n in
+    let some = figured c t h v k x w in
+    omega (arith, some, ap (figure_of c t) named, same, e)
+
+-- ---- a command that is kept back, or may start
+
+idle_held : (t : Trace) (rs : List Record) → rs ≡ map (held_of t) (waiting t) → All (λ r. r.done ≡ 0) rs
+    → is_idle t ≡ true
+idle_held t rs e h =
+    all_of (λ x. nat_eq (done t x) 0) (waiting t)
+    (every_weaker (λ x. done t x ≡ 0) (λ x. nat_eq (done t x) 0 ≡ true) (λ x d. eq-eqb (done t x) 0 d) (waiting t)
+    (every_mapped (held_of t) (λ (r : Record). r.done ≡ 0) (waiting t)
+    (subst (AllByRecursion (λ (r : Record). r.done ≡ 0)) e (recursion_from_All (λ (r : Record). r.done ≡ 0) rs h))))
+
+same_holders : (c : Settings) (t : Trace) (h : Holdings Named) (n : Name) → Follow c t h
+    → holders_of_name h.settings.budget h.waiting n ≡ holders_of c t n
+same_holders c t h n k =
+    (λ i. holders_of_name (k.settings i).budget (k.agrees.follows.waits i) n) ∙ holders_of_held c t n
+
+pub is_kept_back : (c : Settings) (t : Trace) (h : Holdings Named) (n : Name) (holder : Holder) (rest : List Holder)
+    → Follow c t h → All (λ r. r.done ≡ 0) h.waiting
+    → holders_of_name h.settings.budget h.waiting n ≡ holder ∷ rest → IsStepRule c t n (rules.KeptBack holder)
+is_kept_back c t h n holder rest k idle e =
+    (idle_held t h.waiting k.agrees.follows.waits idle, rest, sym (same_holders c t h n k) ∙ e)
+
+pub is_free_to : (c : Settings) (t : Trace) (h : Holdings Named) (n : Name) → Follow c t h
+    → All (λ r. r.done ≡ 0) h.waiting → figure_of_name h.settings.budget h.waiting n ≢ 0
+    → holders_of_name h.settings.budget h.waiting n ≡ [] → IsStepRule c t n rules.Service
+unfolding figure_of holders_of
+is_free_to c t h n k idle some none =
+    let q : ℕ → Bool = λ x. same_name (name t x) n in
+    let figured : figure_of_name h.settings.budget h.waiting n ≡ figure_found c t (find q (waiting t)) =
+    (λ i. figure_of_name (k.settings i).budget (k.agrees.follows.waits i) n) ∙ figure_of_held c t n in
+    ⊎_elim
+    (λ nobody. absurd (some (figured ∙ ap (figure_found c t) (find_none q (waiting t) nobody))))
+    (λ found.
+    let y = found.1 in
+    let f = found.3 in
+    let at : find q (waiting t) ≡ Some y =
+    ap (find q) f.is ∙ find_first q found.0 y found.2 f.before f.passed in
+    let nobody : holders c t y ≡ [] =
+    sym (ap (holders_found c t) at) ∙ (sym (same_holders c t h n k) ∙ none) in
+    let W : ℕ → Type 0 = λ x. is_waiting t x ≡ true in (
+      y,
+      (every_parts W found.0 (y ∷ found.2) (subst (AllByRecursion W) f.is (waiting_waits t))).1.0,
+      inr (startable_unheld c t y (idle_held t h.waiting k.agrees.follows.waits idle) ∙ ap is_nobody nobody),
+      same_is (name t y) n f.passed,
+    ))
+    (find_cases q (waiting t))
+
+abbrev pub no_holder : Holder
+no_holder = record { connection = First; reference = 0; fences = false; overdrawn = false }
+
+-- the first of some
+pub some_first : (hs : List Holder) → hs ≢ [] → (rest : List Holder) × (hs ≡ slice_index_or hs 0 no_holder ∷ rest)
+some_first [] some = absurd (some refl)
+some_first (holder ∷ rest) some = (rest, refl)
+
+-- ---- all that may start
+
+-- of the name of a waiting command nobody is told exactly if nobody keeps it back
+own_holders : (c : Settings) (t : Trace) (h : Holdings Named) → Follow c t h
+    → AllByRecursion (λ y. holders_of c t (name t y) ≡ holders c t y) (waiting t)
+unfolding holders_of
+own_holders c t h k =
+    every_split (λ y. holders_of c t (name t y) ≡ holders c t y) (waiting t)
+    (λ A y B e.
+    let a = alone t y A B k.agrees.follows.known.steady.apart (cut_of t A y B e) in
+    let q : ℕ → Bool = λ x. same_name (name t x) (name t y) in
+    ap (holders_found c t) (ap (find q) e ∙ find_first q A y B
+    (every_weaker (λ x. name t x ≢ name t y) (λ x. q x ≡ false) (λ x n. is_differ (name t x) (name t y) n) A a.before)
+    (is_same (name t y) (name t y) refl)))
+
+pub all_open : (c : Settings) (t : Trace) (h : Holdings Named) → Follow c t h → All (λ r. r.done ≡ 0) h.waiting
+    → filter (is_open h.settings.budget h.waiting) (names h.settings.budget h.waiting) ≡ starts_in c t
+unfolding startable
+all_open c t h k idle =
+    let W = waiting t in
+    let rs = map (held_of t) W in
+    let p = is_open c.budget rs in
+    let now = idle_held t h.waiting k.agrees.follows.waits idle in
+    let named_all : names c.budget rs ≡ map (named_in t) W =
+    ap (map named) (figures_held c t) ∙ map_map (shown c t) named W in
+    let each = every_weaker (λ y. holders_of c t (name t y) ≡ holders c t y)
+    (λ y. p (named_in t y) ≡ is_startable c t y)
+    (λ y e. ap is_nobody (holders_of_held c t (name t y) ∙ e) ∙ sym (startable_unheld c t y now)) W
+    (own_holders c t h k) in
+    (λ i. filter (is_open (k.settings i).budget (k.agrees.follows.waits i))
+    (names (k.settings i).budget (k.agrees.follows.waits i)))
+    ∙ (ap (filter p) named_all ∙ (filter_map_of (named_in t) p W
+    ∙ ap (map (named_in t)) (filter_on (λ y. p (named_in t y)) (is_startable c t) W each)))
+
+pub none_open : (c : Settings) (t : Trace) (h : Holdings Named) (n : Name) → Follow c t h → IsServing n h.waiting
+    → [] ≡ starts_in c t
+unfolding startable
+none_open c t h n k s =
+    let x = served_at t n h.waiting k.agrees.follows.waits s in
+    let served : (y : ℕ) → is_startable c t y ≡ true → ⊥ = λ y e.
+    let idle = one_in (waiting t) (startable_parts c t y e).idle x.0 (waits_in t x.0 x.1) in
+    true≢false (sym x.2 ∙ ap (nat_lt 0) idle) in
+    sym (ap (map (named_in t)) (filter_none (is_startable c t) (waiting t)
+    (every_from (λ y. is_startable c t y ≡ false) (λ y. never y (served y)) (waiting t))))
+  where
+    one_in : (xs : List ℕ) → AllByRecursion (λ z. done t z ≡ 0) xs → (z : ℕ) → Contains xs z → done t z ≡ 0
+    one_in xs all z w = All-contains (λ y. done t y ≡ 0) xs z (All-from_recursion (λ y. done t y ≡ 0) xs all) w
+
+    never : (y : ℕ) → (is_startable c t y ≡ true → ⊥) → is_startable c t y ≡ false
+    never y cannot = ⊎_elim (λ e. absurd (cannot e)) (λ e. e) (cases_Bool (is_startable c t y))

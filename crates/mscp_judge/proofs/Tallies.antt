@@ -1,0 +1,242 @@
+-- What one moment more adds to the totals of a run.
+use Rattle.std.proofs.Common.{◌≡◌, ◌≢◌, ◌⊎◌, inl, inr, ⊎_elim, ℕ, zero, suc, ◌+◌, ◌≤◌, Bool, true, false, cond, List, [], ◌∷◌, ◌++◌, map, take, get_or, length, refl, ap, sym, ◌∙◌, subst, arith, length-append}
+use Rattle.std.specs.Prelude.{Contains, filter, not, Ok, Err}
+use Rattle.std.specs.List.{AllByRecursion}
+use Rattle.std.proofs.lemmas.List.{take-append-le, take_all}
+use Rattle.std.proofs.lemmas.List.Elements.{All-contains, All-contains_itself, recursion_from_All, All-from_recursion}
+use Rattle.std.proofs.lemmas.List.Sums.{sum_by_push}
+use Rattle.std.proofs.lemmas.Bool.{cases_lt, false≢true}
+use Rattle.mscp_packet.specs.Commands.{command_of}
+use Rattle.mscp_queue.specs.declared.name.Connection.{Connection}
+use Rattle.mscp_queue.specs.Figures.{figure_of_name}
+use Rattle.mscp_queue.specs.Names.{name_on}
+use Rattle.mscp_queue.specs.Records.{Record, record_at}
+use Rattle.mscp_queue.proofs.Lists.{every_append, every_mapped, every_kept}
+use Rattle.mscp_control.specs.declared.event.Event.{Event}
+use Rattle.mscp_control.specs.declared.event.Event.TheVariants as events
+use Rattle.mscp_control.specs.declared.event.Entry.{Entry}
+use Rattle.mscp_control.specs.declared.event.Entry.TheVariants as entries
+use Rattle.mscp_control.specs.declared.event.Sent.{Sent}
+use Rattle.mscp_control.specs.declared.event.Sent.TheVariants as sents
+use Rattle.mscp_control.specs.Arrival.{is_queued}
+use Rattle.mscp_control.specs.Credits.{arrival}
+use Rattle.mscp_control.specs.Settings.{IsValid, Settings, bound}
+use Rattle.mscp_control.specs.History.{Moment, Trace, is_step, queues}
+use Rattle.mscp_control.specs.Commands.{ends_in, name, waiting}
+use Rattle.mscp_control.specs.Passing.{passed}
+use Rattle.mscp_control.specs.Figures.{figure, figure_of}
+use Rattle.mscp_control.specs.Headline.{EachWaiting}
+use Rattle.mscp_control.specs.Holdings.{Answers, Holdings}
+use Rattle.mscp_control.specs.Legal.{IsRight}
+use Rattle.mscp_control.proofs.Promise.Apart.{name_last}
+use Rattle.mscp_control.proofs.Promise.Arrivals.{arrives, queued_right, taken_when}
+use Rattle.mscp_control.proofs.Promise.Falling.{falling}
+use Rattle.mscp_control.proofs.Promise.Grows.{is_waiting_last, waiting_more}
+use Rattle.mscp_control.proofs.Promise.Progress.{progress, waits_in}
+use Rattle.mscp_control.proofs.Bridge.Held.{figure_of_held, held_of}
+use Rattle.mscp_script.specs.Text.{step_count}
+use Rattle.mscp_judge.specs.declared.naming.Named.{Named}
+use Rattle.mscp_judge.specs.declared.totals.Totals.{Totals}
+use Rattle.mscp_judge.specs.Naming.{IsNamed}
+use Rattle.mscp_judge.specs.Standing.{with_picker}
+use Rattle.mscp_judge.specs.Totals.{Adds, AreTotals, IsLarger, IsLargest, figure_queued}
+use Rattle.mscp_judge.proofs.Leading.{Follow, follow_more, turn_of}
+
+-- ---- the largest
+
+-- it grows by a moment
+largest_more : (of : Trace → ℕ → ℕ) (t : Trace) (m : Moment) (n k k' : ℕ) → IsLargest of t n → IsLarger n k k'
+    → EachWaiting (t ++ m ∷ []) (λ x. of (t ++ m ∷ []) x ≤ k')
+    → (k ≢ 0 → (x : ℕ) × Contains (waiting (t ++ m ∷ [])) x × (of (t ++ m ∷ []) x ≡ k))
+    → IsLargest of (t ++ m ∷ []) k'
+largest_more of t m n k k' old larger now there =
+    let u = t ++ m ∷ [] in
+    let long : length u ≡ length t + 1 = length-append t (m ∷ []) in
+    let front : (i : ℕ) → i ≤ length t → take i u ≡ take i t = λ i h. take-append-le i t (m ∷ []) h in
+    let all : take (length u) u ≡ u = take_all (length u) u (omega arith) in
+    record {
+      most = λ i h. ⊎_elim
+          (λ (b : i ≤ length t) x w.
+          let l = old.most i b x (subst (λ v. Contains (waiting v) x) (front i b) w) in
+          let e = ap (λ v. of v x) (front i b) in
+          omega (arith, l, e, larger.first))
+          (λ (e : i ≡ length u) x w.
+          let whole : take i u ≡ u = ap (λ j. take j u) e ∙ all in
+          subst (λ v. of v x ≤ k') (sym whole) (now x (subst (λ v. Contains (waiting v) x) whole w)))
+          (last_or_before i (length t) (length u) long h);
+      reached = λ some. ⊎_elim
+          (λ (e : k' ≡ n).
+          let r = old.reached (λ z. some (e ∙ z)) in (
+            r.0,
+            r.1,
+            omega (arith, r.2, long),
+            subst (λ v. Contains (waiting v) r.1) (sym (front r.0 r.2)) r.3,
+            ap (λ v. of v r.1) (front r.0 r.2) ∙ (r.4 ∙ sym e),
+          ))
+          (λ (e : k' ≡ k).
+          let r = there (λ z. some (e ∙ z)) in (
+            length u,
+            r.0,
+            omega arith,
+            subst (λ v. Contains (waiting v) r.0) (sym all) r.1,
+            ap (λ v. of v r.0) all ∙ (r.2 ∙ sym e),
+          ))
+          larger.one;
+    }
+  where
+    last_or_before : (i n l : ℕ) → l ≡ n + 1 → i ≤ l → (i ≤ n) ⊎ (i ≡ l)
+    last_or_before i n l e h = ⊎_elim (λ b. inl (omega (arith, e, b))) (λ b. inr (omega (arith, h, b))) (cases_lt i l)
+
+-- what holds of each command that waited, and of one that is queued, holds of each that waits then
+each_more : (P : ℕ → Type 0) (t : Trace) (m : Moment) → EachWaiting t P → (queues m.1 ≡ true → P (length t))
+    → EachWaiting (t ++ m ∷ []) P
+each_more P t m before new x w =
+    let q : ℕ → Bool = λ y. not (ends_in (name t y) m.1) in
+    let kept = every_kept P q (waiting t) (recursion_from_All P (waiting t)
+    (λ i d l. before (get_or (waiting t) i d) (All-contains_itself (waiting t) i d l))) in
+    let all = every_append P (filter q (waiting t)) (cond (queues m.1) (length t ∷ []) []) kept
+    (last (queues m.1) new) in
+    All-contains P (waiting (t ++ m ∷ [])) x (All-from_recursion P (waiting (t ++ m ∷ []))
+    (subst (AllByRecursion P) (sym (waiting_more t m)) all)) w
+  where
+    last : (b : Bool) → (b ≡ true → P (length t)) → AllByRecursion P (cond b (length t ∷ []) [])
+    last true h = (h refl, tt)
+    last false h = tt
+
+-- ---- the figure of a new command
+
+number_in : Sent → ℕ
+number_in (sents.Queued reference) = reference
+number_in (sents.Answered reference aborted) = reference
+
+-- the name that is told of it is its own
+own_name : (c : Settings) (via : Connection) (t : Trace) (b : List ℕ) (reference : ℕ)
+    → Ok (sents.Queued reference) ≡ arrival c via t b → is_queued c (command_of b) ≡ true
+    → reference ≡ (command_of b).reference
+unfolding number_in
+own_name c via t b reference h q =
+    ap number_in ((arrives c via t b (sents.Queued reference) h).is ∙ ap (taken_when c via t (command_of b)) q)
+
+queued_figure : (c : Settings) (t : Trace) (h : Holdings Named) (event : Event) (entry : Entry)
+    → IsRight c t event entry → h.settings ≡ c
+    → h.waiting ≡ map (held_of (t ++ (event, entry) ∷ [])) (waiting (t ++ (event, entry) ∷ []))
+    → queues entry ≡ true → figure_queued h entry ≡ figure_of c (t ++ (event, entry) ∷ [])
+    (name (t ++ (event, entry) ∷ []) (length t))
+queued_figure c t h (events.Send via b) (entries.Sent other (Ok (sents.Queued reference))) r s w q =
+    let m : Moment = (events.Send via b, entries.Sent other (Ok (sents.Queued reference))) in
+    let u = t ++ m ∷ [] in
+    let own = own_name c via t b.items reference r.1
+    (queued_right c t (events.Send via b) (entries.Sent other (Ok (sents.Queued reference))) q r).waits in
+    let named : name_on other reference ≡ name u (length t) =
+    (λ i. name_on (r.0 i) (own i)) ∙ sym (name_last t m) in
+    (λ i. figure_of_name (s i).budget (w i) (named i)) ∙ figure_of_held c u (name u (length t))
+queued_figure c t h (events.Step k) (entries.Sent other (Ok (sents.Queued reference))) r s w q = absurd r
+queued_figure c t h (events.Take via) (entries.Sent other (Ok (sents.Queued reference))) r s w q = absurd r
+queued_figure c t h events.Look (entries.Sent other (Ok (sents.Queued reference))) r s w q = absurd r
+queued_figure c t h event (entries.Sent other (Ok (sents.Answered reference aborted))) r s w q = absurd (false≢true q)
+queued_figure c t h event (entries.Sent other (Err fault)) r s w q = absurd (false≢true q)
+queued_figure c t h event (entries.Taken other end) r s w q = absurd (false≢true q)
+queued_figure c t h event (entries.Stepped report) r s w q = absurd (false≢true q)
+queued_figure c t h event (entries.Looked list) r s w q = absurd (false≢true q)
+
+-- of no other is one told
+none_queued : (h : Holdings Named) (entry : Entry) → figure_queued h entry ≢ 0 → queues entry ≡ true
+none_queued h (entries.Sent via (Ok (sents.Queued reference))) some = refl
+none_queued h (entries.Sent via (Ok (sents.Answered reference aborted))) some = absurd (some refl)
+none_queued h (entries.Sent via (Err fault)) some = absurd (some refl)
+none_queued h (entries.Taken via end) some = absurd (some refl)
+none_queued h (entries.Stepped report) some = absurd (some refl)
+none_queued h (entries.Looked list) some = absurd (some refl)
+
+-- ---- the oldest
+
+first_passed : (u : Trace) (ws : List ℕ) → (record_at (map (held_of u) ws) 0).passed ≢ 0
+    → (x : ℕ) × Contains ws x × (passed u x ≡ (record_at (map (held_of u) ws) 0).passed)
+first_passed u [] some = absurd (some refl)
+first_passed u (x ∷ xs) some = (x, (0, omega arith, refl), refl)
+
+-- ---- steps
+
+step_counts : (c : Settings) (t : Trace) (event : Event) (entry : Entry) → IsRight c t event entry
+    → step_count entry ≡ cond (is_step event) 1 0
+step_counts c t (events.Send via b) (entries.Sent other sent) r = refl
+step_counts c t (events.Take via) (entries.Taken other end) r = refl
+step_counts c t (events.Step k) (entries.Stepped report) r = refl
+step_counts c t events.Look (entries.Looked list) r = refl
+step_counts c t (events.Send via b) (entries.Taken other end) r = absurd r
+step_counts c t (events.Send via b) (entries.Stepped report) r = absurd r
+step_counts c t (events.Send via b) (entries.Looked list) r = absurd r
+step_counts c t (events.Take via) (entries.Sent other sent) r = absurd r
+step_counts c t (events.Take via) (entries.Stepped report) r = absurd r
+step_counts c t (events.Take via) (entries.Looked list) r = absurd r
+step_counts c t (events.Step k) (entries.Sent other sent) r = absurd r
+step_counts c t (events.Step k) (entries.Taken other end) r = absurd r
+step_counts c t (events.Step k) (entries.Looked list) r = absurd r
+step_counts c t events.Look (entries.Sent other sent) r = absurd r
+step_counts c t events.Look (entries.Taken other end) r = absurd r
+step_counts c t events.Look (entries.Stepped report) r = absurd r
+
+-- ---- all of them
+
+pub totals_none : (c : Settings) (totals : Totals) → totals.moments ≡ 0 → totals.steps ≡ 0 → totals.figure ≡ 0
+    → totals.bound ≡ bound c → totals.passed ≡ 0 → AreTotals c [] totals
+unfolding waiting
+totals_none c totals m s f b p =
+    let none : (of : Trace → ℕ → ℕ) (n : ℕ) → n ≡ 0 → IsLargest of [] n = λ of n e. record {
+      most = λ i h x w. absurd (nobody i x w);
+      reached = λ some. absurd (some e);
+    } in
+    record {
+      moments = m;
+      steps = s;
+      figure = none (figure c) totals.figure f;
+      bound = b;
+      passed = none passed totals.passed p;
+    }
+  where
+    nobody : (i x : ℕ) → Contains (waiting (take i [])) x → ⊥
+    nobody zero x w = let l = w.1 in omega (arith, l)
+    nobody (suc i) x w = let l = w.1 in omega (arith, l)
+
+pub totals_more : (c : Settings) (t : Trace) (h h' : Holdings Named) (name : Named) (event : Event) (entry : Entry)
+    (old new : Totals) → IsValid c → Follow c t h → Answers (IsNamed name) (with_picker h name) event entry h'
+    → AreTotals c t old → Adds h' entry old new → AreTotals c (t ++ (event, entry) ∷ []) new
+totals_more c t h h' picker event entry old new v k r a adds =
+    let m : Moment = (event, entry) in
+    let u = t ++ m ∷ [] in
+    let right = (turn_of c t h h' picker event entry v k r).sends.right in
+    let next = follow_more c t h h' picker event entry v k r in
+    let waits = next.agrees.follows.waits in
+    let queued : queues entry ≡ true → Contains (waiting u) (length t) =
+    λ q. waits_in u (length t) (is_waiting_last t m ∙ q) in
+    let own : queues entry ≡ true → figure_queued h' entry ≡ figure c u (length t) =
+    λ q. queued_figure c t h' event entry right next.settings waits q
+    ∙ subst (λ z. figure_of c z (name z (length t)) ≡ figure c z (length t)) (take_all (length u) u (omega arith))
+    ((progress c u v next.legal).own (length u) (omega arith) (length t)
+    (subst (λ z. Contains (waiting z) (length t)) (sym (take_all (length u) u (omega arith))) (queued q))) in
+    let falls = falling c t m right k.agrees.follows.known.steady in
+    let before = a.figure.most (length t) (omega arith) in
+    let oldest : AllByRecursion (λ (x : ℕ). passed u x ≤ (record_at h'.waiting 0).passed) (waiting u) =
+    every_mapped (held_of u) (λ (z : Record). z.passed ≤ (record_at h'.waiting 0).passed) (waiting u)
+    (subst (AllByRecursion (λ (z : Record). z.passed ≤ (record_at h'.waiting 0).passed)) waits
+    (recursion_from_All (λ (z : Record). z.passed ≤ (record_at h'.waiting 0).passed) h'.waiting adds.oldest)) in
+    record {
+      moments = omega (arith, adds.moments, a.moments, length-append t (m ∷ []));
+      steps = adds.steps ∙ ((λ i. a.steps i + step_counts c t event entry right i)
+          ∙ sym (sum_by_push (λ (n : Moment). cond (is_step n.0) 1 0) t m));
+      figure = largest_more (figure c) t m old.figure (figure_queued h' entry) new.figure a.figure adds.figure
+          (each_more (λ x. figure c u x ≤ new.figure) t m
+          (λ x w. let l = falls.other x w in
+          let g = before x (subst (λ z. Contains (waiting z) x) (sym (take_all (length t) t (omega arith))) w) in
+          let e = ap (λ z. figure c z x) (take_all (length t) t (omega arith)) in
+          omega (arith, l, g, e, adds.figure.first))
+          (λ q. let e = own q in omega (arith, e, adds.figure.second)))
+          (λ some. let q = none_queued h' entry some in (length t, queued q, sym (own q)));
+      bound = adds.bound ∙ a.bound;
+      passed = largest_more passed t m old.passed (record_at h'.waiting 0).passed new.passed a.passed adds.passed
+          (λ x w. let l = All-contains (λ y. passed u y ≤ (record_at h'.waiting 0).passed) (waiting u) x
+          (All-from_recursion (λ y. passed u y ≤ (record_at h'.waiting 0).passed) (waiting u) oldest) w in
+          omega (arith, l, adds.passed.second))
+          (λ some. subst (λ ws. (x : ℕ) × Contains (waiting u) x × (passed u x ≡ (record_at ws 0).passed)) (sym waits)
+          (first_passed u (waiting u) (λ z. some (ap (λ ws. (record_at ws 0).passed) waits ∙ z))));
+    }

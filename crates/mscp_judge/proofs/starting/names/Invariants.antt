@@ -1,0 +1,6 @@
+use Rattle.std.proofs.Common.{◌≡◌, map, take}
+use Rattle.mscp_judge.specs.Starts.{named}
+use Rattle.mscp_judge.proofs.starting.names.Given as goal
+
+abbrev pub invariant-loop-place : goal.invariant-loop-place
+invariant-loop-place l = l.names.items ≡ map named (take l.place l.shown.items)

@@ -1,0 +1,35 @@
+-- Which commands may start.
+use Rattle.std.specs.Prelude.{ℕ, Bool, List, map, filter}
+use Rattle.mscp_queue.specs.declared.name.Connection.{Connection}
+use Rattle.mscp_queue.specs.Records.{Record}
+use Rattle.mscp_queue.specs.Figures.{figures}
+use Rattle.mscp_queue.specs.Why.{holders_of_name, is_nobody}
+use Rattle.mscp_control.specs.Settings.{Settings}
+use Rattle.mscp_control.specs.History.{Trace}
+use Rattle.mscp_control.specs.Commands.{connection, reference}
+use Rattle.mscp_control.specs.Passing.{startable}
+use Rattle.mscp_judge.specs.declared.naming.Named.{Named}
+use Rattle.mscp_judge.specs.Naming.{name_of}
+
+-- the name of a command that a look tells
+abbrev pub named : (Connection × ℕ × ℕ) → Named
+named shown = record { connection = shown.0; reference = shown.1 }
+
+-- nobody keeps the waiting command of this name back
+abbrev pub is_open : ℕ → List Record → Named → Bool
+is_open budget rs n = is_nobody (holders_of_name budget rs (name_of n))
+
+-- the names of all that wait, and of those that nobody keeps back
+abbrev pub names : ℕ → List Record → List Named
+names budget rs = map named (figures budget rs)
+
+abbrev pub open_names : ℕ → List Record → List Named
+open_names budget rs = filter (is_open budget rs) (names budget rs)
+
+-- the name of a command of a run
+abbrev pub named_in : Trace → ℕ → Named
+named_in t x = record { connection = connection t x; reference = reference t x }
+
+-- the names of all that may start after a run, in the order in which they came
+abbrev pub starts_in : Settings → Trace → List Named
+starts_in c t = map (named_in t) (startable c t)

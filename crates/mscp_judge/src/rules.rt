@@ -1,0 +1,142 @@
+// The rule that a line breaks.
+
+ghost use Rattle.std.specs.Prelude.{◌≡◌, ◌≤◌, IfSome, IfNone};
+ghost use Rattle.mscp_control.specs.Settings.{IsValid, Settings};
+ghost use Rattle.mscp_control.specs.History.{Trace};
+ghost use Rattle.mscp_control.specs.Holdings.{fresh};
+ghost use Rattle.mscp_judge.specs.Naming.{name_of};
+ghost use Rattle.mscp_judge.specs.Rules as rules;
+ghost use Rattle.mscp_judge.specs.Rules.{IsStepRule};
+ghost use Rattle.mscp_judge.specs.Standing.{Led};
+ghost use Rattle.mscp_judge.specs.declared.naming.Named.{Named};
+
+use crate::naming::Named;
+use mscp_control::{Controller, Holder};
+
+/// The rule that a line of a log breaks.
+#[derive(Clone, Copy, Debug, PartialEq, Eq)]
+pub enum Rule {
+    /// No event is left that the line could answer.
+    Unasked,
+    /// An answer is missing: the line asks for events, or the log ends.
+    Missing,
+    /// A message is queued, answered or refused as its bytes and the credits say.
+    Message,
+    /// A figure, of a poll or a look, is another.
+    Figure,
+    /// Ends are taken in the order in which they were made.
+    Order,
+    /// The end of this command says something else.
+    End,
+    /// A step is idle only if nothing waits.
+    Idle,
+    /// No command of this name waits.
+    NotWaiting,
+    /// Another command is in service.
+    InService(Named),
+    /// An earlier command keeps the command back: it stays behind that one, or would pass it too often.
+    KeptBack(Holder),
+    /// The command may be served, but the line says something else of it.
+    Service,
+}
+
+/// Whether bytes begin with a word.
+fn begins(bytes: &[u8], word: &str) -> bool
+    ensures { result ≡ rules.begins bytes.now word.now }
+{
+    if bytes.len() < word.len() {
+        return false;
+    }
+    &bytes[..word.len()] == word.as_bytes()
+}
+
+/// A line without the word of the second connection.
+fn unnamed(line: &[u8]) -> &[u8]
+    ensures { result.now ≡ rules.unnamed line.now }
+{
+    if begins(line, "second ") {
+        &line[7..]
+    } else {
+        line
+    }
+}
+
+/// Whether two lines have the same bytes from one place up to another.
+fn same_part(right: &[u8], told: &[u8], from: usize, to: usize) -> bool
+    requires { from ≤ to }
+    ensures { result ≡ rules.same_part right.now told.now from to }
+{
+    if right.len() < to || told.len() < to {
+        return false;
+    }
+    right[from..to] == told[from..to]
+}
+
+/// Whether an end is that of a poll.
+fn is_poll(line: &[u8]) -> bool
+    ensures { result ≡ rules.is_poll line.now }
+{
+    line.len() >= 20 && begins(&line[20..], "82")
+}
+
+/// The rule that is broken where this end is due, and that is told.
+fn end_rule(right: &[u8], told: &[u8]) -> Rule
+    ensures { result ≡ rules.end_rule right.now told.now }
+{
+    if is_poll(right) && same_part(right, told, 4, 36) {
+        Rule::Figure
+    } else if same_part(right, told, 4, 12) {
+        Rule::End
+    } else {
+        Rule::Order
+    }
+}
+
+/// The rule that is broken where this is due, without the word of the second connection, and that is told.
+fn answer_rule(right: &[u8], told: &[u8]) -> Rule
+    ensures { result ≡ rules.answer_rule right.now told.now }
+{
+    if begins(right, "serve") || begins(right, "idle") {
+        Rule::Service
+    } else if begins(right, "figure") {
+        Rule::Figure
+    } else if begins(right, "end") || begins(right, "none") {
+        end_rule(right, told)
+    } else {
+        Rule::Message
+    }
+}
+
+/// The rule that is broken where these bytes are due, and a line tells those.
+pub fn due_rule(right: &[u8], told: &[u8]) -> Rule
+    ensures { result ≡ rules.due_rule right.now told.now }
+{
+    answer_rule(unnamed(right), unnamed(told))
+}
+
+/// The rule that keeps a step from serving the command of this name: that of another service, if none does.
+pub fn step_rule(controller: &Controller<Named>, named: Named) -> Rule
+    ensures { (c : Settings) (t : Trace) (begun : Named) → IsValid c → Led (fresh c begun) t controller.now
+        → IsStepRule c t (name_of named) result }
+{
+    if let Some((connection, reference)) = controller.serving() {
+        let served = Named {
+            connection,
+            reference,
+        };
+        return if served == named {
+            Rule::Service
+        } else {
+            Rule::InService(served)
+        };
+    }
+    if controller.figure(named.connection, named.reference) == 0 {
+        return Rule::NotWaiting;
+    }
+    let holders = controller.holders(named.connection, named.reference);
+    if holders.is_empty() {
+        Rule::Service
+    } else {
+        Rule::KeptBack(holders[0])
+    }
+}
