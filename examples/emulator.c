@@ -1,7 +1,8 @@
 /* emulator.c: a disk controller over a disk image, a file of blocks of 512 bytes.
  *
- *     cc emulator.c $(pkg-config --cflags --libs mscp) -o emulator      (with emulator.h beside it)
+ *     cc emulator.c $(pkg-config --cflags --libs mscp) -o emulator      (with emulator.h and log.h beside it)
  *     ./emulator IMAGE                                                  (this writes blocks of the image)
+ *     ./emulator --log FILE IMAGE                                       (and a log for ./mscpjudge legal FILE)
  *
  * The first part is the emulator, which examples/driver.c uses too. The second, main and what it calls, is a host that
  * tries it: it writes blocks in an order that the sweep chooses, reads them back, polls after each step, and aborts a
@@ -9,6 +10,7 @@
  *
  * It serves one connection, the first: its controller has no credits for a second. two_hosts.c serves two. */
 #include "emulator.h"
+#include "log.h"
 #include <stdlib.h>
 #include <string.h>
 
@@ -39,14 +41,22 @@ static uint32_t blocks_of(FILE *image)
     return (unsigned long)bytes / MSCP_BLOCK > UINT32_MAX ? 0 : (uint32_t)((unsigned long)bytes / MSCP_BLOCK);
 }
 
-/* A controller of one unit of so many blocks, 8 of them a cylinder, in memory of ours. NULL where there is none. */
-static struct mscp *make_controller(uint32_t blocks)
+static const struct mscp_limits LIMITS = {.id = 1, .credits = EMULATOR_CREDITS, .budget = 512, .longest = 128, .timeout = 60};
+
+/* A unit of so many blocks, 8 of them a cylinder. */
+static struct mscp_unit unit_of(uint32_t blocks)
 {
     const struct mscp_unit unit = {.id = 1, .size = blocks, .serial = 1, .track = 4, .group = 2, .cylinder = 1};
-    const struct mscp_limits limits = {.id = 1, .credits = EMULATOR_CREDITS, .budget = 512, .longest = 128, .timeout = 60};
+    return unit;
+}
+
+/* A controller of one unit of so many blocks, in memory of ours. NULL where there is none. */
+static struct mscp *make_controller(uint32_t blocks)
+{
+    const struct mscp_unit unit = unit_of(blocks);
     size_t length = MSCP_HEAD + mscp_size();
     void *memory = malloc(length);
-    if (mscp_init(mscp_in_memory(memory, length), &limits, &unit, 1, MSCP_SWEEP) == MSCP_DONE)
+    if (mscp_init(mscp_in_memory(memory, length), &LIMITS, &unit, 1, MSCP_SWEEP) == MSCP_DONE)
         return (struct mscp *)memory;
     free(memory);
     return NULL;
@@ -69,6 +79,13 @@ bool emulator_open(struct emulator *emulator, const char *path, uint8_t *memory,
         return false;
     }
     return true;
+}
+
+void emulator_log(struct emulator *emulator, FILE *log)
+{
+    const struct mscp_unit unit = unit_of(blocks_of(emulator->image));
+    emulator->log = log;
+    log_init(log, &LIMITS, &unit, 1);
 }
 
 void emulator_close(struct emulator *emulator)
@@ -130,7 +147,10 @@ static bool receive_one(struct emulator *emulator)
 {
     const struct posted *slot = &emulator->commands[0];
     struct mscp_sent sent;
-    switch (mscp_send(emulator->mscp, MSCP_CONNECTION_FIRST, slot->message, slot->length, &sent)) {
+    int32_t status = mscp_send(emulator->mscp, MSCP_CONNECTION_FIRST, slot->message, slot->length, &sent);
+    if (emulator->log != NULL)
+        log_send(emulator->log, MSCP_CONNECTION_FIRST, slot->message, slot->length, status, &sent);
+    switch (status) {
     case MSCP_QUEUED:
         keep(emulator, sent.reference, slot->address);
         return true;
@@ -158,8 +178,11 @@ void emulator_receive(struct emulator *emulator)
 void emulator_deliver(struct emulator *emulator)
 {
     while (emulator->ends_count < EMULATOR_RING &&
-           mscp_take(emulator->mscp, MSCP_CONNECTION_FIRST, &emulator->ends[emulator->ends_count]) == MSCP_DONE)
+           mscp_take(emulator->mscp, MSCP_CONNECTION_FIRST, &emulator->ends[emulator->ends_count]) == MSCP_DONE) {
+        if (emulator->log != NULL)
+            log_take(emulator->log, MSCP_CONNECTION_FIRST, &emulator->ends[emulator->ends_count]);
         emulator->ends_count++;
+    }
 }
 
 /* ---- the drive */
@@ -228,6 +251,8 @@ bool emulator_finish(struct emulator *emulator, struct job *job)
     struct mscp_report report;
     if (mscp_finish(emulator->mscp, MSCP_CONNECTION_FIRST, job->next.reference, job->status, &report) != MSCP_DONE)
         return false;
+    if (emulator->log != NULL)
+        log_step(emulator->log, job->status, &report);
     if (job->next.opcode == MSCP_READ && report.touched && job->status == 0) {
         size_t bytes;
         uint8_t *part = part_of(emulator, &job->next, &bytes);
@@ -264,6 +289,7 @@ void emulator_reset(struct emulator *emulator)
     emulator->buffers_count = 0;
     emulator->commands_count = 0;
     emulator->ends_count = 0;
+    emulator->log = NULL; /* a log is of one run */
 }
 
 #ifndef EMULATOR_PART
@@ -384,12 +410,20 @@ static void bad_transfers(void)
 
 int main(int words, char **word)
 {
-    if (words != 2) {
-        fprintf(stderr, "usage: emulator IMAGE (of 61 blocks or more, which it writes)\n");
+    FILE *log = NULL;
+    bool logs = words == 4 && strcmp(word[1], "--log") == 0;
+    if (words != 2 && !logs) {
+        fprintf(stderr, "usage: emulator [--log FILE] IMAGE (of 61 blocks or more, which it writes)\n");
         return 2;
     }
-    if (!emulator_open(&disk, word[1], memory, MEMORY))
+    if (!emulator_open(&disk, word[words - 1], memory, MEMORY))
         return 1;
+    if (logs && (log = fopen(word[2], "w")) == NULL) {
+        perror(word[2]);
+        return 1;
+    }
+    if (log != NULL)
+        emulator_log(&disk, log);
     post(1, MSCP_ONLINE, 0, 0, 0);
     emulator_turn(&disk);
     expect(1, 0);
@@ -398,6 +432,7 @@ int main(int words, char **word)
     abort_in_between();
     bad_transfers();
     emulator_close(&disk);
+    check(log == NULL || fclose(log) == 0, "the log is written");
     return failed;
 }
 #endif

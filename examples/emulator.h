@@ -40,6 +40,7 @@ struct emulator {
     unsigned commands_count;
     struct mscp_packet ends[EMULATOR_RING];
     unsigned ends_count;
+    FILE *log; /* where it is written what the controller is told and answers, or NULL */
     unsigned port_errors; /* messages that are no command messages, or have a number that is in use */
 };
 
@@ -47,6 +48,9 @@ struct emulator {
  * could be done; if not, a line on standard error says why. */
 bool emulator_open(struct emulator *emulator, const char *path, uint8_t *memory, uint32_t memory_bytes);
 void emulator_close(struct emulator *emulator);
+
+/* From now on each event of the controller is written here, for ./mscpjudge: before its first one, and up to a reset. */
+void emulator_log(struct emulator *emulator, FILE *log);
 
 /* The host's side of the port: puts a command into its ring, takes the oldest end out of the other. Whether there was room
  * for one, or one. Each end hands a credit back to the host. */
