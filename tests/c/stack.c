@@ -124,7 +124,7 @@ static size_t most(int call)
     case SAVE: return 12 * 1024;
     case HOST_SAVE: return 3 * 1024;
     case INIT: return 30 * 1024;
-    case RESTORE: return 114 * 1024;
+    case RESTORE: return 130 * 1024;
     case HOST_RESTORE: return 6 * 1024;
     default: return 2 * 1024;
     }
