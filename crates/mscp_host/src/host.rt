@@ -99,7 +99,7 @@ impl Host {
     }
 
     /// The oldest command that isn't answered when it arrives.
-    fn oldest(&self) -> Option<Submission>
+    pub fn oldest(&self) -> Option<Submission>
         ensures { result ≡ oldest self.now }
     {
         find_oldest(self.outstanding.as_slice()).copied()

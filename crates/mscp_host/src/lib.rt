@@ -15,3 +15,4 @@ pub use crate::host::Host;
 pub use crate::news::{HostFault, News, Poll};
 pub use crate::restoring::RestoreFault;
 pub use crate::saving::ROOM;
+pub use crate::submission::Submission;

@@ -13,5 +13,6 @@ mod Counted
 mod Hindered
 mod Breaking
 mod Reading
+mod Listening
 mod Coming
 pub mod Exactly

@@ -5,3 +5,4 @@ pub mod Starts
 pub mod Rules
 pub mod Standing
 pub mod Judged
+pub mod Heard

@@ -13,7 +13,8 @@ use itoa::Buffer;
 /// How the program ends.
 #[derive(Clone, Copy)]
 pub struct Ending {
-    /// The exit status: 0 of a log that is legal, 1 of one that isn't or has a fault, 2 for the command line, and 3 for
+    /// The exit status: 0 of a log that is legal, or in which no host would have reset, 1 of one that
+    /// isn't, or in which one would have, or that has a fault, 2 for the command line, and 3 for
     /// a device or memory.
     pub status: u8,
     /// The line on standard error, with its line feed. It is empty where the log was judged.
@@ -49,7 +50,7 @@ fn put_fault(line: &mut ArrayString<40>, fault: &Fault)
     ensures short { array_string_len line.new ≤ 39 }
 {
     match fault {
-        Fault::Usage => line.push_str("usage: mscpjudge legal [FILE]"),
+        Fault::Usage => line.push_str("usage: mscpjudge legal|host [FILE]"),
         Fault::Log(fault) => {
             line.push_str("line ");
             put_number(line, fault.line);

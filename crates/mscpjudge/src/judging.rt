@@ -14,9 +14,9 @@ use std::alloc::{AllocError, Allocator, Global};
 /// How a log was judged.
 #[derive(Clone, Copy, Debug, PartialEq, Eq)]
 pub enum Outcome {
-    /// It is legal.
+    /// It is legal, or no host would have reset the controller.
     Legal,
-    /// It isn't.
+    /// It isn't, or one would have.
     Wrong,
 }
 

@@ -1,12 +1,14 @@
-//! Judges a log: whether what another controller answered is legal.
+//! Judges a log: whether what another controller answered is legal, and what hosts would have heard of it.
 #![tactic(auto)]
 
 mod ending;
 mod fault;
+mod hearing;
 mod judging;
 
 use crate::ending::Ending;
 use crate::fault::Fault;
+use crate::hearing::hear;
 use crate::judging::{Outcome, judge};
 use mscp_script::Stream;
 use std::fs::File;
@@ -23,27 +25,49 @@ fn words_of(rt: &HostRuntime) -> Result<Vec<String>, Fault> {
     Ok(words.skip(1).collect(rt.alloc())?)
 }
 
-/// Judges the log that a reader gives, and writes what is said of it on standard output.
-fn legal<R: Read + Drop>(rt: &HostRuntime, reader: R) -> Result<Outcome, Fault> {
+/// What is asked of a log.
+#[derive(Clone, Copy)]
+enum Call {
+    /// Whether it is legal.
+    Legal,
+    /// What hosts would have heard.
+    Host,
+}
+
+/// What a word asks for.
+fn call_of(word: &str) -> Result<Call, Fault> {
+    match word {
+        "legal" => Ok(Call::Legal),
+        "host" => Ok(Call::Host),
+        _ => Err(Fault::Usage),
+    }
+}
+
+/// Answers a call about the log that a reader gives, on standard output.
+fn answer<R: Read + Drop>(rt: &HostRuntime, call: Call, reader: R) -> Result<Outcome, Fault> {
     let mut reader = Stream::new(reader);
     let mut writer = Stream::new(io::writer(rt));
-    judge(rt.alloc(), &mut reader, &mut writer)
+    match call {
+        Call::Legal => judge(rt.alloc(), &mut reader, &mut writer),
+        Call::Host => hear(rt.alloc(), &mut reader, &mut writer),
+    }
 }
 
 /// Does what the words of the command line ask for.
 fn act(rt: &HostRuntime) -> Result<Outcome, Fault> {
     let words = words_of(rt)?;
-    match words.as_slice() {
-        [] => legal(rt, rt.reader()),
-        [command] if command.as_str() == "legal" => legal(rt, rt.reader()),
-        [command, file] if command.as_str() == "legal" => match file.as_str() {
-            "-" => legal(rt, rt.reader()),
-            file => match File::open(rt, file) {
-                Ok(reader) => legal(rt, reader),
-                Err(_) => Err(Fault::Read),
-            },
+    let (call, file) = match words.as_slice() {
+        [] => (Call::Legal, "-"),
+        [word] => (call_of(word.as_str())?, "-"),
+        [word, file] => (call_of(word.as_str())?, file.as_str()),
+        _ => return Err(Fault::Usage),
+    };
+    match file {
+        "-" => answer(rt, call, rt.reader()),
+        file => match File::open(rt, file) {
+            Ok(reader) => answer(rt, call, reader),
+            Err(_) => Err(Fault::Read),
         },
-        _ => Err(Fault::Usage),
     }
 }
 

@@ -1,0 +1,15 @@
+use Rattle.std.proofs.Common.{◌∙◌, subst, sym}
+use Rattle.mscp_judge.specs.Heard.{IsHeard, sends_on}
+use Rattle.mscp_queue.specs.declared.block.Block.TheVariants.{Good}
+use Rattle.mscp_judge.proofs.Listening.{steps_send}
+use Rattle.mscp_judge.proofs.hearing.Hearing.send_all.Goals as goal
+
+pub returns-in-Send-clause-heard : goal.returns-in-Send-clause-heard
+returns-in-Send-clause-heard g c = λ h s.
+    rw c.in-Send.is (subst (λ b. IsHeard (record h { hosts = sends_on h.hosts c.in-Send.connection b }) c.send.new.self)
+    (c.as_slice.ensures.value ∙ c.write_command.ensures.bytes) (c.send.ensures.heard h s))
+
+pub returns-in-Steps-clause-heard : goal.returns-in-Steps-clause-heard
+returns-in-Steps-clause-heard g c = λ h s.
+    rw c.in-Steps.is (subst (λ hosts. IsHeard (record h { hosts = hosts }) c.args.self.now)
+    (sym (steps_send h.hosts Good c.in-Steps.field-0)) s)
