@@ -1,5 +1,5 @@
 -- What comes of a line of a log, where hosts hear it.
-use Rattle.std.proofs.Common.{◌≡◌, ◌≢◌, ℕ, zero, suc, ◌+◌, ◌<◌, ◌≤◌, Bool, true, false, List, [], ◌∷◌, ◌++◌, length, refl, ap, sym, ◌∙◌, arith, length-append}
+use Rattle.std.proofs.Common.{◌≡◌, ◌≢◌, ℕ, zero, suc, ◌+◌, ◌<◌, ◌≤◌, Bool, true, false, List, [], ◌∷◌, ◌++◌, length, refl, ap, sym, ◌∙◌, arith}
 use Rattle.std.specs.Result.{result_ok}
 use Rattle.std.specs.Prelude.{◌↔◌, nat_le, nat_lt, if◌then◌else◌, IfOk, Option, Some, None, Result, Ok, Err, replicate}
 use Rattle.std.proofs.lemmas.List.{append_cancel_left}

@@ -17,8 +17,8 @@ heard_outcome resets = if nat_eq resets 0 then outcomes.Legal else outcomes.Wron
 abbrev pub counts_text : ℕ → ℕ → List ℕ
 counts_text ends resets = codes "ends " ++ decimal ends ++ codes " resets " ++ decimal resets ++ codes "\n"
 
--- what is written is what the hosts would have heard in the log that the reader gave. Nothing is written on a fault, and
--- a fault of the log is that of what the reader gave; nothing is said where the write failed
+-- what is written is what the hosts would have heard in the log that the reader gave. Nothing is written on a fault,
+-- and a fault of the log is that of what the reader gave; nothing is said where the write failed
 abbrev pub TellsHeard : Result Outcome Fault → Option (List ℕ) → Option (List ℕ) → Option (List ℕ) → Type 0
 TellsHeard (Ok outcome) known old new =
     IsGiven known (λ log. (h : Heard) × (heard_log log ≡ Ok h) × (outcome ≡ heard_outcome h.resets)

@@ -1,4 +1,4 @@
-use Rattle.std.proofs.Common.{◌≡◌, ℕ, ◌+◌, ◌≤◌, length}
+use Rattle.std.proofs.Common.{◌≡◌, ◌≤◌, length}
 use Rattle.mscp_reader.specs.Lexical.{lines}
 use Rattle.mscp_judge.specs.Heard.{Heard, IsHeard, after_lines, silence}
 use Rattle.mscp_judge.proofs.hearing.hear_lines.Given as goal

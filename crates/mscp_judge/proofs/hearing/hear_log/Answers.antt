@@ -1,4 +1,4 @@
-use Rattle.std.proofs.Common.{◌≡◌, [], ◌∙◌, ap, subst, sym, arith}
+use Rattle.std.proofs.Common.{◌≡◌, [], ◌∙◌, subst, sym}
 use Rattle.std.specs.Prelude.{Ok}
 use Rattle.mscp_reader.specs.Lexical.{lines}
 use Rattle.mscp_reader.specs.Grammar.{Begins, HasGone}

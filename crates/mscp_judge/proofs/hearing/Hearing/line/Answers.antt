@@ -1,9 +1,8 @@
-use Rattle.std.proofs.Common.{◌++◌, ap, sym, ◌∙◌}
+use Rattle.std.proofs.Common.{◌++◌, sym, ◌∙◌}
 use Rattle.std.proofs.lemmas.Bool.{true≢false}
 use Rattle.std.proofs.lemmas.Result.{err_from_is_err_and}
 use Rattle.mscp_reader.specs.Requests.{events_of}
 use Rattle.mscp_reader.specs.Lexical.{words}
-use Rattle.mscp_control.specs.Settings.{Settings}
 use Rattle.mscp_judge.specs.Heard.{after_answer, asking}
 use Rattle.mscp_judge.proofs.Listening.{answers, asks, asks_wrong, skipped, some_settings, wrong_words}
 use Rattle.mscp_judge.proofs.hearing.Hearing.line.Goals as goal
