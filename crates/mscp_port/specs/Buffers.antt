@@ -1,0 +1,54 @@
+-- Where the data of a transfer are in host memory (port).
+use Rattle.std.specs.Prelude.{◌≡◌, ℕ, ◌+◌, ◌-◌, ◌*◌, ◌≤◌, ◌<◌, ◌||◌, min, not, nat_eq, nat_lt, Bool, List, length, remove, if◌then◌else◌, Option, None, Some}
+use Rattle.std.specs.List.{position}
+use Rattle.mscp_packet.specs.Number.{num}
+use Rattle.mscp_port.specs.declared.buffers.Buffer.{Buffer}
+
+-- the number in so many bytes from a place on, or 0 where the message is shorter
+abbrev pub num_or_zero : List ℕ → ℕ → ℕ → ℕ
+num_or_zero b at size = if nat_lt (length b) (at + size) then 0 else num b at size
+
+abbrev pub four_or_zero : List ℕ → ℕ → ℕ
+four_or_zero b at = num_or_zero b at 4
+
+abbrev pub two_or_zero : List ℕ → ℕ → ℕ
+two_or_zero b at = num_or_zero b at 2
+
+-- what is kept of a message, whose unit's volume had changed so often: its reference number, in bytes 16 to 19 the address
+-- of its data and in 12 to 15 how many bytes they have (manual), in 10 and 11 its modifiers, and in 14 and 15 its unit flags
+abbrev pub buffer_in : List ℕ → ℕ → Buffer
+buffer_in b changes = record {
+  reference = four_or_zero b 0;
+  address = four_or_zero b 16;
+  count = four_or_zero b 12;
+  modifiers = two_or_zero b 10;
+  flags = two_or_zero b 14;
+  changes = changes;
+}
+
+abbrev pub has_reference : ℕ → Buffer → Bool
+has_reference reference b = nat_eq b.reference reference
+
+-- all but the one at a place, if there is one
+abbrev pub without_place : Option ℕ → List Buffer → List Buffer
+without_place None bs = bs
+without_place (Some place) bs = remove bs place
+
+-- all but the first of this command, if there is one
+abbrev pub without : ℕ → List Buffer → List Buffer
+without reference bs = without_place (position (has_reference reference) bs) bs
+
+-- the bytes of the step that comes after so many others
+abbrev pub left_of : Buffer → ℕ → ℕ
+left_of b done = min (b.count - done * 512) 512
+
+-- where they are: 512 bytes behind those of the step before. None if they reach the end of 32 bits
+abbrev pub part_of : Buffer → ℕ → Option (ℕ × ℕ)
+part_of b done =
+    if nat_lt 0xFFFF_FFFF (b.address + done * 512 + left_of b done) then None
+    else Some (b.address + done * 512, left_of b done)
+
+-- so many bytes from an address on lie in the buffer
+pub record IsInBuffer (b : Buffer) (address count : ℕ) : Type 0 where
+  pub from : b.address ≤ address
+  pub to : address + count ≤ b.address + b.count

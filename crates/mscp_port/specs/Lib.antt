@@ -1,0 +1,4 @@
+pub mod Areas
+pub mod Registers
+pub mod Slots
+pub mod Buffers

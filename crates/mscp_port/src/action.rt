@@ -1,0 +1,65 @@
+// What a port wants done, and how that went.
+
+use arrayvec::ArrayVec;
+use mscp_packet::MoveKind;
+use mscp_queue::FaultStatus;
+
+/// What the port wants done. Addresses are those of the host's bus.
+#[derive(Debug, PartialEq, Drop)]
+pub enum Action {
+    /// Nothing, until a register is touched, a volume comes or goes, or the clock ticks.
+    Rest,
+    /// Nothing, but the machine is to go on a little before the port does. On real machines this takes some hundred
+    /// instructions.
+    Pause,
+    /// So many bytes of host memory from an address on are to be read.
+    Read {
+        address: u32,
+        count: u32,
+    },
+    /// These bytes are to be written to host memory from an address on.
+    Write {
+        address: u32,
+        bytes: ArrayVec<u8, 64>,
+    },
+    /// The host is to be interrupted by this vector.
+    Interrupt(u16),
+    /// So many bytes of host memory are to be read into the block's buffer. The rest of the buffer is to be zeros.
+    Fetch {
+        address: u32,
+        count: u32,
+    },
+    /// The block's buffer is to be moved to a unit's block or from it, or so many of its bytes to be compared with it.
+    Transfer {
+        kind: MoveKind,
+        unit: u16,
+        block: u32,
+        count: u32,
+    },
+    /// So many bytes of the block's buffer are to be written to host memory.
+    Store {
+        address: u32,
+        count: u32,
+    },
+}
+
+/// How an action went.
+#[derive(Clone, Copy, Debug, PartialEq, Eq)]
+pub enum Outcome {
+    /// It was done.
+    Done,
+    /// Not all of the host's memory is there.
+    Missing,
+    /// The host's memory has a parity error.
+    Parity,
+    /// The bus maps no memory there.
+    Unmapped,
+    /// The bytes that were compared differ.
+    Different,
+    /// The block couldn't be read or written, and its command ends with this status.
+    Failed(FaultStatus),
+}
+
+/// What was told isn't what the port wants done now. Nothing is changed.
+#[derive(Clone, Copy, Debug, PartialEq, Eq)]
+pub struct Unasked;

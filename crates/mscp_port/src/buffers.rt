@@ -1,0 +1,114 @@
+// What is kept of the commands that wait: where their data are in host memory.
+
+ghost use Rattle.std.specs.Prelude.{◌≡◌, ◌≤◌, ◌<◌, ◌+◌, ◌*◌, ◌^◌, ℕ, length, IfSome, find};
+ghost use Rattle.std.specs.Option.{option_copied};
+ghost use Rattle.std.specs.List.{position};
+ghost use Rattle.mscp_port.specs.Buffers.{buffer_in, four_or_zero as four_of, has_reference, part_of, two_or_zero as two_of, without};
+
+use arrayvec::ArrayVec;
+use mscp_packet::MoveKind;
+use mscp_packet::fields::{four_at, two_at};
+use mscp_queue::Connection;
+
+/// What is kept of a command that waits: what its message says that the controller doesn't read.
+#[derive(Clone, Copy, Debug, Default, PartialEq, Eq)]
+pub(crate) struct Buffer {
+    pub reference: u32,
+    /// Where a transfer's data are in host memory, and how many bytes they have.
+    pub address: u32,
+    pub count: u32,
+    pub modifiers: u16,
+    /// The unit flags of ONLINE and SET UNIT CHARACTERISTICS.
+    pub flags: u16,
+    /// How often the volume of its unit had changed when it came.
+    pub changes: u32,
+}
+
+/// One step of a transfer.
+#[derive(Clone, Copy, Debug, PartialEq, Eq)]
+pub(crate) struct Job {
+    pub connection: Connection,
+    pub reference: u32,
+    pub kind: MoveKind,
+    pub unit: u16,
+    pub block: u32,
+    /// How many steps came before it.
+    pub done: u32,
+}
+
+/// The number in the four bytes from a place on, or 0 where the message is shorter.
+fn four_or_zero(message: &[u8], at: usize) -> u32
+    requires { at < 64 }
+    ensures { result ≡ four_of message.now at }
+{
+    if message.len() < at + 4 {
+        return 0;
+    }
+    four_at(message, at)
+}
+
+/// The number in the two bytes from a place on, or 0 where the message is shorter.
+fn two_or_zero(message: &[u8], at: usize) -> u16
+    requires { at < 64 }
+    ensures { result ≡ two_of message.now at }
+{
+    if message.len() < at + 2 {
+        return 0;
+    }
+    two_at(message, at)
+}
+
+impl Buffer {
+    /// What is kept of a message, whose unit's volume had changed so often.
+    pub fn of(message: &[u8], changes: u32) -> Buffer
+        ensures { result ≡ buffer_in message.now changes }
+    {
+        Buffer {
+            reference: four_or_zero(message, 0),
+            address: four_or_zero(message, 16),
+            count: four_or_zero(message, 12),
+            modifiers: two_or_zero(message, 10),
+            flags: two_or_zero(message, 14),
+            changes,
+        }
+    }
+
+    /// Where the data of the step that comes after so many others are in host memory, and how many bytes they have. None
+    /// past the last address of 32 bits.
+    pub fn part(&self, done: u32) -> Option<(u32, u32)>
+        ensures { result ≡ part_of self.now done }
+    {
+        let before = u64::from(done) * 512;
+        let address = u64::from(self.address) + before;
+        let count = u64::from(self.count).saturating_sub(before).min(512);
+        if address + count > 0xFFFF_FFFF {
+            return None;
+        }
+        Some((address as u32, count as u32))
+    }
+}
+
+/// What is kept of the command of a reference number.
+pub(crate) fn find_buffer(buffers: &[Buffer], reference: u32) -> Option<&Buffer>
+    ensures { option_copied result ≡ find (has_reference reference) buffers.now }
+{
+    buffers.iter().find(|buffer| buffer.reference == reference)
+}
+
+/// The place of the first command of a reference number, if there is one.
+fn place_of(buffers: &[Buffer], reference: u32) -> Option<usize>
+    ensures { result ≡ position (has_reference reference) buffers.now }
+{
+    buffers
+        .iter()
+        .position(|buffer| buffer.reference == reference)
+}
+
+/// Forgets the first command of a reference number, if there is one.
+pub(crate) fn forget(buffers: &mut ArrayVec<Buffer, 64>, reference: u32)
+    ensures { buffers.new.items ≡ without reference buffers.old.items }
+{
+    if let Some(place) = place_of(buffers.as_slice(), reference) {
+        buffers.remove(place);
+    }
+}

@@ -1,0 +1,119 @@
+// What goes out to the host: ends, with the fields that are the port's to tell, and attention messages.
+
+ghost use Rattle.std.specs.Prelude.{◌≡◌, ◌+◌, ◌≤◌, length};
+ghost use Rattle.arrayvec.specs.ArrayVec.{array_vec_len};
+
+use crate::hardware::Hardware;
+use crate::volumes::Volume;
+use arrayvec::ArrayVec;
+use mscp_drive::Unit;
+use mscp_packet::fields::{put, put_eight, put_four, put_two};
+use mscp_packet::status::{SUCCESS, UNIT_AVAILABLE};
+use mscp_packet::{End, EndBody, write_end};
+use mscp_queue::FaultStatus;
+
+/// Unit-Offline: no volume is in the unit, or its switch is off.
+pub(crate) const NO_VOLUME: u16 = 0x0023;
+
+/// What a step ends with whose unit has no volume any more, or another one. The end that goes out has `NO_VOLUME`.
+pub(crate) const STEP_WITHOUT_VOLUME: u16 = 0xFFFF;
+
+/// What a step ends with whose unit wasn't brought online with the volume that is in it. The end that goes out has
+/// `UNIT_AVAILABLE`.
+pub(crate) const STEP_WITHOUT_ONLINE: u16 = 0xFFFE;
+
+/// The controller replaces bad blocks itself.
+const REPLACES: u16 = 0x8000;
+
+/// Nothing may be written, by the hardware and by the host's word.
+const PROTECTED: u16 = 0x2000;
+
+pub(crate) const PROTECTED_BY_HOST: u16 = 0x1000;
+
+/// The code of an attention message that says that a unit came.
+const UNIT_CAME: u8 = 0x40;
+
+/// What is told of a status that an end came with, whose endcode and unit are these.
+pub(crate) fn status_told(code: u8, status: u16, volume: &Volume) -> u16 {
+    match status {
+        STEP_WITHOUT_VOLUME => NO_VOLUME,
+        STEP_WITHOUT_ONLINE => UNIT_AVAILABLE,
+        UNIT_AVAILABLE if !volume.is_there => NO_VOLUME,
+        SUCCESS if code == 0x83 && !volume.is_there => NO_VOLUME,
+        SUCCESS if code == 0x83 && !volume.is_mounted() => UNIT_AVAILABLE,
+        other => other,
+    }
+}
+
+/// What is told of a unit by an ONLINE that found no volume: the same as by one that found one.
+pub(crate) fn body_told(status: u16, body: EndBody, unit: &Unit) -> EndBody {
+    match body {
+        EndBody::Online { .. } if status == NO_VOLUME => EndBody::Online {
+            id: unit.id(),
+            media: unit.media(),
+            size: unit.size(),
+            serial: unit.serial(),
+        },
+        other => other,
+    }
+}
+
+/// The flags of a unit with this volume.
+pub(crate) fn unit_flags(volume: &Volume) -> u16 {
+    let hardware = if volume.is_protected { PROTECTED } else { 0 };
+    let host = if volume.is_protected_by_host {
+        PROTECTED_BY_HOST
+    } else {
+        0
+    };
+    REPLACES + hardware + host
+}
+
+/// Writes a number of two bytes over those from a place on, if they are there.
+fn overwrite(bytes: &mut ArrayVec<u8, 48>, at: usize, value: u16)
+    requires { at ≤ 46 }
+    ensures { array_vec_len bytes.new ≡ array_vec_len bytes.old }
+{
+    if bytes.len() < at + 2 {
+        return;
+    }
+    bytes[at] = (value % 0x100) as u8;
+    bytes[at + 1] = (value / 0x100) as u8;
+}
+
+/// Fills in what a unit's end tells beside what the controller says: the unit's number as that of its multi-unit and of its
+/// shadow unit, and its flags.
+pub(crate) fn fill_unit(bytes: &mut ArrayVec<u8, 48>, unit: u16, flags: u16)
+    ensures { array_vec_len bytes.new ≡ array_vec_len bytes.old }
+{
+    overwrite(bytes, 12, unit);
+    overwrite(bytes, 14, flags);
+    overwrite(bytes, 32, unit);
+}
+
+/// Fills in what the end of a SET CONTROLLER CHARACTERISTICS tells beside: the flags, and the versions. It has 32 bytes.
+pub(crate) fn fill_controller(bytes: &mut ArrayVec<u8, 48>, flags: u16, hardware: &Hardware) {
+    overwrite(bytes, 14, REPLACES + flags % REPLACES);
+    overwrite(
+        bytes,
+        18,
+        u16::from(hardware.version) * 0x100 + u16::from(hardware.software),
+    );
+    if bytes.len() == 28 {
+        put(bytes, &[0; 4]);
+    }
+}
+
+/// An attention message: a volume came into this unit.
+pub(crate) fn attention(unit: &Unit, volume: &Volume) -> ArrayVec<u8, 48> {
+    let mut bytes = ArrayVec::new();
+    put_four(&mut bytes, 0);
+    put_two(&mut bytes, unit.number());
+    put(&mut bytes, &[0, 0, UNIT_CAME, 0, 0, 0]);
+    put_two(&mut bytes, unit.number());
+    put_two(&mut bytes, unit_flags(volume));
+    put_four(&mut bytes, 0);
+    put_eight(&mut bytes, unit.id());
+    put_four(&mut bytes, unit.media());
+    bytes
+}

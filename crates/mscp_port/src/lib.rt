@@ -1,0 +1,21 @@
+//! A port between a host's bus and a disk controller: its registers, its rings, and what comes through them. It does no
+//! input or output itself: it says what it wants done, and is told how that went.
+#![tactic(auto)]
+
+mod action;
+mod buffers;
+mod filling;
+mod hardware;
+mod message;
+mod port;
+mod rings;
+mod slot;
+mod stage;
+mod task;
+#[cfg(test)]
+mod tests;
+mod volumes;
+
+pub use crate::action::{Action, Outcome, Unasked};
+pub use crate::hardware::{Bus, Hardware};
+pub use crate::port::{NoUnit, Port, PortFault};

@@ -1,0 +1,69 @@
+// What a host's message asks for, as the port sees it.
+
+ghost use Rattle.std.specs.Prelude.{◌≡◌, ◌≤◌, length};
+
+use arrayvec::ArrayVec;
+use mscp_drive::Units;
+use mscp_packet::fields::{four_at, put, put_two, two_at};
+use mscp_packet::status::{INVALID_OPCODE, SUCCESS};
+use mscp_packet::{End, EndBody};
+
+/// The opcodes of commands that end at once, with Success: DETERMINE ACCESS PATHS, COMPARE CONTROLLER DATA, and FLUSH.
+const DETERMINE_ACCESS_PATHS: u8 = 11;
+
+const COMPARE_CONTROLLER_DATA: u8 = 17;
+
+const FLUSH: u8 = 19;
+
+/// The opcodes of commands that the port looks into.
+pub(crate) const GET_UNIT_STATUS: u8 = 3;
+
+pub(crate) const SET_CONTROLLER: u8 = 4;
+
+/// The modifier of GET UNIT STATUS that asks for the next unit.
+const NEXT_UNIT: u16 = 0x0001;
+
+/// The end of a message that the port answers itself, if it does: one for a connection that isn't there, or one that
+/// succeeds at once.
+pub(crate) fn own_end(message: &[u8], is_foreign: bool) -> Option<End>
+    requires { 12 ≤ length message.now }
+{
+    let opcode = message[8];
+    let (code, status) = match opcode {
+        _ if is_foreign => (0x80, INVALID_OPCODE),
+        DETERMINE_ACCESS_PATHS | COMPARE_CONTROLLER_DATA | FLUSH => (opcode | 0x80, SUCCESS),
+        _ => return None,
+    };
+    Some(End {
+        reference: four_at(message, 0),
+        unit: two_at(message, 4),
+        code,
+        status,
+        body: EndBody::Bare,
+    })
+}
+
+/// The lowest unit's number that isn't below one, and 0 where there is none.
+fn next_unit(units: &Units, number: u16) -> u16 {
+    match units.list().iter().find(|unit| unit.number() >= number) {
+        Some(unit) => unit.number(),
+        None => 0,
+    }
+}
+
+/// The message that the controller gets: just this one, but that a GET UNIT STATUS which asks for the next unit gets its
+/// number.
+pub(crate) fn message_for_controller(message: &[u8], units: &Units) -> ArrayVec<u8, 64>
+    requires short { 12 ≤ length message.now }
+    requires long { length message.now ≤ 64 }
+{
+    let mut bytes = ArrayVec::new();
+    if message[8] == GET_UNIT_STATUS && two_at(message, 10) % 2 == NEXT_UNIT {
+        put(&mut bytes, &message[..4]);
+        put_two(&mut bytes, next_unit(units, two_at(message, 4)));
+        put(&mut bytes, &message[6..]);
+    } else {
+        put(&mut bytes, message);
+    }
+    bytes
+}

@@ -1,0 +1,261 @@
+// A port: its registers, and what it knows.
+
+ghost use Rattle.std.specs.Prelude.{◌≡◌, ◌↔◌, ◌≤◌, ◌<◌, IfSome};
+
+mod delivering;
+mod hearing;
+mod serving;
+mod turning;
+mod watching;
+
+use crate::buffers::Buffer;
+use crate::hardware::Hardware;
+pub use crate::port::watching::NoUnit;
+use crate::rings::Rings;
+use crate::stage::Stage;
+use crate::task::Task;
+use crate::volumes::Volume;
+use arrayvec::ArrayVec;
+use mscp_control::Controller;
+use mscp_queue::{Connection, Picker};
+
+/// Why there is no such port.
+#[derive(Clone, Copy, Debug, PartialEq, Eq)]
+pub enum PortFault {
+    /// A host may have 1 to 63 commands outstanding, and the controller's first connection wants one credit more.
+    Credits,
+}
+
+/// What goes out to the host: the end of a command, or an attention message.
+#[derive(Debug, PartialEq, Drop)]
+pub(crate) struct Outgoing {
+    bytes: ArrayVec<u8, 48>,
+    is_end: bool,
+}
+
+/// What the host wrote in the first two steps.
+#[derive(Clone, Copy, Debug, Default, PartialEq, Eq)]
+pub(crate) struct Words {
+    first: u16,
+    second: u16,
+}
+
+/// A port over a controller.
+#[derive(Drop)]
+pub struct Port<K> {
+    hardware: Hardware,
+    controller: Controller<K>,
+    // How many commands beside one a host may have outstanding, and how many of them it wasn't told yet.
+    more: u8,
+    untold: u8,
+    stage: Stage,
+    words: Words,
+    // What the host wrote to SA, until the step is taken.
+    written: Option<u16>,
+    rings: Option<Rings>,
+    // How many slots of each ring were given back, modulo 256.
+    responses: u8,
+    commands: u8,
+    task: Task,
+    outgoing: Option<Outgoing>,
+    // The host has read IP, and since then no slot of the ring of commands was the host's.
+    is_polled: bool,
+    // The next command waits for a credit, or for what goes out.
+    is_stalled: bool,
+    // The next slot of the ring of responses was the host's.
+    is_full: bool,
+    buffers: ArrayVec<Buffer, 64>,
+    volumes: [Volume; 16],
+    // The controller flags and the timeout in seconds that the host has set, and the seconds that are left.
+    flags: u16,
+    timeout: u16,
+    left: u16,
+}
+
+/// The timeout of a host that says none, in seconds.
+const HOST_TIMEOUT: u16 = 60;
+
+/// The bits of a host's first word: the step is answered, wrap around, interrupts wanted.
+const ANSWERED: u16 = 0x8000;
+
+const WRAP: u16 = 0x4000;
+
+/// The bit of its third word: purge and poll test wanted.
+const PROBE: u16 = 0x8000;
+
+impl<K: Picker> Port<K> {
+    /// A port over a controller to which nothing came so far by its first connection, which lets a host have so many
+    /// commands outstanding. Its units have no volumes.
+    pub fn new(
+        hardware: Hardware,
+        credits: u8,
+        controller: Controller<K>,
+    ) -> Result<Port<K>, PortFault>
+    where
+        K: Drop,
+    {
+        if credits == 0 || controller.balance(Connection::First) <= u32::from(credits) {
+            return Err(PortFault::Credits);
+        }
+        Ok(Port {
+            hardware,
+            controller,
+            more: credits - 1,
+            untold: credits - 1,
+            stage: Stage::First,
+            words: Words::default(),
+            written: None,
+            rings: None,
+            responses: 0,
+            commands: 0,
+            task: Task::Free,
+            outgoing: None,
+            is_polled: false,
+            is_stalled: false,
+            is_full: false,
+            buffers: ArrayVec::new(),
+            volumes: [Volume::default(); 16],
+            flags: 0,
+            timeout: HOST_TIMEOUT,
+            left: HOST_TIMEOUT,
+        })
+    }
+
+    /// Forgets all that its host has said, in this stage.
+    fn forget_all(&mut self, stage: Stage) {
+        self.controller.reset();
+        self.untold = self.more;
+        self.stage = stage;
+        self.words = Words::default();
+        self.written = None;
+        self.rings = None;
+        self.responses = 0;
+        self.commands = 0;
+        self.task = Task::Free;
+        self.outgoing = None;
+        self.is_polled = false;
+        self.is_stalled = false;
+        self.is_full = false;
+        self.buffers.clear();
+        for volume in self.volumes.iter_mut() {
+            volume.reset();
+        }
+        self.flags = 0;
+        self.timeout = HOST_TIMEOUT;
+        self.left = HOST_TIMEOUT;
+    }
+
+    /// A fatal error: nothing goes on until the host writes IP.
+    fn die(&mut self, code: u16) {
+        self.forget_all(Stage::Dead(code));
+    }
+
+    /// The host wrote IP, or its bus was reset: the port is as new, in the first step of its initialisation. The volumes
+    /// stay where they are.
+    pub fn write_ip(&mut self) {
+        self.forget_all(Stage::First);
+    }
+
+    /// The host read IP, which shows 0: the port is to look at the ring of commands.
+    pub fn read_ip(&mut self) {
+        match self.stage {
+            Stage::Up => {
+                self.is_polled = true;
+                self.is_full = false;
+            }
+            Stage::Probing => self.begin_to_clear(),
+            _ => {}
+        }
+    }
+
+    /// What SA shows.
+    pub fn read_sa(&self) -> u16 {
+        match self.stage {
+            Stage::First => self.hardware.first_step(),
+            Stage::Wrapped(word) => word,
+            Stage::Second => 0x1000 + self.words.first / 0x100,
+            Stage::Third | Stage::Clearing => 0x2000 + self.words.first % 0x100,
+            Stage::Purging | Stage::Probing | Stage::Up => 0,
+            Stage::Last => self.hardware.last_step(),
+            Stage::Dead(code) => 0x8000 | code,
+        }
+    }
+
+    /// The host wrote this word to SA.
+    pub fn write_sa(&mut self, word: u16) {
+        match self.stage {
+            Stage::First if word < ANSWERED => {}
+            Stage::First | Stage::Second | Stage::Third => self.written = Some(word),
+            Stage::Wrapped(_) => self.stage = Stage::Wrapped(word),
+            Stage::Purging if word == 0 => self.stage = Stage::Probing,
+            Stage::Purging => self.die(21),
+            // The host that says go may read IP at once, and not look at SA again.
+            Stage::Last if word % 2 == 1 => self.stage = Stage::Up,
+            Stage::Probing | Stage::Clearing | Stage::Last | Stage::Up | Stage::Dead(_) => {}
+        }
+    }
+
+    /// The step is taken that the host has answered by a word.
+    fn take_step(&mut self, word: u16) {
+        match self.stage {
+            Stage::First if word / WRAP % 2 == 1 => self.stage = Stage::Wrapped(word),
+            Stage::First => {
+                self.words.first = word;
+                self.enter(Stage::Second);
+            }
+            Stage::Second => {
+                self.words.second = word;
+                self.enter(Stage::Third);
+            }
+            Stage::Third => self.name_area(word),
+            _ => {}
+        }
+    }
+
+    /// The next step of the initialisation begins, and the host hears of it if it wants to.
+    fn enter(&mut self, stage: Stage) {
+        self.stage = stage;
+        if self.words.first / 0x80 % 2 == 1 && self.vector() != 0 {
+            self.task = Task::Interrupt;
+        }
+    }
+
+    /// The vector by which the host is interrupted, and 0 if it isn't.
+    pub(crate) fn vector(&self) -> u16 {
+        self.words.first % 0x80 * 4
+    }
+
+    /// The communication area is known, with its third word.
+    fn name_area(&mut self, third: u16) {
+        self.rings = Rings::named(self.words.first, self.words.second, third);
+        if third >= PROBE {
+            self.stage = Stage::Purging;
+        } else {
+            self.begin_to_clear();
+        }
+    }
+
+    /// Whether the host wants purge interrupts, so that the area has a word for them.
+    pub(crate) fn has_purge_word(&self) -> bool {
+        self.words.second % 2 == 1
+    }
+
+    /// The communication area is to be cleared.
+    fn begin_to_clear(&mut self) {
+        match self.rings {
+            Some(_) => {
+                self.stage = Stage::Clearing;
+                self.task = Task::Clear(0);
+            }
+            None => self.die(7),
+        }
+    }
+
+    /// The place of a unit in the list of the units, if it is one.
+    fn place_of(&self, unit: u16) -> Option<usize>
+        ensures { IfSome result (λ place. place < 16) }
+    {
+        let units = self.controller.config().units().list();
+        units.iter().position(|other| other.number() == unit)
+    }
+}

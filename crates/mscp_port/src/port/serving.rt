@@ -1,0 +1,171 @@
+// How blocks are moved.
+
+ghost use Rattle.std.specs.Prelude.{◌≡◌, ◌≤◌, ◌<◌, ◌%◌, IfSome};
+
+use crate::action::Outcome;
+use crate::buffers::{Buffer, Job, find_buffer};
+use crate::filling::{STEP_WITHOUT_ONLINE, STEP_WITHOUT_VOLUME};
+use crate::port::Port;
+use crate::task::Task;
+use crate::volumes::Volume;
+use mscp_packet::{MoveKind, Order};
+use mscp_queue::{Block, Connection, FaultStatus, Picker, Report, Upcoming};
+
+/// Host Buffer Access Error: an odd address, an odd count, memory that isn't there, a parity error, an address that isn't
+/// mapped.
+const ODD_ADDRESS: u16 = 0x0029;
+
+const ODD_COUNT: u16 = 0x0049;
+
+const MISSING: u16 = 0x0069;
+
+const PARITY: u16 = 0x0089;
+
+const UNMAPPED: u16 = 0x00A9;
+
+/// Compare Error.
+const DIFFERENT: u16 = 0x0007;
+
+/// Write Protected, by the host and by the hardware.
+const PROTECTED_BY_HOST: u16 = 0x1006;
+
+const PROTECTED: u16 = 0x2006;
+
+/// Drive Error.
+const DRIVE_ERROR: u16 = 0x000B;
+
+/// A block that ends its command with this status.
+fn bad(status: u16) -> Block
+    requires { 5 ≤ status % 32 }
+{
+    match FaultStatus::new(status) {
+        Some(status) => Block::Bad(status),
+        None => unreachable!(),
+    }
+}
+
+/// How a block was served whose action went so.
+fn block_of(outcome: Outcome) -> Block {
+    match outcome {
+        Outcome::Done => Block::Good,
+        Outcome::Missing => bad(MISSING),
+        Outcome::Parity => bad(PARITY),
+        Outcome::Unmapped => bad(UNMAPPED),
+        Outcome::Different => bad(DIFFERENT),
+        Outcome::Failed(status) => Block::Bad(status),
+    }
+}
+
+/// Whether a transfer moves bytes of host memory.
+fn has_host_bytes(kind: MoveKind) -> bool {
+    matches!(kind, MoveKind::Compare | MoveKind::Read | MoveKind::Write)
+}
+
+/// Whether a transfer writes to the volume.
+fn writes(kind: MoveKind) -> bool {
+    matches!(kind, MoveKind::Erase | MoveKind::Write)
+}
+
+/// Why a step of a transfer isn't made, if it isn't: the first that holds.
+fn refusal(kind: MoveKind, buffer: &Buffer, volume: &Volume) -> Option<u16>
+    ensures { IfSome result (λ status. 5 ≤ status % 32) }
+{
+    if !volume.is_mounted() {
+        Some(STEP_WITHOUT_ONLINE)
+    } else if has_host_bytes(kind) && buffer.address % 2 == 1 {
+        Some(ODD_ADDRESS)
+    } else if buffer.count % 2 == 1 {
+        Some(ODD_COUNT)
+    } else if writes(kind) && volume.is_protected_by_host {
+        Some(PROTECTED_BY_HOST)
+    } else if writes(kind) && volume.is_protected {
+        Some(PROTECTED)
+    } else {
+        None
+    }
+}
+
+/// What is done first for a step of a transfer: the bytes of host memory are fetched, or the block is moved.
+fn first_task(job: Job) -> Task {
+    match job.kind {
+        MoveKind::Compare | MoveKind::Write => Task::Fetch(job),
+        MoveKind::Access | MoveKind::Erase | MoveKind::Read => Task::Transfer(job),
+    }
+}
+
+/// What is to be done for a step of a command, of whose message this is kept, and whose unit has this volume.
+fn task_for(upcoming: &Upcoming, buffer: &Buffer, volume: &Volume) -> Task {
+    let command = &upcoming.command;
+    let step = |block| Task::Step(upcoming.connection, command.reference, block);
+    if matches!(command.order, Order::Available) {
+        return step(Block::Good);
+    }
+    if !volume.is_there || buffer.changes != volume.changes {
+        return step(bad(STEP_WITHOUT_VOLUME));
+    }
+    let (Order::Move(kind, ..), Some(block)) = (command.order, upcoming.lbn) else {
+        return step(Block::Good);
+    };
+    if let Some(status) = refusal(kind, buffer, volume) {
+        return step(bad(status));
+    }
+    match buffer.part(upcoming.done) {
+        None => step(bad(MISSING)),
+        // A transfer of no bytes names a block, and moves nothing.
+        Some((_, 0)) => step(Block::Good),
+        Some(_) => first_task(Job {
+            connection: upcoming.connection,
+            reference: command.reference,
+            kind,
+            unit: command.unit,
+            block,
+            done: upcoming.done,
+        }),
+    }
+}
+
+impl<K: Picker> Port<K> {
+    /// What is to be done for the next step of a command, if one waits.
+    pub(crate) fn choose_block(&mut self) -> Task {
+        let Some(upcoming) = self.controller.begin() else {
+            return Task::Free;
+        };
+        let command = upcoming.command;
+        let buffer = find_buffer(self.buffers.as_slice(), command.reference).copied();
+        match (self.place_of(command.unit), buffer) {
+            (Some(place), Some(buffer)) => task_for(&upcoming, &buffer, &self.volumes[place]),
+            _ => Task::Step(upcoming.connection, command.reference, bad(DRIVE_ERROR)),
+        }
+    }
+
+    /// The step of a command is taken, whose block had this outcome.
+    pub(crate) fn finish(&mut self, connection: Connection, reference: u32, block: Block) {
+        self.task = Task::Free;
+        if let Ok(
+            Report::Served {
+                ended: Some(end),
+                ..
+            },
+        ) = self.controller.finish(connection, reference, block)
+        {
+            self.command_ended(&end);
+        }
+    }
+
+    /// A step of which nothing is kept ends its command: its buffer is not known.
+    pub(crate) fn lost(&mut self, job: Job) {
+        self.finish(job.connection, job.reference, bad(DRIVE_ERROR));
+    }
+
+    /// A part of a step was done: the host's bytes are fetched, then the block is moved, and what was read goes to the host.
+    /// A fault ends the command.
+    pub(crate) fn moved(&mut self, job: Job, outcome: Outcome) {
+        match self.task {
+            Task::Fetch(_) if outcome == Outcome::Done => self.task = Task::Transfer(job),
+            Task::Transfer(_) if outcome == Outcome::Done && job.kind == MoveKind::Read => {
+                self.task = Task::Store(job);
+            }
+            _ => self.finish(job.connection, job.reference, block_of(outcome)),
+        }
+    }
+}

@@ -1,0 +1,291 @@
+// What the port wants done.
+
+ghost use Rattle.std.specs.Prelude.{◌≡◌, ◌≤◌, ◌<◌, ◌^◌};
+
+use crate::action::{Action, Outcome, Unasked};
+use crate::buffers::{Job, find_buffer};
+use crate::port::Port;
+use crate::rings::{Rings, Side};
+use crate::slot::Descriptor;
+use crate::stage::Stage;
+use crate::task::Task;
+use arrayvec::ArrayVec;
+use mscp_packet::fields::{put, put_four, put_two};
+use mscp_queue::Picker;
+
+/// The bytes of a packet's header, which stands in front of its text.
+const HEADER: u32 = 4;
+
+/// The bytes that one action clears, at most.
+const CLEARED: u32 = 64;
+
+/// More bytes than a communication area has.
+const AREA: u32 = 2048;
+
+/// So many zeros.
+fn zeros(count: u32) -> ArrayVec<u8, 64>
+    requires { count ≤ 64 }
+{
+    let mut bytes = ArrayVec::new();
+    put(&mut bytes, &[0; 64][..count as usize]);
+    bytes
+}
+
+/// What an interrupt word is written with.
+fn interrupt_word() -> ArrayVec<u8, 64> {
+    let mut bytes = ArrayVec::new();
+    put_two(&mut bytes, 1);
+    bytes
+}
+
+/// The descriptor of a slot that is given back.
+fn descriptor(slot: &Descriptor) -> ArrayVec<u8, 64> {
+    let mut bytes = ArrayVec::new();
+    put_four(&mut bytes, slot.given_back());
+    bytes
+}
+
+/// A slot of a ring is to be read.
+fn slot_wanted(rings: &Rings, side: Side, number: u32) -> Action
+    requires { number < 2 ^ 31 }
+{
+    Action::Read {
+        address: rings.slot(side, number),
+        count: 4,
+    }
+}
+
+/// The number of the slot in front of the one that was given back last, behind which so many were given back.
+fn number_before(rings: &Rings, side: Side, number: u32) -> u32
+    requires { number < 256 }
+    ensures { result < 2 ^ 31 }
+{
+    number + 2 * rings.slots(side) - 2
+}
+
+impl<K: Picker> Port<K> {
+    /// What the port wants done next. Until it is told how that went it answers the same, unless a register is touched.
+    pub fn next(&mut self) -> Action {
+        if self.task == Task::Free {
+            self.task = self.choose();
+        }
+        self.action()
+    }
+
+    /// What it takes in hand.
+    fn choose(&mut self) -> Task {
+        if self.written.is_some() {
+            return Task::Settle;
+        }
+        match self.stage {
+            Stage::Up => self.choose_work(),
+            _ => Task::Free,
+        }
+    }
+
+    /// What it takes in hand while the rings are in use: what goes out, what comes in, and then a block.
+    fn choose_work(&mut self) -> Task {
+        if self.outgoing.is_none() {
+            self.find_outgoing();
+        }
+        if self.outgoing.is_some() && !self.is_full {
+            return Task::Slot(Side::Responses);
+        }
+        if self.is_polled && !self.is_stalled {
+            return Task::Slot(Side::Commands);
+        }
+        self.choose_block()
+    }
+
+    /// What is wanted for what it has in hand.
+    fn action(&self) -> Action {
+        match (self.task, self.rings) {
+            (Task::Free, _) => Action::Rest,
+            (Task::Interrupt, _) => Action::Interrupt(self.vector()),
+            (Task::Header(slot), _) => self.header_wanted(slot),
+            (Task::Text { slot, length, .. }, _) => Action::Read {
+                address: slot.text(),
+                count: length,
+            },
+            (Task::Packet(slot), _) => self.packet_wanted(slot),
+            (Task::Clear(done), Some(rings)) => self.clearing(&rings, done),
+            (Task::Slot(side), Some(rings)) => {
+                slot_wanted(&rings, side, u32::from(self.number(side)))
+            }
+            (Task::Neighbour(side), Some(rings)) => {
+                let number = number_before(&rings, side, u32::from(self.number(side)));
+                slot_wanted(&rings, side, number)
+            }
+            (Task::Return(side, slot), Some(rings)) => Action::Write {
+                address: rings.slot(side, u32::from(self.number(side))),
+                bytes: descriptor(&slot),
+            },
+            (Task::Word(side), Some(rings)) => Action::Write {
+                address: rings.word(side),
+                bytes: interrupt_word(),
+            },
+            (Task::Fetch(job) | Task::Transfer(job) | Task::Store(job), _) => self.moving(&job),
+            _ => Action::Pause,
+        }
+    }
+
+    /// How many slots of a ring were given back, modulo 256.
+    fn number(&self, side: Side) -> u8 {
+        match side {
+            Side::Responses => self.responses,
+            Side::Commands => self.commands,
+        }
+    }
+
+    /// The header of a command is to be read.
+    fn header_wanted(&self, slot: Descriptor) -> Action {
+        Action::Read {
+            address: slot.text().saturating_sub(HEADER),
+            count: HEADER,
+        }
+    }
+
+    /// The packet of what goes out is to be written.
+    fn packet_wanted(&self, slot: Descriptor) -> Action {
+        Action::Write {
+            address: slot.text().saturating_sub(HEADER),
+            bytes: self.packet(),
+        }
+    }
+
+    /// The next bytes of the communication area are to be cleared.
+    fn clearing(&self, rings: &Rings, done: u32) -> Action {
+        let from = rings.start(self.has_purge_word()) + done % AREA;
+        Action::Write {
+            address: from,
+            bytes: zeros(rings.end().saturating_sub(from).min(CLEARED)),
+        }
+    }
+
+    /// A part of the buffer of a command is to be moved, or its block.
+    fn moving(&self, job: &Job) -> Action {
+        match (self.task, self.part(job)) {
+            (Task::Fetch(_), Some((address, count))) => Action::Fetch { address, count },
+            (Task::Store(_), Some((address, count))) => Action::Store { address, count },
+            (Task::Transfer(_), Some((_, count))) => Action::Transfer {
+                kind: job.kind,
+                unit: job.unit,
+                block: job.block,
+                count,
+            },
+            _ => Action::Pause,
+        }
+    }
+
+    /// The part of a command's buffer that a step is about.
+    fn part(&self, job: &Job) -> Option<(u32, u32)> {
+        find_buffer(self.buffers.as_slice(), job.reference)?.part(job.done)
+    }
+
+    /// An action that isn't a read went so; or a read failed so. An error where nothing was wanted, or where a read is told
+    /// to be done without its bytes.
+    pub fn went(&mut self, outcome: Outcome) -> Result<(), Unasked> {
+        if self.task == Task::Free || (self.is_reading() && outcome == Outcome::Done) {
+            return Err(Unasked);
+        }
+        match self.task {
+            Task::Free => {}
+            Task::Slot(_) | Task::Neighbour(_) => self.die(6),
+            Task::Header(_) | Task::Text { .. } => self.die(1),
+            Task::Settle => self.settled(),
+            Task::Clear(done) => self.cleared(done, outcome),
+            Task::Packet(slot) => self.written_out(slot, outcome),
+            Task::Return(side, slot) => self.returned(side, slot, outcome),
+            // A fault at the interrupt word is ignored.
+            Task::Word(_) => self.interrupt(),
+            Task::Interrupt => self.task = Task::Free,
+            Task::Step(connection, reference, block) => {
+                self.finish(connection, reference, block);
+            }
+            Task::Fetch(job) | Task::Transfer(job) | Task::Store(job) => {
+                self.move_on(job, outcome);
+            }
+        }
+        Ok(())
+    }
+
+    /// Whether it wants bytes of host memory.
+    fn is_reading(&self) -> bool {
+        matches!(
+            self.task,
+            Task::Slot(_) | Task::Header(_) | Task::Text { .. } | Task::Neighbour(_)
+        )
+    }
+
+    /// A part of a step was done, if what is kept of its command says what part.
+    fn move_on(&mut self, job: Job, outcome: Outcome) {
+        match self.part(&job) {
+            Some(_) => self.moved(job, outcome),
+            None => self.lost(job),
+        }
+    }
+
+    /// The machine went on a little since the host answered a step.
+    fn settled(&mut self) {
+        self.task = Task::Free;
+        if let Some(word) = self.written.take() {
+            self.take_step(word);
+        }
+    }
+
+    /// A part of the communication area was cleared, behind so many bytes.
+    fn cleared(&mut self, done: u32, outcome: Outcome) {
+        let Some(rings) = self.rings else {
+            return self.die(7);
+        };
+        if outcome != Outcome::Done {
+            return self.die(7);
+        }
+        let next = done % AREA + CLEARED;
+        if rings.start(self.has_purge_word()) + next < rings.end() {
+            self.task = Task::Clear(next);
+        } else {
+            self.task = Task::Free;
+            self.enter(Stage::Last);
+        }
+    }
+
+    /// The next slot of a ring was given back.
+    fn returned(&mut self, side: Side, slot: Descriptor, outcome: Outcome) {
+        let Some(rings) = self.rings else {
+            return self.die(7);
+        };
+        if outcome != Outcome::Done {
+            return self.die(7);
+        }
+        self.count(side);
+        self.task = if !slot.is_flagged() {
+            Task::Free
+        } else if rings.slots(side) == 1 {
+            Task::Word(side)
+        } else {
+            Task::Neighbour(side)
+        };
+    }
+
+    /// Counts a slot of a ring that was given back. What went out is gone.
+    fn count(&mut self, side: Side) {
+        match side {
+            Side::Responses => {
+                self.responses = self.responses.wrapping_add(1);
+                self.outgoing = None;
+                self.is_stalled = false;
+            }
+            Side::Commands => self.commands = self.commands.wrapping_add(1),
+        }
+    }
+
+    /// The interrupt word was written: the host is interrupted, if it wants that.
+    fn interrupt(&mut self) {
+        self.task = if self.vector() == 0 {
+            Task::Free
+        } else {
+            Task::Interrupt
+        };
+    }
+}

@@ -1,0 +1,45 @@
+// What a port has in hand.
+
+use crate::buffers::Job;
+use crate::rings::Side;
+use crate::slot::Descriptor;
+use mscp_queue::{Block, Connection};
+
+/// What the port has in hand: the next action, with what is known for it.
+#[derive(Clone, Copy, Debug, PartialEq, Eq)]
+pub(crate) enum Task {
+    /// Nothing.
+    Free,
+    /// A step of the initialisation is taken, once the machine went on a little.
+    Settle,
+    /// The communication area is cleared, behind so many bytes that are clear.
+    Clear(u32),
+    /// The next slot of a ring is read.
+    Slot(Side),
+    /// The header of a command's packet is read.
+    Header(Descriptor),
+    /// The text of a command is read, which has so many bytes. A foreign one is for another connection than the disk's.
+    Text {
+        slot: Descriptor,
+        length: u32,
+        is_foreign: bool,
+    },
+    /// The packet of what goes out is written.
+    Packet(Descriptor),
+    /// The next slot of a ring is given back.
+    Return(Side, Descriptor),
+    /// The slot in front of the one that was given back is read.
+    Neighbour(Side),
+    /// The interrupt word of a ring is written.
+    Word(Side),
+    /// The host is interrupted.
+    Interrupt,
+    /// A step of a command that moves no block, with this outcome, is taken once the machine went on a little.
+    Step(Connection, u32, Block),
+    /// The host's bytes are fetched.
+    Fetch(Job),
+    /// A block is moved.
+    Transfer(Job),
+    /// The host gets its bytes.
+    Store(Job),
+}

@@ -1,0 +1,40 @@
+// The volumes that lie in the units, and how they change.
+
+/// A unit's volume. All is counted: a unit that was brought online with another volume than the one in it isn't online.
+#[derive(Clone, Copy, Debug, Default, PartialEq, Eq)]
+pub(crate) struct Volume {
+    pub is_there: bool,
+    /// Nothing may be written on it.
+    pub is_protected: bool,
+    /// Its host said that nothing may be written on it.
+    pub is_protected_by_host: bool,
+    /// How often it changed.
+    pub changes: u32,
+    /// How often it had changed when the unit was brought online, if it was.
+    pub mounted: Option<u32>,
+    /// It came, and the host is to hear of it.
+    pub is_news: bool,
+}
+
+impl Volume {
+    /// Whether the unit is online with the volume that is in it.
+    pub fn is_mounted(&self) -> bool {
+        self.is_there && self.mounted == Some(self.changes)
+    }
+
+    /// Another volume came, or the volume went.
+    pub fn change(&mut self, is_there: bool, is_protected: bool) {
+        self.is_there = is_there;
+        self.is_protected = is_protected;
+        self.is_protected_by_host = false;
+        self.changes = self.changes.wrapping_add(1);
+        self.is_news = is_there;
+    }
+
+    /// What a reset of the port leaves of it.
+    pub fn reset(&mut self) {
+        self.mounted = None;
+        self.is_protected_by_host = false;
+        self.is_news = false;
+    }
+}
