@@ -42,10 +42,11 @@ without reference bs = without_place (position (has_reference reference) bs) bs
 abbrev pub left_of : Buffer → ℕ → ℕ
 left_of b done = min (b.count - done * 512) 512
 
--- where they are: 512 bytes behind those of the step before. None if they reach the end of 32 bits
+-- where they are: 512 bytes behind those of the step before. None past the end of the buffer, or where they reach the end
+-- of 32 bits
 abbrev pub part_of : Buffer → ℕ → Option (ℕ × ℕ)
 part_of b done =
-    if nat_lt 0xFFFF_FFFF (b.address + done * 512 + left_of b done) then None
+    if nat_lt b.count (done * 512) || nat_lt 0xFFFF_FFFF (b.address + done * 512 + left_of b done) then None
     else Some (b.address + done * 512, left_of b done)
 
 -- so many bytes from an address on lie in the buffer

@@ -38,4 +38,4 @@ shown h first stages.Probing = 0
 shown h first stages.Clearing = third_step first
 shown h first stages.Last = last_step h
 shown h first stages.Up = 0
-shown h first (stages.Dead code) = 0x8000 + code
+shown h first (stages.Dead code) = 0x8000 + code % 0x8000

@@ -1,9 +1,9 @@
 // What is kept of the commands that wait: where their data are in host memory.
 
-ghost use Rattle.std.specs.Prelude.{◌≡◌, ◌≤◌, ◌<◌, ◌+◌, ◌*◌, ◌^◌, ℕ, length, IfSome, find};
-ghost use Rattle.std.specs.Option.{option_copied};
+ghost use Rattle.std.specs.Prelude.{◌≡◌, ◌<◌, ◌⊎◌, ◌++◌, ◌∷◌, [], Contains, IfSome, None, length};
+ghost use Rattle.mscp_port.specs.declared.buffers.Buffer.{Buffer as Kept};
 ghost use Rattle.std.specs.List.{position};
-ghost use Rattle.mscp_port.specs.Buffers.{buffer_in, four_or_zero as four_of, has_reference, part_of, two_or_zero as two_of, without};
+ghost use Rattle.mscp_port.specs.Buffers.{IsInBuffer, buffer_in, four_or_zero as four_of, has_reference, part_of, two_or_zero as two_of, without};
 
 use arrayvec::ArrayVec;
 use mscp_packet::MoveKind;
@@ -74,25 +74,30 @@ impl Buffer {
     }
 
     /// Where the data of the step that comes after so many others are in host memory, and how many bytes they have. None
-    /// past the last address of 32 bits.
+    /// past the end of the buffer, or where they reach the end of 32 bits.
     pub fn part(&self, done: u32) -> Option<(u32, u32)>
-        ensures { result ≡ part_of self.now done }
+        ensures value { result ≡ part_of self.now done }
+        ensures inside { IfSome result (λ part. IsInBuffer self.now part.0 part.1) }
     {
         let before = u64::from(done) * 512;
         let address = u64::from(self.address) + before;
         let count = u64::from(self.count).saturating_sub(before).min(512);
-        if address + count > 0xFFFF_FFFF {
+        if before > u64::from(self.count) || address + count > 0xFFFF_FFFF {
             return None;
         }
         Some((address as u32, count as u32))
     }
 }
 
-/// What is kept of the command of a reference number.
-pub(crate) fn find_buffer(buffers: &[Buffer], reference: u32) -> Option<&Buffer>
-    ensures { option_copied result ≡ find (has_reference reference) buffers.now }
+/// What is kept of the first command of a reference number, if there is one.
+#[tactic(auto, using(crate::proofs::Known::of_reference))]
+pub(crate) fn find_buffer(buffers: &[Buffer], reference: u32) -> Option<Buffer>
+    ensures among { IfSome result (λ b. Contains buffers.now b) }
+    ensures reference { IfSome result (λ b. b.reference ≡ reference) }
+    ensures none { result ≡ None → position (has_reference reference) buffers.now ≡ None }
 {
-    buffers.iter().find(|buffer| buffer.reference == reference)
+    let place = place_of(buffers, reference)?;
+    Some(buffers[place])
 }
 
 /// The place of the first command of a reference number, if there is one.
@@ -106,9 +111,29 @@ fn place_of(buffers: &[Buffer], reference: u32) -> Option<usize>
 
 /// Forgets the first command of a reference number, if there is one.
 pub(crate) fn forget(buffers: &mut ArrayVec<Buffer, 64>, reference: u32)
-    ensures { buffers.new.items ≡ without reference buffers.old.items }
+    ensures after { buffers.new.items ≡ without reference buffers.old.items }
+    ensures left { (b : Kept) → Contains buffers.new.items b → Contains buffers.old.items b }
 {
     if let Some(place) = place_of(buffers.as_slice(), reference) {
         buffers.remove(place);
+    }
+}
+
+/// Keeps what a message says. There is room for 64 commands.
+pub(crate) fn keep(buffers: &mut ArrayVec<Buffer, 64>, buffer: Buffer)
+    ensures room { length buffers.old.items < 64 → buffers.new.items ≡ buffers.old.items ++ buffer ∷ [] }
+    ensures more { (b : Kept) → Contains buffers.new.items b → Contains buffers.old.items b ⊎ (b ≡ buffer) }
+{
+    if !buffers.is_full() {
+        buffers.push(buffer);
+    }
+}
+
+/// Forgets the command that was aborted, if one was.
+pub(crate) fn forget_aborted(buffers: &mut ArrayVec<Buffer, 64>, aborted: Option<u32>)
+    ensures { (b : Kept) → Contains buffers.new.items b → Contains buffers.old.items b }
+{
+    if let Some(reference) = aborted {
+        forget(buffers, reference);
     }
 }

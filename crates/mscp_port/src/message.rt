@@ -1,9 +1,11 @@
 // What a host's message asks for, as the port sees it.
 
-ghost use Rattle.std.specs.Prelude.{◌≡◌, ◌≤◌, length};
+ghost use Rattle.std.specs.Prelude.{◌≡◌, ◌≤◌, find, length, nat_le};
+ghost use Rattle.std.specs.Option.{option_copied};
+ghost use Rattle.mscp_port.specs.Messages.{bare_end, handed, next_unit, own_end as end_of_own};
 
 use arrayvec::ArrayVec;
-use mscp_drive::Units;
+use mscp_drive::{Unit, Units};
 use mscp_packet::fields::{four_at, put, put_two, two_at};
 use mscp_packet::status::{INVALID_OPCODE, SUCCESS};
 use mscp_packet::{End, EndBody};
@@ -27,25 +29,45 @@ const NEXT_UNIT: u16 = 0x0001;
 /// succeeds at once.
 pub(crate) fn own_end(message: &[u8], is_foreign: bool) -> Option<End>
     requires { 12 ≤ length message.now }
+    ensures { result ≡ end_of_own is_foreign message.now }
 {
-    let opcode = message[8];
-    let (code, status) = match opcode {
-        _ if is_foreign => (0x80, INVALID_OPCODE),
-        DETERMINE_ACCESS_PATHS | COMPARE_CONTROLLER_DATA | FLUSH => (opcode | 0x80, SUCCESS),
-        _ => return None,
-    };
-    Some(End {
+    if is_foreign {
+        return Some(bare_end(message, 0x80, INVALID_OPCODE));
+    }
+    match message[8] {
+        opcode @ (DETERMINE_ACCESS_PATHS | COMPARE_CONTROLLER_DATA | FLUSH) => {
+            Some(bare_end(message, opcode + 0x80, SUCCESS))
+        }
+        _ => None,
+    }
+}
+
+/// The end of a message with this code and status.
+fn bare_end(message: &[u8], code: u8, status: u16) -> End
+    requires { 12 ≤ length message.now }
+    ensures { result ≡ bare_end message.now code status }
+{
+    End {
         reference: four_at(message, 0),
         unit: two_at(message, 4),
         code,
         status,
         body: EndBody::Bare,
-    })
+    }
 }
 
-/// The lowest unit's number that isn't below one, and 0 where there is none.
-fn next_unit(units: &Units, number: u16) -> u16 {
-    match units.list().iter().find(|unit| unit.number() >= number) {
+/// The first unit whose number isn't below one.
+fn first_from(units: &Units, number: u16) -> Option<&Unit>
+    ensures { option_copied result ≡ find (λ unit. nat_le number unit.number) units.now }
+{
+    units.list().iter().find(|unit| unit.number() >= number)
+}
+
+/// Its number, and 0 where there is none.
+fn next_unit(units: &Units, number: u16) -> u16
+    ensures { result ≡ next_unit units.now number }
+{
+    match first_from(units, number) {
         Some(unit) => unit.number(),
         None => 0,
     }
@@ -56,6 +78,7 @@ fn next_unit(units: &Units, number: u16) -> u16 {
 pub(crate) fn message_for_controller(message: &[u8], units: &Units) -> ArrayVec<u8, 64>
     requires short { 12 ≤ length message.now }
     requires long { length message.now ≤ 64 }
+    ensures { result.items ≡ handed units.now message.now }
 {
     let mut bytes = ArrayVec::new();
     if message[8] == GET_UNIT_STATUS && two_at(message, 10) % 2 == NEXT_UNIT {

@@ -1,6 +1,14 @@
 // A port: its registers, and what it knows.
 
-ghost use Rattle.std.specs.Prelude.{◌≡◌, ◌↔◌, ◌≤◌, ◌<◌, IfSome};
+ghost use Rattle.std.specs.Prelude.{◌≡◌, ◌≢◌, ◌==◌, ◌⊎◌, ◌↔◌, ◌≤◌, ◌<◌, ◌+◌, ◌%◌, [], ℕ, nat_lt, Contains, if◌then◌else◌, true, false, IfErr, IfOk, IfSome, None, Some};
+ghost use Rattle.mscp_queue.specs.declared.name.Connection.TheVariants.{First};
+ghost use Rattle.mscp_control.specs.Holdings.{balance_of};
+ghost use Rattle.mscp_port.specs.declared.stage.Stage.TheVariants as stages;
+ghost use Rattle.mscp_port.specs.declared.task.Task.TheVariants as tasks;
+ghost use Rattle.mscp_port.specs.Areas.{rings_named};
+ghost use Rattle.mscp_port.specs.declared.buffers.Buffer.{Buffer as Kept};
+ghost use Rattle.mscp_port.specs.Ports.{Forgets, IsAsNew, in_hand};
+ghost use Rattle.mscp_port.specs.Registers.{shown};
 
 mod delivering;
 mod hearing;
@@ -14,7 +22,7 @@ pub use crate::port::watching::NoUnit;
 use crate::rings::Rings;
 use crate::stage::Stage;
 use crate::task::Task;
-use crate::volumes::Volume;
+use crate::volumes::{Volume, reset_all};
 use arrayvec::ArrayVec;
 use mscp_control::Controller;
 use mscp_queue::{Connection, Picker};
@@ -122,7 +130,9 @@ impl<K: Picker> Port<K> {
     }
 
     /// Forgets all that its host has said, in this stage.
-    fn forget_all(&mut self, stage: Stage) {
+    fn forget_all(&mut self, stage: Stage)
+        ensures { IsAsNew stage self.old self.new }
+    {
         self.controller.reset();
         self.untold = self.more;
         self.stage = stage;
@@ -137,27 +147,43 @@ impl<K: Picker> Port<K> {
         self.is_stalled = false;
         self.is_full = false;
         self.buffers.clear();
-        for volume in self.volumes.iter_mut() {
-            volume.reset();
-        }
+        reset_all(&mut self.volumes);
         self.flags = 0;
         self.timeout = HOST_TIMEOUT;
         self.left = HOST_TIMEOUT;
     }
 
     /// A fatal error: nothing goes on until the host writes IP.
-    fn die(&mut self, code: u16) {
+    fn die(&mut self, code: u16)
+        ensures { IsAsNew (stages.Dead code) self.old self.new }
+    {
         self.forget_all(Stage::Dead(code));
+    }
+
+    /// Whether it had a fatal error.
+    pub(crate) fn is_dead(&self) -> bool
+        ensures dead { (code : ℕ) → self.now.stage ≡ stages.Dead code → result ≡ true }
+    {
+        matches!(self.stage, Stage::Dead(_))
     }
 
     /// The host wrote IP, or its bus was reset: the port is as new, in the first step of its initialisation. The volumes
     /// stay where they are.
-    pub fn write_ip(&mut self) {
+    pub fn write_ip(&mut self)
+        ensures { IsAsNew stages.First self.old self.new }
+    {
         self.forget_all(Stage::First);
     }
 
     /// The host read IP, which shows 0: the port is to look at the ring of commands.
-    pub fn read_ip(&mut self) {
+    pub fn read_ip(&mut self)
+        ensures up { self.old.stage ≡ stages.Up → self.new ≡ record self.old { is_polled = true; is_full = false } }
+        ensures probed { self.old.stage ≡ stages.Probing → self.old.rings ≢ None
+            → self.new ≡ record self.old { stage = stages.Clearing; task = tasks.Clear 0 } }
+        ensures nowhere { self.old.stage ≡ stages.Probing → self.old.rings ≡ None
+            → IsAsNew (stages.Dead 7) self.old self.new }
+        ensures elsewhere { self.old.stage ≢ stages.Up → self.old.stage ≢ stages.Probing → self.new ≡ self.old }
+    {
         match self.stage {
             Stage::Up => {
                 self.is_polled = true;
@@ -169,7 +195,9 @@ impl<K: Picker> Port<K> {
     }
 
     /// What SA shows.
-    pub fn read_sa(&self) -> u16 {
+    pub fn read_sa(&self) -> u16
+        ensures { result ≡ shown self.now.hardware self.now.words.first self.now.stage }
+    {
         match self.stage {
             Stage::First => self.hardware.first_step(),
             Stage::Wrapped(word) => word,
@@ -177,12 +205,29 @@ impl<K: Picker> Port<K> {
             Stage::Third | Stage::Clearing => 0x2000 + self.words.first % 0x100,
             Stage::Purging | Stage::Probing | Stage::Up => 0,
             Stage::Last => self.hardware.last_step(),
-            Stage::Dead(code) => 0x8000 | code,
+            Stage::Dead(code) => 0x8000 + code % 0x8000,
         }
     }
 
     /// The host wrote this word to SA.
-    pub fn write_sa(&mut self, word: u16) {
+    pub fn write_sa(&mut self, word: u16)
+        ensures first { self.old.stage ≡ stages.First
+            → self.new ≡ (if nat_lt word 0x8000 then self.old else record self.old { written = Some word }) }
+        ensures second { self.old.stage ≡ stages.Second → self.new ≡ record self.old { written = Some word } }
+        ensures third { self.old.stage ≡ stages.Third → self.new ≡ record self.old { written = Some word } }
+        ensures wrapped { (other : ℕ) → self.old.stage ≡ stages.Wrapped other
+            → self.new ≡ record self.old { stage = stages.Wrapped word } }
+        ensures purged { self.old.stage ≡ stages.Purging → word ≡ 0
+            → self.new ≡ record self.old { stage = stages.Probing } }
+        ensures not_purged { self.old.stage ≡ stages.Purging → word ≢ 0
+            → IsAsNew (stages.Dead 21) self.old self.new }
+        ensures last { self.old.stage ≡ stages.Last
+            → self.new ≡ (if word % 2 == 1 then record self.old { stage = stages.Up } else self.old) }
+        ensures probing { self.old.stage ≡ stages.Probing → self.new ≡ self.old }
+        ensures clearing { self.old.stage ≡ stages.Clearing → self.new ≡ self.old }
+        ensures up { self.old.stage ≡ stages.Up → self.new ≡ self.old }
+        ensures dead { (code : ℕ) → self.old.stage ≡ stages.Dead code → self.new ≡ self.old }
+    {
         match self.stage {
             Stage::First if word < ANSWERED => {}
             Stage::First | Stage::Second | Stage::Third => self.written = Some(word),
@@ -196,7 +241,13 @@ impl<K: Picker> Port<K> {
     }
 
     /// The step is taken that the host has answered by a word.
-    fn take_step(&mut self, word: u16) {
+    fn take_step(&mut self, word: u16)
+        ensures named { (self.new.rings ≡ self.old.rings)
+            ⊎ (self.new.rings ≡ rings_named self.old.words.first self.old.words.second word)
+            ⊎ (self.new.rings ≡ None) }
+        ensures buffers { (b : Kept) → Contains self.new.buffers.items b → Contains self.old.buffers.items b }
+        ensures packet { in_hand self.old.task ≡ None → in_hand self.new.task ≡ None }
+    {
         match self.stage {
             Stage::First if word / WRAP % 2 == 1 => self.stage = Stage::Wrapped(word),
             Stage::First => {
@@ -213,7 +264,10 @@ impl<K: Picker> Port<K> {
     }
 
     /// The next step of the initialisation begins, and the host hears of it if it wants to.
-    fn enter(&mut self, stage: Stage) {
+    fn enter(&mut self, stage: Stage)
+        ensures frame { self.new ≡ record self.old { stage = stage; task = self.new.task } }
+        ensures packet { in_hand self.old.task ≡ None → in_hand self.new.task ≡ None }
+    {
         self.stage = stage;
         if self.words.first / 0x80 % 2 == 1 && self.vector() != 0 {
             self.task = Task::Interrupt;
@@ -226,7 +280,12 @@ impl<K: Picker> Port<K> {
     }
 
     /// The communication area is known, with its third word.
-    fn name_area(&mut self, third: u16) {
+    fn name_area(&mut self, third: u16)
+        ensures named { (self.new.rings ≡ rings_named self.old.words.first self.old.words.second third)
+            ⊎ (self.new.rings ≡ None) }
+        ensures buffers { (b : Kept) → Contains self.new.buffers.items b → Contains self.old.buffers.items b }
+        ensures packet { in_hand self.old.task ≡ None → in_hand self.new.task ≡ None }
+    {
         self.rings = Rings::named(self.words.first, self.words.second, third);
         if third >= PROBE {
             self.stage = Stage::Purging;
@@ -241,7 +300,13 @@ impl<K: Picker> Port<K> {
     }
 
     /// The communication area is to be cleared.
-    fn begin_to_clear(&mut self) {
+    fn begin_to_clear(&mut self)
+        ensures some { self.old.rings ≢ None
+            → self.new ≡ record self.old { stage = stages.Clearing; task = tasks.Clear 0 } }
+        ensures none { self.old.rings ≡ None → IsAsNew (stages.Dead 7) self.old self.new }
+        ensures forgets { Forgets self.old self.new }
+        ensures packet { in_hand self.new.task ≡ None }
+    {
         match self.rings {
             Some(_) => {
                 self.stage = Stage::Clearing;

@@ -38,3 +38,10 @@ impl Volume {
         self.is_news = false;
     }
 }
+
+/// What a reset of the port leaves of the volumes.
+pub(crate) fn reset_all(volumes: &mut [Volume]) {
+    for volume in volumes.iter_mut() {
+        volume.reset();
+    }
+}

@@ -1,6 +1,8 @@
 // What goes out to the host, and how.
 
-ghost use Rattle.std.specs.Prelude.{◌≡◌, ◌≤◌, ◌<◌, ◌+◌};
+ghost use Rattle.std.specs.Prelude.{◌≡◌, ◌≤◌, ◌<◌, ◌⊎◌, Contains, IfSome};
+ghost use Rattle.mscp_port.specs.declared.buffers.Buffer.{Buffer as Kept};
+ghost use Rattle.mscp_port.specs.Ports.{Forgets, in_hand};
 ghost use Rattle.arrayvec.specs.ArrayVec.{array_vec_len};
 
 use crate::action::Outcome;
@@ -26,7 +28,14 @@ const MOST_MORE: u8 = 14;
 
 impl<K: Picker> Port<K> {
     /// Finds what goes out next: the oldest end, and else news of a volume.
-    pub(crate) fn find_outgoing(&mut self) {
+    pub(crate) fn find_outgoing(&mut self)
+        ensures { self.new ≡ record self.old {
+          controller = self.new.controller;
+          outgoing = self.new.outgoing;
+          is_stalled = self.new.is_stalled;
+          volumes = self.new.volumes;
+        } }
+    {
         if let Some(bytes) = self.controller.take(Connection::First) {
             self.is_stalled = false;
             self.outgoing = Some(Outgoing {
@@ -82,7 +91,9 @@ impl<K: Picker> Port<K> {
     }
 
     /// The next attention message, if a volume came. It isn't news any more.
-    fn news(&mut self) -> Option<Outgoing> {
+    fn news(&mut self) -> Option<Outgoing>
+        ensures { self.new ≡ record self.old { volumes = self.new.volumes } }
+    {
         let place = self.volumes.iter().position(|volume| volume.is_news)?;
         self.volumes[place].is_news = false;
         let unit = self.controller.config().units().list().get(place)?;
@@ -116,7 +127,10 @@ impl<K: Picker> Port<K> {
     }
 
     /// The packet was written.
-    pub(crate) fn written_out(&mut self, slot: Descriptor, outcome: Outcome) {
+    pub(crate) fn written_out(&mut self, slot: Descriptor, outcome: Outcome)
+        ensures forgets { Forgets self.old self.new }
+        ensures packet { IfSome (in_hand self.new.task) (λ word. word ≡ slot.word) }
+    {
         if outcome != Outcome::Done {
             return self.die(2);
         }
@@ -129,12 +143,22 @@ impl<K: Picker> Port<K> {
     }
 
     /// A step brought the end of a command: what is kept of it is heeded if it had Success, and forgotten.
-    pub(crate) fn command_ended(&mut self, end: &End) {
+    pub(crate) fn command_ended(&mut self, end: &End)
+        ensures frame { self.new ≡ record self.old { buffers = self.new.buffers; volumes = self.new.volumes } }
+        ensures buffers { (b : Kept) → Contains self.new.buffers.items b → Contains self.old.buffers.items b }
+    {
+        self.heed_end(end);
+        forget(&mut self.buffers, end.reference);
+    }
+
+    /// Heeds what is kept of a command that ended, if it had Success.
+    fn heed_end(&mut self, end: &End)
+        ensures { self.new ≡ record self.old { volumes = self.new.volumes } }
+    {
         if let (Some(place), 0) = (self.place_of(end.unit), end.status % 32) {
-            let buffer = find_buffer(self.buffers.as_slice(), end.reference).copied();
+            let buffer = find_buffer(self.buffers.as_slice(), end.reference);
             heed_unit(&mut self.volumes[place], end.code, buffer);
         }
-        forget(&mut self.buffers, end.reference);
     }
 }
 

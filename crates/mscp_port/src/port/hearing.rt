@@ -1,9 +1,20 @@
 // What the port reads in host memory.
 
-ghost use Rattle.std.specs.Prelude.{◌≡◌, ◌≤◌, ◌<◌, length};
+ghost use Rattle.std.specs.Prelude.{◌≡◌, ◌≢◌, ◌≤◌, ◌<◌, ◌⊎◌, ℕ, true, false, length, Bool, Contains, IfSome, IsErr, IsOk, OnErr, None, Some, Err};
+ghost use Rattle.mscp_queue.specs.declared.name.Connection.TheVariants.{First};
+ghost use Rattle.mscp_control.specs.Holdings.{after_message, answer_to_message};
+ghost use Rattle.mscp_control.specs.declared.event.SendFault.TheVariants as faults;
+ghost use Rattle.mscp_port.specs.declared.buffers.Buffer.{Buffer as Kept};
+ghost use Rattle.mscp_port.specs.declared.slot.Descriptor.{Descriptor};
+ghost use Rattle.mscp_port.specs.declared.stage.Stage.TheVariants as stages;
+ghost use Rattle.mscp_port.specs.declared.task.Task.TheVariants as tasks;
+ghost use Rattle.mscp_port.specs.Buffers.{buffer_in, without};
+ghost use Rattle.mscp_port.specs.Messages.{handed, own_end as end_of_own};
+ghost use Rattle.mscp_port.specs.Ports.{Forgets, IsAsNew, IsReadingText, Learns, in_hand};
+ghost use Rattle.mscp_port.specs.Slots.{is_owned};
 
 use crate::action::Unasked;
-use crate::buffers::{Buffer, forget};
+use crate::buffers::{Buffer, forget_aborted, keep};
 use crate::message::{SET_CONTROLLER, message_for_controller, own_end};
 use crate::port::{Outgoing, Port};
 use crate::rings::Side;
@@ -25,7 +36,26 @@ const UTILITIES: u32 = 2;
 
 impl<K: Picker> Port<K> {
     /// These bytes were read in host memory, as the port wanted. An error where it wanted no bytes, or not as many.
-    pub fn was_read(&mut self, bytes: &[u8]) -> Result<(), Unasked> {
+    pub fn was_read(&mut self, bytes: &[u8]) -> Result<(), Unasked>
+        ensures dead { (code : ℕ) → self.old.stage ≡ stages.Dead code → IsErr result }
+        ensures unasked { OnErr result (self.new ≡ self.old) }
+        ensures learns { Learns bytes.now self.old self.new }
+
+        // A message reaches the controller as its host wrote it, unless the port answers it itself.
+        ensures handed { (slot : Descriptor) (size : ℕ) (is_foreign : Bool) → self.old.task ≡ tasks.Text slot size is_foreign
+            → IsOk result → end_of_own is_foreign bytes.now ≡ None
+            → answer_to_message First self.old.controller (handed self.old.controller.settings.units bytes.now)
+            ≢ Err faults.Doubled
+            → self.new.controller
+            ≡ after_message First self.old.controller (handed self.old.controller.settings.units bytes.now) }
+        ensures own { (slot : Descriptor) (size : ℕ) (is_foreign : Bool) → self.old.task ≡ tasks.Text slot size is_foreign
+            → end_of_own is_foreign bytes.now ≢ None → self.new.controller ≡ self.old.controller }
+        ensures nothing_else { (IsReadingText self.old.task → ⊥) → (self.new.controller ≡ self.old.controller)
+            ⊎ ((code : ℕ) × IsAsNew (stages.Dead code) self.old self.new) }
+    {
+        if self.is_dead() {
+            return Err(Unasked);
+        }
         match self.task {
             Task::Slot(side) if bytes.len() == 4 => {
                 let word = four_at(bytes, 0);
@@ -48,7 +78,14 @@ impl<K: Picker> Port<K> {
     }
 
     /// The next slot of a ring. If it is the host's, there is nothing to do with the ring for now.
-    fn see_slot(&mut self, side: Side, slot: Descriptor) {
+    fn see_slot(&mut self, side: Side, slot: Descriptor)
+        ensures frame { self.new ≡ record self.old {
+          task = self.new.task;
+          is_full = self.new.is_full;
+          is_polled = self.new.is_polled;
+        } }
+        ensures packet { IfSome (in_hand self.new.task) (λ word. (word ≡ slot.word) × (is_owned word ≡ true)) }
+    {
         match side {
             Side::Responses if slot.is_owned() => self.task = Task::Packet(slot),
             Side::Commands if slot.is_owned() => self.task = Task::Header(slot),
@@ -65,7 +102,10 @@ impl<K: Picker> Port<K> {
 
     /// The slot in front of the one that was given back. If it is the port's, the ring of commands was full, or that of
     /// responses was empty, and the host hears of it.
-    fn see_neighbour(&mut self, side: Side, word: u32) {
+    fn see_neighbour(&mut self, side: Side, word: u32)
+        ensures frame { self.new ≡ record self.old { task = self.new.task } }
+        ensures packet { in_hand self.new.task ≡ None }
+    {
         let slot = Descriptor { word };
         self.task = if slot.is_owned() {
             Task::Word(side)
@@ -76,7 +116,12 @@ impl<K: Picker> Port<K> {
 
     /// The header of a command's packet: the length of its text in the low half, its type in bits 20 to 23, and its
     /// connection in the high byte.
-    fn see_header(&mut self, slot: Descriptor, header: u32) {
+    fn see_header(&mut self, slot: Descriptor, header: u32)
+        ensures forgets { Forgets self.old self.new }
+        ensures packet { IfSome (in_hand self.new.task) (λ word. word ≡ slot.word) }
+        ensures controller { (self.new.controller ≡ self.old.controller)
+            ⊎ ((code : ℕ) × IsAsNew (stages.Dead code) self.old self.new) }
+    {
         let length = header % 0x1_0000;
         let connection = header / 0x100_0000;
         if header / 0x10_0000 % 0x10 != 0 {
@@ -99,6 +144,20 @@ impl<K: Picker> Port<K> {
     fn see_text(&mut self, slot: Descriptor, is_foreign: bool, message: &[u8])
         requires short { 12 ≤ length message.now }
         requires long { length message.now ≤ 64 }
+        ensures own { end_of_own is_foreign message.now ≢ None → self.new.controller ≡ self.old.controller }
+        ensures handed { end_of_own is_foreign message.now ≡ None
+            → answer_to_message First self.old.controller (handed self.old.controller.settings.units message.now)
+            ≢ Err faults.Doubled
+            → self.new.controller
+            ≡ after_message First self.old.controller (handed self.old.controller.settings.units message.now) }
+        ensures doubled { end_of_own is_foreign message.now ≡ None
+            → answer_to_message First self.old.controller (handed self.old.controller.settings.units message.now)
+            ≡ Err faults.Doubled
+            → IsAsNew (stages.Dead 1) self.old self.new }
+        ensures rings { (self.new.rings ≡ self.old.rings) ⊎ (self.new.rings ≡ None) }
+        ensures packet { IfSome (in_hand self.new.task) (λ word. word ≡ slot.word) }
+        ensures kept { (b : Kept) → Contains self.new.buffers.items b → Contains self.old.buffers.items b
+            ⊎ ((changes : ℕ) × (b ≡ buffer_in message.now changes)) }
     {
         self.left = self.timeout;
         self.task = Task::Return(Side::Commands, slot);
@@ -115,7 +174,9 @@ impl<K: Picker> Port<K> {
     }
 
     /// The command stays in its slot until a credit is free, or what goes out has gone.
-    fn stall(&mut self) {
+    fn stall(&mut self)
+        ensures { self.new ≡ record self.old { is_stalled = true; task = tasks.Free } }
+    {
         self.is_stalled = true;
         self.task = Task::Free;
     }
@@ -124,37 +185,54 @@ impl<K: Picker> Port<K> {
     fn send(&mut self, message: &[u8])
         requires short { 12 ≤ length message.now }
         requires long { length message.now ≤ 64 }
+        ensures handed { answer_to_message First self.old.controller (handed self.old.controller.settings.units message.now)
+            ≢ Err faults.Doubled
+            → self.new.controller
+            ≡ after_message First self.old.controller (handed self.old.controller.settings.units message.now) }
+        ensures doubled { answer_to_message First self.old.controller (handed self.old.controller.settings.units message.now)
+            ≡ Err faults.Doubled
+            → IsAsNew (stages.Dead 1) self.old self.new }
+        ensures rings { (self.new.rings ≡ self.old.rings) ⊎ (self.new.rings ≡ None) }
+        ensures task { (self.new.task ≡ self.old.task) ⊎ (self.new.task ≡ tasks.Free) }
+        ensures kept { (b : Kept) → Contains self.new.buffers.items b → Contains self.old.buffers.items b
+            ⊎ ((changes : ℕ) × (b ≡ buffer_in message.now changes)) }
     {
         let sent = message_for_controller(message, self.controller.config().units());
         match self.controller.send(Connection::First, &sent) {
             Ok(Sent::Queued(_)) => self.keep(message),
             Ok(Sent::Answered { aborted, .. }) => {
-                if let Some(reference) = aborted {
-                    forget(&mut self.buffers, reference);
-                }
+                forget_aborted(&mut self.buffers, aborted);
                 self.heed(message);
             }
-            Err(SendFault::NoCredit | SendFault::LastCredit) => self.stall(),
-            // A number in use, or bytes that are no message.
-            Err(SendFault::Doubled | SendFault::Short | SendFault::Long) => self.die(1),
+            // A number in use.
+            Err(SendFault::Doubled) => self.die(1),
+            // Its length was judged by its header, so a credit is wanting.
+            Err(_) => self.stall(),
         }
     }
 
     /// Keeps what a message says that the controller doesn't read.
     fn keep(&mut self, message: &[u8])
         requires short { 12 ≤ length message.now }
+        ensures frame { self.new ≡ record self.old { buffers = self.new.buffers } }
+        ensures kept { (b : Kept) → Contains self.new.buffers.items b → Contains self.old.buffers.items b
+            ⊎ ((changes : ℕ) × (b ≡ buffer_in message.now changes)) }
     {
         let changes = match self.place_of(two_at(message, 4)) {
             Some(place) => self.volumes[place].changes,
             None => 0,
         };
-        // There is room, since at most 63 commands wait.
-        let _ = self.buffers.try_push(Buffer::of(message, changes));
+        keep(&mut self.buffers, Buffer::of(message, changes));
     }
 
     /// Heeds what the host sets of its controller: flags, and its own timeout.
     fn heed(&mut self, message: &[u8])
         requires short { 12 ≤ length message.now }
+        ensures { self.new ≡ record self.old {
+          flags = self.new.flags;
+          timeout = self.new.timeout;
+          left = self.new.left;
+        } }
     {
         if message[8] == SET_CONTROLLER && message.len() >= 18 && two_at(message, 12) == 0 {
             self.flags = two_at(message, 14);

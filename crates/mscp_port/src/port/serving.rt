@@ -1,6 +1,7 @@
 // How blocks are moved.
 
-ghost use Rattle.std.specs.Prelude.{◌≡◌, ◌≤◌, ◌<◌, ◌%◌, IfSome};
+ghost use Rattle.std.specs.Prelude.{◌≡◌, ◌≤◌, ◌%◌, IfSome, None};
+ghost use Rattle.mscp_port.specs.Ports.{Forgets, in_hand};
 
 use crate::action::Outcome;
 use crate::buffers::{Buffer, Job, find_buffer};
@@ -86,7 +87,9 @@ fn refusal(kind: MoveKind, buffer: &Buffer, volume: &Volume) -> Option<u16>
 }
 
 /// What is done first for a step of a transfer: the bytes of host memory are fetched, or the block is moved.
-fn first_task(job: Job) -> Task {
+fn first_task(job: Job) -> Task
+    ensures { in_hand result ≡ None }
+{
     match job.kind {
         MoveKind::Compare | MoveKind::Write => Task::Fetch(job),
         MoveKind::Access | MoveKind::Erase | MoveKind::Read => Task::Transfer(job),
@@ -94,7 +97,9 @@ fn first_task(job: Job) -> Task {
 }
 
 /// What is to be done for a step of a command, of whose message this is kept, and whose unit has this volume.
-fn task_for(upcoming: &Upcoming, buffer: &Buffer, volume: &Volume) -> Task {
+fn task_for(upcoming: &Upcoming, buffer: &Buffer, volume: &Volume) -> Task
+    ensures { in_hand result ≡ None }
+{
     let command = &upcoming.command;
     let step = |block| Task::Step(upcoming.connection, command.reference, block);
     if matches!(command.order, Order::Available) {
@@ -126,12 +131,15 @@ fn task_for(upcoming: &Upcoming, buffer: &Buffer, volume: &Volume) -> Task {
 
 impl<K: Picker> Port<K> {
     /// What is to be done for the next step of a command, if one waits.
-    pub(crate) fn choose_block(&mut self) -> Task {
+    pub(crate) fn choose_block(&mut self) -> Task
+        ensures frame { self.new ≡ record self.old { controller = self.new.controller } }
+        ensures packet { in_hand result ≡ None }
+    {
         let Some(upcoming) = self.controller.begin() else {
             return Task::Free;
         };
         let command = upcoming.command;
-        let buffer = find_buffer(self.buffers.as_slice(), command.reference).copied();
+        let buffer = find_buffer(self.buffers.as_slice(), command.reference);
         match (self.place_of(command.unit), buffer) {
             (Some(place), Some(buffer)) => task_for(&upcoming, &buffer, &self.volumes[place]),
             _ => Task::Step(upcoming.connection, command.reference, bad(DRIVE_ERROR)),
@@ -139,7 +147,10 @@ impl<K: Picker> Port<K> {
     }
 
     /// The step of a command is taken, whose block had this outcome.
-    pub(crate) fn finish(&mut self, connection: Connection, reference: u32, block: Block) {
+    pub(crate) fn finish(&mut self, connection: Connection, reference: u32, block: Block)
+        ensures forgets { Forgets self.old self.new }
+        ensures packet { in_hand self.new.task ≡ None }
+    {
         self.task = Task::Free;
         if let Ok(
             Report::Served {
@@ -153,13 +164,19 @@ impl<K: Picker> Port<K> {
     }
 
     /// A step of which nothing is kept ends its command: its buffer is not known.
-    pub(crate) fn lost(&mut self, job: Job) {
+    pub(crate) fn lost(&mut self, job: Job)
+        ensures forgets { Forgets self.old self.new }
+        ensures packet { in_hand self.new.task ≡ None }
+    {
         self.finish(job.connection, job.reference, bad(DRIVE_ERROR));
     }
 
     /// A part of a step was done: the host's bytes are fetched, then the block is moved, and what was read goes to the host.
     /// A fault ends the command.
-    pub(crate) fn moved(&mut self, job: Job, outcome: Outcome) {
+    pub(crate) fn moved(&mut self, job: Job, outcome: Outcome)
+        ensures forgets { Forgets self.old self.new }
+        ensures packet { in_hand self.new.task ≡ None }
+    {
         match self.task {
             Task::Fetch(_) if outcome == Outcome::Done => self.task = Task::Transfer(job),
             Task::Transfer(_) if outcome == Outcome::Done && job.kind == MoveKind::Read => {

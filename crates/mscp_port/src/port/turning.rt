@@ -1,9 +1,17 @@
 // What the port wants done.
 
-ghost use Rattle.std.specs.Prelude.{◌≡◌, ◌≤◌, ◌<◌, ◌^◌};
+ghost use Rattle.std.specs.Prelude.{◌≡◌, ◌≢◌, ◌≤◌, ◌<◌, ◌⊎◌, ◌^◌, ℕ, length, Contains, IfSome, IsErr, IsSomeAnd, OnErr, None, Some};
+ghost use Rattle.arrayvec.specs.ArrayVec.{array_vec_len};
+ghost use Rattle.mscp_port.specs.declared.action.Action.TheVariants as actions;
+ghost use Rattle.mscp_port.specs.declared.buffers.Buffer.{Buffer as Kept};
+ghost use Rattle.mscp_port.specs.declared.stage.Stage.TheVariants as stages;
+ghost use Rattle.mscp_port.specs.declared.task.Task.TheVariants as tasks;
+ghost use Rattle.mscp_port.specs.Areas.{IsInArea, rings_named};
+ghost use Rattle.mscp_port.specs.Buffers.{IsInBuffer};
+ghost use Rattle.mscp_port.specs.Ports.{Forgets, IsAsNew, IsInSomeBuffer, IsWithin, in_hand};
 
 use crate::action::{Action, Outcome, Unasked};
-use crate::buffers::{Job, find_buffer};
+use crate::buffers::{Buffer, Job, find_buffer};
 use crate::port::Port;
 use crate::rings::{Rings, Side};
 use crate::slot::Descriptor;
@@ -12,6 +20,9 @@ use crate::task::Task;
 use arrayvec::ArrayVec;
 use mscp_packet::fields::{put, put_four, put_two};
 use mscp_queue::Picker;
+
+/// The most bytes of a packet's text.
+const LONGEST: u32 = 64;
 
 /// The bytes of a packet's header, which stands in front of its text.
 const HEADER: u32 = 4;
@@ -25,6 +36,7 @@ const AREA: u32 = 2048;
 /// So many zeros.
 fn zeros(count: u32) -> ArrayVec<u8, 64>
     requires { count ≤ 64 }
+    ensures { length result.items ≡ count }
 {
     let mut bytes = ArrayVec::new();
     put(&mut bytes, &[0; 64][..count as usize]);
@@ -32,14 +44,18 @@ fn zeros(count: u32) -> ArrayVec<u8, 64>
 }
 
 /// What an interrupt word is written with.
-fn interrupt_word() -> ArrayVec<u8, 64> {
+fn interrupt_word() -> ArrayVec<u8, 64>
+    ensures { length result.items ≡ 2 }
+{
     let mut bytes = ArrayVec::new();
     put_two(&mut bytes, 1);
     bytes
 }
 
 /// The descriptor of a slot that is given back.
-fn descriptor(slot: &Descriptor) -> ArrayVec<u8, 64> {
+fn descriptor(slot: &Descriptor) -> ArrayVec<u8, 64>
+    ensures { length result.items ≡ 4 }
+{
     let mut bytes = ArrayVec::new();
     put_four(&mut bytes, slot.given_back());
     bytes
@@ -48,6 +64,7 @@ fn descriptor(slot: &Descriptor) -> ArrayVec<u8, 64> {
 /// A slot of a ring is to be read.
 fn slot_wanted(rings: &Rings, side: Side, number: u32) -> Action
     requires { number < 2 ^ 31 }
+    ensures { (at : ℕ) × (result ≡ actions.Read at 4) × IsInArea rings.now at 4 }
 {
     Action::Read {
         address: rings.slot(side, number),
@@ -63,9 +80,25 @@ fn number_before(rings: &Rings, side: Side, number: u32) -> u32
     number + 2 * rings.slots(side) - 2
 }
 
+/// The part of the buffer that is kept of a step's command.
+fn part_in(buffers: &[Buffer], job: &Job) -> Option<(u32, u32)>
+    ensures { IfSome result (λ part. (b : Kept) × Contains buffers.now b × IsInBuffer b part.0 part.1) }
+{
+    find_buffer(buffers, job.reference)?.part(job.done)
+}
+
 impl<K: Picker> Port<K> {
     /// What the port wants done next. Until it is told how that went it answers the same, unless a register is touched.
-    pub fn next(&mut self) -> Action {
+    pub fn next(&mut self) -> Action
+        ensures within { IsWithin self.new result }
+        ensures forgets { Forgets self.old self.new }
+        ensures packet { IfSome (in_hand self.new.task) (λ word. in_hand self.old.task ≡ Some word) }
+        ensures dead { (code : ℕ) → self.old.stage ≡ stages.Dead code
+            → (result ≡ actions.Rest) × (self.new ≡ self.old) }
+    {
+        if self.is_dead() {
+            return Action::Rest;
+        }
         if self.task == Task::Free {
             self.task = self.choose();
         }
@@ -73,7 +106,10 @@ impl<K: Picker> Port<K> {
     }
 
     /// What it takes in hand.
-    fn choose(&mut self) -> Task {
+    fn choose(&mut self) -> Task
+        ensures forgets { Forgets self.old self.new }
+        ensures packet { in_hand result ≡ None }
+    {
         if self.written.is_some() {
             return Task::Settle;
         }
@@ -84,7 +120,10 @@ impl<K: Picker> Port<K> {
     }
 
     /// What it takes in hand while the rings are in use: what goes out, what comes in, and then a block.
-    fn choose_work(&mut self) -> Task {
+    fn choose_work(&mut self) -> Task
+        ensures forgets { Forgets self.old self.new }
+        ensures packet { in_hand result ≡ None }
+    {
         if self.outgoing.is_none() {
             self.find_outgoing();
         }
@@ -98,14 +137,16 @@ impl<K: Picker> Port<K> {
     }
 
     /// What is wanted for what it has in hand.
-    fn action(&self) -> Action {
+    fn action(&self) -> Action
+        ensures { IsWithin self.now result }
+    {
         match (self.task, self.rings) {
             (Task::Free, _) => Action::Rest,
             (Task::Interrupt, _) => Action::Interrupt(self.vector()),
             (Task::Header(slot), _) => self.header_wanted(slot),
             (Task::Text { slot, length, .. }, _) => Action::Read {
                 address: slot.text(),
-                count: length,
+                count: length.min(LONGEST),
             },
             (Task::Packet(slot), _) => self.packet_wanted(slot),
             (Task::Clear(done), Some(rings)) => self.clearing(&rings, done),
@@ -138,7 +179,10 @@ impl<K: Picker> Port<K> {
     }
 
     /// The header of a command is to be read.
-    fn header_wanted(&self, slot: Descriptor) -> Action {
+    fn header_wanted(&self, slot: Descriptor) -> Action
+        requires { in_hand self.now.task ≡ Some slot.word }
+        ensures { IsWithin self.now result }
+    {
         Action::Read {
             address: slot.text().saturating_sub(HEADER),
             count: HEADER,
@@ -146,7 +190,10 @@ impl<K: Picker> Port<K> {
     }
 
     /// The packet of what goes out is to be written.
-    fn packet_wanted(&self, slot: Descriptor) -> Action {
+    fn packet_wanted(&self, slot: Descriptor) -> Action
+        requires { in_hand self.now.task ≡ Some slot.word }
+        ensures { IsWithin self.now result }
+    {
         Action::Write {
             address: slot.text().saturating_sub(HEADER),
             bytes: self.packet(),
@@ -154,16 +201,21 @@ impl<K: Picker> Port<K> {
     }
 
     /// The next bytes of the communication area are to be cleared.
-    fn clearing(&self, rings: &Rings, done: u32) -> Action {
-        let from = rings.start(self.has_purge_word()) + done % AREA;
+    fn clearing(&self, rings: &Rings, done: u32) -> Action
+        requires { self.now.rings ≡ Some rings.now }
+        ensures { IsWithin self.now result }
+    {
+        let from = (rings.start(self.has_purge_word()) + done % AREA).min(rings.end());
         Action::Write {
             address: from,
-            bytes: zeros(rings.end().saturating_sub(from).min(CLEARED)),
+            bytes: zeros((rings.end() - from).min(CLEARED)),
         }
     }
 
     /// A part of the buffer of a command is to be moved, or its block.
-    fn moving(&self, job: &Job) -> Action {
+    fn moving(&self, job: &Job) -> Action
+        ensures { IsWithin self.now result }
+    {
         match (self.task, self.part(job)) {
             (Task::Fetch(_), Some((address, count))) => Action::Fetch { address, count },
             (Task::Store(_), Some((address, count))) => Action::Store { address, count },
@@ -178,13 +230,26 @@ impl<K: Picker> Port<K> {
     }
 
     /// The part of a command's buffer that a step is about.
-    fn part(&self, job: &Job) -> Option<(u32, u32)> {
-        find_buffer(self.buffers.as_slice(), job.reference)?.part(job.done)
+    fn part(&self, job: &Job) -> Option<(u32, u32)>
+        ensures { IfSome result (λ part. IsInSomeBuffer self.now part.0 part.1) }
+    {
+        part_in(self.buffers.as_slice(), job)
     }
 
     /// An action that isn't a read went so; or a read failed so. An error where nothing was wanted, or where a read is told
     /// to be done without its bytes.
-    pub fn went(&mut self, outcome: Outcome) -> Result<(), Unasked> {
+    pub fn went(&mut self, outcome: Outcome) -> Result<(), Unasked>
+        ensures dead { (code : ℕ) → self.old.stage ≡ stages.Dead code → IsErr result }
+        ensures unasked { OnErr result (self.new ≡ self.old) }
+        ensures rings { (self.new.rings ≡ self.old.rings) ⊎ (self.new.rings ≡ None)
+            ⊎ ((word : ℕ) × (self.old.written ≡ Some word)
+            × (self.new.rings ≡ rings_named self.old.words.first self.old.words.second word)) }
+        ensures buffers { (b : Kept) → Contains self.new.buffers.items b → Contains self.old.buffers.items b }
+        ensures packet { IfSome (in_hand self.new.task) (λ word. in_hand self.old.task ≡ Some word) }
+    {
+        if self.is_dead() {
+            return Err(Unasked);
+        }
         if self.task == Task::Free || (self.is_reading() && outcome == Outcome::Done) {
             return Err(Unasked);
         }
@@ -218,7 +283,10 @@ impl<K: Picker> Port<K> {
     }
 
     /// A part of a step was done, if what is kept of its command says what part.
-    fn move_on(&mut self, job: Job, outcome: Outcome) {
+    fn move_on(&mut self, job: Job, outcome: Outcome)
+        ensures forgets { Forgets self.old self.new }
+        ensures packet { in_hand self.new.task ≡ None }
+    {
         match self.part(&job) {
             Some(_) => self.moved(job, outcome),
             None => self.lost(job),
@@ -226,7 +294,13 @@ impl<K: Picker> Port<K> {
     }
 
     /// The machine went on a little since the host answered a step.
-    fn settled(&mut self) {
+    fn settled(&mut self)
+        ensures rings { (self.new.rings ≡ self.old.rings) ⊎ (self.new.rings ≡ None)
+            ⊎ ((word : ℕ) × (self.old.written ≡ Some word)
+            × (self.new.rings ≡ rings_named self.old.words.first self.old.words.second word)) }
+        ensures buffers { (b : Kept) → Contains self.new.buffers.items b → Contains self.old.buffers.items b }
+        ensures packet { in_hand self.new.task ≡ None }
+    {
         self.task = Task::Free;
         if let Some(word) = self.written.take() {
             self.take_step(word);
@@ -234,7 +308,10 @@ impl<K: Picker> Port<K> {
     }
 
     /// A part of the communication area was cleared, behind so many bytes.
-    fn cleared(&mut self, done: u32, outcome: Outcome) {
+    fn cleared(&mut self, done: u32, outcome: Outcome)
+        ensures forgets { Forgets self.old self.new }
+        ensures packet { in_hand self.new.task ≡ None }
+    {
         let Some(rings) = self.rings else {
             return self.die(7);
         };
@@ -251,7 +328,10 @@ impl<K: Picker> Port<K> {
     }
 
     /// The next slot of a ring was given back.
-    fn returned(&mut self, side: Side, slot: Descriptor, outcome: Outcome) {
+    fn returned(&mut self, side: Side, slot: Descriptor, outcome: Outcome)
+        ensures forgets { Forgets self.old self.new }
+        ensures packet { in_hand self.new.task ≡ None }
+    {
         let Some(rings) = self.rings else {
             return self.die(7);
         };
@@ -269,7 +349,14 @@ impl<K: Picker> Port<K> {
     }
 
     /// Counts a slot of a ring that was given back. What went out is gone.
-    fn count(&mut self, side: Side) {
+    fn count(&mut self, side: Side)
+        ensures { self.new ≡ record self.old {
+          responses = self.new.responses;
+          commands = self.new.commands;
+          outgoing = self.new.outgoing;
+          is_stalled = self.new.is_stalled;
+        } }
+    {
         match side {
             Side::Responses => {
                 self.responses = self.responses.wrapping_add(1);
@@ -281,7 +368,10 @@ impl<K: Picker> Port<K> {
     }
 
     /// The interrupt word was written: the host is interrupted, if it wants that.
-    fn interrupt(&mut self) {
+    fn interrupt(&mut self)
+        ensures frame { self.new ≡ record self.old { task = self.new.task } }
+        ensures packet { in_hand self.new.task ≡ None }
+    {
         self.task = if self.vector() == 0 {
             Task::Free
         } else {

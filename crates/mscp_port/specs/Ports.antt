@@ -1,0 +1,97 @@
+-- What a port knows of its host's memory, and what it may touch there.
+use Rattle.std.specs.Prelude.{◌≡◌, ◌≢◌, ℕ, ◌+◌, ◌-◌, ◌%◌, ◌≤◌, ◌⊎◌, Bool, true, false, List, [], length, Contains, IfSome, IsSomeAnd, Option, None, Some}
+use Rattle.mscp_queue.specs.declared.name.Connection.TheVariants.{First}
+use Rattle.mscp_control.specs.Holdings.{fresh}
+use Rattle.mscp_packet.specs.Number.{num}
+use Rattle.mscp_port.specs.declared.action.Action.{Action}
+use Rattle.mscp_port.specs.declared.action.Action.TheVariants as actions
+use Rattle.mscp_port.specs.declared.buffers.Buffer.{Buffer}
+use Rattle.mscp_port.specs.declared.port.Port.{Port}
+use Rattle.mscp_port.specs.declared.stage.Stage.{Stage}
+use Rattle.mscp_port.specs.declared.stage.Stage.TheVariants as stages
+use Rattle.mscp_port.specs.declared.task.Task.{Task}
+use Rattle.mscp_port.specs.declared.task.Task.TheVariants as tasks
+use Rattle.mscp_port.specs.Areas.{Rings, IsInArea}
+use Rattle.mscp_port.specs.Buffers.{buffer_in, IsInBuffer}
+use Rattle.mscp_port.specs.Slots.{is_owned, text_of}
+
+-- ---- what is forgotten
+
+-- all that the host has said is forgotten, and the port is in this stage
+pub record IsAsNew {K : Type 0} (in_stage : Stage) (old new : Port K) : Type 0 where
+  pub stage : new.stage ≡ in_stage
+  pub hardware : new.hardware ≡ old.hardware
+  -- nothing waits, and no end is left
+  pub controller : new.controller ≡ fresh old.controller.settings old.controller.picker
+  -- no rings, no word, no buffer, and nothing in hand
+  pub rings : new.rings ≡ None
+  pub written : new.written ≡ None
+  pub buffers : new.buffers.items ≡ []
+  pub task : new.task ≡ tasks.Free
+  pub outgoing : new.outgoing ≡ None
+  pub polled : new.is_polled ≡ false
+  -- each slot is to be given back anew, and each credit to be told anew
+  pub responses : new.responses ≡ 0
+  pub commands : new.commands ≡ 0
+  pub more : new.more ≡ old.more
+  pub untold : new.untold ≡ old.more
+
+-- ---- what is known
+
+-- the descriptor of the slot whose packet is in hand, if one is
+abbrev pub in_hand : Task → Option ℕ
+in_hand (tasks.Header slot) = Some slot.word
+in_hand (tasks.Text slot length foreign) = Some slot.word
+in_hand (tasks.Packet slot) = Some slot.word
+in_hand (tasks.Return side slot) = Some slot.word
+in_hand task = None
+
+-- it reads a slot of a ring
+abbrev pub IsReadingSlot : Task → Type 0
+IsReadingSlot (tasks.Slot side) = Unit {0}
+IsReadingSlot task = ⊥
+
+-- it reads the text of a command
+abbrev pub IsReadingText : Task → Type 0
+IsReadingText (tasks.Text slot length foreign) = Unit {0}
+IsReadingText task = ⊥
+
+-- what the port knows of its host's memory it knew before: of its rings and its buffers it learns nothing
+pub record Forgets {K : Type 0} (old new : Port K) : Type 0 where
+  pub rings : (new.rings ≡ old.rings) ⊎ (new.rings ≡ None)
+  pub buffers : (b : Buffer) → Contains new.buffers.items b → Contains old.buffers.items b
+
+-- what the port knows of its host's memory is what it knew, and what these bytes say that it wanted: the descriptor of a
+-- slot that is the port's, or the buffer in the text of a command
+pub record Learns {K : Type 0} (bytes : List ℕ) (old new : Port K) : Type 0 where
+  pub rings : (new.rings ≡ old.rings) ⊎ (new.rings ≡ None)
+  pub packet : IfSome (in_hand new.task) (λ word. (in_hand old.task ≡ Some word)
+      ⊎ (IsReadingSlot old.task × (word ≡ num bytes 0 4) × (is_owned word ≡ true)))
+  pub buffers : (b : Buffer) → Contains new.buffers.items b → Contains old.buffers.items b
+      ⊎ (IsReadingText old.task × (changes : ℕ) × (b ≡ buffer_in bytes changes))
+
+-- ---- what may be touched
+
+-- so many bytes from an address on are of the packet of this descriptor: a header of 4 bytes, and up to 64 of text
+pub record IsInPacket (word address count : ℕ) : Type 0 where
+  pub from : text_of word - 4 ≤ address
+  pub to : address + count ≤ text_of word + 64
+
+-- so many bytes from an address on lie in the communication area, or are of the packet in hand
+abbrev pub IsInRingsOrPacket : {K : Type 0} → Port K → ℕ → ℕ → Type 0
+IsInRingsOrPacket p address count =
+    IsSomeAnd p.rings (λ r. IsInArea r address count)
+    ⊎ IsSomeAnd (in_hand p.task) (λ word. IsInPacket word address count)
+
+-- so many bytes from an address on lie in the buffer of a command that waits
+abbrev pub IsInSomeBuffer : {K : Type 0} → Port K → ℕ → ℕ → Type 0
+IsInSomeBuffer p address count = (b : Buffer) × Contains p.buffers.items b × IsInBuffer b address count
+
+-- each action touches only memory that the port knows: its own words go to the communication area and to packets, and the
+-- bytes of transfers to the buffers of commands and from them
+abbrev pub IsWithin : {K : Type 0} → Port K → Action → Type 0
+IsWithin p (actions.Read address count) = IsInRingsOrPacket p address count
+IsWithin p (actions.Write address bytes) = IsInRingsOrPacket p address (length bytes.items)
+IsWithin p (actions.Fetch address count) = IsInSomeBuffer p address count
+IsWithin p (actions.Store address count) = IsInSomeBuffer p address count
+IsWithin p action = Unit {0}
