@@ -215,9 +215,27 @@ module _ (earlier earlier' : ℕ → ℕ) (n : ℕ) (clear : (s : ℕ) → IsSet
                 (ends false (eq_false s n d)) rest,
           )
 
-masks_without : (kinds : ℕ → Kind) (order : List ℕ) (m m' : Masks) (n : ℕ) → AreMasks kinds order m → HasLeft n m m'
-    → AreMasks kinds (without n order) m'
-masks_without kinds order m m' n masks l = record {
+-- where nobody waits, nobody came earlier
+none_earlier : (m : ℕ) (earlier : ℕ → ℕ) (order : List ℕ) → m ≡ 0 → AreSlots order → IsMaskOf m (λ k. has k order)
+    → AreEarlier earlier [] order
+none_earlier m earlier [] e a is = tt
+none_earlier m earlier (s ∷ order) e a is =
+    let bad = sym (is s a.0 ∙ ap (λ b. bit (b || has s order)) (eq_true s s refl))
+    ∙ ap (λ m. bit_at m s) e ∙ bit_at-zero s in
+    absurd (omega (arith, bad))
+
+earlier_kept : (kinds : ℕ → Kind) (order : List ℕ) (m m' : Masks) (n drive : ℕ) → AreMasks kinds order m
+    → HasLeft n drive m m' → AreSlots (without n order) → IsMaskOf m'.waiting (λ k. has k (without n order))
+    → AreEarlier (λ k. slice_index_or m'.earlier k 0) [] (without n order)
+earlier_kept kinds order m m' n drive masks l apart waits = by (same_or m'.waiting 0)
+  where
+    by : (m'.waiting ≡ 0) ⊎ (m'.waiting ≢ 0) → AreEarlier (λ k. slice_index_or m'.earlier k 0) [] (without n order)
+    by (inl e) = none_earlier m'.waiting _ (without n order) e apart waits
+    by (inr d) = earlier_left _ _ n (l.earlier d) [] order masks.of_earlier
+
+masks_without : (kinds : ℕ → Kind) (order : List ℕ) (m m' : Masks) (n : ℕ) → AreMasks kinds order m → n < 64
+    → HasLeft n (kinds n).drive m m' → AreMasks kinds (without n order) m'
+masks_without kinds order m m' n masks low l = record {
   apart = slots_left order n masks.apart;
   of_waiting = set_mask m.waiting m'.waiting n false _ _ l.waits masks.of_waiting (has_gone n order)
       (λ k d. has_kept k n order d);
@@ -230,11 +248,27 @@ masks_without kinds order m m' n masks l = record {
       (ap (λ b. b && (kinds n).serving) (has_gone n order))
       (λ k d. ap (λ b. b && (kinds k).serving) (has_kept k n order d));
   of_units = λ u.
-      set_mask (slice_index_or m.units u 0) (slice_index_or m'.units u 0) n false _ _ (l.units u) (masks.of_units u)
+      set_mask (slice_index_or m.units u 0) (slice_index_or m'.units u 0) n false _ _
+      (own_set u (same_or (kinds n).drive u)) (masks.of_units u)
       (ap (λ b. b && nat_eq (kinds n).drive u) (has_gone n order))
       (λ k d. ap (λ b. b && nat_eq (kinds k).drive u) (has_kept k n order d));
-  of_earlier = earlier_left _ _ n l.earlier [] order masks.of_earlier;
+  of_earlier = earlier_kept kinds order m m' n (kinds n).drive masks l (slots_left order n masks.apart)
+      (set_mask m.waiting m'.waiting n false _ _ l.waits masks.of_waiting (has_gone n order)
+      (λ k d. has_kept k n order d));
 }
+  where
+    both_false : (b : Bool) → (b && false) ≡ false
+    both_false true = refl
+    both_false false = refl
+
+    own_set : (u : ℕ) → ((kinds n).drive ≡ u) ⊎ ((kinds n).drive ≢ u)
+        → IsSet false n (slice_index_or m.units u 0) (slice_index_or m'.units u 0)
+    own_set u (inl e) = subst (λ v. IsSet false n (slice_index_or m.units v 0) (slice_index_or m'.units v 0)) e l.own
+    own_set u (inr d) =
+        unit_set _ _ n false (λ e. let bad = ap bit e in absurd (omega (arith, bad)))
+        (λ e. l.units u (λ f. d (sym f)))
+        (masks.of_units u n low ∙ ap (λ b. bit (has n order && b)) (eq_false (kinds n).drive u d)
+        ∙ ap bit (both_false (has n order)))
 
 -- ---- the order without a slot
 
@@ -265,11 +299,12 @@ once_in (s ∷ front) n back a =
     not_first s n (x ∷ front) back e = not_first s n front back (off (nat_eq s x) (has s (front ++ n ∷ back)) e).1
 
 pub masks_left : (kinds : ℕ → Kind) (front back : List ℕ) (m m' : Masks) (n : ℕ)
-    → AreMasks kinds (front ++ n ∷ back) m → HasLeft n m m' → AreMasks kinds (front ++ back) m'
-masks_left kinds front back m m' n masks l =
+    → AreMasks kinds (front ++ n ∷ back) m → n < 64 → HasLeft n (kinds n).drive m m'
+    → AreMasks kinds (front ++ back) m'
+masks_left kinds front back m m' n masks low l =
     let once = once_in front n back masks.apart in
     subst (λ order. AreMasks kinds order m') (without_cuts front back n once.0 once.1)
-    (masks_without kinds (front ++ n ∷ back) m m' n masks l)
+    (masks_without kinds (front ++ n ∷ back) m m' n masks low l)
 
 -- ---- a step
 

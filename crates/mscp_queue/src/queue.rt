@@ -26,7 +26,7 @@ use crate::outcome::aborted_end;
 use crate::picker::Picker;
 use crate::record::Record;
 use crate::report::Report;
-use crate::service::{serve, upcoming};
+use crate::service::{is_amid, serve, upcoming};
 use crate::start::{choice_in, picked_place};
 use crate::upcoming::Upcoming;
 use crate::view::View;
@@ -304,6 +304,7 @@ impl<K: Picker> Queue<K> {
     }
 
     /// The place of the command in service, or, where none is, of one that the picker picks.
+    #[inline(always)]
     fn place_to_begin(&mut self) -> usize
         requires nothing { self.old.begun ≡ None }
         requires some { 0 < length self.old.waiting }
@@ -360,6 +361,7 @@ impl<K: Picker> Queue<K> {
     }
 
     /// Serves a block, with this outcome, to the record at the place.
+    #[inline(always)]
     fn serve_at(&mut self, place: usize, block: &Block) -> Report
         requires { IsNext (K.picks self.old.picker) self.old.budget self.old.drives self.old.waiting self.old.begun place }
         ensures served { ServesAt (K.picks self.old.picker) block.now self.old result self.new place }
@@ -387,6 +389,34 @@ impl<K: Picker> Queue<K> {
         }
     }
 
+    /// The same, where the step is the first of the command or the last.
+    #[inline(never)]
+    fn serve_apart(&mut self, place: usize, block: &Block) -> Report
+        requires { IsNext (K.picks self.old.picker) self.old.budget self.old.drives self.old.waiting self.old.begun place }
+        ensures served { ServesAt (K.picks self.old.picker) block.now self.old result self.new place }
+        ensures shaped { IfSome (end_in result) IsOfKind }
+        ensures units { units_of self.new.drives ≡ units_of self.old.drives }
+    {
+        self.serve_at(place, block)
+    }
+
+    /// The same of any step. Most are neither the first of their command nor the last, and these pass nobody, start nothing
+    /// and bring no end: so they are built apart from the others, without all that.
+    #[inline(always)]
+    fn serve_place(&mut self, place: usize, block: &Block) -> Report
+        requires { IsNext (K.picks self.old.picker) self.old.budget self.old.drives self.old.waiting self.old.begun place }
+        ensures served { ServesAt (K.picks self.old.picker) block.now self.old result self.new place }
+        ensures shaped { IfSome (end_in result) IsOfKind }
+        ensures units { units_of self.new.drives ≡ units_of self.old.drives }
+    {
+        let at = usize::from(self.backlog.aim(place).drive);
+        if is_amid(&self.drives[at], self.backlog.record(place), block) {
+            self.serve_at(place, block)
+        } else {
+            self.serve_apart(place, block)
+        }
+    }
+
     /// Serves one block, with this outcome, if a command waits: to what was begun, or else to the command in service, or
     /// to one that the picker picks of those that may start. The end that it brings has the body of its endcode.
     pub fn serve(&mut self, block: Block) -> Report
@@ -395,7 +425,7 @@ impl<K: Picker> Queue<K> {
         ensures units { units_of self.new.drives ≡ units_of self.old.drives }
     {
         match self.next_place() {
-            Some(place) => self.serve_at(place, &block),
+            Some(place) => self.serve_place(place, &block),
             None => Report::Idle,
         }
     }

@@ -1,10 +1,11 @@
 // One step of a waiting command on its drive.
 
-ghost use Rattle.std.specs.Prelude.{◌≡◌, ℕ, ◌+◌, ◌<◌, ◌≤◌, ◌^◌, Some};
+ghost use Rattle.std.specs.Prelude.{◌≡◌, ◌&&◌, ℕ, ◌+◌, ◌<◌, ◌≤◌, ◌^◌, Some, not};
 ghost use Rattle.mscp_drive.specs.Heads.{distance};
 ghost use Rattle.mscp_queue.specs.Drives.{IsOnUnit};
 ghost use Rattle.mscp_queue.specs.Orders.{first_block};
-ghost use Rattle.mscp_queue.specs.Outcomes.{head_after};
+ghost use Rattle.mscp_queue.specs.Outcomes.{goes_on, head_after};
+ghost use Rattle.mscp_queue.specs.Records.{is_unstarted, left_of};
 ghost use Rattle.mscp_queue.specs.Serving.{drive_after, end_given, seek_from, state_left, touched, upcoming_of};
 
 use crate::block::Block;
@@ -50,19 +51,43 @@ pub(crate) fn upcoming(drive: &Drive, served: &Record) -> Upcoming
     }
 }
 
+/// Whether the command waits on after a step with this block: the block is good, and not the last of a transfer.
 #[inline(always)]
+fn goes_on(drive: &Drive, served: &Record, block: &Block) -> bool
+    ensures value { result ≡ goes_on drive.now.online served.now.command.order block.now (left_of served.now) }
+    ensures small { served.now.weight < 2 ^ 32 }
+{
+    let more = served.left() > 1;
+    touches(drive.online, &served.command().order) && matches!(block, Block::Good) && more
+}
+
+/// Whether a step with this block is neither the first of the command nor the last.
+#[inline(always)]
+pub(crate) fn is_amid(drive: &Drive, served: &Record, block: &Block) -> bool
+    ensures { result
+        ≡ (not (is_unstarted served.now)
+        && goes_on drive.now.online served.now.command.order block.now (left_of served.now)) }
+{
+    !served.is_unstarted() && goes_on(drive, served, block)
+}
+
 /// The end that a step with this block gives to the command, if it ends.
+#[inline(always)]
 fn end_given(drive: &Drive, served: &Record, block: &Block) -> Option<End>
     requires { served.now.done < served.now.weight }
     ensures { result ≡ end_given block.now drive.now served.now }
 {
-    let command = served.command();
-    let more = served.left() > 1;
-    let goes_on = touches(drive.online, &command.order) && more;
-    match block {
-        Block::Good if goes_on => None,
-        _ => Some(outcome(&drive.unit, drive.online, &command, served.done(), block)),
+    if goes_on(drive, served, block) {
+        return None;
     }
+    let command = served.command();
+    Some(outcome(
+        &drive.unit,
+        drive.online,
+        &command,
+        served.done(),
+        block,
+    ))
 }
 
 /// The state that a step leaves its unit in, which ended the order so or not.

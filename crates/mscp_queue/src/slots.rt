@@ -105,7 +105,8 @@ impl Slots {
     {
         let slot = usize::from(self.order[place]);
         self.order.remove(place);
-        self.masks.leave(slot);
+        self.masks
+            .leave(slot, usize::from(self.aims[slot].drive));
     }
 
     /// The command at the place was passed at this toll.
@@ -201,6 +202,7 @@ impl Slots {
         requires to { AreOnDrive at drive.now (aims self.now) }
         ensures { IsRecosted at drive.now (aims self.now) roll.old roll.new }
     {
+        let drive = *drive;
         let mut left = self.masks.units[at];
         while let Some(slot) = lowest_set(left, 64) {
             left = with_bit(left, slot, false);
