@@ -116,7 +116,7 @@ impl Slots {
         ensures { self.new ≡ slice_set self.old place (with_item (passed_by toll) (slot_at self.old place)) }
     {
         let slot = usize::from(self.order[place]);
-        self.records[slot] = self.records[slot].passed_by(toll);
+        self.records[slot].pass(toll);
     }
 
     /// Each command in front of the place was passed at this toll.
@@ -137,7 +137,7 @@ impl Slots {
         ensures { self.new ≡ slice_set self.old place (with_item advanced (slot_at self.old place)) }
     {
         let slot = usize::from(self.order[place]);
-        self.records[slot] = self.records[slot].advanced();
+        self.records[slot].advance();
         self.masks.serve(slot);
     }
 
