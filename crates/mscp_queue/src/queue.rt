@@ -3,14 +3,14 @@
 ghost use Rattle.std.specs.Prelude.{All, ◌≡◌, ◌+◌, ◌*◌, ◌<◌, ◌≤◌, ◌^◌, [], length, find, option_map, true, false, IfNone, IfSome};
 ghost use Rattle.std.specs.List.{list_any, position};
 ghost use Rattle.mscp_packet.specs.Ends.{IsOfKind};
-ghost use Rattle.mscp_queue.specs.Drives.{is_online_in};
+ghost use Rattle.mscp_queue.specs.Drives.{drive_of, is_online_in};
 ghost use Rattle.mscp_queue.specs.Figures.{figure_of_name, figures};
 ghost use Rattle.mscp_queue.specs.Kept.{IsWaitable, place_served, place_without, units_of};
 ghost use Rattle.mscp_queue.specs.Lines.{Begins, BeginsAt, Line, Serves, ServesAt, aborting, fresh, pushed};
 ghost use Rattle.mscp_queue.specs.Names.{name_on};
 ghost use Rattle.mscp_queue.specs.Orders.{order_weight};
 ghost use Rattle.mscp_queue.specs.Records.{IsServing, aborted_record, has_name, record_at};
-ghost use Rattle.mscp_queue.specs.Serving.{IsNext, end_in, is_begun};
+ghost use Rattle.mscp_queue.specs.Serving.{IsNext, end_in, is_amid, is_begun};
 ghost use Rattle.mscp_queue.specs.Views.{is_open_at};
 ghost use Rattle.mscp_queue.specs.Why.{holders_of_name, is_nobody};
 
@@ -389,32 +389,18 @@ impl<K: Picker> Queue<K> {
         }
     }
 
-    /// The same, where the step is the first of the command or the last.
-    #[inline(never)]
-    fn serve_apart(&mut self, place: usize, block: &Block) -> Report
-        requires { IsNext (K.picks self.old.picker) self.old.budget self.old.drives self.old.waiting self.old.begun place }
-        ensures served { ServesAt (K.picks self.old.picker) block.now self.old result self.new place }
-        ensures shaped { IfSome (end_in result) IsOfKind }
-        ensures units { units_of self.new.drives ≡ units_of self.old.drives }
-    {
-        self.serve_at(place, block)
-    }
-
-    /// The same of any step. Most are neither the first of their command nor the last, and these pass nobody, start nothing
-    /// and bring no end: so they are built apart from the others, without all that.
+    /// Whether the command in service waits on after a step with this block: most steps are of this kind, and start nothing and
+    /// bring no end. So a caller can have them built apart from the others.
     #[inline(always)]
-    fn serve_place(&mut self, place: usize, block: &Block) -> Report
-        requires { IsNext (K.picks self.old.picker) self.old.budget self.old.drives self.old.waiting self.old.begun place }
-        ensures served { ServesAt (K.picks self.old.picker) block.now self.old result self.new place }
-        ensures shaped { IfSome (end_in result) IsOfKind }
-        ensures units { units_of self.new.drives ≡ units_of self.old.drives }
+    pub fn is_amid(&self, block: &Block) -> bool
+        ensures { result ≡ true
+            → list_any (λ r. is_amid block.now (drive_of self.now.drives r.command.unit) r) self.now.waiting ≡ true }
     {
+        let Some(place) = self.serving else {
+            return false;
+        };
         let at = usize::from(self.backlog.aim(place).drive);
-        if is_amid(&self.drives[at], self.backlog.record(place), block) {
-            self.serve_at(place, block)
-        } else {
-            self.serve_apart(place, block)
-        }
+        is_amid(&self.drives[at], self.backlog.record(place), block)
     }
 
     /// Serves one block, with this outcome, if a command waits: to what was begun, or else to the command in service, or
@@ -425,7 +411,7 @@ impl<K: Picker> Queue<K> {
         ensures units { units_of self.new.drives ≡ units_of self.old.drives }
     {
         match self.next_place() {
-            Some(place) => self.serve_place(place, &block),
+            Some(place) => self.serve_at(place, &block),
             None => Report::Idle,
         }
     }

@@ -1,12 +1,12 @@
 // One step of a waiting command on its drive.
 
-ghost use Rattle.std.specs.Prelude.{◌≡◌, ◌&&◌, ℕ, ◌+◌, ◌<◌, ◌≤◌, ◌^◌, Some, not};
+ghost use Rattle.std.specs.Prelude.{◌≡◌, ℕ, ◌+◌, ◌<◌, ◌≤◌, ◌^◌, Some};
 ghost use Rattle.mscp_drive.specs.Heads.{distance};
 ghost use Rattle.mscp_queue.specs.Drives.{IsOnUnit};
 ghost use Rattle.mscp_queue.specs.Orders.{first_block};
 ghost use Rattle.mscp_queue.specs.Outcomes.{goes_on, head_after};
-ghost use Rattle.mscp_queue.specs.Records.{is_unstarted, left_of};
-ghost use Rattle.mscp_queue.specs.Serving.{drive_after, end_given, seek_from, state_left, touched, upcoming_of};
+ghost use Rattle.mscp_queue.specs.Records.{left_of};
+ghost use Rattle.mscp_queue.specs.Serving.{drive_after, end_given, is_amid, seek_from, state_left, touched, upcoming_of};
 
 use crate::block::Block;
 use crate::drive::Drive;
@@ -64,9 +64,7 @@ fn goes_on(drive: &Drive, served: &Record, block: &Block) -> bool
 /// Whether a step with this block is neither the first of the command nor the last.
 #[inline(always)]
 pub(crate) fn is_amid(drive: &Drive, served: &Record, block: &Block) -> bool
-    ensures { result
-        ≡ (not (is_unstarted served.now)
-        && goes_on drive.now.online served.now.command.order block.now (left_of served.now)) }
+    ensures { result ≡ is_amid block.now drive.now served.now }
 {
     !served.is_unstarted() && goes_on(drive, served, block)
 }
