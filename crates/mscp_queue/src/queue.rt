@@ -326,7 +326,8 @@ impl<K: Picker> Queue<K> {
 
     /// The place of the command that is served next: what was begun, or else that in service, or one that the picker
     /// picks.
-    fn next_place(&mut self) -> Option<usize>
+    #[inline(never)]
+    fn place_to_start(&mut self) -> Option<usize>
         ensures none { IfNone result (self.old.waiting ≡ []) }
         ensures unbegun { IfNone result (self.old.begun ≡ None) }
         ensures some { IfSome result (λ place.
@@ -338,6 +339,21 @@ impl<K: Picker> Queue<K> {
             None if self.backlog.len() == 0 => None,
             None => Some(self.place_to_begin()),
         }
+    }
+
+    /// The same. Where a command is in service, it is at once that: nothing else was begun.
+    #[inline(always)]
+    fn next_place(&mut self) -> Option<usize>
+        ensures none { IfNone result (self.old.waiting ≡ []) }
+        ensures unbegun { IfNone result (self.old.begun ≡ None) }
+        ensures some { IfSome result (λ place.
+            IsNext (K.picks self.old.picker) self.old.budget self.old.drives self.old.waiting self.old.begun place) }
+        ensures same { self.new ≡ self.old }
+    {
+        if let Some(place) = self.serving {
+            return Some(place);
+        }
+        self.place_to_start()
     }
 
     /// Begins the record at the place.
@@ -405,6 +421,7 @@ impl<K: Picker> Queue<K> {
 
     /// Serves one block, with this outcome, if a command waits: to what was begun, or else to the command in service, or
     /// to one that the picker picks of those that may start. The end that it brings has the body of its endcode.
+    #[inline(always)]
     pub fn serve(&mut self, block: Block) -> Report
         ensures served { Serves (K.picks self.old.picker) block self.old result self.new }
         ensures shaped { IfSome (end_in result) IsOfKind }
