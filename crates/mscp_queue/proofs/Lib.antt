@@ -12,7 +12,6 @@ pub mod Passable
 pub mod Ordered
 pub mod Nexts
 pub mod Least
-pub mod Sweeps
 pub mod Aborts
 pub mod Untolled
 pub mod Whys
