@@ -326,9 +326,9 @@ impl<K: Picker> Controller<K> {
         }
     }
 
-    /// The body of `step`.
-    #[inline(always)]
-    fn serve_block(&mut self, block: Block) -> Report
+    /// The body of `step`, where the step may be a command's first or last.
+    #[inline(never)]
+    fn step_apart(&mut self, block: Block) -> Report
         ensures step { Steps (K.picks self.old.picker) block self.old result self.new }
         ensures account { IsBalanced self.new }
     {
@@ -337,24 +337,15 @@ impl<K: Picker> Controller<K> {
         report
     }
 
-    /// The same, where the step may be a command's first or last.
-    #[inline(never)]
-    fn step_apart(&mut self, block: Block) -> Report
-        ensures step { Steps (K.picks self.old.picker) block self.old result self.new }
-        ensures account { IsBalanced self.new }
-    {
-        self.serve_block(block)
-    }
-
     /// Serves one block, with this outcome, if a command waits: to the command that was begun, or else to that in service,
     /// or to one that the picker picks of those that may start.
     pub fn step(&mut self, block: Block) -> Report
         ensures step { Steps (K.picks self.old.picker) block self.old result self.new }
         ensures account { IsBalanced self.new }
     {
-        // Most steps start nothing and bring no end: so they are built apart from the others, without all that.
-        if self.queue.is_amid(&block) {
-            return self.serve_block(block);
+        if let Some(amid) = self.queue.serve_amid(&block) {
+            keep_end(&mut self.accounts, &amid);
+            return amid;
         }
         self.step_apart(block)
     }

@@ -7,6 +7,7 @@ pub mod Sums
 pub mod Begun
 pub mod Held
 pub mod Turns
+pub mod Amid
 pub mod Aims
 pub mod Passable
 pub mod Ordered

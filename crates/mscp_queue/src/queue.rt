@@ -3,14 +3,14 @@
 ghost use Rattle.std.specs.Prelude.{All, ◌≡◌, ◌+◌, ◌*◌, ◌<◌, ◌≤◌, ◌^◌, [], length, find, option_map, true, false, IfNone, IfSome};
 ghost use Rattle.std.specs.List.{list_any, position};
 ghost use Rattle.mscp_packet.specs.Ends.{IsOfKind};
-ghost use Rattle.mscp_queue.specs.Drives.{drive_of, is_online_in};
+ghost use Rattle.mscp_queue.specs.Drives.{is_online_in};
 ghost use Rattle.mscp_queue.specs.Figures.{figure_of_name, figures};
 ghost use Rattle.mscp_queue.specs.Kept.{IsWaitable, place_served, place_without, units_of};
 ghost use Rattle.mscp_queue.specs.Lines.{Begins, BeginsAt, Line, Serves, ServesAt, aborting, fresh, pushed};
 ghost use Rattle.mscp_queue.specs.Names.{name_on};
 ghost use Rattle.mscp_queue.specs.Orders.{order_weight};
 ghost use Rattle.mscp_queue.specs.Records.{IsServing, aborted_record, has_name, record_at};
-ghost use Rattle.mscp_queue.specs.Serving.{IsNext, end_in, is_amid, is_begun};
+ghost use Rattle.mscp_queue.specs.Serving.{IsNext, end_in, is_begun};
 ghost use Rattle.mscp_queue.specs.Views.{is_open_at};
 ghost use Rattle.mscp_queue.specs.Why.{holders_of_name, is_nobody};
 
@@ -26,7 +26,7 @@ use crate::outcome::aborted_end;
 use crate::picker::Picker;
 use crate::record::Record;
 use crate::report::Report;
-use crate::service::{is_amid, serve, upcoming};
+use crate::service::{is_amid, serve, upcoming, way_of};
 use crate::start::{choice_in, picked_place};
 use crate::upcoming::Upcoming;
 use crate::view::View;
@@ -405,18 +405,38 @@ impl<K: Picker> Queue<K> {
         }
     }
 
-    /// Whether the command in service waits on after a step with this block: most steps are of this kind, and start nothing and
-    /// bring no end. So a caller can have them built apart from the others.
+    /// Serves a block, with this outcome, to the command in service, if it was served before and waits on after it: else
+    /// nothing changes. Most steps are of this kind, and neither pick nor pass nor end a command: so they stand apart, without
+    /// all that.
     #[inline(always)]
-    pub fn is_amid(&self, block: &Block) -> bool
-        ensures { result ≡ true
-            → list_any (λ r. is_amid block.now (drive_of self.now.drives r.command.unit) r) self.now.waiting ≡ true }
+    pub fn serve_amid(&mut self, block: &Block) -> Option<Report>
+        ensures some { IfSome result (λ report. Serves (K.picks self.old.picker) block.now self.old report self.new) }
+        ensures shaped { IfSome result (λ report. IfSome (end_in report) IsOfKind) }
+        ensures units { units_of self.new.drives ≡ units_of self.old.drives }
+        ensures none { IfNone result (self.new ≡ self.old) }
     {
-        let Some(place) = self.serving else {
-            return false;
-        };
+        let place = self.serving?;
+        let record = *self.backlog.record(place);
         let at = usize::from(self.backlog.aim(place).drive);
-        is_amid(&self.drives[at], self.backlog.record(place), block)
+        let drive = &self.drives[at];
+        if !is_amid(drive, &record, block) {
+            return None;
+        }
+        let way = way_of(drive, &record);
+        self.drives[at].move_head(way.head);
+        self.backlog.serve(place, false);
+        self.lineup.serve(place, at, false);
+        self.begun = None;
+        let command = record.command();
+        Some(Report::Served {
+            connection: record.connection(),
+            reference: command.reference,
+            unit: command.unit,
+            lbn: way.lbn,
+            started: false,
+            seek: way.seek,
+            ended: None,
+        })
     }
 
     /// Serves one block, with this outcome, if a command waits: to what was begun, or else to the command in service, or

@@ -105,8 +105,7 @@ impl Slots {
     {
         let slot = usize::from(self.order[place]);
         self.order.remove(place);
-        self.masks
-            .leave(slot, usize::from(self.aims[slot].drive));
+        self.masks.leave(slot, usize::from(self.aims[slot].drive));
     }
 
     /// The command at the place was passed at this toll.

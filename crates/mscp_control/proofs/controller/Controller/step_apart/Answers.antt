@@ -2,7 +2,7 @@ use Rattle.std.proofs.Common.{subst, sym}
 use Rattle.mscp_queue.specs.declared.name.Connection.TheVariants.{First, Second}
 use Rattle.mscp_control.specs.Kept.{IsHeld}
 use Rattle.mscp_control.proofs.Bridge.Keeping.{balanced, can_end, held_stepped}
-use Rattle.mscp_control.proofs.controller.Controller.serve_block.Goals as goal
+use Rattle.mscp_control.proofs.controller.Controller.step_apart.Goals as goal
 
 pub keep_end-requires : goal.keep_end-requires
 keep_end-requires g c = can_end c.self.inside.config (g.K.Picker.picks c.self.inside.queue.picker) c.args.block
