@@ -18,6 +18,7 @@ pub mod Untolled
 pub mod Whys
 pub mod Shaped
 pub mod Masked
+pub mod Departed
 pub mod Cleared
 pub mod Freed
 pub mod Shown

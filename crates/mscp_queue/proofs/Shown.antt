@@ -13,7 +13,8 @@ use Rattle.mscp_queue.specs.Records.{Record, advanced, is_in_service, no_record,
 use Rattle.mscp_queue.specs.Aims.{no_aim}
 use Rattle.mscp_queue.specs.Slots.{AreKept, held, is_unfenced, kind_at, kind_of, no_slot, shown, slot_at, with_due, with_item}
 use Rattle.mscp_queue.proofs.Freed.{free_tells}
-use Rattle.mscp_queue.proofs.Masked.{has_other, masks_left, masks_pushed, masks_same, masks_served, not_behind, not_here, off_bit, same_or, slot_has, slot_low}
+use Rattle.mscp_queue.proofs.Departed.{masks_left}
+use Rattle.mscp_queue.proofs.Masked.{has_other, masks_pushed, masks_same, masks_served, not_behind, not_here, off_bit, same_or, slot_has, slot_low}
 use Rattle.mscp_queue.proofs.Placed.{cut_at}
 
 module _ (rs : List Record) (own : List Aim) (ds : List ℕ) (n : ℕ) (r : Record) (a : Aim) (d : ℕ) where
