@@ -1,7 +1,6 @@
 -- A step that is neither the first of its command nor the last.
 use Rattle.std.proofs.Common.{◌≡◌, Bool, ℕ, true, false, ◌&&◌, ap, refl, sym, ◌∙◌, arith}
-use Rattle.std.specs.Prelude.{not, if◌then◌else◌, None, Some, Option, option_map}
-use Rattle.mscp_packet.specs.declared.end.End.{End}
+use Rattle.std.specs.Prelude.{not, if◌then◌else◌, None, Some, option_map}
 use Rattle.mscp_drive.specs.Shape.{cylinder_of}
 use Rattle.mscp_drive.specs.declared.head.Head.{Head}
 use Rattle.mscp_queue.specs.declared.block.Block.{Block}

@@ -6,7 +6,7 @@ use Rattle.std.proofs.lemmas.Nat.Bits.{bit_at-zero, bit_at_ones}
 use Rattle.std.proofs.lemmas.Bool.{eq-eqb, eqb-false, eqb-true, ne_eqb}
 use Rattle.std.proofs.lemmas.List.{append_assoc, append-nil}
 use Rattle.mscp_queue.specs.declared.masks.Masks.{Masks}
-use Rattle.mscp_queue.specs.Masks.{AreEarlier, AreMasks, AreSlots, HasCome, HasLeft, IsMaskOf, IsSet, Kind, bit, has}
+use Rattle.mscp_queue.specs.Masks.{AreEarlier, AreMasks, AreSlots, HasCome, IsMaskOf, IsSet, Kind, bit, has}
 
 -- the slots without one
 abbrev pub if_not : Bool → ℕ → List ℕ → List ℕ
