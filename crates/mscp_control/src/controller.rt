@@ -326,15 +326,28 @@ impl<K: Picker> Controller<K> {
         }
     }
 
-    /// Serves one block, with this outcome, if a command waits: to the command that was begun, or else to that in service,
-    /// or to one that the picker picks of those that may start.
-    pub fn step(&mut self, block: Block) -> Report
+    /// The body of `step`, where the step may be a command's first or last.
+    #[inline(never)]
+    fn step_apart(&mut self, block: Block) -> Report
         ensures step { Steps (K.picks self.old.picker) block self.old result self.new }
         ensures account { IsBalanced self.new }
     {
         let report = self.queue.serve(block);
         keep_end(&mut self.accounts, &report);
         report
+    }
+
+    /// Serves one block, with this outcome, if a command waits: to the command that was begun, or else to that in service,
+    /// or to one that the picker picks of those that may start.
+    pub fn step(&mut self, block: Block) -> Report
+        ensures step { Steps (K.picks self.old.picker) block self.old result self.new }
+        ensures account { IsBalanced self.new }
+    {
+        if let Some(amid) = self.queue.serve_amid(&block) {
+            keep_end(&mut self.accounts, &amid);
+            return amid;
+        }
+        self.step_apart(block)
     }
 
     /// What is answered to an event.

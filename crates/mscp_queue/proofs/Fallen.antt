@@ -15,7 +15,8 @@ use Rattle.mscp_queue.specs.Records.{Record, is_in_service, no_record}
 use Rattle.mscp_queue.specs.Aims.{no_aim}
 use Rattle.mscp_queue.specs.Slots.{AreKept, held, kind_at, lowered_by, lowered_unless_serving, shown, slot_at}
 use Rattle.mscp_queue.proofs.Freed.{earlier_at}
-use Rattle.mscp_queue.proofs.Masked.{once_in, one_bit, same_or}
+use Rattle.mscp_queue.proofs.Departed.{once_in}
+use Rattle.mscp_queue.proofs.Masked.{one_bit, same_or}
 use Rattle.mscp_queue.proofs.Shown.{IsNumber, cut_order, slot_is}
 
 -- what a lowered due leaves of a slot

@@ -6,7 +6,7 @@ use Rattle.std.proofs.lemmas.Nat.Bits.{bit_at-zero, bit_at_ones}
 use Rattle.std.proofs.lemmas.Bool.{eq-eqb, eqb-false, eqb-true, ne_eqb}
 use Rattle.std.proofs.lemmas.List.{append_assoc, append-nil}
 use Rattle.mscp_queue.specs.declared.masks.Masks.{Masks}
-use Rattle.mscp_queue.specs.Masks.{AreEarlier, AreMasks, AreSlots, HasCome, HasLeft, IsMaskOf, IsSet, Kind, bit, has}
+use Rattle.mscp_queue.specs.Masks.{AreEarlier, AreMasks, AreSlots, HasCome, IsMaskOf, IsSet, Kind, bit, has}
 
 -- the slots without one
 abbrev pub if_not : Bool → ℕ → List ℕ → List ℕ
@@ -20,10 +20,10 @@ without n (x ∷ xs) = if_not (nat_eq x n) x (without n xs)
 pub same_or : (a b : ℕ) → (a ≡ b) ⊎ (a ≢ b)
 same_or a b = grind arith
 
-eq_true : (a b : ℕ) → a ≡ b → nat_eq a b ≡ true
+pub eq_true : (a b : ℕ) → a ≡ b → nat_eq a b ≡ true
 eq_true a b e = eq-eqb a b e
 
-eq_false : (a b : ℕ) → a ≢ b → nat_eq a b ≡ false
+pub eq_false : (a b : ℕ) → a ≢ b → nat_eq a b ≡ false
 eq_false a b n = ne_eqb a b n
 
 or_false : (b : Bool) → (b || false) ≡ b
@@ -44,7 +44,7 @@ has_last n (x ∷ xs) = ap (λ b. nat_eq n x || b) (has_last n xs) ∙ or_true (
     or_true true = refl
     or_true false = refl
 
-has_kept : (k n : ℕ) (xs : List ℕ) → k ≢ n → has k (without n xs) ≡ has k xs
+pub has_kept : (k n : ℕ) (xs : List ℕ) → k ≢ n → has k (without n xs) ≡ has k xs
 has_kept k n [] e = refl
 has_kept k n (x ∷ xs) e = by (has_kept k n xs e) (same_or x n)
   where
@@ -55,7 +55,7 @@ has_kept k n (x ∷ xs) e = by (has_kept k n xs e) (same_or x n)
         ∙ ap (λ b. b || has k xs) (sym (eq_false k x (λ f. e (f ∙ s))))
     by h (inr d) = ap (λ b. has k (if_not b x (without n xs))) (eq_false x n d) ∙ ap (λ b. nat_eq k x || b) h
 
-has_gone : (n : ℕ) (xs : List ℕ) → has n (without n xs) ≡ false
+pub has_gone : (n : ℕ) (xs : List ℕ) → has n (without n xs) ≡ false
 has_gone n [] = refl
 has_gone n (x ∷ xs) = by (has_gone n xs) (same_or x n)
   where
@@ -65,7 +65,7 @@ has_gone n (x ∷ xs) = by (has_gone n xs) (same_or x n)
         ap (λ b. has n (if_not b x (without n xs))) (eq_false x n d)
         ∙ ap (λ b. b || has n (without n xs)) (eq_false n x (λ f. d (sym f))) ∙ h
 
-without_append : (n : ℕ) (xs ys : List ℕ) → without n (xs ++ ys) ≡ without n xs ++ without n ys
+pub without_append : (n : ℕ) (xs ys : List ℕ) → without n (xs ++ ys) ≡ without n xs ++ without n ys
 without_append n [] ys = refl
 without_append n (x ∷ xs) ys = by (without_append n xs ys) (nat_eq x n)
   where
@@ -78,7 +78,7 @@ without_append n (x ∷ xs) ys = by (without_append n xs ys) (nat_eq x n)
 
 module _ (m m' n : ℕ) (on : Bool) (old new : ℕ → Bool) (set : IsSet on n m m') (is : IsMaskOf m old)
     (at : new n ≡ on) (other : (k : ℕ) → k ≢ n → new k ≡ old k) where
-  set_mask : IsMaskOf m' new
+  pub set_mask : IsMaskOf m' new
   set_mask k l = by (same_or k n)
     where
       by : (k ≡ n) ⊎ (k ≢ n) → bit_at m' k ≡ bit (new k)
@@ -91,7 +91,7 @@ module _ (m m' n : ℕ) (on : Bool) (old new : ℕ → Bool) (set : IsSet on n m
 differ : (b : Bool) → b ≡ true → b ≡ false → bit true ≡ bit false
 differ b p q = ap bit (sym p ∙ q)
 
-off : (b c : Bool) → (b || c) ≡ false → (b ≡ false) × (c ≡ false)
+pub off : (b c : Bool) → (b || c) ≡ false → (b ≡ false) × (c ≡ false)
 off false c e = (refl, e)
 off true c e = let bad = ap bit e in absurd (omega (arith, bad))
 
@@ -137,7 +137,7 @@ pub record Comes (kinds kinds' : ℕ → Kind) (order : List ℕ) (n : ℕ) : Ty
   pub same : (k : ℕ) → k ≢ n → kinds' k ≡ kinds k
 
 -- a bit that is set or, where it is clear, left
-unit_set : (m m' n : ℕ) (on : Bool) → (on ≡ true → IsSet true n m m') → (on ≡ false → m' ≡ m) → bit_at m n ≡ 0
+pub unit_set : (m m' n : ℕ) (on : Bool) → (on ≡ true → IsSet true n m m') → (on ≡ false → m' ≡ m) → bit_at m n ≡ 0
     → IsSet on n m m'
 unit_set m m' n true set same clear = set refl
 unit_set m m' n false set same clear = λ k l. ap (λ m. bit_at m k) (same refl) ∙ by k (same_or k n)
@@ -173,103 +173,6 @@ masks_pushed kinds kinds' order m m' n masks c h = record {
       (λ k d. and_same _ _ _ _ (has_other k n order d) (ap (λ s. nat_eq s.drive u) (c.same k d)));
   of_earlier = earlier_pushed _ _ n m.waiting h.others h.earlier [] order c.free masks.of_waiting masks.of_earlier;
 }
-
--- ---- an end or an abort
-
-slots_left : (order : List ℕ) (n : ℕ) → AreSlots order → AreSlots (without n order)
-slots_left [] n a = tt
-slots_left (s ∷ order) n a = by (slots_left order n a.2) (same_or s n)
-  where
-    by : AreSlots (without n order) → (s ≡ n) ⊎ (s ≢ n) → AreSlots (if_not (nat_eq s n) s (without n order))
-    by h (inl f) = subst (λ b. AreSlots (if_not b s (without n order))) (sym (eq_true s n f)) h
-    by h (inr d) = subst (λ b. AreSlots (if_not b s (without n order))) (sym (eq_false s n d)) (
-      a.0,
-      has_kept s n order d ∙ a.1,
-      h,
-    )
-
-module _ (earlier earlier' : ℕ → ℕ) (n : ℕ) (clear : (s : ℕ) → IsSet false n (earlier s) (earlier' s)) where
-  cleared : (s : ℕ) (front : List ℕ) → IsMaskOf (earlier s) (λ k. has k front)
-      → IsMaskOf (earlier' s) (λ k. has k (without n front))
-  cleared s front is = set_mask (earlier s) (earlier' s) n false _ _ (clear s) is (has_gone n front)
-      (λ k d. has_kept k n front d)
-
-  earlier_left : (front order : List ℕ) → AreEarlier earlier front order
-      → AreEarlier earlier' (without n front) (without n order)
-  earlier_left front [] a = tt
-  earlier_left front (s ∷ order) a = by (earlier_left (front ++ s ∷ []) order a.1) (same_or s n)
-    where
-      ends : (b : Bool) → nat_eq s n ≡ b → without n (front ++ s ∷ []) ≡ without n front ++ if_not b s []
-      ends b e = without_append n front (s ∷ []) ∙ ap (λ b. without n front ++ if_not b s []) e
-
-      by : AreEarlier earlier' (without n (front ++ s ∷ [])) (without n order) → (s ≡ n) ⊎ (s ≢ n)
-          → AreEarlier earlier' (without n front) (if_not (nat_eq s n) s (without n order))
-      by rest (inl f) =
-          subst (λ b. AreEarlier earlier' (without n front) (if_not b s (without n order))) (sym (eq_true s n f))
-          (subst (λ xs. AreEarlier earlier' xs (without n order)) (ends true (eq_true s n f)
-          ∙ append-nil (without n front)) rest)
-      by rest (inr d) =
-          subst (λ b. AreEarlier earlier' (without n front) (if_not b s (without n order))) (sym (eq_false s n d)) (
-            cleared s front a.0,
-            subst (λ xs. AreEarlier earlier' xs (without n order))
-                (ends false (eq_false s n d)) rest,
-          )
-
-masks_without : (kinds : ℕ → Kind) (order : List ℕ) (m m' : Masks) (n : ℕ) → AreMasks kinds order m → HasLeft n m m'
-    → AreMasks kinds (without n order) m'
-masks_without kinds order m m' n masks l = record {
-  apart = slots_left order n masks.apart;
-  of_waiting = set_mask m.waiting m'.waiting n false _ _ l.waits masks.of_waiting (has_gone n order)
-      (λ k d. has_kept k n order d);
-  of_sequential =
-      set_mask m.sequential m'.sequential n false _ _ l.ordered masks.of_sequential
-      (ap (λ b. b && (kinds n).sequential) (has_gone n order))
-      (λ k d. ap (λ b. b && (kinds k).sequential) (has_kept k n order d));
-  of_serving =
-      set_mask m.serving m'.serving n false _ _ l.served masks.of_serving
-      (ap (λ b. b && (kinds n).serving) (has_gone n order))
-      (λ k d. ap (λ b. b && (kinds k).serving) (has_kept k n order d));
-  of_units = λ u.
-      set_mask (slice_index_or m.units u 0) (slice_index_or m'.units u 0) n false _ _ (l.units u) (masks.of_units u)
-      (ap (λ b. b && nat_eq (kinds n).drive u) (has_gone n order))
-      (λ k d. ap (λ b. b && nat_eq (kinds k).drive u) (has_kept k n order d));
-  of_earlier = earlier_left _ _ n l.earlier [] order masks.of_earlier;
-}
-
--- ---- the order without a slot
-
-without_none : (n : ℕ) (xs : List ℕ) → has n xs ≡ false → without n xs ≡ xs
-without_none n [] e = refl
-without_none n (x ∷ xs) e =
-    ap (λ b. if_not b x (without n xs)) (eq_false x n (not_here n x xs e))
-    ∙ ap (λ xs. x ∷ xs) (without_none n xs (not_behind n x xs e))
-
-without_cuts : (front back : List ℕ) (n : ℕ) → has n front ≡ false → has n back ≡ false
-    → without n (front ++ n ∷ back) ≡ front ++ back
-without_cuts front back n e f =
-    without_append n front (n ∷ back)
-    ∙ ap (λ xs. xs ++ without n (n ∷ back)) (without_none n front e)
-    ∙ ap (λ xs. front ++ xs) (ap (λ b. if_not b n (without n back)) (eq_true n n refl) ∙ without_none n back f)
-
--- a slot stands once
-pub once_in : (front : List ℕ) (n : ℕ) (back : List ℕ) → AreSlots (front ++ n ∷ back)
-    → (has n front ≡ false) × (has n back ≡ false)
-once_in [] n back a = (refl, a.1)
-once_in (s ∷ front) n back a =
-    let rest = once_in front n back a.2 in
-    let other : n ≢ s = λ e. not_first s n front back a.1 (sym e) in
-    (ap (λ b. b || has n front) (eq_false n s other) ∙ rest.0, rest.1)
-  where
-    not_first : (s n : ℕ) (front back : List ℕ) → has s (front ++ n ∷ back) ≡ false → s ≢ n
-    not_first s n [] back e = λ f. not_here s n back e (sym f)
-    not_first s n (x ∷ front) back e = not_first s n front back (off (nat_eq s x) (has s (front ++ n ∷ back)) e).1
-
-pub masks_left : (kinds : ℕ → Kind) (front back : List ℕ) (m m' : Masks) (n : ℕ)
-    → AreMasks kinds (front ++ n ∷ back) m → HasLeft n m m' → AreMasks kinds (front ++ back) m'
-masks_left kinds front back m m' n masks l =
-    let once = once_in front n back masks.apart in
-    subst (λ order. AreMasks kinds order m') (without_cuts front back n once.0 once.1)
-    (masks_without kinds (front ++ n ∷ back) m m' n masks l)
 
 -- ---- a step
 

@@ -1,10 +1,10 @@
 -- Which record is served next: what was begun, or else that in service, or else one that may be picked.
-use Rattle.std.proofs.Common.{◌≡◌, ◌≢◌, ⊎_elim, ℕ, zero, suc, ◌+◌, ◌-◌, ◌<◌, ◌≤◌, Bool, true, false, List, [], ◌∷◌, ◌++◌, take, drop, length, refl, ap, sym, ◌∙◌, subst, arith}
+use Rattle.std.proofs.Common.{◌≡◌, ◌≢◌, ⊎_elim, ◌⊎◌, inl, inr, ℕ, zero, suc, ◌+◌, ◌-◌, ◌<◌, ◌≤◌, Bool, true, false, List, [], ◌∷◌, ◌++◌, take, drop, length, refl, ap, sym, ◌∙◌, subst, arith}
 use Rattle.std.specs.Prelude.{All, filter, if◌then◌else◌, is_some, nat_lt, unwrap_or, Option, Some, None}
 use Rattle.std.specs.List.{AllByRecursion, position}
 use Rattle.std.proofs.lemmas.List.{get_or_append_left, get_or-append_right, get_or_at, get_or-drop, get_or-take, length-append, length-drop, length-take-le}
 use Rattle.std.proofs.lemmas.List.Elements.{All-from_recursion, recursion_from_All}
-use Rattle.std.proofs.lemmas.Bool.{eqb-true, false≢true, ltb-false, ltb-true, true≢false}
+use Rattle.std.proofs.lemmas.Bool.{eq-eqb, eqb-true, false≢true, lt-ltb, ltb-false, ltb-true, true≢false}
 use Rattle.mscp_queue.specs.declared.drive.Drive.{Drive}
 use Rattle.mscp_queue.specs.declared.view.Choice.{Choice}
 use Rattle.mscp_queue.specs.Kept.{AreApart, IsHeld, IsStillServable, begun_name, names, place_without}
@@ -173,6 +173,38 @@ serving_found rs place one l h =
     ∙ (position_first is_in_service A r B (every_weaker (λ z. z.done ≡ 0) (λ z. is_in_service z ≡ false)
     (λ z e. ap (nat_lt 0) e) A idle) h
     ∙ ap Some (length-take-le place rs (omega (arith, l))))
+
+zero_or : (n : ℕ) → (n ≡ 0) ⊎ (0 < n)
+zero_or n = grind arith
+
+-- the one in service is next, whatever was begun: nothing else was
+pub serving_is_next : (picks : List Choice → ℕ → Type 0) (budget : ℕ) (ds : List Drive) (rs : List Record)
+    (begun : Option Name) (place : ℕ) → length (filter is_in_service rs) ≤ 1 → place < length rs
+    → is_in_service (record_at rs place) ≡ true
+    → ((name : Name) → begun ≡ Some name → IsStillServable budget rs name)
+    → IsNext picks budget ds rs begun place
+serving_is_next picks budget ds rs begun place one l h still =
+    record {
+      servable = record {
+        inside = l;
+        idle = λ e. absurd (omega (arith, not_unstarted (record_at rs place) h e));
+        opens = λ e. absurd (omega (arith, not_unstarted (record_at rs place) h e));
+      };
+      same = λ name e.
+          let s = still name e in
+          subst (λ k. has_name name (record_at rs k) ≡ true)
+          (here s.0 s.1 (zero_or (record_at rs s.0).done)) s.2;
+      picked = λ b e. absurd (omega (arith, not_unstarted (record_at rs place) h e));
+    }
+  where
+    here : (k : ℕ) → IsServable budget rs k → ((record_at rs k).done ≡ 0) ⊎ (0 < (record_at rs k).done) → k ≡ place
+    here k s (inl e) =
+        let idle = s.idle (eq-eqb (record_at rs k).done 0 e) place no_record l in
+        let some = ltb-true 0 (record_at rs place).done h in
+        absurd (omega (arith, idle, some))
+    here k s (inr some) =
+        ap (λ o. unwrap_or o place) (sym (serving_found rs k one s.inside (lt-ltb 0 (record_at rs k).done some))
+        ∙ serving_found rs place one l h)
 
 -- where nobody is in service, all are idle, and so none is found
 pub nobody_found : (rs : List Record) (serving : Option ℕ) → serving ≡ None

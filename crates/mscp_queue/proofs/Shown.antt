@@ -13,7 +13,8 @@ use Rattle.mscp_queue.specs.Records.{Record, advanced, is_in_service, no_record,
 use Rattle.mscp_queue.specs.Aims.{no_aim}
 use Rattle.mscp_queue.specs.Slots.{AreKept, held, is_unfenced, kind_at, kind_of, no_slot, shown, slot_at, with_due, with_item}
 use Rattle.mscp_queue.proofs.Freed.{free_tells}
-use Rattle.mscp_queue.proofs.Masked.{has_other, masks_left, masks_pushed, masks_same, masks_served, not_behind, not_here, off_bit, same_or, slot_has, slot_low}
+use Rattle.mscp_queue.proofs.Departed.{masks_left}
+use Rattle.mscp_queue.proofs.Masked.{has_other, masks_pushed, masks_same, masks_served, not_behind, not_here, off_bit, same_or, slot_has, slot_low}
 use Rattle.mscp_queue.proofs.Placed.{cut_at}
 
 module _ (rs : List Record) (own : List Aim) (ds : List ℕ) (n : ℕ) (r : Record) (a : Aim) (d : ℕ) where
@@ -131,7 +132,8 @@ has_middle k n (x ∷ front) back e = by (nat_eq k x) (has_middle k n front back
     by false h e = h e
 
 pub kept_left : {rs : List Record} {own : List Aim} {order new : List ℕ} {m m' : Masks} {place n : ℕ}
-    → AreKept rs own order m → IsNumber order place n → HasLeft n m m' → new ≡ remove order place
+    → AreKept rs own order m → IsNumber order place n → HasLeft n (kind_at rs own n).drive m m'
+    → new ≡ remove order place
     → AreKept rs own new m'
 kept_left {rs} {own} {order} {new} {m} {m'} {place} {n} kept h left e =
     let front = take place order in
@@ -145,7 +147,7 @@ kept_left {rs} {own} {order} {new} {m} {m'} {place} {n} kept h left e =
       aims_64 = kept.aims_64;
       drives = λ k there. kept.drives k (ap (has k) cut ∙ has_middle k n front back there);
       masks = masks_left (kind_at rs own) front back m m' n
-          (subst (λ o. AreMasks (kind_at rs own) o m) cut kept.masks) left;
+          (subst (λ o. AreMasks (kind_at rs own) o m) cut kept.masks) h.low left;
     })
 
 pub shown_left : {X Y : Type 0} (f : X → Y) (order new : List X) (now : List Y) (place : ℕ) → map f order ≡ now

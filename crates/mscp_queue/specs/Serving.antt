@@ -1,5 +1,5 @@
 -- One step: what it does with a record and its drive, what is told of it before, and which record it may serve.
-use Rattle.std.specs.Prelude.{◌≡◌, ℕ, ◌+◌, ◌<◌, Bool, true, false, if◌then◌else◌, List, ◌++◌, length, map, take, drop, All, Option, Some, None, option_map}
+use Rattle.std.specs.Prelude.{◌≡◌, ℕ, ◌+◌, ◌<◌, Bool, true, false, if◌then◌else◌, not, ◌&&◌, List, ◌++◌, length, map, take, drop, All, Option, Some, None, option_map}
 use Rattle.mscp_packet.specs.declared.command.Order.{Order}
 use Rattle.mscp_packet.specs.declared.end.End.{End}
 use Rattle.mscp_drive.specs.Shape.{cylinder_of}
@@ -33,6 +33,10 @@ abbrev pub end_given : Block → Drive → Record → Option End
 end_given k d r =
     if goes_on d.online r.command.order k (left_of r) then None
     else Some (outcome_at d.unit d.online r.command r.good k)
+
+-- a step with this block is neither the first of a record's command nor the last
+abbrev pub is_amid : Block → Drive → Record → Bool
+is_amid k d r = not (is_unstarted r) && goes_on d.online r.command.order k (left_of r)
 
 -- the state that a step leaves its unit in, which ended the order so or not (manual)
 abbrev pub state_left : Bool → Order → Option End → Bool

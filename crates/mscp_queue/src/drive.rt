@@ -39,6 +39,14 @@ impl Drive {
         self.online = after.online;
         self.head = after.head;
     }
+
+    /// The head goes over to another place, and nothing else is written.
+    #[inline(always)]
+    pub(crate) fn move_head(&mut self, head: Head)
+        ensures { self.new ≡ record self.old { head = head } }
+    {
+        self.head = head;
+    }
 }
 
 /// The drive of the smallest unit, which fills the places of a list that isn't full.

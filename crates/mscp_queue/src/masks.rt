@@ -162,15 +162,19 @@ impl Masks {
         with_bit(without(later, self.serving), slot, false)
     }
 
-    /// The command of a slot leaves it.
-    pub fn leave(&mut self, slot: usize)
-        requires { slot < 64 }
-        ensures { HasLeft slot self.old self.new }
+    /// The command of a slot leaves it, whose unit's drive stands at this place. Where nobody else waits, no mask of those
+    /// that came earlier is of use, and each is written before it is.
+    pub fn leave(&mut self, slot: usize, drive: usize)
+        requires slot { slot < 64 }
+        requires drive { drive < 16 }
+        ensures { HasLeft slot drive self.old self.new }
     {
         self.waiting = with_bit(self.waiting, slot, false);
         self.sequential = with_bit(self.sequential, slot, false);
         self.serving = with_bit(self.serving, slot, false);
-        clear_in_all(&mut self.units, slot);
-        clear_in_all(&mut self.earlier, slot);
+        self.units[drive] = with_bit(self.units[drive], slot, false);
+        if self.waiting != 0 {
+            clear_in_all(&mut self.earlier, slot);
+        }
     }
 }

@@ -4,7 +4,6 @@ ghost use Rattle.std.specs.Prelude.{◌≡◌, ◌<◌, ◌≤◌, [], ℕ, cond
 ghost use Rattle.std.specs.Int.{bit_at};
 ghost use Rattle.mscp_queue.specs.Pickers.{IsSweep, costs};
 
-use crate::lanes::least;
 use crate::view::{Choice, View};
 
 /// Picks the command that starts, of those that may. Any choice is lawful: what a queue shows may start, and the
@@ -40,11 +39,8 @@ impl Picker for Oldest {
     }
 }
 
-/// From so many choices on the least cost is found eight lanes at a time. Below, it is quicker to look at one after the
-/// other.
-const MANY: usize = 16;
-
-/// The first place that has the least cost, and 0 where there is none.
+/// The first place that has the least cost, and 0 where there is none. It looks at one cost after the other: for eight lanes
+/// at a time they would have to be copied first, and that takes longer than it saves.
 fn cheapest(choices: &[Choice]) -> usize
     requires { length choices.now ≤ 64 }
     ensures empty { choices.now ≡ [] → result ≡ 0 }
@@ -65,29 +61,6 @@ fn cheapest(choices: &[Choice]) -> usize
     best
 }
 
-/// What the starts cost, by their places.
-fn costs_of(choices: &[Choice]) -> [u64; 64]
-    requires { length choices.now ≤ 64 }
-    ensures { (k : ℕ) → k < length choices.now → slice_index_or result k 0 ≡ slice_index_or (costs choices.now) k 0 }
-{
-    let mut costs = [0u64; 64];
-    for place in 0..choices.len() {
-        costs[place] = choices[place].cost;
-    }
-    costs
-}
-
-/// The mask of so many places from the first on.
-fn first_places(count: usize) -> u64
-    requires { count ≤ 64 }
-    ensures { (k : ℕ) → k < 64 → bit_at result k ≡ cond (nat_lt k count) 1 0 }
-{
-    if count == 64 {
-        return u64::MAX;
-    }
-    (1 << count) - 1
-}
-
 /// Picks the command whose start costs the least, and of those the oldest: an elevator over all units (profile).
 #[derive(Clone, Copy, Debug, Default, PartialEq, Eq)]
 pub struct Sweep;
@@ -99,10 +72,6 @@ impl Picker for Sweep {
         ensures empty { view.now ≡ [] → result ≡ 0 }
         ensures sweep { 0 < length view.now → IsSweep view.now result }
     {
-        let choices = view.choices();
-        if choices.len() < MANY {
-            return cheapest(choices);
-        }
-        least(&costs_of(choices), first_places(choices.len())).unwrap_or(0)
+        cheapest(view.choices())
     }
 }

@@ -1,34 +1,31 @@
 // The queue of a disk controller: its waiting commands, its drives, and its picker.
 
-ghost use Rattle.std.specs.Prelude.{All, ◌≡◌, ◌+◌, ◌*◌, ◌<◌, ◌≤◌, ◌^◌, [], length, find, option_map, true, false, IfNone, IfSome};
+ghost use Rattle.std.specs.Prelude.{All, ◌≡◌, ◌+◌, ◌*◌, ◌<◌, ◌≤◌, length, find, option_map, false, IfNone, IfSome};
 ghost use Rattle.std.specs.List.{list_any, position};
 ghost use Rattle.mscp_packet.specs.Ends.{IsOfKind};
 ghost use Rattle.mscp_queue.specs.Drives.{is_online_in};
 ghost use Rattle.mscp_queue.specs.Figures.{figure_of_name, figures};
-ghost use Rattle.mscp_queue.specs.Kept.{IsWaitable, place_served, place_without, units_of};
-ghost use Rattle.mscp_queue.specs.Lines.{Begins, BeginsAt, Line, Serves, ServesAt, aborting, fresh, pushed};
+ghost use Rattle.mscp_queue.specs.Kept.{IsWaitable, place_without, units_of};
+ghost use Rattle.mscp_queue.specs.Lines.{Line, aborting, fresh, pushed};
 ghost use Rattle.mscp_queue.specs.Names.{name_on};
 ghost use Rattle.mscp_queue.specs.Orders.{order_weight};
 ghost use Rattle.mscp_queue.specs.Records.{IsServing, aborted_record, has_name, record_at};
-ghost use Rattle.mscp_queue.specs.Serving.{IsNext, end_in, is_begun};
+ghost use Rattle.mscp_queue.specs.Serving.{is_begun};
 ghost use Rattle.mscp_queue.specs.Views.{is_open_at};
 ghost use Rattle.mscp_queue.specs.Why.{holders_of_name, is_nobody};
 
 mod restoring;
+mod stepping;
 
 use crate::aim::Aim;
 use crate::backlog::Backlog;
-use crate::block::Block;
 use crate::drive::{Drive, drive_of, drives_of, renew_drives};
 use crate::lineup::Lineup;
 use crate::name::{Connection, Name};
 use crate::outcome::aborted_end;
 use crate::picker::Picker;
 use crate::record::Record;
-use crate::report::Report;
-use crate::service::{serve, upcoming};
-use crate::start::{choice_in, picked_place};
-use crate::upcoming::Upcoming;
+use crate::start::choice_in;
 use crate::view::View;
 use crate::why::{Holder, holders_at};
 use arrayvec::ArrayVec;
@@ -102,13 +99,6 @@ fn without_place(known: Option<usize>, gone: usize) -> Option<usize>
         Some(place) if place > gone => Some(place - 1),
         _ => None,
     }
-}
-
-/// The place of the command in service after a step of the one at a place, which ended it or not.
-fn place_served(ends: bool, place: usize) -> Option<usize>
-    ensures { result ≡ place_served ends place }
-{
-    if ends { None } else { Some(place) }
 }
 
 impl<K: Picker> Queue<K> {
@@ -300,103 +290,6 @@ impl<K: Picker> Queue<K> {
         match self.begun {
             Some(place) => self.backlog.record(place).has_name(name),
             None => false,
-        }
-    }
-
-    /// The place of the command in service, or, where none is, of one that the picker picks.
-    fn place_to_begin(&mut self) -> usize
-        requires nothing { self.old.begun ≡ None }
-        requires some { 0 < length self.old.waiting }
-        ensures next { IsNext (K.picks self.old.picker) self.old.budget self.old.drives self.old.waiting self.old.begun result }
-        ensures same { self.new ≡ self.old }
-    {
-        match self.serving {
-            Some(place) => place,
-            None => picked_place(
-                &self.backlog,
-                self.drives.as_slice(),
-                self.longest,
-                &self.picker,
-                &mut self.lineup,
-                &mut self.view,
-            ),
-        }
-    }
-
-    /// The place of the command that is served next: what was begun, or else that in service, or one that the picker
-    /// picks.
-    fn next_place(&mut self) -> Option<usize>
-        ensures none { IfNone result (self.old.waiting ≡ []) }
-        ensures unbegun { IfNone result (self.old.begun ≡ None) }
-        ensures some { IfSome result (λ place.
-            IsNext (K.picks self.old.picker) self.old.budget self.old.drives self.old.waiting self.old.begun place) }
-        ensures same { self.new ≡ self.old }
-    {
-        match self.begun {
-            Some(place) => Some(place),
-            None if self.backlog.len() == 0 => None,
-            None => Some(self.place_to_begin()),
-        }
-    }
-
-    /// Begins the record at the place.
-    fn begin_at(&mut self, place: usize) -> Upcoming
-        requires { IsNext (K.picks self.old.picker) self.old.budget self.old.drives self.old.waiting self.old.begun place }
-        ensures { BeginsAt (K.picks self.old.picker) self.old result self.new place }
-    {
-        self.begun = Some(place);
-        let record = self.backlog.record(place);
-        let drive = usize::from(self.backlog.aim(place).drive);
-        upcoming(&self.drives[drive], record)
-    }
-
-    /// What the next step serves, if a command waits. Where nothing is in service and nothing was begun the picker picks
-    /// it, and its choice is kept: until a step, a reset, or an abort of that command, this answers the same.
-    pub fn begin(&mut self) -> Option<Upcoming>
-        ensures { Begins (K.picks self.old.picker) self.old result self.new }
-    {
-        let place = self.next_place()?;
-        Some(self.begin_at(place))
-    }
-
-    /// Serves a block, with this outcome, to the record at the place.
-    fn serve_at(&mut self, place: usize, block: &Block) -> Report
-        requires { IsNext (K.picks self.old.picker) self.old.budget self.old.drives self.old.waiting self.old.begun place }
-        ensures served { ServesAt (K.picks self.old.picker) block.now self.old result self.new place }
-        ensures shaped { IfSome (end_in result) IsOfKind }
-        ensures units { units_of self.new.drives ≡ units_of self.old.drives }
-    {
-        let record = *self.backlog.record(place);
-        let at = usize::from(self.backlog.aim(place).drive);
-        let service = serve(&self.drives[at], &record, block);
-        self.drives[at].follow(&service.drive);
-        let ends = service.ended.is_some();
-        self.backlog.serve(place, ends);
-        self.lineup.serve(place, at, ends);
-        self.begun = None;
-        self.serving = place_served(ends, place);
-        let command = record.command();
-        Report::Served {
-            connection: record.connection(),
-            reference: command.reference,
-            unit: command.unit,
-            lbn: service.lbn,
-            started: record.is_unstarted(),
-            seek: service.seek,
-            ended: service.ended,
-        }
-    }
-
-    /// Serves one block, with this outcome, if a command waits: to what was begun, or else to the command in service, or
-    /// to one that the picker picks of those that may start. The end that it brings has the body of its endcode.
-    pub fn serve(&mut self, block: Block) -> Report
-        ensures served { Serves (K.picks self.old.picker) block self.old result self.new }
-        ensures shaped { IfSome (end_in result) IsOfKind }
-        ensures units { units_of self.new.drives ≡ units_of self.old.drives }
-    {
-        match self.next_place() {
-            Some(place) => self.serve_at(place, &block),
-            None => Report::Idle,
         }
     }
 }

@@ -190,6 +190,24 @@ impl Record {
         }
     }
 
+    /// The command has a step that doesn't end it. Nothing else of the record is written.
+    #[inline(always)]
+    pub(crate) fn advance(&mut self)
+        requires { self.old.done + 1 < 2 ^ 32 }
+        ensures { self.new ≡ advanced self.old }
+    {
+        self.done += 1;
+    }
+
+    /// The command was passed at this toll. Nothing else of the record is written.
+    #[inline(always)]
+    pub(crate) fn pass(&mut self, toll: u32)
+        requires { self.old.passed + toll < 2 ^ 32 }
+        ensures { self.new ≡ passed_by toll self.old }
+    {
+        self.passed += toll;
+    }
+
     /// How many blocks of its budget a step of the command costs each earlier one: all of its own where it starts.
     pub fn step_toll(&self) -> u32
         ensures value { result ≡ step_toll self.now }

@@ -1,11 +1,13 @@
 // One step of a waiting command on its drive.
 
-ghost use Rattle.std.specs.Prelude.{◌≡◌, ℕ, ◌+◌, ◌<◌, ◌≤◌, ◌^◌, Some};
+ghost use Rattle.std.specs.Prelude.{◌≡◌, ℕ, ◌+◌, ◌<◌, ◌≤◌, ◌^◌, Some, option_map};
 ghost use Rattle.mscp_drive.specs.Heads.{distance};
+ghost use Rattle.mscp_drive.specs.Shape.{cylinder_of};
 ghost use Rattle.mscp_queue.specs.Drives.{IsOnUnit};
 ghost use Rattle.mscp_queue.specs.Orders.{first_block};
-ghost use Rattle.mscp_queue.specs.Outcomes.{head_after};
-ghost use Rattle.mscp_queue.specs.Serving.{drive_after, end_given, seek_from, state_left, touched, upcoming_of};
+ghost use Rattle.mscp_queue.specs.Outcomes.{goes_on, head_after};
+ghost use Rattle.mscp_queue.specs.Records.{is_unstarted, left_of};
+ghost use Rattle.mscp_queue.specs.Serving.{drive_after, end_given, is_amid, seek_from, state_left, touched, upcoming_of};
 
 use crate::block::Block;
 use crate::drive::Drive;
@@ -50,19 +52,35 @@ pub(crate) fn upcoming(drive: &Drive, served: &Record) -> Upcoming
     }
 }
 
+/// Whether the command waits on after a step with this block: the block is good, and not the last of a transfer.
 #[inline(always)]
+fn goes_on(drive: &Drive, served: &Record, block: &Block) -> bool
+    ensures value { result ≡ goes_on drive.now.online served.now.command.order block.now (left_of served.now) }
+    ensures small { served.now.weight < 2 ^ 32 }
+{
+    let more = served.left() > 1;
+    touches(drive.online, &served.command().order) && matches!(block, Block::Good) && more
+}
+
+/// Whether a step with this block is neither the first of the command nor the last.
+#[inline(always)]
+pub(crate) fn is_amid(drive: &Drive, served: &Record, block: &Block) -> bool
+    ensures { result ≡ is_amid block.now drive.now served.now }
+{
+    !served.is_unstarted() && goes_on(drive, served, block)
+}
+
 /// The end that a step with this block gives to the command, if it ends.
+#[inline(always)]
 fn end_given(drive: &Drive, served: &Record, block: &Block) -> Option<End>
     requires { served.now.done < served.now.weight }
     ensures { result ≡ end_given block.now drive.now served.now }
 {
-    let command = served.command();
-    let more = served.left() > 1;
-    let goes_on = touches(drive.online, &command.order) && more;
-    match block {
-        Block::Good if goes_on => None,
-        _ => Some(outcome(&drive.unit, drive.online, &command, served.done(), block)),
+    if goes_on(drive, served, block) {
+        return None;
     }
+    let command = served.command();
+    Some(outcome(&drive.unit, drive.online, &command, served.done(), block))
 }
 
 /// The state that a step leaves its unit in, which ended the order so or not.
@@ -89,6 +107,33 @@ fn head_on(head: &Head, to: u32, starts: bool) -> (u32, Head)
     (head.distance(to), then)
 }
 
+/// What a step has its unit's head do: the block that it touches, how many cylinders the head goes, and the head then.
+#[derive(Clone, Copy, Debug, PartialEq, Eq)]
+pub(crate) struct Way {
+    pub lbn: Option<u32>,
+    pub seek: u32,
+    pub head: Head,
+}
+
+/// Where the head goes at the next step of the command.
+#[inline(always)]
+pub(crate) fn way_of(drive: &Drive, served: &Record) -> Way
+    requires { first_block served.now.command.order + served.now.done < 2 ^ 32 }
+    ensures lbn { result.lbn ≡ touched drive.now served.now }
+    ensures seek { result.seek ≡ seek_from drive.now (touched drive.now served.now) }
+    ensures head { result.head ≡ head_after (is_unstarted served.now)
+        (option_map (cylinder_of drive.now.unit) (touched drive.now served.now)) drive.now.head }
+    ensures on_unit { ((lbn : ℕ) → touched drive.now served.now ≡ Some lbn → lbn < drive.now.unit.size)
+        → IsOnUnit drive.now → IsOnUnit (record drive.now { head = result.head }) }
+{
+    let lbn = touched(drive, served);
+    let (seek, head) = match lbn {
+        Some(lbn) => head_on(&drive.head, drive.unit.cylinder(lbn), served.is_unstarted()),
+        None => (0, drive.head),
+    };
+    Way { lbn, seek, head }
+}
+
 /// What a step of the command with this block does.
 #[inline(always)]
 pub(crate) fn serve(drive: &Drive, served: &Record, block: &Block) -> Service
@@ -101,20 +146,16 @@ pub(crate) fn serve(drive: &Drive, served: &Record, block: &Block) -> Service
     ensures on_unit { ((lbn : ℕ) → touched drive.now served.now ≡ Some lbn → lbn < drive.now.unit.size)
         → IsOnUnit drive.now → IsOnUnit result.drive }
 {
-    let lbn = touched(drive, served);
     let ended = end_given(drive, served, block);
-    let (seek, head) = match lbn {
-        Some(lbn) => head_on(&drive.head, drive.unit.cylinder(lbn), served.is_unstarted()),
-        None => (0, drive.head),
-    };
+    let way = way_of(drive, served);
     Service {
-        lbn,
-        seek,
+        lbn: way.lbn,
+        seek: way.seek,
         ended,
         drive: Drive {
             unit: drive.unit,
             online: state_left(drive.online, &served.command().order, &ended),
-            head,
+            head: way.head,
         },
     }
 }

@@ -105,7 +105,7 @@ impl Slots {
     {
         let slot = usize::from(self.order[place]);
         self.order.remove(place);
-        self.masks.leave(slot);
+        self.masks.leave(slot, usize::from(self.aims[slot].drive));
     }
 
     /// The command at the place was passed at this toll.
@@ -115,7 +115,7 @@ impl Slots {
         ensures { self.new ≡ slice_set self.old place (with_item (passed_by toll) (slot_at self.old place)) }
     {
         let slot = usize::from(self.order[place]);
-        self.records[slot] = self.records[slot].passed_by(toll);
+        self.records[slot].pass(toll);
     }
 
     /// Each command in front of the place was passed at this toll.
@@ -136,7 +136,7 @@ impl Slots {
         ensures { self.new ≡ slice_set self.old place (with_item advanced (slot_at self.old place)) }
     {
         let slot = usize::from(self.order[place]);
-        self.records[slot] = self.records[slot].advanced();
+        self.records[slot].advance();
         self.masks.serve(slot);
     }
 
@@ -201,6 +201,7 @@ impl Slots {
         requires to { AreOnDrive at drive.now (aims self.now) }
         ensures { IsRecosted at drive.now (aims self.now) roll.old roll.new }
     {
+        let drive = *drive;
         let mut left = self.masks.units[at];
         while let Some(slot) = lowest_set(left, 64) {
             left = with_bit(left, slot, false);

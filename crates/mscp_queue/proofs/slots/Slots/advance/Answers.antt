@@ -3,11 +3,6 @@ use Rattle.mscp_queue.specs.Records.{Record, advanced}
 use Rattle.mscp_queue.proofs.Shown.{item_at, item_set, kept_advanced, number_of}
 use Rattle.mscp_queue.proofs.slots.Slots.advance.Goals as goal
 
-pub bounds-self-inside-slot : goal.bounds-self-inside-slot
-bounds-self-inside-slot c =
-    (number_of c.self.inside.dues c.args.self.now c.self.invariant c.self.view_is c.requires.place c.from-slot.ensures
-    c.deref.ensures.0).low
-
 pub listed : goal.listed
 listed c =
     let n = number_of c.self.inside.dues c.args.self.now c.self.invariant c.self.view_is c.requires.place
@@ -15,27 +10,21 @@ listed c =
     c.deref.ensures.0 in
     omega (arith, n.low, c.self.invariant.records_64)
 
-pub advanced-requires : goal.advanced-requires
-advanced-requires c =
+pub bounds-self-inside-slot : goal.bounds-self-inside-slot
+bounds-self-inside-slot c =
+    (number_of c.self.inside.dues c.args.self.now c.self.invariant c.self.view_is c.requires.place c.from-slot.ensures
+    c.deref.ensures.0).low
+
+pub advance-requires : goal.advance-requires
+advance-requires c =
     let n = number_of c.self.inside.dues c.args.self.now c.self.invariant c.self.view_is c.requires.place
     c.from-slot.ensures
     c.deref.ensures.0 in
     let is = ap (λ (q : Record). q.done) (item_at c.self.inside.dues c.args.self.now c.index-self-slot.result
     c.self.invariant
     c.self.view_is c.requires.place n) in
-    omega (arith, is, c.requires.unfinished)
-
-pub listed-2 : goal.listed-2
-listed-2 c =
-    let n = number_of c.self.inside.dues c.args.self.now c.self.invariant c.self.view_is c.requires.place
-    c.from-slot.ensures
-    c.deref.ensures.0 in
-    omega (arith, n.low, c.self.invariant.records_64)
-
-pub bounds-self-inside-slot-2 : goal.bounds-self-inside-slot-2
-bounds-self-inside-slot-2 c =
-    (number_of c.self.inside.dues c.args.self.now c.self.invariant c.self.view_is c.requires.place c.from-slot.ensures
-    c.deref.ensures.0).low
+    let own = ap (λ (q : Record). q.done) c.index-self-slot.is in
+    omega (arith, is, own, c.requires.unfinished)
 
 pub serve-requires : goal.serve-requires
 serve-requires c =
@@ -47,7 +36,8 @@ invariant_of-self c =
     let n = number_of c.self.inside.dues c.args.self.now c.self.invariant c.self.view_is c.requires.place
     c.from-slot.ensures
     c.deref.ensures.0 in
-    kept_advanced c.index-self-slot.result c.self.invariant n.low n.taken c.advanced.ensures c.serve.ensures.others
+    kept_advanced c.index-self-slot.result c.self.invariant n.low n.taken
+    c.advance.ensures c.serve.ensures.others
     c.serve.ensures.set
 
 pub returns : goal.returns
@@ -56,4 +46,4 @@ returns c =
     c.from-slot.ensures
     c.deref.ensures.0 in
     item_set c.self.inside.dues c.args.self.now advanced c.index-self-slot.result c.self.invariant c.self.view_is
-    c.requires.place n c.advanced.ensures
+    c.requires.place n c.advance.ensures

@@ -1,17 +1,32 @@
+use Rattle.std.proofs.Common.{subst, arith}
+use Rattle.mscp_queue.specs.Masks.{HasLeft}
 use Rattle.mscp_queue.specs.Slots.{held}
 use Rattle.mscp_queue.proofs.Shown.{kept_left, number_of, shown_left}
 use Rattle.mscp_queue.proofs.slots.Slots.remove.Goals as goal
 
-pub leave-requires : goal.leave-requires
-leave-requires c =
+pub bounds-self-inside-slot : goal.bounds-self-inside-slot
+bounds-self-inside-slot c =
     (number_of c.self.inside.dues c.args.self.now c.self.invariant c.self.view_is c.requires c.from-slot.ensures
     c.deref.ensures.0).low
 
-pub invariant_of-self : goal.invariant_of-self
-invariant_of-self c =
+pub leave-requires : goal.leave-requires
+leave-requires c =
     let n = number_of c.self.inside.dues c.args.self.now c.self.invariant c.self.view_is c.requires c.from-slot.ensures
     c.deref.ensures.0 in
-    kept_left c.self.invariant n c.leave.ensures c.remove.ensures.items
+    let few = c.self.invariant.drives c.from-slot.result n.taken in
+    record {
+      slot = n.low;
+      drive = omega (arith, few, c.from.ensures);
+    }
+
+pub invariant_of-self : goal.invariant_of-self
+invariant_of-self c =
+    let s = c.self.inside in
+    let n = number_of s.dues c.args.self.now c.self.invariant c.self.view_is c.requires c.from-slot.ensures
+    c.deref.ensures.0 in
+    kept_left c.self.invariant n
+    (subst (λ d. HasLeft c.from-slot.result d s.masks c.leave.new.self) c.from.ensures c.leave.ensures)
+    c.remove.ensures.items
 
 pub returns : goal.returns
 returns c =

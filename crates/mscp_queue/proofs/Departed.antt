@@ -1,0 +1,139 @@
+-- The masks stay those of the slots where a command leaves: at an end or an abort.
+use Rattle.std.proofs.Common.{◌≡◌, ◌≢◌, ◌<◌, ◌⊎◌, inl, inr, ℕ, Bool, true, false, ◌&&◌, ◌||◌, nat_eq, List, [], ◌∷◌, ◌++◌, sym, subst, ap, ◌∙◌, refl, arith}
+use Rattle.std.specs.Prelude.{slice_index_or}
+use Rattle.std.specs.Int.{bit_at}
+use Rattle.std.proofs.lemmas.Nat.Bits.{bit_at-zero}
+use Rattle.std.proofs.lemmas.List.{append-nil}
+use Rattle.mscp_queue.specs.declared.masks.Masks.{Masks}
+use Rattle.mscp_queue.specs.Masks.{AreEarlier, AreMasks, AreSlots, HasLeft, IsMaskOf, IsSet, Kind, bit, has}
+use Rattle.mscp_queue.proofs.Masked.{eq_false, eq_true, has_gone, has_kept, if_not, not_behind, not_here, off, same_or, set_mask, unit_set, without, without_append}
+
+slots_left : (order : List ℕ) (n : ℕ) → AreSlots order → AreSlots (without n order)
+slots_left [] n a = tt
+slots_left (s ∷ order) n a = by (slots_left order n a.2) (same_or s n)
+  where
+    by : AreSlots (without n order) → (s ≡ n) ⊎ (s ≢ n) → AreSlots (if_not (nat_eq s n) s (without n order))
+    by h (inl f) = subst (λ b. AreSlots (if_not b s (without n order))) (sym (eq_true s n f)) h
+    by h (inr d) = subst (λ b. AreSlots (if_not b s (without n order))) (sym (eq_false s n d)) (
+      a.0,
+      has_kept s n order d ∙ a.1,
+      h,
+    )
+
+module _ (earlier earlier' : ℕ → ℕ) (n : ℕ) (clear : (s : ℕ) → IsSet false n (earlier s) (earlier' s)) where
+  cleared : (s : ℕ) (front : List ℕ) → IsMaskOf (earlier s) (λ k. has k front)
+      → IsMaskOf (earlier' s) (λ k. has k (without n front))
+  cleared s front is = set_mask (earlier s) (earlier' s) n false _ _ (clear s) is (has_gone n front)
+      (λ k d. has_kept k n front d)
+
+  earlier_left : (front order : List ℕ) → AreEarlier earlier front order
+      → AreEarlier earlier' (without n front) (without n order)
+  earlier_left front [] a = tt
+  earlier_left front (s ∷ order) a = by (earlier_left (front ++ s ∷ []) order a.1) (same_or s n)
+    where
+      ends : (b : Bool) → nat_eq s n ≡ b → without n (front ++ s ∷ []) ≡ without n front ++ if_not b s []
+      ends b e = without_append n front (s ∷ []) ∙ ap (λ b. without n front ++ if_not b s []) e
+
+      by : AreEarlier earlier' (without n (front ++ s ∷ [])) (without n order) → (s ≡ n) ⊎ (s ≢ n)
+          → AreEarlier earlier' (without n front) (if_not (nat_eq s n) s (without n order))
+      by rest (inl f) =
+          subst (λ b. AreEarlier earlier' (without n front) (if_not b s (without n order))) (sym (eq_true s n f))
+          (subst (λ xs. AreEarlier earlier' xs (without n order)) (ends true (eq_true s n f)
+          ∙ append-nil (without n front)) rest)
+      by rest (inr d) =
+          subst (λ b. AreEarlier earlier' (without n front) (if_not b s (without n order))) (sym (eq_false s n d)) (
+            cleared s front a.0,
+            subst (λ xs. AreEarlier earlier' xs (without n order))
+                (ends false (eq_false s n d)) rest,
+          )
+
+-- where nobody waits, nobody came earlier
+none_earlier : (m : ℕ) (earlier : ℕ → ℕ) (order : List ℕ) → m ≡ 0 → AreSlots order → IsMaskOf m (λ k. has k order)
+    → AreEarlier earlier [] order
+none_earlier m earlier [] e a is = tt
+none_earlier m earlier (s ∷ order) e a is =
+    let bad = sym (is s a.0 ∙ ap (λ b. bit (b || has s order)) (eq_true s s refl))
+    ∙ ap (λ m. bit_at m s) e ∙ bit_at-zero s in
+    absurd (omega (arith, bad))
+
+earlier_kept : (kinds : ℕ → Kind) (order : List ℕ) (m m' : Masks) (n drive : ℕ) → AreMasks kinds order m
+    → HasLeft n drive m m' → AreSlots (without n order) → IsMaskOf m'.waiting (λ k. has k (without n order))
+    → AreEarlier (λ k. slice_index_or m'.earlier k 0) [] (without n order)
+earlier_kept kinds order m m' n drive masks l apart waits = by (same_or m'.waiting 0)
+  where
+    by : (m'.waiting ≡ 0) ⊎ (m'.waiting ≢ 0) → AreEarlier (λ k. slice_index_or m'.earlier k 0) [] (without n order)
+    by (inl e) = none_earlier m'.waiting _ (without n order) e apart waits
+    by (inr d) = earlier_left _ _ n (l.earlier d) [] order masks.of_earlier
+
+masks_without : (kinds : ℕ → Kind) (order : List ℕ) (m m' : Masks) (n : ℕ) → AreMasks kinds order m → n < 64
+    → HasLeft n (kinds n).drive m m' → AreMasks kinds (without n order) m'
+masks_without kinds order m m' n masks low l = record {
+  apart = slots_left order n masks.apart;
+  of_waiting = set_mask m.waiting m'.waiting n false _ _ l.waits masks.of_waiting (has_gone n order)
+      (λ k d. has_kept k n order d);
+  of_sequential =
+      set_mask m.sequential m'.sequential n false _ _ l.ordered masks.of_sequential
+      (ap (λ b. b && (kinds n).sequential) (has_gone n order))
+      (λ k d. ap (λ b. b && (kinds k).sequential) (has_kept k n order d));
+  of_serving =
+      set_mask m.serving m'.serving n false _ _ l.served masks.of_serving
+      (ap (λ b. b && (kinds n).serving) (has_gone n order))
+      (λ k d. ap (λ b. b && (kinds k).serving) (has_kept k n order d));
+  of_units = λ u.
+      set_mask (slice_index_or m.units u 0) (slice_index_or m'.units u 0) n false _ _
+      (own_set u (same_or (kinds n).drive u)) (masks.of_units u)
+      (ap (λ b. b && nat_eq (kinds n).drive u) (has_gone n order))
+      (λ k d. ap (λ b. b && nat_eq (kinds k).drive u) (has_kept k n order d));
+  of_earlier = earlier_kept kinds order m m' n (kinds n).drive masks l (slots_left order n masks.apart)
+      (set_mask m.waiting m'.waiting n false _ _ l.waits masks.of_waiting (has_gone n order)
+      (λ k d. has_kept k n order d));
+}
+  where
+    both_false : (b : Bool) → (b && false) ≡ false
+    both_false true = refl
+    both_false false = refl
+
+    own_set : (u : ℕ) → ((kinds n).drive ≡ u) ⊎ ((kinds n).drive ≢ u)
+        → IsSet false n (slice_index_or m.units u 0) (slice_index_or m'.units u 0)
+    own_set u (inl e) = subst (λ v. IsSet false n (slice_index_or m.units v 0) (slice_index_or m'.units v 0)) e l.own
+    own_set u (inr d) =
+        unit_set _ _ n false (λ e. let bad = ap bit e in absurd (omega (arith, bad)))
+        (λ e. l.units u (λ f. d (sym f)))
+        (masks.of_units u n low ∙ ap (λ b. bit (has n order && b)) (eq_false (kinds n).drive u d)
+        ∙ ap bit (both_false (has n order)))
+
+-- ---- the order without a slot
+
+without_none : (n : ℕ) (xs : List ℕ) → has n xs ≡ false → without n xs ≡ xs
+without_none n [] e = refl
+without_none n (x ∷ xs) e =
+    ap (λ b. if_not b x (without n xs)) (eq_false x n (not_here n x xs e))
+    ∙ ap (λ xs. x ∷ xs) (without_none n xs (not_behind n x xs e))
+
+without_cuts : (front back : List ℕ) (n : ℕ) → has n front ≡ false → has n back ≡ false
+    → without n (front ++ n ∷ back) ≡ front ++ back
+without_cuts front back n e f =
+    without_append n front (n ∷ back)
+    ∙ ap (λ xs. xs ++ without n (n ∷ back)) (without_none n front e)
+    ∙ ap (λ xs. front ++ xs) (ap (λ b. if_not b n (without n back)) (eq_true n n refl) ∙ without_none n back f)
+
+-- a slot stands once
+pub once_in : (front : List ℕ) (n : ℕ) (back : List ℕ) → AreSlots (front ++ n ∷ back)
+    → (has n front ≡ false) × (has n back ≡ false)
+once_in [] n back a = (refl, a.1)
+once_in (s ∷ front) n back a =
+    let rest = once_in front n back a.2 in
+    let other : n ≢ s = λ e. not_first s n front back a.1 (sym e) in
+    (ap (λ b. b || has n front) (eq_false n s other) ∙ rest.0, rest.1)
+  where
+    not_first : (s n : ℕ) (front back : List ℕ) → has s (front ++ n ∷ back) ≡ false → s ≢ n
+    not_first s n [] back e = λ f. not_here s n back e (sym f)
+    not_first s n (x ∷ front) back e = not_first s n front back (off (nat_eq s x) (has s (front ++ n ∷ back)) e).1
+
+pub masks_left : (kinds : ℕ → Kind) (front back : List ℕ) (m m' : Masks) (n : ℕ)
+    → AreMasks kinds (front ++ n ∷ back) m → n < 64 → HasLeft n (kinds n).drive m m'
+    → AreMasks kinds (front ++ back) m'
+masks_left kinds front back m m' n masks low l =
+    let once = once_in front n back masks.apart in
+    subst (λ order. AreMasks kinds order m') (without_cuts front back n once.0 once.1)
+    (masks_without kinds (front ++ n ∷ back) m m' n masks low l)
