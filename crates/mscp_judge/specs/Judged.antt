@@ -132,6 +132,16 @@ Hears c number log line (Err (faults.Script fault)) new =
     (fault.line ≡ number) × (after_line number log line ≡ Err fault.cause)
 Hears c number log line (Err faults.OutOfMemory) new = Unit {0}
 
+-- lines were passed over, and these are left: a legal log has each of them there, and the judge stands behind them
+pub record Passed {A : Type 0} (c : Settings) (before : ℕ) (log : Log) (old : List ℕ) (number : ℕ) (left : List ℕ)
+    (judge : Judge A) : Type 0 where
+  pub front : List (List ℕ)
+  pub next : Log
+  pub whole : lines old ≡ front ++ lines left
+  pub count : number ≡ before + length front
+  pub read : after_lines before log front ≡ Ok next
+  pub stands : Stands c next judge
+
 -- ---- a whole log
 
 -- what is said of a log, of whose header this was found: its fault, or what is said of the lines behind it

@@ -282,8 +282,9 @@ impl<A: Allocator> Judge<A> {
         Some(due_rule(self.due(), line))
     }
 
-    /// The rule that the line of these words breaks, if it isn't what the next step answers.
-    fn next_rule(&self, words: Words<'_>) -> Rule
+    /// The rule that the line of these words breaks, if it isn't what the next step answers. This is the name in it.
+    fn next_rule(&self, words: Words<'_>, name: Named) -> Rule
+        requires { name ≡ naming.name_in (lexical.words words.rest.now) }
         ensures idle { is_service (lexical.words words.entry.rest.now) ≡ false → result ≡ Rule.Idle }
         ensures step { is_service (lexical.words words.entry.rest.now) ≡ true
             → (c : Settings) (t : Trace) (begun : named.Named) → IsValid c
@@ -291,7 +292,7 @@ impl<A: Allocator> Judge<A> {
             → IsStepRule c t (name_of (naming.name_in (lexical.words words.entry.rest.now))) result }
     {
         if is_service(words) {
-            step_rule(&self.controller, name_in(words))
+            step_rule(&self.controller, name)
         } else {
             Rule::Idle
         }
@@ -334,9 +335,10 @@ impl<A: Allocator> Judge<A> {
         ensures count { OnOk result (self.new.reporter.count + self.new.owed
             ≡ self.old.reporter.count + self.old.owed) }
     {
-        let rule = self.next_rule(words);
+        let name = name_in(words);
+        let rule = self.next_rule(words, name);
         self.keep_starts(&rule);
-        self.step(name_in(words))?;
+        self.step(name)?;
         if self.tell(line) {
             return Ok(None);
         }

@@ -1,10 +1,10 @@
 // A log, judged line by line.
 
-ghost use Rattle.std.specs.Prelude.{◌≡◌, ◌+◌, ◌<◌, ◌≤◌, IfOk, OnOk};
+ghost use Rattle.std.specs.Prelude.{◌≡◌, ◌+◌, ◌<◌, ◌≤◌, IfOk, OnOk, length};
 ghost use Rattle.mscp_control.specs.Settings.{Settings};
 ghost use Rattle.mscp_reader.specs.Lexical as lexical;
 ghost use Rattle.mscp_reader.specs.declared.events.TheConstants.{MOST_EVENTS};
-ghost use Rattle.mscp_judge.specs.Judged.{Breaks, Hears, Judges};
+ghost use Rattle.mscp_judge.specs.Judged.{Breaks, Hears, Judges, Passed};
 ghost use Rattle.mscp_judge.specs.Logs.{Log};
 ghost use Rattle.mscp_judge.specs.Standing.{Stands};
 
@@ -13,8 +13,8 @@ use crate::judge::{Judge, Right};
 use crate::rules::Rule;
 use crate::starting::Starts;
 use crate::totals::Totals;
-use mscp_control::Config;
-use mscp_reader::{Line, Lines, ReadFault, request_after, words_of};
+use mscp_control::{Config, OutOfMemory};
+use mscp_reader::{Line, Lines, MOST_EVENTS, ReadFault, request_after, words_of};
 use std::alloc::Allocator;
 
 /// What is said of a log.
@@ -39,17 +39,45 @@ pub fn judge_lines<A: Allocator>(
     ensures { Judges config lines.old.number (lexical.lines lines.old.rest.now) result }
 {
     let mut judge = Judge::new(alloc, config);
+    pass_plain(&mut judge, lines)?;
     while let Some(bytes) = lines.cut() {
         if let Some(rule) = judge_line(&mut judge, lines.number, bytes)? {
             let starts = judge.take_starts();
             return Ok(Verdict::Wrong(lines.number, rule, starts, judge.right()?));
         }
+        pass_plain(&mut judge, lines)?;
     }
     if judge.is_settled() {
         Ok(Verdict::Legal(judge.totals()))
     } else {
         Ok(Verdict::Unanswered(judge.right()?))
     }
+}
+
+/// Where all is answered, passes over the next line, if that is found to be plain and its events aren't too many. Any other
+/// line stays.
+fn pass_plain<A: Allocator>(
+    judge: &mut Judge<A>,
+    lines: &mut Lines<'_>,
+) -> Result<(), OutOfMemory>
+    requires { judge.old.reporter.count + judge.old.owed ≤ MOST_EVENTS }
+    ensures passed { OnOk result ((c : Settings) (log : Log) → Stands c log judge.old
+        → Passed c lines.old.number log lines.old.rest.now lines.new.number lines.new.rest.now judge.new) }
+    ensures count { OnOk result (judge.new.reporter.count + judge.new.owed ≤ MOST_EVENTS) }
+    ensures left { OnOk result (length lines.new.rest.now ≤ length lines.old.rest.now) }
+{
+    if !judge.is_settled() {
+        return Ok(());
+    }
+    let (rest, number) = (lines.rest, lines.number);
+    let Some(found) = lines.plain_line() else {
+        return Ok(());
+    };
+    if found.plain.event_count() > MOST_EVENTS - judge.count() as usize {
+        *lines = Lines { rest, number };
+        return Ok(());
+    }
+    judge.ask(&found.plain.request())
 }
 
 /// Judges the line of this number: the rule that it breaks, if it breaks one.
@@ -66,11 +94,11 @@ fn judge_line<A: Allocator>(
     ensures count { IfOk result (λ _. judge.new.reporter.count + judge.new.owed ≤ MOST_EVENTS) }
 {
     let words = words_of(number, bytes)?;
-    if words.is_empty() {
-        return Ok(None);
-    }
     if is_answer(words) {
         return Ok(judge.hear(bytes, words)?);
+    }
+    if words.is_empty() {
+        return Ok(None);
     }
     let request = request_after(Line { number, words }, judge.count() as usize)?;
     if !judge.is_settled() {

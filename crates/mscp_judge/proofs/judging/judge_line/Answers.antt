@@ -25,7 +25,7 @@ returns-then-is_empty-clause-hears g c = λ d log s. (
 pub hear-requires-clause-words : goal.hear-requires-clause-words
 hear-requires-clause-words g c =
     (says_words c.args.number c.args.bytes.now _ c.in_ok-words.ensures.words
-    (λ e. true≢false (sym (c.is_empty.ensures.1 e) ∙ c.if-is_empty.false))).0
+    (λ e. true≢false (sym (sym c.is_answer.ensures ∙ c.if-is_answer.true) ∙ ap is_answer e))).0
 
 pub hear-requires-clause-answer : goal.hear-requires-clause-answer
 hear-requires-clause-answer g c =
@@ -34,13 +34,13 @@ hear-requires-clause-answer g c =
 pub hear-requires-clause-printed : goal.hear-requires-clause-printed
 hear-requires-clause-printed g c =
     (says_words c.args.number c.args.bytes.now _ c.in_ok-words.ensures.words
-    (λ e. true≢false (sym (c.is_empty.ensures.1 e) ∙ c.if-is_empty.false))).1
+    (λ e. true≢false (sym (sym c.is_answer.ensures ∙ c.if-is_answer.true) ∙ ap is_answer e))).1
 
 pub returns-then-is_answer-clause-hears : goal.returns-then-is_answer-clause-hears
 returns-then-is_answer-clause-hears g c = λ d log s. (
   telling log (line c.args.bytes.now),
   tells c.args.number log c.args.bytes.now _ c.in_ok-words.ensures.words
-      (λ e. true≢false (sym (c.is_empty.ensures.1 e) ∙ c.if-is_empty.false))
+      (λ e. true≢false (sym (sym c.is_answer.ensures ∙ c.if-is_answer.true) ∙ ap is_answer e))
       (sym c.is_answer.ensures ∙ c.if-is_answer.true),
   c.in_ok-hear.ensures.tells d log s,
 )

@@ -12,6 +12,7 @@ use Rattle.mscp_judge.specs.declared.totals.Totals.{Totals}
 use Rattle.mscp_judge.specs.Standing.{totals_of}
 use Rattle.mscp_judge.specs.Totals.{AreTotals}
 use Rattle.mscp_judge.proofs.Coming.{stands_held, stands_legal, stands_not, stands_open, stands_settings}
+use Rattle.mscp_judge.proofs.Exactly.{lines_behind}
 use Rattle.mscp_judge.proofs.Reading.{lines_more}
 use Rattle.mscp_judge.proofs.judging.judge_lines.Goals as goal
 
@@ -35,21 +36,22 @@ judged_fault c before all front bytes back log number judge (faults.Script fault
 judged_fault c before all front bytes back log number judge faults.OutOfMemory w n r o h = tt
 
 pub loop-bytes-init : goal.loop-bytes-init
-unfolding after_lines
-loop-bytes-init g c = record {
-  front = [];
-  log = nothing;
-  whole = refl;
-  number = omega arith;
-  read = refl;
-  stands = c.new-judge.ensures.stands;
-  few = omega (arith, c.new-judge.ensures.count);
-}
+loop-bytes-init g c =
+    let p = c.in_ok-pass_plain.ensures.passed c.args.config nothing c.new-judge.ensures.stands in
+    record {
+      front = p.front;
+      log = p.next;
+      whole = p.whole;
+      number = p.count;
+      read = p.read;
+      stands = p.stands;
+      few = c.in_ok-pass_plain.ensures.count;
+    }
 
 pub returns-in_err-rule : goal.returns-in_err-rule
 returns-in_err-rule g c =
     let i = c.loop-bytes.invariant in
-    let p = err_from_is_err_and c.from_residual.result c.from_residual.ensures.1 in
+    let p = err_from_is_err_and c.from_residual-in_err-rule.result c.from_residual-in_err-rule.ensures.1 in
     rw (p.1, p.2)
     (judged_fault c.args.config c.args.lines.now.number _ i.front c.in-Some.bytes.now
     (lines c.cut.new.self.rest.now) i.log
@@ -86,18 +88,28 @@ returns-in-Some-2 g c =
 pub loop-bytes-preserved : goal.loop-bytes-preserved
 loop-bytes-preserved g c =
     let i = c.loop-bytes.invariant in
+    let before = c.args.lines.now.number in
     let bytes = c.in-Some.bytes.now in
+    let number = c.cut.new.self.number in
     let k = c.in_ok-rule.ensures.hears c.args.config i.log i.stands in
+    let stands = subst (λ b. Tells c.args.config i.log k.0 c.judge_line.new.judge b) c.in_default-2.is k.2 in
+    let p = c.in_ok-pass_plain-2.ensures.passed c.args.config k.0 stands in
+    let front = i.front ++ bytes ∷ [] in
+    let here : number ≡ before + length front =
+    omega (arith, i.number, c.in-Some.ensures.counted, length-append i.front (bytes ∷ [])) in
+    let read = lines_more before nothing i.front bytes i.log k.0 number i.read
+    (omega (arith, i.number, c.in-Some.ensures.counted)) k.1 in
     record {
-      front = i.front ++ bytes ∷ [];
-      log = k.0;
-      whole = i.whole ∙ (ap (λ ls. i.front ++ ls) c.in-Some.ensures.line
-          ∙ sym (append_assoc i.front (bytes ∷ []) (lines c.cut.new.self.rest.now)));
-      number = omega (arith, i.number, c.in-Some.ensures.counted, length-append i.front (bytes ∷ []));
-      read = lines_more c.args.lines.now.number nothing i.front bytes i.log k.0 c.cut.new.self.number i.read
-          (omega (arith, i.number, c.in-Some.ensures.counted)) k.1;
-      stands = subst (λ b. Tells c.args.config i.log k.0 c.judge_line.new.judge b) c.in_default-2.is k.2;
-      few = c.in_ok-rule.ensures.count;
+      front = front ++ p.front;
+      log = p.next;
+      whole = i.whole ∙ (ap (λ ls. i.front ++ ls) (c.in-Some.ensures.line ∙ ap (λ ls. bytes ∷ ls) p.whole)
+          ∙ (sym (append_assoc i.front (bytes ∷ []) (p.front ++ lines c.pass_plain-in-Some.new.lines.rest.now))
+          ∙ sym (append_assoc front p.front (lines c.pass_plain-in-Some.new.lines.rest.now))));
+      number = omega (arith, here, p.count, length-append front p.front);
+      read = lines_behind before nothing front p.front k.0 read
+          ∙ (ap (λ n. after_lines n k.0 p.front) (sym here) ∙ p.read);
+      stands = p.stands;
+      few = c.in_ok-pass_plain-2.ensures.count;
     }
 
 pub returns-then-is_settled : goal.returns-then-is_settled

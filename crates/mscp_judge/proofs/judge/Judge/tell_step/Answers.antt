@@ -15,7 +15,7 @@ pub returns-then-tell-clause-tells : goal.returns-then-tell-clause-tells
 returns-then-tell-clause-tells g c =
     let mid = c.keep_starts.new.self in
     let kept = c.keep_starts.ensures.kept in
-    let came = subst (λ (n : Named). Came n mid c.step.new.self (events.Step mid.block)) c.name_in.ensures
+    let came = subst (λ (n : Named). Came n mid c.step.new.self (events.Step mid.block)) c.name_in-name.ensures
     c.in_ok-step.ensures.came in
     λ d log s. subst (λ b. IsTold d log (telling log (c.args.line.now ++ 10 ∷ [])) c.tell.new.self b) c.if-tell.true
     (c.tell.ensures.tells d log
@@ -28,7 +28,7 @@ pub returns-clause-tells : goal.returns-clause-tells
 returns-clause-tells g c =
     let mid = c.keep_starts.new.self in
     let kept = c.keep_starts.ensures.kept in
-    let came = subst (λ (n : Named). Came n mid c.step.new.self (events.Step mid.block)) c.name_in.ensures
+    let came = subst (λ (n : Named). Came n mid c.step.new.self (events.Step mid.block)) c.name_in-name.ensures
     c.in_ok-step.ensures.came in
     λ d log s. subst (λ b. IsTold d log (telling log (c.args.line.now ++ 10 ∷ [])) c.tell.new.self b) c.if-tell.false
     (c.tell.ensures.tells d log
