@@ -21,7 +21,7 @@ use Rattle.mscp_judge.specs.declared.judging.Verdict.TheVariants as verdicts
 use Rattle.mscp_judge.specs.Logs.{IsLegalLog, IsRightThere, Log, MayGoOn, after_line, after_lines, is_answer, nothing, told, whole}
 use Rattle.mscp_judge.specs.Rules.{IsRule}
 use Rattle.mscp_judge.specs.Starts.{starts_in}
-use Rattle.mscp_judge.specs.Standing.{Counted, IsHeld, Stands, Stood, due, marked, owed, run_of, totals_of}
+use Rattle.mscp_judge.specs.Standing.{Counted, IsHeld, IsOpen, Stands, Stood, due, marked, owed, run_of, totals_of}
 use Rattle.mscp_judge.specs.Totals.{AreTotals}
 
 -- ---- the verdict
@@ -64,7 +64,7 @@ pub record IsFirstWrong (c : Settings) (before : ℕ) (all : List (List ℕ)) (p
   pub wrong : ¬ (MayGoOn c next.marks)
   -- this is the rule that it breaks
   pub broken : IsBroken c log line rule starts
-  -- and this would have been right there, if it isn't empty
+  -- and this would have been right there, if any line would
   pub right_there : IsRightThere c log right
 
 -- a legal log begins with all lines, and they aren't one: some answer is missing
@@ -73,7 +73,7 @@ pub record AreUnanswered (c : Settings) (before : ℕ) (all : List (List ℕ)) (
   pub read : after_lines before nothing all ≡ Ok log
   pub opens : MayGoOn c log.marks
   pub wrong : ¬ (IsLegalLog c log.marks)
-  -- and with this line it goes on, if that isn't empty
+  -- and with this line it goes on, if it does with any
   pub right_there : IsRightThere c log right
 
 -- the line of the fault's number is no line of a log, for this cause, and what stands before it is the beginning of a
@@ -108,7 +108,7 @@ IsTold c log next new false = (¬ (MayGoOn c next.marks)) × IsHeld c log new
 -- the same, where it breaks a rule or breaks none
 abbrev pub Tells : {A : Type 0} → Settings → Log → Log → Judge A → Option Rule → Type 0
 Tells c log next new None = IsTold c log next new true
-Tells c log next new (Some rule) = IsTold c log next new false
+Tells c log next new (Some rule) = (¬ (MayGoOn c next.marks)) × IsOpen c log new
 
 -- the rule that a line breaks which comes to a judge, if it breaks one, and what may start there
 abbrev pub Breaks : {A : Type 0} → Judge A → List ℕ → Option Rule → List Named → Type 0

@@ -15,7 +15,7 @@ ghost use Rattle.mscp_judge.specs.Naming as naming;
 ghost use Rattle.mscp_judge.specs.Naming.{name_of};
 ghost use Rattle.mscp_judge.specs.Rules.{IsStepRule, due_rule, is_service};
 ghost use Rattle.mscp_judge.specs.Starts.{starts_in};
-ghost use Rattle.mscp_judge.specs.Standing.{BeginsWith, Came, IsHeld, IsSettled, Led, Stands, due, totals_of};
+ghost use Rattle.mscp_judge.specs.Standing.{BeginsWith, Came, HasShortLine, IsFirstLine, IsOpen, IsSettled, Led, Stands, due, totals_of};
 
 use crate::answers::is_service;
 use crate::naming::{Named, name_in, nobody};
@@ -62,7 +62,7 @@ fn begins_with(bytes: &[u8], line: &[u8]) -> bool
 
 /// The first line, without its line feed: nothing, where there is none, or it is too long.
 fn first_line(bytes: &[u8]) -> Right
-    ensures { (result.items ≡ []) ⊎ BeginsWith bytes.now result.items }
+    ensures { IsFirstLine bytes.now result.items }
 {
     let mut line = Right::new();
     for byte in bytes {
@@ -70,7 +70,7 @@ fn first_line(bytes: &[u8]) -> Right
             return line;
         }
         if line.is_full() {
-            break;
+            return Right::new();
         }
         line.push(*byte);
     }
@@ -180,6 +180,7 @@ impl<A: Allocator> Judge<A> {
         requires count { self.old.reporter.count + 1 < 2 ^ 64 }
         requires owed { 0 < self.old.owed }
         ensures came { OnOk result (Came name self.old self.new (events.Step self.old.block)) }
+        ensures short { OnOk result (HasShortLine (due self.new)) }
         ensures starts { self.new.starts ≡ self.old.starts }
         ensures owed { self.new.owed ≡ self.old.owed - 1 }
         ensures block { self.new.block ≡ self.old.block }
@@ -237,7 +238,7 @@ impl<A: Allocator> Judge<A> {
     /// command starts that may. It is empty where no answer is right.
     pub fn right(&mut self) -> Result<Right, OutOfMemory>
         requires { self.old.reporter.count + 1 < 2 ^ 64 }
-        ensures { IfOk result (λ right. (c : Settings) (log : Log) → IsHeld c log self.old
+        ensures { IfOk result (λ right. (c : Settings) (log : Log) → IsOpen c log self.old
             → IsRightThere c log right.items) }
     {
         if !self.due().is_empty() {
@@ -315,7 +316,7 @@ impl<A: Allocator> Judge<A> {
     /// Gives away what was kept so.
     pub fn take_starts(&mut self) -> Starts
         ensures starts { result ≡ self.old.starts }
-        ensures held { (c : Settings) (log : Log) → IsHeld c log self.old → IsHeld c log self.new }
+        ensures held { (c : Settings) (log : Log) → IsOpen c log self.old → IsOpen c log self.new }
         ensures count { self.new.reporter.count + self.new.owed ≡ self.old.reporter.count + self.old.owed }
     {
         replace(&mut self.starts, Starts::new())

@@ -56,10 +56,7 @@ pub fn judge_lines<A: Allocator>(
 
 /// Where all is answered, passes over the next line, if that is found to be plain and its events aren't too many. Any other
 /// line stays.
-fn pass_plain<A: Allocator>(
-    judge: &mut Judge<A>,
-    lines: &mut Lines<'_>,
-) -> Result<(), OutOfMemory>
+fn pass_plain<A: Allocator>(judge: &mut Judge<A>, lines: &mut Lines<'_>) -> Result<(), OutOfMemory>
     requires { judge.old.reporter.count + judge.old.owed ≤ MOST_EVENTS }
     ensures passed { OnOk result ((c : Settings) (log : Log) → Stands c log judge.old
         → Passed c lines.old.number log lines.old.rest.now lines.new.number lines.new.rest.now judge.new) }

@@ -5,7 +5,7 @@ use Rattle.mscp_reader.specs.Requests.{events_of}
 use Rattle.mscp_text.specs.Lines.{line}
 use Rattle.mscp_judge.specs.Logs.{asking, is_answer, telling}
 use Rattle.mscp_judge.proofs.Breaking.{broken_early}
-use Rattle.mscp_judge.proofs.Coming.{stands_held, too_early}
+use Rattle.mscp_judge.proofs.Coming.{stands_open_held, too_early}
 use Rattle.mscp_judge.proofs.Reading.{asks, asks_wrong, says_words, skipped, tells, wrong_words}
 use Rattle.mscp_judge.proofs.judging.judge_line.Goals as goal
 
@@ -64,7 +64,7 @@ returns-then-not-is_settled-clause-hears g c = λ d log s.
           (c.in_ok-request.ensures.next d log.events (s.count ∙ sym c.count.ensures)),
       (
         too_early d log c.args.judge.now new (log.events ++ new) s (c.is_settled.ensures.no c.if-not-is_settled.true),
-        stands_held d log c.args.judge.now s,
+        stands_open_held d log c.args.judge.now s,
       ),
     )
 

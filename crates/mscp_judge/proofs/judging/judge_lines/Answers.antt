@@ -11,7 +11,7 @@ use Rattle.mscp_judge.specs.Logs.{Log, MayGoOn, after_lines, nothing, whole}
 use Rattle.mscp_judge.specs.declared.totals.Totals.{Totals}
 use Rattle.mscp_judge.specs.Standing.{totals_of}
 use Rattle.mscp_judge.specs.Totals.{AreTotals}
-use Rattle.mscp_judge.proofs.Coming.{stands_held, stands_legal, stands_not, stands_open, stands_settings}
+use Rattle.mscp_judge.proofs.Coming.{stands_open_held, stands_legal, stands_not, stands_open, stands_settings}
 use Rattle.mscp_judge.proofs.Exactly.{lines_behind}
 use Rattle.mscp_judge.proofs.Reading.{lines_more}
 use Rattle.mscp_judge.proofs.judging.judge_lines.Goals as goal
@@ -140,5 +140,5 @@ returns g c =
       wrong = stands_not c.args.config i.log c.loop-bytes.judge i.stands
           (c.is_settled.ensures.no c.if-is_settled.false);
       right_there = c.in_ok-right-2.ensures c.args.config i.log
-          (stands_held c.args.config i.log c.loop-bytes.judge i.stands);
+          (stands_open_held c.args.config i.log c.loop-bytes.judge i.stands);
     }

@@ -1,4 +1,4 @@
-use Rattle.std.proofs.Common.{◌++◌, ◌<◌, [], ◌∷◌, ◌∙◌, sym, subst, ap, length, arith}
+use Rattle.std.proofs.Common.{◌++◌, ◌<◌, [], ◌∷◌, ◌∙◌, inr, sym, subst, ap, length, arith}
 use Rattle.std.proofs.lemmas.List.{length-replicate}
 use Rattle.mscp_control.specs.declared.event.Event.TheVariants as events
 use Rattle.mscp_judge.specs.declared.naming.Named.{Named}
@@ -6,7 +6,7 @@ use Rattle.mscp_judge.specs.Judged.{IsTold}
 use Rattle.mscp_judge.specs.Logs.{telling}
 use Rattle.mscp_judge.specs.Naming.{name_in, name_of}
 use Rattle.mscp_judge.specs.Rules.{IsStepRule, is_service}
-use Rattle.mscp_judge.specs.Standing.{Came, due}
+use Rattle.mscp_judge.specs.Standing.{Came, HasShortLine, due}
 use Rattle.mscp_judge.proofs.Breaking.{broken_step}
 use Rattle.mscp_judge.proofs.Coming.{ready_step, stands_with}
 use Rattle.mscp_judge.proofs.judge.Judge.tell_step.Goals as goal
@@ -30,12 +30,15 @@ returns-clause-tells g c =
     let kept = c.keep_starts.ensures.kept in
     let came = subst (λ (n : Named). Came n mid c.step.new.self (events.Step mid.block)) c.name_in-name.ensures
     c.in_ok-step.ensures.came in
-    λ d log s. subst (λ b. IsTold d log (telling log (c.args.line.now ++ 10 ∷ [])) c.tell.new.self b) c.if-tell.false
+    let same = c.tell.ensures.kept c.if-tell.false in
+    λ d log s.
+    let told = subst (λ b. IsTold d log (telling log (c.args.line.now ++ 10 ∷ [])) c.tell.new.self b) c.if-tell.false
     (c.tell.ensures.tells d log
     (ready_step d log c.args.line.now _ mid c.step.new.self c.requires.words
     (stands_with d log c.args.self.now mid kept s) (ap due kept ∙ c.requires.due)
     (subst (λ n. 0 < n) (sym c.keep_starts.ensures.owed) c.requires.owed) came c.in_ok-step.ensures.owed
-    c.in_ok-step.ensures.block))
+    c.in_ok-step.ensures.block)) in
+    (told.0, (told.1, inr (subst HasShortLine (sym (ap due same)) c.in_ok-step.ensures.short)))
 
 pub returns-clause-breaks : goal.returns-clause-breaks
 returns-clause-breaks g c =
