@@ -382,6 +382,11 @@ stands_settings c log judge s =
     let stood = s.counted.stood in
     (follow c stood.begun (run_of stood) judge.controller stood.valid stood.led).settings
 
+pub held_settings : {A : Type 0} (c : Settings) (log : Log) (judge : Judge A) → IsHeld c log judge
+    → IsValid c × (judge.controller.settings ≡ c)
+held_settings c log judge s =
+    (s.valid, (follow c s.begun (whole s.parts ++ s.now) judge.controller s.valid s.led).settings)
+
 pub stands_not : {A : Type 0} (c : Settings) (log : Log) (judge : Judge A) → Stands c log judge → ¬ (IsSettled judge)
     → ¬ (IsLegalLog c log.marks)
 stands_not {A} c log judge s not_it g =

@@ -2,7 +2,7 @@
 use Rattle.std.specs.Prelude.{◌≡◌, ◌≢◌, ℕ, ◌+◌, ◌<◌, ◌≤◌, List, [], ◌∷◌, ◌++◌, length, Bool, true, false, Option, Some, None, Result, Ok, Err}
 use Rattle.mscp_control.specs.Headline.{Promise}
 use Rattle.mscp_control.specs.Holdings.{Holdings}
-use Rattle.mscp_control.specs.Settings.{Settings}
+use Rattle.mscp_control.specs.Settings.{IsValid, Settings}
 use Rattle.mscp_control.specs.declared.event.Event.{Event}
 use Rattle.mscp_reader.specs.Lexical.{lines, words}
 use Rattle.mscp_reader.specs.Grammar.{Place, Begins, HasGone}
@@ -141,6 +141,13 @@ pub record Passed {A : Type 0} (c : Settings) (before : ℕ) (log : Log) (old : 
   pub count : number ≡ before + length front
   pub read : after_lines before log front ≡ Ok next
   pub stands : Stands c next judge
+
+-- what is found of lines: what is said of them, or nothing where the rule that a wrong one breaks isn't wanted
+abbrev pub Finds : {A : Type 0}
+    → Settings → ℕ → List (List ℕ) → Bool → Result (Option Verdict) ReadFault → Judge A → Type 0
+Finds c before all wanted (Ok (Some verdict)) judge = Judges c before all (Ok verdict)
+Finds c before all wanted (Ok None) judge = (wanted ≡ false) × IsValid c × (judge.controller.settings ≡ c)
+Finds c before all wanted (Err fault) judge = Judges c before all (Err fault)
 
 -- ---- a whole log
 

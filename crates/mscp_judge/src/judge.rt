@@ -94,6 +94,19 @@ impl<A: Allocator> Judge<A> {
         }
     }
 
+    /// Forgets all that came.
+    pub fn restart(&mut self)
+        ensures stands { (c : Settings) → IsValid c → self.old.controller.settings ≡ c → Stands c nothing self.new }
+        ensures count { self.new.reporter.count + self.new.owed ≡ 0 }
+    {
+        self.controller.replace_picker(nobody());
+        self.controller.reset();
+        self.reporter.restart();
+        self.peaks = Peaks::none();
+        self.told = 0;
+        self.owed = 0;
+    }
+
     /// How many events were asked for.
     pub fn count(&self) -> u64
         requires { self.now.reporter.count + self.now.owed < 2 ^ 64 }
@@ -322,8 +335,38 @@ impl<A: Allocator> Judge<A> {
         replace(&mut self.starts, Starts::new())
     }
 
+    /// The rule that the line of these words breaks, if it isn't what the next step answers, and what may start is kept. If
+    /// the rule isn't wanted it is any, which is quicker.
+    fn rule_ahead(&mut self, words: Words<'_>, name: Named, is_rule_wanted: bool) -> Rule
+        requires { name ≡ naming.name_in (lexical.words words.rest.now) }
+        ensures idle { is_rule_wanted ≡ true → is_service (lexical.words words.entry.rest.now) ≡ false
+            → result ≡ Rule.Idle }
+        ensures step { is_rule_wanted ≡ true → is_service (lexical.words words.entry.rest.now) ≡ true
+            → (c : Settings) (t : Trace) (begun : named.Named) → IsValid c
+            → Led (fresh c begun) t self.old.controller
+            → IsStepRule c t (name_of (naming.name_in (lexical.words words.entry.rest.now))) result }
+        ensures starts { is_rule_wanted ≡ true → result ≢ Rule.Service → result ≢ Rule.Idle
+            → (c : Settings) (t : Trace) (begun : named.Named) → IsValid c
+            → Led (fresh c begun) t self.old.controller → self.new.starts.items ≡ starts_in c t }
+        ensures kept { self.new ≡ record self.old { starts = self.new.starts } }
+        ensures count { self.new.reporter.count ≡ self.old.reporter.count }
+        ensures owed { self.new.owed ≡ self.old.owed }
+    {
+        if !is_rule_wanted {
+            return Rule::Service;
+        }
+        let rule = self.next_rule(words, name);
+        self.keep_starts(&rule);
+        rule
+    }
+
     /// A line tells what the next step does, at which the command starts that it names, or it breaks a rule.
-    fn tell_step(&mut self, line: &[u8], words: Words<'_>) -> Result<Option<Rule>, OutOfMemory>
+    fn tell_step(
+        &mut self,
+        line: &[u8],
+        words: Words<'_>,
+        is_rule_wanted: bool,
+    ) -> Result<Option<Rule>, OutOfMemory>
         requires count { self.old.reporter.count + 1 < 2 ^ 64 }
         requires due { due self.old ≡ [] }
         requires owed { 0 < self.old.owed }
@@ -332,13 +375,13 @@ impl<A: Allocator> Judge<A> {
         requires printed { list_all lexical.is_printed line.now ≡ true }
         ensures tells { IfOk result (λ broken. (c : Settings) (log : Log) → Stands c log self.old
             → Tells c log (telling log (line.now ++ 10 ∷ [])) self.new broken) }
-        ensures breaks { IfOk result (λ broken. Breaks self.old line.now broken self.new.starts.items) }
+        ensures breaks { is_rule_wanted ≡ true
+            → IfOk result (λ broken. Breaks self.old line.now broken self.new.starts.items) }
         ensures count { OnOk result (self.new.reporter.count + self.new.owed
             ≡ self.old.reporter.count + self.old.owed) }
     {
         let name = name_in(words);
-        let rule = self.next_rule(words, name);
-        self.keep_starts(&rule);
+        let rule = self.rule_ahead(words, name, is_rule_wanted);
         self.step(name)?;
         if self.tell(line) {
             return Ok(None);
@@ -346,15 +389,22 @@ impl<A: Allocator> Judge<A> {
         Ok(Some(rule))
     }
 
-    /// A line tells an answer: the rule that it breaks, or that a legal log goes on so. The words are those of the line.
-    pub fn hear(&mut self, line: &[u8], words: Words<'_>) -> Result<Option<Rule>, OutOfMemory>
+    /// A line tells an answer: the rule that it breaks, or any if that isn't wanted; or that a legal log goes on so. The
+    /// words are those of the line.
+    pub fn hear(
+        &mut self,
+        line: &[u8],
+        words: Words<'_>,
+        is_rule_wanted: bool,
+    ) -> Result<Option<Rule>, OutOfMemory>
         requires count { self.old.reporter.count + 1 < 2 ^ 64 }
         requires words { lexical.words words.rest.now ≡ lexical.words line.now }
         requires answer { is_answer (lexical.words line.now) ≡ true }
         requires printed { list_all lexical.is_printed line.now ≡ true }
         ensures tells { IfOk result (λ broken. (c : Settings) (log : Log) → Stands c log self.old
             → Tells c log (telling log (line.now ++ 10 ∷ [])) self.new broken) }
-        ensures breaks { IfOk result (λ broken. Breaks self.old line.now broken self.new.starts.items) }
+        ensures breaks { is_rule_wanted ≡ true
+            → IfOk result (λ broken. Breaks self.old line.now broken self.new.starts.items) }
         ensures count { OnOk result (self.new.reporter.count + self.new.owed
             ≡ self.old.reporter.count + self.old.owed) }
     {
@@ -364,6 +414,6 @@ impl<A: Allocator> Judge<A> {
         if self.owed == 0 {
             return Ok(Some(Rule::Unasked));
         }
-        self.tell_step(line, words)
+        self.tell_step(line, words, is_rule_wanted)
     }
 }

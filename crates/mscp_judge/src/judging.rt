@@ -1,11 +1,11 @@
 // A log, judged line by line.
 
-ghost use Rattle.std.specs.Prelude.{◌≡◌, ◌+◌, ◌<◌, ◌≤◌, IfOk, OnOk, length};
+ghost use Rattle.std.specs.Prelude.{◌≡◌, ◌+◌, ◌<◌, ◌≤◌, true, IfOk, OnOk, length};
 ghost use Rattle.mscp_control.specs.Settings.{Settings};
 ghost use Rattle.mscp_reader.specs.Lexical as lexical;
 ghost use Rattle.mscp_reader.specs.declared.events.TheConstants.{MOST_EVENTS};
-ghost use Rattle.mscp_judge.specs.Judged.{Breaks, Hears, Judges, Passed};
-ghost use Rattle.mscp_judge.specs.Logs.{Log};
+ghost use Rattle.mscp_judge.specs.Judged.{Breaks, Finds, Hears, Judges, Passed};
+ghost use Rattle.mscp_judge.specs.Logs.{Log, nothing};
 ghost use Rattle.mscp_judge.specs.Standing.{Stands};
 
 use crate::answers::is_answer;
@@ -38,19 +38,46 @@ pub fn judge_lines<A: Allocator>(
 ) -> Result<Verdict, ReadFault>
     ensures { Judges config lines.old.number (lexical.lines lines.old.rest.now) result }
 {
+    let (rest, number) = (lines.rest, lines.number);
     let mut judge = Judge::new(alloc, config);
-    pass_plain(&mut judge, lines)?;
+    if let Some(verdict) = find(&mut judge, lines, false)? {
+        return Ok(verdict);
+    }
+    // Some line is wrong. The lines are judged once more, since its rule is known only before a step.
+    *lines = Lines { rest, number };
+    judge.restart();
+    match find(&mut judge, lines, true)? {
+        Some(verdict) => Ok(verdict),
+        None => unreachable!(),
+    }
+}
+
+/// What is said of all lines that are left. It is nothing where one is wrong and its rule isn't wanted.
+fn find<A: Allocator>(
+    judge: &mut Judge<A>,
+    lines: &mut Lines<'_>,
+    is_rule_wanted: bool,
+) -> Result<Option<Verdict>, ReadFault>
+    requires { judge.old.reporter.count + judge.old.owed ≡ 0 }
+    ensures { (c : Settings) → Stands c nothing judge.old
+        → Finds c lines.old.number (lexical.lines lines.old.rest.now) is_rule_wanted result judge.new }
+{
+    pass_plain(judge, lines)?;
     while let Some(bytes) = lines.cut() {
-        if let Some(rule) = judge_line(&mut judge, lines.number, bytes)? {
+        if let Some(rule) = judge_line(judge, lines.number, bytes, is_rule_wanted)? {
+            if !is_rule_wanted {
+                return Ok(None);
+            }
             let starts = judge.take_starts();
-            return Ok(Verdict::Wrong(lines.number, rule, starts, judge.right()?));
+            let right = judge.right()?;
+            return Ok(Some(Verdict::Wrong(lines.number, rule, starts, right)));
         }
-        pass_plain(&mut judge, lines)?;
+        pass_plain(judge, lines)?;
     }
     if judge.is_settled() {
-        Ok(Verdict::Legal(judge.totals()))
+        Ok(Some(Verdict::Legal(judge.totals())))
     } else {
-        Ok(Verdict::Unanswered(judge.right()?))
+        Ok(Some(Verdict::Unanswered(judge.right()?)))
     }
 }
 
@@ -77,22 +104,24 @@ fn pass_plain<A: Allocator>(judge: &mut Judge<A>, lines: &mut Lines<'_>) -> Resu
     judge.ask(&found.plain.request())
 }
 
-/// Judges the line of this number: the rule that it breaks, if it breaks one.
+/// Judges the line of this number: the rule that it breaks, if it breaks one, or any if that isn't wanted.
 fn judge_line<A: Allocator>(
     judge: &mut Judge<A>,
     number: u32,
     bytes: &[u8],
+    is_rule_wanted: bool,
 ) -> Result<Option<Rule>, ReadFault>
     requires number { 1 ≤ number }
     requires count { judge.old.reporter.count + judge.old.owed ≤ MOST_EVENTS }
     ensures hears { (c : Settings) (log : Log) → Stands c log judge.old
         → Hears c number log bytes.now result judge.new }
-    ensures breaks { IfOk result (λ broken. Breaks judge.old bytes.now broken judge.new.starts.items) }
+    ensures breaks { is_rule_wanted ≡ true
+        → IfOk result (λ broken. Breaks judge.old bytes.now broken judge.new.starts.items) }
     ensures count { IfOk result (λ _. judge.new.reporter.count + judge.new.owed ≤ MOST_EVENTS) }
 {
     let words = words_of(number, bytes)?;
     if is_answer(words) {
-        return Ok(judge.hear(bytes, words)?);
+        return Ok(judge.hear(bytes, words, is_rule_wanted)?);
     }
     if words.is_empty() {
         return Ok(None);

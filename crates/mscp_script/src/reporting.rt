@@ -83,6 +83,14 @@ impl<A: Allocator> Reporter<A> {
         self.out.clear();
     }
 
+    /// Forgets all entries.
+    pub fn restart(&mut self)
+        ensures { self.new ≡ reported [] }
+    {
+        self.out.clear();
+        self.totals = Totals::new();
+    }
+
     /// Reports what became of a message of the connection.
     pub fn sent(
         &mut self,

@@ -69,7 +69,7 @@ returns-then-not-is_settled-clause-hears g c = λ d log s.
     )
 
 pub returns-then-not-is_settled-clause-breaks : goal.returns-then-not-is_settled-clause-breaks
-returns-then-not-is_settled-clause-breaks g c = λ d log s.
+returns-then-not-is_settled-clause-breaks g c = λ wanted d log s.
     broken_early d log c.args.bytes.now c.args.judge.now _ s
     (ap is_answer (sym (says_words c.args.number c.args.bytes.now _ c.in_ok-words.ensures.words
     (λ e. true≢false (sym (c.is_empty.ensures.1 e) ∙ c.if-is_empty.false))).0)

@@ -22,5 +22,5 @@ returns-then-self-eq0-clause-tells g c =
 pub returns-then-self-eq0-clause-breaks : goal.returns-then-self-eq0-clause-breaks
 returns-then-self-eq0-clause-breaks g c =
     let none : c.due.result.now ≡ [] = grind (arith, common_steps) in
-    λ d log s. broken_unasked d log c.args.line.now c.args.self.now _ s (sym c.due.ensures ∙ none)
+    λ wanted d log s. broken_unasked d log c.args.line.now c.args.self.now _ s (sym c.due.ensures ∙ none)
     (ap (λ n. replicate n (events.Step c.args.self.now.block)) c.if-self-eq0.true) c.requires.answer
