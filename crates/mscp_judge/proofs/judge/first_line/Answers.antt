@@ -29,7 +29,8 @@ returns-then-is_full c =
     let at = c.loop-byte.byte-index in
     let within : at ≤ length bytes = omega (arith, c.loop-byte-test.true) in
     let size : length c.loop-byte.line.items ≡ at = ap length i.same ∙ length-take-le at bytes within in
-    let full : length c.loop-byte.line.items ≡ 128 = grind (arith, nat_tests, c.is_full.ensures.value, c.if-is_full.true) in
+    let full : length c.loop-byte.line.items ≡ 128 =
+    grind (arith, nat_tests, c.is_full.ensures.value, c.if-is_full.true) in
     let none : (k : ℕ) → k < at + 1 → get_or bytes k 0 ≢ 10 =
     below_more (λ k. get_or bytes k 0 ≢ 10) at i.none c.if-byte-eq10.false in
     inl (c.new.ensures, λ other begins. omega (arith, longer bytes other (at + 1) none begins, size, full))

@@ -15,7 +15,8 @@ pub returns-clause-tells : goal.returns-clause-tells
 returns-clause-tells g c = λ d log s.
     let told = subst (λ b. IsTold d log (telling log (c.args.line.now ++ 10 ∷ [])) c.tell.new.self b) c.if-tell.false
     (c.tell.ensures.tells d log (ready_due d log c.args.line.now c.args.self.now s c.requires.due)) in
-    (told.0, subst (IsOpen d log) (sym (c.tell.ensures.kept c.if-tell.false)) (stands_open_held d log c.args.self.now s))
+    let kept = sym (c.tell.ensures.kept c.if-tell.false) in
+    (told.0, subst (IsOpen d log) kept (stands_open_held d log c.args.self.now s))
 
 pub returns-clause-rule : goal.returns-clause-rule
 returns-clause-rule g c =
