@@ -1,16 +1,14 @@
 -- A line that asks for events is no answer.
 use Rattle.std.proofs.Common.{◌≡◌, ◌≢◌, ◌||◌, ℕ, Bool, true, false, List, [], ◌∷◌, ◌++◌, ◌+◌, ◌≤◌, length, refl, ap, sym, ◌∙◌, subst}
-use Rattle.std.specs.Prelude.{codes, Option, None, Ok, Err}
+use Rattle.std.specs.Prelude.{codes, None, Ok}
 use Rattle.std.specs.Str.{bytes_eq}
-use Rattle.std.proofs.lemmas.Bool.{true≢false}
 use Rattle.std.proofs.lemmas.Slice.Eq.{bytes_eq-Decides}
 use Rattle.mscp_control.specs.Settings.{Settings}
 use Rattle.mscp_reader.specs.Lexical.{words}
 use Rattle.mscp_reader.specs.Grammar.{said_at}
 use Rattle.mscp_reader.specs.Outcome.{in_line}
 use Rattle.mscp_reader.specs.Plain.{plain_request}
-use Rattle.mscp_reader.specs.Requests.{asked_if, asked_of_second, events_of, form_of, request, second_request}
-use Rattle.mscp_reader.specs.declared.events.Form.{Form}
+use Rattle.mscp_reader.specs.Requests.{asked_if, events_of, form_of, request, second_request}
 use Rattle.mscp_reader.specs.declared.events.Request.{Request}
 use Rattle.mscp_reader.specs.declared.plain.Plain.{Plain}
 use Rattle.mscp_reader.proofs.PlainLines.{plain_next}

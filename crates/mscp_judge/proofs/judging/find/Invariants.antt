@@ -1,4 +1,4 @@
-use Rattle.std.proofs.Common.{◌≡◌, ℕ, ◌+◌, ◌≤◌, length}
+use Rattle.std.proofs.Common.{◌+◌, ◌≤◌, length}
 use Rattle.mscp_control.specs.Settings.{Settings}
 use Rattle.mscp_judge.specs.Judged.{Passed}
 use Rattle.mscp_judge.specs.Logs.{nothing}

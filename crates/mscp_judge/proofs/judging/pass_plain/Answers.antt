@@ -1,4 +1,4 @@
-use Rattle.std.proofs.Common.{◌+◌, ◌≤◌, length, refl, ap, arith}
+use Rattle.std.proofs.Common.{◌+◌, ◌≤◌, length, refl, arith}
 use Rattle.mscp_reader.specs.Plain.{plain_request}
 use Rattle.mscp_reader.specs.Requests.{events_of}
 use Rattle.mscp_judge.proofs.Passing.{passed_none, passed_plain}

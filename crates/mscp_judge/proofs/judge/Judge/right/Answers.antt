@@ -1,6 +1,6 @@
 use Rattle.std.proofs.Common.{◌≡◌, ◌≢◌, [], inr, sym, ◌∙◌, subst, arith}
 use Rattle.std.proofs.lemmas.Grind.{common_steps}
-use Rattle.mscp_judge.specs.Standing.{HasShortLine, IsFirstLine, due}
+use Rattle.mscp_judge.specs.Standing.{IsFirstLine, due}
 use Rattle.mscp_judge.proofs.Coming.{right_due, right_none, right_step, short_some}
 use Rattle.mscp_judge.proofs.judge.Judge.right.Goals as goal
 

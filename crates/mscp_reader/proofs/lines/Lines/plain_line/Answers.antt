@@ -1,6 +1,4 @@
-use Rattle.std.proofs.Common.{◌≡◌, ◌≤◌, ◌+◌, ◌∙◌, ◌∷◌, Ok, arith, length, subst, sym}
-use Rattle.mscp_reader.specs.Grammar.{said_at}
-use Rattle.mscp_reader.specs.Lexical.{lines, words}
+use Rattle.std.proofs.Common.{◌≤◌, ◌+◌, ◌∙◌, arith, length}
 use Rattle.mscp_reader.proofs.PlainLines.{line_length, line_of, plain_ahead, plain_onward, plain_says}
 use Rattle.mscp_reader.proofs.lines.Lines.plain_line.Goals as goal
 
