@@ -11,20 +11,21 @@ use Rattle.mscp_control.specs.declared.event.Event.TheVariants as events
 use Rattle.mscp_control.specs.declared.event.Entry.{Entry}
 use Rattle.mscp_control.specs.declared.event.Entry.TheVariants as entries
 use Rattle.mscp_control.specs.declared.memory.OutOfMemory.{OutOfMemory}
+use Rattle.mscp_queue.specs.declared.report.Report.{Report}
 use Rattle.mscp_queue.specs.Records.{Record, record_at}
 use Rattle.mscp_control.specs.Settings.{IsValid, Settings, bound}
 use Rattle.mscp_control.specs.History.{Trace, is_step}
 use Rattle.mscp_control.specs.Holdings.{Answers, Holdings, fresh}
 use Rattle.mscp_control.specs.Legal.{IsLegal}
 use Rattle.mscp_reader.specs.Lexical.{is_printed, words}
-use Rattle.mscp_script.specs.Text.{Reported, entry_lines, reported, step_count, with_entry}
+use Rattle.mscp_script.specs.Text.{Reported, entry_lines, reported, step_count, step_line, with_entry}
 use Rattle.mscp_judge.specs.declared.judge.Judge.{Judge}
 use Rattle.mscp_judge.specs.declared.naming.Named.{Named}
 use Rattle.mscp_judge.specs.declared.totals.Totals.{Totals}
 use Rattle.mscp_judge.specs.Judged.{IsAhead}
 use Rattle.mscp_judge.specs.Logs.{Asked, IsRightThere, Log, Mark, MayGoOn, IsLegalLog, asking, events_in, nothing, telling, told, transcript, whole}
 use Rattle.mscp_judge.specs.Naming.{IsNamed, name_in, nobody}
-use Rattle.mscp_judge.specs.Standing.{BeginsWith, Came, Counted, Held, IsHeld, IsSettled, Stands, Stood, due, marked, owed, run_of, totals_of, with_picker}
+use Rattle.mscp_judge.specs.Standing.{BeginsWith, Came, Counted, HasShortLine, Held, IsFirstLine, IsHeld, IsOpen, IsSettled, Stands, Stood, due, marked, owed, run_of, totals_of, with_picker}
 use Rattle.mscp_judge.specs.Totals.{AreTotals, IsLarger, figure_queued}
 use Rattle.mscp_judge.proofs.Feeds.{NoFeed, some_none, step_ends}
 use Rattle.mscp_judge.proofs.Leading.{follow}
@@ -299,11 +300,48 @@ pub ahead_held : {A : Type 0} (c : Settings) (log : Log) (line : List ℕ) (judg
 ahead_held c log line judge s =
     held_of c (marked log) judge.controller (due judge) (owed judge) (told (line ++ 10 ∷ [])) s.counted.stood
 
-pub right_due : {A : Type 0} (c : Settings) (log : Log) (judge : Judge A) (text : List ℕ) → IsHeld c log judge
-    → (text ≡ []) ⊎ BeginsWith (due judge) text → IsRightThere c log text
-right_due c log judge text s (inl e) = inl e
-right_due c log judge text s (inr b) = inr (may_go_on c (telling log (text ++ 10 ∷ [])).marks
-    (opens_with c (marked log) judge.controller (due judge) judge.block judge.owed text s b))
+-- what is due where it has a line
+pub short_some : (bytes : List ℕ) → HasShortLine bytes → bytes ≢ []
+short_some bytes h e = some_none h.0 10 h.1.0 (sym h.1.1 ∙ e)
+
+-- a line that is the whole has at most as many bytes
+pub short_whole : (bytes front : List ℕ) → bytes ≡ front ++ 10 ∷ [] → length bytes ≤ 108 → HasShortLine bytes
+short_whole bytes front e l = (front, ([], e), omega (arith, l, ap length e, length-append front (10 ∷ [])))
+
+-- what is due of a step that was reported
+pub stepped_short : (r : Result (Unit {0}) OutOfMemory) (old mid new : Reported) (report : Report)
+    → OnOk r (new ≡ with_entry mid (entries.Stepped report)) → OnOk r (length (step_line report) ≤ 108)
+    → mid ≡ record old { lines = [] } → OnOk r (HasShortLine new.lines)
+stepped_short (Ok x) old mid new report value short m =
+    let e : new.lines ≡ step_line report =
+    ap (λ (q : Reported). q.lines) value ∙ ap (λ (q : Reported). q.lines ++ step_line report) m in
+    let f = step_ends report in
+    short_whole new.lines f.0 (e ∙ f.1) (subst (λ bs. length bs ≤ 108) (sym e) short)
+stepped_short (Err x) old mid new report value short m = tt
+
+pub stands_open_held : {A : Type 0} (c : Settings) (log : Log) (judge : Judge A) → Stands c log judge
+    → IsOpen c log judge
+stands_open_held c log judge s = (stands_held c log judge s, inl s)
+
+pub right_due : {A : Type 0} (c : Settings) (log : Log) (judge : Judge A) (text : List ℕ) → IsOpen c log judge
+    → due judge ≢ [] → IsFirstLine (due judge) text → IsRightThere c log text
+right_due {A} c log judge text (held, inl stands) some (inl e) =
+    inl (
+      e.0,
+      λ other printed short. told_not c log other judge (ready_due c log other judge stands some) printed
+          (λ begins. let no : ⊥ = omega (arith, e.1 other begins, short) in no),
+    )
+right_due c log judge text (held, inr h) some (inl e) =
+    absurd (omega (arith, e.1 h.0 h.1, h.2))
+right_due c log judge text o some (inr b) = inr (may_go_on c (telling log (text ++ 10 ∷ [])).marks
+    (opens_with c (marked log) judge.controller (due judge) judge.block judge.owed text o.0 b))
+
+-- where all is answered and told
+pub right_none : {A : Type 0} (c : Settings) (log : Log) (judge : Judge A) (text : List ℕ) → text ≡ []
+    → IsOpen c log judge → IsSettled judge → IsRightThere c log text
+right_none c log judge text e (held, inl stands) q =
+    inl (e, λ other printed short. ready_not c log other judge stands q)
+right_none c log judge text e (held, inr h) q = absurd (short_some (due judge) h q.told)
 
 pub right_step : {A : Type 0} (c : Settings) (log : Log) (name : Named) (old new : Judge A) → IsHeld c log old
     → due old ≡ [] → 0 < old.owed → Came name old new (events.Step old.block) → new.owed ≡ old.owed - 1
@@ -343,6 +381,11 @@ pub stands_settings : {A : Type 0} (c : Settings) (log : Log) (judge : Judge A) 
 stands_settings c log judge s =
     let stood = s.counted.stood in
     (follow c stood.begun (run_of stood) judge.controller stood.valid stood.led).settings
+
+pub held_settings : {A : Type 0} (c : Settings) (log : Log) (judge : Judge A) → IsHeld c log judge
+    → IsValid c × (judge.controller.settings ≡ c)
+held_settings c log judge s =
+    (s.valid, (follow c s.begun (whole s.parts ++ s.now) judge.controller s.valid s.led).settings)
 
 pub stands_not : {A : Type 0} (c : Settings) (log : Log) (judge : Judge A) → Stands c log judge → ¬ (IsSettled judge)
     → ¬ (IsLegalLog c log.marks)

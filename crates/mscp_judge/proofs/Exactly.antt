@@ -81,7 +81,7 @@ lines_on : (n : ℕ) (front back : List (List ℕ)) (r : Result Log Cause) (mid 
 lines_on n front back (Ok next) mid ih e = ih next e
 lines_on n front back (Err cause) mid ih e = cc
 
-lines_behind : (n : ℕ) (log : Log) (front back : List (List ℕ)) (mid : Log) → after_lines n log front ≡ Ok mid
+pub lines_behind : (n : ℕ) (log : Log) (front back : List (List ℕ)) (mid : Log) → after_lines n log front ≡ Ok mid
     → after_lines n log (front ++ back) ≡ after_lines (n + length front) mid back
 unfolding after_lines
 lines_behind n log [] back mid e =

@@ -13,6 +13,8 @@ mod Counted
 mod Hindered
 mod Breaking
 mod Reading
+mod Wording
 mod Listening
 mod Coming
+mod Passing
 pub mod Exactly

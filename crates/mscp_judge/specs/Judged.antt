@@ -2,7 +2,7 @@
 use Rattle.std.specs.Prelude.{◌≡◌, ◌≢◌, ℕ, ◌+◌, ◌<◌, ◌≤◌, List, [], ◌∷◌, ◌++◌, length, Bool, true, false, Option, Some, None, Result, Ok, Err}
 use Rattle.mscp_control.specs.Headline.{Promise}
 use Rattle.mscp_control.specs.Holdings.{Holdings}
-use Rattle.mscp_control.specs.Settings.{Settings}
+use Rattle.mscp_control.specs.Settings.{IsValid, Settings}
 use Rattle.mscp_control.specs.declared.event.Event.{Event}
 use Rattle.mscp_reader.specs.Lexical.{lines, words}
 use Rattle.mscp_reader.specs.Grammar.{Place, Begins, HasGone}
@@ -21,7 +21,7 @@ use Rattle.mscp_judge.specs.declared.judging.Verdict.TheVariants as verdicts
 use Rattle.mscp_judge.specs.Logs.{IsLegalLog, IsRightThere, Log, MayGoOn, after_line, after_lines, is_answer, nothing, told, whole}
 use Rattle.mscp_judge.specs.Rules.{IsRule}
 use Rattle.mscp_judge.specs.Starts.{starts_in}
-use Rattle.mscp_judge.specs.Standing.{Counted, IsHeld, Stands, Stood, due, marked, owed, run_of, totals_of}
+use Rattle.mscp_judge.specs.Standing.{Counted, IsHeld, IsOpen, Stands, Stood, due, marked, owed, run_of, totals_of}
 use Rattle.mscp_judge.specs.Totals.{AreTotals}
 
 -- ---- the verdict
@@ -64,7 +64,7 @@ pub record IsFirstWrong (c : Settings) (before : ℕ) (all : List (List ℕ)) (p
   pub wrong : ¬ (MayGoOn c next.marks)
   -- this is the rule that it breaks
   pub broken : IsBroken c log line rule starts
-  -- and this would have been right there, if it isn't empty
+  -- and this would have been right there, if any line would
   pub right_there : IsRightThere c log right
 
 -- a legal log begins with all lines, and they aren't one: some answer is missing
@@ -73,7 +73,7 @@ pub record AreUnanswered (c : Settings) (before : ℕ) (all : List (List ℕ)) (
   pub read : after_lines before nothing all ≡ Ok log
   pub opens : MayGoOn c log.marks
   pub wrong : ¬ (IsLegalLog c log.marks)
-  -- and with this line it goes on, if that isn't empty
+  -- and with this line it goes on, if it does with any
   pub right_there : IsRightThere c log right
 
 -- the line of the fault's number is no line of a log, for this cause, and what stands before it is the beginning of a
@@ -108,7 +108,7 @@ IsTold c log next new false = (¬ (MayGoOn c next.marks)) × IsHeld c log new
 -- the same, where it breaks a rule or breaks none
 abbrev pub Tells : {A : Type 0} → Settings → Log → Log → Judge A → Option Rule → Type 0
 Tells c log next new None = IsTold c log next new true
-Tells c log next new (Some rule) = IsTold c log next new false
+Tells c log next new (Some rule) = (¬ (MayGoOn c next.marks)) × IsOpen c log new
 
 -- the rule that a line breaks which comes to a judge, if it breaks one, and what may start there
 abbrev pub Breaks : {A : Type 0} → Judge A → List ℕ → Option Rule → List Named → Type 0
@@ -131,6 +131,23 @@ Hears c number log line (Ok broken) new =
 Hears c number log line (Err (faults.Script fault)) new =
     (fault.line ≡ number) × (after_line number log line ≡ Err fault.cause)
 Hears c number log line (Err faults.OutOfMemory) new = Unit {0}
+
+-- lines were passed over, and these are left: a legal log has each of them there, and the judge stands behind them
+pub record Passed {A : Type 0} (c : Settings) (before : ℕ) (log : Log) (old : List ℕ) (number : ℕ) (left : List ℕ)
+    (judge : Judge A) : Type 0 where
+  pub front : List (List ℕ)
+  pub next : Log
+  pub whole : lines old ≡ front ++ lines left
+  pub count : number ≡ before + length front
+  pub read : after_lines before log front ≡ Ok next
+  pub stands : Stands c next judge
+
+-- what is found of lines: what is said of them, or nothing where the rule that a wrong one breaks isn't wanted
+abbrev pub Finds : {A : Type 0}
+    → Settings → ℕ → List (List ℕ) → Bool → Result (Option Verdict) ReadFault → Judge A → Type 0
+Finds c before all wanted (Ok (Some verdict)) judge = Judges c before all (Ok verdict)
+Finds c before all wanted (Ok None) judge = (wanted ≡ false) × IsValid c × (judge.controller.settings ≡ c)
+Finds c before all wanted (Err fault) judge = Judges c before all (Err fault)
 
 -- ---- a whole log
 

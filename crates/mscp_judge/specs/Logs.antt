@@ -1,7 +1,7 @@
 -- What a log is, and when it is legal. A log is a script in which each event's line is followed by the lines that were
 -- answered to its events.
-use Rattle.std.specs.Prelude.{◌≡◌, ◌⊎◌, ℕ, ◌+◌, ◌||◌, Bool, false, if◌then◌else◌, List, [], ◌∷◌, ◌++◌, map, codes, Result, Ok}
-use Rattle.std.specs.List.{flat_map}
+use Rattle.std.specs.Prelude.{◌≡◌, ◌⊎◌, ℕ, ◌+◌, ◌≤◌, ◌||◌, Bool, true, false, if◌then◌else◌, List, [], ◌∷◌, ◌++◌, map, codes, length, Result, Ok}
+use Rattle.std.specs.List.{flat_map, list_all}
 use Rattle.std.specs.Str.{bytes_eq}
 use Rattle.mscp_control.specs.declared.event.Event.{Event}
 use Rattle.mscp_control.specs.Settings.{Settings}
@@ -9,6 +9,7 @@ use Rattle.mscp_control.specs.History.{Trace}
 use Rattle.mscp_control.specs.Legal.{IsLegal}
 use Rattle.mscp_text.specs.Steps.{◌>>=◌}
 use Rattle.mscp_text.specs.Lines.{line}
+use Rattle.mscp_reader.specs.Lexical.{is_printed}
 use Rattle.mscp_reader.specs.Requests.{events_of, request}
 use Rattle.mscp_reader.specs.Grammar.{more_events, said_at}
 use Rattle.mscp_reader.specs.declared.fault.Cause.{Cause}
@@ -87,9 +88,15 @@ nothing = record { events = []; marks = [] }
 abbrev pub telling : Log → List ℕ → Log
 telling log bytes = record log { marks = log.marks ++ told bytes }
 
--- a legal log goes on with this line, if it isn't empty
+-- with no line of at most 128 printed bytes a legal log goes on
+abbrev pub HasNoAnswer : Settings → Log → Type 0
+HasNoAnswer c log =
+    (text : List ℕ) → list_all is_printed text ≡ true → length text ≤ 128
+    → ¬ (MayGoOn c (telling log (line text)).marks)
+
+-- a legal log goes on with this line; or it is empty, since with none a legal log does
 abbrev pub IsRightThere : Settings → Log → List ℕ → Type 0
-IsRightThere c log text = (text ≡ []) ⊎ MayGoOn c (telling log (line text)).marks
+IsRightThere c log text = ((text ≡ []) × HasNoAnswer c log) ⊎ MayGoOn c (telling log (line text)).marks
 
 -- these events were asked for, and with them these are all
 abbrev pub asking : Log → List Event → List Event → Log

@@ -1,5 +1,5 @@
 -- Where a judge stands after some lines of a log that a legal log begins with.
-use Rattle.std.specs.Prelude.{◌≡◌, ◌⊎◌, ℕ, ◌+◌, List, [], ◌∷◌, ◌++◌, length, drop, replicate}
+use Rattle.std.specs.Prelude.{◌≡◌, ◌⊎◌, ℕ, ◌+◌, ◌<◌, ◌≤◌, List, [], ◌∷◌, ◌++◌, length, drop, replicate}
 use Rattle.mscp_control.specs.declared.event.Event.{Event}
 use Rattle.mscp_control.specs.declared.event.Event.TheVariants as events
 use Rattle.mscp_control.specs.declared.event.Entry.{Entry}
@@ -24,6 +24,15 @@ with_picker h picker = record h { picker = picker }
 -- bytes that begin with a line
 abbrev pub BeginsWith : List ℕ → List ℕ → Type 0
 BeginsWith bytes line = (rest : List ℕ) × (bytes ≡ line ++ 10 ∷ rest)
+
+-- bytes that begin with a line of at most 128 bytes
+abbrev pub HasShortLine : List ℕ → Type 0
+HasShortLine bytes = (line : List ℕ) × BeginsWith bytes line × (length line ≤ 128)
+
+-- the line that bytes begin with, or nothing where each line that they begin with is longer
+abbrev pub IsFirstLine : List ℕ → List ℕ → Type 0
+IsFirstLine bytes line =
+    ((line ≡ []) × ((other : List ℕ) → BeginsWith bytes other → 128 < length other)) ⊎ BeginsWith bytes line
 
 -- bytes end with a line feed, or there are none
 abbrev pub EndsLine : List ℕ → Type 0
@@ -122,3 +131,7 @@ IsHeld c log judge = Held c (marked log) judge.controller (due judge) (owed judg
 pub record Stands {A : Type 0} (c : Settings) (log : Log) (judge : Judge A) : Type 0 where
   pub counted : Counted c (marked log) judge.controller (due judge) (owed judge) [] (totals_of c judge)
   pub count : length log.events ≡ judge.reporter.count + judge.owed
+
+-- a judge holds so after these lines of a log, and it stands so, or what is due begins with a short line
+abbrev pub IsOpen : {A : Type 0} → Settings → Log → Judge A → Type 0
+IsOpen c log judge = IsHeld c log judge × (Stands c log judge ⊎ HasShortLine (due judge))

@@ -15,7 +15,7 @@ ghost use Rattle.mscp_judge.specs.Naming as naming;
 ghost use Rattle.mscp_judge.specs.Naming.{name_of};
 ghost use Rattle.mscp_judge.specs.Rules.{IsStepRule, due_rule, is_service};
 ghost use Rattle.mscp_judge.specs.Starts.{starts_in};
-ghost use Rattle.mscp_judge.specs.Standing.{BeginsWith, Came, IsHeld, IsSettled, Led, Stands, due, totals_of};
+ghost use Rattle.mscp_judge.specs.Standing.{BeginsWith, Came, HasShortLine, IsFirstLine, IsOpen, IsSettled, Led, Stands, due, totals_of};
 
 use crate::answers::is_service;
 use crate::naming::{Named, name_in, nobody};
@@ -62,7 +62,7 @@ fn begins_with(bytes: &[u8], line: &[u8]) -> bool
 
 /// The first line, without its line feed: nothing, where there is none, or it is too long.
 fn first_line(bytes: &[u8]) -> Right
-    ensures { (result.items ≡ []) ⊎ BeginsWith bytes.now result.items }
+    ensures { IsFirstLine bytes.now result.items }
 {
     let mut line = Right::new();
     for byte in bytes {
@@ -70,7 +70,7 @@ fn first_line(bytes: &[u8]) -> Right
             return line;
         }
         if line.is_full() {
-            break;
+            return Right::new();
         }
         line.push(*byte);
     }
@@ -92,6 +92,19 @@ impl<A: Allocator> Judge<A> {
             owed: 0,
             block: Block::Good,
         }
+    }
+
+    /// Forgets all that came.
+    pub fn restart(&mut self)
+        ensures stands { (c : Settings) → IsValid c → self.old.controller.settings ≡ c → Stands c nothing self.new }
+        ensures count { self.new.reporter.count + self.new.owed ≡ 0 }
+    {
+        self.controller.replace_picker(nobody());
+        self.controller.reset();
+        self.reporter.restart();
+        self.peaks = Peaks::none();
+        self.told = 0;
+        self.owed = 0;
     }
 
     /// How many events were asked for.
@@ -180,6 +193,7 @@ impl<A: Allocator> Judge<A> {
         requires count { self.old.reporter.count + 1 < 2 ^ 64 }
         requires owed { 0 < self.old.owed }
         ensures came { OnOk result (Came name self.old self.new (events.Step self.old.block)) }
+        ensures short { OnOk result (HasShortLine (due self.new)) }
         ensures starts { self.new.starts ≡ self.old.starts }
         ensures owed { self.new.owed ≡ self.old.owed - 1 }
         ensures block { self.new.block ≡ self.old.block }
@@ -237,7 +251,7 @@ impl<A: Allocator> Judge<A> {
     /// command starts that may. It is empty where no answer is right.
     pub fn right(&mut self) -> Result<Right, OutOfMemory>
         requires { self.old.reporter.count + 1 < 2 ^ 64 }
-        ensures { IfOk result (λ right. (c : Settings) (log : Log) → IsHeld c log self.old
+        ensures { IfOk result (λ right. (c : Settings) (log : Log) → IsOpen c log self.old
             → IsRightThere c log right.items) }
     {
         if !self.due().is_empty() {
@@ -282,8 +296,9 @@ impl<A: Allocator> Judge<A> {
         Some(due_rule(self.due(), line))
     }
 
-    /// The rule that the line of these words breaks, if it isn't what the next step answers.
-    fn next_rule(&self, words: Words<'_>) -> Rule
+    /// The rule that the line of these words breaks, if it isn't what the next step answers. This is the name in it.
+    fn next_rule(&self, words: Words<'_>, name: Named) -> Rule
+        requires { name ≡ naming.name_in (lexical.words words.rest.now) }
         ensures idle { is_service (lexical.words words.entry.rest.now) ≡ false → result ≡ Rule.Idle }
         ensures step { is_service (lexical.words words.entry.rest.now) ≡ true
             → (c : Settings) (t : Trace) (begun : named.Named) → IsValid c
@@ -291,7 +306,7 @@ impl<A: Allocator> Judge<A> {
             → IsStepRule c t (name_of (naming.name_in (lexical.words words.entry.rest.now))) result }
     {
         if is_service(words) {
-            step_rule(&self.controller, name_in(words))
+            step_rule(&self.controller, name)
         } else {
             Rule::Idle
         }
@@ -314,14 +329,44 @@ impl<A: Allocator> Judge<A> {
     /// Gives away what was kept so.
     pub fn take_starts(&mut self) -> Starts
         ensures starts { result ≡ self.old.starts }
-        ensures held { (c : Settings) (log : Log) → IsHeld c log self.old → IsHeld c log self.new }
+        ensures held { (c : Settings) (log : Log) → IsOpen c log self.old → IsOpen c log self.new }
         ensures count { self.new.reporter.count + self.new.owed ≡ self.old.reporter.count + self.old.owed }
     {
         replace(&mut self.starts, Starts::new())
     }
 
+    /// The rule that the line of these words breaks, if it isn't what the next step answers, and what may start is kept. If
+    /// the rule isn't wanted it is any, which is quicker.
+    fn rule_ahead(&mut self, words: Words<'_>, name: Named, is_rule_wanted: bool) -> Rule
+        requires { name ≡ naming.name_in (lexical.words words.rest.now) }
+        ensures idle { is_rule_wanted ≡ true → is_service (lexical.words words.entry.rest.now) ≡ false
+            → result ≡ Rule.Idle }
+        ensures step { is_rule_wanted ≡ true → is_service (lexical.words words.entry.rest.now) ≡ true
+            → (c : Settings) (t : Trace) (begun : named.Named) → IsValid c
+            → Led (fresh c begun) t self.old.controller
+            → IsStepRule c t (name_of (naming.name_in (lexical.words words.entry.rest.now))) result }
+        ensures starts { is_rule_wanted ≡ true → result ≢ Rule.Service → result ≢ Rule.Idle
+            → (c : Settings) (t : Trace) (begun : named.Named) → IsValid c
+            → Led (fresh c begun) t self.old.controller → self.new.starts.items ≡ starts_in c t }
+        ensures kept { self.new ≡ record self.old { starts = self.new.starts } }
+        ensures count { self.new.reporter.count ≡ self.old.reporter.count }
+        ensures owed { self.new.owed ≡ self.old.owed }
+    {
+        if !is_rule_wanted {
+            return Rule::Service;
+        }
+        let rule = self.next_rule(words, name);
+        self.keep_starts(&rule);
+        rule
+    }
+
     /// A line tells what the next step does, at which the command starts that it names, or it breaks a rule.
-    fn tell_step(&mut self, line: &[u8], words: Words<'_>) -> Result<Option<Rule>, OutOfMemory>
+    fn tell_step(
+        &mut self,
+        line: &[u8],
+        words: Words<'_>,
+        is_rule_wanted: bool,
+    ) -> Result<Option<Rule>, OutOfMemory>
         requires count { self.old.reporter.count + 1 < 2 ^ 64 }
         requires due { due self.old ≡ [] }
         requires owed { 0 < self.old.owed }
@@ -330,28 +375,36 @@ impl<A: Allocator> Judge<A> {
         requires printed { list_all lexical.is_printed line.now ≡ true }
         ensures tells { IfOk result (λ broken. (c : Settings) (log : Log) → Stands c log self.old
             → Tells c log (telling log (line.now ++ 10 ∷ [])) self.new broken) }
-        ensures breaks { IfOk result (λ broken. Breaks self.old line.now broken self.new.starts.items) }
+        ensures breaks { is_rule_wanted ≡ true
+            → IfOk result (λ broken. Breaks self.old line.now broken self.new.starts.items) }
         ensures count { OnOk result (self.new.reporter.count + self.new.owed
             ≡ self.old.reporter.count + self.old.owed) }
     {
-        let rule = self.next_rule(words);
-        self.keep_starts(&rule);
-        self.step(name_in(words))?;
+        let name = name_in(words);
+        let rule = self.rule_ahead(words, name, is_rule_wanted);
+        self.step(name)?;
         if self.tell(line) {
             return Ok(None);
         }
         Ok(Some(rule))
     }
 
-    /// A line tells an answer: the rule that it breaks, or that a legal log goes on so. The words are those of the line.
-    pub fn hear(&mut self, line: &[u8], words: Words<'_>) -> Result<Option<Rule>, OutOfMemory>
+    /// A line tells an answer: the rule that it breaks, or any if that isn't wanted; or that a legal log goes on so. The
+    /// words are those of the line.
+    pub fn hear(
+        &mut self,
+        line: &[u8],
+        words: Words<'_>,
+        is_rule_wanted: bool,
+    ) -> Result<Option<Rule>, OutOfMemory>
         requires count { self.old.reporter.count + 1 < 2 ^ 64 }
         requires words { lexical.words words.rest.now ≡ lexical.words line.now }
         requires answer { is_answer (lexical.words line.now) ≡ true }
         requires printed { list_all lexical.is_printed line.now ≡ true }
         ensures tells { IfOk result (λ broken. (c : Settings) (log : Log) → Stands c log self.old
             → Tells c log (telling log (line.now ++ 10 ∷ [])) self.new broken) }
-        ensures breaks { IfOk result (λ broken. Breaks self.old line.now broken self.new.starts.items) }
+        ensures breaks { is_rule_wanted ≡ true
+            → IfOk result (λ broken. Breaks self.old line.now broken self.new.starts.items) }
         ensures count { OnOk result (self.new.reporter.count + self.new.owed
             ≡ self.old.reporter.count + self.old.owed) }
     {
@@ -361,6 +414,6 @@ impl<A: Allocator> Judge<A> {
         if self.owed == 0 {
             return Ok(Some(Rule::Unasked));
         }
-        self.tell_step(line, words)
+        self.tell_step(line, words, is_rule_wanted)
     }
 }

@@ -1,11 +1,11 @@
 // A log, judged line by line.
 
-ghost use Rattle.std.specs.Prelude.{◌≡◌, ◌+◌, ◌<◌, ◌≤◌, IfOk, OnOk};
+ghost use Rattle.std.specs.Prelude.{◌≡◌, ◌+◌, ◌<◌, ◌≤◌, true, IfOk, OnOk, length};
 ghost use Rattle.mscp_control.specs.Settings.{Settings};
 ghost use Rattle.mscp_reader.specs.Lexical as lexical;
 ghost use Rattle.mscp_reader.specs.declared.events.TheConstants.{MOST_EVENTS};
-ghost use Rattle.mscp_judge.specs.Judged.{Breaks, Hears, Judges};
-ghost use Rattle.mscp_judge.specs.Logs.{Log};
+ghost use Rattle.mscp_judge.specs.Judged.{Breaks, Finds, Hears, Judges, Passed};
+ghost use Rattle.mscp_judge.specs.Logs.{Log, nothing};
 ghost use Rattle.mscp_judge.specs.Standing.{Stands};
 
 use crate::answers::is_answer;
@@ -13,8 +13,8 @@ use crate::judge::{Judge, Right};
 use crate::rules::Rule;
 use crate::starting::Starts;
 use crate::totals::Totals;
-use mscp_control::Config;
-use mscp_reader::{Line, Lines, ReadFault, request_after, words_of};
+use mscp_control::{Config, OutOfMemory};
+use mscp_reader::{Line, Lines, MOST_EVENTS, ReadFault, request_after, words_of};
 use std::alloc::Allocator;
 
 /// What is said of a log.
@@ -38,39 +38,93 @@ pub fn judge_lines<A: Allocator>(
 ) -> Result<Verdict, ReadFault>
     ensures { Judges config lines.old.number (lexical.lines lines.old.rest.now) result }
 {
+    let (rest, number) = (lines.rest, lines.number);
     let mut judge = Judge::new(alloc, config);
-    while let Some(bytes) = lines.cut() {
-        if let Some(rule) = judge_line(&mut judge, lines.number, bytes)? {
-            let starts = judge.take_starts();
-            return Ok(Verdict::Wrong(lines.number, rule, starts, judge.right()?));
-        }
+    if let Some(verdict) = find(&mut judge, lines, false)? {
+        return Ok(verdict);
     }
-    if judge.is_settled() {
-        Ok(Verdict::Legal(judge.totals()))
-    } else {
-        Ok(Verdict::Unanswered(judge.right()?))
+    // Some line is wrong. The lines are judged once more, since its rule is known only before a step.
+    *lines = Lines { rest, number };
+    judge.restart();
+    match find(&mut judge, lines, true)? {
+        Some(verdict) => Ok(verdict),
+        None => unreachable!(),
     }
 }
 
-/// Judges the line of this number: the rule that it breaks, if it breaks one.
+/// What is said of all lines that are left. It is nothing where one is wrong and its rule isn't wanted.
+fn find<A: Allocator>(
+    judge: &mut Judge<A>,
+    lines: &mut Lines<'_>,
+    is_rule_wanted: bool,
+) -> Result<Option<Verdict>, ReadFault>
+    requires { judge.old.reporter.count + judge.old.owed ≡ 0 }
+    ensures { (c : Settings) → Stands c nothing judge.old
+        → Finds c lines.old.number (lexical.lines lines.old.rest.now) is_rule_wanted result judge.new }
+{
+    pass_plain(judge, lines)?;
+    while let Some(bytes) = lines.cut() {
+        if let Some(rule) = judge_line(judge, lines.number, bytes, is_rule_wanted)? {
+            if !is_rule_wanted {
+                return Ok(None);
+            }
+            let starts = judge.take_starts();
+            let right = judge.right()?;
+            return Ok(Some(Verdict::Wrong(lines.number, rule, starts, right)));
+        }
+        pass_plain(judge, lines)?;
+    }
+    if judge.is_settled() {
+        Ok(Some(Verdict::Legal(judge.totals())))
+    } else {
+        Ok(Some(Verdict::Unanswered(judge.right()?)))
+    }
+}
+
+/// Where all is answered, passes over the next line, if that is found to be plain and its events aren't too many. Any other
+/// line stays.
+fn pass_plain<A: Allocator>(judge: &mut Judge<A>, lines: &mut Lines<'_>) -> Result<(), OutOfMemory>
+    requires { judge.old.reporter.count + judge.old.owed ≤ MOST_EVENTS }
+    ensures passed { OnOk result ((c : Settings) (log : Log) → Stands c log judge.old
+        → Passed c lines.old.number log lines.old.rest.now lines.new.number lines.new.rest.now judge.new) }
+    ensures count { OnOk result (judge.new.reporter.count + judge.new.owed ≤ MOST_EVENTS) }
+    ensures left { OnOk result (length lines.new.rest.now ≤ length lines.old.rest.now) }
+{
+    if !judge.is_settled() {
+        return Ok(());
+    }
+    let (rest, number) = (lines.rest, lines.number);
+    let Some(found) = lines.plain_line() else {
+        return Ok(());
+    };
+    if found.plain.event_count() > MOST_EVENTS - judge.count() as usize {
+        *lines = Lines { rest, number };
+        return Ok(());
+    }
+    judge.ask(&found.plain.request())
+}
+
+/// Judges the line of this number: the rule that it breaks, if it breaks one, or any if that isn't wanted.
 fn judge_line<A: Allocator>(
     judge: &mut Judge<A>,
     number: u32,
     bytes: &[u8],
+    is_rule_wanted: bool,
 ) -> Result<Option<Rule>, ReadFault>
     requires number { 1 ≤ number }
     requires count { judge.old.reporter.count + judge.old.owed ≤ MOST_EVENTS }
     ensures hears { (c : Settings) (log : Log) → Stands c log judge.old
         → Hears c number log bytes.now result judge.new }
-    ensures breaks { IfOk result (λ broken. Breaks judge.old bytes.now broken judge.new.starts.items) }
+    ensures breaks { is_rule_wanted ≡ true
+        → IfOk result (λ broken. Breaks judge.old bytes.now broken judge.new.starts.items) }
     ensures count { IfOk result (λ _. judge.new.reporter.count + judge.new.owed ≤ MOST_EVENTS) }
 {
     let words = words_of(number, bytes)?;
+    if is_answer(words) {
+        return Ok(judge.hear(bytes, words, is_rule_wanted)?);
+    }
     if words.is_empty() {
         return Ok(None);
-    }
-    if is_answer(words) {
-        return Ok(judge.hear(bytes, words)?);
     }
     let request = request_after(Line { number, words }, judge.count() as usize)?;
     if !judge.is_settled() {

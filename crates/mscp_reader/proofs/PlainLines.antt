@@ -269,7 +269,7 @@ last_printed (b ∷ line) (suc i) h = last_printed line i (and_parts (is_printed
 strip_printed : (line : List ℕ) → list_all is_printed line ≡ true → strip_carriage_return line ≡ line
 strip_printed line h = rw (last_printed line (length line - 1) h) refl
 
-plain_lines : (line behind : List ℕ) → list_all is_printed line ≡ true
+pub plain_lines : (line behind : List ℕ) → list_all is_printed line ≡ true
     → lines (line ++ 10 ∷ behind) ≡ line ∷ lines behind
 unfolding lines
 plain_lines line behind h =
@@ -296,6 +296,17 @@ plain_onward n bytes behind what r few short p =
     ∙ ap (lines_outcome n p) (plain_lines r.line behind r.printed)
     ∙ speaks n r.line (lines behind) (words r.line) (said_by n r.line few (said_plain r.line short r.said r.printed))
     (some_words _ what r.asks) p
+
+-- the lines of which the first is plain, and what it says
+pub plain_ahead : (bytes behind : List ℕ) (what : Request) (r : IsPlain bytes what behind)
+    → lines bytes ≡ r.line ∷ lines behind
+plain_ahead bytes behind what r = ap lines r.whole ∙ plain_lines r.line behind r.printed
+
+pub plain_says : (n : ℕ) (bytes behind : List ℕ) (what : Request) (r : IsPlain bytes what behind) → n + 1 ≤ 1000000
+    → length r.line ≤ 200 → said_at (n + 1) r.line ≡ Ok (words r.line)
+plain_says n bytes behind what r few short =
+    let fits : nat_lt 1000000 (n + 1) ≡ false = grind (arith, nat_tests) in
+    rw (fits, said_plain r.line short r.said r.printed) refl
 
 -- its length, and the line itself
 pub line_length : (bytes behind : List ℕ) (what : Request) (r : IsPlain bytes what behind)

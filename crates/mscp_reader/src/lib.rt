@@ -16,7 +16,7 @@ pub use crate::events::{MOST_EVENTS, Request, request_after};
 pub use crate::fault::{Cause, ReadFault, ScriptFault};
 pub use crate::header::read_header;
 pub use crate::law::scripts_have_one_meaning;
-pub use crate::lines::{Line, Lines, PlainLine, words_of};
+pub use crate::lines::{LONGEST_LINE, Line, Lines, MOST_LINES, PlainLine, words_of};
 pub use crate::numbers::wide;
 pub use crate::plain::Plain;
 pub use crate::script::{MOST_BYTES, Script, lines_of, read_script, read_script_in};

@@ -13,16 +13,16 @@ ghost use Rattle.mscp_reader.specs.Outcome.{headed_on, in_line, lines_outcome, r
 ghost use Rattle.mscp_reader.specs.declared.script.TheConstants.{MOST_BYTES};
 
 use crate::fault::{Cause, ScriptFault};
-use crate::pieces::index_of;
+use crate::pieces::feed_in;
 use crate::plain::{Plain, read_plain};
 use crate::script::MOST_BYTES;
 use crate::words::Words;
 
 /// The most lines that a script has.
-const MOST_LINES: u32 = 1_000_000;
+pub const MOST_LINES: u32 = 1_000_000;
 
 /// The most bytes that a line has.
-const LONGEST_LINE: usize = 200;
+pub const LONGEST_LINE: usize = 200;
 
 /// A line that has a word: its number, and its words.
 #[derive(Clone, Copy, Debug)]
@@ -121,6 +121,12 @@ impl<'a> Lines<'a> {
         ensures none { IfNone result ((self.new.number ≡ self.old.number) × (self.new.rest.now ≡ self.old.rest.now)) }
         ensures some { IfSome result (λ found. (p : Place) → rest_outcome self.old.number p self.old.rest.now
             ≡ onward self.new.number p (lexical.words found.line.words.rest.now) (lexical.lines self.new.rest.now)) }
+        // The line is the first, and it says its words.
+        ensures next { IfSome result (λ found. self.new.number ≡ self.old.number + 1) }
+        ensures line { IfSome result (λ found. lexical.lines self.old.rest.now
+            ≡ found.line.words.rest.now ∷ lexical.lines self.new.rest.now) }
+        ensures said { IfSome result (λ found. said_at self.new.number found.line.words.rest.now
+            ≡ Ok (lexical.words found.line.words.rest.now)) }
     {
         let (plain, behind) = read_plain(self.rest)?;
         let length = self.rest.len() - behind.len() - 1;
@@ -148,7 +154,7 @@ impl<'a> Lines<'a> {
         if self.rest.is_empty() {
             return None;
         }
-        let end = index_of(self.rest, b'\n').unwrap_or(self.rest.len());
+        let end = feed_in(self.rest).unwrap_or(self.rest.len());
         let (line, rest) = self.rest.split_at(end);
         self.rest = without_first(rest);
         self.number += 1;
@@ -225,5 +231,10 @@ fn is_comment(line: &[u8]) -> bool
 fn is_printed(line: &[u8]) -> bool
     ensures { result ≡ list_all lexical.is_printed line.now }
 {
-    line.iter().all(|byte| b' ' <= *byte && *byte <= b'~')
+    let mut all = true;
+    // Each byte is looked at, since several at once are quicker than one after the other.
+    for byte in line {
+        all &= b' ' <= *byte && *byte <= b'~';
+    }
+    all
 }

@@ -10,6 +10,7 @@ ghost use Rattle.mscp_reader.specs.Plain.{Asks, CutsWord, Ends, IsNumeral, IsPla
 
 use crate::events::{Form, MOST_STEPS, Request, form_of};
 use crate::numbers::MOST_DIGITS;
+use mscp_control::Connection;
 use mscp_packet::{Command, MoveKind, Order};
 
 /// What a plain line asks for. It doesn't name the second connection.
@@ -33,6 +34,18 @@ impl Plain {
         match self {
             Plain::Send(_) | Plain::Take | Plain::Look => 1,
             Plain::Steps(count) => count as usize,
+        }
+    }
+
+    /// The same as a request of any line.
+    pub fn request(self) -> Request
+        ensures { result ≡ plain_request self }
+    {
+        match self {
+            Plain::Send(command) => Request::Send(Connection::First, command),
+            Plain::Take => Request::Take(Connection::First),
+            Plain::Look => Request::Look,
+            Plain::Steps(count) => Request::Steps(count),
         }
     }
 }

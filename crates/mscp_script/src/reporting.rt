@@ -1,8 +1,8 @@
 // A report, which grows by the lines of each entry, and ends with the totals.
 
-ghost use Rattle.std.specs.Prelude.{◌≡◌, ◌+◌, ◌<◌, ◌^◌, [], IfOk, OnOk};
+ghost use Rattle.std.specs.Prelude.{◌≡◌, ◌+◌, ◌<◌, ◌≤◌, ◌^◌, [], IfOk, OnOk, length};
 ghost use Rattle.mscp_control.specs.declared.event.Entry.TheVariants as entries;
-ghost use Rattle.mscp_script.specs.Text.{finished, reported, text, with_entry};
+ghost use Rattle.mscp_script.specs.Text.{finished, reported, step_line, text, with_entry};
 
 mod lines;
 mod tail;
@@ -83,6 +83,14 @@ impl<A: Allocator> Reporter<A> {
         self.out.clear();
     }
 
+    /// Forgets all entries.
+    pub fn restart(&mut self)
+        ensures { self.new ≡ reported [] }
+    {
+        self.out.clear();
+        self.totals = Totals::new();
+    }
+
     /// Reports what became of a message of the connection.
     pub fn sent(
         &mut self,
@@ -114,7 +122,8 @@ impl<A: Allocator> Reporter<A> {
     /// Reports what a step did.
     pub fn stepped(&mut self, report: &Report) -> Result<(), OutOfMemory>
         requires { self.old.count + 1 < 2 ^ 64 }
-        ensures { OnOk result (self.new ≡ with_entry self.old (entries.Stepped report.now)) }
+        ensures value { OnOk result (self.new ≡ with_entry self.old (entries.Stepped report.now)) }
+        ensures short { OnOk result (length (step_line report.now) ≤ 108) }
     {
         put_step(&mut self.out, &mut self.line, report)?;
         self.totals.add_step(report);

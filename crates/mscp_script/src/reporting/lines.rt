@@ -135,7 +135,8 @@ pub fn put_step<A: Allocator>(
     line: &mut Tail,
     report: &Report,
 ) -> Result<(), AllocError>
-    ensures { OnOk result (out.new.items ≡ out.old.items ++ step_line report.now) }
+    ensures value { OnOk result (out.new.items ≡ out.old.items ++ step_line report.now) }
+    ensures short { OnOk result (length (step_line report.now) ≤ 108) }
 {
     match report {
         Report::Idle => put(out, "idle\n"),

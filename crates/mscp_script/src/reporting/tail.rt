@@ -100,7 +100,8 @@ impl Tail {
     /// The line, from what was put last on.
     #[inline]
     pub fn bytes(&self) -> &[u8]
-        ensures { result.now ≡ self.now }
+        ensures value { result.now ≡ self.now }
+        ensures short { length self.now ≤ 108 }
     {
         &self.room[self.start..]
     }

@@ -5,7 +5,7 @@ use Rattle.mscp_reader.specs.Requests.{events_of}
 use Rattle.mscp_text.specs.Lines.{line}
 use Rattle.mscp_judge.specs.Logs.{asking, is_answer, telling}
 use Rattle.mscp_judge.proofs.Breaking.{broken_early}
-use Rattle.mscp_judge.proofs.Coming.{stands_held, too_early}
+use Rattle.mscp_judge.proofs.Coming.{stands_open_held, too_early}
 use Rattle.mscp_judge.proofs.Reading.{asks, asks_wrong, says_words, skipped, tells, wrong_words}
 use Rattle.mscp_judge.proofs.judging.judge_line.Goals as goal
 
@@ -25,7 +25,7 @@ returns-then-is_empty-clause-hears g c = λ d log s. (
 pub hear-requires-clause-words : goal.hear-requires-clause-words
 hear-requires-clause-words g c =
     (says_words c.args.number c.args.bytes.now _ c.in_ok-words.ensures.words
-    (λ e. true≢false (sym (c.is_empty.ensures.1 e) ∙ c.if-is_empty.false))).0
+    (λ e. true≢false (sym (sym c.is_answer.ensures ∙ c.if-is_answer.true) ∙ ap is_answer e))).0
 
 pub hear-requires-clause-answer : goal.hear-requires-clause-answer
 hear-requires-clause-answer g c =
@@ -34,13 +34,13 @@ hear-requires-clause-answer g c =
 pub hear-requires-clause-printed : goal.hear-requires-clause-printed
 hear-requires-clause-printed g c =
     (says_words c.args.number c.args.bytes.now _ c.in_ok-words.ensures.words
-    (λ e. true≢false (sym (c.is_empty.ensures.1 e) ∙ c.if-is_empty.false))).1
+    (λ e. true≢false (sym (sym c.is_answer.ensures ∙ c.if-is_answer.true) ∙ ap is_answer e))).1
 
 pub returns-then-is_answer-clause-hears : goal.returns-then-is_answer-clause-hears
 returns-then-is_answer-clause-hears g c = λ d log s. (
   telling log (line c.args.bytes.now),
   tells c.args.number log c.args.bytes.now _ c.in_ok-words.ensures.words
-      (λ e. true≢false (sym (c.is_empty.ensures.1 e) ∙ c.if-is_empty.false))
+      (λ e. true≢false (sym (sym c.is_answer.ensures ∙ c.if-is_answer.true) ∙ ap is_answer e))
       (sym c.is_answer.ensures ∙ c.if-is_answer.true),
   c.in_ok-hear.ensures.tells d log s,
 )
@@ -64,12 +64,12 @@ returns-then-not-is_settled-clause-hears g c = λ d log s.
           (c.in_ok-request.ensures.next d log.events (s.count ∙ sym c.count.ensures)),
       (
         too_early d log c.args.judge.now new (log.events ++ new) s (c.is_settled.ensures.no c.if-not-is_settled.true),
-        stands_held d log c.args.judge.now s,
+        stands_open_held d log c.args.judge.now s,
       ),
     )
 
 pub returns-then-not-is_settled-clause-breaks : goal.returns-then-not-is_settled-clause-breaks
-returns-then-not-is_settled-clause-breaks g c = λ d log s.
+returns-then-not-is_settled-clause-breaks g c = λ wanted d log s.
     broken_early d log c.args.bytes.now c.args.judge.now _ s
     (ap is_answer (sym (says_words c.args.number c.args.bytes.now _ c.in_ok-words.ensures.words
     (λ e. true≢false (sym (c.is_empty.ensures.1 e) ∙ c.if-is_empty.false))).0)

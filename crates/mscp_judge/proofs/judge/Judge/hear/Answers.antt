@@ -3,7 +3,7 @@ use Rattle.std.proofs.lemmas.Grind.{common_steps}
 use Rattle.std.specs.Prelude.{replicate}
 use Rattle.mscp_control.specs.declared.event.Event.TheVariants as events
 use Rattle.mscp_judge.proofs.Breaking.{broken_unasked}
-use Rattle.mscp_judge.proofs.Coming.{ready_not, stands_held}
+use Rattle.mscp_judge.proofs.Coming.{ready_not, stands_open_held}
 use Rattle.mscp_judge.proofs.judge.Judge.hear.Goals as goal
 
 pub tell_due-requires-clause-due : goal.tell_due-requires-clause-due
@@ -16,11 +16,11 @@ returns-then-self-eq0-clause-tells g c =
     λ d log s. (
       ready_not d log c.args.line.now c.args.self.now s
           (record { told = sym c.due.ensures ∙ none; answered = c.if-self-eq0.true }),
-      stands_held d log c.args.self.now s,
+      stands_open_held d log c.args.self.now s,
     )
 
 pub returns-then-self-eq0-clause-breaks : goal.returns-then-self-eq0-clause-breaks
 returns-then-self-eq0-clause-breaks g c =
     let none : c.due.result.now ≡ [] = grind (arith, common_steps) in
-    λ d log s. broken_unasked d log c.args.line.now c.args.self.now _ s (sym c.due.ensures ∙ none)
+    λ wanted d log s. broken_unasked d log c.args.line.now c.args.self.now _ s (sym c.due.ensures ∙ none)
     (ap (λ n. replicate n (events.Step c.args.self.now.block)) c.if-self-eq0.true) c.requires.answer

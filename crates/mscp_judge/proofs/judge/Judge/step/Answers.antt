@@ -1,7 +1,7 @@
 use Rattle.std.proofs.Common.{refl, subst}
 use Rattle.mscp_control.specs.declared.event.Entry.TheVariants as entries
 use Rattle.mscp_control.specs.declared.event.Event.TheVariants as events
-use Rattle.mscp_judge.proofs.Coming.{came_on}
+use Rattle.mscp_judge.proofs.Coming.{came_on, stepped_short}
 use Rattle.mscp_control.specs.Holdings.{Holdings, Steps}
 use Rattle.mscp_judge.specs.declared.naming.Named.{Named}
 use Rattle.mscp_judge.specs.Naming.{IsNamed}
@@ -14,6 +14,11 @@ returns-clause-came g c =
     (IsNamed h.picker) block h c.step-report.result c.step-report.new.self)
     c.replace_picker.ensures.after c.step-report.ensures.step in
     came_on c.stepped.result c.args.self.now _ c.args.name (events.Step block) (entries.Stepped c.step-report.result)
-    c.forget_lines.new.self steps c.forget_lines.ensures c.stepped.ensures refl
+    c.forget_lines.new.self steps c.forget_lines.ensures c.stepped.ensures.value refl
     0 _ refl c.most_passed.ensures.oldest c.rise.ensures.figure
     c.rise.ensures.passed c.most_passed.ensures.most
+
+pub returns-clause-short : goal.returns-clause-short
+returns-clause-short g c =
+    stepped_short c.stepped.result c.args.self.now.reporter c.forget_lines.new.self c.stepped.new.self
+    c.step-report.result c.stepped.ensures.value c.stepped.ensures.short c.forget_lines.ensures

@@ -1,4 +1,4 @@
-use Rattle.std.proofs.Common.{◌++◌, ◌<◌, [], ◌∷◌, ◌∙◌, sym, subst, ap, length, arith}
+use Rattle.std.proofs.Common.{◌++◌, ◌<◌, [], ◌∷◌, ◌∙◌, inr, sym, subst, ap, length, arith}
 use Rattle.std.proofs.lemmas.List.{length-replicate}
 use Rattle.mscp_control.specs.declared.event.Event.TheVariants as events
 use Rattle.mscp_judge.specs.declared.naming.Named.{Named}
@@ -6,42 +6,46 @@ use Rattle.mscp_judge.specs.Judged.{IsTold}
 use Rattle.mscp_judge.specs.Logs.{telling}
 use Rattle.mscp_judge.specs.Naming.{name_in, name_of}
 use Rattle.mscp_judge.specs.Rules.{IsStepRule, is_service}
-use Rattle.mscp_judge.specs.Standing.{Came, due}
+use Rattle.mscp_judge.specs.Standing.{Came, HasShortLine, due}
 use Rattle.mscp_judge.proofs.Breaking.{broken_step}
 use Rattle.mscp_judge.proofs.Coming.{ready_step, stands_with}
 use Rattle.mscp_judge.proofs.judge.Judge.tell_step.Goals as goal
 
 pub returns-then-tell-clause-tells : goal.returns-then-tell-clause-tells
 returns-then-tell-clause-tells g c =
-    let mid = c.keep_starts.new.self in
-    let kept = c.keep_starts.ensures.kept in
-    let came = subst (λ (n : Named). Came n mid c.step.new.self (events.Step mid.block)) c.name_in.ensures
+    let mid = c.rule_ahead-rule.new.self in
+    let kept = c.rule_ahead-rule.ensures.kept in
+    let came = subst (λ (n : Named). Came n mid c.step.new.self (events.Step mid.block)) c.name_in-name.ensures
     c.in_ok-step.ensures.came in
     λ d log s. subst (λ b. IsTold d log (telling log (c.args.line.now ++ 10 ∷ [])) c.tell.new.self b) c.if-tell.true
     (c.tell.ensures.tells d log
     (ready_step d log c.args.line.now _ mid c.step.new.self c.requires.words
     (stands_with d log c.args.self.now mid kept s) (ap due kept ∙ c.requires.due)
-    (subst (λ n. 0 < n) (sym c.keep_starts.ensures.owed) c.requires.owed) came c.in_ok-step.ensures.owed
+    (subst (λ n. 0 < n) (sym c.rule_ahead-rule.ensures.owed) c.requires.owed) came c.in_ok-step.ensures.owed
     c.in_ok-step.ensures.block))
 
 pub returns-clause-tells : goal.returns-clause-tells
 returns-clause-tells g c =
-    let mid = c.keep_starts.new.self in
-    let kept = c.keep_starts.ensures.kept in
-    let came = subst (λ (n : Named). Came n mid c.step.new.self (events.Step mid.block)) c.name_in.ensures
+    let mid = c.rule_ahead-rule.new.self in
+    let kept = c.rule_ahead-rule.ensures.kept in
+    let came = subst (λ (n : Named). Came n mid c.step.new.self (events.Step mid.block)) c.name_in-name.ensures
     c.in_ok-step.ensures.came in
-    λ d log s. subst (λ b. IsTold d log (telling log (c.args.line.now ++ 10 ∷ [])) c.tell.new.self b) c.if-tell.false
+    let same = c.tell.ensures.kept c.if-tell.false in
+    λ d log s.
+    let told = subst (λ b. IsTold d log (telling log (c.args.line.now ++ 10 ∷ [])) c.tell.new.self b) c.if-tell.false
     (c.tell.ensures.tells d log
     (ready_step d log c.args.line.now _ mid c.step.new.self c.requires.words
     (stands_with d log c.args.self.now mid kept s) (ap due kept ∙ c.requires.due)
-    (subst (λ n. 0 < n) (sym c.keep_starts.ensures.owed) c.requires.owed) came c.in_ok-step.ensures.owed
-    c.in_ok-step.ensures.block))
+    (subst (λ n. 0 < n) (sym c.rule_ahead-rule.ensures.owed) c.requires.owed) came c.in_ok-step.ensures.owed
+    c.in_ok-step.ensures.block)) in
+    (told.0, (told.1, inr (subst HasShortLine (sym (ap due same)) c.in_ok-step.ensures.short)))
 
 pub returns-clause-breaks : goal.returns-clause-breaks
-returns-clause-breaks g c =
+returns-clause-breaks g c = λ wanted.
+    let rule = c.rule_ahead-rule in
     let same = ap (λ j. j.starts.items) (c.tell.ensures.kept c.if-tell.false)
     ∙ ap (λ x. x.items) c.in_ok-step.ensures.starts in
-    λ d log s. broken_step d log c.args.line.now c.args.self.now c.next_rule-rule.result c.tell.new.self.starts.items s
+    λ d log s. broken_step d log c.args.line.now c.args.self.now rule.result c.tell.new.self.starts.items s
     c.requires.due c.requires.answer (λ e. absurd (omega (
       arith,
       ap length e,
@@ -49,7 +53,7 @@ returns-clause-breaks g c =
           (events.Step c.args.self.now.block),
       c.requires.owed,
     )))
-    (λ e. c.next_rule-rule.ensures.idle (ap is_service c.requires.words ∙ e))
-    (λ e t begun v led. subst (λ ws. IsStepRule d t (name_of (name_in ws)) c.next_rule-rule.result) c.requires.words
-    (c.next_rule-rule.ensures.step (ap is_service c.requires.words ∙ e) d t begun v led))
-    (λ e f t begun v led. same ∙ c.keep_starts.ensures.starts e f d t begun v led)
+    (λ e. rule.ensures.idle wanted (ap is_service c.requires.words ∙ e))
+    (λ e t begun v led. subst (λ ws. IsStepRule d t (name_of (name_in ws)) rule.result) c.requires.words
+    (rule.ensures.step wanted (ap is_service c.requires.words ∙ e) d t begun v led))
+    (λ e f t begun v led. same ∙ rule.ensures.starts wanted e f d t begun v led)

@@ -4,4 +4,4 @@ use Rattle.mscp_script.proofs.running.Run.step.Goals as goal
 
 pub returns : goal.returns
 returns g c = ran_on c.stepped.result _ _ _ (entries.Stepped c.step-report.result) c.step-report.ensures.step
-    c.stepped.ensures
+    c.stepped.ensures.value

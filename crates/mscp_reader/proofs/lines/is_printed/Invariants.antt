@@ -1,0 +1,7 @@
+use Rattle.std.proofs.Common.{◌≡◌, take}
+use Rattle.std.specs.List.{list_all}
+use Rattle.mscp_reader.specs.Lexical.{is_printed}
+use Rattle.mscp_reader.proofs.lines.is_printed.Given as goal
+
+abbrev pub invariant-loop-byte : goal.invariant-loop-byte
+invariant-loop-byte l = l.all ≡ list_all is_printed (take l.byte-index l.line)
