@@ -1,4 +1,6 @@
-// Hosts that talk to a port, byte by byte as real firmware does.
+// Hosts that talk to a port, byte by byte.
 
 mod firmware;
 mod machine;
+mod registers;
+mod volumes;

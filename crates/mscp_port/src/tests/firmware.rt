@@ -1,81 +1,105 @@
-// What boot firmware sends, and what it gets.
+// What the boot firmware of real machines sends, byte by byte, and what it gets.
 
-use super::machine::Machine;
-use std::process::Abort;
+use super::machine::{Machine, Slots, four};
 
-/// The four bytes of a number.
-fn four(value: u32) -> [u8; 4] {
-    value.to_le_bytes()
-}
-
-/// Sends a message of so many bytes by the one slot of the ring of commands, and takes what comes by the one slot of the
-/// ring of responses. The rest of the message is zeros.
-#[derive(Clone, Copy)]
-struct Rings {
-    responses: u32,
-    commands: u32,
-    response: u32,
-    command: u32,
-}
-
-impl Rings {
-    fn send(&self, rt: &impl Abort, machine: &mut Machine, length: u32, start: &[u8]) {
-        machine.put(self.command - 4, &four(length));
-        machine.put(self.command, &[0; 60]);
-        machine.put(self.command, start);
-        machine.put(self.responses, &four(0x8000_0000 | self.response));
-        machine.put(self.commands, &four(0x8000_0000 | self.command));
-        let _ = machine.port.read_ip();
-        let _ = machine.run(rt, 100);
-    }
-}
-
-/// SIMH's boot ROM of a PDP-11.
+/// SIMH's boot ROM of a PDP-11: an ONLINE, and a READ of the first block to address 0.
 #[test]
 fn boots_a_pdp11(rt: HostRuntime) {
     let mut machine = Machine::new(&rt);
-    let rings = Rings {
+    let slots = Slots {
         responses: 0x0E84,
         commands: 0x0E88,
-        response: 0x0E04,
-        command: 0x0E44,
+        response: 0x0E00,
+        command: 0x0E40,
     };
     machine.port.write_ip();
     machine.answer(&rt, 0x0B40, 0x8000);
     machine.answer(&rt, 0x1080, 0x0E84);
     machine.answer(&rt, 0x2000, 0x0000);
     machine.answer(&rt, 0x4133, 0x0001);
-    // An ONLINE, whose end has 15 credits.
-    rings.send(&rt, &mut machine, 16, &[0, 0, 0, 0, 0, 0, 0, 0, 9, 0, 0, 0]);
-    assert_eq!(rt;
-        machine.bytes(0x0E00, 4),
-        Some([0x2C, 0, 0x0F, 0].as_slice())
-    );
+    slots.send(&rt, &mut machine, 16, &[0, 0, 0, 0, 0, 0, 0, 0, 9]);
+    assert_eq!(rt; machine.bytes(0x0E00, 4), Some([0x2C, 0, 15, 0].as_slice()));
     assert_eq!(rt; machine.bytes(0x0E0C, 4), Some([0x89, 0, 0, 0].as_slice()));
-    assert_eq!(rt;
-        machine.bytes(0x0E84, 4),
-        Some(four(0x4000_0E04).as_slice())
-    );
-    assert_eq!(rt;
-        machine.bytes(0x0E88, 4),
-        Some(four(0x4000_0E44).as_slice())
-    );
-    // A READ of block 0 to address 0, whose end has 2 credits.
-    rings.send(
+    assert_eq!(rt; machine.bytes(0x0E84, 4), Some(four(0x4000_0E04).as_slice()));
+    assert_eq!(rt; machine.bytes(0x0E88, 4), Some(four(0x4000_0E44).as_slice()));
+    slots.send(
         &rt,
         &mut machine,
         32,
         &[0, 0, 0, 0, 0, 0, 0, 0, 0x21, 0, 0, 0, 0, 2, 0, 0],
     );
     assert_eq!(rt; machine.bytes(0x0E00, 4), Some([0x20, 0, 2, 0].as_slice()));
-    assert_eq!(rt;
-        machine.bytes(0x0E0C, 8),
-        Some([0xA1, 0, 0, 0, 0, 2, 0, 0].as_slice())
-    );
+    assert_eq!(rt; machine.bytes(0x0E0C, 8), Some([0xA1, 0, 0, 0, 0, 2, 0, 0].as_slice()));
     assert_eq!(rt; machine.bytes(0, 4), Some([0, 1, 2, 3].as_slice()));
-    assert_eq!(rt;
-        machine.bytes(508, 8),
-        Some([252, 253, 254, 255, 0, 0, 0, 0].as_slice())
-    );
+    assert_eq!(rt; machine.bytes(510, 4), Some([254, 255, 0, 0].as_slice()));
     assert_eq!(rt; machine.interrupts, 0);
+}
+
+/// The console of a KA655 asks for the status of each unit, and of the one behind the last.
+#[test]
+fn shows_its_units_to_a_console(rt: HostRuntime) {
+    let mut machine = Machine::new(&rt);
+    machine.port.read_ip();
+    machine.port.write_ip();
+    machine.answer(&rt, 0x0B40, 0x8400);
+    machine.answer(&rt, 0x1084, 0x020C);
+    machine.answer(&rt, 0x2000, 0x0000);
+    machine.answer(&rt, 0x4133, 0x0001);
+    assert_eq!(rt; machine.port.read_sa(), 0);
+    // The unit that is asked for, the one that is told, its status, and the credits.
+    let asked = [(0, 0, 4, 15), (1, 1, 0x23, 2), (2, 2, 4, 1), (3, 3, 0x23, 1), (4, 0, 4, 1)];
+    for (k, (unit, told, status, credits)) in asked.iter().copied().enumerate() {
+        let slots = Slots {
+            responses: 0x020C + 4 * k as u32,
+            commands: 0x024C,
+            response: 0x0300,
+            command: 0x0400,
+        };
+        slots.send(
+            &rt,
+            &mut machine,
+            48,
+            &[1, 0, 0, 0, unit, 0, 0, 0, 3, 0, 1, 0],
+        );
+        assert_eq!(rt; machine.bytes(0x0300, 4), Some([0x30, 0, credits, 0].as_slice()));
+        assert_eq!(rt; machine.bytes(0x0304, 6), Some([1, 0, 0, 0, told, 0].as_slice()));
+        assert_eq!(rt; machine.bytes(0x030C, 4), Some([0x83, 0, status, 0].as_slice()));
+        assert_eq!(rt; machine.bytes(0x0310, 4), Some([told, 0, 0, 0x80].as_slice()));
+        assert_eq!(rt; machine.bytes(0x0318, 8), Some([told, 0, 0, 0, 0, 0, 0x0D, 2].as_slice()));
+        assert_eq!(rt; machine.bytes(0x0320, 4), Some(four(0x2564_4036).as_slice()));
+    }
+}
+
+/// VMB: SET CONTROLLER CHARACTERISTICS, ONLINE, and a READ, by rings two bytes past a multiple of 4.
+#[test]
+fn boots_a_vax(rt: HostRuntime) {
+    let mut machine = Machine::new(&rt);
+    let slots = Slots {
+        responses: 0x01C6,
+        commands: 0x01CA,
+        response: 0x01CE,
+        command: 0x020E,
+    };
+    machine.port.write_ip();
+    machine.answer(&rt, 0x0B40, 0x8000);
+    machine.answer(&rt, 0x1080, 0x01C6);
+    machine.answer(&rt, 0x2000, 0x0000);
+    machine.answer(&rt, 0x4133, 0x0001);
+    slots.send(&rt, &mut machine, 60, &[1, 0, 0, 0, 0, 0, 0, 0, 4]);
+    assert_eq!(rt; machine.bytes(0x01CE, 4), Some([0x20, 0, 15, 0].as_slice()));
+    assert_eq!(rt; machine.bytes(0x01DA, 12), Some([0x84, 0, 0, 0, 0, 0, 0, 0x80, 0x78, 0, 3, 1].as_slice()));
+    assert_eq!(rt; machine.bytes(0x01E6, 8), Some([0, 0, 0, 0, 0, 0, 0x13, 1].as_slice()));
+    slots.send(&rt, &mut machine, 60, &[1, 0, 0, 0, 0, 0, 0, 0, 9]);
+    assert_eq!(rt; machine.bytes(0x01CE, 4), Some([0x2C, 0, 2, 0].as_slice()));
+    assert_eq!(rt; machine.bytes(0x01DA, 8), Some([0x89, 0, 0, 0, 0, 0, 0, 0x80].as_slice()));
+    slots.send(
+        &rt,
+        &mut machine,
+        60,
+        &[
+            1, 0, 0, 0, 0, 0, 0, 0, 0x21, 0, 0, 0, 0, 2, 0, 0, 0, 4, 0, 0, 0, 0, 0, 0, 0, 0, 0, 0, 1,
+        ],
+    );
+    assert_eq!(rt; machine.bytes(0x01CE, 4), Some([0x20, 0, 1, 0].as_slice()));
+    assert_eq!(rt; machine.bytes(0x0400, 4), Some([1, 2, 3, 4].as_slice()));
 }

@@ -23,6 +23,49 @@ pub(crate) struct Machine {
     pub vector: u16,
 }
 
+/// The four bytes of a number.
+pub(crate) fn four(value: u32) -> [u8; 4] {
+    value.to_le_bytes()
+}
+
+/// Where the next slots of both rings lie, and the packets that they name.
+#[derive(Clone, Copy)]
+pub(crate) struct Slots {
+    pub responses: u32,
+    pub commands: u32,
+    pub response: u32,
+    pub command: u32,
+}
+
+impl Slots {
+    /// Puts a message of so many bytes into the packet, with zeros behind its start, and gives both slots to the port.
+    pub fn put(&self, machine: &mut Machine, length: u32, start: &[u8]) {
+        self.give(machine, length, start, 0x8000_0000);
+    }
+
+    /// The same, with these bits beside the addresses in both slots.
+    fn give(&self, machine: &mut Machine, length: u32, start: &[u8], bits: u32) {
+        machine.put(self.command, &four(length));
+        machine.put(self.command.saturating_add(4), &[0; 60]);
+        machine.put(self.command.saturating_add(4), start);
+        machine.put(self.responses, &four(self.response.saturating_add(4) | bits));
+        machine.put(self.commands, &four(self.command.saturating_add(4) | bits));
+        machine.port.read_ip();
+    }
+
+    /// Sends a message, and lets the port do what it wants.
+    pub fn send(&self, rt: &impl Abort, machine: &mut Machine, length: u32, start: &[u8]) {
+        self.put(machine, length, start);
+        machine.run(rt, 200);
+    }
+
+    /// The same, and wants to hear when the slots are given back.
+    pub fn send_flagged(&self, rt: &impl Abort, machine: &mut Machine, length: u32, start: &[u8]) {
+        self.give(machine, length, start, 0xC000_0000);
+        machine.run(rt, 200);
+    }
+}
+
 /// A unit as an RD54 is one, but of few blocks.
 fn unit(rt: &impl Abort, number: u16) -> Unit {
     Unit::new(
@@ -144,7 +187,7 @@ impl Machine {
     }
 
     /// Does what the port wants, once. Whether it wanted anything.
-    fn act(&mut self, rt: &impl Abort) -> bool {
+    pub fn act(&mut self, rt: &impl Abort) -> bool {
         let outcome = match self.port.next() {
             Action::Rest => return false,
             Action::Read { address, count } => {
