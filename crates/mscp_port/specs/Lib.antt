@@ -1,6 +1,8 @@
 pub mod Areas
+pub mod Buffers
+pub mod Messages
+pub mod Packets
+pub mod Ports
 pub mod Registers
 pub mod Slots
-pub mod Buffers
-pub mod Ports
-pub mod Messages
+pub mod Volumes

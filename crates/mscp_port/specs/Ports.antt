@@ -56,6 +56,13 @@ abbrev pub IsReadingText : Task → Type 0
 IsReadingText (tasks.Text slot length foreign) = Unit {0}
 IsReadingText task = ⊥
 
+-- it moves a block, or the bytes of one
+abbrev pub IsMoving : Task → Type 0
+IsMoving (tasks.Fetch job) = Unit {0}
+IsMoving (tasks.Transfer job) = Unit {0}
+IsMoving (tasks.Store job) = Unit {0}
+IsMoving task = ⊥
+
 -- what the port knows of its host's memory it knew before: of its rings and its buffers it learns nothing
 pub record Forgets {K : Type 0} (old new : Port K) : Type 0 where
   pub rings : (new.rings ≡ old.rings) ⊎ (new.rings ≡ None)

@@ -1,6 +1,6 @@
 // A port: its registers, and what it knows.
 
-ghost use Rattle.std.specs.Prelude.{◌≡◌, ◌≢◌, ◌==◌, ◌⊎◌, ◌↔◌, ◌≤◌, ◌<◌, ◌+◌, ◌%◌, [], ℕ, nat_lt, Contains, if◌then◌else◌, true, false, IfErr, IfOk, IfSome, None, Some};
+ghost use Rattle.std.specs.Prelude.{◌≡◌, ◌≢◌, ◌==◌, ◌⊎◌, ◌↔◌, ◌≤◌, ◌<◌, ◌+◌, ◌%◌, [], ℕ, nat_lt, Contains, if◌then◌else◌, true, false, IfErr, IfOk, IfSome, IsOk, None, Some};
 ghost use Rattle.mscp_queue.specs.declared.name.Connection.TheVariants.{First};
 ghost use Rattle.mscp_control.specs.Holdings.{balance_of};
 ghost use Rattle.mscp_port.specs.declared.stage.Stage.TheVariants as stages;
@@ -101,6 +101,12 @@ impl<K: Picker> Port<K> {
     ) -> Result<Port<K>, PortFault>
     where
         K: Drop,
+        ensures taken { IsOk result ↔ ((1 ≤ credits) × (credits < balance_of First controller)) }
+        ensures fault { IfErr result (λ fault. fault ≡ PortFault.Credits) }
+        ensures over { IfOk result (λ p. (p.controller ≡ controller) × (p.hardware ≡ hardware)) }
+        ensures credits { IfOk result (λ p. (p.more + 1 ≡ credits) × (p.untold ≡ p.more)) }
+        ensures first { IfOk result (λ p. (p.stage ≡ stages.First) × (p.rings ≡ None) × (p.task ≡ tasks.Free)
+            × (p.buffers.items ≡ []) × (p.outgoing ≡ None)) }
     {
         if credits == 0 || controller.balance(Connection::First) <= u32::from(credits) {
             return Err(PortFault::Credits);

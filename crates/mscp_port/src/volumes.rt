@@ -1,5 +1,8 @@
 // The volumes that lie in the units, and how they change.
 
+ghost use Rattle.std.specs.Prelude.{◌≡◌, ◌↔◌, true, Some, IsTrue};
+ghost use Rattle.mscp_port.specs.Volumes.{volume_changed};
+
 /// A unit's volume. All is counted: a unit that was brought online with another volume than the one in it isn't online.
 #[derive(Clone, Copy, Debug, Default, PartialEq, Eq)]
 pub(crate) struct Volume {
@@ -18,12 +21,16 @@ pub(crate) struct Volume {
 
 impl Volume {
     /// Whether the unit is online with the volume that is in it.
-    pub fn is_mounted(&self) -> bool {
+    pub fn is_mounted(&self) -> bool
+        ensures { IsTrue result ↔ ((self.now.is_there ≡ true) × (self.now.mounted ≡ Some self.now.changes)) }
+    {
         self.is_there && self.mounted == Some(self.changes)
     }
 
     /// Another volume came, or the volume went.
-    pub fn change(&mut self, is_there: bool, is_protected: bool) {
+    pub fn change(&mut self, is_there: bool, is_protected: bool)
+        ensures { self.new ≡ volume_changed is_there is_protected self.old }
+    {
         self.is_there = is_there;
         self.is_protected = is_protected;
         self.is_protected_by_host = false;

@@ -1,8 +1,11 @@
 // What goes out to the host, and how.
 
-ghost use Rattle.std.specs.Prelude.{◌≡◌, ◌≤◌, ◌<◌, ◌⊎◌, Contains, IfSome};
+ghost use Rattle.std.specs.Prelude.{◌≡◌, ◌≢◌, ◌≤◌, ◌<◌, ◌+◌, ◌-◌, Contains, IfSome};
 ghost use Rattle.mscp_port.specs.declared.buffers.Buffer.{Buffer as Kept};
-ghost use Rattle.mscp_port.specs.Ports.{Forgets, in_hand};
+ghost use Rattle.mscp_port.specs.declared.action.Outcome.TheVariants as outcomes;
+ghost use Rattle.mscp_port.specs.declared.stage.Stage.TheVariants as stages;
+ghost use Rattle.mscp_port.specs.Packets.{credits_told, packet_of};
+ghost use Rattle.mscp_port.specs.Ports.{Forgets, IsAsNew, in_hand};
 ghost use Rattle.arrayvec.specs.ArrayVec.{array_vec_len};
 
 use crate::action::Outcome;
@@ -105,7 +108,8 @@ impl<K: Picker> Port<K> {
 
     /// How many credits what goes out gives the host: the one that an end gives back, and those that it wasn't told yet.
     fn credits_told(&self) -> u8
-        ensures { result ≤ 15 }
+        ensures value { result ≡ credits_told self.now }
+        ensures few { result ≤ 15 }
     {
         match &self.outgoing {
             Some(outgoing) if outgoing.is_end => 1 + self.untold.min(MOST_MORE),
@@ -115,7 +119,9 @@ impl<K: Picker> Port<K> {
 
     /// The packet of what goes out: its length, the credits and the type, the connection, and its text.
     pub(crate) fn packet(&self) -> ArrayVec<u8, 64>
-        ensures { array_vec_len result ≤ 52 }
+        ensures value { IfSome self.now.outgoing (λ o. result.items
+            ≡ packet_of (credits_told self.now) o.bytes.items) }
+        ensures long { array_vec_len result ≤ 52 }
     {
         let mut packet = ArrayVec::new();
         if let Some(outgoing) = &self.outgoing {
@@ -130,6 +136,9 @@ impl<K: Picker> Port<K> {
     pub(crate) fn written_out(&mut self, slot: Descriptor, outcome: Outcome)
         ensures forgets { Forgets self.old self.new }
         ensures packet { IfSome (in_hand self.new.task) (λ word. word ≡ slot.word) }
+        ensures credits { outcome ≡ outcomes.Done
+            → self.new.untold + (credits_told self.old - 1) ≡ self.old.untold }
+        ensures missing { outcome ≢ outcomes.Done → IsAsNew (stages.Dead 2) self.old self.new }
     {
         if outcome != Outcome::Done {
             return self.die(2);

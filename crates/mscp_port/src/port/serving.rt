@@ -1,7 +1,8 @@
 // How blocks are moved.
 
-ghost use Rattle.std.specs.Prelude.{◌≡◌, ◌≤◌, ◌%◌, IfSome, None};
-ghost use Rattle.mscp_port.specs.Ports.{Forgets, in_hand};
+ghost use Rattle.std.specs.Prelude.{◌≡◌, ◌≤◌, ◌%◌, true, IfSome, None, Some};
+ghost use Rattle.mscp_port.specs.Ports.{Forgets, IsMoving, in_hand};
+ghost use Rattle.mscp_port.specs.Volumes.{IsOnVolume};
 
 use crate::action::Outcome;
 use crate::buffers::{Buffer, Job, find_buffer};
@@ -69,7 +70,9 @@ fn writes(kind: MoveKind) -> bool {
 
 /// Why a step of a transfer isn't made, if it isn't: the first that holds.
 fn refusal(kind: MoveKind, buffer: &Buffer, volume: &Volume) -> Option<u16>
-    ensures { IfSome result (λ status. 5 ≤ status % 32) }
+    ensures status { IfSome result (λ status. 5 ≤ status % 32) }
+    ensures mounted { result ≡ None → (volume.now.is_there ≡ true) × (volume.now.mounted ≡ Some volume.now.changes) }
+    ensures even { result ≡ None → buffer.now.count % 2 ≡ 0 }
 {
     if !volume.is_mounted() {
         Some(STEP_WITHOUT_ONLINE)
@@ -98,7 +101,9 @@ fn first_task(job: Job) -> Task
 
 /// What is to be done for a step of a command, of whose message this is kept, and whose unit has this volume.
 fn task_for(upcoming: &Upcoming, buffer: &Buffer, volume: &Volume) -> Task
-    ensures { in_hand result ≡ None }
+    ensures packet { in_hand result ≡ None }
+    // No block is moved on a volume that came after its command, or that its unit wasn't brought online with.
+    ensures safe { IsMoving result → IsOnVolume buffer.now volume.now }
 {
     let command = &upcoming.command;
     let step = |block| Task::Step(upcoming.connection, command.reference, block);
