@@ -1,5 +1,5 @@
 -- What is among the elements of a list that has grown or shrunk.
-use Rattle.std.proofs.Common.{◌≡◌, ℕ, suc, List, [], ◌∷◌, ◌++◌, Contains, ◌⊎◌, inl, inr, sym, subst, arith, ◌<◌, length, All, take, drop}
+use Rattle.std.proofs.Common.{◌≡◌, ℕ, suc, List, [], ◌∷◌, ◌++◌, Contains, ◌⊎◌, inl, inr, sym, subst, arith, ◌<◌, length, take, drop}
 use Rattle.std.specs.List.{remove}
 use Rattle.std.proofs.lemmas.List.Elements.{All-contains, All-contains_itself, Contains-push_cases, All-take, All-drop, All-append}
 

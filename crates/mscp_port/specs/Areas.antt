@@ -1,5 +1,5 @@
 -- The communication area: where a host and its port meet in the host's memory (port: UQSSP, "Communication Area").
-use Rattle.std.specs.Prelude.{◌≡◌, ℕ, ◌+◌, ◌-◌, ◌*◌, ◌/◌, ◌%◌, ◌^◌, ◌≤◌, ◌<◌, Bool, nat_lt, if◌then◌else◌, Option, None, Some}
+use Rattle.std.specs.Prelude.{ℕ, ◌+◌, ◌-◌, ◌*◌, ◌/◌, ◌%◌, ◌^◌, ◌≤◌, ◌<◌, Bool, nat_lt, if◌then◌else◌, Option, None, Some}
 use Rattle.mscp_port.specs.declared.rings.Side.{Side}
 use Rattle.mscp_port.specs.declared.rings.Side.TheVariants.{Responses, Commands}
 

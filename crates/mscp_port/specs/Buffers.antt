@@ -1,5 +1,5 @@
 -- Where the data of a transfer are in host memory (port).
-use Rattle.std.specs.Prelude.{◌≡◌, ℕ, ◌+◌, ◌-◌, ◌*◌, ◌≤◌, ◌<◌, ◌||◌, min, not, nat_eq, nat_lt, Bool, List, length, remove, if◌then◌else◌, Option, None, Some}
+use Rattle.std.specs.Prelude.{ℕ, ◌+◌, ◌-◌, ◌*◌, ◌≤◌, ◌||◌, min, nat_eq, nat_lt, Bool, List, length, remove, if◌then◌else◌, Option, None, Some}
 use Rattle.std.specs.List.{position}
 use Rattle.mscp_packet.specs.Number.{num}
 use Rattle.mscp_port.specs.declared.buffers.Buffer.{Buffer}

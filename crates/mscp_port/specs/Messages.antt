@@ -1,5 +1,5 @@
 -- A host's messages, as the port sees them.
-use Rattle.std.specs.Prelude.{◌≡◌, ℕ, ◌+◌, ◌%◌, ◌==◌, ◌&&◌, ◌||◌, ◌++◌, Bool, nat_le, List, take, drop, find, slice_index, if◌then◌else◌, Option, None, Some}
+use Rattle.std.specs.Prelude.{ℕ, ◌+◌, ◌%◌, ◌==◌, ◌&&◌, ◌||◌, ◌++◌, Bool, nat_le, List, take, drop, find, slice_index, if◌then◌else◌, Option, None, Some}
 use Rattle.byteorder.specs.Endian.{little_bytes}
 use Rattle.mscp_drive.specs.Shape.{Shape}
 use Rattle.mscp_packet.specs.Number.{num}

@@ -1,5 +1,5 @@
 -- A packet that goes out: its header, and its text.
-use Rattle.std.specs.Prelude.{ℕ, ◌+◌, ◌++◌, min, Bool, true, false, List, length, if◌then◌else◌, Option, None, Some}
+use Rattle.std.specs.Prelude.{ℕ, ◌+◌, ◌++◌, min, List, length, if◌then◌else◌, Option, None, Some}
 use Rattle.byteorder.specs.Endian.{little_bytes}
 use Rattle.mscp_port.specs.declared.port.Outgoing.{Outgoing}
 use Rattle.mscp_port.specs.declared.port.Port.{Port}

@@ -1,6 +1,5 @@
 -- What a port knows of its host's memory, and what it may touch there.
-use Rattle.std.specs.Prelude.{◌≡◌, ◌≢◌, ℕ, ◌+◌, ◌-◌, ◌%◌, ◌≤◌, ◌⊎◌, Bool, true, false, List, [], length, Contains, IfSome, IsSomeAnd, Option, None, Some}
-use Rattle.mscp_queue.specs.declared.name.Connection.TheVariants.{First}
+use Rattle.std.specs.Prelude.{◌≡◌, ℕ, ◌+◌, ◌-◌, ◌≤◌, ◌⊎◌, true, false, List, [], length, Contains, IfSome, IsSomeAnd, Option, None, Some}
 use Rattle.mscp_control.specs.Holdings.{fresh}
 use Rattle.mscp_packet.specs.Number.{num}
 use Rattle.mscp_port.specs.declared.action.Action.{Action}
@@ -8,10 +7,9 @@ use Rattle.mscp_port.specs.declared.action.Action.TheVariants as actions
 use Rattle.mscp_port.specs.declared.buffers.Buffer.{Buffer}
 use Rattle.mscp_port.specs.declared.port.Port.{Port}
 use Rattle.mscp_port.specs.declared.stage.Stage.{Stage}
-use Rattle.mscp_port.specs.declared.stage.Stage.TheVariants as stages
 use Rattle.mscp_port.specs.declared.task.Task.{Task}
 use Rattle.mscp_port.specs.declared.task.Task.TheVariants as tasks
-use Rattle.mscp_port.specs.Areas.{Rings, IsInArea}
+use Rattle.mscp_port.specs.Areas.{IsInArea}
 use Rattle.mscp_port.specs.Buffers.{buffer_in, IsInBuffer}
 use Rattle.mscp_port.specs.Slots.{is_owned, text_of}
 

@@ -1,5 +1,5 @@
 -- What register SA shows (port: UQSSP, "Initialization").
-use Rattle.std.specs.Prelude.{◌≡◌, ℕ, ◌+◌, ◌-◌, ◌*◌, ◌/◌, ◌%◌, ◌^◌}
+use Rattle.std.specs.Prelude.{ℕ, ◌+◌, ◌*◌, ◌/◌, ◌%◌}
 use Rattle.mscp_port.specs.declared.hardware.Bus.{Bus}
 use Rattle.mscp_port.specs.declared.hardware.Bus.TheVariants.{Q, Uni}
 use Rattle.mscp_port.specs.declared.hardware.Hardware.{Hardware}

@@ -1,5 +1,5 @@
 -- The descriptor of a ring's slot, a number of 32 bits (port: UQSSP, "Ring Entries").
-use Rattle.std.specs.Prelude.{◌≡◌, ℕ, ◌+◌, ◌*◌, ◌/◌, ◌%◌, ◌==◌, Bool, nat_le}
+use Rattle.std.specs.Prelude.{ℕ, ◌+◌, ◌*◌, ◌/◌, ◌%◌, ◌==◌, Bool, nat_le}
 
 -- its top bit says that the slot is the port's
 abbrev pub is_owned : ℕ → Bool

@@ -1,5 +1,5 @@
 -- How the volume of a unit changes.
-use Rattle.std.specs.Prelude.{◌≡◌, ℕ, ◌+◌, ◌%◌, Bool, true, false, List, slice_index_or, Option, None, Some}
+use Rattle.std.specs.Prelude.{◌≡◌, ℕ, ◌+◌, ◌%◌, Bool, true, false, List, slice_index_or, None, Some}
 use Rattle.mscp_port.specs.declared.buffers.Buffer.{Buffer}
 use Rattle.mscp_port.specs.declared.volumes.Volume.{Volume}
 

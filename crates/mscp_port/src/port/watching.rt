@@ -39,7 +39,7 @@ impl<K: Picker> Port<K> {
         ensures frame { self.new ≡ record self.old { volumes = self.new.volumes } }
         ensures changed { OnOk result ((place : ℕ) × (place < 16)
             × (volume_at self.new.volumes place
-                ≡ volume_changed is_there is_protected (volume_at self.old.volumes place))) }
+            ≡ volume_changed is_there is_protected (volume_at self.old.volumes place))) }
         ensures no_unit { OnErr result (self.new ≡ self.old) }
     {
         let Some(place) = self.place_of(unit) else {

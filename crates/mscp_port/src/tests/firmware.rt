@@ -18,20 +18,20 @@ fn boots_a_pdp11(rt: HostRuntime) {
     machine.answer(&rt, 0x2000, 0x0000);
     machine.answer(&rt, 0x4133, 0x0001);
     slots.send(&rt, &mut machine, 16, &[0, 0, 0, 0, 0, 0, 0, 0, 9]);
-    assert_eq!(rt; machine.bytes(0x0E00, 4), Some([0x2C, 0, 15, 0].as_slice()));
-    assert_eq!(rt; machine.bytes(0x0E0C, 4), Some([0x89, 0, 0, 0].as_slice()));
-    assert_eq!(rt; machine.bytes(0x0E84, 4), Some(four(0x4000_0E04).as_slice()));
-    assert_eq!(rt; machine.bytes(0x0E88, 4), Some(four(0x4000_0E44).as_slice()));
+    assert!(rt; machine.has(0x0E00, &[0x2C, 0, 15, 0]));
+    assert!(rt; machine.has(0x0E0C, &[0x89, 0, 0, 0]));
+    assert!(rt; machine.has(0x0E84, &four(0x4000_0E04)));
+    assert!(rt; machine.has(0x0E88, &four(0x4000_0E44)));
     slots.send(
         &rt,
         &mut machine,
         32,
         &[0, 0, 0, 0, 0, 0, 0, 0, 0x21, 0, 0, 0, 0, 2, 0, 0],
     );
-    assert_eq!(rt; machine.bytes(0x0E00, 4), Some([0x20, 0, 2, 0].as_slice()));
-    assert_eq!(rt; machine.bytes(0x0E0C, 8), Some([0xA1, 0, 0, 0, 0, 2, 0, 0].as_slice()));
-    assert_eq!(rt; machine.bytes(0, 4), Some([0, 1, 2, 3].as_slice()));
-    assert_eq!(rt; machine.bytes(510, 4), Some([254, 255, 0, 0].as_slice()));
+    assert!(rt; machine.has(0x0E00, &[0x20, 0, 2, 0]));
+    assert!(rt; machine.has(0x0E0C, &[0xA1, 0, 0, 0, 0, 2, 0, 0]));
+    assert!(rt; machine.has(0, &[0, 1, 2, 3]));
+    assert!(rt; machine.has(510, &[254, 255, 0, 0]));
     assert_eq!(rt; machine.interrupts, 0);
 }
 
@@ -47,7 +47,13 @@ fn shows_its_units_to_a_console(rt: HostRuntime) {
     machine.answer(&rt, 0x4133, 0x0001);
     assert_eq!(rt; machine.port.read_sa(), 0);
     // The unit that is asked for, the one that is told, its status, and the credits.
-    let asked = [(0, 0, 4, 15), (1, 1, 0x23, 2), (2, 2, 4, 1), (3, 3, 0x23, 1), (4, 0, 4, 1)];
+    let asked = [
+        (0, 0, 4, 15),
+        (1, 1, 0x23, 2),
+        (2, 2, 4, 1),
+        (3, 3, 0x23, 1),
+        (4, 0, 4, 1),
+    ];
     for (k, (unit, told, status, credits)) in asked.iter().copied().enumerate() {
         let slots = Slots {
             responses: 0x020C + 4 * k as u32,
@@ -61,12 +67,12 @@ fn shows_its_units_to_a_console(rt: HostRuntime) {
             48,
             &[1, 0, 0, 0, unit, 0, 0, 0, 3, 0, 1, 0],
         );
-        assert_eq!(rt; machine.bytes(0x0300, 4), Some([0x30, 0, credits, 0].as_slice()));
-        assert_eq!(rt; machine.bytes(0x0304, 6), Some([1, 0, 0, 0, told, 0].as_slice()));
-        assert_eq!(rt; machine.bytes(0x030C, 4), Some([0x83, 0, status, 0].as_slice()));
-        assert_eq!(rt; machine.bytes(0x0310, 4), Some([told, 0, 0, 0x80].as_slice()));
-        assert_eq!(rt; machine.bytes(0x0318, 8), Some([told, 0, 0, 0, 0, 0, 0x0D, 2].as_slice()));
-        assert_eq!(rt; machine.bytes(0x0320, 4), Some(four(0x2564_4036).as_slice()));
+        assert!(rt; machine.has(0x0300, &[0x30, 0, credits, 0]));
+        assert!(rt; machine.has(0x0304, &[1, 0, 0, 0, told, 0]));
+        assert!(rt; machine.has(0x030C, &[0x83, 0, status, 0]));
+        assert!(rt; machine.has(0x0310, &[told, 0, 0, 0x80]));
+        assert!(rt; machine.has(0x0318, &[told, 0, 0, 0, 0, 0, 0x0D, 2]));
+        assert!(rt; machine.has(0x0320, &four(0x2564_4036)));
     }
 }
 
@@ -86,20 +92,21 @@ fn boots_a_vax(rt: HostRuntime) {
     machine.answer(&rt, 0x2000, 0x0000);
     machine.answer(&rt, 0x4133, 0x0001);
     slots.send(&rt, &mut machine, 60, &[1, 0, 0, 0, 0, 0, 0, 0, 4]);
-    assert_eq!(rt; machine.bytes(0x01CE, 4), Some([0x20, 0, 15, 0].as_slice()));
-    assert_eq!(rt; machine.bytes(0x01DA, 12), Some([0x84, 0, 0, 0, 0, 0, 0, 0x80, 0x78, 0, 3, 1].as_slice()));
-    assert_eq!(rt; machine.bytes(0x01E6, 8), Some([0, 0, 0, 0, 0, 0, 0x13, 1].as_slice()));
+    assert!(rt; machine.has(0x01CE, &[0x20, 0, 15, 0]));
+    assert!(rt; machine.has(0x01DA, &[0x84, 0, 0, 0, 0, 0, 0, 0x80, 0x78, 0, 3, 1]));
+    assert!(rt; machine.has(0x01E6, &[0, 0, 0, 0, 0, 0, 0x13, 1]));
     slots.send(&rt, &mut machine, 60, &[1, 0, 0, 0, 0, 0, 0, 0, 9]);
-    assert_eq!(rt; machine.bytes(0x01CE, 4), Some([0x2C, 0, 2, 0].as_slice()));
-    assert_eq!(rt; machine.bytes(0x01DA, 8), Some([0x89, 0, 0, 0, 0, 0, 0, 0x80].as_slice()));
+    assert!(rt; machine.has(0x01CE, &[0x2C, 0, 2, 0]));
+    assert!(rt; machine.has(0x01DA, &[0x89, 0, 0, 0, 0, 0, 0, 0x80]));
     slots.send(
         &rt,
         &mut machine,
         60,
         &[
-            1, 0, 0, 0, 0, 0, 0, 0, 0x21, 0, 0, 0, 0, 2, 0, 0, 0, 4, 0, 0, 0, 0, 0, 0, 0, 0, 0, 0, 1,
+            1, 0, 0, 0, 0, 0, 0, 0, 0x21, 0, 0, 0, 0, 2, 0, 0, 0, 4, 0, 0, 0, 0, 0, 0, 0, 0, 0, 0,
+            1,
         ],
     );
-    assert_eq!(rt; machine.bytes(0x01CE, 4), Some([0x20, 0, 1, 0].as_slice()));
-    assert_eq!(rt; machine.bytes(0x0400, 4), Some([1, 2, 3, 4].as_slice()));
+    assert!(rt; machine.has(0x01CE, &[0x20, 0, 1, 0]));
+    assert!(rt; machine.has(0x0400, &[1, 2, 3, 4]));
 }

@@ -48,7 +48,10 @@ impl Slots {
         machine.put(self.command, &four(length));
         machine.put(self.command.saturating_add(4), &[0; 60]);
         machine.put(self.command.saturating_add(4), start);
-        machine.put(self.responses, &four(self.response.saturating_add(4) | bits));
+        machine.put(
+            self.responses,
+            &four(self.response.saturating_add(4) | bits),
+        );
         machine.put(self.commands, &four(self.command.saturating_add(4) | bits));
         machine.port.read_ip();
     }
@@ -123,6 +126,17 @@ impl Machine {
             return None;
         }
         Some(&rest[..count as usize])
+    }
+
+    /// Whether these bytes stand in memory from an address on.
+    pub fn has(&self, address: u32, wanted: &[u8]) -> bool {
+        for (k, byte) in wanted.iter().enumerate() {
+            match self.memory.get((address as usize).saturating_add(k)) {
+                Some(there) if *there == *byte => {}
+                _ => return false,
+            }
+        }
+        true
     }
 
     /// Puts bytes into memory, if there is room for them.

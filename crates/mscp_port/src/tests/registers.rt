@@ -25,13 +25,13 @@ fn interrupts_come_where_they_are_wanted(rt: HostRuntime) {
     };
     // A FLUSH, which the port answers itself; nobody asked to hear of slots.
     slots.send(&rt, &mut machine, 12, &[1, 0, 0, 0, 0, 0, 0, 0, 19]);
-    assert_eq!(rt; machine.bytes(0x0E0C, 4), Some([0x93, 0, 0, 0].as_slice()));
+    assert!(rt; machine.has(0x0E0C, &[0x93, 0, 0, 0]));
     assert_eq!(rt; machine.interrupts, 3);
-    assert_eq!(rt; machine.bytes(0x0E80, 4), Some([0, 0, 0, 0].as_slice()));
+    assert!(rt; machine.has(0x0E80, &[0, 0, 0, 0]));
     // The port has set the flags of both slots as it gave them back, and a host may leave them.
     slots.send_flagged(&rt, &mut machine, 12, &[2, 0, 0, 0, 0, 0, 0, 0, 19]);
     assert_eq!(rt; machine.interrupts, 5);
-    assert_eq!(rt; machine.bytes(0x0E80, 4), Some([1, 0, 1, 0].as_slice()));
+    assert!(rt; machine.has(0x0E80, &[1, 0, 1, 0]));
 }
 
 /// SA shows what was written to it where the first word asks for that, until IP is written.

@@ -3,12 +3,8 @@
 use super::machine::{Machine, Slots};
 use crate::Action;
 
-/// What stands in bytes 10 and 11 of an end, whose code is in byte 8.
-fn status(machine: &Machine) -> Option<&[u8]> {
-    machine.bytes(0x0E0C, 4)
-}
-
-/// A machine whose port is up, with one slot in each ring.
+/// A machine whose port is up, with one slot in each ring. The text of a response lies at 0x0E04, so that its endcode is at
+/// 0x0E0C, and its status two bytes behind.
 fn up(rt: &impl std::process::Abort) -> (Machine, Slots) {
     let mut machine = Machine::new(rt);
     machine.answer(rt, 0x0B40, 0x8000);
@@ -29,7 +25,7 @@ fn up(rt: &impl std::process::Abort) -> (Machine, Slots) {
 fn no_read_goes_over_two_volumes(rt: HostRuntime) {
     let (mut machine, slots) = up(&rt);
     slots.send(&rt, &mut machine, 12, &[1, 0, 0, 0, 0, 0, 0, 0, 9]);
-    assert_eq!(rt; status(&machine), Some([0x89, 0, 0, 0].as_slice()));
+    assert!(rt; machine.has(0x0E0C, &[0x89, 0, 0, 0]));
     let read = [2, 0, 0, 0, 0, 0, 0, 0, 0x21, 0, 0, 0, 0, 8, 0, 0];
     slots.put(&mut machine, 32, &read);
     for _ in 0..100 {
@@ -40,20 +36,20 @@ fn no_read_goes_over_two_volumes(rt: HostRuntime) {
     }
     assert!(rt; machine.port.volume_went(0).is_ok());
     machine.run(&rt, 100);
-    assert_eq!(rt; status(&machine), Some([0xA1, 0, 0x23, 0].as_slice()));
-    assert_eq!(rt; machine.bytes(0, 4), Some([0, 1, 2, 3].as_slice()));
-    assert_eq!(rt; machine.bytes(512, 4), Some([0, 0, 0, 0].as_slice()));
+    assert!(rt; machine.has(0x0E0C, &[0xA1, 0, 0x23, 0]));
+    assert!(rt; machine.has(0, &[0, 1, 2, 3]));
+    assert!(rt; machine.has(512, &[0, 0, 0, 0]));
     slots.send(&rt, &mut machine, 32, &read);
-    assert_eq!(rt; status(&machine), Some([0xA1, 0, 0x23, 0].as_slice()));
+    assert!(rt; machine.has(0x0E0C, &[0xA1, 0, 0x23, 0]));
     assert!(rt; machine.port.volume_came(0, true).is_ok());
     slots.send(&rt, &mut machine, 32, &read);
-    assert_eq!(rt; status(&machine), Some([0xA1, 0, 4, 0].as_slice()));
+    assert!(rt; machine.has(0x0E0C, &[0xA1, 0, 4, 0]));
     slots.send(&rt, &mut machine, 12, &[1, 0, 0, 0, 0, 0, 0, 0, 9]);
-    assert_eq!(rt; status(&machine), Some([0x89, 0, 0, 1].as_slice()));
-    assert_eq!(rt; machine.bytes(0x0E12, 2), Some([0, 0xA0].as_slice()));
+    assert!(rt; machine.has(0x0E0C, &[0x89, 0, 0, 1]));
+    assert!(rt; machine.has(0x0E12, &[0, 0xA0]));
     slots.send(&rt, &mut machine, 32, &read);
-    assert_eq!(rt; status(&machine), Some([0xA1, 0, 0, 0].as_slice()));
-    assert_eq!(rt; machine.bytes(512, 4), Some([1, 2, 3, 4].as_slice()));
+    assert!(rt; machine.has(0x0E0C, &[0xA1, 0, 0, 0]));
+    assert!(rt; machine.has(512, &[1, 2, 3, 4]));
 }
 
 /// A WRITE to a volume that is write-protected, at an odd address, of an odd count, or from memory that isn't there, ends
@@ -79,10 +75,12 @@ fn refused_transfers_say_why(rt: HostRuntime) {
             &rt,
             &mut machine,
             32,
-            &[2, 0, 0, 0, unit, 0, 0, 0, opcode, 0, 0, 0, count, 0, 0, 0, 0, page],
+            &[
+                2, 0, 0, 0, unit, 0, 0, 0, opcode, 0, 0, 0, count, 0, 0, 0, 0, page,
+            ],
         );
         let [low, high] = u16::to_le_bytes(wanted);
-        assert_eq!(rt; status(&machine), Some([opcode | 0x80, 0, low, high].as_slice()));
+        assert!(rt; machine.has(0x0E0C, &[opcode | 0x80, 0, low, high]));
     }
     slots.send(
         &rt,
@@ -90,5 +88,5 @@ fn refused_transfers_say_why(rt: HostRuntime) {
         32,
         &[2, 0, 0, 0, 0, 0, 0, 0, 0x22, 0, 0, 0, 2, 0, 0, 0, 1],
     );
-    assert_eq!(rt; status(&machine), Some([0xA2, 0, 0x29, 0].as_slice()));
+    assert!(rt; machine.has(0x0E0C, &[0xA2, 0, 0x29, 0]));
 }

@@ -1,4 +1,4 @@
-use Rattle.std.proofs.Common.{◌≡◌, ℕ, ap, sym, subst, inl, inr, true}
+use Rattle.std.proofs.Common.{◌≡◌, ap, sym, subst, inl, inr, true}
 use Rattle.mscp_packet.specs.Number.{num}
 use Rattle.mscp_port.specs.Ports.{IsReadingSlot, IsReadingText, in_hand}
 use Rattle.mscp_port.specs.Slots.{is_owned}
