@@ -22,12 +22,13 @@ pub record AreRings (r : Rings) : Type 0 where
 abbrev pub slots : ℕ → ℕ
 slots log = 2 ^ log
 
--- the base that a host names: the low half by its second word, of which the lowest bit says something else, and the high
--- half by its third word, of which the top bit does
+-- the base that a host names: the low half by its second word, of which the lowest bit says something else, and
+-- the high half by its third word, of which the top bit does
 abbrev pub base_named : ℕ → ℕ → ℕ
 base_named second third = third % 0x8000 * 0x1_0000 + second / 2 * 2
 
--- bits 8 to 10 of the first word are the logarithm of the responses' length, and bits 11 to 13 that of the commands'
+-- bits 8 to 10 of the first word are the logarithm of the responses' length, and bits 11 to 13 that of the
+-- commands'
 abbrev pub area_named : ℕ → ℕ → ℕ → Rings
 area_named first second third = record {
   base = base_named second third;
@@ -44,8 +45,8 @@ abbrev pub slots_of : Rings → Side → ℕ
 slots_of r Responses = r.responses
 slots_of r Commands = r.commands
 
--- where the slot of a ring lies that comes after so many others: the ring of responses at the base, that of commands
--- behind it, four bytes a slot, and behind the last slot comes the first
+-- where the slot of a ring lies that comes after so many others: the ring of responses at the base, that of
+-- commands behind it, four bytes a slot, and behind the last slot comes the first
 abbrev pub slot_in : Rings → Side → ℕ → ℕ
 slot_in r Responses n = r.base + n % r.responses * 4
 slot_in r Commands n = r.base + (r.responses + n % r.commands) * 4

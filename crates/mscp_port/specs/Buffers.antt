@@ -14,8 +14,9 @@ four_or_zero b at = num_or_zero b at 4
 abbrev pub two_or_zero : List ℕ → ℕ → ℕ
 two_or_zero b at = num_or_zero b at 2
 
--- what is kept of a message, whose unit's volume had changed so often: its reference number, in bytes 16 to 19 the address
--- of its data and in 12 to 15 how many bytes they have (manual), in 10 and 11 its modifiers, and in 14 and 15 its unit flags
+-- what is kept of a message, whose unit's volume had changed so often: its reference number, in bytes 16 to 19 the
+-- address of its data and in 12 to 15 how many bytes they have (manual), in 10 and 11 its modifiers, and in 14 and
+-- 15 its unit flags
 abbrev pub buffer_in : List ℕ → ℕ → Buffer
 buffer_in b changes = record {
   reference = four_or_zero b 0;
@@ -42,8 +43,8 @@ without reference bs = without_place (position (has_reference reference) bs) bs
 abbrev pub left_of : Buffer → ℕ → ℕ
 left_of b done = min (b.count - done * 512) 512
 
--- where they are: 512 bytes behind those of the step before. None past the end of the buffer, or where they reach the end
--- of 32 bits
+-- where they are: 512 bytes behind those of the step before. None past the end of the buffer, or where they reach
+-- the end of 32 bits
 abbrev pub part_of : Buffer → ℕ → Option (ℕ × ℕ)
 part_of b done =
     if nat_lt b.count (done * 512) || nat_lt 0xFFFF_FFFF (b.address + done * 512 + left_of b done) then None

@@ -14,8 +14,8 @@ is_own_opcode opcode = opcode == 11 || opcode == 17 || opcode == 19
 abbrev pub bare_end : List ℕ → ℕ → ℕ → End
 bare_end b code status = record { reference = num b 0 4; unit = num b 4 2; code = code; status = status; body = Bare }
 
--- the end of a message that the port answers itself, if it does: one for a connection that isn't there has an unknown
--- opcode, and those opcodes have Success
+-- the end of a message that the port answers itself, if it does: one for a connection that isn't there has an
+-- unknown opcode, and those opcodes have Success
 abbrev pub own_end : Bool → List ℕ → Option End
 own_end foreign b =
     if foreign then Some (bare_end b 0x80 0x0801)

@@ -66,8 +66,8 @@ pub record Forgets {K : Type 0} (old new : Port K) : Type 0 where
   pub rings : (new.rings ≡ old.rings) ⊎ (new.rings ≡ None)
   pub buffers : (b : Buffer) → Contains new.buffers.items b → Contains old.buffers.items b
 
--- what the port knows of its host's memory is what it knew, and what these bytes say that it wanted: the descriptor of a
--- slot that is the port's, or the buffer in the text of a command
+-- what the port knows of its host's memory is what it knew, and what these bytes say that it wanted: the
+-- descriptor of a slot that is the port's, or the buffer in the text of a command
 pub record Learns {K : Type 0} (bytes : List ℕ) (old new : Port K) : Type 0 where
   pub rings : (new.rings ≡ old.rings) ⊎ (new.rings ≡ None)
   pub packet : IfSome (in_hand new.task) (λ word. (in_hand old.task ≡ Some word)
@@ -92,8 +92,8 @@ IsInRingsOrPacket p address count =
 abbrev pub IsInSomeBuffer : {K : Type 0} → Port K → ℕ → ℕ → Type 0
 IsInSomeBuffer p address count = (b : Buffer) × Contains p.buffers.items b × IsInBuffer b address count
 
--- each action touches only memory that the port knows: its own words go to the communication area and to packets, and the
--- bytes of transfers to the buffers of commands and from them
+-- each action touches only memory that the port knows: its own words go to the communication area and to packets,
+-- and the bytes of transfers to the buffers of commands and from them
 abbrev pub IsWithin : {K : Type 0} → Port K → Action → Type 0
 IsWithin p (actions.Read address count) = IsInRingsOrPacket p address count
 IsWithin p (actions.Write address bytes) = IsInRingsOrPacket p address (length bytes.items)

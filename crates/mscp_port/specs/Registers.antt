@@ -6,8 +6,8 @@ use Rattle.mscp_port.specs.declared.hardware.Hardware.{Hardware}
 use Rattle.mscp_port.specs.declared.stage.Stage.{Stage}
 use Rattle.mscp_port.specs.declared.stage.Stage.TheVariants as stages
 
--- in the first step: bit 11, and what the port serves: odd addresses (7: not, 6: mapping) and, on the Q-bus, addresses of 22
--- bits (9)
+-- in the first step: bit 11, and what the port serves: odd addresses (7: not, 6: mapping) and, on the Q-bus,
+-- addresses of 22 bits (9)
 abbrev pub first_step_on : Bus → ℕ
 first_step_on Q = 0x0B40
 first_step_on Uni = 0x0940

@@ -17,7 +17,8 @@ no_volume = record {
 abbrev pub volume_at : List Volume → ℕ → Volume
 volume_at volumes place = slice_index_or volumes place no_volume
 
--- another volume is there, or none: it is counted, and its host is to hear of one that came. The unit isn't online with it
+-- another volume is there, or none: it is counted, and its host is to hear of one that came. The unit isn't online
+-- with it
 abbrev pub volume_changed : Bool → Bool → Volume → Volume
 volume_changed there protected v = record v {
   is_there = there;
@@ -27,7 +28,8 @@ volume_changed there protected v = record v {
   is_news = there;
 }
 
--- the volume in the unit is the one that was there when this command came, and that the unit was brought online with
+-- the volume in the unit is the one that was there when this command came, and that the unit was brought online
+-- with
 pub record IsOnVolume (b : Buffer) (v : Volume) : Type 0 where
   pub there : v.is_there ≡ true
   pub same : b.changes ≡ v.changes

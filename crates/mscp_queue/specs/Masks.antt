@@ -70,7 +70,8 @@ pub record HasLeft (n drive : ℕ) (old new : Masks) : Type 0 where
   pub served : IsSet false n old.serving new.serving
   pub units : (u : ℕ) → u ≢ drive → slice_index_or new.units u 0 ≡ slice_index_or old.units u 0
   pub own : IsSet false n (slice_index_or old.units drive 0) (slice_index_or new.units drive 0)
-  pub earlier : new.waiting ≢ 0 → (k : ℕ) → IsSet false n (slice_index_or old.earlier k 0) (slice_index_or new.earlier k 0)
+  pub earlier : new.waiting ≢ 0 → (k : ℕ)
+      → IsSet false n (slice_index_or old.earlier k 0) (slice_index_or new.earlier k 0)
 
 -- the slots in front of one that keep its command back, which is to the unit of this drive: for a sequential command
 -- those

@@ -36,7 +36,8 @@ bounds-deref-at g c =
     let place = c.in_ok-place.place in
     let was = ready.served place c.in_ok-place.was in
     let next : IsNext (g.K.Picker.picks q.picker) q.backlog.budget ds rs (begun_name rs q.begun) place =
-    serving_is_next (g.K.Picker.picks q.picker) q.backlog.budget ds rs (begun_name rs q.begun) place ready.held.one was.0
+    serving_is_next (g.K.Picker.picks q.picker) q.backlog.budget ds rs (begun_name rs q.begun) place
+    ready.held.one was.0
     was.1 ready.held.still in
     let at = drive_found q.backlog.aims place _ ready.held ready.aimed next.servable.inside
     (c.from-at.ensures ∙ ap (λ (a : Aim). a.drive) c.aim.ensures) in
@@ -52,7 +53,8 @@ bounds-deref_mut-at g c =
     let place = c.in_ok-place.place in
     let was = ready.served place c.in_ok-place.was in
     let next : IsNext (g.K.Picker.picks q.picker) q.backlog.budget ds rs (begun_name rs q.begun) place =
-    serving_is_next (g.K.Picker.picks q.picker) q.backlog.budget ds rs (begun_name rs q.begun) place ready.held.one was.0
+    serving_is_next (g.K.Picker.picks q.picker) q.backlog.budget ds rs (begun_name rs q.begun) place
+    ready.held.one was.0
     was.1 ready.held.still in
     let at = drive_found q.backlog.aims place _ ready.held ready.aimed next.servable.inside
     (c.from-at.ensures ∙ ap (λ (a : Aim). a.drive) c.aim.ensures) in
@@ -68,7 +70,8 @@ serve-requires-clause-front g c =
     let place = c.in_ok-place.place in
     let was = ready.served place c.in_ok-place.was in
     let next : IsNext (g.K.Picker.picks q.picker) q.backlog.budget ds rs (begun_name rs q.begun) place =
-    serving_is_next (g.K.Picker.picks q.picker) q.backlog.budget ds rs (begun_name rs q.begun) place ready.held.one was.0
+    serving_is_next (g.K.Picker.picks q.picker) q.backlog.budget ds rs (begun_name rs q.begun) place
+    ready.held.one was.0
     was.1 ready.held.still in
     (can_serve c.args.block.now ready.held next.servable).front
 
@@ -82,7 +85,8 @@ serve-requires-clause-back g c =
     let place = c.in_ok-place.place in
     let was = ready.served place c.in_ok-place.was in
     let next : IsNext (g.K.Picker.picks q.picker) q.backlog.budget ds rs (begun_name rs q.begun) place =
-    serving_is_next (g.K.Picker.picks q.picker) q.backlog.budget ds rs (begun_name rs q.begun) place ready.held.one was.0
+    serving_is_next (g.K.Picker.picks q.picker) q.backlog.budget ds rs (begun_name rs q.begun) place
+    ready.held.one was.0
     was.1 ready.held.still in
     (can_serve c.args.block.now ready.held next.servable).back
 
@@ -101,7 +105,8 @@ serve-requires-2-clause-drive g c =
     let place = c.in_ok-place.place in
     let was = ready.served place c.in_ok-place.was in
     let next : IsNext (g.K.Picker.picks q.picker) q.backlog.budget ds rs (begun_name rs q.begun) place =
-    serving_is_next (g.K.Picker.picks q.picker) q.backlog.budget ds rs (begun_name rs q.begun) place ready.held.one was.0
+    serving_is_next (g.K.Picker.picks q.picker) q.backlog.budget ds rs (begun_name rs q.begun) place
+    ready.held.one was.0
     was.1 ready.held.still in
     let at = drive_found q.backlog.aims place _ ready.held ready.aimed next.servable.inside
     (c.from-at.ensures ∙ ap (λ (a : Aim). a.drive) c.aim.ensures) in
@@ -118,7 +123,8 @@ invariant_of-self g c =
     let place = c.in_ok-place.place in
     let was = ready.served place c.in_ok-place.was in
     let next : IsNext (g.K.Picker.picks q.picker) q.backlog.budget ds rs (begun_name rs q.begun) place =
-    serving_is_next (g.K.Picker.picks q.picker) q.backlog.budget ds rs (begun_name rs q.begun) place ready.held.one was.0
+    serving_is_next (g.K.Picker.picks q.picker) q.backlog.budget ds rs (begun_name rs q.begun) place
+    ready.held.one was.0
     was.1 ready.held.still in
     let at = drive_found q.backlog.aims place _ ready.held ready.aimed next.servable.inside
     (c.from-at.ensures ∙ ap (λ (a : Aim). a.drive) c.aim.ensures) in
@@ -194,7 +200,8 @@ returns-clause-units g c =
     let place = c.in_ok-place.place in
     let was = ready.served place c.in_ok-place.was in
     let next : IsNext (g.K.Picker.picks q.picker) q.backlog.budget ds rs (begun_name rs q.begun) place =
-    serving_is_next (g.K.Picker.picks q.picker) q.backlog.budget ds rs (begun_name rs q.begun) place ready.held.one was.0
+    serving_is_next (g.K.Picker.picks q.picker) q.backlog.budget ds rs (begun_name rs q.begun) place
+    ready.held.one was.0
     was.1 ready.held.still in
     let at = drive_found q.backlog.aims place _ ready.held ready.aimed next.servable.inside
     (c.from-at.ensures ∙ ap (λ (a : Aim). a.drive) c.aim.ensures) in
@@ -237,7 +244,8 @@ returns-clause-some g c =
     let place = c.in_ok-place.place in
     let was = ready.served place c.in_ok-place.was in
     let next : IsNext (g.K.Picker.picks q.picker) q.backlog.budget ds rs (begun_name rs q.begun) place =
-    serving_is_next (g.K.Picker.picks q.picker) q.backlog.budget ds rs (begun_name rs q.begun) place ready.held.one was.0
+    serving_is_next (g.K.Picker.picks q.picker) q.backlog.budget ds rs (begun_name rs q.begun) place
+    ready.held.one was.0
     was.1 ready.held.still in
     let at = drive_found q.backlog.aims place _ ready.held ready.aimed next.servable.inside
     (c.from-at.ensures ∙ ap (λ (a : Aim). a.drive) c.aim.ensures) in
