@@ -56,13 +56,21 @@ impl<K: Picker> Port<K> {
             && self.controller.untaken(Connection::First) == 0
     }
 
+    /// The host may have given a slot of the ring of responses to the port, of which nothing tells: the port looks at it again,
+    /// if something is to go out. Where the machine has time for the disk it is called before `next`.
+    pub fn look_again(&mut self)
+        ensures { self.new ≡ record self.old { is_full = false } }
+    {
+        self.is_full = false;
+    }
+
     /// A second went by: the port looks at the ring of responses again, and a host that was silent for too long is taken for
     /// dead.
     pub fn tick(&mut self)
         ensures { (self.new ≡ record self.old { is_full = false; left = self.new.left })
             ⊎ IsAsNew (stages.Dead 9) self.old self.new }
     {
-        self.is_full = false;
+        self.look_again();
         if self.stage != Stage::Up || self.timeout == 0 || !self.is_idle() {
             self.left = self.timeout;
         } else if self.left > 1 {

@@ -90,3 +90,28 @@ fn watches_its_host(rt: HostRuntime) {
     machine.port.tick();
     assert_eq!(rt; machine.port.read_sa(), 0x8009);
 }
+
+/// An end waits until its slot is given back to the port, and nobody asks for it all the time.
+#[test]
+fn waits_for_a_slot(rt: HostRuntime) {
+    let mut machine = Machine::new(&rt);
+    machine.answer(&rt, 0x0B40, 0x8000);
+    machine.answer(&rt, 0x1080, 0x0E84);
+    machine.answer(&rt, 0x2000, 0x0000);
+    machine.answer(&rt, 0x4133, 0x0001);
+    let slots = Slots {
+        responses: 0x0E84,
+        commands: 0x0E88,
+        response: 0x0E00,
+        command: 0x0E40,
+    };
+    slots.put(&mut machine, 12, &[1, 0, 0, 0, 0, 0, 0, 0, 19]);
+    machine.put(0x0E84, &[0; 4]);
+    assert!(rt; machine.run(&rt, 100) < 100);
+    assert!(rt; machine.has(0x0E0C, &[0, 0, 0, 0]));
+    machine.put(0x0E84, &[4, 0x0E, 0, 0x80]);
+    assert_eq!(rt; machine.port.next(), Action::Rest);
+    machine.port.look_again();
+    machine.run(&rt, 100);
+    assert!(rt; machine.has(0x0E0C, &[0x93, 0, 0, 0]));
+}
