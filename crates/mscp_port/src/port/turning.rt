@@ -1,6 +1,7 @@
 // What the port wants done.
 
 ghost use Rattle.std.specs.Prelude.{◌≡◌, ◌≢◌, ◌≤◌, ◌<◌, ◌⊎◌, ◌^◌, ℕ, length, Contains, IfSome, IsErr, IsSomeAnd, OnErr, None, Some};
+ghost use Rattle.byteorder.specs.Endian.{little_bytes};
 ghost use Rattle.arrayvec.specs.ArrayVec.{array_vec_len};
 ghost use Rattle.mscp_port.specs.declared.action.Action.TheVariants as actions;
 ghost use Rattle.mscp_port.specs.declared.buffers.Buffer.{Buffer as Kept};
@@ -9,6 +10,7 @@ ghost use Rattle.mscp_port.specs.declared.task.Task.TheVariants as tasks;
 ghost use Rattle.mscp_port.specs.Areas.{IsInArea, rings_named};
 ghost use Rattle.mscp_port.specs.Buffers.{IsInBuffer};
 ghost use Rattle.mscp_port.specs.Ports.{Forgets, IsAsNew, IsInSomeBuffer, IsWithin, in_hand};
+ghost use Rattle.mscp_port.specs.Slots.{given_back};
 
 use crate::action::{Action, Outcome, Unasked};
 use crate::buffers::{Buffer, Job, find_buffer};
@@ -45,7 +47,8 @@ fn zeros(count: u32) -> ArrayVec<u8, 64>
 
 /// What an interrupt word is written with.
 fn interrupt_word() -> ArrayVec<u8, 64>
-    ensures { length result.items ≡ 2 }
+    ensures value { result.items ≡ little_bytes 2 1 }
+    ensures long { length result.items ≡ 2 }
 {
     let mut bytes = ArrayVec::new();
     put_two(&mut bytes, 1);
@@ -54,7 +57,8 @@ fn interrupt_word() -> ArrayVec<u8, 64>
 
 /// The descriptor of a slot that is given back.
 fn descriptor(slot: &Descriptor) -> ArrayVec<u8, 64>
-    ensures { length result.items ≡ 4 }
+    ensures value { result.items ≡ little_bytes 4 (given_back slot.now.word) }
+    ensures long { length result.items ≡ 4 }
 {
     let mut bytes = ArrayVec::new();
     put_four(&mut bytes, slot.given_back());
