@@ -1,6 +1,6 @@
 // A controller that answers what a log says, and what of its answers wasn't told yet.
 
-ghost use Rattle.std.specs.Prelude.{◌≡◌, ◌≢◌, IfSome, ◌⊎◌, ◌+◌, ◌-◌, ◌<◌, ◌≤◌, ◌^◌, ◌∷◌, ◌++◌, [], ℕ, List, length, true, false, OnOk, IfOk};
+ghost use Rattle.std.specs.Prelude.{◌≡◌, ◌≢◌, IfSome, ◌⊎◌, ◌+◌, ◌-◌, ◌<◌, ◌≤◌, ◌^◌, ◌∷◌, ◌++◌, [], ℕ, List, codes, length, true, false, OnOk, IfOk};
 ghost use Rattle.std.specs.List.{list_all};
 ghost use Rattle.mscp_control.specs.History.{Trace};
 ghost use Rattle.mscp_control.specs.Holdings.{fresh};
@@ -10,7 +10,7 @@ ghost use Rattle.mscp_reader.specs.Lexical as lexical;
 ghost use Rattle.mscp_reader.specs.Requests.{events_of};
 ghost use Rattle.mscp_judge.specs.declared.naming.Named as named;
 ghost use Rattle.mscp_judge.specs.Judged.{Breaks, IsAhead, IsTold, Tells};
-ghost use Rattle.mscp_judge.specs.Logs.{IsRightThere, Log, asking, is_answer, nothing, telling};
+ghost use Rattle.mscp_judge.specs.Logs.{AreAnswers, IsRightThere, Log, asking, is_answer, nothing, telling};
 ghost use Rattle.mscp_judge.specs.Naming as naming;
 ghost use Rattle.mscp_judge.specs.Naming.{name_of};
 ghost use Rattle.mscp_judge.specs.Rules.{IsStepRule, due_rule, is_service};
@@ -129,7 +129,7 @@ impl<A: Allocator> Judge<A> {
     }
 
     /// What is answered and wasn't told yet.
-    fn due(&self) -> &[u8]
+    pub fn due(&self) -> &[u8]
         ensures { result.now ≡ due self.now }
     {
         let lines = self.reporter.lines();
@@ -144,11 +144,12 @@ impl<A: Allocator> Judge<A> {
         self.owed == 0 && self.due().is_empty()
     }
 
-    /// The connection's host sends this message.
-    fn send(&mut self, connection: Connection, message: &[u8]) -> Result<(), OutOfMemory>
+    /// The connection's host sends this message. Told is how many lines are due then.
+    fn send(&mut self, connection: Connection, message: &[u8]) -> Result<u32, OutOfMemory>
         requires { self.old.reporter.count + 1 < 2 ^ 64 }
         ensures came { OnOk result (Came self.old.controller.picker self.old self.new
             (events.Send connection (record { items = message.now }))) }
+        ensures answers { IfOk result (λ count. AreAnswers (due self.new) count) }
         ensures owed { self.new.owed ≡ self.old.owed }
         ensures block { self.new.block ≡ self.old.block }
     {
@@ -157,13 +158,15 @@ impl<A: Allocator> Judge<A> {
         let sent = self.controller.send(connection, message);
         let figure = figure_queued(&self.controller, connection, &sent);
         self.peaks.rise(figure, self.controller.most_passed());
-        self.reporter.sent(connection, &sent)
+        self.reporter.sent(connection, &sent)?;
+        Ok(1)
     }
 
-    /// The connection's host takes an end.
-    fn take(&mut self, connection: Connection) -> Result<(), OutOfMemory>
+    /// The connection's host takes an end. Told is how many lines are due then.
+    fn take(&mut self, connection: Connection) -> Result<u32, OutOfMemory>
         requires { self.old.reporter.count + 1 < 2 ^ 64 }
         ensures came { OnOk result (Came self.old.controller.picker self.old self.new (events.Take connection)) }
+        ensures answers { IfOk result (λ count. AreAnswers (due self.new) count) }
         ensures owed { self.new.owed ≡ self.old.owed }
         ensures block { self.new.block ≡ self.old.block }
     {
@@ -171,13 +174,15 @@ impl<A: Allocator> Judge<A> {
         self.told = 0;
         let end = self.controller.take(connection);
         self.peaks.rise(0, self.controller.most_passed());
-        self.reporter.taken(connection, &end)
+        self.reporter.taken(connection, &end)?;
+        Ok(1)
     }
 
-    /// The figures of all waiting commands are asked for.
-    fn look(&mut self) -> Result<(), OutOfMemory>
+    /// The figures of all waiting commands are asked for. Told is how many lines are due then.
+    fn look(&mut self) -> Result<u32, OutOfMemory>
         requires { self.old.reporter.count + 1 < 2 ^ 64 }
         ensures came { OnOk result (Came self.old.controller.picker self.old self.new events.Look) }
+        ensures answers { IfOk result (λ count. AreAnswers (due self.new) count) }
         ensures owed { self.new.owed ≡ self.old.owed }
         ensures block { self.new.block ≡ self.old.block }
     {
@@ -185,7 +190,8 @@ impl<A: Allocator> Judge<A> {
         self.told = 0;
         let shown = self.controller.look();
         self.peaks.rise(0, self.controller.most_passed());
-        self.reporter.looked(&shown)
+        self.reporter.looked(&shown)?;
+        Ok(shown.len() as u32)
     }
 
     /// A step is answered, at which the command of this name starts, if it may.
@@ -207,6 +213,31 @@ impl<A: Allocator> Judge<A> {
         self.reporter.stepped(&report)
     }
 
+    /// Whether the next answer is that of a step at which nothing waits.
+    pub fn is_idle(&self) -> bool
+        ensures due { result ≡ true → due self.now ≡ [] }
+        ensures owed { result ≡ true → 0 < self.now.owed }
+        ensures nothing { result ≡ true → self.now.controller.waiting ≡ [] }
+    {
+        self.owed != 0 && self.due().is_empty() && self.controller.len() == 0
+    }
+
+    /// A step is answered at which nothing waits, and its line is told.
+    pub fn idle(&mut self) -> Result<(), OutOfMemory>
+        requires count { self.old.reporter.count + 1 < 2 ^ 64 }
+        requires due { due self.old ≡ [] }
+        requires owed { 0 < self.old.owed }
+        requires nothing { self.old.controller.waiting ≡ [] }
+        ensures told { OnOk result ((c : Settings) (log : Log) → Stands c log self.old
+            → Stands c (telling log (codes "idle\n")) self.new) }
+        ensures count { OnOk result (self.new.reporter.count + self.new.owed
+            ≡ self.old.reporter.count + self.old.owed) }
+    {
+        self.step(nobody())?;
+        self.tell_all();
+        Ok(())
+    }
+
     /// So many steps are asked for, each with this outcome.
     fn owe(&mut self, count: u32, block: Block)
         ensures controller { self.new.controller ≡ self.old.controller }
@@ -220,12 +251,13 @@ impl<A: Allocator> Judge<A> {
         self.block = block;
     }
 
-    /// A line asks for events.
-    pub fn ask(&mut self, request: &Request) -> Result<(), OutOfMemory>
+    /// A line asks for events. Told is how many lines are due then.
+    pub fn ask(&mut self, request: &Request) -> Result<u32, OutOfMemory>
         requires settled { IsSettled self.old }
         requires count { self.old.reporter.count + length (events_of request.now) < 2 ^ 64 }
         ensures stands { OnOk result ((c : Settings) (log : Log) → Stands c log self.old
             → Stands c (asking log (events_of request.now) (log.events ++ events_of request.now)) self.new) }
+        ensures answers { IfOk result (λ count. AreAnswers (due self.new) count) }
         ensures count { OnOk result (self.new.reporter.count + self.new.owed
             ≡ self.old.reporter.count + length (events_of request.now)) }
     {
@@ -238,11 +270,11 @@ impl<A: Allocator> Judge<A> {
             Request::Look => self.look(),
             Request::Steps(count) => {
                 self.owe(*count, Block::Good);
-                Ok(())
+                Ok(0)
             }
             Request::Bad(code) => {
                 self.owe(1, Block::Bad(*code));
-                Ok(())
+                Ok(0)
             }
         }
     }
@@ -279,6 +311,15 @@ impl<A: Allocator> Judge<A> {
         let left = due.len() - line.len() - 1;
         self.told = self.reporter.lines().len() - left;
         true
+    }
+
+    /// All that is due was told.
+    pub fn tell_all(&mut self)
+        ensures kept { self.new ≡ record self.old { told = self.new.told } }
+        ensures none { due self.new ≡ [] }
+        ensures count { self.new.reporter.count + self.new.owed ≡ self.old.reporter.count + self.old.owed }
+    {
+        self.told = self.reporter.lines().len();
     }
 
     /// A line tells what is due, or breaks a rule.
