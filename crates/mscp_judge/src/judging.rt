@@ -151,7 +151,7 @@ fn pass_plain<A: Allocator>(
         *lines = Lines { rest, number };
         return Ok(false);
     }
-    let count = judge.ask(&found.plain.request())?;
+    let count = judge.ask_plain(found.plain)?;
     pass_answers(judge, lines, count);
     Ok(true)
 }
