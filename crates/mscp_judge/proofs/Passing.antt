@@ -83,15 +83,6 @@ passed_more c log before n last rest mid left judge new p q = record {
   stands = q.stands;
 }
 
-pub passed_after : {A B : Type 0} (r : Result B OutOfMemory) (before n last : ℕ) (rest mid left : List ℕ)
-    (old judge new : Judge A)
-    → ((c : Settings) (log : Log) → Stands c log old → Passed c before log rest n mid judge)
-    → OnOk r ((c : Settings) (log : Log) → Stands c log judge → Passed c n log mid last left new)
-    → OnOk r ((c : Settings) (log : Log) → Stands c log old → Passed c before log rest last left new)
-passed_after (Ok x) before n last rest mid left old judge new f g = λ c log s.
-    let p = f c log s in passed_more c log before n last rest mid left judge new p (g c p.next p.stands)
-passed_after (Err x) before n last rest mid left old judge new f g = tt
-
 -- ---- answers
 
 -- a line that is an answer is told, whatever was said before

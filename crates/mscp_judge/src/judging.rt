@@ -101,27 +101,13 @@ fn pass_lines<A: Allocator>(
     ensures count { OnOk result (judge.new.reporter.count + judge.new.owed ≤ MOST_EVENTS) }
     ensures left { OnOk result (length lines.new.rest.now ≤ length lines.old.rest.now) }
 {
-    while pass_next(judge, lines)? {
+    while pass_plain(judge, lines)? {
         if !pass_steps(judge, lines, is_rule_wanted)? {
             return Ok(false);
         }
+        pass_idle(judge, lines)?;
     }
     Ok(true)
-}
-
-/// Passes over the next line, if it is plain or that of an idle step. Told is whether a line was passed over.
-fn pass_next<A: Allocator>(judge: &mut Judge<A>, lines: &mut Lines<'_>) -> Result<bool, OutOfMemory>
-    requires { judge.old.reporter.count + judge.old.owed ≤ MOST_EVENTS }
-    ensures passed { OnOk result ((c : Settings) (log : Log) → Stands c log judge.old
-        → Passed c lines.old.number log lines.old.rest.now lines.new.number lines.new.rest.now judge.new) }
-    ensures count { OnOk result (judge.new.reporter.count + judge.new.owed ≤ MOST_EVENTS) }
-    ensures left { OnOk result (length lines.new.rest.now ≤ length lines.old.rest.now) }
-    ensures shorter { result ≡ Ok true → length lines.new.rest.now < length lines.old.rest.now }
-{
-    if pass_plain(judge, lines)? {
-        return Ok(true);
-    }
-    pass_idle(judge, lines)
 }
 
 /// Passes over the lines of the steps that are to be answered, as far as each says in the words of a report which command
@@ -164,28 +150,25 @@ fn served_next<A: Allocator>(judge: &Judge<A>, bytes: &[u8]) -> Option<Named>
     named_ahead(bytes)
 }
 
-/// Passes over the line of a step at which nothing waits, if that is what is due and the next line is just that. Told is
-/// whether a line was passed over.
-fn pass_idle<A: Allocator>(judge: &mut Judge<A>, lines: &mut Lines<'_>) -> Result<bool, OutOfMemory>
+/// Passes over the lines of steps at which nothing waits, as far as they are the next lines.
+fn pass_idle<A: Allocator>(judge: &mut Judge<A>, lines: &mut Lines<'_>) -> Result<(), OutOfMemory>
     requires { judge.old.reporter.count + judge.old.owed ≤ MOST_EVENTS }
     ensures passed { OnOk result ((c : Settings) (log : Log) → Stands c log judge.old
         → Passed c lines.old.number log lines.old.rest.now lines.new.number lines.new.rest.now judge.new) }
     ensures count { OnOk result (judge.new.reporter.count + judge.new.owed ≤ MOST_EVENTS) }
     ensures left { OnOk result (length lines.new.rest.now ≤ length lines.old.rest.now) }
-    ensures shorter { result ≡ Ok true → length lines.new.rest.now < length lines.old.rest.now }
 {
-    if !judge.is_idle() || lines.number >= MOST_LINES {
-        return Ok(false);
+    while judge.is_idle() && lines.number < MOST_LINES {
+        let Some(rest) = behind_idle(lines.rest) else {
+            return Ok(());
+        };
+        *lines = Lines {
+            rest,
+            number: lines.number + 1,
+        };
+        judge.idle()?;
     }
-    let Some(rest) = behind_idle(lines.rest) else {
-        return Ok(false);
-    };
-    *lines = Lines {
-        rest,
-        number: lines.number + 1,
-    };
-    judge.idle()?;
-    Ok(true)
+    Ok(())
 }
 
 /// What stands behind the line of an idle step, if bytes begin with it.

@@ -13,7 +13,7 @@ loop-judge-init g c = record {
 pub returns-then-not-branch-clause-wrong : goal.returns-then-not-branch-clause-wrong
 returns-then-not-branch-clause-wrong g c = λ is d log s.
     let p = c.loop-judge.invariant.passed d log s in
-    let q = c.in_ok-pass_next.ensures.passed d p.next p.stands in
+    let q = c.in_ok-pass_plain.ensures.passed d p.next p.stands in
     c.in_ok-pass_steps.ensures.wrong (ap Ok c.if-not-branch.true) d q.next q.stands
 
 pub loop-judge-preserved : goal.loop-judge-preserved
@@ -21,16 +21,19 @@ loop-judge-preserved g c = record {
   passed = λ d log s.
       let p = c.loop-judge.invariant.passed d log s in
       let q = passed_more d log c.args.lines.now.number _ _ c.args.lines.now.rest.now _ _ c.loop-judge.judge
-      c.pass_next.new.judge p (c.in_ok-pass_next.ensures.passed d p.next p.stands) in
-      passed_more d log c.args.lines.now.number _ _ c.args.lines.now.rest.now _ _ c.pass_next.new.judge
+      c.pass_plain.new.judge p (c.in_ok-pass_plain.ensures.passed d p.next p.stands) in
+      let r = passed_more d log c.args.lines.now.number _ _ c.args.lines.now.rest.now _ _ c.pass_plain.new.judge
       c.pass_steps.new.judge q
-      (c.in_ok-pass_steps.ensures.passed (ap Ok c.if-not-branch.false) d q.next q.stands);
-  few = c.in_ok-pass_steps.ensures.count;
+      (c.in_ok-pass_steps.ensures.passed (ap Ok c.if-not-branch.false) d q.next q.stands) in
+      passed_more d log c.args.lines.now.number _ _ c.args.lines.now.rest.now _ _ c.pass_steps.new.judge
+      c.pass_idle.new.judge r (c.in_ok-pass_idle.ensures.passed d r.next r.stands);
+  few = c.in_ok-pass_idle.ensures.count;
   left = omega (
     arith,
     c.loop-judge.invariant.left,
-    c.in_ok-pass_next.ensures.left,
+    c.in_ok-pass_plain.ensures.left,
     c.in_ok-pass_steps.ensures.left,
+    c.in_ok-pass_idle.ensures.left,
   );
 }
 
@@ -38,4 +41,4 @@ pub returns-clause-passed : goal.returns-clause-passed
 returns-clause-passed g c = λ is d log s.
     let p = c.loop-judge.invariant.passed d log s in
     passed_more d log c.args.lines.now.number _ _ c.args.lines.now.rest.now _ _ c.loop-judge.judge
-    c.pass_next.new.judge p (c.in_ok-pass_next.ensures.passed d p.next p.stands)
+    c.pass_plain.new.judge p (c.in_ok-pass_plain.ensures.passed d p.next p.stands)
