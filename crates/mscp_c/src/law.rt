@@ -7,12 +7,12 @@ ghost use Rattle.mscp_c.specs.HandleCalls.{HandlesKeepThePromise};
 ghost use Rattle.mscp_c.specs.Statuses.{minus};
 
 use crate::status::{
-    ANSWERED, BAD_BOUND, BAD_CONNECTION, BAD_CREDITS, BAD_LONGEST, BAD_PICKER, BAD_STATUS,
-    BAD_TIMEOUT, BUSY, DONE, DOUBLED, ENDED, FIRST, LAST_CREDIT, LATE, LONG, LOST, MADE,
+    ANSWERED, BAD_BOUND, BAD_BUS, BAD_CONNECTION, BAD_CREDITS, BAD_HOST_CREDITS, BAD_LONGEST,
+    BAD_OUTCOME, BAD_PICKER, BAD_STATUS, BAD_TIMEOUT, BUSY, DONE, DOUBLED, ENDED, FIRST, LAST_CREDIT, LATE, LONG, LOST, MADE,
     MANY_UNITS, MISALIGNED, NO_CREDIT, NO_HANDLE, NO_MEMORY, NO_UNITS, NOT_MADE, NOTHING, PROGRESS,
     QUEUED, RESET, SAVED_BEGUN, SAVED_COMMAND, SAVED_CREDITS, SAVED_DOUBLED, SAVED_ENDS,
     SAVED_FORM, SAVED_HEADS, SAVED_LENGTH, SAVED_LIMITS, SAVED_MAGIC, SAVED_PASSED, SAVED_PICKER,
-    SAVED_STEPS, SAVED_UNITS, SAVED_VERSION, SHORT, SMALL, STALE, UNITS_FALL, UNKNOWN, UNREADABLE,
+    SAVED_STEPS, SAVED_UNITS, SAVED_VERSION, SHORT, SMALL, STALE, UNASKED, UNITS_FALL, UNKNOWN, UNKNOWN_UNIT, UNREADABLE,
     ZERO_CYLINDER, ZERO_GROUP, ZERO_SIZE, ZERO_TRACK,
 };
 use mscp_control::controllers_keep_the_promise;
@@ -80,6 +80,11 @@ pub fn statuses_are_these()
     ensures bad_timeout { BAD_TIMEOUT ≡ minus 30 }
     ensures bad_bound { BAD_BOUND ≡ minus 31 }
     ensures bad_connection { BAD_CONNECTION ≡ minus 32 }
+    ensures bad_bus { BAD_BUS ≡ minus 33 }
+    ensures bad_host_credits { BAD_HOST_CREDITS ≡ minus 34 }
+    ensures bad_outcome { BAD_OUTCOME ≡ minus 35 }
+    ensures unasked { UNASKED ≡ minus 36 }
+    ensures unknown_unit { UNKNOWN_UNIT ≡ minus 37 }
     ensures saved_length { SAVED_LENGTH ≡ minus 40 }
     ensures saved_magic { SAVED_MAGIC ≡ minus 41 }
     ensures saved_version { SAVED_VERSION ≡ minus 42 }
