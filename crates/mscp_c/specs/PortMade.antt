@@ -1,10 +1,7 @@
 -- What comes of an init of a port.
-use Rattle.std.specs.Prelude.{◌≡◌, ℕ, ℤ, ◌||◌, Bool, true, false, List, Option, Some, None, is_none, nat_eq, nat_le, option_map, unwrap_or, Result, Ok, Err, IfSome}
-use Rattle.mscp_control.specs.Holdings.{fresh}
-use Rattle.mscp_port.specs.Calls as ports
+use Rattle.std.specs.Prelude.{ℕ, ℤ, ◌||◌, Bool, true, false, List, Option, Some, None, is_none, nat_eq, nat_le, option_map, Result, Ok, Err}
 use Rattle.mscp_memory.specs.declared.port.handle.Handle.{Handle}
-use Rattle.mscp_memory.specs.declared.policy.Policy.TheVariants.{Oldest}
-use Rattle.mscp_memory.specs.PortHandles.{placed, room_fault}
+use Rattle.mscp_memory.specs.PortHandles.{room_fault}
 use Rattle.mscp_c.specs.declared.port_given.HardwareIn.{HardwareIn}
 use Rattle.mscp_c.specs.declared.port_given.PortInitFault.{PortInitFault}
 use Rattle.mscp_c.specs.declared.port_given.PortInitFault.TheVariants as faults
@@ -12,7 +9,7 @@ use Rattle.mscp_c.specs.declared.status.TheConstants.{DONE, BAD_BUS, BAD_HOST_CR
 use Rattle.mscp_c.specs.declared.units.Limits.{Limits}
 use Rattle.mscp_c.specs.declared.units.UnitIn.{UnitIn}
 use Rattle.mscp_c.specs.declared.units.InitFault.TheVariants as controllers
-use Rattle.mscp_c.specs.Given.{first_of, policy_given, settings_given}
+use Rattle.mscp_c.specs.Given.{first_of}
 use Rattle.mscp_c.specs.Made.{config_fault, init_fault_code, picker_fault}
 use Rattle.mscp_c.specs.PortGiven.{hardware_given}
 
@@ -46,11 +43,3 @@ port_fault_code faults.Credits = BAD_HOST_CREDITS
 abbrev pub port_init_code : Result (Unit {0}) PortInitFault → ℤ
 port_init_code (Ok done) = DONE
 port_init_code (Err fault) = port_fault_code fault
-
--- a port of this hardware, over a controller of these limits, units and policy to which nothing came so far, is in the
--- room. Where the picker's number is none there is a fault
-pub record MakesPort (l : Limits) (us : List UnitIn) (picker : ℕ) (hardware : HardwareIn) (credits : ℕ)
-    (old new : Handle) : Type 0 where
-  pub rest : new ≡ placed old new.held
-  pub makes : IfSome (hardware_given hardware) (λ h.
-      ports.Makes h credits (fresh (settings_given l us) (unwrap_or (policy_given picker) Oldest)) new.held)

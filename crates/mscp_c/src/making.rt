@@ -71,9 +71,13 @@ fn init(
     let Some(policy) = policy_of(picker) else {
         return Err(InitFault::Picker);
     };
-    let config = config_of(limits, units)?;
-    place(handle, Controller::new(config, policy));
-    Ok(())
+    match config_of(limits, units) {
+        Ok(config) => {
+            place(handle, Controller::new(config, policy));
+            Ok(())
+        }
+        Err(fault) => Err(fault),
+    }
 }
 
 /// Makes a controller of these limits and units in the room that the handle has.
