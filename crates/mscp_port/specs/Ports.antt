@@ -7,6 +7,7 @@ use Rattle.mscp_port.specs.declared.action.Action.TheVariants as actions
 use Rattle.mscp_port.specs.declared.buffers.Buffer.{Buffer}
 use Rattle.mscp_port.specs.declared.port.Port.{Port}
 use Rattle.mscp_port.specs.declared.stage.Stage.{Stage}
+use Rattle.mscp_port.specs.declared.stage.Stage.TheVariants as stages
 use Rattle.mscp_port.specs.declared.task.Task.{Task}
 use Rattle.mscp_port.specs.declared.task.Task.TheVariants as tasks
 use Rattle.mscp_port.specs.Areas.{IsInArea}
@@ -74,6 +75,20 @@ pub record Learns {K : Type 0} (bytes : List ℕ) (old new : Port K) : Type 0 wh
       ⊎ (IsReadingSlot old.task × (word ≡ num bytes 0 4) × (is_owned word ≡ true)))
   pub buffers : (b : Buffer) → Contains new.buffers.items b → Contains old.buffers.items b
       ⊎ (IsReadingText old.task × (changes : ℕ) × (b ≡ buffer_in bytes changes))
+
+-- ---- what is due
+
+-- the rings are in use, and there is nothing to do with them: nothing goes out, or the next slot of the ring of
+-- responses was the host's; and no slot of the ring of commands is looked for, or its command waits for a credit
+pub record IsIdleUp {K : Type 0} (p : Port K) : Type 0 where
+  pub outgoing : (p.outgoing ≡ None) ⊎ (p.is_full ≡ true)
+  pub polled : (p.is_polled ≡ false) ⊎ (p.is_stalled ≡ true)
+
+-- a port rests only so: nothing is in hand, and the host has answered no step that isn't taken
+pub record IsIdle {K : Type 0} (p : Port K) : Type 0 where
+  pub free : p.task ≡ tasks.Free
+  pub step : p.written ≡ None
+  pub up : p.stage ≡ stages.Up → IsIdleUp p
 
 -- ---- what may be touched
 

@@ -169,6 +169,7 @@ impl<K: Picker> Port<K> {
     /// Whether it had a fatal error.
     pub(crate) fn is_dead(&self) -> bool
         ensures dead { (code : ℕ) → self.now.stage ≡ stages.Dead code → result ≡ true }
+        ensures only { result ≡ true → (code : ℕ) × (self.now.stage ≡ stages.Dead code) }
     {
         matches!(self.stage, Stage::Dead(_))
     }

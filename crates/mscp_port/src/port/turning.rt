@@ -9,7 +9,7 @@ ghost use Rattle.mscp_port.specs.declared.stage.Stage.TheVariants as stages;
 ghost use Rattle.mscp_port.specs.declared.task.Task.TheVariants as tasks;
 ghost use Rattle.mscp_port.specs.Areas.{IsInArea, rings_named};
 ghost use Rattle.mscp_port.specs.Buffers.{IsInBuffer};
-ghost use Rattle.mscp_port.specs.Ports.{Forgets, IsAsNew, IsInSomeBuffer, IsWithin, in_hand};
+ghost use Rattle.mscp_port.specs.Ports.{Forgets, IsAsNew, IsIdle, IsIdleUp, IsInSomeBuffer, IsWithin, in_hand};
 ghost use Rattle.mscp_port.specs.Slots.{given_back};
 
 use crate::action::{Action, Outcome, Unasked};
@@ -99,6 +99,8 @@ impl<K: Picker> Port<K> {
         ensures packet { IfSome (in_hand self.new.task) (λ word. in_hand self.old.task ≡ Some word) }
         ensures dead { (code : ℕ) → self.old.stage ≡ stages.Dead code
             → (result ≡ actions.Rest) × (self.new ≡ self.old) }
+        ensures rests { result ≡ actions.Rest → ((code : ℕ) × (self.old.stage ≡ stages.Dead code)) ⊎ IsIdle self.new }
+        ensures goes_on { self.old.task ≢ tasks.Free → self.new ≡ self.old }
     {
         if self.is_dead() {
             return Action::Rest;
@@ -113,6 +115,9 @@ impl<K: Picker> Port<K> {
     fn choose(&mut self) -> Task
         ensures forgets { Forgets self.old self.new }
         ensures packet { in_hand result ≡ None }
+        ensures task { self.new.task ≡ self.old.task }
+        ensures step { result ≡ tasks.Free → self.new.written ≡ None }
+        ensures up { result ≡ tasks.Free → self.new.stage ≡ stages.Up → IsIdleUp self.new }
     {
         if self.written.is_some() {
             return Task::Settle;
@@ -127,6 +132,9 @@ impl<K: Picker> Port<K> {
     fn choose_work(&mut self) -> Task
         ensures forgets { Forgets self.old self.new }
         ensures packet { in_hand result ≡ None }
+        ensures task { self.new.task ≡ self.old.task }
+        ensures written { self.new.written ≡ self.old.written }
+        ensures idle { result ≡ tasks.Free → IsIdleUp self.new }
     {
         if self.outgoing.is_none() {
             self.find_outgoing();
@@ -142,7 +150,8 @@ impl<K: Picker> Port<K> {
 
     /// What is wanted for what it has in hand.
     fn action(&self) -> Action
-        ensures { IsWithin self.now result }
+        ensures within { IsWithin self.now result }
+        ensures rests { result ≡ actions.Rest → self.now.task ≡ tasks.Free }
     {
         match (self.task, self.rings) {
             (Task::Free, _) => Action::Rest,
@@ -185,7 +194,8 @@ impl<K: Picker> Port<K> {
     /// The header of a command is to be read.
     fn header_wanted(&self, slot: Descriptor) -> Action
         requires { in_hand self.now.task ≡ Some slot.word }
-        ensures { IsWithin self.now result }
+        ensures within { IsWithin self.now result }
+        ensures some { result ≢ actions.Rest }
     {
         Action::Read {
             address: slot.text().saturating_sub(HEADER),
@@ -196,7 +206,8 @@ impl<K: Picker> Port<K> {
     /// The packet of what goes out is to be written.
     fn packet_wanted(&self, slot: Descriptor) -> Action
         requires { in_hand self.now.task ≡ Some slot.word }
-        ensures { IsWithin self.now result }
+        ensures within { IsWithin self.now result }
+        ensures some { result ≢ actions.Rest }
     {
         Action::Write {
             address: slot.text().saturating_sub(HEADER),
@@ -207,7 +218,8 @@ impl<K: Picker> Port<K> {
     /// The next bytes of the communication area are to be cleared.
     fn clearing(&self, rings: &Rings, done: u32) -> Action
         requires { self.now.rings ≡ Some rings.now }
-        ensures { IsWithin self.now result }
+        ensures within { IsWithin self.now result }
+        ensures some { result ≢ actions.Rest }
     {
         let from = (rings.start(self.has_purge_word()) + done % AREA).min(rings.end());
         Action::Write {
@@ -218,7 +230,8 @@ impl<K: Picker> Port<K> {
 
     /// A part of the buffer of a command is to be moved, or its block.
     fn moving(&self, job: &Job) -> Action
-        ensures { IsWithin self.now result }
+        ensures within { IsWithin self.now result }
+        ensures some { result ≢ actions.Rest }
     {
         match (self.task, self.part(job)) {
             (Task::Fetch(_), Some((address, count))) => Action::Fetch { address, count },
