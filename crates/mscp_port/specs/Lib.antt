@@ -1,5 +1,7 @@
 pub mod Areas
 pub mod Buffers
+pub mod Calls
+pub mod Histories
 pub mod Messages
 pub mod Packets
 pub mod Ports

@@ -1,5 +1,5 @@
 -- What a port knows of its host's memory, and what it may touch there.
-use Rattle.std.specs.Prelude.{◌≡◌, ℕ, ◌+◌, ◌-◌, ◌≤◌, ◌⊎◌, true, false, List, [], length, Contains, IfSome, IsSomeAnd, Option, None, Some}
+use Rattle.std.specs.Prelude.{◌≡◌, ℕ, ◌+◌, ◌-◌, ◌≤◌, ◌<◌, ◌⊎◌, true, false, List, [], length, Contains, IfSome, IsSomeAnd, Option, None, Some}
 use Rattle.mscp_control.specs.Holdings.{fresh}
 use Rattle.mscp_packet.specs.Number.{num}
 use Rattle.mscp_port.specs.declared.action.Action.{Action}
@@ -7,11 +7,13 @@ use Rattle.mscp_port.specs.declared.action.Action.TheVariants as actions
 use Rattle.mscp_port.specs.declared.buffers.Buffer.{Buffer}
 use Rattle.mscp_port.specs.declared.port.Port.{Port}
 use Rattle.mscp_port.specs.declared.stage.Stage.{Stage}
+use Rattle.mscp_port.specs.declared.stage.Stage.TheVariants as stages
 use Rattle.mscp_port.specs.declared.task.Task.{Task}
 use Rattle.mscp_port.specs.declared.task.Task.TheVariants as tasks
 use Rattle.mscp_port.specs.Areas.{IsInArea}
 use Rattle.mscp_port.specs.Buffers.{buffer_in, IsInBuffer}
 use Rattle.mscp_port.specs.Slots.{is_owned, text_of}
+use Rattle.mscp_port.specs.Volumes.{volume_at, volume_reset}
 
 -- ---- what is forgotten
 
@@ -33,6 +35,16 @@ pub record IsAsNew {K : Type 0} (in_stage : Stage) (old new : Port K) : Type 0 w
   pub commands : new.commands ≡ 0
   pub more : new.more ≡ old.more
   pub untold : new.untold ≡ old.more
+  pub words : new.words ≡ record { first = 0; second = 0 }
+  pub stalled : new.is_stalled ≡ false
+  pub full : new.is_full ≡ false
+  pub flags : new.flags ≡ 0
+  -- a host that says no timeout has one minute
+  pub timeout : new.timeout ≡ 60
+  pub left : new.left ≡ 60
+  -- the volumes stay where they are
+  pub volumes : (place : ℕ) → place < 16
+      → volume_at new.volumes place ≡ volume_reset (volume_at old.volumes place)
 
 -- ---- what is known
 
@@ -61,19 +73,27 @@ IsMoving (tasks.Transfer job) = Unit {0}
 IsMoving (tasks.Store job) = Unit {0}
 IsMoving task = ⊥
 
--- what the port knows of its host's memory it knew before: of its rings and its buffers it learns nothing
-pub record Forgets {K : Type 0} (old new : Port K) : Type 0 where
-  pub rings : (new.rings ≡ old.rings) ⊎ (new.rings ≡ None)
-  pub buffers : (b : Buffer) → Contains new.buffers.items b → Contains old.buffers.items b
-
 -- what the port knows of its host's memory is what it knew, and what these bytes say that it wanted: the
 -- descriptor of a slot that is the port's, or the buffer in the text of a command
 pub record Learns {K : Type 0} (bytes : List ℕ) (old new : Port K) : Type 0 where
-  pub rings : (new.rings ≡ old.rings) ⊎ (new.rings ≡ None)
   pub packet : IfSome (in_hand new.task) (λ word. (in_hand old.task ≡ Some word)
       ⊎ (IsReadingSlot old.task × (word ≡ num bytes 0 4) × (is_owned word ≡ true)))
   pub buffers : (b : Buffer) → Contains new.buffers.items b → Contains old.buffers.items b
       ⊎ (IsReadingText old.task × (changes : ℕ) × (b ≡ buffer_in bytes changes))
+
+-- ---- what is due
+
+-- the rings are in use, and there is nothing to do with them: nothing goes out, or the next slot of the ring of
+-- responses was the host's; and no slot of the ring of commands is looked for, or its command waits for a credit
+pub record IsIdleUp {K : Type 0} (p : Port K) : Type 0 where
+  pub outgoing : (p.outgoing ≡ None) ⊎ (p.is_full ≡ true)
+  pub polled : (p.is_polled ≡ false) ⊎ (p.is_stalled ≡ true)
+
+-- a port rests only so: nothing is in hand, and the host has answered no step that isn't taken
+pub record IsIdle {K : Type 0} (p : Port K) : Type 0 where
+  pub free : p.task ≡ tasks.Free
+  pub step : p.written ≡ None
+  pub up : p.stage ≡ stages.Up → IsIdleUp p
 
 -- ---- what may be touched
 

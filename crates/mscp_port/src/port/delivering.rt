@@ -1,11 +1,12 @@
 // What goes out to the host, and how.
 
-ghost use Rattle.std.specs.Prelude.{◌≡◌, ◌≢◌, ◌≤◌, ◌<◌, ◌+◌, ◌-◌, Contains, IfSome};
+ghost use Rattle.std.specs.Prelude.{◌≡◌, ◌≢◌, ◌≤◌, ◌<◌, ◌+◌, ◌-◌, ◌⊎◌, Contains, IfSome};
 ghost use Rattle.mscp_port.specs.declared.buffers.Buffer.{Buffer as Kept};
 ghost use Rattle.mscp_port.specs.declared.action.Outcome.TheVariants as outcomes;
 ghost use Rattle.mscp_port.specs.declared.stage.Stage.TheVariants as stages;
 ghost use Rattle.mscp_port.specs.Packets.{credits_told, packet_of};
-ghost use Rattle.mscp_port.specs.Ports.{Forgets, IsAsNew, in_hand};
+ghost use Rattle.mscp_port.specs.Calls.{Dies};
+ghost use Rattle.mscp_port.specs.Ports.{IsAsNew, in_hand};
 ghost use Rattle.arrayvec.specs.ArrayVec.{array_vec_len};
 
 use crate::action::Outcome;
@@ -134,7 +135,8 @@ impl<K: Picker> Port<K> {
 
     /// The packet was written.
     pub(crate) fn written_out(&mut self, slot: Descriptor, outcome: Outcome)
-        ensures forgets { Forgets self.old self.new }
+        ensures frame { (self.new ≡ record self.old { untold = self.new.untold; task = self.new.task })
+            ⊎ Dies self.old self.new }
         ensures packet { IfSome (in_hand self.new.task) (λ word. word ≡ slot.word) }
         ensures credits { outcome ≡ outcomes.Done
             → self.new.untold + (credits_told self.old - 1) ≡ self.old.untold }

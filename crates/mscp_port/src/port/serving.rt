@@ -1,7 +1,8 @@
 // How blocks are moved.
 
-ghost use Rattle.std.specs.Prelude.{◌≡◌, ◌≤◌, ◌%◌, true, IfSome, None, Some};
-ghost use Rattle.mscp_port.specs.Ports.{Forgets, IsMoving, in_hand};
+ghost use Rattle.std.specs.Prelude.{◌≡◌, ◌≤◌, ◌%◌, true, Contains, IfSome, None, Some};
+ghost use Rattle.mscp_port.specs.declared.buffers.Buffer.{Buffer as Kept};
+ghost use Rattle.mscp_port.specs.Ports.{IsMoving, in_hand};
 ghost use Rattle.mscp_port.specs.Volumes.{IsOnVolume};
 
 use crate::action::Outcome;
@@ -153,7 +154,13 @@ impl<K: Picker> Port<K> {
 
     /// The step of a command is taken, whose block had this outcome.
     pub(crate) fn finish(&mut self, connection: Connection, reference: u32, block: Block)
-        ensures forgets { Forgets self.old self.new }
+        ensures frame { self.new ≡ record self.old {
+          controller = self.new.controller;
+          task = self.new.task;
+          buffers = self.new.buffers;
+          volumes = self.new.volumes;
+        } }
+        ensures buffers { (b : Kept) → Contains self.new.buffers.items b → Contains self.old.buffers.items b }
         ensures packet { in_hand self.new.task ≡ None }
     {
         self.task = Task::Free;
@@ -170,7 +177,13 @@ impl<K: Picker> Port<K> {
 
     /// A step of which nothing is kept ends its command: its buffer is not known.
     pub(crate) fn lost(&mut self, job: Job)
-        ensures forgets { Forgets self.old self.new }
+        ensures frame { self.new ≡ record self.old {
+          controller = self.new.controller;
+          task = self.new.task;
+          buffers = self.new.buffers;
+          volumes = self.new.volumes;
+        } }
+        ensures buffers { (b : Kept) → Contains self.new.buffers.items b → Contains self.old.buffers.items b }
         ensures packet { in_hand self.new.task ≡ None }
     {
         self.finish(job.connection, job.reference, bad(DRIVE_ERROR));
@@ -179,7 +192,13 @@ impl<K: Picker> Port<K> {
     /// A part of a step was done: the host's bytes are fetched, then the block is moved, and what was read goes to the host.
     /// A fault ends the command.
     pub(crate) fn moved(&mut self, job: Job, outcome: Outcome)
-        ensures forgets { Forgets self.old self.new }
+        ensures frame { self.new ≡ record self.old {
+          controller = self.new.controller;
+          task = self.new.task;
+          buffers = self.new.buffers;
+          volumes = self.new.volumes;
+        } }
+        ensures buffers { (b : Kept) → Contains self.new.buffers.items b → Contains self.old.buffers.items b }
         ensures packet { in_hand self.new.task ≡ None }
     {
         match self.task {

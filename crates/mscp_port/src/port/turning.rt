@@ -7,9 +7,10 @@ ghost use Rattle.mscp_port.specs.declared.action.Action.TheVariants as actions;
 ghost use Rattle.mscp_port.specs.declared.buffers.Buffer.{Buffer as Kept};
 ghost use Rattle.mscp_port.specs.declared.stage.Stage.TheVariants as stages;
 ghost use Rattle.mscp_port.specs.declared.task.Task.TheVariants as tasks;
-ghost use Rattle.mscp_port.specs.Areas.{IsInArea, rings_named};
+ghost use Rattle.mscp_port.specs.Areas.{IsInArea};
 ghost use Rattle.mscp_port.specs.Buffers.{IsInBuffer};
-ghost use Rattle.mscp_port.specs.Ports.{Forgets, IsAsNew, IsInSomeBuffer, IsWithin, in_hand};
+ghost use Rattle.mscp_port.specs.Calls.{Dies, Goes, TakesStep, Wants};
+ghost use Rattle.mscp_port.specs.Ports.{IsIdleUp, IsInSomeBuffer, IsWithin, in_hand};
 ghost use Rattle.mscp_port.specs.Slots.{given_back};
 
 use crate::action::{Action, Outcome, Unasked};
@@ -94,11 +95,7 @@ fn part_in(buffers: &[Buffer], job: &Job) -> Option<(u32, u32)>
 impl<K: Picker> Port<K> {
     /// What the port wants done next. Until it is told how that went it answers the same, unless a register is touched.
     pub fn next(&mut self) -> Action
-        ensures within { IsWithin self.new result }
-        ensures forgets { Forgets self.old self.new }
-        ensures packet { IfSome (in_hand self.new.task) (λ word. in_hand self.old.task ≡ Some word) }
-        ensures dead { (code : ℕ) → self.old.stage ≡ stages.Dead code
-            → (result ≡ actions.Rest) × (self.new ≡ self.old) }
+        ensures { Wants self.old result self.new }
     {
         if self.is_dead() {
             return Action::Rest;
@@ -111,8 +108,15 @@ impl<K: Picker> Port<K> {
 
     /// What it takes in hand.
     fn choose(&mut self) -> Task
-        ensures forgets { Forgets self.old self.new }
+        ensures frame { self.new ≡ record self.old {
+          controller = self.new.controller;
+          outgoing = self.new.outgoing;
+          is_stalled = self.new.is_stalled;
+          volumes = self.new.volumes;
+        } }
         ensures packet { in_hand result ≡ None }
+        ensures step { result ≡ tasks.Free → self.new.written ≡ None }
+        ensures up { result ≡ tasks.Free → self.new.stage ≡ stages.Up → IsIdleUp self.new }
     {
         if self.written.is_some() {
             return Task::Settle;
@@ -125,8 +129,14 @@ impl<K: Picker> Port<K> {
 
     /// What it takes in hand while the rings are in use: what goes out, what comes in, and then a block.
     fn choose_work(&mut self) -> Task
-        ensures forgets { Forgets self.old self.new }
+        ensures frame { self.new ≡ record self.old {
+          controller = self.new.controller;
+          outgoing = self.new.outgoing;
+          is_stalled = self.new.is_stalled;
+          volumes = self.new.volumes;
+        } }
         ensures packet { in_hand result ≡ None }
+        ensures idle { result ≡ tasks.Free → IsIdleUp self.new }
     {
         if self.outgoing.is_none() {
             self.find_outgoing();
@@ -142,7 +152,8 @@ impl<K: Picker> Port<K> {
 
     /// What is wanted for what it has in hand.
     fn action(&self) -> Action
-        ensures { IsWithin self.now result }
+        ensures within { IsWithin self.now result }
+        ensures rests { result ≡ actions.Rest → self.now.task ≡ tasks.Free }
     {
         match (self.task, self.rings) {
             (Task::Free, _) => Action::Rest,
@@ -185,7 +196,8 @@ impl<K: Picker> Port<K> {
     /// The header of a command is to be read.
     fn header_wanted(&self, slot: Descriptor) -> Action
         requires { in_hand self.now.task ≡ Some slot.word }
-        ensures { IsWithin self.now result }
+        ensures within { IsWithin self.now result }
+        ensures some { result ≢ actions.Rest }
     {
         Action::Read {
             address: slot.text().saturating_sub(HEADER),
@@ -196,7 +208,8 @@ impl<K: Picker> Port<K> {
     /// The packet of what goes out is to be written.
     fn packet_wanted(&self, slot: Descriptor) -> Action
         requires { in_hand self.now.task ≡ Some slot.word }
-        ensures { IsWithin self.now result }
+        ensures within { IsWithin self.now result }
+        ensures some { result ≢ actions.Rest }
     {
         Action::Write {
             address: slot.text().saturating_sub(HEADER),
@@ -207,7 +220,8 @@ impl<K: Picker> Port<K> {
     /// The next bytes of the communication area are to be cleared.
     fn clearing(&self, rings: &Rings, done: u32) -> Action
         requires { self.now.rings ≡ Some rings.now }
-        ensures { IsWithin self.now result }
+        ensures within { IsWithin self.now result }
+        ensures some { result ≢ actions.Rest }
     {
         let from = (rings.start(self.has_purge_word()) + done % AREA).min(rings.end());
         Action::Write {
@@ -218,7 +232,8 @@ impl<K: Picker> Port<K> {
 
     /// A part of the buffer of a command is to be moved, or its block.
     fn moving(&self, job: &Job) -> Action
-        ensures { IsWithin self.now result }
+        ensures within { IsWithin self.now result }
+        ensures some { result ≢ actions.Rest }
     {
         match (self.task, self.part(job)) {
             (Task::Fetch(_), Some((address, count))) => Action::Fetch { address, count },
@@ -243,13 +258,7 @@ impl<K: Picker> Port<K> {
     /// An action that isn't a read went so; or a read failed so. An error where nothing was wanted, or where a read is told
     /// to be done without its bytes.
     pub fn went(&mut self, outcome: Outcome) -> Result<(), Unasked>
-        ensures dead { (code : ℕ) → self.old.stage ≡ stages.Dead code → IsErr result }
-        ensures unasked { OnErr result (self.new ≡ self.old) }
-        ensures rings { (self.new.rings ≡ self.old.rings) ⊎ (self.new.rings ≡ None)
-            ⊎ ((word : ℕ) × (self.old.written ≡ Some word)
-            × (self.new.rings ≡ rings_named self.old.words.first self.old.words.second word)) }
-        ensures buffers { (b : Kept) → Contains self.new.buffers.items b → Contains self.old.buffers.items b }
-        ensures packet { IfSome (in_hand self.new.task) (λ word. in_hand self.old.task ≡ Some word) }
+        ensures { Goes outcome self.old result self.new }
     {
         if self.is_dead() {
             return Err(Unasked);
@@ -288,7 +297,13 @@ impl<K: Picker> Port<K> {
 
     /// A part of a step was done, if what is kept of its command says what part.
     fn move_on(&mut self, job: Job, outcome: Outcome)
-        ensures forgets { Forgets self.old self.new }
+        ensures frame { self.new ≡ record self.old {
+          controller = self.new.controller;
+          task = self.new.task;
+          buffers = self.new.buffers;
+          volumes = self.new.volumes;
+        } }
+        ensures buffers { (b : Kept) → Contains self.new.buffers.items b → Contains self.old.buffers.items b }
         ensures packet { in_hand self.new.task ≡ None }
     {
         match self.part(&job) {
@@ -299,9 +314,8 @@ impl<K: Picker> Port<K> {
 
     /// The machine went on a little since the host answered a step.
     fn settled(&mut self)
-        ensures rings { (self.new.rings ≡ self.old.rings) ⊎ (self.new.rings ≡ None)
-            ⊎ ((word : ℕ) × (self.old.written ≡ Some word)
-            × (self.new.rings ≡ rings_named self.old.words.first self.old.words.second word)) }
+        ensures steps { IfSome self.old.written (λ word. TakesStep word self.old self.new) }
+        ensures none { self.old.written ≡ None → self.new ≡ record self.old { task = tasks.Free } }
         ensures buffers { (b : Kept) → Contains self.new.buffers.items b → Contains self.old.buffers.items b }
         ensures packet { in_hand self.new.task ≡ None }
     {
@@ -313,7 +327,9 @@ impl<K: Picker> Port<K> {
 
     /// A part of the communication area was cleared, behind so many bytes.
     fn cleared(&mut self, done: u32, outcome: Outcome)
-        ensures forgets { Forgets self.old self.new }
+        ensures frame { (self.new ≡ record self.old { stage = self.new.stage; task = self.new.task })
+            ⊎ Dies self.old self.new }
+        ensures stage { (self.new.stage ≡ self.old.stage) ⊎ (self.new.stage ≡ stages.Last) ⊎ Dies self.old self.new }
         ensures packet { in_hand self.new.task ≡ None }
     {
         let Some(rings) = self.rings else {
@@ -333,7 +349,13 @@ impl<K: Picker> Port<K> {
 
     /// The next slot of a ring was given back.
     fn returned(&mut self, side: Side, slot: Descriptor, outcome: Outcome)
-        ensures forgets { Forgets self.old self.new }
+        ensures frame { (self.new ≡ record self.old {
+          responses = self.new.responses;
+          commands = self.new.commands;
+          task = self.new.task;
+          outgoing = self.new.outgoing;
+          is_stalled = self.new.is_stalled;
+        }) ⊎ Dies self.old self.new }
         ensures packet { in_hand self.new.task ≡ None }
     {
         let Some(rings) = self.rings else {
