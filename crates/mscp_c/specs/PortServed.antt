@@ -32,12 +32,13 @@ pub record MakesPort (l : Limits) (us : List UnitIn) (picker : ℕ) (hardware : 
     (old new : Handle) : Type 0 where
   pub rest : new ≡ placed old new.held
   pub makes : IfSome (hardware_given hardware) (λ h.
-      ports.Makes h credits (fresh (settings_given l us) (unwrap_or (policy_given picker) Oldest)) new.held)
+      ports.IsMadeOf h credits (fresh (settings_given l us) (unwrap_or (policy_given picker) Oldest)) new.held)
 
 -- ---- what is wanted, and how it went
 
 -- status and out-struct tell what the port wants next
-pub record TellsWanted (old : Handle) (before : ActionOut) (status : ℤ) (new : Handle) (after : ActionOut) : Type 0 where
+pub record TellsWanted (old : Handle) (before : ActionOut) (status : ℤ) (new : Handle) (after : ActionOut)
+    : Type 0 where
   pub action : Action
   pub wants : ports.Wants old.held action new.held
   pub rest : new ≡ with_held old new.held
@@ -71,6 +72,6 @@ volume_code (Err fault) = UNKNOWN_UNIT
 -- it tells what came of a volume of a unit that came or went
 pub record TellsVolume (unit : ℕ) (there protected : Bool) (old : Handle) (status : ℤ) (new : Handle) : Type 0 where
   pub answer : Result (Unit {0}) NoUnit
-  pub changes : ports.Changes unit there protected old.held answer new.held
+  pub changes : ports.Changes there protected unit old.held answer new.held
   pub rest : new ≡ with_held old new.held
   pub code : status ≡ volume_code answer

@@ -1,8 +1,9 @@
 // The calls before a port is there.
 
-ghost use Rattle.std.specs.Prelude.{◌≡◌, None, IsSome};
+ghost use Rattle.std.specs.Prelude.{◌≡◌, None, IsSome, OnErr, OnOk};
 ghost use Rattle.mscp_memory.specs.PortRoom.{row_alignment, row_size};
-ghost use Rattle.mscp_c.specs.PortMade.{MakesPort, port_init_answer, port_init_code, port_init_fault};
+ghost use Rattle.mscp_c.specs.PortMade.{port_init_answer, port_init_code, port_init_fault};
+ghost use Rattle.mscp_c.specs.PortServed.{MakesPort};
 
 use crate::making::config_of;
 use crate::port_given::{HardwareIn, PortInitFault, hardware_of};
@@ -39,10 +40,8 @@ fn init(
 ) -> Result<(), PortInitFault>
     ensures answer { result
         ≡ port_init_answer (port_init_fault handle.old limits.now units.now picker hardware.now credits) }
-    ensures made { port_init_fault handle.old limits.now units.now picker hardware.now credits ≡ None
-        → MakesPort limits.now units.now picker hardware.now credits handle.old handle.new }
-    ensures refused { IsSome (port_init_fault handle.old limits.now units.now picker hardware.now credits)
-        → handle.new ≡ handle.old }
+    ensures made { OnOk result (MakesPort limits.now units.now picker hardware.now credits handle.old handle.new) }
+    ensures refused { OnErr result (handle.new ≡ handle.old) }
 {
     if let Some(fault) = room_fault(handle) {
         return Err(PortInitFault::Controller(InitFault::Room(fault)));

@@ -1,7 +1,7 @@
 // What comes to a port from elsewhere than its host: volumes, and time.
 
 ghost use Rattle.std.specs.Prelude.{◌≡◌, ◌==◌, not, true, false};
-ghost use Rattle.mscp_port.specs.Calls.{Changes, LooksAgain, Ticks};
+ghost use Rattle.mscp_port.specs.Calls.{LooksAgain, Ticks};
 ghost use Rattle.mscp_memory.specs.PortHandles.{is_made};
 ghost use Rattle.mscp_c.specs.PortServed.{Holds, TellsVolume};
 
