@@ -12,7 +12,6 @@ use Rattle.mscp_port.specs.declared.hardware.Hardware.{Hardware}
 use Rattle.mscp_port.specs.declared.port.Port.{Port}
 use Rattle.mscp_port.specs.declared.port.watching.NoUnit.{NoUnit}
 use Rattle.mscp_port.specs.declared.slot.Descriptor.{Descriptor}
-use Rattle.mscp_port.specs.declared.stage.Stage.{Stage}
 use Rattle.mscp_port.specs.declared.stage.Stage.TheVariants as stages
 use Rattle.mscp_port.specs.declared.task.Task.{Task}
 use Rattle.mscp_port.specs.declared.task.Task.TheVariants as tasks
@@ -174,11 +173,11 @@ pub record TakesStep {K : Type 0} (word : ℕ) (old new : Port K) : Type 0 where
   }
   pub clear : old.stage ≡ stages.Third → word < 0x8000 → rings_named old.words.first old.words.second word ≢ None
       → new ≡ record old {
-    stage = stages.Clearing;
-    rings = rings_named old.words.first old.words.second word;
-    written = None;
-    task = tasks.Clear 0;
-  }
+        stage = stages.Clearing;
+        rings = rings_named old.words.first old.words.second word;
+        written = None;
+        task = tasks.Clear 0;
+      }
   pub nowhere : old.stage ≡ stages.Third → word < 0x8000 → rings_named old.words.first old.words.second word ≡ None
       → IsAsNew (stages.Dead 7) old new
   pub elsewhere : old.stage ≢ stages.First → old.stage ≢ stages.Second → old.stage ≢ stages.Third

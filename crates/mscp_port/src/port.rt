@@ -272,10 +272,10 @@ impl<K: Picker> Port<K> {
         } }
         ensures clear { third < 0x8000 → rings_named self.old.words.first self.old.words.second third ≢ None
             → self.new ≡ record self.old {
-          stage = stages.Clearing;
-          rings = rings_named self.old.words.first self.old.words.second third;
-          task = tasks.Clear 0;
-        } }
+              stage = stages.Clearing;
+              rings = rings_named self.old.words.first self.old.words.second third;
+              task = tasks.Clear 0;
+            } }
         ensures nowhere { third < 0x8000 → rings_named self.old.words.first self.old.words.second third ≡ None
             → IsAsNew (stages.Dead 7) self.old self.new }
         ensures buffers { (b : Kept) → Contains self.new.buffers.items b → Contains self.old.buffers.items b }

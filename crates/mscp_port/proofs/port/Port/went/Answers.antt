@@ -1,4 +1,4 @@
-use Rattle.std.proofs.Common.{rules, ◌≡◌, None, IfSome, inl, refl, sym, subst, ap, ◌∙◌}
+use Rattle.std.proofs.Common.{rules, ◌≡◌, IfSome, inl, refl, sym, subst, ap, ◌∙◌}
 use Rattle.mscp_port.specs.declared.port.Port.{Port}
 use Rattle.mscp_port.specs.Calls.{ChangesByActing, StaysInStage, TakesStep, step_answered}
 use Rattle.mscp_port.proofs.port.Port.went.Goals as goal
