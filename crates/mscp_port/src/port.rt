@@ -12,6 +12,7 @@ ghost use Rattle.mscp_port.specs.declared.buffers.Buffer.{Buffer as Kept};
 ghost use Rattle.mscp_port.specs.Volumes.{place_in};
 
 mod delivering;
+mod fetching;
 mod hearing;
 mod serving;
 mod turning;

@@ -35,10 +35,10 @@ const PROTECTED_BY_HOST: u16 = 0x1006;
 const PROTECTED: u16 = 0x2006;
 
 /// Drive Error.
-const DRIVE_ERROR: u16 = 0x000B;
+pub(crate) const DRIVE_ERROR: u16 = 0x000B;
 
 /// A block that ends its command with this status.
-fn bad(status: u16) -> Block
+pub(crate) fn bad(status: u16) -> Block
     requires { 5 ≤ status % 32 }
 {
     match FaultStatus::new(status) {
@@ -70,7 +70,7 @@ fn writes(kind: MoveKind) -> bool {
 }
 
 /// Why a step of a transfer isn't made, if it isn't: the first that holds.
-fn refusal(kind: MoveKind, buffer: &Buffer, volume: &Volume) -> Option<u16>
+pub(crate) fn refusal(kind: MoveKind, buffer: &Buffer, volume: &Volume) -> Option<u16>
     ensures status { IfSome result (λ status. 5 ≤ status % 32) }
     ensures mounted { result ≡ None → (volume.now.is_there ≡ true) × (volume.now.mounted ≡ Some volume.now.changes) }
     ensures even { result ≡ None → buffer.now.count % 2 ≡ 0 }
@@ -202,7 +202,7 @@ impl<K: Picker> Port<K> {
         ensures packet { in_hand self.new.task ≡ None }
     {
         match self.task {
-            Task::Fetch(_) if outcome == Outcome::Done => self.task = Task::Transfer(job),
+            Task::Fetch(_) if outcome == Outcome::Done => self.task = self.once_fetched(job),
             Task::Transfer(_) if outcome == Outcome::Done && job.kind == MoveKind::Read => {
                 self.task = Task::Store(job);
             }
