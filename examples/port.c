@@ -73,8 +73,8 @@ static enum mscp_outcome transfer(struct port *port, const struct mscp_action *a
     return good ? MSCP_OUTCOME_DONE : MSCP_OUTCOME_FAILED;
 }
 
-/* Does what the port wants, and tells it how that went. If the host wrote IP in the meantime the port wants that no more,
- * and says so: then there is nothing to do. */
+/* Does what the port wants, and tells it how that went. If the host wrote IP in the meantime the port wants that no
+ * more, and answers so: then there is nothing to do. */
 static int32_t act(struct port *port, const struct mscp_action *action)
 {
     const struct port_bus *bus = &port->bus;
@@ -96,16 +96,19 @@ static int32_t act(struct port *port, const struct mscp_action *action)
     return mscp_port_went(port->mscp, outcome, DRIVE_ERROR);
 }
 
+/* What was wanted is done at once, so that no volume changes in between. */
 bool port_turn(struct port *port, unsigned most)
 {
     struct mscp_action action;
     mscp_port_look_again(port->mscp);
-    for (unsigned done = 0; mscp_port_next(port->mscp, &action) == MSCP_DONE; done++) {
-        if (done == most || (done > 0 && action.kind == MSCP_ACTION_PAUSE))
+    for (unsigned done = 0; done < most; done++) {
+        if (mscp_port_next(port->mscp, &action) != MSCP_DONE)
+            return false;
+        if (done > 0 && action.kind == MSCP_ACTION_PAUSE)
             return true;
         act(port, &action);
     }
-    return false;
+    return true;
 }
 
 /* ---- what comes from elsewhere */
