@@ -1,9 +1,10 @@
 // How blocks are moved.
 
-ghost use Rattle.std.specs.Prelude.{◌≡◌, ◌≤◌, ◌%◌, true, Contains, IfSome, None, Some};
+ghost use Rattle.std.specs.Prelude.{◌≡◌, ◌≤◌, ◌%◌, ◌⊎◌, [], true, Contains, IfSome, None, Some};
 ghost use Rattle.mscp_port.specs.declared.buffers.Buffer.{Buffer as Kept};
-ghost use Rattle.mscp_port.specs.Ports.{IsMoving, in_hand};
+ghost use Rattle.mscp_port.specs.Ports.{IsMoving, IsOfBlock, in_hand};
 ghost use Rattle.mscp_port.specs.Volumes.{IsOnVolume};
+ghost use Rattle.mscp_port.specs.declared.task.Task.TheVariants as tasks;
 
 use crate::action::Outcome;
 use crate::buffers::{Buffer, Job, find_buffer};
@@ -92,7 +93,8 @@ pub(crate) fn refusal(kind: MoveKind, buffer: &Buffer, volume: &Volume) -> Optio
 
 /// What is done first for a step of a transfer: the bytes of host memory are fetched, or the block is moved.
 fn first_task(job: Job) -> Task
-    ensures { in_hand result ≡ None }
+    ensures packet { in_hand result ≡ None }
+    ensures block { IsOfBlock result }
 {
     match job.kind {
         MoveKind::Compare | MoveKind::Write => Task::Fetch(job),
@@ -103,6 +105,7 @@ fn first_task(job: Job) -> Task
 /// What is to be done for a step of a command, of whose message this is kept, and whose unit has this volume.
 fn task_for(upcoming: &Upcoming, buffer: &Buffer, volume: &Volume) -> Task
     ensures packet { in_hand result ≡ None }
+    ensures block { IsOfBlock result }
     // No block is moved on a volume that came after its command, or that its unit wasn't brought online with.
     ensures safe { IsMoving result → IsOnVolume buffer.now volume.now }
 {
@@ -140,6 +143,8 @@ impl<K: Picker> Port<K> {
     pub(crate) fn choose_block(&mut self) -> Task
         ensures frame { self.new ≡ record self.old { controller = self.new.controller } }
         ensures packet { in_hand result ≡ None }
+        ensures block { (result ≡ tasks.Free) ⊎ IsOfBlock result }
+        ensures idle { result ≡ tasks.Free → self.new.controller.waiting ≡ [] }
     {
         let Some(upcoming) = self.controller.begin() else {
             return Task::Free;

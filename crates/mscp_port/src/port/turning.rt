@@ -1,16 +1,17 @@
 // What the port wants done.
 
-ghost use Rattle.std.specs.Prelude.{◌≡◌, ◌≢◌, ◌≤◌, ◌<◌, ◌⊎◌, ◌^◌, ℕ, length, Contains, IfSome, IsErr, IsSomeAnd, OnErr, None, Some};
+ghost use Rattle.std.specs.Prelude.{◌≡◌, ◌≢◌, ◌≤◌, ◌<◌, ◌⊎◌, ◌^◌, ℕ, true, false, length, Contains, IfSome, IsErr, IsSomeAnd, OnErr, None, Some};
 ghost use Rattle.byteorder.specs.Endian.{little_bytes};
 ghost use Rattle.arrayvec.specs.ArrayVec.{array_vec_len};
 ghost use Rattle.mscp_port.specs.declared.action.Action.TheVariants as actions;
 ghost use Rattle.mscp_port.specs.declared.buffers.Buffer.{Buffer as Kept};
+ghost use Rattle.mscp_port.specs.declared.rings.Side.TheVariants.{Responses, Commands};
 ghost use Rattle.mscp_port.specs.declared.stage.Stage.TheVariants as stages;
 ghost use Rattle.mscp_port.specs.declared.task.Task.TheVariants as tasks;
 ghost use Rattle.mscp_port.specs.Areas.{IsInArea};
 ghost use Rattle.mscp_port.specs.Buffers.{IsInBuffer};
 ghost use Rattle.mscp_port.specs.Calls.{Dies, Goes, TakesStep, Wants};
-ghost use Rattle.mscp_port.specs.Ports.{IsIdleUp, IsInSomeBuffer, IsWithin, in_hand};
+ghost use Rattle.mscp_port.specs.Ports.{HasNothingToHear, HasNothingToSay, IsDue, IsIdleUp, IsOfBlock, IsInSomeBuffer, IsWithin, in_hand};
 ghost use Rattle.mscp_port.specs.Slots.{given_back};
 
 use crate::action::{Action, Outcome, Unasked};
@@ -115,6 +116,7 @@ impl<K: Picker> Port<K> {
           volumes = self.new.volumes;
         } }
         ensures packet { in_hand result ≡ None }
+        ensures due { IsDue self.new result }
         ensures step { result ≡ tasks.Free → self.new.written ≡ None }
         ensures up { result ≡ tasks.Free → self.new.stage ≡ stages.Up → IsIdleUp self.new }
     {
@@ -136,6 +138,11 @@ impl<K: Picker> Port<K> {
           volumes = self.new.volumes;
         } }
         ensures packet { in_hand result ≡ None }
+        ensures goes_out { self.new.outgoing ≢ None → self.new.is_full ≡ false → result ≡ tasks.Slot Responses }
+        ensures comes_in { HasNothingToSay self.new → self.new.is_polled ≡ true → self.new.is_stalled ≡ false
+            → result ≡ tasks.Slot Commands }
+        ensures block { HasNothingToSay self.new → HasNothingToHear self.new
+            → (result ≡ tasks.Free) ⊎ IsOfBlock result }
         ensures idle { result ≡ tasks.Free → IsIdleUp self.new }
     {
         if self.outgoing.is_none() {
