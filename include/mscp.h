@@ -328,7 +328,7 @@ size_t mscp_port_align(void);
  * static uint64_t memory[(MSCP_HEAD + MSCP_SIZE) / sizeof(uint64_t)]; */
 #define MSCP_SIZE 14224u
 #define MSCP_HOST_SIZE 1056u
-#define MSCP_PORT_SIZE 17408u
+#define MSCP_PORT_SIZE 15992u
 
 /* The bytes of a handle, at the head of the memory. */
 #define MSCP_HEAD sizeof(struct mscp)

@@ -146,6 +146,28 @@ static void volumes_change(unsigned times)
     is("no unit", mscp_port_volume_went(machine.port, 9), MSCP_UNKNOWN_UNIT);
 }
 
+/* A volume changes while the port has a WRITE's bytes fetched, or its block in hand: no block is written to the new one, and
+ * the port doesn't want it any more. */
+static void volume_changes_amid_a_block(bool is_block_wanted)
+{
+    struct mscp_action action = {0};
+    build(&RQDX3);
+    initialise(0x1000, 0, 0, 0);
+    send_command(0, 1, MSCP_ONLINE, 0, 0, 0);
+    expect(1, 0x89, 0);
+    memset(machine.memory + 0x4000, 0x77, MSCP_BLOCK);
+    send_command(0, 2, MSCP_WRITE, MSCP_BLOCK, 5, 0x4000);
+    while (mscp_port_next(machine.port, &action) == MSCP_DONE && action.kind != MSCP_ACTION_FETCH)
+        tell(&action, perform(&action));
+    is("a fetch", action.kind, MSCP_ACTION_FETCH);
+    tell(&action, perform(&action));
+    if (is_block_wanted)
+        is("its block", mscp_port_next(machine.port, &action) == MSCP_DONE && action.kind == MSCP_ACTION_TRANSFER, 1);
+    is("another comes", mscp_port_volume_came(machine.port, 0, 0), MSCP_DONE);
+    expect(2, 0xA2, 0x0023);
+    is("no block", machine.transfers, 0);
+}
+
 /* A volume that comes is told by an attention message without credits, if the host wants it. */
 static void attention(void)
 {
@@ -197,6 +219,8 @@ int main(void)
     refused_transfers();
     volumes_change(1);
     volumes_change(2);
+    volume_changes_amid_a_block(false);
+    volume_changes_amid_a_block(true);
     attention();
     silent_hosts();
     return wrong;

@@ -11,8 +11,8 @@ ghost use Rattle.mscp_port.specs.Ports.{IsAsNew, in_hand};
 ghost use Rattle.mscp_port.specs.declared.buffers.Buffer.{Buffer as Kept};
 ghost use Rattle.mscp_port.specs.Volumes.{place_in};
 
+mod checking;
 mod delivering;
-mod fetching;
 mod hearing;
 mod serving;
 mod turning;

@@ -39,7 +39,7 @@ const PROTECTED: u16 = 0x2006;
 pub(crate) const DRIVE_ERROR: u16 = 0x000B;
 
 /// A block that ends its command with this status.
-pub(crate) fn bad(status: u16) -> Block
+fn bad(status: u16) -> Block
     requires { 5 ≤ status % 32 }
 {
     match FaultStatus::new(status) {
@@ -180,7 +180,7 @@ impl<K: Picker> Port<K> {
         }
     }
 
-    /// A step of which nothing is kept ends its command: its buffer is not known.
+    /// A step that may not go on ends its command: its volume has changed, or its buffer isn't known.
     pub(crate) fn lost(&mut self, job: Job)
         ensures frame { self.new ≡ record self.old {
           controller = self.new.controller;
@@ -191,7 +191,11 @@ impl<K: Picker> Port<K> {
         ensures buffers { (b : Kept) → Contains self.new.buffers.items b → Contains self.old.buffers.items b }
         ensures packet { in_hand self.new.task ≡ None }
     {
-        self.finish(job.connection, job.reference, bad(DRIVE_ERROR));
+        let status = match self.fault_of(&job) {
+            Some(status) => status,
+            None => DRIVE_ERROR,
+        };
+        self.finish(job.connection, job.reference, bad(status));
     }
 
     /// A part of a step was done: the host's bytes are fetched, then the block is moved, and what was read goes to the host.
@@ -207,7 +211,7 @@ impl<K: Picker> Port<K> {
         ensures packet { in_hand self.new.task ≡ None }
     {
         match self.task {
-            Task::Fetch(_) if outcome == Outcome::Done => self.task = self.once_fetched(job),
+            Task::Fetch(_) if outcome == Outcome::Done => self.task = Task::Transfer(job),
             Task::Transfer(_) if outcome == Outcome::Done && job.kind == MoveKind::Read => {
                 self.task = Task::Store(job);
             }
