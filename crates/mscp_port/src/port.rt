@@ -12,6 +12,7 @@ ghost use Rattle.mscp_port.specs.declared.buffers.Buffer.{Buffer as Kept};
 ghost use Rattle.mscp_port.specs.Volumes.{place_in};
 ghost use Rattle.mscp_port.specs.Wanted.{vector_of};
 
+mod checking;
 mod delivering;
 mod hearing;
 mod serving;

@@ -36,7 +36,7 @@ const PROTECTED_BY_HOST: u16 = 0x1006;
 const PROTECTED: u16 = 0x2006;
 
 /// Drive Error.
-const DRIVE_ERROR: u16 = 0x000B;
+pub(crate) const DRIVE_ERROR: u16 = 0x000B;
 
 /// A block that ends its command with this status.
 fn bad(status: u16) -> Block
@@ -71,7 +71,7 @@ fn writes(kind: MoveKind) -> bool {
 }
 
 /// Why a step of a transfer isn't made, if it isn't: the first that holds.
-fn refusal(kind: MoveKind, buffer: &Buffer, volume: &Volume) -> Option<u16>
+pub(crate) fn refusal(kind: MoveKind, buffer: &Buffer, volume: &Volume) -> Option<u16>
     ensures status { IfSome result (λ status. 5 ≤ status % 32) }
     ensures mounted { result ≡ None → (volume.now.is_there ≡ true) × (volume.now.mounted ≡ Some volume.now.changes) }
     ensures even { result ≡ None → buffer.now.count % 2 ≡ 0 }
@@ -180,7 +180,7 @@ impl<K: Picker> Port<K> {
         }
     }
 
-    /// A step of which nothing is kept ends its command: its buffer is not known.
+    /// A step that may not go on ends its command: its volume has changed, or its buffer isn't known.
     pub(crate) fn lost(&mut self, job: Job)
         ensures frame { self.new ≡ record self.old {
           controller = self.new.controller;
@@ -191,7 +191,11 @@ impl<K: Picker> Port<K> {
         ensures buffers { (b : Kept) → Contains self.new.buffers.items b → Contains self.old.buffers.items b }
         ensures packet { in_hand self.new.task ≡ None }
     {
-        self.finish(job.connection, job.reference, bad(DRIVE_ERROR));
+        let status = match self.fault_of(&job) {
+            Some(status) => status,
+            None => DRIVE_ERROR,
+        };
+        self.finish(job.connection, job.reference, bad(status));
     }
 
     /// A part of a step was done: the host's bytes are fetched, then the block is moved, and what was read goes to the host.

@@ -264,10 +264,14 @@ impl<K: Picker> Port<K> {
         }
     }
 
-    /// The part of a command's buffer that a step is about.
+    /// The part of a command's buffer that a step is about, if the step may go on.
     fn part(&self, job: &Job) -> Option<(u32, u32)>
         ensures { IfSome result (λ part. IsInSomeBuffer self.now part.0 part.1) }
     {
+        // What was read goes to the host, even if its volume has gone since.
+        if !matches!(self.task, Task::Store(_)) && self.fault_of(job).is_some() {
+            return None;
+        }
         part_in(self.buffers.as_slice(), job)
     }
 
