@@ -19,6 +19,7 @@ use Rattle.mscp_port.specs.Areas.{rings_named}
 use Rattle.mscp_port.specs.Messages.{handed, own_end}
 use Rattle.mscp_port.specs.Ports.{IsAsNew, IsDue, IsIdle, IsReadingText, IsWithin, Learns, in_hand}
 use Rattle.mscp_port.specs.Registers.{shown}
+use Rattle.mscp_port.specs.Wanted.{IsWanted}
 use Rattle.mscp_port.specs.Volumes.{no_volume, place_in, volume_at, volumes_changed}
 
 -- a fatal error: all that the host has said is forgotten, and nothing goes on until it writes IP
@@ -105,7 +106,9 @@ pub record Wants {K : Type 0} (old : Port K) (action : Action) (new : Port K) : 
   pub dead : (code : ℕ) → old.stage ≡ stages.Dead code → (action ≡ actions.Rest) × (new ≡ old)
   -- nothing is wanted only then, or if nothing is in hand and nothing is due
   pub rests : action ≡ actions.Rest → ((code : ℕ) × (old.stage ≡ stages.Dead code)) ⊎ IsIdle new
-  -- otherwise what is due is taken in hand
+  -- otherwise it is what is wanted for the thing in hand
+  pub wanted : ((code : ℕ) → old.stage ≢ stages.Dead code) → IsWanted new new.task action
+  -- which is what is due, where there was nothing
   pub due : ((code : ℕ) → old.stage ≢ stages.Dead code) → old.task ≡ tasks.Free → IsDue new new.task
   -- what is in hand stays so until it is told how that went
   pub goes_on : old.task ≢ tasks.Free → new ≡ old

@@ -8,3 +8,4 @@ pub mod Ports
 pub mod Registers
 pub mod Slots
 pub mod Volumes
+pub mod Wanted

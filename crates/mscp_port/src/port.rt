@@ -10,6 +10,7 @@ ghost use Rattle.mscp_port.specs.Calls.{IsMadeOf, ReadsIp, TakesStep, WritesIp, 
 ghost use Rattle.mscp_port.specs.Ports.{IsAsNew, in_hand};
 ghost use Rattle.mscp_port.specs.declared.buffers.Buffer.{Buffer as Kept};
 ghost use Rattle.mscp_port.specs.Volumes.{place_in};
+ghost use Rattle.mscp_port.specs.Wanted.{vector_of};
 
 mod checking;
 mod delivering;
@@ -261,7 +262,9 @@ impl<K: Picker> Port<K> {
     }
 
     /// The vector by which the host is interrupted, and 0 if it isn't.
-    pub(crate) fn vector(&self) -> u16 {
+    pub(crate) fn vector(&self) -> u16
+        ensures { result ≡ vector_of self.now }
+    {
         self.words.first % 0x80 * 4
     }
 

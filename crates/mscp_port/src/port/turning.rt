@@ -1,6 +1,6 @@
 // What the port wants done.
 
-ghost use Rattle.std.specs.Prelude.{◌≡◌, ◌≢◌, ◌≤◌, ◌<◌, ◌⊎◌, ◌^◌, ℕ, true, false, length, Contains, IfSome, IsErr, IsSomeAnd, OnErr, None, Some};
+ghost use Rattle.std.specs.Prelude.{◌≡◌, ◌≢◌, ◌≤◌, ◌<◌, ◌⊎◌, ◌+◌, ◌-◌, ◌*◌, ◌^◌, ℕ, true, false, length, Contains, IfSome, IsErr, IsSomeAnd, OnErr, None, Some};
 ghost use Rattle.byteorder.specs.Endian.{little_bytes};
 ghost use Rattle.arrayvec.specs.ArrayVec.{array_vec_len};
 ghost use Rattle.mscp_port.specs.declared.action.Action.TheVariants as actions;
@@ -8,11 +8,13 @@ ghost use Rattle.mscp_port.specs.declared.buffers.Buffer.{Buffer as Kept};
 ghost use Rattle.mscp_port.specs.declared.rings.Side.TheVariants.{Responses, Commands};
 ghost use Rattle.mscp_port.specs.declared.stage.Stage.TheVariants as stages;
 ghost use Rattle.mscp_port.specs.declared.task.Task.TheVariants as tasks;
-ghost use Rattle.mscp_port.specs.Areas.{IsInArea};
+ghost use Rattle.mscp_port.specs.Areas.{IsInArea, slot_in, slots_of};
 ghost use Rattle.mscp_port.specs.Buffers.{IsInBuffer};
 ghost use Rattle.mscp_port.specs.Calls.{Dies, Goes, TakesStep, Wants};
 ghost use Rattle.mscp_port.specs.Ports.{HasNothingToHear, HasNothingToSay, IsDue, IsIdleUp, IsOfBlock, IsInSomeBuffer, IsWithin, in_hand};
-ghost use Rattle.mscp_port.specs.Slots.{given_back};
+ghost use Rattle.mscp_port.specs.Packets.{credits_told, packet_of};
+ghost use Rattle.mscp_port.specs.Slots.{given_back, text_of};
+ghost use Rattle.mscp_port.specs.Wanted.{IsWanted, Writes, given_in};
 
 use crate::action::{Action, Outcome, Unasked};
 use crate::buffers::{Buffer, Job, find_buffer};
@@ -70,7 +72,8 @@ fn descriptor(slot: &Descriptor) -> ArrayVec<u8, 64>
 /// A slot of a ring is to be read.
 fn slot_wanted(rings: &Rings, side: Side, number: u32) -> Action
     requires { number < 2 ^ 31 }
-    ensures { (at : ℕ) × (result ≡ actions.Read at 4) × IsInArea rings.now at 4 }
+    ensures value { result ≡ actions.Read (slot_in rings.now side number) 4 }
+    ensures inside { IsInArea rings.now (slot_in rings.now side number) 4 }
 {
     Action::Read {
         address: rings.slot(side, number),
@@ -81,7 +84,8 @@ fn slot_wanted(rings: &Rings, side: Side, number: u32) -> Action
 /// The number of the slot in front of the one that was given back last, behind which so many were given back.
 fn number_before(rings: &Rings, side: Side, number: u32) -> u32
     requires { number < 256 }
-    ensures { result < 2 ^ 31 }
+    ensures value { result ≡ number + 2 * slots_of rings.now side - 2 }
+    ensures small { result < 2 ^ 31 }
 {
     number + 2 * rings.slots(side) - 2
 }
@@ -101,7 +105,7 @@ impl<K: Picker> Port<K> {
         if self.is_dead() {
             return Action::Rest;
         }
-        if self.task == Task::Free {
+        if let Task::Free = self.task {
             self.task = self.choose();
         }
         self.action()
@@ -160,6 +164,7 @@ impl<K: Picker> Port<K> {
     /// What is wanted for what it has in hand.
     fn action(&self) -> Action
         ensures within { IsWithin self.now result }
+        ensures wanted { IsWanted self.now self.now.task result }
         ensures rests { result ≡ actions.Rest → self.now.task ≡ tasks.Free }
     {
         match (self.task, self.rings) {
@@ -193,7 +198,9 @@ impl<K: Picker> Port<K> {
     }
 
     /// How many slots of a ring were given back, modulo 256.
-    fn number(&self, side: Side) -> u8 {
+    fn number(&self, side: Side) -> u8
+        ensures { result ≡ given_in self.now side }
+    {
         match side {
             Side::Responses => self.responses,
             Side::Commands => self.commands,
@@ -204,7 +211,7 @@ impl<K: Picker> Port<K> {
     fn header_wanted(&self, slot: Descriptor) -> Action
         requires { in_hand self.now.task ≡ Some slot.word }
         ensures within { IsWithin self.now result }
-        ensures some { result ≢ actions.Rest }
+        ensures value { result ≡ actions.Read (text_of slot.word - 4) 4 }
     {
         Action::Read {
             address: slot.text().saturating_sub(HEADER),
@@ -216,6 +223,8 @@ impl<K: Picker> Port<K> {
     fn packet_wanted(&self, slot: Descriptor) -> Action
         requires { in_hand self.now.task ≡ Some slot.word }
         ensures within { IsWithin self.now result }
+        ensures value { IfSome self.now.outgoing (λ o.
+            Writes result (text_of slot.word - 4) (packet_of (credits_told self.now) o.bytes.items)) }
         ensures some { result ≢ actions.Rest }
     {
         Action::Write {
