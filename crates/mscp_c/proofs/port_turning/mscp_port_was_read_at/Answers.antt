@@ -7,41 +7,19 @@ use Rattle.mscp_c.specs.PortServed.{told_code}
 use Rattle.mscp_c.proofs.port_turning.mscp_port_was_read_at.Goals as goal
 
 pub returns-in-Ok-clause-heard : goal.returns-in-Ok-clause-heard
-returns-in-Ok-clause-heard c = λ made.
-    let e = c.was_read.ensures in
-    let heard : Hears c.args.bytes.now c.lend.result.now c.was_read.result c.was_read.new.self = record {
-      dead = e.dead;
-      unasked = e.unasked;
-      frame = e.frame;
-      learns = e.learns;
-      handed = e.handed;
-      own = e.own;
-      nothing_else = e.nothing_else;
-    } in
-    record {
-      answer = c.was_read.result;
-      hears = subst (λ (p : Held). Hears c.args.bytes.now p c.was_read.result c.was_read.new.self)
-          (c.lend.ensures.value ∙ ap (λ (h : Handle). h.held) c.is_made.ensures.same) heard;
-      rest = ap (λ (h : Handle). with_held h c.was_read.new.self) c.is_made.ensures.same;
-      code = sym (ap told_code c.in-Ok.is);
-    }
+returns-in-Ok-clause-heard c = λ made. record {
+  answer = c.was_read.result;
+  hears = subst (λ (p : Held). Hears c.args.bytes.now p c.was_read.result c.was_read.new.self)
+      (c.lend.ensures.value ∙ ap (λ (h : Handle). h.held) c.is_made.ensures.same) c.was_read.ensures;
+  rest = ap (λ (h : Handle). with_held h c.was_read.new.self) c.is_made.ensures.same;
+  code = sym (ap told_code c.in-Ok.is);
+}
 
 pub returns-in-Err-clause-heard : goal.returns-in-Err-clause-heard
-returns-in-Err-clause-heard c = λ made.
-    let e = c.was_read.ensures in
-    let heard : Hears c.args.bytes.now c.lend.result.now c.was_read.result c.was_read.new.self = record {
-      dead = e.dead;
-      unasked = e.unasked;
-      frame = e.frame;
-      learns = e.learns;
-      handed = e.handed;
-      own = e.own;
-      nothing_else = e.nothing_else;
-    } in
-    record {
-      answer = c.was_read.result;
-      hears = subst (λ (p : Held). Hears c.args.bytes.now p c.was_read.result c.was_read.new.self)
-          (c.lend.ensures.value ∙ ap (λ (h : Handle). h.held) c.is_made.ensures.same) heard;
-      rest = ap (λ (h : Handle). with_held h c.was_read.new.self) c.is_made.ensures.same;
-      code = sym (ap told_code c.in-Err.is);
-    }
+returns-in-Err-clause-heard c = λ made. record {
+  answer = c.was_read.result;
+  hears = subst (λ (p : Held). Hears c.args.bytes.now p c.was_read.result c.was_read.new.self)
+      (c.lend.ensures.value ∙ ap (λ (h : Handle). h.held) c.is_made.ensures.same) c.was_read.ensures;
+  rest = ap (λ (h : Handle). with_held h c.was_read.new.self) c.is_made.ensures.same;
+  code = sym (ap told_code c.in-Err.is);
+}

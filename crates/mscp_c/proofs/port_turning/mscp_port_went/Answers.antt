@@ -11,22 +11,13 @@ use Rattle.mscp_c.proofs.port_turning.mscp_port_went.Goals as goal
 
 pub returns-in-Ok-clause-went : goal.returns-in-Ok-clause-went
 returns-in-Ok-clause-went c = λ made.
-    let e = c.went.ensures in
     let new = with_held c.is_made.new.handle c.went.new.self in
     let given : outcome_given c.args.outcome c.args.status ≡ Some c.in-Some.outcome =
     sym c.outcome_of.ensures ∙ c.in-Some.is in
-    let goes : Goes c.in-Some.outcome c.lend.result.now c.went.result c.went.new.self = record {
-      dead = e.dead;
-      unasked = e.unasked;
-      steps = e.steps;
-      still = e.still;
-      buffers = e.buffers;
-      packet = e.packet;
-    } in
     let told : TellsWent c.in-Some.outcome c.args.handle.now (told_code c.went.result) new = record {
       answer = c.went.result;
       goes = subst (λ (p : Held). Goes c.in-Some.outcome p c.went.result c.went.new.self)
-          (c.lend.ensures.value ∙ ap (λ (h : Handle). h.held) c.is_made.ensures.same) goes;
+          (c.lend.ensures.value ∙ ap (λ (h : Handle). h.held) c.is_made.ensures.same) c.went.ensures;
       rest = ap (λ (h : Handle). with_held h c.went.new.self) c.is_made.ensures.same;
       code = refl;
     } in
@@ -35,22 +26,13 @@ returns-in-Ok-clause-went c = λ made.
 
 pub returns-in-Err-clause-went : goal.returns-in-Err-clause-went
 returns-in-Err-clause-went c = λ made.
-    let e = c.went.ensures in
     let new = with_held c.is_made.new.handle c.went.new.self in
     let given : outcome_given c.args.outcome c.args.status ≡ Some c.in-Some.outcome =
     sym c.outcome_of.ensures ∙ c.in-Some.is in
-    let goes : Goes c.in-Some.outcome c.lend.result.now c.went.result c.went.new.self = record {
-      dead = e.dead;
-      unasked = e.unasked;
-      steps = e.steps;
-      still = e.still;
-      buffers = e.buffers;
-      packet = e.packet;
-    } in
     let told : TellsWent c.in-Some.outcome c.args.handle.now (told_code c.went.result) new = record {
       answer = c.went.result;
       goes = subst (λ (p : Held). Goes c.in-Some.outcome p c.went.result c.went.new.self)
-          (c.lend.ensures.value ∙ ap (λ (h : Handle). h.held) c.is_made.ensures.same) goes;
+          (c.lend.ensures.value ∙ ap (λ (h : Handle). h.held) c.is_made.ensures.same) c.went.ensures;
       rest = ap (λ (h : Handle). with_held h c.went.new.self) c.is_made.ensures.same;
       code = refl;
     } in
