@@ -454,7 +454,7 @@ int32_t mscp_port_was_read_at(struct mscp_port *port, const uint8_t *bytes, size
 /* Makes a controller in the handle's memory: of these limits, of so many units in rising order of their numbers, served
  * by a picker of enum mscp_picker. MSCP_DONE, or the first fault in this order: those of the memory (-11 to -15),
  * MSCP_BAD_PICKER, MSCP_MANY_UNITS, those of the first unit that has one (-21 to -24), MSCP_UNITS_FALL, MSCP_NO_UNITS,
- * those of the limits (-28 to -31). The controller is made on the stack, of which this takes up to 30 KiB, and is moved
+ * those of the limits (-28 to -31). The controller is made on the stack, of which this takes up to 40 KiB, and is moved
  * into the memory. No other call takes over 2 KiB of the stack, but for those that save and restore. The memory may go
  * at any time, without a call. */
 MSCP_MUST_USE
@@ -618,7 +618,7 @@ MSCP_INLINE int32_t mscp_host_restore(struct mscp_host *host, const uint8_t *byt
 /* Makes a port in the handle's memory, over a controller as mscp_init makes one. Its host may have so many commands
  * outstanding: 1 to one fewer than the first connection has credits. Its units have no volumes yet. MSCP_DONE, or the
  * first fault of those of mscp_init (-11 to -15 and -20 to -31), MSCP_BAD_BUS and MSCP_BAD_HOST_CREDITS. This takes up
- * to 64 KiB of the stack, and no other call of a port over 4. */
+ * to 48 KiB of the stack, and no other call of a port over 2. */
 MSCP_MUST_USE
 MSCP_INLINE int32_t mscp_port_init(struct mscp_port *port, const struct mscp_limits *limits,
                                    const struct mscp_unit *units, size_t count, uint32_t picker,

@@ -8,7 +8,8 @@ enum { MEMORY = 1 << 16, UNITS = 4, BLOCKS = 64, HOST_CREDITS = 16, MOST_ACTIONS
 
 static struct {
     struct mscp_port *port;
-    uint64_t room[(MSCP_HEAD + MSCP_PORT_SIZE) / sizeof(uint64_t)];
+    uint64_t rooms[2][(MSCP_HEAD + MSCP_PORT_SIZE) / sizeof(uint64_t)]; /* the port lies in one of them */
+    bool moves; /* before each action the port goes to the other room, as to a file and back */
     uint8_t memory[MEMORY];
     uint8_t disks[UNITS][BLOCKS][MSCP_BLOCK];
     uint8_t block[MSCP_BLOCK];
@@ -46,7 +47,7 @@ static inline void build(const struct mscp_hardware *hardware)
             for (unsigned k = 0; k < MSCP_BLOCK; k++)
                 machine.disks[u][n][k] = (uint8_t)(k + n + u);
     }
-    machine.port = mscp_port_in_memory(machine.room, sizeof machine.room);
+    machine.port = mscp_port_in_memory(machine.rooms[0], sizeof machine.rooms[0]);
     is("init", mscp_port_init(machine.port, &limits, units, UNITS, MSCP_OLDEST, hardware, HOST_CREDITS), MSCP_DONE);
     is("a volume", mscp_port_volume_came(machine.port, 0, 0), MSCP_DONE);
     is("another", mscp_port_volume_came(machine.port, 2, 0), MSCP_DONE);
@@ -113,12 +114,25 @@ static inline void tell(const struct mscp_action *action, uint32_t outcome)
         is("it went", mscp_port_went(machine.port, outcome, 0x000B), MSCP_DONE);
 }
 
+static inline void move_port(void)
+{
+    uint64_t *from = (void *)machine.port == machine.rooms[0] ? machine.rooms[0] : machine.rooms[1];
+    uint64_t *to = from == machine.rooms[0] ? machine.rooms[1] : machine.rooms[0];
+    memcpy(to, from, sizeof machine.rooms[0]);
+    memset(from, 0xA5, sizeof machine.rooms[0]);
+    machine.port = mscp_port_moved(to);
+}
+
 /* Does one action. Whether there was one. */
 static inline bool act(void)
 {
     struct mscp_action action;
+    if (machine.moves)
+        move_port();
     if (mscp_port_next(machine.port, &action) != MSCP_DONE)
         return false;
+    if (machine.moves)
+        move_port();
     tell(&action, perform(&action));
     return true;
 }

@@ -90,11 +90,12 @@ static void wrong_areas(void)
 
 /* Sends so many GET UNIT STATUS at a time, which go round the rings. Each end comes in its order, and tells credits that
  * sum up to those of the ends and the host's own beside the first. */
-static void goes_round(uint32_t base, unsigned responses, unsigned commands, unsigned burst)
+static void goes_round(uint32_t base, unsigned responses, unsigned commands, unsigned burst, bool moves)
 {
     uint32_t ends = 0;
     uint8_t packet[68];
     build(&RQDX3);
+    machine.moves = moves;
     initialise(base, responses, commands, 0);
     for (unsigned round = 0; round < 300; round++) {
         for (unsigned i = 0; i < burst; i++) {
@@ -218,10 +219,10 @@ int main(void)
     probes();
     wrong_areas();
     for (uint32_t base = 0x1000; base <= 0x1002; base += 2) {
-        goes_round(base, 0, 0, 1);
-        goes_round(base, 4, 0, 1);
-        goes_round(base, 4, 4, 16);
-        goes_round(base, 7, 7, 16);
+        goes_round(base, 0, 0, 1, false);
+        goes_round(base, 4, 0, 1, false);
+        goes_round(base, 4, 4, 16, true);
+        goes_round(base, 7, 7, 16, false);
     }
     more_than_it_may();
     for (unsigned flagged = 0; flagged < 2; flagged++) {

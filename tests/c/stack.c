@@ -198,11 +198,11 @@ static size_t most(int call)
     switch (call) {
     case SAVE: return 12 * 1024;
     case HOST_SAVE: return 3 * 1024;
-    case INIT: return 30 * 1024;
-    case PORT_INIT: return 64 * 1024;
+    case INIT: return 40 * 1024;
+    case PORT_INIT: return 48 * 1024;
     case RESTORE: return 130 * 1024;
     case HOST_RESTORE: return 6 * 1024;
-    default: return call > PORT_INIT ? 4 * 1024 : 2 * 1024;
+    default: return 2 * 1024;
     }
 }
 

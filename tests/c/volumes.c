@@ -3,11 +3,12 @@
 #include "machine.h"
 
 /* The figure of a READ falls at each poll, and its data come to where the host wants them. */
-static void polls(void)
+static void polls(bool moves)
 {
     uint32_t last = UINT32_MAX, polled = 0;
     uint8_t packet[68];
     build(&RQDX3);
+    machine.moves = moves;
     initialise(0x1002, 4, 4, 0);
     send_command(0, 1, MSCP_ONLINE, 0, 0, 0);
     expect(1, 0x89, 0);
@@ -213,7 +214,8 @@ static void silent_hosts(void)
 
 int main(void)
 {
-    polls();
+    polls(false);
+    polls(true);
     aborts();
     own_answers();
     refused_transfers();
