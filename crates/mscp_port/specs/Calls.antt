@@ -6,17 +6,23 @@ use Rattle.mscp_control.specs.declared.event.SendFault.TheVariants as faults
 use Rattle.mscp_port.specs.declared.action.Action.{Action}
 use Rattle.mscp_port.specs.declared.action.Action.TheVariants as actions
 use Rattle.mscp_port.specs.declared.action.Outcome.{Outcome}
+use Rattle.mscp_port.specs.declared.action.Outcome.TheVariants as outcomes
 use Rattle.mscp_port.specs.declared.action.Unasked.{Unasked}
 use Rattle.mscp_port.specs.declared.buffers.Buffer.{Buffer}
 use Rattle.mscp_port.specs.declared.hardware.Hardware.{Hardware}
 use Rattle.mscp_port.specs.declared.port.Port.{Port}
 use Rattle.mscp_port.specs.declared.port.watching.NoUnit.{NoUnit}
+use Rattle.mscp_port.specs.declared.rings.Side.{Side}
+use Rattle.mscp_port.specs.declared.rings.Side.TheVariants.{Responses, Commands}
 use Rattle.mscp_port.specs.declared.slot.Descriptor.{Descriptor}
 use Rattle.mscp_port.specs.declared.stage.Stage.TheVariants as stages
 use Rattle.mscp_port.specs.declared.task.Task.{Task}
 use Rattle.mscp_port.specs.declared.task.Task.TheVariants as tasks
 use Rattle.mscp_port.specs.Areas.{rings_named}
 use Rattle.mscp_port.specs.Messages.{handed, own_end}
+use Rattle.mscp_port.specs.Outgoings.{AnswersItself, HasSaid, Says}
+use Rattle.mscp_port.specs.Slots.{is_owned}
+use Rattle.mscp_packet.specs.Number.{num}
 use Rattle.mscp_port.specs.Ports.{IsAsNew, IsDue, IsIdle, IsReadingText, IsWithin, Learns, in_hand}
 use Rattle.mscp_port.specs.Registers.{shown}
 use Rattle.mscp_port.specs.Wanted.{IsWanted}
@@ -110,6 +116,8 @@ pub record Wants {K : Type 0} (old : Port K) (action : Action) (new : Port K) : 
   pub wanted : ((code : ℕ) → old.stage ≢ stages.Dead code) → IsWanted new new.task action
   -- which is what is due, where there was nothing
   pub due : ((code : ℕ) → old.stage ≢ stages.Dead code) → old.task ≡ tasks.Free → IsDue new new.task
+  -- and what goes out next: ends leave in the order in which the controller has them
+  pub says : Says old new
   -- what is in hand stays so until it is told how that went
   pub goes_on : old.task ≢ tasks.Free → new ≡ old
 
@@ -144,6 +152,15 @@ pub record Hears {K : Type 0} (bytes : List ℕ) (old : Port K) (result : Result
   pub own : (slot : Descriptor) (size : ℕ) (foreign : Bool) → old.task ≡ tasks.Text slot size foreign
       → own_end foreign bytes ≢ None → new.controller ≡ old.controller
   pub nothing_else : (IsReadingText old.task → ⊥) → (new.controller ≡ old.controller) ⊎ Dies old new
+  -- what goes out stays so; where nothing did, it may be the port's own end
+  pub out : (new.outgoing ≡ old.outgoing) ⊎ ((slot : Descriptor) × (size : ℕ) × (foreign : Bool)
+      × (old.task ≡ tasks.Text slot size foreign) × AnswersItself foreign bytes old new) ⊎ Dies old new
+  -- a packet is written only into a slot of the ring of responses that was read, and was the port's
+  pub packet : (slot : Descriptor) → IsOk result → new.task ≡ tasks.Packet slot
+      → (old.task ≡ tasks.Slot Responses) × (is_owned slot.word ≡ true) × (slot.word ≡ num bytes 0 4)
+  -- and the slot of a command is given back only once its text was read
+  pub returned : (side : Side) → (slot : Descriptor) → IsOk result → new.task ≡ tasks.Return side slot
+      → (side ≡ Commands) × IsReadingText old.task
 
 -- ---- how an action went
 
@@ -216,6 +233,10 @@ pub record Goes {K : Type 0} (outcome : Outcome) (old : Port K) (result : Result
   -- of its host's memory the port learns nothing but the area
   pub buffers : (b : Buffer) → Contains new.buffers.items b → Contains old.buffers.items b
   pub packet : IfSome (in_hand new.task) (λ word. in_hand old.task ≡ Some word)
+  -- what goes out stays so until its slot was given back, which comes only after its packet was written
+  pub out : (new.outgoing ≡ old.outgoing) ⊎ HasSaid outcome old new ⊎ Dies old new
+  pub returned : (side : Side) → (slot : Descriptor) → IsOk result → new.task ≡ tasks.Return side slot
+      → (side ≡ Responses) × (old.task ≡ tasks.Packet slot) × (outcome ≡ outcomes.Done)
 
 -- ---- what comes from elsewhere than the host
 

@@ -3,6 +3,7 @@ pub mod Buffers
 pub mod Calls
 pub mod Histories
 pub mod Messages
+pub mod Outgoings
 pub mod Packets
 pub mod Ports
 pub mod Registers

@@ -1,18 +1,15 @@
 -- Which action is wanted for what a port has in hand.
-use Rattle.std.specs.Prelude.{◌≡◌, ℕ, ◌+◌, ◌-◌, ◌*◌, ◌/◌, ◌%◌, ◌==◌, Bool, min, List, length, replicate, IfSome, MatchOption, Option, None, Some}
+use Rattle.std.specs.Prelude.{◌≡◌, ℕ, ◌+◌, ◌-◌, ◌*◌, ◌%◌, min, List, IfSome, MatchOption}
 use Rattle.byteorder.specs.Endian.{little_bytes}
 use Rattle.arrayvec.specs.ArrayVec.{ArrayVec}
 use Rattle.mscp_port.specs.declared.action.Action.{Action}
 use Rattle.mscp_port.specs.declared.action.Action.TheVariants as actions
-use Rattle.mscp_port.specs.declared.buffers.Buffer.{Buffer}
-use Rattle.mscp_port.specs.declared.buffers.Job.{Job}
-use Rattle.mscp_port.specs.declared.port.Outgoing.{Outgoing}
 use Rattle.mscp_port.specs.declared.port.Port.{Port}
 use Rattle.mscp_port.specs.declared.rings.Side.{Side}
 use Rattle.mscp_port.specs.declared.rings.Side.TheVariants.{Responses, Commands}
 use Rattle.mscp_port.specs.declared.task.Task.{Task}
 use Rattle.mscp_port.specs.declared.task.Task.TheVariants as tasks
-use Rattle.mscp_port.specs.Areas.{Rings, end_of, slot_in, slots_of, start_of, word_of}
+use Rattle.mscp_port.specs.Areas.{Rings, slot_in, slots_of, word_of}
 use Rattle.mscp_port.specs.Packets.{credits_told, packet_of}
 use Rattle.mscp_port.specs.Slots.{given_back, text_of}
 

@@ -6,7 +6,7 @@ ghost use Rattle.mscp_control.specs.Holdings.{balance_of};
 ghost use Rattle.mscp_port.specs.declared.stage.Stage.TheVariants as stages;
 ghost use Rattle.mscp_port.specs.declared.task.Task.TheVariants as tasks;
 ghost use Rattle.mscp_port.specs.Areas.{rings_named};
-ghost use Rattle.mscp_port.specs.Calls.{IsMadeOf, ReadsIp, TakesStep, WritesIp, WritesSa, sa_of};
+ghost use Rattle.mscp_port.specs.Calls.{Dies, IsMadeOf, ReadsIp, TakesStep, WritesIp, WritesSa, sa_of};
 ghost use Rattle.mscp_port.specs.Ports.{IsAsNew, in_hand};
 ghost use Rattle.mscp_port.specs.declared.buffers.Buffer.{Buffer as Kept};
 ghost use Rattle.mscp_port.specs.Volumes.{place_in};
@@ -232,6 +232,7 @@ impl<K: Picker> Port<K> {
         requires free { self.old.task ≡ tasks.Free }
         requires taken { self.old.written ≡ None }
         ensures steps { TakesStep word self.old self.new }
+        ensures out { (self.new.outgoing ≡ self.old.outgoing) ⊎ Dies self.old self.new }
         ensures buffers { (b : Kept) → Contains self.new.buffers.items b → Contains self.old.buffers.items b }
         ensures packet { in_hand self.new.task ≡ None }
     {
@@ -282,6 +283,7 @@ impl<K: Picker> Port<K> {
             } }
         ensures nowhere { third < 0x8000 → rings_named self.old.words.first self.old.words.second third ≡ None
             → IsAsNew (stages.Dead 7) self.old self.new }
+        ensures out { (self.new.outgoing ≡ self.old.outgoing) ⊎ Dies self.old self.new }
         ensures buffers { (b : Kept) → Contains self.new.buffers.items b → Contains self.old.buffers.items b }
         ensures packet { in_hand self.old.task ≡ None → in_hand self.new.task ≡ None }
     {

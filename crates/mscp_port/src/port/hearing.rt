@@ -5,11 +5,13 @@ ghost use Rattle.mscp_queue.specs.declared.name.Connection.TheVariants.{First};
 ghost use Rattle.mscp_control.specs.Holdings.{after_message, answer_to_message};
 ghost use Rattle.mscp_control.specs.declared.event.SendFault.TheVariants as faults;
 ghost use Rattle.mscp_port.specs.declared.buffers.Buffer.{Buffer as Kept};
+ghost use Rattle.mscp_port.specs.declared.rings.Side.TheVariants.{Responses, Commands};
 ghost use Rattle.mscp_port.specs.declared.stage.Stage.TheVariants as stages;
 ghost use Rattle.mscp_port.specs.declared.task.Task.TheVariants as tasks;
 ghost use Rattle.mscp_port.specs.Buffers.{buffer_in, without};
 ghost use Rattle.mscp_port.specs.Messages.{handed, own_end as end_of_own};
 ghost use Rattle.mscp_port.specs.Calls.{ChangesByReading, Dies, Hears};
+ghost use Rattle.mscp_port.specs.Outgoings.{AnswersItself};
 ghost use Rattle.mscp_port.specs.Ports.{IsAsNew, in_hand};
 ghost use Rattle.mscp_port.specs.Slots.{is_owned};
 
@@ -71,6 +73,8 @@ impl<K: Picker> Port<K> {
           is_polled = self.new.is_polled;
         } }
         ensures packet { IfSome (in_hand self.new.task) (λ word. (word ≡ slot.word) × (is_owned word ≡ true)) }
+        ensures task { (self.new.task ≡ tasks.Free) ⊎ ((side ≡ Responses) × (self.new.task ≡ tasks.Packet slot))
+            ⊎ ((side ≡ Commands) × (self.new.task ≡ tasks.Header slot)) }
     {
         match side {
             Side::Responses if slot.is_owned() => self.task = Task::Packet(slot),
@@ -104,6 +108,8 @@ impl<K: Picker> Port<K> {
     /// connection in the high byte.
     fn see_header(&mut self, slot: Descriptor, header: u32)
         ensures frame { (self.new ≡ record self.old { task = self.new.task }) ⊎ Dies self.old self.new }
+        ensures task { (self.new.task ≡ tasks.Free)
+            ⊎ ((size : ℕ) × (foreign : Bool) × (self.new.task ≡ tasks.Text slot size foreign)) }
         ensures packet { IfSome (in_hand self.new.task) (λ word. word ≡ slot.word) }
     {
         let length = header % 0x1_0000;
@@ -128,6 +134,10 @@ impl<K: Picker> Port<K> {
     fn see_text(&mut self, slot: Descriptor, is_foreign: bool, message: &[u8])
         requires short { 12 ≤ length message.now }
         requires long { length message.now ≤ 64 }
+        // What goes out stays so; where nothing did, it may be the port's own end.
+        ensures out { (self.new.outgoing ≡ self.old.outgoing) ⊎ AnswersItself is_foreign message.now self.old self.new
+            ⊎ Dies self.old self.new }
+        ensures task { (self.new.task ≡ tasks.Free) ⊎ (self.new.task ≡ tasks.Return Commands slot) }
         ensures own { end_of_own is_foreign message.now ≢ None → self.new.controller ≡ self.old.controller }
         ensures handed { end_of_own is_foreign message.now ≡ None
             → answer_to_message First self.old.controller (handed self.old.controller.settings.units message.now)

@@ -145,6 +145,7 @@ impl<K: Picker> Port<K> {
         ensures packet { in_hand result ≡ None }
         ensures block { (result ≡ tasks.Free) ⊎ IsOfBlock result }
         ensures idle { result ≡ tasks.Free → self.new.controller.waiting ≡ [] }
+        ensures untaken { self.new.controller.untaken ≡ self.old.controller.untaken }
     {
         let Some(upcoming) = self.controller.begin() else {
             return Task::Free;

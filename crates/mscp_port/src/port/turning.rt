@@ -1,9 +1,10 @@
 // What the port wants done.
 
-ghost use Rattle.std.specs.Prelude.{◌≡◌, ◌≢◌, ◌≤◌, ◌<◌, ◌⊎◌, ◌+◌, ◌-◌, ◌*◌, ◌^◌, ℕ, true, false, length, Contains, IfSome, IsErr, IsSomeAnd, OnErr, None, Some};
+ghost use Rattle.std.specs.Prelude.{◌≡◌, ◌≢◌, ◌≤◌, ◌<◌, ◌⊎◌, ◌+◌, ◌-◌, ◌*◌, ◌^◌, ◌%◌, ℕ, true, false, length, Contains, IfSome, IsErr, IsSomeAnd, OnErr, None, Some};
 ghost use Rattle.byteorder.specs.Endian.{little_bytes};
 ghost use Rattle.arrayvec.specs.ArrayVec.{array_vec_len};
 ghost use Rattle.mscp_port.specs.declared.action.Action.TheVariants as actions;
+ghost use Rattle.mscp_port.specs.declared.action.Outcome.TheVariants as outcomes;
 ghost use Rattle.mscp_port.specs.declared.buffers.Buffer.{Buffer as Kept};
 ghost use Rattle.mscp_port.specs.declared.rings.Side.TheVariants.{Responses, Commands};
 ghost use Rattle.mscp_port.specs.declared.stage.Stage.TheVariants as stages;
@@ -12,6 +13,7 @@ ghost use Rattle.mscp_port.specs.Areas.{IsInArea, slot_in, slots_of};
 ghost use Rattle.mscp_port.specs.Buffers.{IsInBuffer};
 ghost use Rattle.mscp_port.specs.Calls.{Dies, Goes, TakesStep, Wants};
 ghost use Rattle.mscp_port.specs.Ports.{HasNothingToHear, HasNothingToSay, IsDue, IsIdleUp, IsOfBlock, IsInSomeBuffer, IsWithin, in_hand};
+ghost use Rattle.mscp_port.specs.Outgoings.{HasSaid, Says};
 ghost use Rattle.mscp_port.specs.Packets.{credits_told, packet_of};
 ghost use Rattle.mscp_port.specs.Slots.{given_back, text_of};
 ghost use Rattle.mscp_port.specs.Wanted.{IsWanted, Writes, given_in};
@@ -121,6 +123,7 @@ impl<K: Picker> Port<K> {
         } }
         ensures packet { in_hand result ≡ None }
         ensures due { IsDue self.new result }
+        ensures says { Says self.old self.new }
         ensures step { result ≡ tasks.Free → self.new.written ≡ None }
         ensures up { result ≡ tasks.Free → self.new.stage ≡ stages.Up → IsIdleUp self.new }
     {
@@ -148,6 +151,7 @@ impl<K: Picker> Port<K> {
         ensures block { HasNothingToSay self.new → HasNothingToHear self.new
             → (result ≡ tasks.Free) ⊎ IsOfBlock result }
         ensures idle { result ≡ tasks.Free → IsIdleUp self.new }
+        ensures says { Says self.old self.new }
     {
         if self.outgoing.is_none() {
             self.find_outgoing();
@@ -336,6 +340,7 @@ impl<K: Picker> Port<K> {
     fn settled(&mut self)
         ensures steps { IfSome self.old.written (λ word. TakesStep word self.old self.new) }
         ensures none { self.old.written ≡ None → self.new ≡ record self.old { task = tasks.Free } }
+        ensures out { (self.new.outgoing ≡ self.old.outgoing) ⊎ Dies self.old self.new }
         ensures buffers { (b : Kept) → Contains self.new.buffers.items b → Contains self.old.buffers.items b }
         ensures packet { in_hand self.new.task ≡ None }
     {
@@ -377,6 +382,9 @@ impl<K: Picker> Port<K> {
           is_stalled = self.new.is_stalled;
         }) ⊎ Dies self.old self.new }
         ensures packet { in_hand self.new.task ≡ None }
+        ensures out { (self.new.outgoing ≡ self.old.outgoing) ⊎ Dies self.old self.new
+            ⊎ ((side ≡ Responses) × (outcome ≡ outcomes.Done) × (self.new.outgoing ≡ None)
+            × (self.new.responses ≡ (self.old.responses + 1) % 256)) }
     {
         let Some(rings) = self.rings else {
             return self.die(7);
@@ -396,12 +404,12 @@ impl<K: Picker> Port<K> {
 
     /// Counts a slot of a ring that was given back. What went out is gone.
     fn count(&mut self, side: Side)
-        ensures { self.new ≡ record self.old {
-          responses = self.new.responses;
-          commands = self.new.commands;
-          outgoing = self.new.outgoing;
-          is_stalled = self.new.is_stalled;
+        ensures responses { side ≡ Responses → self.new ≡ record self.old {
+          responses = (self.old.responses + 1) % 256;
+          outgoing = None;
+          is_stalled = false;
         } }
+        ensures commands { side ≡ Commands → self.new ≡ record self.old { commands = (self.old.commands + 1) % 256 } }
     {
         match side {
             Side::Responses => {

@@ -1,6 +1,8 @@
-use Rattle.std.proofs.Common.{rules, ◌≡◌, ◌≢◌, None, Some, IfSome, sym, subst}
+use Rattle.std.proofs.Common.{rules, sym, subst}
 use Rattle.mscp_port.specs.declared.port.Port.{Port}
+use Rattle.mscp_port.specs.Outgoings.{Says}
 use Rattle.mscp_port.specs.Ports.{IsDue}
+use Rattle.mscp_port.proofs.Known.{said_on, says_the_same}
 use Rattle.mscp_port.proofs.port.Port.next.Goals as goal
 use Rattle.mscp_port.proofs.port.Port.next.Goals.{in-Free, in_default}
 
@@ -23,6 +25,11 @@ returns g c = record {
           block = d.block;
         })
     | in_default w ↦ absurd (w.in_default.not-Free free)
+  ];
+  says = elim c.match-self.branch [
+    | in-Free w ↦ subst (λ (p : Port g.row.K.Denot). Says c.args.self.now p) (sym w.self-is)
+        (said_on c.args.self.now w.choose-self.new.self w.choose-self.result w.choose-self.ensures.says)
+    | in_default w ↦ says_the_same c.args.self.now c.match-self.self w.self-is
   ];
   goes_on = search rules;
 }

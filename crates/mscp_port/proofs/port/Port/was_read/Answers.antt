@@ -22,4 +22,41 @@ returns-in-Text g c = record {
   handed = search rules;
   own = search rules;
   nothing_else = λ no. absurd (no (subst IsReadingText (sym c.in-Text.is) tt));
+  out = elim c.see_text.ensures.out [
+    | inl same ↦ inl same
+    | inr more ↦ elim more [
+      | inl own ↦ inr (inl (c.in-Text.slot, c.in-Text.length, c.in-Text.is_foreign, c.in-Text.is, own))
+      | inr dead ↦ inr (inr dead)
+    ]
+  ];
+  packet = search rules;
+  returned = search rules;
+}
+
+pub returns-in-Slot : goal.returns-in-Slot
+returns-in-Slot g c = record {
+  dead = search rules;
+  unasked = tt;
+  frame = search rules;
+  learns = search rules;
+  handed = search rules;
+  own = search rules;
+  nothing_else = search rules;
+  out = search rules;
+  packet = search rules;
+  returned = search rules;
+}
+
+pub returns-in-Header : goal.returns-in-Header
+returns-in-Header g c = record {
+  dead = search rules;
+  unasked = tt;
+  frame = search rules;
+  learns = search rules;
+  handed = search rules;
+  own = search rules;
+  nothing_else = search rules;
+  out = search rules;
+  packet = search rules;
+  returned = search rules;
 }

@@ -1,6 +1,6 @@
-use Rattle.std.proofs.Common.{rules, ◌≡◌, IfSome, sym, subst, ap, ◌∙◌}
+use Rattle.std.proofs.Common.{rules, ◌≡◌, IfSome, inl, inr, sym, subst, ap, ◌∙◌}
 use Rattle.mscp_port.specs.Calls.{TakesStep, step_answered}
-use Rattle.mscp_port.proofs.Known.{unsettled}
+use Rattle.mscp_port.proofs.Known.{none_returned, unsettled}
 use Rattle.mscp_port.proofs.port.Port.went.Goals as goal
 
 pub returns-in-Settle : goal.returns-in-Settle
@@ -16,4 +16,6 @@ returns-in-Settle g c =
       still = λ none. unsettled old new (c.settled.ensures.none (sym word_is ∙ none));
       buffers = c.settled.ensures.buffers;
       packet = search rules;
+      out = elim c.settled.ensures.out [ inl same ↦ inl same | inr dead ↦ inr (inr dead) ];
+      returned = λ side slot done e. absurd (none_returned new.task side slot c.settled.ensures.packet e);
     }
