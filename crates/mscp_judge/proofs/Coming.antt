@@ -1,5 +1,5 @@
 -- What a call leaves, as a judge stands then.
-use Rattle.std.proofs.Common.{◌≡◌, ◌≢◌, ◌⊎◌, inl, inr, ℕ, zero, suc, ◌+◌, ◌-◌, ◌<◌, true, false, List, [], ◌∷◌, ◌++◌, drop, length, replicate, refl, ap, sym, ◌∙◌, subst, arith, length-append, length-drop, drop-drop, append_assoc, append-nil}
+use Rattle.std.proofs.Common.{◌≡◌, ◌≢◌, inl, inr, ℕ, zero, suc, ◌+◌, ◌-◌, ◌<◌, true, false, List, [], ◌∷◌, ◌++◌, drop, length, replicate, refl, ap, sym, ◌∙◌, subst, arith, length-append, length-drop, drop-drop, append_assoc, append-nil}
 use Rattle.std.specs.Prelude.{All, OnOk, Result, Ok, Err, ◌≤◌}
 use Rattle.std.specs.List.{list_all}
 use Rattle.std.proofs.Math.Seq.{drop-append_seam}
@@ -109,7 +109,7 @@ settled c log judge s q =
     (ap (λ k. replicate k (events.Step judge.block)) q.answered)
     (subst (λ bs. Counted c (marked log) judge.controller bs (owed judge) [] totals) q.told s.counted)
 
-pub asked_one : {A : Type 0} (r : Result (Unit {0}) OutOfMemory) (old new : Judge A) (name : Named) (event : Event)
+pub asked_one : {A B : Type 0} (r : Result B OutOfMemory) (old new : Judge A) (name : Named) (event : Event)
     → is_step event ≡ false → IsSettled old → OnOk r (Came name old new event) → new.owed ≡ old.owed
     → OnOk r ((c : Settings) (log : Log) → Stands c log old
     → Stands c (asking log (event ∷ []) (log.events ++ event ∷ [])) new)

@@ -11,13 +11,13 @@ use Rattle.mscp_reader.specs.Lexical.{words}
 use Rattle.mscp_script.specs.Text.{entry_lines}
 use Rattle.mscp_judge.specs.declared.naming.Named.{Named}
 use Rattle.mscp_judge.specs.declared.totals.Totals.{Totals}
-use Rattle.mscp_judge.specs.Logs.{Asked, Log, Mark, whole}
+use Rattle.mscp_judge.specs.Logs.{Asked, Log, Mark, told, whole}
 use Rattle.mscp_judge.specs.Naming.{IsNamed, name_in}
 use Rattle.mscp_judge.specs.Standing.{Counted, Stood, marked, run_of, with_picker}
 use Rattle.mscp_judge.specs.Totals.{Adds, AreTotals}
 use Rattle.mscp_judge.proofs.Leading.{follow}
 use Rattle.mscp_judge.proofs.Marks.{is_legal_log, legal_run}
-use Rattle.mscp_judge.proofs.Standing.{ahead_of, told_line, told_on}
+use Rattle.mscp_judge.proofs.Standing.{ahead_of, told_all_on, told_line, told_on}
 use Rattle.mscp_judge.proofs.Stepping.{step_on}
 use Rattle.mscp_judge.proofs.Asking.{event_on, steps_on, whole_more}
 use Rattle.mscp_judge.proofs.Ending.{finished}
@@ -36,6 +36,12 @@ pub told_counted : (c : Settings) (marks : List Mark) (h : Holdings Named) (due 
 unfolding told_on
 told_counted c marks h due owed line rest totals s e =
     record { stood = told_on c marks h due owed line rest s.stood e; are = s.are }
+
+pub told_all_counted : (c : Settings) (marks : List Mark) (h : Holdings Named) (due : List ℕ) (owed : List Event)
+    (totals : Totals) → Counted c marks h due owed [] totals → Counted c (marks ++ told due) h [] owed [] totals
+unfolding told_all_on
+told_all_counted c marks h due owed totals s =
+    record { stood = told_all_on c marks h due owed s.stood; are = s.are }
 
 -- the totals of a trace with a moment more
 more : (c : Settings) (marks : List Mark) (h h' : Holdings Named) (name : Named) (owed : List Event) (event : Event)

@@ -16,5 +16,8 @@ mod Reading
 mod Wording
 mod Listening
 mod Coming
+mod Printed
+mod Answering
+mod Telling
 mod Passing
 pub mod Exactly

@@ -1,5 +1,5 @@
 -- How a judge stands after one more line.
-use Rattle.std.proofs.Common.{◌≡◌, ◌≢◌, ⊎_elim, ℕ, List, [], ◌∷◌, ◌++◌, ap, sym, ◌∙◌, append_assoc}
+use Rattle.std.proofs.Common.{◌≡◌, ◌≢◌, inl, ⊎_elim, ℕ, List, [], ◌∷◌, ◌++◌, refl, ap, sym, ◌∙◌, append_assoc, append-nil}
 use Rattle.std.proofs.lemmas.List.{append_cancel_left}
 use Rattle.mscp_control.specs.declared.event.Event.{Event}
 use Rattle.mscp_control.specs.Settings.{Settings}
@@ -108,6 +108,20 @@ told_on c marks h due owed line rest s e =
       ends = ends_behind due line rest s.ends e;
       only = λ others more l f. s.only others more l (sym (append_assoc marks (told_line line) more) ∙ f);
     }
+
+-- all that was due was told
+unfoldable pub told_all_on : (c : Settings) (marks : List Mark) (h : Holdings Named) (due : List ℕ) (owed : List Event)
+    → Stood c marks h due owed [] → Stood c (marks ++ told due) h [] owed []
+told_all_on c marks h due owed s = record {
+  parts = s.parts;
+  now = s.now;
+  begun = s.begun;
+  valid = s.valid;
+  led = s.led;
+  said = append-nil (marks ++ told due) ∙ s.said;
+  ends = inl refl;
+  only = λ others more l f. s.only others (told due ++ more) l (sym (append_assoc marks (told due) more) ∙ f);
+}
 
 -- another line was due
 pub refused : (c : Settings) (marks : List Mark) (h : Holdings Named) (due : List ℕ) (owed : List Event)

@@ -1,7 +1,7 @@
 -- What a log is, and when it is legal. A log is a script in which each event's line is followed by the lines that were
 -- answered to its events.
 use Rattle.std.specs.Prelude.{◌≡◌, ◌⊎◌, ℕ, ◌+◌, ◌≤◌, ◌||◌, Bool, true, false, if◌then◌else◌, List, [], ◌∷◌, ◌++◌, map, codes, length, Result, Ok}
-use Rattle.std.specs.List.{flat_map, list_all}
+use Rattle.std.specs.List.{AllByRecursion, flat_map, list_all}
 use Rattle.std.specs.Str.{bytes_eq}
 use Rattle.mscp_control.specs.declared.event.Event.{Event}
 use Rattle.mscp_control.specs.Settings.{Settings}
@@ -9,7 +9,7 @@ use Rattle.mscp_control.specs.History.{Trace}
 use Rattle.mscp_control.specs.Legal.{IsLegal}
 use Rattle.mscp_text.specs.Steps.{◌>>=◌}
 use Rattle.mscp_text.specs.Lines.{line}
-use Rattle.mscp_reader.specs.Lexical.{is_printed}
+use Rattle.mscp_reader.specs.Lexical.{is_printed, said, words}
 use Rattle.mscp_reader.specs.Requests.{events_of, request}
 use Rattle.mscp_reader.specs.Grammar.{more_events, said_at}
 use Rattle.mscp_reader.specs.declared.fault.Cause.{Cause}
@@ -74,6 +74,19 @@ is_second_answer (word ∷ rest) = is_answer_word word
 abbrev pub is_answer : List (List ℕ) → Bool
 is_answer [] = false
 is_answer (word ∷ rest) = if bytes_eq word (codes "second") then is_second_answer rest else is_answer_word word
+
+-- a line that is an answer, wherever it stands
+pub record IsAnswerLine (bytes : List ℕ) : Type 0 where
+  pub printed : list_all is_printed bytes ≡ true
+  pub says : said bytes ≡ Ok (words bytes)
+  pub answers : is_answer (words bytes) ≡ true
+
+-- so many lines that are answers, each with a line feed
+pub record AreAnswers (bytes : List ℕ) (count : ℕ) : Type 0 where
+  pub all : List (List ℕ)
+  pub whole : bytes ≡ flat_map line all
+  pub many : length all ≡ count
+  pub each : AllByRecursion IsAnswerLine all
 
 -- what lines have said: the events so far, and the marks so far
 pub record Log : Type 0 where

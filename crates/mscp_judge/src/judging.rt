@@ -1,12 +1,12 @@
 // A log, judged line by line.
 
-ghost use Rattle.std.specs.Prelude.{◌≡◌, ◌+◌, ◌<◌, ◌≤◌, true, IfOk, OnOk, length};
+ghost use Rattle.std.specs.Prelude.{◌≡◌, ◌+◌, ◌<◌, ◌≤◌, ◌++◌, codes, true, IfOk, IfSome, OnOk, Ok, length};
 ghost use Rattle.mscp_control.specs.Settings.{Settings};
 ghost use Rattle.mscp_reader.specs.Lexical as lexical;
 ghost use Rattle.mscp_reader.specs.declared.events.TheConstants.{MOST_EVENTS};
 ghost use Rattle.mscp_judge.specs.Judged.{Breaks, Finds, Hears, Judges, Passed};
-ghost use Rattle.mscp_judge.specs.Logs.{Log, nothing};
-ghost use Rattle.mscp_judge.specs.Standing.{Stands};
+ghost use Rattle.mscp_judge.specs.Logs.{AreAnswers, Log, nothing};
+ghost use Rattle.mscp_judge.specs.Standing.{Stands, due};
 
 use crate::answers::is_answer;
 use crate::judge::{Judge, Right};
@@ -14,7 +14,7 @@ use crate::rules::Rule;
 use crate::starting::Starts;
 use crate::totals::Totals;
 use mscp_control::{Config, OutOfMemory};
-use mscp_reader::{Line, Lines, MOST_EVENTS, ReadFault, request_after, words_of};
+use mscp_reader::{Line, Lines, MOST_EVENTS, MOST_LINES, ReadFault, request_after, words_of};
 use std::alloc::Allocator;
 
 /// What is said of a log.
@@ -62,7 +62,7 @@ fn find<A: Allocator>(
     ensures { (c : Settings) → Stands c nothing judge.old
         → Finds c lines.old.number (lexical.lines lines.old.rest.now) is_rule_wanted result judge.new }
 {
-    pass_plain(judge, lines)?;
+    pass_lines(judge, lines)?;
     while let Some(bytes) = lines.cut() {
         if let Some(rule) = judge_line(judge, lines.number, bytes, is_rule_wanted)? {
             if !is_rule_wanted {
@@ -72,7 +72,7 @@ fn find<A: Allocator>(
             let right = judge.right()?;
             return Ok(Some(Verdict::Wrong(lines.number, rule, starts, right)));
         }
-        pass_plain(judge, lines)?;
+        pass_lines(judge, lines)?;
     }
     if judge.is_settled() {
         Ok(Some(Verdict::Legal(judge.totals())))
@@ -81,27 +81,98 @@ fn find<A: Allocator>(
     }
 }
 
-/// Where all is answered, passes over the next line, if that is found to be plain and its events aren't too many. Any other
-/// line stays.
-fn pass_plain<A: Allocator>(judge: &mut Judge<A>, lines: &mut Lines<'_>) -> Result<(), OutOfMemory>
+/// Passes over the next lines, as far as they are found to be right by their bytes alone.
+fn pass_lines<A: Allocator>(judge: &mut Judge<A>, lines: &mut Lines<'_>) -> Result<(), OutOfMemory>
     requires { judge.old.reporter.count + judge.old.owed ≤ MOST_EVENTS }
     ensures passed { OnOk result ((c : Settings) (log : Log) → Stands c log judge.old
         → Passed c lines.old.number log lines.old.rest.now lines.new.number lines.new.rest.now judge.new) }
     ensures count { OnOk result (judge.new.reporter.count + judge.new.owed ≤ MOST_EVENTS) }
     ensures left { OnOk result (length lines.new.rest.now ≤ length lines.old.rest.now) }
 {
+    while pass_plain(judge, lines)? || pass_idle(judge, lines)? {}
+    Ok(())
+}
+
+/// Passes over the line of a step at which nothing waits, if that is what is due and the next line is just that. Told is
+/// whether a line was passed over.
+fn pass_idle<A: Allocator>(judge: &mut Judge<A>, lines: &mut Lines<'_>) -> Result<bool, OutOfMemory>
+    requires { judge.old.reporter.count + judge.old.owed ≤ MOST_EVENTS }
+    ensures passed { OnOk result ((c : Settings) (log : Log) → Stands c log judge.old
+        → Passed c lines.old.number log lines.old.rest.now lines.new.number lines.new.rest.now judge.new) }
+    ensures count { OnOk result (judge.new.reporter.count + judge.new.owed ≤ MOST_EVENTS) }
+    ensures left { OnOk result (length lines.new.rest.now ≤ length lines.old.rest.now) }
+    ensures shorter { result ≡ Ok true → length lines.new.rest.now < length lines.old.rest.now }
+{
+    if !judge.is_idle() || lines.number >= MOST_LINES {
+        return Ok(false);
+    }
+    let Some(rest) = behind_idle(lines.rest) else {
+        return Ok(false);
+    };
+    *lines = Lines {
+        rest,
+        number: lines.number + 1,
+    };
+    judge.idle()?;
+    Ok(true)
+}
+
+/// What stands behind the line of an idle step, if bytes begin with it.
+fn behind_idle(bytes: &[u8]) -> Option<&[u8]>
+    ensures { IfSome result (λ behind. bytes.now ≡ codes "idle\n" ++ behind.now) }
+{
+    match bytes {
+        [b'i', b'd', b'l', b'e', b'\n', behind @ ..] => Some(behind),
+        _ => None,
+    }
+}
+
+/// Where all is answered, passes over the next line, if that is found to be plain and its events aren't too many, and over
+/// its answers, as far as they are known and stand there. Any other line stays. Told is whether a line was passed over.
+fn pass_plain<A: Allocator>(
+    judge: &mut Judge<A>,
+    lines: &mut Lines<'_>,
+) -> Result<bool, OutOfMemory>
+    requires { judge.old.reporter.count + judge.old.owed ≤ MOST_EVENTS }
+    ensures passed { OnOk result ((c : Settings) (log : Log) → Stands c log judge.old
+        → Passed c lines.old.number log lines.old.rest.now lines.new.number lines.new.rest.now judge.new) }
+    ensures count { OnOk result (judge.new.reporter.count + judge.new.owed ≤ MOST_EVENTS) }
+    ensures left { OnOk result (length lines.new.rest.now ≤ length lines.old.rest.now) }
+    ensures shorter { result ≡ Ok true → length lines.new.rest.now < length lines.old.rest.now }
+{
     if !judge.is_settled() {
-        return Ok(());
+        return Ok(false);
     }
     let (rest, number) = (lines.rest, lines.number);
     let Some(found) = lines.plain_line() else {
-        return Ok(());
+        return Ok(false);
     };
     if found.plain.event_count() > MOST_EVENTS - judge.count() as usize {
         *lines = Lines { rest, number };
-        return Ok(());
+        return Ok(false);
     }
-    judge.ask(&found.plain.request())
+    let count = judge.ask_plain(found.plain)?;
+    pass_answers(judge, lines, count);
+    Ok(true)
+}
+
+/// Passes over what is due, which is so many lines, if the next lines are just that.
+fn pass_answers<A: Allocator>(judge: &mut Judge<A>, lines: &mut Lines<'_>, count: u32)
+    requires { AreAnswers (due judge.old) count }
+    ensures passed { (c : Settings) (log : Log) → Stands c log judge.old
+        → Passed c lines.old.number log lines.old.rest.now lines.new.number lines.new.rest.now judge.new }
+    ensures count { judge.new.reporter.count + judge.new.owed ≡ judge.old.reporter.count + judge.old.owed }
+    ensures left { length lines.new.rest.now ≤ length lines.old.rest.now }
+{
+    let due = judge.due();
+    if !lines.rest.starts_with(due) || lines.number + count > MOST_LINES {
+        return;
+    }
+    *lines = Lines {
+        rest: &lines.rest[due.len()..],
+        number: lines.number + count,
+    };
+    judge.tell_all();
 }
 
 /// Judges the line of this number: the rule that it breaks, if it breaks one, or any if that isn't wanted.

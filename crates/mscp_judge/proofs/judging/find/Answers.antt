@@ -37,8 +37,8 @@ judged_fault c before all front bytes back log number judge faults.OutOfMemory w
 
 pub loop-bytes-init : goal.loop-bytes-init
 loop-bytes-init g c = record {
-  passed = λ d s. c.in_ok-pass_plain.ensures.passed d nothing s;
-  few = c.in_ok-pass_plain.ensures.count;
+  passed = λ d s. c.in_ok-pass_lines.ensures.passed d nothing s;
+  few = c.in_ok-pass_lines.ensures.count;
 }
 
 pub returns-in_err-rule : goal.returns-in_err-rule
@@ -96,7 +96,7 @@ loop-bytes-preserved g c = record {
       let number = c.cut.new.self.number in
       let k = c.in_ok-rule.ensures.hears d i.next i.stands in
       let stands = subst (λ b. Tells d i.next k.0 c.judge_line.new.judge b) c.in_default-2.is k.2 in
-      let p = c.in_ok-pass_plain-2.ensures.passed d k.0 stands in
+      let p = c.in_ok-pass_lines-2.ensures.passed d k.0 stands in
       let front = i.front ++ bytes ∷ [] in
       let here : number ≡ before + length front =
       omega (arith, i.count, c.in-Some.ensures.counted, length-append i.front (bytes ∷ [])) in
@@ -106,14 +106,14 @@ loop-bytes-preserved g c = record {
         front = front ++ p.front;
         next = p.next;
         whole = i.whole ∙ (ap (λ ls. i.front ++ ls) (c.in-Some.ensures.line ∙ ap (λ ls. bytes ∷ ls) p.whole)
-            ∙ (sym (append_assoc i.front (bytes ∷ []) (p.front ++ lines c.pass_plain-in-Some.new.lines.rest.now))
-            ∙ sym (append_assoc front p.front (lines c.pass_plain-in-Some.new.lines.rest.now))));
+            ∙ (sym (append_assoc i.front (bytes ∷ []) (p.front ++ lines c.pass_lines-in-Some.new.lines.rest.now))
+            ∙ sym (append_assoc front p.front (lines c.pass_lines-in-Some.new.lines.rest.now))));
         count = omega (arith, here, p.count, length-append front p.front);
         read = lines_behind before nothing front p.front k.0 read
             ∙ (ap (λ n. after_lines n k.0 p.front) (sym here) ∙ p.read);
         stands = p.stands;
       };
-  few = c.in_ok-pass_plain-2.ensures.count;
+  few = c.in_ok-pass_lines-2.ensures.count;
 }
 
 pub returns-then-is_settled : goal.returns-then-is_settled

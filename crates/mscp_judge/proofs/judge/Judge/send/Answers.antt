@@ -1,13 +1,23 @@
-use Rattle.std.proofs.Common.{refl}
+use Rattle.std.proofs.Common.{refl, sym, subst, Ok}
 use Rattle.mscp_control.specs.declared.event.Entry.TheVariants as entries
 use Rattle.mscp_control.specs.declared.event.Event.TheVariants as events
+use Rattle.mscp_judge.specs.Logs.{AreAnswers}
+use Rattle.mscp_judge.proofs.Answering.{sent_answers}
 use Rattle.mscp_judge.proofs.Coming.{came_on}
+use Rattle.mscp_judge.proofs.Telling.{reported_lines}
 use Rattle.mscp_judge.proofs.judge.Judge.send.Goals as goal
 
 pub returns-clause-came : goal.returns-clause-came
-returns-clause-came g c = came_on c.sent.result c.args.self.now _ c.args.self.now.controller.picker
+returns-clause-came g c = came_on (Ok tt) c.args.self.now _ c.args.self.now.controller.picker
     (events.Send c.args.connection (record { items = c.args.message.now }))
     (entries.Sent c.args.connection c.send-sent.result) c.forget_lines.new.self
-    (refl, c.send-sent.ensures.answer, c.send-sent.ensures.after) c.forget_lines.ensures c.sent.ensures refl
+    (refl, c.send-sent.ensures.answer, c.send-sent.ensures.after) c.forget_lines.ensures c.in_ok-sent.ensures refl
     c.figure_queued-figure.result _ c.figure_queued-figure.ensures c.most_passed.ensures.oldest c.rise.ensures.figure
     c.rise.ensures.passed c.most_passed.ensures.most
+
+pub returns-clause-answers : goal.returns-clause-answers
+returns-clause-answers g c =
+    subst (λ bs. AreAnswers bs 1)
+    (sym (reported_lines c.args.self.now.reporter c.forget_lines.new.self c.sent.new.self
+    (entries.Sent c.args.connection c.send-sent.result) c.forget_lines.ensures c.in_ok-sent.ensures))
+    (sent_answers c.args.connection c.send-sent.result)

@@ -1,5 +1,5 @@
 use Rattle.std.proofs.Common.{◌≡◌, ◌≢◌, ◌<◌, ℕ, get_or, take}
-use Rattle.mscp_judge.proofs.judge.first_line.Given as goal
+use Rattle.mscp_judge.proofs.judge.telling.first_line.Given as goal
 
 abbrev pub invariant-loop-byte : goal.invariant-loop-byte
 invariant-loop-byte l = record {

@@ -6,7 +6,7 @@ use Rattle.std.proofs.lemmas.List.{length-take-le}
 use borrow.Author.Count.{below_more}
 use Rattle.mscp_judge.specs.Standing.{BeginsWith}
 use Rattle.mscp_judge.proofs.Feeds.{begins_line, first_is}
-use Rattle.mscp_judge.proofs.judge.first_line.Goals as goal
+use Rattle.mscp_judge.proofs.judge.telling.first_line.Goals as goal
 
 -- a line that bytes begin with ends at a line feed
 longer : (bytes text : List ℕ) (n : ℕ) → ((k : ℕ) → k < n → get_or bytes k 0 ≢ 10) → BeginsWith bytes text

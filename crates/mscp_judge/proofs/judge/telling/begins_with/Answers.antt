@@ -2,7 +2,7 @@ use Rattle.std.proofs.Common.{length, take, sym, ◌∙◌}
 use Rattle.std.proofs.lemmas.Bool.{true≢false}
 use Rattle.std.proofs.lemmas.Slice.Eq.{bytes_eq-Decides}
 use Rattle.mscp_judge.proofs.Feeds.{begins_line, line_begins}
-use Rattle.mscp_judge.proofs.judge.begins_with.Goals as goal
+use Rattle.mscp_judge.proofs.judge.telling.begins_with.Goals as goal
 
 pub returns-clause-yes : goal.returns-clause-yes
 returns-clause-yes c =

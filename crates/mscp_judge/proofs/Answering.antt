@@ -1,0 +1,238 @@
+-- The lines that are answered to an event are answers, whatever numbers are in them.
+use Rattle.std.proofs.Common.{◌≡◌, ℕ, ◌<◌, ◌≤◌, true, false, List, [], ◌∷◌, ◌++◌, map, length, refl, ap, sym}
+use Rattle.std.proofs.Common.{◌∙◌, arith, length-append, append_assoc, append-nil}
+use Rattle.std.specs.Prelude.{codes, Option, Some, None, Result, Ok, Err}
+use Rattle.std.specs.Fmt.{decimal}
+use Rattle.std.specs.List.{AllByRecursion, flat_map}
+use Rattle.std.specs.Str.{bytes_eq}
+use Rattle.std.proofs.lemmas.List.{length-map}
+use Rattle.arrayvec.specs.ArrayVec.{ArrayVec}
+use Rattle.hex.specs.Hex.{encode_lower}
+use Rattle.mscp_queue.specs.declared.name.Connection.{Connection}
+use Rattle.mscp_queue.specs.declared.name.Connection.TheVariants.{First, Second}
+use Rattle.mscp_control.specs.declared.event.Entry.TheVariants as entries
+use Rattle.mscp_control.specs.declared.event.SendFault.{SendFault}
+use Rattle.mscp_control.specs.declared.event.SendFault.TheVariants.{Short, Long, NoCredit, LastCredit, Doubled}
+use Rattle.mscp_control.specs.declared.event.Sent.{Sent}
+use Rattle.mscp_control.specs.declared.event.Sent.TheVariants as sents
+use Rattle.mscp_text.specs.Lines.{line}
+use Rattle.mscp_reader.specs.Lexical.{is_comment, words}
+use Rattle.mscp_reader.specs.Plain.{IsApart}
+use Rattle.mscp_reader.proofs.PlainLines.{AllSolid, said_plain, word_front}
+use Rattle.mscp_script.specs.Text.{aborted_part, connection_word, entry_lines, figure_line, refusal_word}
+use Rattle.mscp_judge.specs.Logs.{AreAnswers, IsAnswerLine, is_answer, is_answer_word}
+use Rattle.mscp_judge.proofs.Printed.{AllPrinted, AreTaken, both_printed, decimal_few, decimal_printed, encoded_length}
+use Rattle.mscp_judge.proofs.Printed.{encoded_printed}
+
+-- ---- a line
+
+-- a word that a line of an answer may begin with
+record IsFirstWord (word : List ℕ) : Type 0 where
+  some : 0 < length word
+  few : length word ≤ 8
+  solid : AllSolid word
+  printed : AllPrinted word
+  answers : is_answer_word word ≡ true
+  first : bytes_eq word (codes "second") ≡ false
+  comment : (rest : List ℕ) → is_comment (word ++ rest) ≡ false
+
+-- what is seen of a word that is written out
+first_word : (word : List ℕ) → 0 < length word → length word ≤ 8
+    → (AllSolid word × AllPrinted word × (is_answer_word word ≡ true) × (bytes_eq word (codes "second") ≡ false))
+    → ((rest : List ℕ) → is_comment (word ++ rest) ≡ false) → IsFirstWord word
+first_word word some few seen comment = record {
+  some = some;
+  few = few;
+  solid = seen.0;
+  printed = seen.1;
+  answers = seen.2;
+  first = seen.3;
+  comment = comment;
+}
+
+after_space : (bytes : List ℕ) → words (32 ∷ bytes) ≡ words bytes
+unfolding words
+after_space bytes = refl
+
+answer_words : (via : Connection) (word rest : List ℕ) → IsFirstWord word → IsApart rest
+    → is_answer (words (connection_word via ++ (word ++ rest))) ≡ true
+answer_words First word rest w apart =
+    ap is_answer (word_front word rest w.some w.solid apart) ∙ rw w.first w.answers
+answer_words Second word rest w apart =
+    ap is_answer (word_front (codes "second") (32 ∷ (word ++ rest)) (omega arith) refl refl
+    ∙ ap (λ ws. codes "second" ∷ ws) (after_space (word ++ rest) ∙ word_front word rest w.some w.solid apart))
+    ∙ w.answers
+
+no_comment_via : (via : Connection) (word rest : List ℕ) → IsFirstWord word
+    → is_comment (connection_word via ++ (word ++ rest)) ≡ false
+no_comment_via First word rest w = w.comment rest
+no_comment_via Second word rest w = refl
+
+printed_via : (via : Connection) → AllPrinted (connection_word via)
+printed_via First = refl
+printed_via Second = refl
+
+few_via : (via : Connection) → length (connection_word via) ≤ 7
+few_via First = omega arith
+few_via Second = omega arith
+
+answer_line : (via : Connection) (word rest : List ℕ) → IsFirstWord word → IsApart rest → AllPrinted rest
+    → length rest ≤ 150 → IsAnswerLine (connection_word via ++ (word ++ rest))
+answer_line via word rest w apart printed few =
+    let all = both_printed (connection_word via) (word ++ rest) (printed_via via)
+    (both_printed word rest w.printed printed) in
+    let short : length (connection_word via ++ (word ++ rest)) ≤ 200 =
+    omega (
+      arith,
+      length-append (connection_word via) (word ++ rest),
+      length-append word rest,
+      few_via via,
+      w.few,
+      few,
+    ) in
+    record {
+      printed = all;
+      says = said_plain (connection_word via ++ (word ++ rest)) short (no_comment_via via word rest w) all;
+      answers = answer_words via word rest w apart;
+    }
+
+-- one line, which begins with the word of the connection
+one_line : (via : Connection) (bytes : List ℕ) → IsAnswerLine (connection_word via ++ bytes)
+    → AreAnswers (connection_word via ++ line bytes) 1
+one_line via bytes it = record {
+  all = (connection_word via ++ bytes) ∷ [];
+  whole = sym (append-nil (line (connection_word via ++ bytes))
+      ∙ append_assoc (connection_word via) bytes (10 ∷ []));
+  many = refl;
+  each = (it, tt);
+}
+
+-- ---- the words of answers
+
+queued : IsFirstWord (codes "queued")
+queued = first_word (codes "queued") (omega arith) (omega arith) (refl, refl, refl, refl) (λ rest. refl)
+
+answered : IsFirstWord (codes "answered")
+answered = first_word (codes "answered") (omega arith) (omega arith) (refl, refl, refl, refl) (λ rest. refl)
+
+refused : IsFirstWord (codes "refused")
+refused = first_word (codes "refused") (omega arith) (omega arith) (refl, refl, refl, refl) (λ rest. refl)
+
+idle : IsFirstWord (codes "idle")
+idle = first_word (codes "idle") (omega arith) (omega arith) (refl, refl, refl, refl) (λ rest. refl)
+
+ended : IsFirstWord (codes "end")
+ended = first_word (codes "end") (omega arith) (omega arith) (refl, refl, refl, refl) (λ rest. refl)
+
+none : IsFirstWord (codes "none")
+none = first_word (codes "none") (omega arith) (omega arith) (refl, refl, refl, refl) (λ rest. refl)
+
+figure : IsFirstWord (codes "figure")
+figure = first_word (codes "figure") (omega arith) (omega arith) (refl, refl, refl, refl) (λ rest. refl)
+
+-- ---- what became of a message
+
+number_printed : (n : ℕ) → AllPrinted (32 ∷ decimal n)
+number_printed n = decimal_printed n
+
+aborted_printed : (aborted : Option ℕ) → AllPrinted (aborted_part aborted)
+aborted_printed None = refl
+aborted_printed (Some other) = decimal_printed other
+
+aborted_few : (aborted : Option ℕ) → length (aborted_part aborted) ≤ 73
+aborted_few None = omega arith
+aborted_few (Some other) = omega (arith, length-append (codes " aborted ") (decimal other), decimal_few other)
+
+refusal_printed : (fault : SendFault) → AllPrinted (refusal_word fault)
+refusal_printed Short = refl
+refusal_printed Long = refl
+refusal_printed NoCredit = refl
+refusal_printed LastCredit = refl
+refusal_printed Doubled = refl
+
+refusal_few : (fault : SendFault) → length (refusal_word fault) ≤ 11
+refusal_few Short = omega arith
+refusal_few Long = omega arith
+refusal_few NoCredit = omega arith
+refusal_few LastCredit = omega arith
+refusal_few Doubled = omega arith
+
+pub sent_answers : (via : Connection) (sent : Result Sent SendFault)
+    → AreAnswers (entry_lines (entries.Sent via sent)) 1
+sent_answers via (Ok (sents.Queued reference)) =
+    one_line via (codes "queued " ++ decimal reference)
+    (answer_line via (codes "queued") (32 ∷ decimal reference) queued refl (number_printed reference)
+    (omega (arith, decimal_few reference)))
+sent_answers via (Ok (sents.Answered reference aborted)) =
+    let rest = decimal reference ++ aborted_part aborted in
+    one_line via (codes "answered " ++ rest)
+    (answer_line via (codes "answered") (32 ∷ rest) answered refl
+    (both_printed (32 ∷ decimal reference) (aborted_part aborted) (number_printed reference)
+    (aborted_printed aborted))
+    (omega (
+      arith,
+      length-append (decimal reference) (aborted_part aborted),
+      decimal_few reference,
+      aborted_few aborted,
+    )))
+sent_answers via (Err fault) =
+    one_line via (codes "refused " ++ refusal_word fault)
+    (answer_line via (codes "refused") (32 ∷ refusal_word fault) refused refl (refusal_printed fault)
+    (omega (arith, refusal_few fault)))
+
+-- ---- an end that was taken
+
+pub taken_answers : (via : Connection) (end : Option (ArrayVec ℕ)) → AreTaken end
+    → AreAnswers (entry_lines (entries.Taken via end)) 1
+taken_answers via None are = one_line via (codes "none") (answer_line via (codes "none") [] none tt refl (omega arith))
+taken_answers via (Some bytes) are =
+    one_line via (codes "end " ++ encode_lower bytes.items)
+    (answer_line via (codes "end") (32 ∷ encode_lower bytes.items) ended refl (encoded_printed bytes.items are.0)
+    (omega (arith, encoded_length bytes.items, are.1)))
+
+-- ---- the figures of a look
+
+-- a line of one
+abbrev figure_text : (Connection × ℕ × ℕ) → List ℕ
+figure_text shown = connection_word shown.0 ++ (codes "figure " ++ decimal shown.1 ++ codes " " ++ decimal shown.2)
+
+figure_answers : (shown : Connection × ℕ × ℕ) → IsAnswerLine (figure_text shown)
+figure_answers shown =
+    answer_line shown.0 (codes "figure") (32 ∷ ((decimal shown.1 ++ codes " ") ++ decimal shown.2)) figure refl
+    (both_printed (32 ∷ (decimal shown.1 ++ codes " ")) (decimal shown.2)
+    (both_printed (32 ∷ decimal shown.1) (codes " ") (number_printed shown.1) refl) (decimal_printed shown.2))
+    (omega (
+      arith,
+      length-append (decimal shown.1 ++ codes " ") (decimal shown.2),
+      length-append (decimal shown.1) (codes " "),
+      decimal_few shown.1,
+      decimal_few shown.2,
+    ))
+
+figures_whole : (shown : List (Connection × ℕ × ℕ))
+    → flat_map figure_line shown ≡ flat_map line (map figure_text shown)
+figures_whole [] = refl
+figures_whole (x ∷ xs) =
+    (λ i. sym (append_assoc (connection_word x.0) (codes "figure " ++ decimal x.1 ++ codes " " ++ decimal x.2)
+    (10 ∷ [])) i ++ figures_whole xs i)
+
+figures_each : (shown : List (Connection × ℕ × ℕ)) → AllByRecursion IsAnswerLine (map figure_text shown)
+figures_each [] = tt
+figures_each (x ∷ xs) = (figure_answers x, figures_each xs)
+
+pub look_answers : (shown : ArrayVec (Connection × ℕ × ℕ)) (count : ℕ) → count ≡ length shown.items
+    → AreAnswers (entry_lines (entries.Looked shown)) count
+look_answers shown count e = record {
+  all = map figure_text shown.items;
+  whole = figures_whole shown.items;
+  many = length-map shown.items figure_text ∙ sym e;
+  each = figures_each shown.items;
+}
+
+-- ---- nothing, and an idle step
+
+pub none_answers : (bytes : List ℕ) → bytes ≡ [] → AreAnswers bytes 0
+none_answers bytes e = record { all = []; whole = e; many = refl; each = tt }
+
+pub idle_answers : IsAnswerLine (codes "idle")
+idle_answers = answer_line First (codes "idle") [] idle tt refl (omega arith)

@@ -1,0 +1,179 @@
+-- Bytes that are printed: the digits of numbers, also of those that no type holds, and of the bytes of an end.
+use Rattle.std.proofs.Common.{◌≡◌, ◌==◌, ℕ, zero, suc, ◌+◌, ◌*◌, ◌/◌, ◌%◌, ◌<◌, ◌≤◌, true, false, cond}
+use Rattle.std.proofs.Common.{List, [], ◌∷◌, ◌++◌, length, refl, sym, subst, arith}
+use Rattle.std.specs.Prelude.{find, if◌then◌else◌, nat_eq, nat_lt, replicate, IfSome, Option, Some, None, slice_index}
+use Rattle.std.specs.Fmt.{decimal, digit_glyph, digits, digits_onto}
+use Rattle.std.specs.Int.{byte_at, bytes_low_first}
+use Rattle.std.specs.List.{AllByRecursion, list_all}
+use Rattle.std.specs.Option.{option_map}
+use Rattle.std.proofs.lemmas.Bool.{and_from, and_parts, eqb-true, ltb-true}
+use Rattle.std.proofs.lemmas.Bool.Decides.{nat_tests}
+use Rattle.arrayvec.specs.ArrayVec.{ArrayVec}
+use Rattle.byteorder.specs.Endian.{little_bytes}
+use Rattle.hex.specs.Hex.{encode_lower, encode_with, lower_digits}
+use Rattle.mscp_packet.specs.declared.end.BodyKind.{BodyKind}
+use Rattle.mscp_packet.specs.declared.end.EndBody.{EndBody}
+use Rattle.mscp_packet.specs.declared.end.EndBody.TheVariants as bodies
+use Rattle.mscp_packet.specs.declared.end.End.{End}
+use Rattle.mscp_packet.specs.Ends.{HasBody, IsEnd, body_bytes, end_bytes, endcodes, unit_bytes}
+use Rattle.mscp_packet.proofs.Ends.{bytes_span}
+use Rattle.mscp_queue.proofs.Lists.{every_append}
+use Rattle.mscp_reader.specs.Lexical.{is_printed}
+
+-- ---- numbers
+abbrev pub AllPrinted : List ℕ → Type 0
+AllPrinted bytes = list_all is_printed bytes ≡ true
+
+pub both_printed : (xs ys : List ℕ) → AllPrinted xs → AllPrinted ys → AllPrinted (xs ++ ys)
+both_printed [] ys p q = q
+both_printed (x ∷ xs) ys p q =
+    let k = and_parts (is_printed x) (list_all is_printed xs) p in
+    and_from _ _ k.0 (both_printed xs ys k.1 q)
+
+glyph_printed : (n : ℕ) → is_printed (digit_glyph false (n % 10)) ≡ true
+glyph_printed n =
+    let small : n % 10 < 10 = omega arith in
+    grind (arith, nat_tests, small)
+
+-- the digits of a number, also of one that has more than any type holds
+digits_printed : (k n : ℕ) (acc : List ℕ) → AllPrinted acc → AllPrinted (digits_onto k 10 false n acc)
+digits_printed zero n acc p = p
+digits_printed (suc k) n acc p =
+    let g = digit_glyph false (n % 10) in
+    let more = and_from _ _ (glyph_printed n) p in
+    elim (n / 10 == 0) as (λ b. AllPrinted (if b then g ∷ acc else digits_onto k 10 false (n / 10) (g ∷ acc))) [
+      | true ↦ more
+      | false ↦ digits_printed k (n / 10) (g ∷ acc) more
+    ]
+
+digits_few : (k n : ℕ) (acc : List ℕ) → length (digits_onto k 10 false n acc) ≤ k + length acc
+digits_few zero n acc = omega arith
+digits_few (suc k) n acc =
+    let g = digit_glyph false (n % 10) in
+    elim (n / 10 == 0)
+    as (λ b. length (if b then g ∷ acc else digits_onto k 10 false (n / 10) (g ∷ acc)) ≤ suc k + length acc) [
+      | true ↦ omega arith
+      | false ↦ omega (arith, digits_few k (n / 10) (g ∷ acc))
+    ]
+
+pub decimal_printed : (n : ℕ) → AllPrinted (decimal n)
+unfolding digits
+decimal_printed n = digits_printed 64 n [] refl
+
+pub decimal_few : (n : ℕ) → length (decimal n) ≤ 64
+unfolding digits
+decimal_few n = omega (arith, digits_few 64 n [])
+
+-- ---- the bytes of an end
+
+-- the endcode of an end is a byte
+coded_small : (es : List (ℕ × BodyKind)) (code : ℕ) (b : List ℕ) (body : EndBody)
+    → list_all (λ e. nat_lt e.0 256) es ≡ true
+    → HasBody (option_map (λ e. e.1) (find (λ e. nat_eq e.0 code) es)) b body → code < 256
+coded_small [] code b body small has = absurd has
+coded_small (e ∷ es) code b body small has =
+    let k = and_parts (nat_lt e.0 256) (list_all (λ e. nat_lt e.0 256) es) small in
+    elim (nat_eq e.0 code)
+    as (λ t. nat_eq e.0 code ≡ t
+    → HasBody (option_map (λ e. e.1) (cond t (Some e) (find (λ e. nat_eq e.0 code) es))) b body → code < 256) [
+      | true ↦ λ q here. subst (λ n. n < 256) (eqb-true e.0 code q) (ltb-true e.0 256 k.0)
+      | false ↦ λ q here. coded_small es code b body k.1 here
+    ] refl has
+
+abbrev pub AllBytes : List ℕ → Type 0
+AllBytes bytes = AllByRecursion (λ b. b < 256) bytes
+
+both_bytes : (xs ys : List ℕ) → AllBytes xs → AllBytes ys → AllBytes (xs ++ ys)
+both_bytes xs ys p q = every_append (λ b. b < 256) xs ys p q
+
+low_byte : (i n : ℕ) → byte_at i n < 256
+low_byte zero n = omega arith
+low_byte (suc i) n = omega arith
+
+low_bytes : (i k n : ℕ) → AllBytes (bytes_low_first i k n)
+low_bytes i zero n = tt
+low_bytes i (suc k) n = (low_byte i n, low_bytes (suc i) k n)
+
+little : (k n : ℕ) → AllBytes (little_bytes k n)
+little k n = low_bytes 0 k n
+
+zeros : (k : ℕ) → AllBytes (replicate k 0)
+zeros zero = tt
+zeros (suc k) = (omega arith, zeros k)
+
+-- numbers one after the other
+both_little : (k n : ℕ) (rest : List ℕ) → AllBytes rest → AllBytes (little_bytes k n ++ rest)
+both_little k n rest small = both_bytes (little_bytes k n) rest (little k n) small
+
+both_zeros : (k : ℕ) (rest : List ℕ) → AllBytes rest → AllBytes (replicate k 0 ++ rest)
+both_zeros k rest small = both_bytes (replicate k 0) rest (zeros k) small
+
+unit_small : (id media : ℕ) → AllBytes (unit_bytes id media)
+unit_small id media =
+    let third : List ℕ = little_bytes 4 media ++ replicate 4 0 in
+    let second : List ℕ = little_bytes 8 id ++ third in
+    both_zeros 8 second (both_little 8 id third (both_little 4 media (replicate 4 0) (zeros 4)))
+
+body_small : (body : EndBody) → AllBytes (body_bytes body)
+body_small bodies.Bare = tt
+body_small (bodies.Abort other) = little 4 other
+body_small (bodies.Status other figure) = both_little 4 other (little_bytes 4 figure) (little 4 figure)
+body_small (bodies.UnitStatus id media track group cylinder) =
+    let third : List ℕ = little_bytes 2 cylinder ++ replicate 6 0 in
+    let second : List ℕ = little_bytes 2 group ++ third in
+    let first : List ℕ = little_bytes 2 track ++ second in
+    both_bytes (unit_bytes id media) first (unit_small id media)
+    (both_little 2 track second (both_little 2 group third (both_little 2 cylinder (replicate 6 0) (zeros 6))))
+body_small (bodies.Controller timeout id) =
+    let third : List ℕ = little_bytes 8 id in
+    let second : List ℕ = replicate 2 0 ++ third in
+    let first : List ℕ = little_bytes 2 timeout ++ second in
+    both_zeros 4 first (both_little 2 timeout second (both_zeros 2 third (little 8 id)))
+body_small (bodies.Online id media size serial) =
+    let second : List ℕ = little_bytes 4 serial in
+    let first : List ℕ = little_bytes 4 size ++ second in
+    both_bytes (unit_bytes id media) first (unit_small id media) (both_little 4 size second (little 4 serial))
+body_small (bodies.Moved count) = both_little 4 count (replicate 16 0) (zeros 16)
+
+end_small : (e : End) → e.code < 256 → AllBytes (end_bytes e)
+end_small e small =
+    let status : List ℕ = little_bytes 2 e.status ++ body_bytes e.body in
+    let flags : List ℕ = (0 ∷ []) ++ status in
+    let code : List ℕ = (e.code ∷ []) ++ flags in
+    let second : List ℕ = replicate 2 0 ++ code in
+    let first : List ℕ = little_bytes 2 e.unit ++ second in
+    both_little 4 e.reference first (both_little 2 e.unit second (both_zeros 2 code
+    (small, (omega arith, both_little 2 e.status (body_bytes e.body) (body_small e.body)))))
+
+-- the bytes of an end that is taken
+abbrev pub AreTaken : Option (ArrayVec ℕ) → Type 0
+AreTaken end = IfSome end (λ b. AllBytes b.items × (length b.items ≤ 48))
+
+pub taken_are : (first : Option End) (end : Option (ArrayVec ℕ))
+    → end ≡ option_map (λ e. record { items = end_bytes e }) first
+    → ((e : End) → first ≡ Some e → IfSome end (λ b. IsEnd b.items e)) → AreTaken end
+taken_are None end is reads = subst AreTaken (sym is) tt
+taken_are (Some e) end is reads =
+    let it = subst (λ x. IfSome x (λ b. IsEnd b.items e)) is (reads e refl) in
+    let code = coded_small endcodes (slice_index (end_bytes e) 8) (end_bytes e) e.body refl it.body in
+    subst AreTaken (sym is) (end_small e (subst (λ n. n < 256) (sym it.code) code), (bytes_span e).1)
+
+-- ---- hexadecimal digits
+
+printed_at : (xs : List ℕ) (i : ℕ) → AllPrinted xs → i < length xs → is_printed (slice_index xs i) ≡ true
+printed_at [] i p l = absurd (omega (arith, l))
+printed_at (x ∷ xs) zero p l = (and_parts (is_printed x) (list_all is_printed xs) p).0
+printed_at (x ∷ xs) (suc i) p l =
+    printed_at xs i (and_parts (is_printed x) (list_all is_printed xs) p).1 (omega (arith, l))
+
+pub encoded_printed : (bytes : List ℕ) → AllBytes bytes → AllPrinted (encode_lower bytes)
+unfolding encode_with
+encoded_printed [] small = refl
+encoded_printed (b ∷ bytes) small =
+    and_from _ _ (printed_at lower_digits (b / 16) refl (omega (arith, small.0)))
+    (and_from _ _ (printed_at lower_digits (b % 16) refl (omega arith)) (encoded_printed bytes small.1))
+
+pub encoded_length : (bytes : List ℕ) → length (encode_lower bytes) ≡ 2 * length bytes
+unfolding encode_with
+encoded_length [] = refl
+encoded_length (b ∷ bytes) = omega (arith, encoded_length bytes)

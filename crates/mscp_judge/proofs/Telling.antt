@@ -1,0 +1,69 @@
+-- How a judge stands after all that was due was told.
+use Rattle.std.proofs.Common.{◌≡◌, ◌-◌, ◌<◌, [], ◌++◌, length, refl, ap, sym, ◌∙◌, subst, arith}
+use Rattle.std.specs.Prelude.{codes}
+use Rattle.mscp_queue.specs.declared.block.Block.{Block}
+use Rattle.mscp_queue.specs.declared.report.Report.TheVariants.{Idle, Served}
+use Rattle.mscp_control.specs.declared.event.Event.TheVariants as events
+use Rattle.mscp_control.specs.declared.event.Entry.{Entry}
+use Rattle.mscp_control.specs.declared.event.Entry.TheVariants as entries
+use Rattle.mscp_control.specs.Settings.{Settings}
+use Rattle.mscp_control.specs.Holdings.{Answers, Holdings}
+use Rattle.mscp_text.specs.Lines.{line}
+use Rattle.mscp_reader.specs.Lexical.{words}
+use Rattle.mscp_script.specs.Text.{Reported, entry_lines, with_entry}
+use Rattle.mscp_judge.specs.declared.judge.Judge.{Judge}
+use Rattle.mscp_judge.specs.declared.naming.Named.{Named}
+use Rattle.mscp_judge.specs.Logs.{Log, telling}
+use Rattle.mscp_judge.specs.Naming.{IsNamed, name_in, nobody, served}
+use Rattle.mscp_judge.specs.Standing.{Came, Counted, Stands, due, marked, owed, totals_of, with_picker}
+use Rattle.mscp_judge.proofs.Coming.{ready_step, told_so}
+use Rattle.mscp_judge.proofs.Counted.{told_all_counted}
+
+-- the lines of an entry that was reported alone
+pub reported_lines : (old mid new : Reported) (entry : Entry) → mid ≡ record old { lines = [] }
+    → new ≡ with_entry mid entry → new.lines ≡ entry_lines entry
+reported_lines old mid new entry none more =
+    ap (λ (q : Reported). q.lines) more ∙ ap (λ (q : Reported). q.lines ++ entry_lines entry) none
+
+pub told_all : {A : Type 0} (c : Settings) (log : Log) (old new : Judge A) → Stands c log old
+    → new ≡ record old { told = new.told } → due new ≡ [] → Stands c (telling log (due old)) new
+told_all {A} c log old new s kept none =
+    let mid : Judge A = record old { told = new.told } in
+    let left : due mid ≡ [] = sym (ap due kept) ∙ none in
+    let marks = marked (telling log (due old)) in
+    let totals = totals_of c old in
+    subst (Stands c (telling log (due old))) (sym kept) (record {
+      counted = subst (λ bs. Counted c marks old.controller bs (owed old) [] totals) (sym left)
+          (told_all_counted c (marked log) old.controller (due old) (owed old) totals s.counted);
+      count = s.count;
+    })
+
+-- ---- an idle step
+
+-- where nothing waits a step is idle
+idle_entry : (name : Named) (h h' : Holdings Named) (k : Block) (entry : Entry) → h.waiting ≡ []
+    → Answers (IsNamed name) h (events.Step k) entry h' → entry ≡ entries.Stepped Idle
+idle_entry name h h' k (entries.Stepped Idle) none a = refl
+idle_entry name h h' k (entries.Stepped (Served via n unit lbn started seek ended)) none a =
+    absurd (omega (arith, a.serves.1.next.servable.inside, ap length none))
+idle_entry name h h' k (entries.Sent x y) none a = absurd a
+idle_entry name h h' k (entries.Taken x y) none a = absurd a
+idle_entry name h h' k (entries.Looked x) none a = absurd a
+
+idle_names : nobody ≡ name_in (words (codes "idle"))
+unfolding words name_in served
+idle_names = refl
+
+-- its line was told
+pub told_idle : {A : Type 0} (c : Settings) (log : Log) (name : Named) (old mid new : Judge A) → name ≡ nobody
+    → Stands c log old → old.controller.waiting ≡ [] → due old ≡ [] → 0 < old.owed
+    → Came name old mid (events.Step old.block) → mid.owed ≡ old.owed - 1 → mid.block ≡ old.block
+    → new ≡ record mid { told = new.told } → due new ≡ [] → Stands c (telling log (codes "idle\n")) new
+told_idle {A} c log name old mid new none s waits told some came w b kept left =
+    let step = subst (λ n. Came n old mid (events.Step old.block)) (none ∙ idle_names) came in
+    let h = with_picker old.controller (name_in (words (codes "idle"))) in
+    let is = idle_entry (name_in (words (codes "idle"))) h mid.controller old.block step.entry waits step.answers in
+    let said : due mid ≡ line (codes "idle") = step.due ∙ ap entry_lines is in
+    let ahead = ready_step c log (codes "idle") (words (codes "idle")) old mid refl s told some step w b in
+    told_so c log (codes "idle") mid new ahead ([], said) (ap (λ j. j.controller) kept) (ap (λ j. j.reporter) kept)
+    (ap (λ j. j.peaks) kept) (ap (λ j. j.owed) kept) (ap (λ j. j.block) kept) left

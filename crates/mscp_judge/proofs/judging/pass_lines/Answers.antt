@@ -1,0 +1,46 @@
+use Rattle.std.proofs.Common.{refl, arith}
+use Rattle.mscp_judge.proofs.Passing.{passed_more, passed_none}
+use Rattle.mscp_judge.proofs.judging.pass_lines.Goals as goal
+
+pub loop-judge-init : goal.loop-judge-init
+loop-judge-init g c = record {
+  passed = λ d log s.
+      passed_none d log c.args.lines.now.number c.args.lines.now.rest.now _ _ c.args.judge.now refl refl s;
+  few = c.requires;
+  left = omega arith;
+}
+
+pub loop-judge-preserved-then-branch : goal.loop-judge-preserved-then-branch
+loop-judge-preserved-then-branch g c = record {
+  passed = λ d log s.
+      let p = c.loop-judge.invariant.passed d log s in
+      passed_more d log c.args.lines.now.number _ _ c.args.lines.now.rest.now _ _ c.loop-judge.judge
+      c.pass_plain.new.judge p (c.in_ok-pass_plain.ensures.passed d p.next p.stands);
+  few = c.in_ok-pass_plain.ensures.count;
+  left = omega (arith, c.loop-judge.invariant.left, c.in_ok-pass_plain.ensures.left);
+}
+
+pub loop-judge-preserved : goal.loop-judge-preserved
+loop-judge-preserved g c = record {
+  passed = λ d log s.
+      let p = c.loop-judge.invariant.passed d log s in
+      let q = passed_more d log c.args.lines.now.number _ _ c.args.lines.now.rest.now _ _ c.loop-judge.judge
+      c.pass_plain.new.judge p (c.in_ok-pass_plain.ensures.passed d p.next p.stands) in
+      passed_more d log c.args.lines.now.number _ _ c.args.lines.now.rest.now _ _ c.pass_plain.new.judge
+      c.pass_idle.new.judge q (c.in_ok-pass_idle.ensures.passed d q.next q.stands);
+  few = c.in_ok-pass_idle.ensures.count;
+  left = omega (
+    arith,
+    c.loop-judge.invariant.left,
+    c.in_ok-pass_plain.ensures.left,
+    c.in_ok-pass_idle.ensures.left,
+  );
+}
+
+pub returns-clause-passed : goal.returns-clause-passed
+returns-clause-passed g c = λ d log s.
+    let p = c.loop-judge.invariant.passed d log s in
+    let q = passed_more d log c.args.lines.now.number _ _ c.args.lines.now.rest.now _ _ c.loop-judge.judge
+    c.pass_plain.new.judge p (c.in_ok-pass_plain.ensures.passed d p.next p.stands) in
+    passed_more d log c.args.lines.now.number _ _ c.args.lines.now.rest.now _ _ c.pass_plain.new.judge
+    c.pass_idle.new.judge q (c.in_ok-pass_idle.ensures.passed d q.next q.stands)
