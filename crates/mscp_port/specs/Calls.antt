@@ -139,7 +139,8 @@ ChangesByReading old new = (new ≡ record old {
 }) ⊎ Dies old new
 
 -- these bytes were read, as it wanted
-pub record Hears {K : Type 0} (bytes : List ℕ) (old : Port K) (result : Result Unit Unasked) (new : Port K) : Type 0 where
+pub record Hears {K : Type 0} (bytes : List ℕ) (old : Port K) (result : Result Unit Unasked) (new : Port K)
+    : Type 0 where
   pub dead : (code : ℕ) → old.stage ≡ stages.Dead code → IsErr result
   pub unasked : OnErr result (new ≡ old)
   pub frame : ChangesByReading old new
@@ -186,7 +187,8 @@ pub record TakesStep {K : Type 0} (word : ℕ) (old new : Port K) : Type 0 where
     written = None;
     task = new.task;
   }
-  -- the communication area is named: it is cleared at once, or after the purge and poll test, for which its top bit is set
+  -- the communication area is named: it is cleared at once, or after the purge and poll test, for which the top bit of
+  -- the word is set
   pub probe : old.stage ≡ stages.Third → 0x8000 ≤ word → new ≡ record old {
     stage = stages.Purging;
     rings = rings_named old.words.first old.words.second word;
@@ -225,7 +227,8 @@ abbrev pub StaysInStage : {K : Type 0} → Port K → Port K → Type 0
 StaysInStage old new = (new.stage ≡ old.stage) ⊎ (new.stage ≡ stages.Last) ⊎ Dies old new
 
 -- an action that isn't a read went so, or a read failed so
-pub record Goes {K : Type 0} (outcome : Outcome) (old : Port K) (result : Result Unit Unasked) (new : Port K) : Type 0 where
+pub record Goes {K : Type 0} (outcome : Outcome) (old : Port K) (result : Result Unit Unasked) (new : Port K)
+    : Type 0 where
   pub dead : (code : ℕ) → old.stage ≡ stages.Dead code → IsErr result
   pub unasked : OnErr result (new ≡ old)
   pub steps : IsOk result → IfSome (step_answered old.task old.written) (λ word. TakesStep word old new)

@@ -109,5 +109,6 @@ IsNamed calls action = Unit {0}
 -- only memory touched that the host has named since it wrote IP last
 abbrev pub PortsTouchWhatIsNamed : Type 0 → Type 0
 PortsTouchWhatIsNamed K =
-    (hardware : Hardware) (credits : ℕ) (controller : Holdings K) (start p : Port K) (calls : List Call) (action : Action)
+    (hardware : Hardware) (credits : ℕ) (controller : Holdings K) (start p : Port K) (calls : List Call)
+    (action : Action)
     → IsMadeOf hardware credits controller start → Answered start (Next action ∷ calls) p → IsNamed calls action

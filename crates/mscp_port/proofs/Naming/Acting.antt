@@ -92,13 +92,14 @@ pub no_step : {K : Type 0} (ws : List ℕ) (bs : List (List ℕ)) (old new : Por
 no_step ws bs old new outcome result k r none =
     let still = r.still none in
     elim still.0 [
-      | inl e ↦ acted ws bs old new outcome result k r (ap (λ p. p.words) e) (ap (λ p. p.written) e) (ap (λ p. p.rings) e)
-          still.1
+      | inl e ↦ acted ws bs old new outcome result k r (ap (λ p. p.words) e) (ap (λ p. p.written) e)
+          (ap (λ p. p.rings) e) still.1
       | inr dead ↦ dead_knows ws bs old new dead
     ]
 
 -- the word of the step that is taken is the one that the host wrote
-pub word_given : (task : Task) (written : Option ℕ) (word : ℕ) → step_answered task written ≡ Some word → written ≡ Some word
+pub word_given : (task : Task) (written : Option ℕ) (word : ℕ) → step_answered task written ≡ Some word
+    → written ≡ Some word
 word_given tasks.Settle written word e = e
 word_given task written word e = absurd (none-some word e)
 
@@ -214,8 +215,8 @@ after_step ws bs old new word k given handles t =
     ] in
     by_stage old.stage refl
 
-pub done_or_not : {K : Type 0} (ws : List ℕ) (bs : List (List ℕ)) (old new : Port K) (outcome : Outcome) (done : Unit {0})
-    → Knows ws bs old → Goes outcome old (Ok done) new → (o : Option ℕ) → step_answered old.task old.written ≡ o
+pub done_or_not : {K : Type 0} (ws : List ℕ) (bs : List (List ℕ)) (old new : Port K) (outcome : Outcome)
+    (done : Unit {0}) → Knows ws bs old → Goes outcome old (Ok done) new → (o : Option ℕ) → step_answered old.task old.written ≡ o
     → Knows ws bs new
 done_or_not ws bs old new outcome done k r None e = no_step ws bs old new outcome (Ok done) k r e
 done_or_not ws bs old new outcome done k r (Some word) e =

@@ -144,5 +144,6 @@ pub packet_named_still : (bytes : List ℕ) (bs : List (List ℕ)) (word : ℕ) 
     → NamesPacket (bytes ∷ bs) word
 packet_named_still bytes bs word n = (n.0, there bytes n.0 bs n.1, n.2, n.3)
 
-pub buffer_named_still : (bytes : List ℕ) (bs : List (List ℕ)) (b : Buffer) → NamesBuffer bs b → NamesBuffer (bytes ∷ bs) b
+pub buffer_named_still : (bytes : List ℕ) (bs : List (List ℕ)) (b : Buffer) → NamesBuffer bs b
+    → NamesBuffer (bytes ∷ bs) b
 buffer_named_still bytes bs b n = (n.0, n.1, there bytes n.0 bs n.2, n.3)

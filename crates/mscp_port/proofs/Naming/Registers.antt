@@ -30,8 +30,8 @@ is_probing stages.Probing = true
 is_probing s = false
 
 -- a port in another stage than the last and the poll test doesn't change by a read of IP
-pub unread : {K : Type 0} (ws : List ℕ) (bs : List (List ℕ)) (old new : Port K) (s : Stage) → Knows ws bs old → ReadsIp old new
-    → is_up s ≡ false → is_probing s ≡ false → old.stage ≡ s → Knows ws bs new
+pub unread : {K : Type 0} (ws : List ℕ) (bs : List (List ℕ)) (old new : Port K) (s : Stage) → Knows ws bs old
+    → ReadsIp old new → is_up s ≡ false → is_probing s ≡ false → old.stage ≡ s → Knows ws bs new
 unread ws bs old new s k r up probing e =
     subst (Knows ws bs) (sym (r.elsewhere (apart is_up old.stage s stages.Up e up refl)
     (apart is_probing old.stage s stages.Probing e probing refl))) k
@@ -52,18 +52,19 @@ probed ws bs old new k r e =
     let Case : Option Rings → Type 0 = λ o. old.rings ≡ o → Knows ws bs new in
     let cleared : old.rings ≢ None → Knows ws bs new = λ some.
     let is : new ≡ record old { stage = stages.Clearing; task = tasks.Clear 0 } = r.probed e some in
-    subst (Knows ws bs) (sym is) (still_knows ws bs bs old (record old { stage = stages.Clearing; task = tasks.Clear 0 }) k
-    (record { taken = inr refl; given = refl; area = refl }) (record { packet = tt; buffer = k.buffer })) in
+    subst (Knows ws bs) (sym is)
+    (still_knows ws bs bs old (record old { stage = stages.Clearing; task = tasks.Clear 0 }) k (record { taken = inr refl; given = refl; area = refl }) (record { packet = tt; buffer = k.buffer })) in
     let both : (o : Option Rings) → Case o = λ o. elim o as Case [
       | None ↦ λ none. new_knows ws bs (stages.Dead 7) old new (λ w. refl) (r.nowhere e none)
       | Some area ↦ λ some. cleared (λ none. none-some area (sym none ∙ some))
     ] in
     both old.rings refl
 
-pub after_read_ip : {K : Type 0} (ws : List ℕ) (bs : List (List ℕ)) (old new : Port K) → Knows ws bs old → ReadsIp old new
-    → Knows ws bs new
+pub after_read_ip : {K : Type 0} (ws : List ℕ) (bs : List (List ℕ)) (old new : Port K) → Knows ws bs old
+    → ReadsIp old new → Knows ws bs new
 after_read_ip ws bs old new k r =
-    let by_stage : (s : Stage) → old.stage ≡ s → Knows ws bs new = λ s. elim s as (λ s. old.stage ≡ s → Knows ws bs new) [
+    let Then : Stage → Type 0 = λ s. old.stage ≡ s → Knows ws bs new in
+    let by_stage : (s : Stage) → Then s = λ s. elim s as Then [
       | stages.First ↦ unread ws bs old new stages.First k r refl refl
       | stages.Wrapped word ↦ unread ws bs old new (stages.Wrapped word) k r refl refl
       | stages.Second ↦ unread ws bs old new stages.Second k r refl refl
@@ -94,10 +95,11 @@ pub led_on : {K : Type 0} (ws : List ℕ) (bs : List (List ℕ)) (old new : Port
 led_on ws bs old new word s k none e =
     subst (Knows (word ∷ ws) bs) (sym e)
     (still_knows (word ∷ ws) bs bs old (record old { stage = s }) (knows_more_words ws bs old word k)
-    (record { taken = inr (none old.words); given = refl; area = refl }) (record { packet = k.packet; buffer = k.buffer }))
+    (record { taken = inr (none old.words); given = refl; area = refl })
+    (record { packet = k.packet; buffer = k.buffer }))
 
-pub ignored : {K : Type 0} (ws : List ℕ) (bs : List (List ℕ)) (old new : Port K) (word : ℕ) → Knows ws bs old → new ≡ old
-    → Knows (word ∷ ws) bs new
+pub ignored : {K : Type 0} (ws : List ℕ) (bs : List (List ℕ)) (old new : Port K) (word : ℕ) → Knows ws bs old
+    → new ≡ old → Knows (word ∷ ws) bs new
 ignored ws bs old new word k e = subst (Knows (word ∷ ws) bs) (sym e) (knows_more_words ws bs old word k)
 
 pub first_written : {K : Type 0} (ws : List ℕ) (bs : List (List ℕ)) (old new : Port K) (word : ℕ) → Knows ws bs old

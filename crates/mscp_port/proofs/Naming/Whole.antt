@@ -73,7 +73,8 @@ pub knows : {K : Type 0} (hardware : Hardware) (credits : ℕ) (controller : Hol
     (calls : List Call) → IsMadeOf hardware credits controller start → Answered start calls p
     → Knows (words calls) (reads calls) p
 knows hardware credits controller start p [] made e = subst (Knows [] []) (sym e)
-    (fresh_knows [] [] start (ap (λ s. answers s start.words) made.first) made.written made.rings made.free made.buffers)
+    (fresh_knows [] [] start (ap (λ s. answers s start.words) made.first) made.written made.rings made.free
+    made.buffers)
 knows hardware credits controller start p (call ∷ earlier) made a =
     after_call call earlier a.0 p (knows hardware credits controller start a.0 earlier made a.1) a.2
 
@@ -107,8 +108,8 @@ within_named calls p (actions.Interrupt vector) k lies = tt
 within_named calls p (actions.Transfer kind unit block count) k lies = tt
 
 -- the law of ports
-pub touches_what_is_named : {K : Type 0} (hardware : Hardware) (credits : ℕ) (controller : Holdings K) (start p : Port K)
-    (calls : List Call) (action : Action) → IsMadeOf hardware credits controller start
+pub touches_what_is_named : {K : Type 0} (hardware : Hardware) (credits : ℕ) (controller : Holdings K) (start : Port K)
+    (p : Port K) (calls : List Call) (action : Action) → IsMadeOf hardware credits controller start
     → Answered start (Next action ∷ calls) p → IsNamed calls action
 touches_what_is_named hardware credits controller start p calls action made a =
     within_named calls p action (knows hardware credits controller start p (Next action ∷ calls) made a) (a.2).within
