@@ -10,19 +10,22 @@ use Rattle.arrayvec.specs.ArrayVec.{ArrayVec}
 use Rattle.hex.specs.Hex.{encode_lower}
 use Rattle.mscp_queue.specs.declared.name.Connection.{Connection}
 use Rattle.mscp_queue.specs.declared.name.Connection.TheVariants.{First, Second}
+use Rattle.mscp_queue.specs.declared.report.Report.{Report}
+use Rattle.mscp_queue.specs.declared.report.Report.TheVariants.{Idle, Served}
+use Rattle.mscp_packet.specs.declared.end.End.{End}
 use Rattle.mscp_control.specs.declared.event.Entry.TheVariants as entries
 use Rattle.mscp_control.specs.declared.event.SendFault.{SendFault}
 use Rattle.mscp_control.specs.declared.event.SendFault.TheVariants.{Short, Long, NoCredit, LastCredit, Doubled}
 use Rattle.mscp_control.specs.declared.event.Sent.{Sent}
 use Rattle.mscp_control.specs.declared.event.Sent.TheVariants as sents
-use Rattle.mscp_text.specs.Lines.{line}
+use Rattle.mscp_text.specs.Lines.{line, status_text}
 use Rattle.mscp_reader.specs.Lexical.{is_comment, words}
 use Rattle.mscp_reader.specs.Plain.{IsApart}
 use Rattle.mscp_reader.proofs.PlainLines.{AllSolid, said_plain, word_front}
-use Rattle.mscp_script.specs.Text.{aborted_part, connection_word, entry_lines, figure_line, refusal_word}
+use Rattle.mscp_script.specs.Text.{aborted_part, block_word, connection_word, ended_part, entry_lines, figure_line, refusal_word, step_line}
 use Rattle.mscp_judge.specs.Logs.{AreAnswers, IsAnswerLine, is_answer, is_answer_word}
 use Rattle.mscp_judge.proofs.Printed.{AllPrinted, AreTaken, both_printed, decimal_few, decimal_printed, encoded_length}
-use Rattle.mscp_judge.proofs.Printed.{encoded_printed}
+use Rattle.mscp_judge.proofs.Printed.{encoded_printed, status_printed}
 
 -- ---- a line
 
@@ -76,25 +79,29 @@ few_via : (via : Connection) → length (connection_word via) ≤ 7
 few_via First = omega arith
 few_via Second = omega arith
 
+-- a line that isn't too long
+short_line : (via : Connection) (word rest : List ℕ) → IsFirstWord word → IsApart rest → AllPrinted rest
+    → length (connection_word via ++ (word ++ rest)) ≤ 200 → IsAnswerLine (connection_word via ++ (word ++ rest))
+short_line via word rest w apart printed short =
+    let all = both_printed (connection_word via) (word ++ rest) (printed_via via)
+    (both_printed word rest w.printed printed) in
+    record {
+      printed = all;
+      says = said_plain (connection_word via ++ (word ++ rest)) short (no_comment_via via word rest w) all;
+      answers = answer_words via word rest w apart;
+    }
+
 answer_line : (via : Connection) (word rest : List ℕ) → IsFirstWord word → IsApart rest → AllPrinted rest
     → length rest ≤ 150 → IsAnswerLine (connection_word via ++ (word ++ rest))
 answer_line via word rest w apart printed few =
-    let all = both_printed (connection_word via) (word ++ rest) (printed_via via)
-    (both_printed word rest w.printed printed) in
-    let short : length (connection_word via ++ (word ++ rest)) ≤ 200 =
-    omega (
+    short_line via word rest w apart printed (omega (
       arith,
       length-append (connection_word via) (word ++ rest),
       length-append word rest,
       few_via via,
       w.few,
       few,
-    ) in
-    record {
-      printed = all;
-      says = said_plain (connection_word via ++ (word ++ rest)) short (no_comment_via via word rest w) all;
-      answers = answer_words via word rest w apart;
-    }
+    ))
 
 -- one line, which begins with the word of the connection
 one_line : (via : Connection) (bytes : List ℕ) → IsAnswerLine (connection_word via ++ bytes)
@@ -117,6 +124,9 @@ answered = first_word (codes "answered") (omega arith) (omega arith) (refl, refl
 
 refused : IsFirstWord (codes "refused")
 refused = first_word (codes "refused") (omega arith) (omega arith) (refl, refl, refl, refl) (λ rest. refl)
+
+served : IsFirstWord (codes "serve")
+served = first_word (codes "serve") (omega arith) (omega arith) (refl, refl, refl, refl) (λ rest. refl)
 
 idle : IsFirstWord (codes "idle")
 idle = first_word (codes "idle") (omega arith) (omega arith) (refl, refl, refl, refl) (λ rest. refl)
@@ -229,10 +239,47 @@ look_answers shown count e = record {
   each = figures_each shown.items;
 }
 
--- ---- nothing, and an idle step
+-- ---- nothing
 
 pub none_answers : (bytes : List ℕ) → bytes ≡ [] → AreAnswers bytes 0
 none_answers bytes e = record { all = []; whole = e; many = refl; each = tt }
 
+-- ---- a step
+
 pub idle_answers : IsAnswerLine (codes "idle")
 idle_answers = answer_line First (codes "idle") [] idle tt refl (omega arith)
+
+block_printed : (lbn : Option ℕ) → AllPrinted (block_word lbn)
+block_printed None = refl
+block_printed (Some block) = decimal_printed block
+
+ended_printed : (ended : Option End) → AllPrinted (ended_part ended)
+ended_printed None = refl
+ended_printed (Some e) = both_printed (codes " ended ") (status_text e.status) refl (status_printed e.status)
+
+pub step_answers : (report : Report) → length (step_line report) ≤ 108 → AreAnswers (step_line report) 1
+step_answers Idle few = one_line First (codes "idle") idle_answers
+step_answers (Served via n unit lbn started seek ended) few =
+    let a = decimal n in
+    let b = a ++ codes " unit " in
+    let c = b ++ decimal unit in
+    let d = c ++ codes " block " in
+    let e = d ++ block_word lbn in
+    let f = e ++ codes " seek " in
+    let g = f ++ decimal seek in
+    let h = g ++ ended_part ended in
+    let pb = both_printed a (codes " unit ") (decimal_printed n) refl in
+    let pc = both_printed b (decimal unit) pb (decimal_printed unit) in
+    let pd = both_printed c (codes " block ") pc refl in
+    let pe = both_printed d (block_word lbn) pd (block_printed lbn) in
+    let pf = both_printed e (codes " seek ") pe refl in
+    let pg = both_printed f (decimal seek) pf (decimal_printed seek) in
+    let ph = both_printed g (ended_part ended) pg (ended_printed ended) in
+    one_line via (codes "serve " ++ h)
+    (short_line via (codes "serve") (32 ∷ h) served refl ph (omega (
+      arith,
+      few,
+      length-append (connection_word via) (line (codes "serve " ++ h)),
+      length-append (codes "serve " ++ h) (10 ∷ []),
+      length-append (connection_word via) (codes "serve " ++ h),
+    )))

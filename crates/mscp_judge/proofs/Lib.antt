@@ -16,6 +16,7 @@ mod Reading
 mod Wording
 mod Listening
 mod Coming
+mod Ahead
 mod Printed
 mod Answering
 mod Telling

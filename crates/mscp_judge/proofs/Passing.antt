@@ -1,5 +1,5 @@
 -- Lines that are passed over.
-use Rattle.std.proofs.Common.{◌≡◌, ℕ, ◌+◌, ◌<◌, ◌≤◌, false, List, [], ◌∷◌, ◌++◌, length, refl, ap, sym, ◌∙◌, subst, arith}
+use Rattle.std.proofs.Common.{◌≡◌, ℕ, ◌+◌, ◌<◌, ◌≤◌, false, List, [], ◌∷◌, ◌++◌, length, refl, ap, sym, ◌∙◌, subst, arith, true, Bool}
 use Rattle.std.proofs.Common.{append_assoc, append-nil, length-append}
 use Rattle.std.specs.Prelude.{codes, nat_lt, OnOk, Result, Ok, Err}
 use Rattle.std.specs.List.{AllByRecursion, flat_map}
@@ -20,11 +20,12 @@ use Rattle.mscp_reader.specs.declared.plain.Plain.{Plain}
 use Rattle.mscp_judge.specs.declared.judge.Judge.{Judge}
 use Rattle.mscp_judge.specs.Judged.{Passed}
 use Rattle.mscp_judge.specs.Logs.{AreAnswers, IsAnswerLine, Log, after_line, after_lines, asking, is_answer, telling, told}
-use Rattle.mscp_judge.specs.Standing.{Stands}
+use Rattle.mscp_judge.specs.Standing.{Stands, due}
 use Rattle.mscp_judge.proofs.Answering.{idle_answers}
 use Rattle.mscp_judge.proofs.Exactly.{lines_behind}
 use Rattle.mscp_judge.proofs.Marks.{told_append}
 use Rattle.mscp_judge.proofs.Reading.{lines_more, tells}
+use Rattle.mscp_judge.proofs.Telling.{told_all}
 use Rattle.mscp_judge.proofs.Wording.{plain_asks}
 
 -- none
@@ -152,3 +153,15 @@ passed_idle c log before n rest left judge is number few stands =
     passed_answers c log before n 1 rest left (codes "idle\n") judge
     (record { all = codes "idle" ∷ []; whole = refl; many = refl; each = (idle_answers, tt) }) is number
     (omega (arith, number, few)) stands
+
+-- what was due is told, if it stands next; or else it stays
+pub passed_cut : {A : Type 0} (c : Settings) (log : Log) (before n count : ℕ) (rest left : List ℕ) (old new : Judge A)
+    (is : Bool) → AreAnswers (due old) count → (is ≡ true → rest ≡ due old ++ left) → (is ≡ true → n ≡ before + count)
+    → (is ≡ true → n ≤ 1000000) → (is ≡ true → due new ≡ []) → new ≡ record old { told = new.told }
+    → (is ≡ false → left ≡ rest) → (is ≡ false → n ≡ before) → (is ≡ false → new ≡ old) → Stands c log old
+    → Passed c before log rest n left new
+passed_cut c log before n count rest left old new true a cut number most told frame same kept untold s =
+    passed_answers c log before n count rest left (due old) new a (cut refl) (number refl) (most refl)
+    (told_all c log old new s frame (told refl))
+passed_cut c log before n count rest left old new false a cut number most told frame same kept untold s =
+    passed_none c log before rest n left new (kept refl) (same refl) (subst (Stands c log) (sym (untold refl)) s)

@@ -3,7 +3,7 @@ use Rattle.std.proofs.Common.{◌≡◌, ◌==◌, ℕ, zero, suc, ◌+◌, ◌*
 use Rattle.std.proofs.Common.{List, [], ◌∷◌, ◌++◌, length, refl, sym, subst, arith}
 use Rattle.std.specs.Prelude.{find, if◌then◌else◌, nat_eq, nat_lt, replicate, IfSome, Option, Some, None, slice_index}
 use Rattle.std.specs.Fmt.{decimal, digit_glyph, digits, digits_onto}
-use Rattle.std.specs.Int.{byte_at, bytes_low_first}
+use Rattle.std.specs.Int.{byte_at, bytes_high_first, bytes_low_first, to_be_bytes, w16}
 use Rattle.std.specs.List.{AllByRecursion, list_all}
 use Rattle.std.specs.Option.{option_map}
 use Rattle.std.proofs.lemmas.Bool.{and_from, and_parts, eqb-true, ltb-true}
@@ -18,6 +18,7 @@ use Rattle.mscp_packet.specs.declared.end.End.{End}
 use Rattle.mscp_packet.specs.Ends.{HasBody, IsEnd, body_bytes, end_bytes, endcodes, unit_bytes}
 use Rattle.mscp_packet.proofs.Ends.{bytes_span}
 use Rattle.mscp_queue.proofs.Lists.{every_append}
+use Rattle.mscp_text.specs.Lines.{status_text}
 use Rattle.mscp_reader.specs.Lexical.{is_printed}
 
 -- ---- numbers
@@ -177,3 +178,12 @@ pub encoded_length : (bytes : List ℕ) → length (encode_lower bytes) ≡ 2 * 
 unfolding encode_with
 encoded_length [] = refl
 encoded_length (b ∷ bytes) = omega (arith, encoded_length bytes)
+
+-- ---- a status
+
+high_bytes : (k n : ℕ) → AllBytes (bytes_high_first k n)
+high_bytes zero n = tt
+high_bytes (suc k) n = (low_byte k n, high_bytes k n)
+
+pub status_printed : (status : ℕ) → AllPrinted (status_text status)
+status_printed status = encoded_printed (to_be_bytes w16 status) (high_bytes 2 status)

@@ -37,14 +37,14 @@ digit_bytes : (ds : List ℕ) → AllDigits 10 ds → list_all is_digit ds ≡ t
 digit_bytes [] h = refl
 digit_bytes (d ∷ ds) h = and_from _ _ (digit_byte d h.0) (digit_bytes ds h.1)
 
-digits_fed : (ds : List ℕ) → list_all is_digit ds ≡ true → NoFeed ds
+pub digits_fed : (ds : List ℕ) → list_all is_digit ds ≡ true → NoFeed ds
 digits_fed [] h = tt
 digits_fed (d ∷ ds) h =
     let p = and_parts (is_digit d) (list_all is_digit ds) h in
     ((λ e. false≢true (sym (ap is_digit e) ∙ p.0)), digits_fed ds p.1)
 
 -- literal words have no line feed
-fed_literal : (bytes : List ℕ) → list_all (λ b. not (b == 10)) bytes ≡ true → NoFeed bytes
+pub fed_literal : (bytes : List ℕ) → list_all (λ b. not (b == 10)) bytes ≡ true → NoFeed bytes
 fed_literal [] h = tt
 fed_literal (b ∷ bytes) h =
     let p = and_parts (not (b == 10)) (list_all (λ b. not (b == 10)) bytes) h in
@@ -69,7 +69,7 @@ wide_decimal n h =
 
 -- ---- the words of a line
 
-after_space : (bytes : List ℕ) → words (32 ∷ bytes) ≡ words bytes
+pub after_space : (bytes : List ℕ) → words (32 ∷ bytes) ≡ words bytes
 unfolding words
 after_space bytes = refl
 

@@ -1,22 +1,26 @@
 -- How a judge stands after all that was due was told.
-use Rattle.std.proofs.Common.{◌≡◌, ◌-◌, ◌<◌, [], ◌++◌, length, refl, ap, sym, ◌∙◌, subst, arith}
-use Rattle.std.specs.Prelude.{codes}
+use Rattle.std.proofs.Common.{◌≡◌, ◌-◌, ◌<◌, [], ◌++◌, length, refl, ap, sym, ◌∙◌, subst, arith, append_assoc, append-nil, ◌≤◌, List, ℕ, ◌∷◌}
+use Rattle.std.specs.Prelude.{codes, OnOk, Result, Ok, Err}
+use Rattle.std.specs.List.{flat_map}
 use Rattle.mscp_queue.specs.declared.block.Block.{Block}
+use Rattle.mscp_queue.specs.declared.report.Report.{Report}
 use Rattle.mscp_queue.specs.declared.report.Report.TheVariants.{Idle, Served}
 use Rattle.mscp_control.specs.declared.event.Event.TheVariants as events
 use Rattle.mscp_control.specs.declared.event.Entry.{Entry}
 use Rattle.mscp_control.specs.declared.event.Entry.TheVariants as entries
-use Rattle.mscp_control.specs.Settings.{Settings}
+use Rattle.mscp_control.specs.declared.memory.OutOfMemory.{OutOfMemory}
+use Rattle.mscp_control.specs.Settings.{IsValid, Settings}
 use Rattle.mscp_control.specs.Holdings.{Answers, Holdings}
 use Rattle.mscp_text.specs.Lines.{line}
 use Rattle.mscp_reader.specs.Lexical.{words}
-use Rattle.mscp_script.specs.Text.{Reported, entry_lines, with_entry}
+use Rattle.mscp_script.specs.Text.{Reported, entry_lines, step_line, with_entry}
 use Rattle.mscp_judge.specs.declared.judge.Judge.{Judge}
 use Rattle.mscp_judge.specs.declared.naming.Named.{Named}
-use Rattle.mscp_judge.specs.Logs.{Log, telling}
+use Rattle.mscp_judge.specs.Logs.{AreAnswers, Log, telling}
 use Rattle.mscp_judge.specs.Naming.{IsNamed, name_in, nobody, served}
-use Rattle.mscp_judge.specs.Standing.{Came, Counted, Stands, due, marked, owed, totals_of, with_picker}
-use Rattle.mscp_judge.proofs.Coming.{ready_step, told_so}
+use Rattle.mscp_judge.specs.Standing.{BeginsWith, Came, Counted, IsNamedAhead, Stands, due, marked, owed, totals_of, with_picker}
+use Rattle.mscp_judge.proofs.Answering.{step_answers}
+use Rattle.mscp_judge.proofs.Coming.{held_settings, ready_step, right_step, stands_held, told_so}
 use Rattle.mscp_judge.proofs.Counted.{told_all_counted}
 
 -- the lines of an entry that was reported alone
@@ -37,6 +41,50 @@ told_all {A} c log old new s kept none =
           (told_all_counted c (marked log) old.controller (due old) (owed old) totals s.counted);
       count = s.count;
     })
+
+-- ---- a step
+
+-- the line of a step that was reported alone
+pub stepped_answers : (r : Result (Unit {0}) OutOfMemory) (old mid new : Reported) (report : Report)
+    → OnOk r (new ≡ with_entry mid (entries.Stepped report)) → OnOk r (length (step_line report) ≤ 108)
+    → mid ≡ record old { lines = [] } → OnOk r (AreAnswers new.lines 1)
+stepped_answers (Ok x) old mid new report value short none =
+    subst (λ bs. AreAnswers bs 1) (sym (reported_lines old mid new (entries.Stepped report) none value))
+    (step_answers report short)
+stepped_answers (Err x) old mid new report value short none = tt
+
+-- one line
+one_of : (all : List (List ℕ)) → length all ≡ 1 → (text : List ℕ) × (all ≡ text ∷ [])
+one_of [] e = absurd (omega (arith, e))
+one_of (text ∷ []) e = (text, refl)
+one_of (text ∷ other ∷ all) e = absurd (omega (arith, e))
+
+-- a step was answered at which the command of this name was to start, and its line was told, where a line ahead says that
+-- it was served
+pub told_step : {A : Type 0} (c : Settings) (log : Log) (named : Named) (rest left : List ℕ) (old mid new : Judge A)
+    → IsNamedAhead rest named → Stands c log old → due old ≡ [] → 0 < old.owed
+    → Came named old mid (events.Step old.block) → mid.owed ≡ old.owed - 1 → mid.block ≡ old.block
+    → AreAnswers (due mid) 1 → rest ≡ due mid ++ left → new ≡ record mid { told = new.told } → due new ≡ []
+    → Stands c (telling log (due mid)) new
+told_step {A} c log named rest left old mid new ahead s told some came w b a is kept none =
+    let one = one_of a.all a.many in
+    let text = one.0 in
+    let said : due mid ≡ text ++ 10 ∷ [] =
+    a.whole ∙ (ap (λ ls. flat_map line ls) one.1 ∙ append-nil (text ++ 10 ∷ [])) in
+    let begins : BeginsWith rest text =
+    (left, is ∙ (ap (λ bs. bs ++ left) said ∙ append_assoc text (10 ∷ []) left)) in
+    let step = subst (λ n. Came n old mid (events.Step old.block)) (ahead text begins) came in
+    let stands = told_so c log text mid new (ready_step c log text (words text) old mid refl s told some step w b)
+    ([], said) (ap (λ j. j.controller) kept) (ap (λ j. j.reporter) kept) (ap (λ j. j.peaks) kept)
+    (ap (λ j. j.owed) kept) (ap (λ j. j.block) kept) none in
+    subst (λ bs. Stands c (telling log bs) new) (sym said) stands
+
+-- whatever its line is, the settings stay
+pub step_settings : {A : Type 0} (c : Settings) (log : Log) (named : Named) (old mid : Judge A) → Stands c log old
+    → due old ≡ [] → 0 < old.owed → Came named old mid (events.Step old.block) → mid.owed ≡ old.owed - 1
+    → mid.block ≡ old.block → IsValid c × (mid.controller.settings ≡ c)
+step_settings c log named old mid s told some came w b =
+    held_settings c log mid (right_step c log named old mid (stands_held c log old s) told some came w b)
 
 -- ---- an idle step
 

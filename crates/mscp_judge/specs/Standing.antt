@@ -7,12 +7,13 @@ use Rattle.mscp_control.specs.Settings.{IsValid, Settings, bound}
 use Rattle.mscp_control.specs.History.{Trace}
 use Rattle.mscp_control.specs.Holdings.{Answers, Holdings, fresh}
 use Rattle.mscp_control.specs.Legal.{IsLegal}
+use Rattle.mscp_reader.specs.Lexical.{words}
 use Rattle.mscp_script.specs.Text.{entry_lines}
 use Rattle.mscp_judge.specs.declared.judge.Judge.{Judge}
 use Rattle.mscp_judge.specs.declared.naming.Named.{Named}
 use Rattle.mscp_judge.specs.declared.totals.Totals.{Totals}
 use Rattle.mscp_judge.specs.Logs.{Asked, Log, Mark, answers_in, events_in, told, transcript, whole}
-use Rattle.mscp_judge.specs.Naming.{IsNamed}
+use Rattle.mscp_judge.specs.Naming.{IsNamed, name_in}
 use Rattle.mscp_judge.specs.Totals.{Adds, AreTotals}
 
 -- ---- one event
@@ -24,6 +25,10 @@ with_picker h picker = record h { picker = picker }
 -- bytes that begin with a line
 abbrev pub BeginsWith : List ℕ → List ℕ → Type 0
 BeginsWith bytes line = (rest : List ℕ) × (bytes ≡ line ++ 10 ∷ rest)
+
+-- each line that bytes begin with says that the command of this name was served
+abbrev pub IsNamedAhead : List ℕ → Named → Type 0
+IsNamedAhead bytes named = (line : List ℕ) → BeginsWith bytes line → named ≡ name_in (words line)
 
 -- bytes that begin with a line of at most 128 bytes
 abbrev pub HasShortLine : List ℕ → Type 0

@@ -153,15 +153,26 @@ impl<A: Allocator> Judge<A> {
         Ok(shown.len() as u32)
     }
 
+    /// Whether the next answer is that of a step.
+    pub fn owes(&self) -> bool
+        ensures due { result ≡ true → due self.now ≡ [] }
+        ensures owed { result ≡ true → 0 < self.now.owed }
+    {
+        self.owed != 0 && self.due().is_empty()
+    }
+
     /// A step is answered, at which the command of this name starts, if it may.
-    fn step(&mut self, name: Named) -> Result<(), OutOfMemory>
+    pub fn step(&mut self, name: Named) -> Result<(), OutOfMemory>
         requires count { self.old.reporter.count + 1 < 2 ^ 64 }
         requires owed { 0 < self.old.owed }
         ensures came { OnOk result (Came name self.old self.new (events.Step self.old.block)) }
+        ensures answers { OnOk result (AreAnswers (due self.new) 1) }
         ensures short { OnOk result (HasShortLine (due self.new)) }
         ensures starts { self.new.starts ≡ self.old.starts }
         ensures owed { self.new.owed ≡ self.old.owed - 1 }
         ensures block { self.new.block ≡ self.old.block }
+        ensures count { OnOk result (self.new.reporter.count + self.new.owed
+            ≡ self.old.reporter.count + self.old.owed) }
     {
         self.owed -= 1;
         self.reporter.forget_lines();
@@ -178,7 +189,7 @@ impl<A: Allocator> Judge<A> {
         ensures owed { result ≡ true → 0 < self.now.owed }
         ensures nothing { result ≡ true → self.now.controller.waiting ≡ [] }
     {
-        self.owed != 0 && self.due().is_empty() && self.controller.len() == 0
+        self.owes() && self.controller.len() == 0
     }
 
     /// A step is answered at which nothing waits, and its line is told.

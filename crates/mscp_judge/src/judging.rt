@@ -1,15 +1,16 @@
 // A log, judged line by line.
 
-ghost use Rattle.std.specs.Prelude.{◌≡◌, ◌+◌, ◌<◌, ◌≤◌, ◌++◌, codes, true, IfOk, IfSome, OnOk, Ok, length};
-ghost use Rattle.mscp_control.specs.Settings.{Settings};
+ghost use Rattle.std.specs.Prelude.{◌≡◌, ◌+◌, ◌<◌, ◌≤◌, ◌++◌, [], codes, true, false, IfOk, IfSome, OnOk, Ok, length};
+ghost use Rattle.mscp_control.specs.Settings.{IsValid, Settings};
 ghost use Rattle.mscp_reader.specs.Lexical as lexical;
 ghost use Rattle.mscp_reader.specs.declared.events.TheConstants.{MOST_EVENTS};
 ghost use Rattle.mscp_judge.specs.Judged.{Breaks, Finds, Hears, Judges, Passed};
 ghost use Rattle.mscp_judge.specs.Logs.{AreAnswers, Log, nothing};
-ghost use Rattle.mscp_judge.specs.Standing.{Stands, due};
+ghost use Rattle.mscp_judge.specs.Standing.{IsNamedAhead, Stands, due};
 
 use crate::answers::is_answer;
 use crate::judge::{Judge, Right};
+use crate::naming::{Named, named_ahead};
 use crate::rules::Rule;
 use crate::starting::Starts;
 use crate::totals::Totals;
@@ -43,7 +44,7 @@ pub fn judge_lines<A: Allocator>(
     if let Some(verdict) = find(&mut judge, lines, false)? {
         return Ok(verdict);
     }
-    // Some line is wrong. The lines are judged once more, since its rule is known only before a step.
+    // Some line is wrong, or isn't written as a report has it. The lines are judged once more, since its rule is known only before a step.
     *lines = Lines { rest, number };
     judge.restart();
     match find(&mut judge, lines, true)? {
@@ -62,7 +63,9 @@ fn find<A: Allocator>(
     ensures { (c : Settings) → Stands c nothing judge.old
         → Finds c lines.old.number (lexical.lines lines.old.rest.now) is_rule_wanted result judge.new }
 {
-    pass_lines(judge, lines)?;
+    if !pass_lines(judge, lines, is_rule_wanted)? {
+        return Ok(None);
+    }
     while let Some(bytes) = lines.cut() {
         if let Some(rule) = judge_line(judge, lines.number, bytes, is_rule_wanted)? {
             if !is_rule_wanted {
@@ -72,7 +75,9 @@ fn find<A: Allocator>(
             let right = judge.right()?;
             return Ok(Some(Verdict::Wrong(lines.number, rule, starts, right)));
         }
-        pass_lines(judge, lines)?;
+        if !pass_lines(judge, lines, is_rule_wanted)? {
+            return Ok(None);
+        }
     }
     if judge.is_settled() {
         Ok(Some(Verdict::Legal(judge.totals())))
@@ -81,40 +86,89 @@ fn find<A: Allocator>(
     }
 }
 
-/// Passes over the next lines, as far as they are found to be right by their bytes alone.
-fn pass_lines<A: Allocator>(judge: &mut Judge<A>, lines: &mut Lines<'_>) -> Result<(), OutOfMemory>
+/// Passes over the next lines, as far as they are found to be right by their bytes alone. Told is false where one is found
+/// not to be, which is done only if its rule isn't wanted: then nothing more is said.
+fn pass_lines<A: Allocator>(
+    judge: &mut Judge<A>,
+    lines: &mut Lines<'_>,
+    is_rule_wanted: bool,
+) -> Result<bool, OutOfMemory>
     requires { judge.old.reporter.count + judge.old.owed ≤ MOST_EVENTS }
-    ensures passed { OnOk result ((c : Settings) (log : Log) → Stands c log judge.old
-        → Passed c lines.old.number log lines.old.rest.now lines.new.number lines.new.rest.now judge.new) }
+    ensures passed { result ≡ Ok true → (c : Settings) (log : Log) → Stands c log judge.old
+        → Passed c lines.old.number log lines.old.rest.now lines.new.number lines.new.rest.now judge.new }
+    ensures wrong { result ≡ Ok false → (c : Settings) (log : Log) → Stands c log judge.old
+        → (is_rule_wanted ≡ false) × IsValid c × (judge.new.controller.settings ≡ c) }
     ensures count { OnOk result (judge.new.reporter.count + judge.new.owed ≤ MOST_EVENTS) }
     ensures left { OnOk result (length lines.new.rest.now ≤ length lines.old.rest.now) }
 {
-    while pass_plain(judge, lines)? || pass_idle(judge, lines)? {}
-    Ok(())
+    while pass_plain(judge, lines)? {
+        if !pass_steps(judge, lines, is_rule_wanted)? {
+            return Ok(false);
+        }
+        pass_idle(judge, lines)?;
+    }
+    Ok(true)
 }
 
-/// Passes over the line of a step at which nothing waits, if that is what is due and the next line is just that. Told is
-/// whether a line was passed over.
-fn pass_idle<A: Allocator>(judge: &mut Judge<A>, lines: &mut Lines<'_>) -> Result<bool, OutOfMemory>
+/// Passes over the lines of the steps that are to be answered, as far as each says in the words of a report which command
+/// was served. Told is false where one isn't what that step answers: then nothing more is said. Where its rule is wanted none
+/// is passed over.
+fn pass_steps<A: Allocator>(
+    judge: &mut Judge<A>,
+    lines: &mut Lines<'_>,
+    is_rule_wanted: bool,
+) -> Result<bool, OutOfMemory>
+    requires { judge.old.reporter.count + judge.old.owed ≤ MOST_EVENTS }
+    ensures passed { result ≡ Ok true → (c : Settings) (log : Log) → Stands c log judge.old
+        → Passed c lines.old.number log lines.old.rest.now lines.new.number lines.new.rest.now judge.new }
+    ensures wrong { result ≡ Ok false → (c : Settings) (log : Log) → Stands c log judge.old
+        → (is_rule_wanted ≡ false) × IsValid c × (judge.new.controller.settings ≡ c) }
+    ensures count { OnOk result (judge.new.reporter.count + judge.new.owed ≤ MOST_EVENTS) }
+    ensures left { OnOk result (length lines.new.rest.now ≤ length lines.old.rest.now) }
+{
+    if is_rule_wanted {
+        return Ok(true);
+    }
+    while let Some(named) = served_next(judge, lines.rest) {
+        judge.step(named)?;
+        if !cut_due(judge, lines, 1) {
+            return Ok(false);
+        }
+    }
+    Ok(true)
+}
+
+/// The command that the line ahead says was served, if the next answer is that of a step.
+fn served_next<A: Allocator>(judge: &Judge<A>, bytes: &[u8]) -> Option<Named>
+    ensures due { IfSome result (λ _. due judge.now ≡ []) }
+    ensures owed { IfSome result (λ _. 0 < judge.now.owed) }
+    ensures named { IfSome result (λ named. IsNamedAhead bytes.now named) }
+{
+    if !judge.owes() {
+        return None;
+    }
+    named_ahead(bytes)
+}
+
+/// Passes over the lines of steps at which nothing waits, as far as they are the next lines.
+fn pass_idle<A: Allocator>(judge: &mut Judge<A>, lines: &mut Lines<'_>) -> Result<(), OutOfMemory>
     requires { judge.old.reporter.count + judge.old.owed ≤ MOST_EVENTS }
     ensures passed { OnOk result ((c : Settings) (log : Log) → Stands c log judge.old
         → Passed c lines.old.number log lines.old.rest.now lines.new.number lines.new.rest.now judge.new) }
     ensures count { OnOk result (judge.new.reporter.count + judge.new.owed ≤ MOST_EVENTS) }
     ensures left { OnOk result (length lines.new.rest.now ≤ length lines.old.rest.now) }
-    ensures shorter { result ≡ Ok true → length lines.new.rest.now < length lines.old.rest.now }
 {
-    if !judge.is_idle() || lines.number >= MOST_LINES {
-        return Ok(false);
+    while judge.is_idle() && lines.number < MOST_LINES {
+        let Some(rest) = behind_idle(lines.rest) else {
+            return Ok(());
+        };
+        *lines = Lines {
+            rest,
+            number: lines.number + 1,
+        };
+        judge.idle()?;
     }
-    let Some(rest) = behind_idle(lines.rest) else {
-        return Ok(false);
-    };
-    *lines = Lines {
-        rest,
-        number: lines.number + 1,
-    };
-    judge.idle()?;
-    Ok(true)
+    Ok(())
 }
 
 /// What stands behind the line of an idle step, if bytes begin with it.
@@ -152,27 +206,34 @@ fn pass_plain<A: Allocator>(
         return Ok(false);
     }
     let count = judge.ask_plain(found.plain)?;
-    pass_answers(judge, lines, count);
+    cut_due(judge, lines, count);
     Ok(true)
 }
 
-/// Passes over what is due, which is so many lines, if the next lines are just that.
-fn pass_answers<A: Allocator>(judge: &mut Judge<A>, lines: &mut Lines<'_>, count: u32)
+/// Cuts off what is due, which is so many lines, and tells it, if the next lines are just that. Told is whether they are.
+fn cut_due<A: Allocator>(judge: &mut Judge<A>, lines: &mut Lines<'_>, count: u32) -> bool
     requires { AreAnswers (due judge.old) count }
-    ensures passed { (c : Settings) (log : Log) → Stands c log judge.old
-        → Passed c lines.old.number log lines.old.rest.now lines.new.number lines.new.rest.now judge.new }
+    ensures cut { result ≡ true → lines.old.rest.now ≡ due judge.old ++ lines.new.rest.now }
+    ensures number { result ≡ true → lines.new.number ≡ lines.old.number + count }
+    ensures most { result ≡ true → lines.new.number ≤ MOST_LINES }
+    ensures told { result ≡ true → due judge.new ≡ [] }
+    ensures frame { judge.new ≡ record judge.old { told = judge.new.told } }
     ensures count { judge.new.reporter.count + judge.new.owed ≡ judge.old.reporter.count + judge.old.owed }
+    ensures rest { result ≡ false → lines.new.rest.now ≡ lines.old.rest.now }
+    ensures kept { result ≡ false → lines.new.number ≡ lines.old.number }
+    ensures untold { result ≡ false → judge.new ≡ judge.old }
     ensures left { length lines.new.rest.now ≤ length lines.old.rest.now }
 {
     let due = judge.due();
     if !lines.rest.starts_with(due) || lines.number + count > MOST_LINES {
-        return;
+        return false;
     }
     *lines = Lines {
         rest: &lines.rest[due.len()..],
         number: lines.number + count,
     };
     judge.tell_all();
+    true
 }
 
 /// Judges the line of this number: the rule that it breaks, if it breaks one, or any if that isn't wanted.

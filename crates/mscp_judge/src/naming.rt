@@ -1,15 +1,19 @@
 // The command that a line says was served, and the picker that starts it.
 
-ghost use Rattle.std.specs.Prelude.{◌≡◌, ◌<◌, ◌^◌};
+ghost use Rattle.std.specs.Prelude.{◌≡◌, ◌==◌, ◌<◌, ◌^◌, ◌++◌, codes, position, IfSome};
 ghost use Rattle.mscp_queue.specs.Names.{same_name};
 ghost use Rattle.mscp_queue.specs.Views.{choice_name};
 ghost use Rattle.mscp_reader.specs.Lexical as lexical;
 ghost use Rattle.mscp_judge.specs.Naming as naming;
 ghost use Rattle.mscp_judge.specs.Naming.{IsNamed};
+ghost use Rattle.mscp_judge.specs.Standing.{IsNamedAhead};
 
 use crate::answers::is;
 use mscp_control::{Choice, Connection, Picker, View};
 use mscp_reader::{Words, wide};
+
+/// More than the longest line of a step has.
+const FEW_BYTES: usize = 128;
 
 /// Picks the command of this name, if it may start.
 #[derive(Clone, Copy, Debug, Default, PartialEq, Eq)]
@@ -86,5 +90,41 @@ pub fn name_in(words: Words<'_>) -> Named
         Some(word) if is(word, "second") => served(Connection::Second, rest),
         Some(_) => served(Connection::First, words),
         None => nobody(),
+    }
+}
+
+/// What stands behind the word of a step, if bytes begin with it and a space.
+fn behind_serve(bytes: &[u8]) -> Option<&[u8]>
+    ensures { IfSome result (λ behind. bytes.now ≡ codes "serve " ++ behind.now) }
+{
+    match bytes {
+        [b's', b'e', b'r', b'v', b'e', b' ', behind @ ..] => Some(behind),
+        _ => None,
+    }
+}
+
+/// The index of the first space.
+fn space_in(bytes: &[u8]) -> Option<usize>
+    ensures { result ≡ position (λ b. b == 32) bytes.now }
+{
+    bytes.iter().position(|byte| *byte == b' ')
+}
+
+/// The name of the command that the line ahead says was served, where that is of the first connection and the line is
+/// written as a report has it. Where few bytes are left it isn't looked for: the last line may lack its line feed.
+pub fn named_ahead(bytes: &[u8]) -> Option<Named>
+    ensures { IfSome result (λ named. IsNamedAhead bytes.now named) }
+{
+    if bytes.len() < FEW_BYTES {
+        return None;
+    }
+    let behind = behind_serve(bytes)?;
+    let end = space_in(behind)?;
+    match wide(&behind[..end]) {
+        Ok(reference) => Some(Named {
+            connection: Connection::First,
+            reference,
+        }),
+        Err(_) => None,
     }
 }

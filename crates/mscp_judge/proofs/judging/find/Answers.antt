@@ -37,9 +37,20 @@ judged_fault c before all front bytes back log number judge faults.OutOfMemory w
 
 pub loop-bytes-init : goal.loop-bytes-init
 loop-bytes-init g c = record {
-  passed = λ d s. c.in_ok-pass_lines.ensures.passed d nothing s;
+  passed = λ d s. c.in_ok-pass_lines.ensures.passed (ap Ok c.if-not-branch.false) d nothing s;
   few = c.in_ok-pass_lines.ensures.count;
 }
+
+pub returns-then-not-branch : goal.returns-then-not-branch
+returns-then-not-branch g c = λ d s.
+    c.in_ok-pass_lines.ensures.wrong (ap Ok c.if-not-branch.true) d nothing s
+
+pub returns-then-not-branch-2 : goal.returns-then-not-branch-2
+returns-then-not-branch-2 g c = λ d s.
+    let i = c.loop-bytes.invariant.passed d s in
+    let k = c.in_ok-rule.ensures.hears d i.next i.stands in
+    let stands = subst (λ b. Tells d i.next k.0 c.judge_line.new.judge b) c.in_default-2.is k.2 in
+    c.in_ok-pass_lines-2.ensures.wrong (ap Ok c.if-not-branch-2.true) d k.0 stands
 
 pub returns-in_err-rule : goal.returns-in_err-rule
 returns-in_err-rule g c =
@@ -96,7 +107,7 @@ loop-bytes-preserved g c = record {
       let number = c.cut.new.self.number in
       let k = c.in_ok-rule.ensures.hears d i.next i.stands in
       let stands = subst (λ b. Tells d i.next k.0 c.judge_line.new.judge b) c.in_default-2.is k.2 in
-      let p = c.in_ok-pass_lines-2.ensures.passed d k.0 stands in
+      let p = c.in_ok-pass_lines-2.ensures.passed (ap Ok c.if-not-branch-2.false) d k.0 stands in
       let front = i.front ++ bytes ∷ [] in
       let here : number ≡ before + length front =
       omega (arith, i.count, c.in-Some.ensures.counted, length-append i.front (bytes ∷ [])) in

@@ -1,16 +1,29 @@
-use Rattle.std.proofs.Common.{refl, arith}
-use Rattle.mscp_judge.proofs.Passing.{passed_idle, passed_none}
+use Rattle.std.proofs.Common.{length, refl, ap, arith, length-append}
+use Rattle.std.specs.Prelude.{codes}
+use Rattle.mscp_judge.proofs.Passing.{passed_idle, passed_more, passed_none}
 use Rattle.mscp_judge.proofs.judging.pass_idle.Goals as goal
 
-pub returns-then-not-is_idle-clause-passed : goal.returns-then-not-is_idle-clause-passed
-returns-then-not-is_idle-clause-passed g c = λ d log s.
-    passed_none d log c.args.lines.now.number c.args.lines.now.rest.now _ _ c.args.judge.now refl refl s
+pub loop-rest-init : goal.loop-rest-init
+loop-rest-init g c = record {
+  passed = λ d log s.
+      passed_none d log c.args.lines.now.number c.args.lines.now.rest.now _ _ c.args.judge.now refl refl s;
+  few = c.requires;
+  left = omega arith;
+}
 
-pub returns-in_default-clause-passed : goal.returns-in_default-clause-passed
-returns-in_default-clause-passed g c = λ d log s.
-    passed_none d log c.args.lines.now.number c.args.lines.now.rest.now _ _ c.args.judge.now refl refl s
-
-pub returns-clause-passed : goal.returns-clause-passed
-returns-clause-passed g c = λ d log s.
-    passed_idle d log c.args.lines.now.number _ c.args.lines.now.rest.now _ c.idle.new.self c.in-Some.ensures refl
-    (omega (arith, c.if-lines-ge-MOST_LINES.false)) (c.in_ok-idle.ensures.told d log s)
+pub loop-rest-preserved : goal.loop-rest-preserved
+loop-rest-preserved g c = record {
+  passed = λ d log s.
+      let p = c.loop-rest.invariant.passed d log s in
+      passed_more d log c.args.lines.now.number _ _ c.args.lines.now.rest.now _ _ c.loop-rest.judge c.idle.new.self p
+      (passed_idle d p.next c.loop-rest.lines.number _ c.loop-rest.lines.rest.now _ c.idle.new.self
+      c.in-Some.ensures refl (omega (arith, c.if-lines-lt-MOST_LINES.true)) (c.in_ok-idle.ensures.told d p.next
+      p.stands));
+  few = omega (arith, c.loop-rest.invariant.few, c.in_ok-idle.ensures.count);
+  left = omega (
+    arith,
+    c.loop-rest.invariant.left,
+    ap length c.in-Some.ensures,
+    length-append (codes "idle\n") c.in-Some.rest.now,
+  );
+}

@@ -1,4 +1,4 @@
-use Rattle.std.proofs.Common.{refl, arith}
+use Rattle.std.proofs.Common.{refl, ap, arith, Ok}
 use Rattle.mscp_judge.proofs.Passing.{passed_more, passed_none}
 use Rattle.mscp_judge.proofs.judging.pass_lines.Goals as goal
 
@@ -10,15 +10,11 @@ loop-judge-init g c = record {
   left = omega arith;
 }
 
-pub loop-judge-preserved-then-branch : goal.loop-judge-preserved-then-branch
-loop-judge-preserved-then-branch g c = record {
-  passed = λ d log s.
-      let p = c.loop-judge.invariant.passed d log s in
-      passed_more d log c.args.lines.now.number _ _ c.args.lines.now.rest.now _ _ c.loop-judge.judge
-      c.pass_plain.new.judge p (c.in_ok-pass_plain.ensures.passed d p.next p.stands);
-  few = c.in_ok-pass_plain.ensures.count;
-  left = omega (arith, c.loop-judge.invariant.left, c.in_ok-pass_plain.ensures.left);
-}
+pub returns-then-not-branch-clause-wrong : goal.returns-then-not-branch-clause-wrong
+returns-then-not-branch-clause-wrong g c = λ is d log s.
+    let p = c.loop-judge.invariant.passed d log s in
+    let q = c.in_ok-pass_plain.ensures.passed d p.next p.stands in
+    c.in_ok-pass_steps.ensures.wrong (ap Ok c.if-not-branch.true) d q.next q.stands
 
 pub loop-judge-preserved : goal.loop-judge-preserved
 loop-judge-preserved g c = record {
@@ -26,21 +22,23 @@ loop-judge-preserved g c = record {
       let p = c.loop-judge.invariant.passed d log s in
       let q = passed_more d log c.args.lines.now.number _ _ c.args.lines.now.rest.now _ _ c.loop-judge.judge
       c.pass_plain.new.judge p (c.in_ok-pass_plain.ensures.passed d p.next p.stands) in
-      passed_more d log c.args.lines.now.number _ _ c.args.lines.now.rest.now _ _ c.pass_plain.new.judge
-      c.pass_idle.new.judge q (c.in_ok-pass_idle.ensures.passed d q.next q.stands);
+      let r = passed_more d log c.args.lines.now.number _ _ c.args.lines.now.rest.now _ _ c.pass_plain.new.judge
+      c.pass_steps.new.judge q
+      (c.in_ok-pass_steps.ensures.passed (ap Ok c.if-not-branch.false) d q.next q.stands) in
+      passed_more d log c.args.lines.now.number _ _ c.args.lines.now.rest.now _ _ c.pass_steps.new.judge
+      c.pass_idle.new.judge r (c.in_ok-pass_idle.ensures.passed d r.next r.stands);
   few = c.in_ok-pass_idle.ensures.count;
   left = omega (
     arith,
     c.loop-judge.invariant.left,
     c.in_ok-pass_plain.ensures.left,
+    c.in_ok-pass_steps.ensures.left,
     c.in_ok-pass_idle.ensures.left,
   );
 }
 
 pub returns-clause-passed : goal.returns-clause-passed
-returns-clause-passed g c = λ d log s.
+returns-clause-passed g c = λ is d log s.
     let p = c.loop-judge.invariant.passed d log s in
-    let q = passed_more d log c.args.lines.now.number _ _ c.args.lines.now.rest.now _ _ c.loop-judge.judge
-    c.pass_plain.new.judge p (c.in_ok-pass_plain.ensures.passed d p.next p.stands) in
-    passed_more d log c.args.lines.now.number _ _ c.args.lines.now.rest.now _ _ c.pass_plain.new.judge
-    c.pass_idle.new.judge q (c.in_ok-pass_idle.ensures.passed d q.next q.stands)
+    passed_more d log c.args.lines.now.number _ _ c.args.lines.now.rest.now _ _ c.loop-judge.judge
+    c.pass_plain.new.judge p (c.in_ok-pass_plain.ensures.passed d p.next p.stands)

@@ -1,7 +1,7 @@
 use Rattle.std.proofs.Common.{◌+◌, ◌≤◌, length, refl, arith, Ok}
 use Rattle.mscp_reader.specs.Plain.{plain_request}
 use Rattle.mscp_reader.specs.Requests.{events_of}
-use Rattle.mscp_judge.proofs.Passing.{passed_more, passed_none, passed_plain}
+use Rattle.mscp_judge.proofs.Passing.{passed_cut, passed_more, passed_none, passed_plain}
 use Rattle.mscp_judge.proofs.judging.pass_plain.Goals as goal
 
 pub returns-then-not-is_settled-clause-passed : goal.returns-then-not-is_settled-clause-passed
@@ -30,5 +30,10 @@ returns-clause-passed g c = λ d log s.
         before mid.number
     rest mid.rest.now found.line.words.rest.now refl c.in_ok-count.ensures.stands
     c.in-Some.ensures.next c.in-Some.ensures.line c.in-Some.ensures.said found.agrees few d log s in
-    passed_more d log before mid.number _ rest mid.rest.now _ c.ask_plain.new.self c.pass_answers.new.judge first
-    (c.pass_answers.ensures.passed d first.next first.stands)
+    let new = c.cut_due.new in
+    let cut = c.cut_due.ensures in
+    passed_more d log before mid.number new.lines.number rest mid.rest.now new.lines.rest.now c.ask_plain.new.self
+    new.judge first
+    (passed_cut d first.next mid.number new.lines.number c.in_ok-count.count mid.rest.now new.lines.rest.now
+    c.ask_plain.new.self new.judge c.cut_due.result c.in_ok-count.ensures.answers cut.cut cut.number cut.most cut.told
+    cut.frame cut.rest cut.kept cut.untold first.stands)

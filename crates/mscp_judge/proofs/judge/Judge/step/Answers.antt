@@ -5,6 +5,7 @@ use Rattle.mscp_judge.proofs.Coming.{came_on, stepped_short}
 use Rattle.mscp_control.specs.Holdings.{Holdings, Steps}
 use Rattle.mscp_judge.specs.declared.naming.Named.{Named}
 use Rattle.mscp_judge.specs.Naming.{IsNamed}
+use Rattle.mscp_judge.proofs.Telling.{stepped_answers}
 use Rattle.mscp_judge.proofs.judge.Judge.step.Goals as goal
 
 pub returns-clause-came : goal.returns-clause-came
@@ -21,4 +22,9 @@ returns-clause-came g c =
 pub returns-clause-short : goal.returns-clause-short
 returns-clause-short g c =
     stepped_short c.stepped.result c.args.self.now.reporter c.forget_lines.new.self c.stepped.new.self
+    c.step-report.result c.stepped.ensures.value c.stepped.ensures.short c.forget_lines.ensures
+
+pub returns-clause-answers : goal.returns-clause-answers
+returns-clause-answers g c =
+    stepped_answers c.stepped.result c.args.self.now.reporter c.forget_lines.new.self c.stepped.new.self
     c.step-report.result c.stepped.ensures.value c.stepped.ensures.short c.forget_lines.ensures

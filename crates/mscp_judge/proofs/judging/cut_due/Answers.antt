@@ -1,0 +1,41 @@
+use Rattle.std.proofs.Common.{◌++◌, ◌-◌, refl, drop, length, ap, sym, ◌∙◌, arith, length-drop}
+use Rattle.std.proofs.lemmas.Bool.Decides.{Decides-eqb}
+use Rattle.std.proofs.lemmas.List.{take_all}
+use Rattle.std.proofs.lemmas.Slice.Eq.{starts_is}
+use Rattle.mscp_judge.specs.Standing.{due}
+use Rattle.mscp_judge.proofs.Passing.{answers_bytes}
+use Rattle.mscp_judge.proofs.judging.cut_due.Goals as goal
+
+pub overflow_add-lines : goal.overflow_add-lines
+overflow_add-lines g c =
+    let few = answers_bytes (due c.args.judge.now) c.args.count c.requires in
+    omega (
+      arith,
+      few,
+      ap length c.due-due.ensures,
+      c.if-not-starts_with.ensures.bound refl,
+      c.args.lines.now.countable,
+    )
+
+pub invariant_of-lines : goal.invariant_of-lines
+invariant_of-lines g c =
+    let few = answers_bytes (due c.args.judge.now) c.args.count c.requires in
+    record {
+      countable = omega (
+        arith,
+        few,
+        ap length c.due-due.ensures,
+        c.if-not-starts_with.ensures.bound refl,
+        c.args.lines.now.countable,
+      );
+    }
+
+pub returns-clause-cut : goal.returns-clause-cut
+returns-clause-cut g c = λ is.
+    let told = c.due-due.result.now in
+    let rest = c.args.lines.now.rest.now in
+    let left = drop (length told) rest in
+    let whole = take_all (length rest - length told) left (omega (arith, length-drop (length told) rest)) in
+    let begins = (starts_is Decides-eqb rest told c.starts_with.result c.starts_with.ensures.value).0
+    c.if-not-starts_with.false in
+    begins ∙ (λ i. c.due-due.ensures i ++ sym whole i)
