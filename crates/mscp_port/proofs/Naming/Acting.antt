@@ -216,8 +216,8 @@ after_step ws bs old new word k given handles t =
     by_stage old.stage refl
 
 pub done_or_not : {K : Type 0} (ws : List ℕ) (bs : List (List ℕ)) (old new : Port K) (outcome : Outcome)
-    (done : Unit {0}) → Knows ws bs old → Goes outcome old (Ok done) new → (o : Option ℕ) → step_answered old.task old.written ≡ o
-    → Knows ws bs new
+    (done : Unit {0}) → Knows ws bs old → Goes outcome old (Ok done) new → (o : Option ℕ)
+    → step_answered old.task old.written ≡ o → Knows ws bs new
 done_or_not ws bs old new outcome done k r None e = no_step ws bs old new outcome (Ok done) k r e
 done_or_not ws bs old new outcome done k r (Some word) e =
     let written : old.written ≡ Some word = word_given old.task old.written word e in

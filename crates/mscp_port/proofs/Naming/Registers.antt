@@ -53,7 +53,8 @@ probed ws bs old new k r e =
     let cleared : old.rings ≢ None → Knows ws bs new = λ some.
     let is : new ≡ record old { stage = stages.Clearing; task = tasks.Clear 0 } = r.probed e some in
     subst (Knows ws bs) (sym is)
-    (still_knows ws bs bs old (record old { stage = stages.Clearing; task = tasks.Clear 0 }) k (record { taken = inr refl; given = refl; area = refl }) (record { packet = tt; buffer = k.buffer })) in
+    (still_knows ws bs bs old (record old { stage = stages.Clearing; task = tasks.Clear 0 }) k
+    (record { taken = inr refl; given = refl; area = refl }) (record { packet = tt; buffer = k.buffer })) in
     let both : (o : Option Rings) → Case o = λ o. elim o as Case [
       | None ↦ λ none. new_knows ws bs (stages.Dead 7) old new (λ w. refl) (r.nowhere e none)
       | Some area ↦ λ some. cleared (λ none. none-some area (sym none ∙ some))
