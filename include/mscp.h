@@ -1,13 +1,13 @@
-/* mscp.h: the command queue of an MSCP disk controller, and a host's end of it, proved. C99 and C++.
+/* mscp.h: the command queue of an MSCP disk controller, a host's end of it, and a port over it, proved. C99 and C++.
  *
  * A controller lies in memory of yours. No call takes memory, waits, or keeps a pointer. What each answers is proved:
  * docs/PROVED.md, in the sources of the library, says how, and what the proof asks of you:
  *
  * - No pointer that you pass is NULL, save that of a list or of bytes with a length of 0. Each points to as much as its
  *   type or the length beside it says. Those of one call don't overlap.
- * - A handle is made by mscp_in_memory or mscp_over (of a host by mscp_host_in_memory or mscp_host_over), over memory
- *   that is really there and really yours. After that only the calls write the handle and its memory. Two handles are
- *   never over one memory, and no copy of a handle is used beside it.
+ * - A handle is made by mscp_in_memory or mscp_over (of a host by mscp_host_in_memory or mscp_host_over, of a port by
+ *   mscp_port_in_memory or mscp_port_over), over memory that is really there and really yours. After that only the calls
+ *   write the handle and its memory. Two handles are never over one memory, and no copy of a handle is used beside it.
  * - Memory that moves, as by realloc or to a file and back, moves whole, and mscp_moved says so before the next call.
  *   Only a library of the same version knows what lies in it.
  * - One call at a time on a handle.
@@ -99,6 +99,12 @@ enum mscp_status {
 
     MSCP_BAD_CONNECTION = -32, /* no enum mscp_connection */
 
+    MSCP_BAD_BUS = -33,          /* mscp_port_init: no enum mscp_bus */
+    MSCP_BAD_HOST_CREDITS = -34, /* mscp_port_init: the host's are 0, or not below those of the first connection */
+    MSCP_BAD_OUTCOME = -35,      /* mscp_port_went: no enum mscp_outcome, or a block's status of low five bits 0 to 4 */
+    MSCP_UNASKED = -36,          /* the port didn't want what was told */
+    MSCP_UNKNOWN_UNIT = -37,     /* no unit has this number */
+
     MSCP_SAVED_LENGTH = -40,  /* a restore: the bytes aren't as many as they say */
     MSCP_SAVED_MAGIC = -41,   /* they don't begin with "MSCQ", or "MSCH" for a host */
     MSCP_SAVED_VERSION = -42, /* they are of a version of the format that isn't known */
@@ -170,6 +176,44 @@ struct mscp_limits {
     uint16_t timeout; /* in seconds, which the host is told: 1 to 255 */
 };
 
+/* The bus of a port's host. */
+enum mscp_bus {
+    MSCP_BUS_Q = 0,  /* the Q-bus, with addresses of 22 bits */
+    MSCP_BUS_UNI = 1 /* the Unibus, with addresses of 18 bits: drop all other bits of what a port names */
+};
+
+/* What a port tells of itself. */
+struct mscp_hardware {
+    uint8_t bus;      /* an enum mscp_bus */
+    uint8_t model;    /* its low seven bits are told: 19 is an RQDX3, 6 a UDA50 */
+    uint8_t software; /* the version of its software, of which the low four bits are told */
+    uint8_t version;  /* that of its hardware */
+};
+
+/* What a port wants done. Its `address` and `count` are of host memory: so many bytes from there on. The block's buffer
+ * is yours, and has MSCP_BLOCK bytes. */
+enum mscp_action_kind {
+    MSCP_ACTION_PAUSE = 1,     /* nothing, but the host is to go on a little, some hundred instructions: mscp_port_went */
+    MSCP_ACTION_READ = 2,      /* hand those bytes to mscp_port_was_read */
+    MSCP_ACTION_WRITE = 3,     /* write `bytes` there */
+    MSCP_ACTION_INTERRUPT = 4, /* interrupt the host by `vector` */
+    MSCP_ACTION_FETCH = 5,     /* read those bytes into the block's buffer, and fill it up with zeros */
+    MSCP_ACTION_TRANSFER = 6,  /* what `opcode` says with the block's buffer and `block` of `unit`: MSCP_READ, MSCP_WRITE,
+                                * MSCP_ERASE (zeros into the block), MSCP_ACCESS (read it and drop it), or
+                                * MSCP_COMPARE_HOST_DATA (the first `count` bytes of both) */
+    MSCP_ACTION_STORE = 7      /* write the first `count` bytes of the buffer there */
+};
+
+/* How an action went. */
+enum mscp_outcome {
+    MSCP_OUTCOME_DONE = 0,
+    MSCP_OUTCOME_MISSING = 1,   /* not all of that memory is there */
+    MSCP_OUTCOME_PARITY = 2,    /* it has a parity error */
+    MSCP_OUTCOME_UNMAPPED = 3,  /* the bus maps no memory there */
+    MSCP_OUTCOME_DIFFERENT = 4, /* the bytes that were compared differ */
+    MSCP_OUTCOME_FAILED = 5     /* the block couldn't be moved: its command ends with the status that is told beside it */
+};
+
 /* A handle on memory of yours: where it is, and what is in it. Nothing in it is for you, save where the memory moves:
  * see mscp_moved. */
 struct mscp {
@@ -179,6 +223,12 @@ struct mscp {
     uint64_t mark;
 };
 struct mscp_host {
+    void *at;
+    uintptr_t address;
+    size_t length;
+    uint64_t mark;
+};
+struct mscp_port {
     void *at;
     uintptr_t address;
     size_t length;
@@ -252,18 +302,33 @@ struct mscp_news {
     uint8_t code;       /* its endcode */
 };
 
+/* What a port wants done. What its kind doesn't say is 0. */
+struct mscp_action {
+    uint32_t address;  /* in host memory, on the bus */
+    uint32_t count;    /* how many bytes: at most 64 of READ and WRITE, and MSCP_BLOCK of the others */
+    uint32_t block;    /* of TRANSFER */
+    uint16_t unit;
+    uint16_t vector;   /* of INTERRUPT */
+    uint8_t kind;      /* an enum mscp_action_kind */
+    uint8_t opcode;    /* of TRANSFER, an enum mscp_opcode */
+    uint8_t bytes[64]; /* of WRITE `count`, and those behind them are what they were */
+};
+
 /* ---- memory */
 
-/* How many bytes a controller or a host takes, and what its address is a multiple of. malloc aligns so. */
+/* How many bytes a controller, a host or a port takes, and what its address is a multiple of. malloc aligns so. */
 size_t mscp_size(void);
 size_t mscp_align(void);
 size_t mscp_host_size(void);
 size_t mscp_host_align(void);
+size_t mscp_port_size(void);
+size_t mscp_port_align(void);
 
 /* At least those sizes, for memory that is there from the start, as
  * static uint64_t memory[(MSCP_HEAD + MSCP_SIZE) / sizeof(uint64_t)]; */
 #define MSCP_SIZE 14224u
 #define MSCP_HOST_SIZE 1056u
+#define MSCP_PORT_SIZE 15992u
 
 /* The bytes of a handle, at the head of the memory. */
 #define MSCP_HEAD sizeof(struct mscp)
@@ -271,8 +336,9 @@ size_t mscp_host_align(void);
 /* Marks of handles on memory where nothing was made yet. */
 #define MSCP_ROOM UINT64_C(0x4D534350524F4F4D)
 #define MSCP_HOST_ROOM UINT64_C(0x484F5354524F4F4D)
+#define MSCP_PORT_ROOM UINT64_C(0x504F5254524F4F4D)
 
-/* A handle on memory that is yours, for mscp_init. The handle lies where you put it. */
+/* A handle on memory that is yours, for an init. The handle lies where you put it. */
 MSCP_INLINE struct mscp mscp_over(void *memory, size_t length)
 {
     struct mscp handle = {memory, (uintptr_t)memory, length, MSCP_ROOM};
@@ -281,6 +347,11 @@ MSCP_INLINE struct mscp mscp_over(void *memory, size_t length)
 MSCP_INLINE struct mscp_host mscp_host_over(void *memory, size_t length)
 {
     struct mscp_host handle = {memory, (uintptr_t)memory, length, MSCP_HOST_ROOM};
+    return handle;
+}
+MSCP_INLINE struct mscp_port mscp_port_over(void *memory, size_t length)
+{
+    struct mscp_port handle = {memory, (uintptr_t)memory, length, MSCP_PORT_ROOM};
     return handle;
 }
 
@@ -316,10 +387,24 @@ MSCP_INLINE struct mscp_host *mscp_host_in_memory(void *memory, size_t length)
     *(struct mscp_host *)memory = mscp_host_over((char *)memory + MSCP_HEAD, length - MSCP_HEAD);
     return (struct mscp_host *)memory;
 }
+MSCP_INLINE struct mscp_port *mscp_port_in_memory(void *memory, size_t length)
+{
+    static struct mscp_port null = {NULL, 0, 0, MSCP_PORT_ROOM};
+    static struct mscp_port misaligned = {NULL, 1, 0, MSCP_PORT_ROOM};
+    static struct mscp_port small = {NULL, 4096, 0, MSCP_PORT_ROOM};
+    if (memory == NULL)
+        return &null;
+    if ((uintptr_t)memory % sizeof(uint64_t) != 0)
+        return &misaligned;
+    if (length < MSCP_HEAD)
+        return &small;
+    *(struct mscp_port *)memory = mscp_port_over((char *)memory + MSCP_HEAD, length - MSCP_HEAD);
+    return (struct mscp_port *)memory;
+}
 
 /* The memory with the handle at its head lies here now: whoever moved it calls this before any other call. Its
- * alignment is the same. A controller and a host have no pointer into themselves, and the drive's work goes on:
- * mscp_begin tells it again. Of a handle of mscp_over the first two fields say where its memory is: set them, and no
+ * alignment is the same. A controller, a host and a port have no pointer into themselves, and the drive's work goes on:
+ * mscp_begin or mscp_port_next tells it again. Of a handle of mscp_over the first two fields say where its memory is: set them, and no
  * other. */
 MSCP_INLINE struct mscp *mscp_moved(void *memory)
 {
@@ -335,8 +420,15 @@ MSCP_INLINE struct mscp_host *mscp_host_moved(void *memory)
     handle->address = (uintptr_t)handle->at;
     return handle;
 }
+MSCP_INLINE struct mscp_port *mscp_port_moved(void *memory)
+{
+    struct mscp_port *handle = (struct mscp_port *)memory;
+    handle->at = (char *)memory + MSCP_HEAD;
+    handle->address = (uintptr_t)handle->at;
+    return handle;
+}
 
-/* The library's own form of ten calls: their pointer to a list or to bytes is never NULL. In C call those without
+/* The library's own form of twelve calls: their pointer to a list or to bytes is never NULL. In C call those without
  * _at. */
 int32_t mscp_init_at(struct mscp *mscp, const struct mscp_limits *limits, const struct mscp_unit *units, size_t count,
                      uint32_t picker);
@@ -351,6 +443,9 @@ int32_t mscp_host_submit_at(struct mscp_host *host, const uint8_t *message, size
 int32_t mscp_host_receive_at(struct mscp_host *host, const uint8_t *bytes, size_t length, struct mscp_news *news);
 int32_t mscp_host_save_at(const struct mscp_host *host, uint8_t *bytes, size_t room, size_t *length);
 int32_t mscp_host_restore_at(struct mscp_host *host, const uint8_t *bytes, size_t length);
+int32_t mscp_port_init_at(struct mscp_port *port, const struct mscp_limits *limits, const struct mscp_unit *units,
+                          size_t count, uint32_t picker, const struct mscp_hardware *hardware, uint32_t credits);
+int32_t mscp_port_was_read_at(struct mscp_port *port, const uint8_t *bytes, size_t length);
 
 /* ---- the controller. Each call but mscp_init and mscp_restore answers MSCP_NOT_MADE where there is none. Then each of
  * a connection answers MSCP_BAD_CONNECTION where its number is no enum mscp_connection, and nothing changes. A second
@@ -359,7 +454,7 @@ int32_t mscp_host_restore_at(struct mscp_host *host, const uint8_t *bytes, size_
 /* Makes a controller in the handle's memory: of these limits, of so many units in rising order of their numbers, served
  * by a picker of enum mscp_picker. MSCP_DONE, or the first fault in this order: those of the memory (-11 to -15),
  * MSCP_BAD_PICKER, MSCP_MANY_UNITS, those of the first unit that has one (-21 to -24), MSCP_UNITS_FALL, MSCP_NO_UNITS,
- * those of the limits (-28 to -31). The controller is made on the stack, of which this takes up to 30 KiB, and is moved
+ * those of the limits (-28 to -31). The controller is made on the stack, of which this takes up to 40 KiB, and is moved
  * into the memory. No other call takes over 2 KiB of the stack, but for those that save and restore. The memory may go
  * at any time, without a call. */
 MSCP_MUST_USE
@@ -517,6 +612,66 @@ MSCP_INLINE int32_t mscp_host_restore(struct mscp_host *host, const uint8_t *byt
     return mscp_host_restore_at(host, length == 0 ? &none : bytes, length);
 }
 
+/* ---- a port over a controller of its own. Each call but mscp_port_init answers MSCP_NOT_MADE where there is none.
+ * docs/PORT.md says how an emulator takes it in. */
+
+/* Makes a port in the handle's memory, over a controller as mscp_init makes one. Its host may have so many commands
+ * outstanding: 1 to one fewer than the first connection has credits. Its units have no volumes yet. MSCP_DONE, or the
+ * first fault of those of mscp_init (-11 to -15 and -20 to -31), MSCP_BAD_BUS and MSCP_BAD_HOST_CREDITS. This takes up
+ * to 48 KiB of the stack, and no other call of a port over 2. */
+MSCP_MUST_USE
+MSCP_INLINE int32_t mscp_port_init(struct mscp_port *port, const struct mscp_limits *limits,
+                                   const struct mscp_unit *units, size_t count, uint32_t picker,
+                                   const struct mscp_hardware *hardware, uint32_t credits)
+{
+    const struct mscp_unit none = {0, 0, 0, 0, 0, 0, 0, 0};
+    return mscp_port_init_at(port, limits, count == 0 ? &none : units, count, picker, hardware, credits);
+}
+
+/* The host reads IP, the first register, which shows 0. MSCP_DONE. */
+int32_t mscp_port_read_ip(struct mscp_port *port);
+
+/* The host writes IP, whatever it writes there, or its bus is reset: the port forgets all that its host has said, and is
+ * in the first step of its initialisation. Volumes stay. What is in work is forgotten, too. MSCP_DONE. */
+int32_t mscp_port_write_ip(struct mscp_port *port);
+
+/* What SA shows, the second register: 0 to 65535. */
+int32_t mscp_port_read_sa(const struct mscp_port *port);
+
+/* The host writes this word to SA. MSCP_DONE. */
+int32_t mscp_port_write_sa(struct mscp_port *port, uint16_t word);
+
+/* What the port wants done next. MSCP_DONE, or MSCP_NOTHING until a register is touched, a volume comes or goes, the
+ * clock ticks, or it is to look again. Until it is told how it went it answers the same, unless a register is touched. */
+MSCP_MUST_USE int32_t mscp_port_next(struct mscp_port *port, struct mscp_action *action);
+
+/* These bytes were read in host memory, as it wanted: just as many. MSCP_DONE, or MSCP_UNASKED. */
+MSCP_MUST_USE
+MSCP_INLINE int32_t mscp_port_was_read(struct mscp_port *port, const uint8_t *bytes, size_t length)
+{
+    const uint8_t none = 0;
+    return mscp_port_was_read_at(port, length == 0 ? &none : bytes, length);
+}
+
+/* What it wanted went so, by an enum mscp_outcome. The status counts for MSCP_OUTCOME_FAILED alone: low five bits of 5
+ * to 31. A read that was done is told by mscp_port_was_read. MSCP_DONE, or the first that holds of MSCP_BAD_OUTCOME and
+ * MSCP_UNASKED. */
+MSCP_MUST_USE int32_t mscp_port_went(struct mscp_port *port, uint32_t outcome, uint16_t status);
+
+/* Where the machine has time for the disk: the port looks again whether its host has given slots for ends back, of which
+ * nothing tells. MSCP_DONE. */
+int32_t mscp_port_look_again(struct mscp_port *port);
+
+/* A second went by. It looks again, too, and a host that was silent for too long is taken for dead. MSCP_DONE. */
+int32_t mscp_port_tick(struct mscp_port *port);
+
+/* A volume came into a unit, in place of one that was there. With 0 it may be written on. MSCP_DONE, or
+ * MSCP_UNKNOWN_UNIT. */
+MSCP_MUST_USE int32_t mscp_port_volume_came(struct mscp_port *port, uint16_t unit, uint32_t is_protected);
+
+/* The volume of a unit went. MSCP_DONE, or MSCP_UNKNOWN_UNIT. */
+MSCP_MUST_USE int32_t mscp_port_volume_went(struct mscp_port *port, uint16_t unit);
+
 /* ---- statuses as texts */
 
 /* What a status says, for people. */
@@ -562,6 +717,11 @@ MSCP_INLINE const char *mscp_status_text(int64_t status)
     case MSCP_BAD_TIMEOUT: return "a timeout that isn't 1 to 255 seconds";
     case MSCP_BAD_BOUND: return "a bound of figures that doesn't fit 32 bits";
     case MSCP_BAD_CONNECTION: return "no connection of this number";
+    case MSCP_BAD_BUS: return "no bus of this number";
+    case MSCP_BAD_HOST_CREDITS: return "a port's host without credits, or with as many as the first connection";
+    case MSCP_BAD_OUTCOME: return "no outcome of an action";
+    case MSCP_UNASKED: return "the port didn't want what was told";
+    case MSCP_UNKNOWN_UNIT: return "no unit of this number";
     case MSCP_SAVED_LENGTH: return "saved bytes that aren't as many as they say";
     case MSCP_SAVED_MAGIC: return "bytes that don't begin as saved ones";
     case MSCP_SAVED_VERSION: return "saved bytes of an unknown version";

@@ -7,7 +7,7 @@
 
 BEGIN {
     split("SentOut sent PacketOut packet UpcomingOut upcoming ReportOut report FigureOut waiting HolderOut holder " \
-        "NewsOut news Limits limits UnitIn unit", words, " ")
+        "NewsOut news Limits limits UnitIn unit HardwareIn hardware ActionOut action", words, " ")
     for (i = 1; i in words; i += 2)
         name_of[words[i]] = "mscp_" words[i + 1]
     split("u8 uint8_t u16 uint16_t u32 uint32_t u64 uint64_t usize size_t i32 int32_t i64 int64_t", words, " ")
@@ -22,10 +22,15 @@ BEGIN {
     print "#define IS(what, type) _Static_assert(_Generic(what, type: 1, default: 0), #what)"
 }
 
+# What a file is about: a host, a port, or a controller.
+function kind_of_file() {
+    return FILENAME ~ /\/host/ ? "_host" : FILENAME ~ /\/port/ ? "_port" : ""
+}
+
 # The struct of C for one of the sources, by the file for a handle.
 function struct_of(name) {
     if (name == "Handle")
-        return FILENAME ~ /host/ ? "struct mscp_host" : "struct mscp"
+        return "struct mscp" kind_of_file()
     return "struct " name_of[name]
 }
 
@@ -143,6 +148,21 @@ in_call { call = call $0 " " }
     gsub(/Some\(Connection::|\),/, "", connection)
     enumerator_is("connection", "CONNECTION_" toupper(connection), $1)
 }
+/^ +[0-9]+ => Some\(Bus::[A-Za-z]+\),$/ {
+    bus = $3
+    gsub(/Some\(Bus::|\),/, "", bus)
+    enumerator_is("bus", "BUS_" toupper(bus), $1)
+}
+/^ +[0-9]+ => (Some\(Outcome::[A-Za-z]+\)|failed\(status\)),$/ {
+    outcome = $3
+    gsub(/Some\(Outcome::|\(status\)|\)|,/, "", outcome)
+    enumerator_is("outcome", "OUTCOME_" toupper(outcome), $1)
+}
+/^const [A-Z]+: u8 = [0-9]+;$/ && FILENAME ~ /port_telling/ {
+    sub(/:/, "", $2)
+    sub(/;/, "", $5)
+    enumerator_is("action_kind", "ACTION_" $2, $5)
+}
 /^ +Opcode::.* => Line::new\([0-9]+,/ {
     byte = $3
     gsub(/[^0-9]/, "", byte)
@@ -152,7 +172,7 @@ in_call { call = call $0 " " }
 }
 /^pub const ROOM: u64 = 0x[0-9A-F_]+;$/ {
     gsub(/[_;]/, "", $6)
-    number_is(FILENAME ~ /host/ ? "HOST_ROOM" : "ROOM", "UINT64_C(" $6 ")")
+    number_is(toupper(substr(kind_of_file(), 2)) (kind_of_file() == "" ? "" : "_") "ROOM", "UINT64_C(" $6 ")")
     marks++
 }
 
@@ -160,8 +180,9 @@ END {
     for (enum in cases)
         print "int is_" enum "(enum mscp_" enum " it)\n{\n    switch (it) {\n   " cases[enum] \
             "\n        return 1;\n    }\n    return 0;\n}"
-    if (structs != 11 || calls < 24 || marks != 2 || length(cases["picker"]) == 0 || length(cases["opcode"]) == 0 ||
-        length(cases["connection"]) == 0) {
+    if (structs != 14 || calls < 38 || marks != 3 || length(cases["picker"]) == 0 || length(cases["opcode"]) == 0 ||
+        length(cases["connection"]) == 0 || length(cases["bus"]) == 0 || length(cases["outcome"]) == 0 ||
+        length(cases["action_kind"]) == 0) {
         print "mirror.awk: " structs " structs, " calls " calls, " marks " marks" >"/dev/stderr"
         exit 1
     }

@@ -7,6 +7,8 @@
 #define mscp_why_at why_seen
 #define mscp_host_submit_at submit_seen
 #define mscp_host_receive_at receive_seen
+#define mscp_port_init_at port_init_seen
+#define mscp_port_was_read_at was_read_seen
 #include "trying.h"
 
 static const void *seen;
@@ -50,6 +52,17 @@ int32_t receive_seen(struct mscp_host *host, const uint8_t *bytes, size_t length
     return host != NULL && news != NULL ? see(bytes, length) : 0;
 }
 
+int32_t port_init_seen(struct mscp_port *port, const struct mscp_limits *limits, const struct mscp_unit *units,
+                       size_t count, uint32_t picker, const struct mscp_hardware *hardware, uint32_t credits)
+{
+    return port != NULL && limits != NULL && picker == 3 && hardware != NULL && credits == 4 ? see(units, count) : 0;
+}
+
+int32_t was_read_seen(struct mscp_port *port, const uint8_t *bytes, size_t length)
+{
+    return port != NULL ? see(bytes, length) : 0;
+}
+
 static void passes(const char *what, int32_t answer, const void *pointer, size_t length)
 {
     is(what, answer, 77);
@@ -61,6 +74,8 @@ int main(void)
 {
     static struct mscp mscp;
     static struct mscp_host host;
+    static struct mscp_port port;
+    static struct mscp_hardware hardware;
     static struct mscp_limits limits;
     static struct mscp_unit units[2];
     static struct mscp_waiting list[2];
@@ -74,11 +89,15 @@ int main(void)
     passes("why", mscp_why(&mscp, 7, 9, holders, 2), holders, 2);
     passes("submit", mscp_host_submit(&host, bytes, 2), bytes, 2);
     passes("receive", mscp_host_receive(&host, bytes, 2, &news), bytes, 2);
+    passes("init of a port", mscp_port_init(&port, &limits, units, 2, 3, &hardware, 4), units, 2);
+    passes("was read", mscp_port_was_read(&port, bytes, 2), bytes, 2);
     passes("init of none", mscp_init(&mscp, &limits, NULL, 0, 3), NULL, 0);
     passes("send of none", mscp_send(&mscp, 7, NULL, 0, &sent), NULL, 0);
     passes("look at none", mscp_look(&mscp, NULL, 0), NULL, 0);
     passes("why of none", mscp_why(&mscp, 7, 9, NULL, 0), NULL, 0);
     passes("submit of none", mscp_host_submit(&host, NULL, 0), NULL, 0);
     passes("receive of none", mscp_host_receive(&host, NULL, 0, &news), NULL, 0);
+    passes("init of a port of none", mscp_port_init(&port, &limits, NULL, 0, 3, &hardware, 4), NULL, 0);
+    passes("none was read", mscp_port_was_read(&port, NULL, 0), NULL, 0);
     return wrong;
 }

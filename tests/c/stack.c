@@ -8,20 +8,26 @@
 
 enum {
     NOTHING, SEND, BEGIN, FINISH, STEP, TAKE, LOOK, FIGURE, BALANCE, WAITING, UNTAKEN, IS_ONLINE, RESET, SUBMIT, POLL,
-    RECEIVE, HOST_BALANCE, SAVE, HOST_SAVE, INIT, HOST_INIT, RESTORE, HOST_RESTORE, CALLS
+    RECEIVE, HOST_BALANCE, SAVE, HOST_SAVE, INIT, HOST_INIT, RESTORE, HOST_RESTORE, PORT_INIT, READ_IP, WRITE_IP, READ_SA,
+    WRITE_SA, NEXT, WAS_READ, WENT, LOOK_AGAIN, TICK, VOLUME_CAME, VOLUME_WENT, CALLS
 };
 static const char *const NAMES[CALLS] = {
     "nothing", "send", "begin", "finish", "step", "take", "look", "figure", "balance", "waiting", "untaken",
     "is_online", "reset", "host_submit", "host_poll", "host_receive", "host_balance", "save", "host_save", "init", "host_init",
-    "restore", "host_restore",
+    "restore", "host_restore", "port_init", "port_read_ip", "port_write_ip", "port_read_sa", "port_write_sa", "port_next",
+    "port_was_read", "port_went", "port_look_again", "port_tick", "port_volume_came", "port_volume_went",
 };
 
 /* Aligned for anything. */
-static union { long double number; void *pointer; unsigned char bytes[1 << 15]; } room, host_room, fresh, fresh_host;
+static union { long double number; void *pointer; unsigned char bytes[1 << 15]; } room, host_room, port_room, fresh, fresh_host, fresh_port;
 static unsigned char stack[1 << 18];
 static ucontext_t home, there;
 static struct mscp *mscp;
 static struct mscp_host *host;
+static struct mscp_port *port;
+static struct mscp_action action; /* that the port wants */
+static uint8_t memory[1 << 15];   /* of its host */
+static const struct mscp_hardware HARDWARE = {MSCP_BUS_Q, 19, 3, 1};
 static const struct mscp_limits LIMITS = {1, 16, 64, 0, 8, 60};
 static struct mscp_unit units[16];
 static volatile int64_t answered; /* by the last call */
@@ -62,6 +68,21 @@ static void run(int call)
         answered = mscp_host_restore(mscp_host_in_memory(&fresh_host, sizeof fresh_host), host_bytes, host_saved);
         break;
     case INIT: answered = mscp_init(mscp_in_memory(&fresh, sizeof fresh), &LIMITS, units, 16, MSCP_SWEEP); break;
+    case PORT_INIT:
+        answered = mscp_port_init(mscp_port_in_memory(&fresh_port, sizeof fresh_port), &LIMITS, units, 16, MSCP_SWEEP,
+                                  &HARDWARE, 63);
+        break;
+    case READ_IP: answered = mscp_port_read_ip(port); break;
+    case WRITE_IP: answered = mscp_port_write_ip(port); break;
+    case READ_SA: answered = mscp_port_read_sa(port); break;
+    case WRITE_SA: answered = mscp_port_write_sa(port, 0); break;
+    case NEXT: answered = mscp_port_next(port, &action); break;
+    case WAS_READ: answered = mscp_port_was_read(port, memory + action.address, action.count); break;
+    case WENT: answered = mscp_port_went(port, MSCP_OUTCOME_DONE, 0); break;
+    case LOOK_AGAIN: answered = mscp_port_look_again(port); break;
+    case TICK: answered = mscp_port_tick(port); break;
+    case VOLUME_CAME: answered = mscp_port_volume_came(port, 15, 0); break;
+    case VOLUME_WENT: answered = mscp_port_volume_went(port, 15); break;
     case HOST_INIT: answered = mscp_host_init(mscp_host_in_memory(&fresh_host, sizeof fresh_host), 64); break;
     }
 }
@@ -104,6 +125,8 @@ static void prepare(void)
     host = mscp_host_in_memory(&host_room, sizeof host_room);
     must(mscp_init(mscp, &LIMITS, units, 16, MSCP_SWEEP), MSCP_DONE);
     must(mscp_host_init(host, 64), MSCP_DONE);
+    port = mscp_port_in_memory(&port_room, sizeof port_room);
+    must(mscp_port_init(port, &LIMITS, units, 16, MSCP_SWEEP, &HARDWARE, 63), MSCP_DONE);
     must(mscp_send(mscp, MSCP_CONNECTION_FIRST, message, 32, &sent), MSCP_QUEUED);
     must(mscp_step(mscp, 0, &report), MSCP_DONE);
     must(mscp_take(mscp, MSCP_CONNECTION_FIRST, &end), MSCP_DONE);
@@ -117,13 +140,66 @@ static void prepare(void)
     }
 }
 
+/* ---- a port at work */
+
+static size_t deepest[CALLS], frame;
+
+static void measure(int call)
+{
+    size_t taken = depth(call) - frame;
+    if (taken > deepest[call])
+        deepest[call] = taken;
+}
+
+/* Does what the port wants, until it wants nothing. */
+static void serve(void)
+{
+    for (measure(NEXT); answered == MSCP_DONE; measure(NEXT)) {
+        if (action.kind == MSCP_ACTION_WRITE)
+            memcpy(memory + action.address, action.bytes, action.count);
+        measure(action.kind == MSCP_ACTION_READ ? WAS_READ : WENT);
+    }
+}
+
+static void put_four(uint32_t address, uint32_t number)
+{
+    for (unsigned i = 0; i < 4; i++)
+        memory[address + i] = (uint8_t)(number >> (8 * i));
+}
+
+/* The port comes up, with rings of 64 slots, and takes in the opcodes of all commands, of which READs wait. */
+static void work(void)
+{
+    static const uint8_t OPCODES[8] = {MSCP_ONLINE, MSCP_READ, MSCP_READ, MSCP_SET_CONTROLLER_CHARACTERISTICS,
+                                       MSCP_GET_UNIT_STATUS, MSCP_GET_COMMAND_STATUS, MSCP_ABORT, MSCP_WRITE};
+    const uint16_t words[4] = {0x8000 | 6 << 11 | 6 << 8, 0x1000, 0, 1};
+    must(mscp_port_volume_came(port, 0, 0), MSCP_DONE);
+    for (int i = 0; i < 4; i++) {
+        must(mscp_port_write_sa(port, words[i]), MSCP_DONE);
+        serve();
+    }
+    for (uint32_t i = 0; i < 64; i++) {
+        uint32_t text = 0x2004 + 72 * i;
+        put_four(0x1000 + 4 * i, 0xC0000000u | (text + 64 * 72));
+        put_four(0x1100 + 4 * i, 0xC0000000u | text);
+        put_four(text - 4, 32);
+        put_four(text, i + 1);
+        memory[text + 8] = OPCODES[i % 8];
+        memory[text + 10] = 1;
+        put_four(text + 12, memory[text + 8] == MSCP_READ || memory[text + 8] == MSCP_WRITE ? 1024 : i);
+    }
+    must(mscp_port_read_ip(port), MSCP_DONE);
+    serve();
+}
+
 /* The most that mscp.h says of a call. */
 static size_t most(int call)
 {
     switch (call) {
     case SAVE: return 12 * 1024;
     case HOST_SAVE: return 3 * 1024;
-    case INIT: return 30 * 1024;
+    case INIT: return 40 * 1024;
+    case PORT_INIT: return 48 * 1024;
     case RESTORE: return 130 * 1024;
     case HOST_RESTORE: return 6 * 1024;
     default: return 2 * 1024;
@@ -135,16 +211,18 @@ static size_t most(int call)
 int main(void)
 {
     int wrong = 0;
-    size_t frame;
     prepare();
     for (int call = SEND; call < CALLS; call++)
         run(call);
     prepare();
     frame = depth(NOTHING);
+    for (int call = SEND; call < CALLS; call++)
+        measure(call);
+    prepare();
+    work();
     for (int call = SEND; call < CALLS; call++) {
-        size_t taken = depth(call) - frame;
-        printf("mscp_%s %zu\n", NAMES[call], taken);
-        wrong |= taken > most(call);
+        printf("mscp_%s %zu\n", NAMES[call], deepest[call]);
+        wrong |= deepest[call] > most(call);
     }
     return wrong;
 }

@@ -3,11 +3,13 @@
 
 void calls(struct mscp *mscp, struct mscp_host *host, const struct mscp_limits *limits, const struct mscp_unit *units,
            const uint8_t *bytes, struct mscp_sent *sent, struct mscp_packet *packet, struct mscp_upcoming *upcoming,
-           struct mscp_report *report, struct mscp_news *news, uint8_t *out, size_t *length);
+           struct mscp_report *report, struct mscp_news *news, uint8_t *out, size_t *length,
+           struct mscp_port *port, const struct mscp_hardware *hardware, struct mscp_action *action);
 
 void calls(struct mscp *mscp, struct mscp_host *host, const struct mscp_limits *limits, const struct mscp_unit *units,
            const uint8_t *bytes, struct mscp_sent *sent, struct mscp_packet *packet, struct mscp_upcoming *upcoming,
-           struct mscp_report *report, struct mscp_news *news, uint8_t *out, size_t *length)
+           struct mscp_report *report, struct mscp_news *news, uint8_t *out, size_t *length,
+           struct mscp_port *port, const struct mscp_hardware *hardware, struct mscp_action *action)
 {
     mscp_init(mscp, limits, units, 1, MSCP_SWEEP);
     mscp_reset(mscp);
@@ -24,4 +26,10 @@ void calls(struct mscp *mscp, struct mscp_host *host, const struct mscp_limits *
     mscp_host_receive(host, bytes, 12, news);
     mscp_host_save(host, out, 1, length);
     mscp_host_restore(host, bytes, 12);
+    mscp_port_init(port, limits, units, 1, MSCP_SWEEP, hardware, 2);
+    mscp_port_next(port, action);
+    mscp_port_was_read(port, bytes, 4);
+    mscp_port_went(port, MSCP_OUTCOME_DONE, 0);
+    mscp_port_volume_came(port, 0, 0);
+    mscp_port_volume_went(port, 0);
 }

@@ -1,3 +1,4 @@
 pub mod Ascending
-pub mod Reading
+pub mod Configured
 pub mod Handled
+pub mod Reading

@@ -1,7 +1,7 @@
 -- What comes of an init.
 use Rattle.std.specs.Prelude.{ℕ, ℤ, List, Option, Some, None, is_none, option_map, unwrap_or, Result, Ok, Err}
 use Rattle.mscp_control.specs.Holdings.{fresh}
-use Rattle.mscp_control.specs.Settings.{limit_fault}
+use Rattle.mscp_control.specs.Settings.{Settings, limit_fault}
 use Rattle.mscp_memory.specs.declared.controller.handle.Handle.{Handle}
 use Rattle.mscp_memory.specs.declared.policy.Policy.TheVariants.{Oldest}
 use Rattle.mscp_memory.specs.ControllerHandles.{placed, room_fault}
@@ -13,13 +13,26 @@ use Rattle.mscp_c.specs.declared.units.InitFault.TheVariants as faults
 use Rattle.mscp_c.specs.Given.{fault_if, first_of, policy_given, settings_given, units_fault}
 use Rattle.mscp_c.specs.Statuses.{room_code, unit_code, units_code, limits_code}
 
+-- why a number is refused as a picker's, if it is
+abbrev pub picker_fault : ℕ → Option InitFault
+picker_fault picker = fault_if (is_none (policy_given picker)) faults.Picker
+
+-- why units and limits are refused, if they are: the first that holds, in this order
+abbrev pub config_fault : Limits → List UnitIn → Option InitFault
+config_fault l us = first_of (units_fault us) (option_map faults.Limits (limit_fault (settings_given l us)))
+
+-- what becomes of them
+abbrev pub config_unless : Option InitFault → Limits → List UnitIn → Result Settings InitFault
+config_unless (Some fault) l us = Err fault
+config_unless None l us = Ok (settings_given l us)
+
+abbrev pub config_answer : Limits → List UnitIn → Result Settings InitFault
+config_answer l us = config_unless (config_fault l us) l us
+
 -- why no controller is made, if none is: the first that holds, in this order
 abbrev pub init_fault : Handle → Limits → List UnitIn → ℕ → Option InitFault
 init_fault h l us picker =
-    first_of (option_map faults.Room (room_fault h)) (
-    first_of (fault_if (is_none (policy_given picker)) faults.Picker) (
-    first_of (units_fault us)
-    (option_map faults.Limits (limit_fault (settings_given l us)))))
+    first_of (option_map faults.Room (room_fault h)) (first_of (picker_fault picker) (config_fault l us))
 
 -- what is answered
 abbrev pub init_answer : Option InitFault → Result (Unit {0}) InitFault

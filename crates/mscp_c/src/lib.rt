@@ -1,4 +1,4 @@
-//! The calls of the C library: a controller, and a host, in memory that a program in C owns.
+//! The calls of the C library: a controller, a host, and a port, in memory that a program in C owns.
 #![tactic(auto)]
 
 mod controller_saving;
@@ -8,6 +8,12 @@ mod hosting;
 mod law;
 mod making;
 mod outs;
+mod port_given;
+mod port_making;
+mod port_registers;
+mod port_telling;
+mod port_turning;
+mod port_watching;
 mod saving;
 mod seeing;
 mod sending;

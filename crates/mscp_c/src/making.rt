@@ -4,7 +4,7 @@ ghost use Rattle.std.specs.Prelude.{◌≡◌, true, false};
 ghost use Rattle.mscp_control.specs.Holdings.{fresh};
 ghost use Rattle.mscp_memory.specs.ControllerRoom.{row_alignment, row_size};
 ghost use Rattle.mscp_memory.specs.ControllerHandles.{is_made, with_held};
-ghost use Rattle.mscp_c.specs.Made.{init_answer, init_fault, inits, made_unless};
+ghost use Rattle.mscp_c.specs.Made.{config_answer, init_answer, init_fault, inits, made_unless};
 
 use crate::status::{DONE, NOT_MADE, init_code};
 use crate::units::{InitFault, Limits, UnitIn, policy_of, units_of};
@@ -35,6 +35,25 @@ pub extern "C" fn mscp_align() -> usize
     ALIGN
 }
 
+/// The configuration of these limits and units, or why there is none.
+pub(crate) fn config_of(limits: &Limits, units: &[UnitIn]) -> Result<Config, InitFault>
+    ensures { result ≡ config_answer limits.now units.now }
+{
+    let units = units_of(units)?;
+    match Config::new(
+        limits.credits,
+        limits.second,
+        limits.budget,
+        limits.longest,
+        limits.timeout,
+        limits.id,
+        units,
+    ) {
+        Ok(config) => Ok(config),
+        Err(fault) => Err(InitFault::Limits(fault)),
+    }
+}
+
 /// Makes a controller in the room that the handle has, or says why not, and then nothing changes.
 fn init(
     handle: &mut Handle,
@@ -52,21 +71,12 @@ fn init(
     let Some(policy) = policy_of(picker) else {
         return Err(InitFault::Picker);
     };
-    let units = units_of(units)?;
-    match Config::new(
-        limits.credits,
-        limits.second,
-        limits.budget,
-        limits.longest,
-        limits.timeout,
-        limits.id,
-        units,
-    ) {
+    match config_of(limits, units) {
         Ok(config) => {
             place(handle, Controller::new(config, policy));
             Ok(())
         }
-        Err(fault) => Err(InitFault::Limits(fault)),
+        Err(fault) => Err(fault),
     }
 }
 

@@ -78,3 +78,17 @@ pub struct NewsOut {
     pub status: u16,
     pub code: u8,
 }
+
+/// What a port wants done. What its kind doesn't say is 0, and bytes behind those that it says are what they were.
+#[repr(C)]
+#[derive(Drop)]
+pub struct ActionOut {
+    pub address: u32,
+    pub count: u32,
+    pub block: u32,
+    pub unit: u16,
+    pub vector: u16,
+    pub kind: u8,
+    pub opcode: u8,
+    pub bytes: [u8; 64],
+}

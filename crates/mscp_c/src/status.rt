@@ -3,7 +3,9 @@
 ghost use Rattle.std.specs.Prelude.{◌≡◌};
 ghost use Rattle.mscp_c.specs.Statuses.{host_code, host_restore_code, limits_code, restore_code, room_code, send_fault_code, unit_code, units_code};
 ghost use Rattle.mscp_c.specs.Made.{init_code};
+ghost use Rattle.mscp_c.specs.PortMade.{port_init_code};
 
+use crate::port_given::PortInitFault;
 use crate::units::InitFault;
 use mscp_control::{ConfigFault, SendFault};
 use mscp_drive::{UnitFault, UnitsFault};
@@ -92,6 +94,17 @@ pub(crate) const BAD_BOUND: i32 = -31;
 
 /// No connection has this number.
 pub(crate) const BAD_CONNECTION: i32 = -32;
+
+/// No bus has this number.
+pub(crate) const BAD_BUS: i32 = -33;
+/// A port's host may have no commands outstanding, or as many as its controller has credits.
+pub(crate) const BAD_HOST_CREDITS: i32 = -34;
+/// Nothing goes so.
+pub(crate) const BAD_OUTCOME: i32 = -35;
+/// The port didn't want what was told.
+pub(crate) const UNASKED: i32 = -36;
+/// No unit has this number.
+pub(crate) const UNKNOWN_UNIT: i32 = -37;
 
 /// Bytes that are no saved controller, and no saved host.
 pub(crate) const SAVED_LENGTH: i32 = -40;
@@ -196,6 +209,18 @@ pub(crate) fn init_code(answer: &Result<(), InitFault>) -> i32
         Err(InitFault::Units(fault)) => units_code(fault),
         Err(InitFault::Unit(fault)) => unit_code(fault),
         Err(InitFault::Limits(fault)) => limits_code(fault),
+    }
+}
+
+/// The status of an init of a port.
+pub(crate) fn port_init_code(answer: &Result<(), PortInitFault>) -> i32
+    ensures { result ≡ port_init_code answer.now }
+{
+    match *answer {
+        Ok(()) => DONE,
+        Err(PortInitFault::Controller(fault)) => init_code(&Err(fault)),
+        Err(PortInitFault::Bus) => BAD_BUS,
+        Err(PortInitFault::Credits) => BAD_HOST_CREDITS,
     }
 }
 

@@ -59,8 +59,8 @@ one_of [] e = absurd (omega (arith, e))
 one_of (text ∷ []) e = (text, refl)
 one_of (text ∷ other ∷ all) e = absurd (omega (arith, e))
 
--- a step was answered at which the command of this name was to start, and its line was told, where a line ahead says that
--- it was served
+-- a step was answered at which the command of this name was to start, and its line was told, where a line ahead says
+-- that it was served
 pub told_step : {A : Type 0} (c : Settings) (log : Log) (named : Named) (rest left : List ℕ) (old mid new : Judge A)
     → IsNamedAhead rest named → Stands c log old → due old ≡ [] → 0 < old.owed
     → Came named old mid (events.Step old.block) → mid.owed ≡ old.owed - 1 → mid.block ≡ old.block

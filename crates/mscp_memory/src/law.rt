@@ -3,13 +3,16 @@
 ghost use Rattle.std.specs.Prelude.{◌≢◌};
 ghost use Rattle.mscp_memory.specs.declared.controller.marks.TheConstants as controllers;
 ghost use Rattle.mscp_memory.specs.declared.host.marks.TheConstants as hosts;
+ghost use Rattle.mscp_memory.specs.declared.port.marks.TheConstants as ports;
 
-/// The four marks differ: none that says one thing of its memory says another.
+/// The six marks differ: none that says one thing of its memory says another.
 pub fn marks_differ()
     ensures controller { controllers.ROOM ≢ controllers.MADE }
     ensures host { hosts.ROOM ≢ hosts.MADE }
-    ensures rooms { controllers.ROOM ≢ hosts.ROOM }
-    ensures made { controllers.MADE ≢ hosts.MADE }
-    ensures room_of_a_controller { controllers.ROOM ≢ hosts.MADE }
-    ensures room_of_a_host { hosts.ROOM ≢ controllers.MADE }
+    ensures port { ports.ROOM ≢ ports.MADE }
+    ensures rooms { (controllers.ROOM ≢ hosts.ROOM) × (controllers.ROOM ≢ ports.ROOM) × (hosts.ROOM ≢ ports.ROOM) }
+    ensures made { (controllers.MADE ≢ hosts.MADE) × (controllers.MADE ≢ ports.MADE) × (hosts.MADE ≢ ports.MADE) }
+    ensures room_of_a_controller { (controllers.ROOM ≢ hosts.MADE) × (controllers.ROOM ≢ ports.MADE) }
+    ensures room_of_a_host { (hosts.ROOM ≢ controllers.MADE) × (hosts.ROOM ≢ ports.MADE) }
+    ensures room_of_a_port { (ports.ROOM ≢ controllers.MADE) × (ports.ROOM ≢ hosts.MADE) }
 {}

@@ -1,4 +1,4 @@
-//! A controller, and a host, in memory that the caller owns.
+//! A controller, a host, and a port, in memory that the caller owns.
 #![tactic(auto)]
 
 pub mod controller;
@@ -7,6 +7,7 @@ mod head;
 pub mod host;
 mod law;
 mod policy;
+pub mod port;
 
 pub use crate::fault::RoomFault;
 pub use crate::law::marks_differ;

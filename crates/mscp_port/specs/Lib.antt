@@ -1,8 +1,12 @@
 pub mod Areas
 pub mod Buffers
+pub mod Calls
+pub mod Histories
 pub mod Messages
+pub mod Outgoings
 pub mod Packets
 pub mod Ports
 pub mod Registers
 pub mod Slots
 pub mod Volumes
+pub mod Wanted

@@ -1,17 +1,20 @@
 -- What a port knows of its host's memory, and what it may touch there.
-use Rattle.std.specs.Prelude.{◌≡◌, ℕ, ◌+◌, ◌-◌, ◌≤◌, ◌⊎◌, true, false, List, [], length, Contains, IfSome, IsSomeAnd, Option, None, Some}
+use Rattle.std.specs.Prelude.{◌≡◌, ◌≢◌, ℕ, ◌+◌, ◌-◌, ◌≤◌, ◌<◌, ◌⊎◌, true, false, List, [], length, Contains, IfSome, IsSomeAnd, Option, None, Some}
 use Rattle.mscp_control.specs.Holdings.{fresh}
 use Rattle.mscp_packet.specs.Number.{num}
 use Rattle.mscp_port.specs.declared.action.Action.{Action}
 use Rattle.mscp_port.specs.declared.action.Action.TheVariants as actions
 use Rattle.mscp_port.specs.declared.buffers.Buffer.{Buffer}
 use Rattle.mscp_port.specs.declared.port.Port.{Port}
+use Rattle.mscp_port.specs.declared.rings.Side.TheVariants.{Responses, Commands}
 use Rattle.mscp_port.specs.declared.stage.Stage.{Stage}
+use Rattle.mscp_port.specs.declared.stage.Stage.TheVariants as stages
 use Rattle.mscp_port.specs.declared.task.Task.{Task}
 use Rattle.mscp_port.specs.declared.task.Task.TheVariants as tasks
 use Rattle.mscp_port.specs.Areas.{IsInArea}
 use Rattle.mscp_port.specs.Buffers.{buffer_in, IsInBuffer}
 use Rattle.mscp_port.specs.Slots.{is_owned, text_of}
+use Rattle.mscp_port.specs.Volumes.{volume_at, volume_reset}
 
 -- ---- what is forgotten
 
@@ -33,6 +36,16 @@ pub record IsAsNew {K : Type 0} (in_stage : Stage) (old new : Port K) : Type 0 w
   pub commands : new.commands ≡ 0
   pub more : new.more ≡ old.more
   pub untold : new.untold ≡ old.more
+  pub words : new.words ≡ record { first = 0; second = 0 }
+  pub stalled : new.is_stalled ≡ false
+  pub full : new.is_full ≡ false
+  pub flags : new.flags ≡ 0
+  -- a host that says no timeout has one minute
+  pub timeout : new.timeout ≡ 60
+  pub left : new.left ≡ 60
+  -- the volumes stay where they are
+  pub volumes : (place : ℕ) → place < 16
+      → volume_at new.volumes place ≡ volume_reset (volume_at old.volumes place)
 
 -- ---- what is known
 
@@ -61,19 +74,54 @@ IsMoving (tasks.Transfer job) = Unit {0}
 IsMoving (tasks.Store job) = Unit {0}
 IsMoving task = ⊥
 
--- what the port knows of its host's memory it knew before: of its rings and its buffers it learns nothing
-pub record Forgets {K : Type 0} (old new : Port K) : Type 0 where
-  pub rings : (new.rings ≡ old.rings) ⊎ (new.rings ≡ None)
-  pub buffers : (b : Buffer) → Contains new.buffers.items b → Contains old.buffers.items b
+-- a step of a command is taken, with a block or without one
+abbrev pub IsOfBlock : Task → Type 0
+IsOfBlock (tasks.Step via reference block) = Unit {0}
+IsOfBlock (tasks.Fetch job) = Unit {0}
+IsOfBlock (tasks.Transfer job) = Unit {0}
+IsOfBlock task = ⊥
 
 -- what the port knows of its host's memory is what it knew, and what these bytes say that it wanted: the
 -- descriptor of a slot that is the port's, or the buffer in the text of a command
 pub record Learns {K : Type 0} (bytes : List ℕ) (old new : Port K) : Type 0 where
-  pub rings : (new.rings ≡ old.rings) ⊎ (new.rings ≡ None)
   pub packet : IfSome (in_hand new.task) (λ word. (in_hand old.task ≡ Some word)
       ⊎ (IsReadingSlot old.task × (word ≡ num bytes 0 4) × (is_owned word ≡ true)))
   pub buffers : (b : Buffer) → Contains new.buffers.items b → Contains old.buffers.items b
       ⊎ (IsReadingText old.task × (changes : ℕ) × (b ≡ buffer_in bytes changes))
+
+-- ---- what is due
+
+-- nothing goes out, or the next slot of the ring of responses was the host's
+abbrev pub HasNothingToSay : {K : Type 0} → Port K → Type 0
+HasNothingToSay p = (p.outgoing ≡ None) ⊎ (p.is_full ≡ true)
+
+-- no slot of the ring of commands is looked for, or its command waits for a credit
+abbrev pub HasNothingToHear : {K : Type 0} → Port K → Type 0
+HasNothingToHear p = (p.is_polled ≡ false) ⊎ (p.is_stalled ≡ true)
+
+-- the rings are in use, and there is nothing to do with them, and no command waits
+pub record IsIdleUp {K : Type 0} (p : Port K) : Type 0 where
+  pub outgoing : HasNothingToSay p
+  pub polled : HasNothingToHear p
+  pub waiting : p.controller.waiting ≡ []
+
+-- this is taken in hand: a step that the host has answered; and once the rings are in use what goes out, then what
+-- comes in, and then a block
+pub record IsDue {K : Type 0} (p : Port K) (task : Task) : Type 0 where
+  pub step : p.written ≢ None → task ≡ tasks.Settle
+  pub still : p.written ≡ None → p.stage ≢ stages.Up → task ≡ tasks.Free
+  pub goes_out : p.written ≡ None → p.stage ≡ stages.Up → p.outgoing ≢ None → p.is_full ≡ false
+      → task ≡ tasks.Slot Responses
+  pub comes_in : p.written ≡ None → p.stage ≡ stages.Up → HasNothingToSay p → p.is_polled ≡ true
+      → p.is_stalled ≡ false → task ≡ tasks.Slot Commands
+  pub block : p.written ≡ None → p.stage ≡ stages.Up → HasNothingToSay p → HasNothingToHear p
+      → (task ≡ tasks.Free) ⊎ IsOfBlock task
+
+-- a port rests only so: nothing is in hand, and the host has answered no step that isn't taken
+pub record IsIdle {K : Type 0} (p : Port K) : Type 0 where
+  pub free : p.task ≡ tasks.Free
+  pub step : p.written ≡ None
+  pub up : p.stage ≡ stages.Up → IsIdleUp p
 
 -- ---- what may be touched
 

@@ -1,5 +1,7 @@
 -- How the volume of a unit changes.
-use Rattle.std.specs.Prelude.{◌≡◌, ℕ, ◌+◌, ◌%◌, Bool, true, false, List, slice_index_or, None, Some}
+use Rattle.std.specs.Prelude.{◌≡◌, ℕ, ◌+◌, ◌%◌, Bool, true, false, List, nat_eq, slice_index_or, slice_set, Option, None, Some}
+use Rattle.std.specs.List.{position}
+use Rattle.mscp_drive.specs.Shape.{Shape}
 use Rattle.mscp_port.specs.declared.buffers.Buffer.{Buffer}
 use Rattle.mscp_port.specs.declared.volumes.Volume.{Volume}
 
@@ -27,6 +29,20 @@ volume_changed there protected v = record v {
   changes = (v.changes + 1) % 0x1_0000_0000;
   is_news = there;
 }
+
+-- a reset of the port leaves the volume: the unit isn't online, its host has protected nothing, and is to hear of none
+abbrev pub volume_reset : Volume → Volume
+volume_reset v = record v { mounted = None; is_protected_by_host = false; is_news = false }
+
+-- the place of the unit of a number, if there is one
+abbrev pub place_in : List Shape → ℕ → Option ℕ
+place_in units number = position (λ unit. nat_eq unit.number number) units
+
+-- the volumes, once the one of the unit of this number changed
+abbrev pub volumes_changed : Bool → Bool → Option ℕ → List Volume → List Volume
+volumes_changed there protected None volumes = volumes
+volumes_changed there protected (Some place) volumes =
+    slice_set volumes place (volume_changed there protected (volume_at volumes place))
 
 -- the volume in the unit is the one that was there when this command came, and that the unit was brought online
 -- with

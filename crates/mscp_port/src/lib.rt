@@ -6,6 +6,7 @@ mod action;
 mod buffers;
 mod filling;
 mod hardware;
+mod law;
 mod message;
 mod port;
 mod rings;
@@ -18,4 +19,5 @@ mod volumes;
 
 pub use crate::action::{Action, Outcome, Unasked};
 pub use crate::hardware::{Bus, Hardware};
+pub use crate::law::ports_touch_what_is_named;
 pub use crate::port::{NoUnit, Port, PortFault};

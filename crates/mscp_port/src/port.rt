@@ -1,15 +1,18 @@
 // A port: its registers, and what it knows.
 
-ghost use Rattle.std.specs.Prelude.{◌≡◌, ◌≢◌, ◌==◌, ◌⊎◌, ◌↔◌, ◌≤◌, ◌<◌, ◌+◌, ◌%◌, [], ℕ, nat_lt, Contains, if◌then◌else◌, true, false, IfErr, IfOk, IfSome, IsOk, None, Some};
+ghost use Rattle.std.specs.Prelude.{◌≡◌, ◌≢◌, ◌⊎◌, ◌↔◌, ◌≤◌, ◌<◌, ◌+◌, [], ℕ, true, Contains, IfErr, IfOk, IfSome, IsOk, None, Some};
 ghost use Rattle.mscp_queue.specs.declared.name.Connection.TheVariants.{First};
 ghost use Rattle.mscp_control.specs.Holdings.{balance_of};
 ghost use Rattle.mscp_port.specs.declared.stage.Stage.TheVariants as stages;
 ghost use Rattle.mscp_port.specs.declared.task.Task.TheVariants as tasks;
 ghost use Rattle.mscp_port.specs.Areas.{rings_named};
+ghost use Rattle.mscp_port.specs.Calls.{Dies, IsMadeOf, ReadsIp, TakesStep, WritesIp, WritesSa, sa_of};
+ghost use Rattle.mscp_port.specs.Ports.{IsAsNew, in_hand};
 ghost use Rattle.mscp_port.specs.declared.buffers.Buffer.{Buffer as Kept};
-ghost use Rattle.mscp_port.specs.Ports.{Forgets, IsAsNew, in_hand};
-ghost use Rattle.mscp_port.specs.Registers.{shown};
+ghost use Rattle.mscp_port.specs.Volumes.{place_in};
+ghost use Rattle.mscp_port.specs.Wanted.{vector_of};
 
+mod checking;
 mod delivering;
 mod hearing;
 mod serving;
@@ -103,10 +106,7 @@ impl<K: Picker> Port<K> {
         K: Drop,
         ensures taken { IsOk result ↔ ((1 ≤ credits) × (credits < balance_of First controller)) }
         ensures fault { IfErr result (λ fault. fault ≡ PortFault.Credits) }
-        ensures over { IfOk result (λ p. (p.controller ≡ controller) × (p.hardware ≡ hardware)) }
-        ensures credits { IfOk result (λ p. (p.more + 1 ≡ credits) × (p.untold ≡ p.more)) }
-        ensures first { IfOk result (λ p. (p.stage ≡ stages.First) × (p.rings ≡ None) × (p.task ≡ tasks.Free)
-            × (p.buffers.items ≡ []) × (p.outgoing ≡ None)) }
+        ensures made { IfOk result (λ p. IsMadeOf hardware credits controller p) }
     {
         if credits == 0 || controller.balance(Connection::First) <= u32::from(credits) {
             return Err(PortFault::Credits);
@@ -169,6 +169,7 @@ impl<K: Picker> Port<K> {
     /// Whether it had a fatal error.
     pub(crate) fn is_dead(&self) -> bool
         ensures dead { (code : ℕ) → self.now.stage ≡ stages.Dead code → result ≡ true }
+        ensures only { result ≡ true → (code : ℕ) × (self.now.stage ≡ stages.Dead code) }
     {
         matches!(self.stage, Stage::Dead(_))
     }
@@ -176,19 +177,14 @@ impl<K: Picker> Port<K> {
     /// The host wrote IP, or its bus was reset: the port is as new, in the first step of its initialisation. The volumes
     /// stay where they are.
     pub fn write_ip(&mut self)
-        ensures { IsAsNew stages.First self.old self.new }
+        ensures { WritesIp self.old self.new }
     {
         self.forget_all(Stage::First);
     }
 
     /// The host read IP, which shows 0: the port is to look at the ring of commands.
     pub fn read_ip(&mut self)
-        ensures up { self.old.stage ≡ stages.Up → self.new ≡ record self.old { is_polled = true; is_full = false } }
-        ensures probed { self.old.stage ≡ stages.Probing → self.old.rings ≢ None
-            → self.new ≡ record self.old { stage = stages.Clearing; task = tasks.Clear 0 } }
-        ensures nowhere { self.old.stage ≡ stages.Probing → self.old.rings ≡ None
-            → IsAsNew (stages.Dead 7) self.old self.new }
-        ensures elsewhere { self.old.stage ≢ stages.Up → self.old.stage ≢ stages.Probing → self.new ≡ self.old }
+        ensures { ReadsIp self.old self.new }
     {
         match self.stage {
             Stage::Up => {
@@ -202,7 +198,7 @@ impl<K: Picker> Port<K> {
 
     /// What SA shows.
     pub fn read_sa(&self) -> u16
-        ensures { result ≡ shown self.now.hardware self.now.words.first self.now.stage }
+        ensures { result ≡ sa_of self.now }
     {
         match self.stage {
             Stage::First => self.hardware.first_step(),
@@ -217,22 +213,7 @@ impl<K: Picker> Port<K> {
 
     /// The host wrote this word to SA.
     pub fn write_sa(&mut self, word: u16)
-        ensures first { self.old.stage ≡ stages.First
-            → self.new ≡ (if nat_lt word 0x8000 then self.old else record self.old { written = Some word }) }
-        ensures second { self.old.stage ≡ stages.Second → self.new ≡ record self.old { written = Some word } }
-        ensures third { self.old.stage ≡ stages.Third → self.new ≡ record self.old { written = Some word } }
-        ensures wrapped { (other : ℕ) → self.old.stage ≡ stages.Wrapped other
-            → self.new ≡ record self.old { stage = stages.Wrapped word } }
-        ensures purged { self.old.stage ≡ stages.Purging → word ≡ 0
-            → self.new ≡ record self.old { stage = stages.Probing } }
-        ensures not_purged { self.old.stage ≡ stages.Purging → word ≢ 0
-            → IsAsNew (stages.Dead 21) self.old self.new }
-        ensures last { self.old.stage ≡ stages.Last
-            → self.new ≡ (if word % 2 == 1 then record self.old { stage = stages.Up } else self.old) }
-        ensures probing { self.old.stage ≡ stages.Probing → self.new ≡ self.old }
-        ensures clearing { self.old.stage ≡ stages.Clearing → self.new ≡ self.old }
-        ensures up { self.old.stage ≡ stages.Up → self.new ≡ self.old }
-        ensures dead { (code : ℕ) → self.old.stage ≡ stages.Dead code → self.new ≡ self.old }
+        ensures { WritesSa word self.old self.new }
     {
         match self.stage {
             Stage::First if word < ANSWERED => {}
@@ -246,13 +227,14 @@ impl<K: Picker> Port<K> {
         }
     }
 
-    /// The step is taken that the host has answered by a word.
+    /// The step is taken that the host has answered by a word. Nothing else is in hand.
     fn take_step(&mut self, word: u16)
-        ensures named { (self.new.rings ≡ self.old.rings)
-            ⊎ (self.new.rings ≡ rings_named self.old.words.first self.old.words.second word)
-            ⊎ (self.new.rings ≡ None) }
+        requires free { self.old.task ≡ tasks.Free }
+        requires taken { self.old.written ≡ None }
+        ensures steps { TakesStep word self.old self.new }
+        ensures out { (self.new.outgoing ≡ self.old.outgoing) ⊎ Dies self.old self.new }
         ensures buffers { (b : Kept) → Contains self.new.buffers.items b → Contains self.old.buffers.items b }
-        ensures packet { in_hand self.old.task ≡ None → in_hand self.new.task ≡ None }
+        ensures packet { in_hand self.new.task ≡ None }
     {
         match self.stage {
             Stage::First if word / WRAP % 2 == 1 => self.stage = Stage::Wrapped(word),
@@ -272,7 +254,7 @@ impl<K: Picker> Port<K> {
     /// The next step of the initialisation begins, and the host hears of it if it wants to.
     fn enter(&mut self, stage: Stage)
         ensures frame { self.new ≡ record self.old { stage = stage; task = self.new.task } }
-        ensures packet { in_hand self.old.task ≡ None → in_hand self.new.task ≡ None }
+        ensures task { (self.new.task ≡ self.old.task) ⊎ (self.new.task ≡ tasks.Interrupt) }
     {
         self.stage = stage;
         if self.words.first / 0x80 % 2 == 1 && self.vector() != 0 {
@@ -281,14 +263,27 @@ impl<K: Picker> Port<K> {
     }
 
     /// The vector by which the host is interrupted, and 0 if it isn't.
-    pub(crate) fn vector(&self) -> u16 {
+    pub(crate) fn vector(&self) -> u16
+        ensures { result ≡ vector_of self.now }
+    {
         self.words.first % 0x80 * 4
     }
 
     /// The communication area is known, with its third word.
     fn name_area(&mut self, third: u16)
-        ensures named { (self.new.rings ≡ rings_named self.old.words.first self.old.words.second third)
-            ⊎ (self.new.rings ≡ None) }
+        ensures probe { 0x8000 ≤ third → self.new ≡ record self.old {
+          stage = stages.Purging;
+          rings = rings_named self.old.words.first self.old.words.second third;
+        } }
+        ensures clear { third < 0x8000 → rings_named self.old.words.first self.old.words.second third ≢ None
+            → self.new ≡ record self.old {
+              stage = stages.Clearing;
+              rings = rings_named self.old.words.first self.old.words.second third;
+              task = tasks.Clear 0;
+            } }
+        ensures nowhere { third < 0x8000 → rings_named self.old.words.first self.old.words.second third ≡ None
+            → IsAsNew (stages.Dead 7) self.old self.new }
+        ensures out { (self.new.outgoing ≡ self.old.outgoing) ⊎ Dies self.old self.new }
         ensures buffers { (b : Kept) → Contains self.new.buffers.items b → Contains self.old.buffers.items b }
         ensures packet { in_hand self.old.task ≡ None → in_hand self.new.task ≡ None }
     {
@@ -310,8 +305,6 @@ impl<K: Picker> Port<K> {
         ensures some { self.old.rings ≢ None
             → self.new ≡ record self.old { stage = stages.Clearing; task = tasks.Clear 0 } }
         ensures none { self.old.rings ≡ None → IsAsNew (stages.Dead 7) self.old self.new }
-        ensures forgets { Forgets self.old self.new }
-        ensures packet { in_hand self.new.task ≡ None }
     {
         match self.rings {
             Some(_) => {
@@ -324,7 +317,8 @@ impl<K: Picker> Port<K> {
 
     /// The place of a unit in the list of the units, if it is one.
     fn place_of(&self, unit: u16) -> Option<usize>
-        ensures { IfSome result (λ place. place < 16) }
+        ensures value { result ≡ place_in self.now.controller.settings.units unit }
+        ensures low { IfSome result (λ place. place < 16) }
     {
         let units = self.controller.config().units().list();
         units.iter().position(|other| other.number() == unit)

@@ -1,7 +1,7 @@
 // The volumes that lie in the units, and how they change.
 
-ghost use Rattle.std.specs.Prelude.{◌≡◌, ◌↔◌, true, Some, IsTrue};
-ghost use Rattle.mscp_port.specs.Volumes.{volume_changed};
+ghost use Rattle.std.specs.Prelude.{◌≡◌, ◌↔◌, true, EachIndex, Some, IsTrue};
+ghost use Rattle.mscp_port.specs.Volumes.{volume_at, volume_changed, volume_reset};
 
 /// A unit's volume. All is counted: a unit that was brought online with another volume than the one in it isn't online.
 #[derive(Clone, Copy, Debug, Default, PartialEq, Eq)]
@@ -39,7 +39,9 @@ impl Volume {
     }
 
     /// What a reset of the port leaves of it.
-    pub fn reset(&mut self) {
+    pub fn reset(&mut self)
+        ensures { self.new ≡ volume_reset self.old }
+    {
         self.mounted = None;
         self.is_protected_by_host = false;
         self.is_news = false;
@@ -47,7 +49,9 @@ impl Volume {
 }
 
 /// What a reset of the port leaves of the volumes.
-pub(crate) fn reset_all(volumes: &mut [Volume]) {
+pub(crate) fn reset_all(volumes: &mut [Volume])
+    ensures { EachIndex volumes.old (λ place. volume_at volumes.new place ≡ volume_reset (volume_at volumes.old place)) }
+{
     for volume in volumes.iter_mut() {
         volume.reset();
     }

@@ -1,11 +1,17 @@
 // What goes out to the host, and how.
 
-ghost use Rattle.std.specs.Prelude.{◌≡◌, ◌≢◌, ◌≤◌, ◌<◌, ◌+◌, ◌-◌, Contains, IfSome};
+ghost use Rattle.std.specs.Prelude.{◌≡◌, ◌≢◌, ◌≤◌, ◌<◌, ◌+◌, ◌-◌, ◌⊎◌, false, Contains, IfSome, None};
 ghost use Rattle.mscp_port.specs.declared.buffers.Buffer.{Buffer as Kept};
 ghost use Rattle.mscp_port.specs.declared.action.Outcome.TheVariants as outcomes;
+ghost use Rattle.mscp_port.specs.declared.rings.Side.{Side};
+ghost use Rattle.mscp_port.specs.declared.rings.Side.TheVariants.{Responses};
+ghost use Rattle.mscp_port.specs.declared.slot.Descriptor.{Descriptor};
 ghost use Rattle.mscp_port.specs.declared.stage.Stage.TheVariants as stages;
+ghost use Rattle.mscp_port.specs.declared.task.Task.TheVariants as tasks;
+ghost use Rattle.mscp_port.specs.Outgoings.{TakesEnd, TellsNews};
 ghost use Rattle.mscp_port.specs.Packets.{credits_told, packet_of};
-ghost use Rattle.mscp_port.specs.Ports.{Forgets, IsAsNew, in_hand};
+ghost use Rattle.mscp_port.specs.Calls.{Dies};
+ghost use Rattle.mscp_port.specs.Ports.{IsAsNew, in_hand};
 ghost use Rattle.arrayvec.specs.ArrayVec.{array_vec_len};
 
 use crate::action::Outcome;
@@ -32,12 +38,14 @@ const MOST_MORE: u8 = 14;
 impl<K: Picker> Port<K> {
     /// Finds what goes out next: the oldest end, and else news of a volume.
     pub(crate) fn find_outgoing(&mut self)
-        ensures { self.new ≡ record self.old {
+        requires { self.old.outgoing ≡ None }
+        ensures frame { self.new ≡ record self.old {
           controller = self.new.controller;
           outgoing = self.new.outgoing;
           is_stalled = self.new.is_stalled;
           volumes = self.new.volumes;
         } }
+        ensures says { TakesEnd self.old self.new ⊎ TellsNews self.old self.new }
     {
         if let Some(bytes) = self.controller.take(Connection::First) {
             self.is_stalled = false;
@@ -95,7 +103,8 @@ impl<K: Picker> Port<K> {
 
     /// The next attention message, if a volume came. It isn't news any more.
     fn news(&mut self) -> Option<Outgoing>
-        ensures { self.new ≡ record self.old { volumes = self.new.volumes } }
+        ensures frame { self.new ≡ record self.old { volumes = self.new.volumes } }
+        ensures news { IfSome result (λ o. o.is_end ≡ false) }
     {
         let place = self.volumes.iter().position(|volume| volume.is_news)?;
         self.volumes[place].is_news = false;
@@ -134,11 +143,14 @@ impl<K: Picker> Port<K> {
 
     /// The packet was written.
     pub(crate) fn written_out(&mut self, slot: Descriptor, outcome: Outcome)
-        ensures forgets { Forgets self.old self.new }
+        ensures frame { (self.new ≡ record self.old { untold = self.new.untold; task = self.new.task })
+            ⊎ Dies self.old self.new }
         ensures packet { IfSome (in_hand self.new.task) (λ word. word ≡ slot.word) }
         ensures credits { outcome ≡ outcomes.Done
             → self.new.untold + (credits_told self.old - 1) ≡ self.old.untold }
         ensures missing { outcome ≢ outcomes.Done → IsAsNew (stages.Dead 2) self.old self.new }
+        ensures returned { (side : Side) → (other : Descriptor) → self.new.task ≡ tasks.Return side other
+            → (side ≡ Responses) × (other ≡ slot) × (outcome ≡ outcomes.Done) }
     {
         if outcome != Outcome::Done {
             return self.die(2);

@@ -5,12 +5,14 @@ ghost use Rattle.mscp_queue.specs.declared.name.Connection.TheVariants.{First};
 ghost use Rattle.mscp_control.specs.Holdings.{after_message, answer_to_message};
 ghost use Rattle.mscp_control.specs.declared.event.SendFault.TheVariants as faults;
 ghost use Rattle.mscp_port.specs.declared.buffers.Buffer.{Buffer as Kept};
-ghost use Rattle.mscp_port.specs.declared.slot.Descriptor.{Descriptor};
+ghost use Rattle.mscp_port.specs.declared.rings.Side.TheVariants.{Responses, Commands};
 ghost use Rattle.mscp_port.specs.declared.stage.Stage.TheVariants as stages;
 ghost use Rattle.mscp_port.specs.declared.task.Task.TheVariants as tasks;
 ghost use Rattle.mscp_port.specs.Buffers.{buffer_in, without};
 ghost use Rattle.mscp_port.specs.Messages.{handed, own_end as end_of_own};
-ghost use Rattle.mscp_port.specs.Ports.{Forgets, IsAsNew, IsReadingText, Learns, in_hand};
+ghost use Rattle.mscp_port.specs.Calls.{ChangesByReading, Dies, Hears};
+ghost use Rattle.mscp_port.specs.Outgoings.{AnswersItself};
+ghost use Rattle.mscp_port.specs.Ports.{IsAsNew, in_hand};
 ghost use Rattle.mscp_port.specs.Slots.{is_owned};
 
 use crate::action::Unasked;
@@ -37,21 +39,7 @@ const UTILITIES: u32 = 2;
 impl<K: Picker> Port<K> {
     /// These bytes were read in host memory, as the port wanted. An error where it wanted no bytes, or not as many.
     pub fn was_read(&mut self, bytes: &[u8]) -> Result<(), Unasked>
-        ensures dead { (code : ℕ) → self.old.stage ≡ stages.Dead code → IsErr result }
-        ensures unasked { OnErr result (self.new ≡ self.old) }
-        ensures learns { Learns bytes.now self.old self.new }
-
-        // A message reaches the controller as its host wrote it, unless the port answers it itself.
-        ensures handed { (slot : Descriptor) (size : ℕ) (is_foreign : Bool) → self.old.task ≡ tasks.Text slot size is_foreign
-            → IsOk result → end_of_own is_foreign bytes.now ≡ None
-            → answer_to_message First self.old.controller (handed self.old.controller.settings.units bytes.now)
-            ≢ Err faults.Doubled
-            → self.new.controller
-            ≡ after_message First self.old.controller (handed self.old.controller.settings.units bytes.now) }
-        ensures own { (slot : Descriptor) (size : ℕ) (is_foreign : Bool) → self.old.task ≡ tasks.Text slot size is_foreign
-            → end_of_own is_foreign bytes.now ≢ None → self.new.controller ≡ self.old.controller }
-        ensures nothing_else { (IsReadingText self.old.task → ⊥) → (self.new.controller ≡ self.old.controller)
-            ⊎ ((code : ℕ) × IsAsNew (stages.Dead code) self.old self.new) }
+        ensures { Hears bytes.now self.old result self.new }
     {
         if self.is_dead() {
             return Err(Unasked);
@@ -85,6 +73,8 @@ impl<K: Picker> Port<K> {
           is_polled = self.new.is_polled;
         } }
         ensures packet { IfSome (in_hand self.new.task) (λ word. (word ≡ slot.word) × (is_owned word ≡ true)) }
+        ensures task { (self.new.task ≡ tasks.Free) ⊎ ((side ≡ Responses) × (self.new.task ≡ tasks.Packet slot))
+            ⊎ ((side ≡ Commands) × (self.new.task ≡ tasks.Header slot)) }
     {
         match side {
             Side::Responses if slot.is_owned() => self.task = Task::Packet(slot),
@@ -117,10 +107,10 @@ impl<K: Picker> Port<K> {
     /// The header of a command's packet: the length of its text in the low half, its type in bits 20 to 23, and its
     /// connection in the high byte.
     fn see_header(&mut self, slot: Descriptor, header: u32)
-        ensures forgets { Forgets self.old self.new }
+        ensures frame { (self.new ≡ record self.old { task = self.new.task }) ⊎ Dies self.old self.new }
+        ensures task { (self.new.task ≡ tasks.Free)
+            ⊎ ((size : ℕ) × (foreign : Bool) × (self.new.task ≡ tasks.Text slot size foreign)) }
         ensures packet { IfSome (in_hand self.new.task) (λ word. word ≡ slot.word) }
-        ensures controller { (self.new.controller ≡ self.old.controller)
-            ⊎ ((code : ℕ) × IsAsNew (stages.Dead code) self.old self.new) }
     {
         let length = header % 0x1_0000;
         let connection = header / 0x100_0000;
@@ -144,6 +134,10 @@ impl<K: Picker> Port<K> {
     fn see_text(&mut self, slot: Descriptor, is_foreign: bool, message: &[u8])
         requires short { 12 ≤ length message.now }
         requires long { length message.now ≤ 64 }
+        // What goes out stays so; where nothing did, it may be the port's own end.
+        ensures out { (self.new.outgoing ≡ self.old.outgoing) ⊎ AnswersItself is_foreign message.now self.old self.new
+            ⊎ Dies self.old self.new }
+        ensures task { (self.new.task ≡ tasks.Free) ⊎ (self.new.task ≡ tasks.Return Commands slot) }
         ensures own { end_of_own is_foreign message.now ≢ None → self.new.controller ≡ self.old.controller }
         ensures handed { end_of_own is_foreign message.now ≡ None
             → answer_to_message First self.old.controller (handed self.old.controller.settings.units message.now)
@@ -154,7 +148,7 @@ impl<K: Picker> Port<K> {
             → answer_to_message First self.old.controller (handed self.old.controller.settings.units message.now)
             ≡ Err faults.Doubled
             → IsAsNew (stages.Dead 1) self.old self.new }
-        ensures rings { (self.new.rings ≡ self.old.rings) ⊎ (self.new.rings ≡ None) }
+        ensures frame { ChangesByReading self.old self.new }
         ensures packet { IfSome (in_hand self.new.task) (λ word. word ≡ slot.word) }
         ensures kept { (b : Kept) → Contains self.new.buffers.items b → Contains self.old.buffers.items b
             ⊎ ((changes : ℕ) × (b ≡ buffer_in message.now changes)) }
@@ -192,7 +186,15 @@ impl<K: Picker> Port<K> {
         ensures doubled { answer_to_message First self.old.controller (handed self.old.controller.settings.units message.now)
             ≡ Err faults.Doubled
             → IsAsNew (stages.Dead 1) self.old self.new }
-        ensures rings { (self.new.rings ≡ self.old.rings) ⊎ (self.new.rings ≡ None) }
+        ensures frame { (self.new ≡ record self.old {
+          controller = self.new.controller;
+          task = self.new.task;
+          is_stalled = self.new.is_stalled;
+          buffers = self.new.buffers;
+          flags = self.new.flags;
+          timeout = self.new.timeout;
+          left = self.new.left;
+        }) ⊎ Dies self.old self.new }
         ensures task { (self.new.task ≡ self.old.task) ⊎ (self.new.task ≡ tasks.Free) }
         ensures kept { (b : Kept) → Contains self.new.buffers.items b → Contains self.old.buffers.items b
             ⊎ ((changes : ℕ) × (b ≡ buffer_in message.now changes)) }

@@ -1,8 +1,10 @@
 // How blocks are moved.
 
-ghost use Rattle.std.specs.Prelude.{◌≡◌, ◌≤◌, ◌%◌, true, IfSome, None, Some};
-ghost use Rattle.mscp_port.specs.Ports.{Forgets, IsMoving, in_hand};
+ghost use Rattle.std.specs.Prelude.{◌≡◌, ◌≤◌, ◌%◌, ◌⊎◌, [], true, Contains, IfSome, None, Some};
+ghost use Rattle.mscp_port.specs.declared.buffers.Buffer.{Buffer as Kept};
+ghost use Rattle.mscp_port.specs.Ports.{IsMoving, IsOfBlock, in_hand};
 ghost use Rattle.mscp_port.specs.Volumes.{IsOnVolume};
+ghost use Rattle.mscp_port.specs.declared.task.Task.TheVariants as tasks;
 
 use crate::action::Outcome;
 use crate::buffers::{Buffer, Job, find_buffer};
@@ -34,7 +36,7 @@ const PROTECTED_BY_HOST: u16 = 0x1006;
 const PROTECTED: u16 = 0x2006;
 
 /// Drive Error.
-const DRIVE_ERROR: u16 = 0x000B;
+pub(crate) const DRIVE_ERROR: u16 = 0x000B;
 
 /// A block that ends its command with this status.
 fn bad(status: u16) -> Block
@@ -69,7 +71,7 @@ fn writes(kind: MoveKind) -> bool {
 }
 
 /// Why a step of a transfer isn't made, if it isn't: the first that holds.
-fn refusal(kind: MoveKind, buffer: &Buffer, volume: &Volume) -> Option<u16>
+pub(crate) fn refusal(kind: MoveKind, buffer: &Buffer, volume: &Volume) -> Option<u16>
     ensures status { IfSome result (λ status. 5 ≤ status % 32) }
     ensures mounted { result ≡ None → (volume.now.is_there ≡ true) × (volume.now.mounted ≡ Some volume.now.changes) }
     ensures even { result ≡ None → buffer.now.count % 2 ≡ 0 }
@@ -91,7 +93,8 @@ fn refusal(kind: MoveKind, buffer: &Buffer, volume: &Volume) -> Option<u16>
 
 /// What is done first for a step of a transfer: the bytes of host memory are fetched, or the block is moved.
 fn first_task(job: Job) -> Task
-    ensures { in_hand result ≡ None }
+    ensures packet { in_hand result ≡ None }
+    ensures block { IsOfBlock result }
 {
     match job.kind {
         MoveKind::Compare | MoveKind::Write => Task::Fetch(job),
@@ -102,6 +105,7 @@ fn first_task(job: Job) -> Task
 /// What is to be done for a step of a command, of whose message this is kept, and whose unit has this volume.
 fn task_for(upcoming: &Upcoming, buffer: &Buffer, volume: &Volume) -> Task
     ensures packet { in_hand result ≡ None }
+    ensures block { IsOfBlock result }
     // No block is moved on a volume that came after its command, or that its unit wasn't brought online with.
     ensures safe { IsMoving result → IsOnVolume buffer.now volume.now }
 {
@@ -139,6 +143,9 @@ impl<K: Picker> Port<K> {
     pub(crate) fn choose_block(&mut self) -> Task
         ensures frame { self.new ≡ record self.old { controller = self.new.controller } }
         ensures packet { in_hand result ≡ None }
+        ensures block { (result ≡ tasks.Free) ⊎ IsOfBlock result }
+        ensures idle { result ≡ tasks.Free → self.new.controller.waiting ≡ [] }
+        ensures untaken { self.new.controller.untaken ≡ self.old.controller.untaken }
     {
         let Some(upcoming) = self.controller.begin() else {
             return Task::Free;
@@ -153,7 +160,13 @@ impl<K: Picker> Port<K> {
 
     /// The step of a command is taken, whose block had this outcome.
     pub(crate) fn finish(&mut self, connection: Connection, reference: u32, block: Block)
-        ensures forgets { Forgets self.old self.new }
+        ensures frame { self.new ≡ record self.old {
+          controller = self.new.controller;
+          task = self.new.task;
+          buffers = self.new.buffers;
+          volumes = self.new.volumes;
+        } }
+        ensures buffers { (b : Kept) → Contains self.new.buffers.items b → Contains self.old.buffers.items b }
         ensures packet { in_hand self.new.task ≡ None }
     {
         self.task = Task::Free;
@@ -168,18 +181,34 @@ impl<K: Picker> Port<K> {
         }
     }
 
-    /// A step of which nothing is kept ends its command: its buffer is not known.
+    /// A step that may not go on ends its command: its volume has changed, or its buffer isn't known.
     pub(crate) fn lost(&mut self, job: Job)
-        ensures forgets { Forgets self.old self.new }
+        ensures frame { self.new ≡ record self.old {
+          controller = self.new.controller;
+          task = self.new.task;
+          buffers = self.new.buffers;
+          volumes = self.new.volumes;
+        } }
+        ensures buffers { (b : Kept) → Contains self.new.buffers.items b → Contains self.old.buffers.items b }
         ensures packet { in_hand self.new.task ≡ None }
     {
-        self.finish(job.connection, job.reference, bad(DRIVE_ERROR));
+        let status = match self.fault_of(&job) {
+            Some(status) => status,
+            None => DRIVE_ERROR,
+        };
+        self.finish(job.connection, job.reference, bad(status));
     }
 
     /// A part of a step was done: the host's bytes are fetched, then the block is moved, and what was read goes to the host.
     /// A fault ends the command.
     pub(crate) fn moved(&mut self, job: Job, outcome: Outcome)
-        ensures forgets { Forgets self.old self.new }
+        ensures frame { self.new ≡ record self.old {
+          controller = self.new.controller;
+          task = self.new.task;
+          buffers = self.new.buffers;
+          volumes = self.new.volumes;
+        } }
+        ensures buffers { (b : Kept) → Contains self.new.buffers.items b → Contains self.old.buffers.items b }
         ensures packet { in_hand self.new.task ≡ None }
     {
         match self.task {

@@ -1,16 +1,22 @@
 // What the port wants done.
 
-ghost use Rattle.std.specs.Prelude.{◌≡◌, ◌≢◌, ◌≤◌, ◌<◌, ◌⊎◌, ◌^◌, ℕ, length, Contains, IfSome, IsErr, IsSomeAnd, OnErr, None, Some};
+ghost use Rattle.std.specs.Prelude.{◌≡◌, ◌≢◌, ◌≤◌, ◌<◌, ◌⊎◌, ◌+◌, ◌-◌, ◌*◌, ◌^◌, ◌%◌, ℕ, true, false, length, Contains, IfSome, IsErr, IsSomeAnd, OnErr, None, Some};
 ghost use Rattle.byteorder.specs.Endian.{little_bytes};
 ghost use Rattle.arrayvec.specs.ArrayVec.{array_vec_len};
 ghost use Rattle.mscp_port.specs.declared.action.Action.TheVariants as actions;
+ghost use Rattle.mscp_port.specs.declared.action.Outcome.TheVariants as outcomes;
 ghost use Rattle.mscp_port.specs.declared.buffers.Buffer.{Buffer as Kept};
+ghost use Rattle.mscp_port.specs.declared.rings.Side.TheVariants.{Responses, Commands};
 ghost use Rattle.mscp_port.specs.declared.stage.Stage.TheVariants as stages;
 ghost use Rattle.mscp_port.specs.declared.task.Task.TheVariants as tasks;
-ghost use Rattle.mscp_port.specs.Areas.{IsInArea, rings_named};
+ghost use Rattle.mscp_port.specs.Areas.{IsInArea, slot_in, slots_of};
 ghost use Rattle.mscp_port.specs.Buffers.{IsInBuffer};
-ghost use Rattle.mscp_port.specs.Ports.{Forgets, IsAsNew, IsInSomeBuffer, IsWithin, in_hand};
-ghost use Rattle.mscp_port.specs.Slots.{given_back};
+ghost use Rattle.mscp_port.specs.Calls.{Dies, Goes, TakesStep, Wants};
+ghost use Rattle.mscp_port.specs.Ports.{HasNothingToHear, HasNothingToSay, IsDue, IsIdleUp, IsOfBlock, IsInSomeBuffer, IsWithin, in_hand};
+ghost use Rattle.mscp_port.specs.Outgoings.{HasSaid, Says};
+ghost use Rattle.mscp_port.specs.Packets.{credits_told, packet_of};
+ghost use Rattle.mscp_port.specs.Slots.{given_back, text_of};
+ghost use Rattle.mscp_port.specs.Wanted.{IsWanted, Writes, given_in};
 
 use crate::action::{Action, Outcome, Unasked};
 use crate::buffers::{Buffer, Job, find_buffer};
@@ -68,7 +74,8 @@ fn descriptor(slot: &Descriptor) -> ArrayVec<u8, 64>
 /// A slot of a ring is to be read.
 fn slot_wanted(rings: &Rings, side: Side, number: u32) -> Action
     requires { number < 2 ^ 31 }
-    ensures { (at : ℕ) × (result ≡ actions.Read at 4) × IsInArea rings.now at 4 }
+    ensures value { result ≡ actions.Read (slot_in rings.now side number) 4 }
+    ensures inside { IsInArea rings.now (slot_in rings.now side number) 4 }
 {
     Action::Read {
         address: rings.slot(side, number),
@@ -79,7 +86,8 @@ fn slot_wanted(rings: &Rings, side: Side, number: u32) -> Action
 /// The number of the slot in front of the one that was given back last, behind which so many were given back.
 fn number_before(rings: &Rings, side: Side, number: u32) -> u32
     requires { number < 256 }
-    ensures { result < 2 ^ 31 }
+    ensures value { result ≡ number + 2 * slots_of rings.now side - 2 }
+    ensures small { result < 2 ^ 31 }
 {
     number + 2 * rings.slots(side) - 2
 }
@@ -94,16 +102,12 @@ fn part_in(buffers: &[Buffer], job: &Job) -> Option<(u32, u32)>
 impl<K: Picker> Port<K> {
     /// What the port wants done next. Until it is told how that went it answers the same, unless a register is touched.
     pub fn next(&mut self) -> Action
-        ensures within { IsWithin self.new result }
-        ensures forgets { Forgets self.old self.new }
-        ensures packet { IfSome (in_hand self.new.task) (λ word. in_hand self.old.task ≡ Some word) }
-        ensures dead { (code : ℕ) → self.old.stage ≡ stages.Dead code
-            → (result ≡ actions.Rest) × (self.new ≡ self.old) }
+        ensures { Wants self.old result self.new }
     {
         if self.is_dead() {
             return Action::Rest;
         }
-        if self.task == Task::Free {
+        if let Task::Free = self.task {
             self.task = self.choose();
         }
         self.action()
@@ -111,8 +115,17 @@ impl<K: Picker> Port<K> {
 
     /// What it takes in hand.
     fn choose(&mut self) -> Task
-        ensures forgets { Forgets self.old self.new }
+        ensures frame { self.new ≡ record self.old {
+          controller = self.new.controller;
+          outgoing = self.new.outgoing;
+          is_stalled = self.new.is_stalled;
+          volumes = self.new.volumes;
+        } }
         ensures packet { in_hand result ≡ None }
+        ensures due { IsDue self.new result }
+        ensures says { Says self.old self.new }
+        ensures step { result ≡ tasks.Free → self.new.written ≡ None }
+        ensures up { result ≡ tasks.Free → self.new.stage ≡ stages.Up → IsIdleUp self.new }
     {
         if self.written.is_some() {
             return Task::Settle;
@@ -125,8 +138,20 @@ impl<K: Picker> Port<K> {
 
     /// What it takes in hand while the rings are in use: what goes out, what comes in, and then a block.
     fn choose_work(&mut self) -> Task
-        ensures forgets { Forgets self.old self.new }
+        ensures frame { self.new ≡ record self.old {
+          controller = self.new.controller;
+          outgoing = self.new.outgoing;
+          is_stalled = self.new.is_stalled;
+          volumes = self.new.volumes;
+        } }
         ensures packet { in_hand result ≡ None }
+        ensures goes_out { self.new.outgoing ≢ None → self.new.is_full ≡ false → result ≡ tasks.Slot Responses }
+        ensures comes_in { HasNothingToSay self.new → self.new.is_polled ≡ true → self.new.is_stalled ≡ false
+            → result ≡ tasks.Slot Commands }
+        ensures block { HasNothingToSay self.new → HasNothingToHear self.new
+            → (result ≡ tasks.Free) ⊎ IsOfBlock result }
+        ensures idle { result ≡ tasks.Free → IsIdleUp self.new }
+        ensures says { Says self.old self.new }
     {
         if self.outgoing.is_none() {
             self.find_outgoing();
@@ -142,7 +167,9 @@ impl<K: Picker> Port<K> {
 
     /// What is wanted for what it has in hand.
     fn action(&self) -> Action
-        ensures { IsWithin self.now result }
+        ensures within { IsWithin self.now result }
+        ensures wanted { IsWanted self.now self.now.task result }
+        ensures rests { result ≡ actions.Rest → self.now.task ≡ tasks.Free }
     {
         match (self.task, self.rings) {
             (Task::Free, _) => Action::Rest,
@@ -175,7 +202,9 @@ impl<K: Picker> Port<K> {
     }
 
     /// How many slots of a ring were given back, modulo 256.
-    fn number(&self, side: Side) -> u8 {
+    fn number(&self, side: Side) -> u8
+        ensures { result ≡ given_in self.now side }
+    {
         match side {
             Side::Responses => self.responses,
             Side::Commands => self.commands,
@@ -185,7 +214,8 @@ impl<K: Picker> Port<K> {
     /// The header of a command is to be read.
     fn header_wanted(&self, slot: Descriptor) -> Action
         requires { in_hand self.now.task ≡ Some slot.word }
-        ensures { IsWithin self.now result }
+        ensures within { IsWithin self.now result }
+        ensures value { result ≡ actions.Read (text_of slot.word - 4) 4 }
     {
         Action::Read {
             address: slot.text().saturating_sub(HEADER),
@@ -196,7 +226,10 @@ impl<K: Picker> Port<K> {
     /// The packet of what goes out is to be written.
     fn packet_wanted(&self, slot: Descriptor) -> Action
         requires { in_hand self.now.task ≡ Some slot.word }
-        ensures { IsWithin self.now result }
+        ensures within { IsWithin self.now result }
+        ensures value { IfSome self.now.outgoing (λ o.
+            Writes result (text_of slot.word - 4) (packet_of (credits_told self.now) o.bytes.items)) }
+        ensures some { result ≢ actions.Rest }
     {
         Action::Write {
             address: slot.text().saturating_sub(HEADER),
@@ -207,7 +240,8 @@ impl<K: Picker> Port<K> {
     /// The next bytes of the communication area are to be cleared.
     fn clearing(&self, rings: &Rings, done: u32) -> Action
         requires { self.now.rings ≡ Some rings.now }
-        ensures { IsWithin self.now result }
+        ensures within { IsWithin self.now result }
+        ensures some { result ≢ actions.Rest }
     {
         let from = (rings.start(self.has_purge_word()) + done % AREA).min(rings.end());
         Action::Write {
@@ -218,7 +252,8 @@ impl<K: Picker> Port<K> {
 
     /// A part of the buffer of a command is to be moved, or its block.
     fn moving(&self, job: &Job) -> Action
-        ensures { IsWithin self.now result }
+        ensures within { IsWithin self.now result }
+        ensures some { result ≢ actions.Rest }
     {
         match (self.task, self.part(job)) {
             (Task::Fetch(_), Some((address, count))) => Action::Fetch { address, count },
@@ -233,23 +268,21 @@ impl<K: Picker> Port<K> {
         }
     }
 
-    /// The part of a command's buffer that a step is about.
+    /// The part of a command's buffer that a step is about, if the step may go on.
     fn part(&self, job: &Job) -> Option<(u32, u32)>
         ensures { IfSome result (λ part. IsInSomeBuffer self.now part.0 part.1) }
     {
+        // What was read goes to the host, even if its volume has gone since.
+        if !matches!(self.task, Task::Store(_)) && self.fault_of(job).is_some() {
+            return None;
+        }
         part_in(self.buffers.as_slice(), job)
     }
 
     /// An action that isn't a read went so; or a read failed so. An error where nothing was wanted, or where a read is told
     /// to be done without its bytes.
     pub fn went(&mut self, outcome: Outcome) -> Result<(), Unasked>
-        ensures dead { (code : ℕ) → self.old.stage ≡ stages.Dead code → IsErr result }
-        ensures unasked { OnErr result (self.new ≡ self.old) }
-        ensures rings { (self.new.rings ≡ self.old.rings) ⊎ (self.new.rings ≡ None)
-            ⊎ ((word : ℕ) × (self.old.written ≡ Some word)
-            × (self.new.rings ≡ rings_named self.old.words.first self.old.words.second word)) }
-        ensures buffers { (b : Kept) → Contains self.new.buffers.items b → Contains self.old.buffers.items b }
-        ensures packet { IfSome (in_hand self.new.task) (λ word. in_hand self.old.task ≡ Some word) }
+        ensures { Goes outcome self.old result self.new }
     {
         if self.is_dead() {
             return Err(Unasked);
@@ -288,7 +321,13 @@ impl<K: Picker> Port<K> {
 
     /// A part of a step was done, if what is kept of its command says what part.
     fn move_on(&mut self, job: Job, outcome: Outcome)
-        ensures forgets { Forgets self.old self.new }
+        ensures frame { self.new ≡ record self.old {
+          controller = self.new.controller;
+          task = self.new.task;
+          buffers = self.new.buffers;
+          volumes = self.new.volumes;
+        } }
+        ensures buffers { (b : Kept) → Contains self.new.buffers.items b → Contains self.old.buffers.items b }
         ensures packet { in_hand self.new.task ≡ None }
     {
         match self.part(&job) {
@@ -299,9 +338,9 @@ impl<K: Picker> Port<K> {
 
     /// The machine went on a little since the host answered a step.
     fn settled(&mut self)
-        ensures rings { (self.new.rings ≡ self.old.rings) ⊎ (self.new.rings ≡ None)
-            ⊎ ((word : ℕ) × (self.old.written ≡ Some word)
-            × (self.new.rings ≡ rings_named self.old.words.first self.old.words.second word)) }
+        ensures steps { IfSome self.old.written (λ word. TakesStep word self.old self.new) }
+        ensures none { self.old.written ≡ None → self.new ≡ record self.old { task = tasks.Free } }
+        ensures out { (self.new.outgoing ≡ self.old.outgoing) ⊎ Dies self.old self.new }
         ensures buffers { (b : Kept) → Contains self.new.buffers.items b → Contains self.old.buffers.items b }
         ensures packet { in_hand self.new.task ≡ None }
     {
@@ -313,7 +352,9 @@ impl<K: Picker> Port<K> {
 
     /// A part of the communication area was cleared, behind so many bytes.
     fn cleared(&mut self, done: u32, outcome: Outcome)
-        ensures forgets { Forgets self.old self.new }
+        ensures frame { (self.new ≡ record self.old { stage = self.new.stage; task = self.new.task })
+            ⊎ Dies self.old self.new }
+        ensures stage { (self.new.stage ≡ self.old.stage) ⊎ (self.new.stage ≡ stages.Last) ⊎ Dies self.old self.new }
         ensures packet { in_hand self.new.task ≡ None }
     {
         let Some(rings) = self.rings else {
@@ -333,8 +374,17 @@ impl<K: Picker> Port<K> {
 
     /// The next slot of a ring was given back.
     fn returned(&mut self, side: Side, slot: Descriptor, outcome: Outcome)
-        ensures forgets { Forgets self.old self.new }
+        ensures frame { (self.new ≡ record self.old {
+          responses = self.new.responses;
+          commands = self.new.commands;
+          task = self.new.task;
+          outgoing = self.new.outgoing;
+          is_stalled = self.new.is_stalled;
+        }) ⊎ Dies self.old self.new }
         ensures packet { in_hand self.new.task ≡ None }
+        ensures out { (self.new.outgoing ≡ self.old.outgoing) ⊎ Dies self.old self.new
+            ⊎ ((side ≡ Responses) × (outcome ≡ outcomes.Done) × (self.new.outgoing ≡ None)
+            × (self.new.responses ≡ (self.old.responses + 1) % 256)) }
     {
         let Some(rings) = self.rings else {
             return self.die(7);
@@ -354,12 +404,12 @@ impl<K: Picker> Port<K> {
 
     /// Counts a slot of a ring that was given back. What went out is gone.
     fn count(&mut self, side: Side)
-        ensures { self.new ≡ record self.old {
-          responses = self.new.responses;
-          commands = self.new.commands;
-          outgoing = self.new.outgoing;
-          is_stalled = self.new.is_stalled;
+        ensures responses { side ≡ Responses → self.new ≡ record self.old {
+          responses = (self.old.responses + 1) % 256;
+          outgoing = None;
+          is_stalled = false;
         } }
+        ensures commands { side ≡ Commands → self.new ≡ record self.old { commands = (self.old.commands + 1) % 256 } }
     {
         match side {
             Side::Responses => {

@@ -1,18 +1,62 @@
-use Rattle.std.proofs.Common.{◌≡◌, ap, sym, subst, inl, inr, true}
+use Rattle.std.proofs.Common.{rules, ◌≡◌, ap, sym, subst, inl, inr, true}
 use Rattle.mscp_packet.specs.Number.{num}
 use Rattle.mscp_port.specs.Ports.{IsReadingSlot, IsReadingText, in_hand}
 use Rattle.mscp_port.specs.Slots.{is_owned}
 use Rattle.mscp_port.proofs.Known.{held_on}
 use Rattle.mscp_port.proofs.port.Port.was_read.Goals as goal
 
-pub returns-in-Text-clause-learns : goal.returns-in-Text-clause-learns
-returns-in-Text-clause-learns g c = record {
-  rings = c.see_text.ensures.rings;
-  packet = held_on (in_hand c.see_text.new.self.task) (in_hand c.args.self.now.task) c.in-Text.slot.word
-      (λ word. IsReadingSlot c.args.self.now.task × (word ≡ num c.args.bytes.now 0 4) × (is_owned word ≡ true))
-      (ap in_hand c.in-Text.is) c.see_text.ensures.packet;
-  buffers = λ b there. elim (c.see_text.ensures.kept b there) [
-    | inl before ↦ inl before
-    | inr named ↦ inr (subst IsReadingText (sym c.in-Text.is) tt, named.0, named.1)
+pub returns-in-Text : goal.returns-in-Text
+returns-in-Text g c = record {
+  dead = search rules;
+  unasked = tt;
+  frame = c.see_text.ensures.frame;
+  learns = record {
+    packet = held_on (in_hand c.see_text.new.self.task) (in_hand c.args.self.now.task) c.in-Text.slot.word
+        (λ word. IsReadingSlot c.args.self.now.task × (word ≡ num c.args.bytes.now 0 4) × (is_owned word ≡ true))
+        (ap in_hand c.in-Text.is) c.see_text.ensures.packet;
+    buffers = λ b there. elim (c.see_text.ensures.kept b there) [
+      | inl before ↦ inl before
+      | inr named ↦ inr (subst IsReadingText (sym c.in-Text.is) tt, named.0, named.1)
+    ];
+  };
+  handed = search rules;
+  own = search rules;
+  nothing_else = λ no. absurd (no (subst IsReadingText (sym c.in-Text.is) tt));
+  out = elim c.see_text.ensures.out [
+    | inl same ↦ inl same
+    | inr more ↦ elim more [
+      | inl own ↦ inr (inl (c.in-Text.slot, c.in-Text.length, c.in-Text.is_foreign, c.in-Text.is, own))
+      | inr dead ↦ inr (inr dead)
+    ]
   ];
+  packet = search rules;
+  returned = search rules;
+}
+
+pub returns-in-Slot : goal.returns-in-Slot
+returns-in-Slot g c = record {
+  dead = search rules;
+  unasked = tt;
+  frame = search rules;
+  learns = search rules;
+  handed = search rules;
+  own = search rules;
+  nothing_else = search rules;
+  out = search rules;
+  packet = search rules;
+  returned = search rules;
+}
+
+pub returns-in-Header : goal.returns-in-Header
+returns-in-Header g c = record {
+  dead = search rules;
+  unasked = tt;
+  frame = search rules;
+  learns = search rules;
+  handed = search rules;
+  own = search rules;
+  nothing_else = search rules;
+  out = search rules;
+  packet = search rules;
+  returned = search rules;
 }

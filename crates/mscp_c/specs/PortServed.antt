@@ -1,0 +1,77 @@
+-- What comes of calls on a port's handle. Much of a port is its own, so each is a relation.
+use Rattle.std.specs.Prelude.{◌≡◌, ℕ, ℤ, Bool, List, unwrap_or, Result, Ok, Err, IfSome}
+use Rattle.mscp_control.specs.Holdings.{fresh}
+use Rattle.mscp_port.specs.declared.action.Action.{Action}
+use Rattle.mscp_port.specs.declared.action.Outcome.{Outcome}
+use Rattle.mscp_port.specs.declared.action.Unasked.{Unasked}
+use Rattle.mscp_port.specs.declared.port.watching.NoUnit.{NoUnit}
+use Rattle.mscp_port.specs.Calls as ports
+use Rattle.mscp_memory.specs.declared.port.handle.Handle.{Handle}
+use Rattle.mscp_memory.specs.declared.policy.Policy.TheVariants.{Oldest}
+use Rattle.mscp_memory.specs.PortHandles.{placed, with_held}
+use Rattle.mscp_memory.specs.PortRoom.{Held}
+use Rattle.mscp_c.specs.declared.outs.ActionOut.{ActionOut}
+use Rattle.mscp_c.specs.declared.port_given.HardwareIn.{HardwareIn}
+use Rattle.mscp_c.specs.declared.status.TheConstants.{DONE, UNKNOWN_UNIT, UNASKED}
+use Rattle.mscp_c.specs.declared.units.Limits.{Limits}
+use Rattle.mscp_c.specs.declared.units.UnitIn.{UnitIn}
+use Rattle.mscp_c.specs.Given.{policy_given, settings_given}
+use Rattle.mscp_c.specs.PortGiven.{hardware_given}
+use Rattle.mscp_c.specs.PortTold.{action_told, next_code}
+
+-- the handle holds what this leaves of what it held, and is the same otherwise
+pub record Holds (Leaves : Held → Held → Type 0) (old new : Handle) : Type 0 where
+  pub rest : new ≡ with_held old new.held
+  pub leaves : Leaves old.held new.held
+
+-- ---- an init
+
+-- a port of this hardware, over a controller of these limits, units and policy to which nothing came so far, is in the
+-- room. Where the picker's number is none there is a fault
+pub record MakesPort (l : Limits) (us : List UnitIn) (picker : ℕ) (hardware : HardwareIn) (credits : ℕ)
+    (old new : Handle) : Type 0 where
+  pub rest : new ≡ placed old new.held
+  pub makes : IfSome (hardware_given hardware) (λ h.
+      ports.IsMadeOf h credits (fresh (settings_given l us) (unwrap_or (policy_given picker) Oldest)) new.held)
+
+-- ---- what is wanted, and how it went
+
+-- status and out-struct tell what the port wants next
+pub record TellsWanted (old : Handle) (before : ActionOut) (status : ℤ) (new : Handle) (after : ActionOut)
+    : Type 0 where
+  pub action : Action
+  pub wants : ports.Wants old.held action new.held
+  pub rest : new ≡ with_held old new.held
+  pub code : status ≡ next_code action
+  pub told : after ≡ action_told action before
+
+-- the status of what was told of an action: done, or not asked for
+abbrev pub told_code : Result (Unit {0}) Unasked → ℤ
+told_code (Ok done) = DONE
+told_code (Err unasked) = UNASKED
+
+-- it tells what came of bytes that were read
+pub record TellsHeard (bytes : List ℕ) (old : Handle) (status : ℤ) (new : Handle) : Type 0 where
+  pub answer : Result (Unit {0}) Unasked
+  pub hears : ports.Hears bytes old.held answer new.held
+  pub rest : new ≡ with_held old new.held
+  pub code : status ≡ told_code answer
+
+-- it tells what came of an action that went so
+pub record TellsWent (outcome : Outcome) (old : Handle) (status : ℤ) (new : Handle) : Type 0 where
+  pub answer : Result (Unit {0}) Unasked
+  pub goes : ports.Goes outcome old.held answer new.held
+  pub rest : new ≡ with_held old new.held
+  pub code : status ≡ told_code answer
+
+-- the status of a volume that came or went: done, or there is no such unit
+abbrev pub volume_code : Result (Unit {0}) NoUnit → ℤ
+volume_code (Ok done) = DONE
+volume_code (Err fault) = UNKNOWN_UNIT
+
+-- it tells what came of a volume of a unit that came or went
+pub record TellsVolume (unit : ℕ) (there protected : Bool) (old : Handle) (status : ℤ) (new : Handle) : Type 0 where
+  pub answer : Result (Unit {0}) NoUnit
+  pub changes : ports.Changes there protected unit old.held answer new.held
+  pub rest : new ≡ with_held old new.held
+  pub code : status ≡ volume_code answer

@@ -1,0 +1,56 @@
+-- How what a port wants is told.
+use Rattle.std.specs.Prelude.{ℕ, ℤ, List, ◌++◌, length, drop}
+use Rattle.mscp_packet.specs.Opcodes.{move_byte}
+use Rattle.mscp_packet.specs.declared.command.MoveKind.{MoveKind}
+use Rattle.mscp_port.specs.declared.action.Action.{Action}
+use Rattle.mscp_port.specs.declared.action.Action.TheVariants as actions
+use Rattle.mscp_c.specs.declared.outs.ActionOut.{ActionOut}
+use Rattle.mscp_c.specs.declared.port_telling.TheConstants as kinds
+use Rattle.mscp_c.specs.declared.status.TheConstants as status
+
+-- the status: whether there is something to do
+abbrev pub next_code : Action → ℤ
+next_code actions.Rest = status.NOTHING
+next_code action = status.DONE
+
+-- what is told of an action of which only the kind is told. The bytes are what they were
+abbrev pub of_kind : ℕ → ActionOut → ActionOut
+of_kind kind out = record {
+  address = 0;
+  count = 0;
+  block = 0;
+  unit = 0;
+  vector = 0;
+  kind = kind;
+  opcode = 0;
+  bytes = out.bytes;
+}
+
+-- of one that is about so many bytes of host memory from an address on
+abbrev pub of_memory : ℕ → ℕ → ℕ → ActionOut → ActionOut
+of_memory kind address count out = record (of_kind kind out) { address = address; count = count }
+
+-- of a transfer, with its opcode
+abbrev pub of_transfer : MoveKind → ℕ → ℕ → ℕ → ActionOut → ActionOut
+of_transfer kind unit block count out = record (of_kind kinds.TRANSFER out) {
+  count = count;
+  block = block;
+  unit = unit;
+  opcode = move_byte kind;
+}
+
+-- these bytes are told: from the first on, and those behind them are what they were
+abbrev pub with_bytes : List ℕ → ActionOut → ActionOut
+with_bytes b out = record out { bytes = b ++ drop (length b) out.bytes }
+
+-- what is told of an action. Where there is nothing to do nothing is
+abbrev pub action_told : Action → ActionOut → ActionOut
+action_told actions.Rest out = out
+action_told actions.Pause out = of_kind kinds.PAUSE out
+action_told (actions.Read address count) out = of_memory kinds.READ address count out
+action_told (actions.Write address bytes) out =
+    with_bytes bytes.items (of_memory kinds.WRITE address (length bytes.items) out)
+action_told (actions.Interrupt vector) out = record (of_kind kinds.INTERRUPT out) { vector = vector }
+action_told (actions.Fetch address count) out = of_memory kinds.FETCH address count out
+action_told (actions.Transfer kind unit block count) out = of_transfer kind unit block count out
+action_told (actions.Store address count) out = of_memory kinds.STORE address count out

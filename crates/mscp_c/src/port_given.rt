@@ -1,0 +1,80 @@
+// What a program in C gives for a port.
+
+ghost use Rattle.std.specs.Prelude.{◌≡◌};
+ghost use Rattle.mscp_c.specs.PortGiven.{bus_given, fault_given, hardware_given, outcome_given};
+
+use crate::units::InitFault;
+use mscp_control::FaultStatus;
+use mscp_port::{Bus, Hardware, Outcome};
+
+/// What kind of port it is.
+#[repr(C)]
+#[derive(Clone, Copy)]
+pub struct HardwareIn {
+    pub bus: u8,
+    pub model: u8,
+    pub software: u8,
+    pub version: u8,
+}
+
+/// Why no port is made: the first that holds, in this order.
+#[derive(Clone, Copy, PartialEq, Eq)]
+pub(crate) enum PortInitFault {
+    /// There is no such controller, or no room.
+    Controller(InitFault),
+    /// No bus has this number.
+    Bus,
+    /// So many commands of a host are refused.
+    Credits,
+}
+
+/// The bus of this number: 0 the Q-bus, 1 the Unibus.
+fn bus_of(number: u8) -> Option<Bus>
+    ensures { result ≡ bus_given number }
+{
+    match number {
+        0 => Some(Bus::Q),
+        1 => Some(Bus::Uni),
+        _ => None,
+    }
+}
+
+/// The hardware of these numbers, where its bus is one.
+pub(crate) fn hardware_of(given: &HardwareIn) -> Option<Hardware>
+    ensures { result ≡ hardware_given given.now }
+{
+    match bus_of(given.bus) {
+        Some(bus) => Some(Hardware {
+            bus,
+            model: given.model,
+            software: given.software,
+            version: given.version,
+        }),
+        None => None,
+    }
+}
+
+/// A block that couldn't be moved, where this is the status of one.
+fn failed(status: u16) -> Option<Outcome>
+    ensures { result ≡ fault_given status }
+{
+    match FaultStatus::new(status) {
+        Some(fault) => Some(Outcome::Failed(fault)),
+        None => None,
+    }
+}
+
+/// How an action went, by this number, and by this status where its block couldn't be moved.
+pub(crate) fn outcome_of(number: u32, status: u16) -> Option<Outcome>
+    ensures { result ≡ outcome_given number status }
+{
+    match number {
+        0 => Some(Outcome::Done),
+        1 => Some(Outcome::Missing),
+        2 => Some(Outcome::Parity),
+        3 => Some(Outcome::Unmapped),
+        4 => Some(Outcome::Different),
+        5 => failed(status),
+        _ => None,
+    }
+}

@@ -1,0 +1,107 @@
+// How what a port wants is told.
+
+ghost use Rattle.std.specs.Prelude.{◌≡◌, length};
+ghost use Rattle.mscp_packet.specs.Opcodes.{move_byte};
+ghost use Rattle.mscp_c.specs.PortTold.{action_told, next_code, of_kind, of_memory, of_transfer, with_bytes};
+
+use crate::outs::ActionOut;
+use crate::status::{DONE, NOTHING};
+use arrayvec::ArrayVec;
+use mscp_packet::MoveKind;
+use mscp_port::Action;
+
+/// The kinds of what it wants.
+const PAUSE: u8 = 1;
+
+const READ: u8 = 2;
+
+const WRITE: u8 = 3;
+
+const INTERRUPT: u8 = 4;
+
+const FETCH: u8 = 5;
+
+const TRANSFER: u8 = 6;
+
+const STORE: u8 = 7;
+
+/// The opcode of a transfer.
+fn opcode_of(kind: MoveKind) -> u8
+    ensures { result ≡ move_byte kind }
+{
+    match kind {
+        MoveKind::Access => 16,
+        MoveKind::Erase => 18,
+        MoveKind::Compare => 32,
+        MoveKind::Read => 33,
+        MoveKind::Write => 34,
+    }
+}
+
+/// It is of this kind, and nothing else is told of it.
+fn tell_kind(out: &mut ActionOut, kind: u8)
+    ensures { out.new ≡ of_kind kind out.old }
+{
+    out.address = 0;
+    out.count = 0;
+    out.block = 0;
+    out.unit = 0;
+    out.vector = 0;
+    out.kind = kind;
+    out.opcode = 0;
+}
+
+/// It is about so many bytes of host memory from an address on.
+fn tell_memory(out: &mut ActionOut, kind: u8, address: u32, count: u32)
+    ensures { out.new ≡ of_memory kind address count out.old }
+{
+    tell_kind(out, kind);
+    out.address = address;
+    out.count = count;
+}
+
+/// These bytes are to be written to host memory.
+fn tell_write(out: &mut ActionOut, address: u32, bytes: &ArrayVec<u8, 64>)
+    ensures { out.new ≡ with_bytes bytes.now.items (of_memory WRITE address (length bytes.now.items) out.old) }
+{
+    let length = bytes.len();
+    tell_memory(out, WRITE, address, length as u32);
+    out.bytes[..length].copy_from_slice(bytes.as_slice());
+}
+
+/// A block is to be moved.
+fn tell_transfer(out: &mut ActionOut, kind: MoveKind, unit: u16, block: u32, count: u32)
+    ensures { out.new ≡ of_transfer kind unit block count out.old }
+{
+    tell_kind(out, TRANSFER);
+    out.count = count;
+    out.block = block;
+    out.unit = unit;
+    out.opcode = opcode_of(kind);
+}
+
+/// Tells what a port wants done.
+pub(crate) fn tell_action(out: &mut ActionOut, action: &Action) -> i32
+    ensures code { result ≡ next_code action.now }
+    ensures told { out.new ≡ action_told action.now out.old }
+{
+    match action {
+        Action::Rest => return NOTHING,
+        Action::Pause => tell_kind(out, PAUSE),
+        Action::Read { address, count } => tell_memory(out, READ, *address, *count),
+        Action::Write { address, bytes } => tell_write(out, *address, bytes),
+        Action::Interrupt(vector) => {
+            tell_kind(out, INTERRUPT);
+            out.vector = *vector;
+        }
+        Action::Fetch { address, count } => tell_memory(out, FETCH, *address, *count),
+        Action::Transfer {
+            kind,
+            unit,
+            block,
+            count,
+        } => tell_transfer(out, *kind, *unit, *block, *count),
+        Action::Store { address, count } => tell_memory(out, STORE, *address, *count),
+    }
+    DONE
+}

@@ -1,0 +1,62 @@
+// What a port wants done, and how that went.
+
+ghost use Rattle.std.specs.Prelude.{◌≡◌, true, false, IfSome, None};
+ghost use Rattle.mscp_memory.specs.PortHandles.{is_made};
+ghost use Rattle.mscp_c.specs.PortGiven.{outcome_given};
+ghost use Rattle.mscp_c.specs.PortServed.{TellsHeard, TellsWanted, TellsWent};
+
+use crate::outs::ActionOut;
+use crate::port_given::outcome_of;
+use crate::port_telling::tell_action;
+use crate::status::{BAD_OUTCOME, DONE, NOT_MADE, UNASKED};
+use mscp_memory::port::{Handle, is_made, lend};
+
+/// What the port wants done next.
+#[unsafe(no_mangle)]
+pub extern "C" fn mscp_port_next(handle: &mut Handle, out: &mut ActionOut) -> i32
+    ensures wanted { is_made handle.old ≡ true → TellsWanted handle.old out.old result handle.new out.new }
+    ensures unmade { is_made handle.old ≡ false
+        → (result ≡ NOT_MADE) × (handle.new ≡ handle.old) × (out.new ≡ out.old) }
+{
+    if !is_made(handle) {
+        return NOT_MADE;
+    }
+    let action = lend(handle).next();
+    tell_action(out, &action)
+}
+
+/// These bytes were read in host memory, as the port wanted.
+#[unsafe(no_mangle)]
+pub extern "C" fn mscp_port_was_read_at(handle: &mut Handle, bytes: &[u8]) -> i32
+    ensures heard { is_made handle.old ≡ true → TellsHeard bytes.now handle.old result handle.new }
+    ensures unmade { is_made handle.old ≡ false → (result ≡ NOT_MADE) × (handle.new ≡ handle.old) }
+{
+    if !is_made(handle) {
+        return NOT_MADE;
+    }
+    match lend(handle).was_read(bytes) {
+        Ok(()) => DONE,
+        Err(_) => UNASKED,
+    }
+}
+
+/// What the port wanted went so: by this number, and by this status where its block couldn't be moved.
+#[unsafe(no_mangle)]
+pub extern "C" fn mscp_port_went(handle: &mut Handle, outcome: u32, status: u16) -> i32
+    ensures went { is_made handle.old ≡ true → IfSome (outcome_given outcome status) (λ outcome.
+        TellsWent outcome handle.old result handle.new) }
+    ensures no_outcome { is_made handle.old ≡ true → outcome_given outcome status ≡ None
+        → (result ≡ BAD_OUTCOME) × (handle.new ≡ handle.old) }
+    ensures unmade { is_made handle.old ≡ false → (result ≡ NOT_MADE) × (handle.new ≡ handle.old) }
+{
+    if !is_made(handle) {
+        return NOT_MADE;
+    }
+    let Some(outcome) = outcome_of(outcome, status) else {
+        return BAD_OUTCOME;
+    };
+    match lend(handle).went(outcome) {
+        Ok(()) => DONE,
+        Err(_) => UNASKED,
+    }
+}

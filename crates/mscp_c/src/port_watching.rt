@@ -1,0 +1,68 @@
+// What comes to a port from elsewhere than its host: volumes, and time.
+
+ghost use Rattle.std.specs.Prelude.{◌≡◌, ◌==◌, not, true, false};
+ghost use Rattle.mscp_port.specs.Calls.{LooksAgain, Ticks};
+ghost use Rattle.mscp_memory.specs.PortHandles.{is_made};
+ghost use Rattle.mscp_c.specs.PortServed.{Holds, TellsVolume};
+
+use crate::status::{DONE, NOT_MADE, UNKNOWN_UNIT};
+use mscp_memory::port::{Handle, is_made, lend};
+
+/// The host may have given slots of its ring of ends back, of which nothing tells.
+#[unsafe(no_mangle)]
+pub extern "C" fn mscp_port_look_again(handle: &mut Handle) -> i32
+    ensures after { is_made handle.old ≡ true → Holds LooksAgain handle.old handle.new }
+    ensures done { is_made handle.old ≡ true → result ≡ DONE }
+    ensures unmade { is_made handle.old ≡ false → (result ≡ NOT_MADE) × (handle.new ≡ handle.old) }
+{
+    if !is_made(handle) {
+        return NOT_MADE;
+    }
+    lend(handle).look_again();
+    DONE
+}
+
+/// A second went by.
+#[unsafe(no_mangle)]
+pub extern "C" fn mscp_port_tick(handle: &mut Handle) -> i32
+    ensures after { is_made handle.old ≡ true → Holds Ticks handle.old handle.new }
+    ensures done { is_made handle.old ≡ true → result ≡ DONE }
+    ensures unmade { is_made handle.old ≡ false → (result ≡ NOT_MADE) × (handle.new ≡ handle.old) }
+{
+    if !is_made(handle) {
+        return NOT_MADE;
+    }
+    lend(handle).tick();
+    DONE
+}
+
+/// A volume came into a unit: one that may be written on where the flag is 0.
+#[unsafe(no_mangle)]
+pub extern "C" fn mscp_port_volume_came(handle: &mut Handle, unit: u16, is_protected: u32) -> i32
+    ensures came { is_made handle.old ≡ true
+        → TellsVolume unit true (not (is_protected == 0)) handle.old result handle.new }
+    ensures unmade { is_made handle.old ≡ false → (result ≡ NOT_MADE) × (handle.new ≡ handle.old) }
+{
+    if !is_made(handle) {
+        return NOT_MADE;
+    }
+    match lend(handle).volume_came(unit, is_protected != 0) {
+        Ok(()) => DONE,
+        Err(_) => UNKNOWN_UNIT,
+    }
+}
+
+/// The volume of a unit went.
+#[unsafe(no_mangle)]
+pub extern "C" fn mscp_port_volume_went(handle: &mut Handle, unit: u16) -> i32
+    ensures went { is_made handle.old ≡ true → TellsVolume unit false false handle.old result handle.new }
+    ensures unmade { is_made handle.old ≡ false → (result ≡ NOT_MADE) × (handle.new ≡ handle.old) }
+{
+    if !is_made(handle) {
+        return NOT_MADE;
+    }
+    match lend(handle).volume_went(unit) {
+        Ok(()) => DONE,
+        Err(_) => UNKNOWN_UNIT,
+    }
+}

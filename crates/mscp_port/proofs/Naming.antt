@@ -1,0 +1,4 @@
+pub mod Acting
+pub mod Knowing
+pub mod Registers
+pub mod Whole

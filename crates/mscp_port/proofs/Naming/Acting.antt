@@ -1,0 +1,236 @@
+-- What a port knows once bytes were read, or an action went some way.
+use Rattle.std.proofs.Common.{◌≡◌, ◌⊎◌, ℕ, ◌<◌, Bool, true, false, ◌/◌, ◌%◌, List, [], ◌∷◌, Option, None, Some, Contains, IfSome, inl, inr, refl, ap, sym, ◌∙◌, subst}
+use Rattle.std.proofs.lemmas.Bool.{eqb-true, eqb-false, ltb-true, ltb-false}
+use Rattle.std.proofs.lemmas.Option.{none-some}
+use Rattle.std.specs.Prelude.{Result, Ok, Err, nat_lt, nat_eq}
+use Rattle.mscp_packet.specs.Number.{num}
+use Rattle.mscp_port.specs.declared.action.Outcome.{Outcome}
+use Rattle.mscp_port.specs.declared.action.Unasked.{Unasked}
+use Rattle.mscp_port.specs.declared.buffers.Buffer.{Buffer}
+use Rattle.mscp_port.specs.declared.port.Port.{Port}
+use Rattle.mscp_port.specs.declared.stage.Stage.{Stage}
+use Rattle.mscp_port.specs.declared.stage.Stage.TheVariants as stages
+use Rattle.mscp_port.specs.declared.task.Task.{Task}
+use Rattle.mscp_port.specs.declared.task.Task.TheVariants as tasks
+use Rattle.mscp_port.specs.Areas.{Rings, rings_named}
+use Rattle.mscp_port.specs.Buffers.{buffer_in}
+use Rattle.mscp_port.specs.Slots.{is_owned}
+use Rattle.mscp_port.specs.Calls.{Goes, Hears, StaysInStage, TakesStep, step_answered}
+use Rattle.mscp_port.specs.Histories.{HasInOrder, NamesArea, NamesBuffer, NamesPacket, words}
+use Rattle.mscp_port.specs.Ports.{IsReadingSlot, IsReadingText, in_hand}
+use Rattle.mscp_port.proofs.Naming.Knowing.{answers, Knows, first_in_order, if_none, if_same, carried, new_knows, dead_knows, Handles, still_knows, here, packet_named_still, buffer_named_still}
+use Rattle.mscp_port.proofs.Naming.Registers.{apart}
+
+-- ---- what was read
+
+-- the packet in hand was in hand before, or its descriptor was read now
+pub read_packet : (bytes : List ℕ) (bs : List (List ℕ)) (now before : Option ℕ) (R : Type 0)
+    → IfSome now (λ word. (before ≡ Some word) ⊎ (R × (word ≡ num bytes 0 4) × (is_owned word ≡ true)))
+    → IfSome before (λ word. NamesPacket bs word) → IfSome now (λ word. NamesPacket (bytes ∷ bs) word)
+read_packet bytes bs None before R h k = tt
+read_packet bytes bs (Some word) before R h k = elim h [
+  | inl held ↦ packet_named_still bytes bs word (subst (λ o. IfSome o (λ w. NamesPacket bs w)) held k)
+  | inr seen ↦ (bytes, here bytes bs, seen.1, seen.2)
+]
+
+-- the buffer was kept before, or is in what was read now
+pub read_buffer : (bytes : List ℕ) (bs : List (List ℕ)) (b : Buffer) (Before R : Type 0) → (Before → NamesBuffer bs b)
+    → Before ⊎ (R × (changes : ℕ) × (b ≡ buffer_in bytes changes)) → NamesBuffer (bytes ∷ bs) b
+read_buffer bytes bs b Before R k h = elim h [
+  | inl before ↦ buffer_named_still bytes bs b (k before)
+  | inr seen ↦ (bytes, seen.1, here bytes bs, seen.2)
+]
+
+pub after_read : {K : Type 0} (ws : List ℕ) (bs : List (List ℕ)) (old new : Port K) (bytes : List ℕ)
+    (result : Result Unit Unasked) → Knows ws bs old → Hears bytes old result new → Knows ws (bytes ∷ bs) new
+after_read ws bs old new bytes result k r = elim r.frame [
+  | inl e ↦ still_knows ws bs (bytes ∷ bs) old new k
+      (record {
+        taken = inl (ap (λ p. answers p.stage p.words) e);
+        given = ap (λ p. p.written) e;
+        area = ap (λ p. p.rings) e;
+      })
+      (record {
+        packet = read_packet bytes bs (in_hand new.task) (in_hand old.task) (IsReadingSlot old.task) r.learns.packet
+            k.packet;
+        buffer = λ b there. read_buffer bytes bs b (Contains old.buffers.items b) (IsReadingText old.task) (k.buffer b)
+            (r.learns.buffers b there);
+      })
+  | inr dead ↦ dead_knows ws (bytes ∷ bs) old new dead
+]
+
+-- ---- how an action went
+
+pub acted : {K : Type 0} (ws : List ℕ) (bs : List (List ℕ)) (old new : Port K) (outcome : Outcome)
+    (result : Result Unit Unasked) → Knows ws bs old → Goes outcome old result new → new.words ≡ old.words
+    → new.written ≡ old.written → new.rings ≡ old.rings → StaysInStage old new → Knows ws bs new
+acted ws bs old new outcome result k r words written rings stays =
+    let handles : Handles bs new = record {
+      packet = carried (in_hand new.task) (in_hand old.task) (λ word. NamesPacket bs word) r.packet k.packet;
+      buffer = λ b there. k.buffer b (r.buffers b there);
+    } in
+    elim stays [
+      | inl same ↦ still_knows ws bs bs old new k (record {
+        taken = inl (ap (λ s. answers s new.words) same ∙ ap (λ w. answers old.stage w) words);
+        given = written;
+        area = rings;
+      }) handles
+      | inr moved ↦ elim moved [
+        | inl last ↦ still_knows ws bs bs old new k (record {
+          taken = inr (ap (λ s. answers s new.words) last);
+          given = written;
+          area = rings;
+        }) handles
+        | inr dead ↦ dead_knows ws bs old new dead
+      ]
+    ]
+
+-- no step is taken
+pub no_step : {K : Type 0} (ws : List ℕ) (bs : List (List ℕ)) (old new : Port K) (outcome : Outcome)
+    (result : Result Unit Unasked) → Knows ws bs old → Goes outcome old result new
+    → step_answered old.task old.written ≡ None → Knows ws bs new
+no_step ws bs old new outcome result k r none =
+    let still = r.still none in
+    elim still.0 [
+      | inl e ↦ acted ws bs old new outcome result k r (ap (λ p. p.words) e) (ap (λ p. p.written) e)
+          (ap (λ p. p.rings) e) still.1
+      | inr dead ↦ dead_knows ws bs old new dead
+    ]
+
+-- the word of the step that is taken is the one that the host wrote
+pub word_given : (task : Task) (written : Option ℕ) (word : ℕ) → step_answered task written ≡ Some word
+    → written ≡ Some word
+word_given tasks.Settle written word e = e
+word_given task written word e = absurd (none-some word e)
+
+-- after a step: these steps were taken, and no word waits for one
+pub stepped : {K : Type 0} (ws : List ℕ) (bs : List (List ℕ)) (new : Port K) (xs : List ℕ)
+    → answers new.stage new.words ≡ xs → HasInOrder xs ws → new.written ≡ None
+    → IfSome new.rings (λ r. NamesArea ws r) → Handles bs new → Knows ws bs new
+stepped ws bs new xs e h none area handles = record {
+  taken = subst (λ zs. HasInOrder zs ws) (sym e) h;
+  given = if_none new.written (λ word. HasInOrder (word ∷ answers new.stage new.words) ws) none;
+  area = area;
+  packet = handles.packet;
+  buffer = handles.buffer;
+}
+
+-- the area that three words name
+pub area_named : (ws : List ℕ) (first second third : ℕ) (o : Option Rings) → rings_named first second third ≡ o
+    → HasInOrder (third ∷ second ∷ first ∷ []) ws → IfSome o (λ r. NamesArea ws r)
+area_named ws first second third None e h = tt
+area_named ws first second third (Some r) e h = (first, second, third, h, e)
+
+pub first_step : {K : Type 0} (ws : List ℕ) (bs : List (List ℕ)) (old new : Port K) (word : ℕ) → Knows ws bs old
+    → HasInOrder (word ∷ answers old.stage old.words) ws → Handles bs new → TakesStep word old new
+    → old.stage ≡ stages.First → (b : Bool) → nat_eq (word / 0x4000 % 2) 1 ≡ b → Knows ws bs new
+first_step ws bs old new word k given handles t e true is =
+    let wrapped = t.wrap e (eqb-true (word / 0x4000 % 2) 1 is) in
+    stepped ws bs new [] (ap (λ p. answers p.stage p.words) wrapped) tt (ap (λ p. p.written) wrapped)
+    (if_same new.rings old.rings (λ r. NamesArea ws r) (ap (λ p. p.rings) wrapped) k.area) handles
+first_step ws bs old new word k given handles t e false is =
+    let on = t.first e (eqb-false (word / 0x4000 % 2) 1 is) in
+    stepped ws bs new (word ∷ []) (ap (λ p. answers p.stage p.words) on)
+    (first_in_order word (answers old.stage old.words) ws given) (ap (λ p. p.written) on)
+    (if_same new.rings old.rings (λ r. NamesArea ws r) (ap (λ p. p.rings) on) k.area) handles
+
+pub second_step : {K : Type 0} (ws : List ℕ) (bs : List (List ℕ)) (old new : Port K) (word : ℕ) → Knows ws bs old
+    → HasInOrder (word ∷ answers old.stage old.words) ws → Handles bs new → TakesStep word old new
+    → old.stage ≡ stages.Second → Knows ws bs new
+second_step ws bs old new word k given handles t e =
+    let on = t.second e in
+    stepped ws bs new (word ∷ old.words.first ∷ []) (ap (λ p. answers p.stage p.words) on)
+    (subst (λ s. HasInOrder (word ∷ answers s old.words) ws) e given) (ap (λ p. p.written) on)
+    (if_same new.rings old.rings (λ r. NamesArea ws r) (ap (λ p. p.rings) on) k.area) handles
+
+-- the area is named by the third step, and cleared at once or after the test
+pub third_taken : {K : Type 0} (ws : List ℕ) (bs : List (List ℕ)) (old new : Port K) (word : ℕ)
+    → HasInOrder (word ∷ answers old.stage old.words) ws → Handles bs new → old.stage ≡ stages.Third
+    → answers new.stage new.words ≡ [] → new.written ≡ None
+    → new.rings ≡ rings_named old.words.first old.words.second word → Knows ws bs new
+third_taken ws bs old new word given handles e none written rings =
+    stepped ws bs new [] none tt written
+    (if_same new.rings (rings_named old.words.first old.words.second word) (λ r. NamesArea ws r) rings
+    (area_named ws old.words.first old.words.second word (rings_named old.words.first old.words.second word) refl
+    (subst (λ s. HasInOrder (word ∷ answers s old.words) ws) e given))) handles
+
+pub third_cleared : {K : Type 0} (ws : List ℕ) (bs : List (List ℕ)) (old new : Port K) (word : ℕ)
+    → HasInOrder (word ∷ answers old.stage old.words) ws → Handles bs new → TakesStep word old new
+    → old.stage ≡ stages.Third → word < 0x8000 → (o : Option Rings)
+    → rings_named old.words.first old.words.second word ≡ o → Knows ws bs new
+third_cleared ws bs old new word given handles t e low None none =
+    new_knows ws bs (stages.Dead 7) old new (λ w. refl) (t.nowhere e low none)
+third_cleared ws bs old new word given handles t e low (Some area) some =
+    let on = t.clear e low (λ none. none-some area (sym none ∙ some)) in
+    third_taken ws bs old new word given handles e (ap (λ p. answers p.stage p.words) on) (ap (λ p. p.written) on)
+    (ap (λ p. p.rings) on)
+
+pub third_step : {K : Type 0} (ws : List ℕ) (bs : List (List ℕ)) (old new : Port K) (word : ℕ)
+    → HasInOrder (word ∷ answers old.stage old.words) ws → Handles bs new → TakesStep word old new
+    → old.stage ≡ stages.Third → (b : Bool) → nat_lt word 0x8000 ≡ b → Knows ws bs new
+third_step ws bs old new word given handles t e true is =
+    third_cleared ws bs old new word given handles t e (ltb-true word 0x8000 is)
+    (rings_named old.words.first old.words.second word) refl
+third_step ws bs old new word given handles t e false is =
+    let on = t.probe e (ltb-false word 0x8000 is) in
+    third_taken ws bs old new word given handles e (ap (λ p. answers p.stage p.words) on) (ap (λ p. p.written) on)
+    (ap (λ p. p.rings) on)
+
+abbrev pub is_first : Stage → Bool
+is_first stages.First = true
+is_first s = false
+
+abbrev pub is_second : Stage → Bool
+is_second stages.Second = true
+is_second s = false
+
+abbrev pub is_third : Stage → Bool
+is_third stages.Third = true
+is_third s = false
+
+-- a word that answers no step is forgotten
+pub step_elsewhere : {K : Type 0} (ws : List ℕ) (bs : List (List ℕ)) (old new : Port K) (word : ℕ) (s : Stage)
+    → Knows ws bs old → TakesStep word old new → is_first s ≡ false → is_second s ≡ false → is_third s ≡ false
+    → old.stage ≡ s → Knows ws bs new
+step_elsewhere ws bs old new word s k t first second third e =
+    subst (Knows ws bs) (sym (t.elsewhere (apart is_first old.stage s stages.First e first refl)
+    (apart is_second old.stage s stages.Second e second refl) (apart is_third old.stage s stages.Third e third refl)))
+    (record { taken = k.taken; given = tt; area = k.area; packet = tt; buffer = k.buffer })
+
+pub after_step : {K : Type 0} (ws : List ℕ) (bs : List (List ℕ)) (old new : Port K) (word : ℕ) → Knows ws bs old
+    → HasInOrder (word ∷ answers old.stage old.words) ws → Handles bs new → TakesStep word old new → Knows ws bs new
+after_step ws bs old new word k given handles t =
+    let Then : Stage → Type 0 = λ s. old.stage ≡ s → Knows ws bs new in
+    let by_stage : (s : Stage) → Then s = λ s. elim s as Then [
+      | stages.First ↦ λ e. first_step ws bs old new word k given handles t e (nat_eq (word / 0x4000 % 2) 1) refl
+      | stages.Wrapped other ↦ step_elsewhere ws bs old new word (stages.Wrapped other) k t refl refl refl
+      | stages.Second ↦ second_step ws bs old new word k given handles t
+      | stages.Third ↦ λ e. third_step ws bs old new word given handles t e (nat_lt word 0x8000) refl
+      | stages.Purging ↦ step_elsewhere ws bs old new word stages.Purging k t refl refl refl
+      | stages.Probing ↦ step_elsewhere ws bs old new word stages.Probing k t refl refl refl
+      | stages.Clearing ↦ step_elsewhere ws bs old new word stages.Clearing k t refl refl refl
+      | stages.Last ↦ step_elsewhere ws bs old new word stages.Last k t refl refl refl
+      | stages.Up ↦ step_elsewhere ws bs old new word stages.Up k t refl refl refl
+      | stages.Dead code ↦ step_elsewhere ws bs old new word (stages.Dead code) k t refl refl refl
+    ] in
+    by_stage old.stage refl
+
+pub done_or_not : {K : Type 0} (ws : List ℕ) (bs : List (List ℕ)) (old new : Port K) (outcome : Outcome)
+    (done : Unit {0}) → Knows ws bs old → Goes outcome old (Ok done) new → (o : Option ℕ)
+    → step_answered old.task old.written ≡ o → Knows ws bs new
+done_or_not ws bs old new outcome done k r None e = no_step ws bs old new outcome (Ok done) k r e
+done_or_not ws bs old new outcome done k r (Some word) e =
+    let written : old.written ≡ Some word = word_given old.task old.written word e in
+    after_step ws bs old new word k
+    (subst (λ o. IfSome o (λ w. HasInOrder (w ∷ answers old.stage old.words) ws)) written k.given)
+    (record {
+      packet = carried (in_hand new.task) (in_hand old.task) (λ w. NamesPacket bs w) r.packet k.packet;
+      buffer = λ b there. k.buffer b (r.buffers b there);
+    })
+    (subst (λ o. IfSome o (λ w. TakesStep w old new)) e (r.steps refl))
+
+pub after_went : {K : Type 0} (ws : List ℕ) (bs : List (List ℕ)) (old new : Port K) (outcome : Outcome)
+    (result : Result Unit Unasked) → Knows ws bs old → Goes outcome old result new → Knows ws bs new
+after_went ws bs old new outcome (Ok done) k r =
+    done_or_not ws bs old new outcome done k r (step_answered old.task old.written) refl
+after_went ws bs old new outcome (Err unasked) k r = subst (Knows ws bs) (sym r.unasked) k

@@ -1,0 +1,35 @@
+use Rattle.std.proofs.Common.{rules, sym, subst}
+use Rattle.mscp_port.specs.declared.port.Port.{Port}
+use Rattle.mscp_port.specs.Outgoings.{Says}
+use Rattle.mscp_port.specs.Ports.{IsDue}
+use Rattle.mscp_port.proofs.Known.{said_on, says_the_same}
+use Rattle.mscp_port.proofs.port.Port.next.Goals as goal
+use Rattle.mscp_port.proofs.port.Port.next.Goals.{in-Free, in_default}
+
+pub returns : goal.returns
+returns g c = record {
+  frame = search rules;
+  within = c.action.ensures.within;
+  packet = search rules;
+  dead = search rules;
+  rests = search rules;
+  wanted = λ alive. c.action.ensures.wanted;
+  due = λ alive free. elim c.match-self.branch [
+    | in-Free w ↦
+        let d = w.choose-self.ensures.due in
+        subst (λ (p : Port g.row.K.Denot). IsDue p p.task) (sym w.self-is) (record {
+          step = d.step;
+          still = d.still;
+          goes_out = d.goes_out;
+          comes_in = d.comes_in;
+          block = d.block;
+        })
+    | in_default w ↦ absurd (w.in_default.not-Free free)
+  ];
+  says = elim c.match-self.branch [
+    | in-Free w ↦ subst (λ (p : Port g.row.K.Denot). Says c.args.self.now p) (sym w.self-is)
+        (said_on c.args.self.now w.choose-self.new.self w.choose-self.result w.choose-self.ensures.says)
+    | in_default w ↦ says_the_same c.args.self.now c.match-self.self w.self-is
+  ];
+  goes_on = search rules;
+}

@@ -1,0 +1,21 @@
+use Rattle.std.proofs.Common.{rules, ◌≡◌, IfSome, inl, inr, sym, subst, ap, ◌∙◌}
+use Rattle.mscp_port.specs.Calls.{TakesStep, step_answered}
+use Rattle.mscp_port.proofs.Known.{none_returned, unsettled}
+use Rattle.mscp_port.proofs.port.Port.went.Goals as goal
+
+pub returns-in-Settle : goal.returns-in-Settle
+returns-in-Settle g c =
+    let old = c.args.self.now in
+    let new = c.settled.new.self in
+    let word_is : step_answered old.task old.written ≡ old.written =
+    ap (λ t. step_answered t old.written) c.in-Settle.is in
+    record {
+      dead = search rules;
+      unasked = tt;
+      steps = λ done. subst (λ o. IfSome o (λ word. TakesStep word old new)) (sym word_is) c.settled.ensures.steps;
+      still = λ none. unsettled old new (c.settled.ensures.none (sym word_is ∙ none));
+      buffers = c.settled.ensures.buffers;
+      packet = search rules;
+      out = elim c.settled.ensures.out [ inl same ↦ inl same | inr dead ↦ inr (inr dead) ];
+      returned = λ side slot done e. absurd (none_returned new.task side slot c.settled.ensures.packet e);
+    }

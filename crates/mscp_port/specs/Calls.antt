@@ -1,0 +1,260 @@
+-- What is called of a port, and what becomes of it.
+use Rattle.std.specs.Prelude.{◌≡◌, ◌≢◌, ◌≤◌, ◌<◌, ◌==◌, ◌+◌, ◌%◌, ◌/◌, ◌⊎◌, ◌↔◌, ℕ, Bool, true, false, nat_lt, if◌then◌else◌, List, [], Contains, IfSome, IsErr, IsOk, OnErr, Result, Option, None, Some, Err}
+use Rattle.mscp_queue.specs.declared.name.Connection.TheVariants.{First}
+use Rattle.mscp_control.specs.Holdings.{after_message, answer_to_message, Holdings}
+use Rattle.mscp_control.specs.declared.event.SendFault.TheVariants as faults
+use Rattle.mscp_port.specs.declared.action.Action.{Action}
+use Rattle.mscp_port.specs.declared.action.Action.TheVariants as actions
+use Rattle.mscp_port.specs.declared.action.Outcome.{Outcome}
+use Rattle.mscp_port.specs.declared.action.Outcome.TheVariants as outcomes
+use Rattle.mscp_port.specs.declared.action.Unasked.{Unasked}
+use Rattle.mscp_port.specs.declared.buffers.Buffer.{Buffer}
+use Rattle.mscp_port.specs.declared.hardware.Hardware.{Hardware}
+use Rattle.mscp_port.specs.declared.port.Port.{Port}
+use Rattle.mscp_port.specs.declared.port.watching.NoUnit.{NoUnit}
+use Rattle.mscp_port.specs.declared.rings.Side.{Side}
+use Rattle.mscp_port.specs.declared.rings.Side.TheVariants.{Responses, Commands}
+use Rattle.mscp_port.specs.declared.slot.Descriptor.{Descriptor}
+use Rattle.mscp_port.specs.declared.stage.Stage.TheVariants as stages
+use Rattle.mscp_port.specs.declared.task.Task.{Task}
+use Rattle.mscp_port.specs.declared.task.Task.TheVariants as tasks
+use Rattle.mscp_port.specs.Areas.{rings_named}
+use Rattle.mscp_port.specs.Messages.{handed, own_end}
+use Rattle.mscp_port.specs.Outgoings.{AnswersItself, HasSaid, Says}
+use Rattle.mscp_port.specs.Slots.{is_owned}
+use Rattle.mscp_packet.specs.Number.{num}
+use Rattle.mscp_port.specs.Ports.{IsAsNew, IsDue, IsIdle, IsReadingText, IsWithin, Learns, in_hand}
+use Rattle.mscp_port.specs.Registers.{shown}
+use Rattle.mscp_port.specs.Wanted.{IsWanted}
+use Rattle.mscp_port.specs.Volumes.{no_volume, place_in, volume_at, volumes_changed}
+
+-- a fatal error: all that the host has said is forgotten, and nothing goes on until it writes IP
+abbrev pub Dies : {K : Type 0} → Port K → Port K → Type 0
+Dies old new = (code : ℕ) × IsAsNew (stages.Dead code) old new
+
+-- a port was made over a controller, for a host that may have so many commands outstanding: it is in the first step of
+-- its initialisation, and knows nothing
+pub record IsMadeOf {K : Type 0} (made_hardware : Hardware) (credits : ℕ) (made_over : Holdings K) (p : Port K)
+    : Type 0 where
+  pub over : p.controller ≡ made_over
+  pub hardware : p.hardware ≡ made_hardware
+  -- all credits but one are to be told
+  pub credit : p.more + 1 ≡ credits
+  pub untold : p.untold ≡ p.more
+  pub first : p.stage ≡ stages.First
+  pub words : p.words ≡ record { first = 0; second = 0 }
+  pub written : p.written ≡ None
+  pub rings : p.rings ≡ None
+  pub responses : p.responses ≡ 0
+  pub commands : p.commands ≡ 0
+  pub free : p.task ≡ tasks.Free
+  pub outgoing : p.outgoing ≡ None
+  pub polled : p.is_polled ≡ false
+  pub stalled : p.is_stalled ≡ false
+  pub full : p.is_full ≡ false
+  pub buffers : p.buffers.items ≡ []
+  pub volumes : (place : ℕ) → place < 16 → volume_at p.volumes place ≡ no_volume
+  pub flags : p.flags ≡ 0
+  -- a host that says no timeout has one minute
+  pub timeout : p.timeout ≡ 60
+  pub left : p.left ≡ 60
+
+-- ---- registers
+
+-- what register SA shows
+abbrev pub sa_of : {K : Type 0} → Port K → ℕ
+sa_of p = shown p.hardware p.words.first p.stage
+
+-- the host wrote IP: the port is as new, in the first step of its initialisation
+abbrev pub WritesIp : {K : Type 0} → Port K → Port K → Type 0
+WritesIp old new = IsAsNew stages.First old new
+
+-- the host read IP: the port is to look at the ring of commands, or in the poll test to clear the communication area
+pub record ReadsIp {K : Type 0} (old new : Port K) : Type 0 where
+  pub up : old.stage ≡ stages.Up → new ≡ record old { is_polled = true; is_full = false }
+  pub probed : old.stage ≡ stages.Probing → old.rings ≢ None
+      → new ≡ record old { stage = stages.Clearing; task = tasks.Clear 0 }
+  pub nowhere : old.stage ≡ stages.Probing → old.rings ≡ None → IsAsNew (stages.Dead 7) old new
+  pub elsewhere : old.stage ≢ stages.Up → old.stage ≢ stages.Probing → new ≡ old
+
+-- the host wrote this word to SA
+pub record WritesSa {K : Type 0} (word : ℕ) (old new : Port K) : Type 0 where
+  -- each of the first three steps is taken once the machine went on a little; the first word has its top bit set
+  pub first : old.stage ≡ stages.First
+      → new ≡ (if nat_lt word 0x8000 then old else record old { written = Some word })
+  pub second : old.stage ≡ stages.Second → new ≡ record old { written = Some word }
+  pub third : old.stage ≡ stages.Third → new ≡ record old { written = Some word }
+  pub wrapped : (other : ℕ) → old.stage ≡ stages.Wrapped other → new ≡ record old { stage = stages.Wrapped word }
+  pub purged : old.stage ≡ stages.Purging → word ≡ 0 → new ≡ record old { stage = stages.Probing }
+  pub not_purged : old.stage ≡ stages.Purging → word ≢ 0 → IsAsNew (stages.Dead 21) old new
+  -- go, by the lowest bit
+  pub last : old.stage ≡ stages.Last → new ≡ (if word % 2 == 1 then record old { stage = stages.Up } else old)
+  pub probing : old.stage ≡ stages.Probing → new ≡ old
+  pub clearing : old.stage ≡ stages.Clearing → new ≡ old
+  pub up : old.stage ≡ stages.Up → new ≡ old
+  pub dead : (code : ℕ) → old.stage ≡ stages.Dead code → new ≡ old
+
+-- ---- what is wanted
+
+-- this action is wanted next
+pub record Wants {K : Type 0} (old : Port K) (action : Action) (new : Port K) : Type 0 where
+  pub frame : new ≡ record old {
+    controller = new.controller;
+    outgoing = new.outgoing;
+    is_stalled = new.is_stalled;
+    volumes = new.volumes;
+    task = new.task;
+  }
+  -- it touches only memory that the port knows, of which it learns nothing
+  pub within : IsWithin new action
+  pub packet : IfSome (in_hand new.task) (λ word. in_hand old.task ≡ Some word)
+  -- after a fatal error nothing is wanted
+  pub dead : (code : ℕ) → old.stage ≡ stages.Dead code → (action ≡ actions.Rest) × (new ≡ old)
+  -- nothing is wanted only then, or if nothing is in hand and nothing is due
+  pub rests : action ≡ actions.Rest → ((code : ℕ) × (old.stage ≡ stages.Dead code)) ⊎ IsIdle new
+  -- otherwise it is what is wanted for the thing in hand
+  pub wanted : ((code : ℕ) → old.stage ≢ stages.Dead code) → IsWanted new new.task action
+  -- which is what is due, where there was nothing
+  pub due : ((code : ℕ) → old.stage ≢ stages.Dead code) → old.task ≡ tasks.Free → IsDue new new.task
+  -- and what goes out next: ends leave in the order in which the controller has them
+  pub says : Says old new
+  -- what is in hand stays so until it is told how that went
+  pub goes_on : old.task ≢ tasks.Free → new ≡ old
+
+-- ---- what was read
+
+-- what may change as bytes are read, but for a fatal error
+abbrev pub ChangesByReading : {K : Type 0} → Port K → Port K → Type 0
+ChangesByReading old new = (new ≡ record old {
+  controller = new.controller;
+  task = new.task;
+  outgoing = new.outgoing;
+  is_polled = new.is_polled;
+  is_stalled = new.is_stalled;
+  is_full = new.is_full;
+  buffers = new.buffers;
+  flags = new.flags;
+  timeout = new.timeout;
+  left = new.left;
+}) ⊎ Dies old new
+
+-- these bytes were read, as it wanted
+pub record Hears {K : Type 0} (bytes : List ℕ) (old : Port K) (result : Result Unit Unasked) (new : Port K)
+    : Type 0 where
+  pub dead : (code : ℕ) → old.stage ≡ stages.Dead code → IsErr result
+  pub unasked : OnErr result (new ≡ old)
+  pub frame : ChangesByReading old new
+  pub learns : Learns bytes old new
+  -- a message reaches the controller as its host wrote it, unless the port answers it itself
+  pub handed : (slot : Descriptor) (size : ℕ) (foreign : Bool) → old.task ≡ tasks.Text slot size foreign
+      → IsOk result → own_end foreign bytes ≡ None
+      → answer_to_message First old.controller (handed old.controller.settings.units bytes) ≢ Err faults.Doubled
+      → new.controller ≡ after_message First old.controller (handed old.controller.settings.units bytes)
+  pub own : (slot : Descriptor) (size : ℕ) (foreign : Bool) → old.task ≡ tasks.Text slot size foreign
+      → own_end foreign bytes ≢ None → new.controller ≡ old.controller
+  pub nothing_else : (IsReadingText old.task → ⊥) → (new.controller ≡ old.controller) ⊎ Dies old new
+  -- what goes out stays so; where nothing did, it may be the port's own end
+  pub out : (new.outgoing ≡ old.outgoing) ⊎ ((slot : Descriptor) × (size : ℕ) × (foreign : Bool)
+      × (old.task ≡ tasks.Text slot size foreign) × AnswersItself foreign bytes old new) ⊎ Dies old new
+  -- a packet is written only into a slot of the ring of responses that was read, and was the port's
+  pub packet : (slot : Descriptor) → IsOk result → new.task ≡ tasks.Packet slot
+      → (old.task ≡ tasks.Slot Responses) × (is_owned slot.word ≡ true) × (slot.word ≡ num bytes 0 4)
+  -- and the slot of a command is given back only once its text was read
+  pub returned : (side : Side) → (slot : Descriptor) → IsOk result → new.task ≡ tasks.Return side slot
+      → (side ≡ Commands) × IsReadingText old.task
+
+-- ---- how an action went
+
+-- the word with which the host has answered the step of the initialisation that is taken, if one is
+abbrev pub step_answered : Task → Option ℕ → Option ℕ
+step_answered tasks.Settle written = written
+step_answered task written = None
+
+-- a step of the initialisation that the host has answered with this word is taken
+pub record TakesStep {K : Type 0} (word : ℕ) (old new : Port K) : Type 0 where
+  -- by its first word it wants whatever it writes to be shown again
+  pub wrap : old.stage ≡ stages.First → word / 0x4000 % 2 ≡ 1
+      → new ≡ record old { stage = stages.Wrapped word; written = None; task = tasks.Free }
+  pub first : old.stage ≡ stages.First → word / 0x4000 % 2 ≢ 1 → new ≡ record old {
+    stage = stages.Second;
+    words = record old.words { first = word };
+    written = None;
+    task = new.task;
+  }
+  pub second : old.stage ≡ stages.Second → new ≡ record old {
+    stage = stages.Third;
+    words = record old.words { second = word };
+    written = None;
+    task = new.task;
+  }
+  -- the communication area is named: it is cleared at once, or after the purge and poll test, for which the top bit of
+  -- the word is set
+  pub probe : old.stage ≡ stages.Third → 0x8000 ≤ word → new ≡ record old {
+    stage = stages.Purging;
+    rings = rings_named old.words.first old.words.second word;
+    written = None;
+    task = tasks.Free;
+  }
+  pub clear : old.stage ≡ stages.Third → word < 0x8000 → rings_named old.words.first old.words.second word ≢ None
+      → new ≡ record old {
+        stage = stages.Clearing;
+        rings = rings_named old.words.first old.words.second word;
+        written = None;
+        task = tasks.Clear 0;
+      }
+  pub nowhere : old.stage ≡ stages.Third → word < 0x8000 → rings_named old.words.first old.words.second word ≡ None
+      → IsAsNew (stages.Dead 7) old new
+  pub elsewhere : old.stage ≢ stages.First → old.stage ≢ stages.Second → old.stage ≢ stages.Third
+      → new ≡ record old { written = None; task = tasks.Free }
+
+-- what may change as an action went, but for a step that is taken, and for a fatal error
+abbrev pub ChangesByActing : {K : Type 0} → Port K → Port K → Type 0
+ChangesByActing old new = (new ≡ record old {
+  controller = new.controller;
+  untold = new.untold;
+  stage = new.stage;
+  responses = new.responses;
+  commands = new.commands;
+  task = new.task;
+  outgoing = new.outgoing;
+  is_stalled = new.is_stalled;
+  buffers = new.buffers;
+  volumes = new.volumes;
+}) ⊎ Dies old new
+
+-- the stage stays, or is the last step of the initialisation, once the communication area is clear
+abbrev pub StaysInStage : {K : Type 0} → Port K → Port K → Type 0
+StaysInStage old new = (new.stage ≡ old.stage) ⊎ (new.stage ≡ stages.Last) ⊎ Dies old new
+
+-- an action that isn't a read went so, or a read failed so
+pub record Goes {K : Type 0} (outcome : Outcome) (old : Port K) (result : Result Unit Unasked) (new : Port K)
+    : Type 0 where
+  pub dead : (code : ℕ) → old.stage ≡ stages.Dead code → IsErr result
+  pub unasked : OnErr result (new ≡ old)
+  pub steps : IsOk result → IfSome (step_answered old.task old.written) (λ word. TakesStep word old new)
+  pub still : step_answered old.task old.written ≡ None → ChangesByActing old new × StaysInStage old new
+  -- of its host's memory the port learns nothing but the area
+  pub buffers : (b : Buffer) → Contains new.buffers.items b → Contains old.buffers.items b
+  pub packet : IfSome (in_hand new.task) (λ word. in_hand old.task ≡ Some word)
+  -- what goes out stays so until its slot was given back, which comes only after its packet was written
+  pub out : (new.outgoing ≡ old.outgoing) ⊎ HasSaid outcome old new ⊎ Dies old new
+  pub returned : (side : Side) → (slot : Descriptor) → IsOk result → new.task ≡ tasks.Return side slot
+      → (side ≡ Responses) × (old.task ≡ tasks.Packet slot) × (outcome ≡ outcomes.Done)
+
+-- ---- what comes from elsewhere than the host
+
+-- the ring of responses is to be looked at again
+abbrev pub LooksAgain : {K : Type 0} → Port K → Port K → Type 0
+LooksAgain old new = new ≡ record old { is_full = false }
+
+-- a second went by: the ring of responses is looked at again, or a host that was silent for too long is taken for dead
+abbrev pub Ticks : {K : Type 0} → Port K → Port K → Type 0
+Ticks old new = (new ≡ record old { is_full = false; left = new.left }) ⊎ IsAsNew (stages.Dead 9) old new
+
+-- a volume came into the unit of this number, or its volume went
+pub record Changes {K : Type 0} (there protected : Bool) (unit : ℕ) (old : Port K) (result : Result Unit NoUnit)
+    (new : Port K) : Type 0 where
+  pub frame : new ≡ record old {
+    volumes = volumes_changed there protected (place_in old.controller.settings.units unit) old.volumes;
+  }
+  pub no_unit : IsErr result ↔ (place_in old.controller.settings.units unit ≡ None)

@@ -1,0 +1,114 @@
+-- What somebody calls of a port, one call after the other, and what the host has named by then.
+use Rattle.std.specs.Prelude.{◌≡◌, ◌⊎◌, ◌++◌, ℕ, Bool, true, List, [], ◌∷◌, length, Contains, Result, Ok, Some}
+use Rattle.mscp_packet.specs.Number.{num}
+use Rattle.mscp_port.specs.declared.action.Action.{Action}
+use Rattle.mscp_port.specs.declared.action.Action.TheVariants as actions
+use Rattle.mscp_port.specs.declared.action.Outcome.{Outcome}
+use Rattle.mscp_port.specs.declared.action.Unasked.{Unasked}
+use Rattle.mscp_port.specs.declared.buffers.Buffer.{Buffer}
+use Rattle.mscp_control.specs.Holdings.{Holdings}
+use Rattle.mscp_port.specs.declared.hardware.Hardware.{Hardware}
+use Rattle.mscp_port.specs.declared.port.Port.{Port}
+use Rattle.mscp_port.specs.declared.port.watching.NoUnit.{NoUnit}
+use Rattle.mscp_port.specs.Areas.{Rings, IsInArea, rings_named}
+use Rattle.mscp_port.specs.Buffers.{buffer_in, IsInBuffer}
+use Rattle.mscp_port.specs.Calls.{Changes, Goes, Hears, IsMadeOf, LooksAgain, ReadsIp, Ticks, Wants, WritesIp, WritesSa}
+use Rattle.mscp_port.specs.Ports.{IsInPacket}
+use Rattle.mscp_port.specs.Slots.{is_owned}
+
+-- ---- calls
+
+-- a call of a port, and what was answered to it. A look at SA is none of them: it changes nothing
+pub data Call : Type 0 where
+  WriteIp : Call
+  ReadIp : Call
+  WriteSa : ℕ → Call
+  -- the action that was wanted
+  Next : Action → Call
+  -- the bytes that were read
+  WasRead : List ℕ → Result Unit Unasked → Call
+  -- how an action went
+  Went : Outcome → Result Unit Unasked → Call
+  LookAgain : Call
+  Tick : Call
+  -- a volume is there or not, nothing may be written on it, and the number of its unit
+  Change : Bool → Bool → ℕ → Result Unit NoUnit → Call
+
+-- what becomes of a port by a call
+abbrev pub Becomes : {K : Type 0} → Call → Port K → Port K → Type 0
+Becomes WriteIp old new = WritesIp old new
+Becomes ReadIp old new = ReadsIp old new
+Becomes (WriteSa word) old new = WritesSa word old new
+Becomes (Next action) old new = Wants old action new
+Becomes (WasRead bytes result) old new = Hears bytes old result new
+Becomes (Went outcome result) old new = Goes outcome old result new
+Becomes LookAgain old new = LooksAgain old new
+Becomes Tick old new = Ticks old new
+Becomes (Change there protected unit result) old new = Changes there protected unit old result new
+
+-- a history, the last call first: from a port at its start on, each call answered as its contract says, up to this one
+abbrev pub Answered : {K : Type 0} → Port K → List Call → Port K → Type 0
+Answered start [] p = p ≡ start
+Answered start (call ∷ earlier) p = (before : Port _) × Answered start earlier before × Becomes call before p
+
+-- ---- what the host has said since it wrote IP
+
+-- the words that it wrote to SA, the last one first
+abbrev pub words : List Call → List ℕ
+words [] = []
+words (WriteIp ∷ earlier) = []
+words (WriteSa word ∷ earlier) = word ∷ words earlier
+words (call ∷ earlier) = words earlier
+
+-- the bytes that were read of its memory where the port wanted some, the last ones first
+abbrev pub reads : List Call → List (List ℕ)
+reads [] = []
+reads (WriteIp ∷ earlier) = []
+reads (WasRead bytes (Ok done) ∷ earlier) = bytes ∷ reads earlier
+reads (call ∷ earlier) = reads earlier
+
+-- these numbers stand in the list in this order, with or without others between them
+abbrev pub HasInOrder : List ℕ → List ℕ → Type 0
+HasInOrder [] ys = Unit {0}
+HasInOrder (x ∷ xs) ys = (before : List ℕ) × (behind : List ℕ) × (ys ≡ before ++ x ∷ behind) × HasInOrder xs behind
+
+-- the host has named this communication area: it wrote three words, one after the other
+abbrev pub NamesArea : List ℕ → Rings → Type 0
+NamesArea written r = (first : ℕ) × (second : ℕ) × (third : ℕ) × HasInOrder (third ∷ second ∷ first ∷ []) written
+    × (rings_named first second third ≡ Some r)
+
+-- it has put this descriptor into its memory, with the bit set that makes the slot the port's
+abbrev pub NamesPacket : List (List ℕ) → ℕ → Type 0
+NamesPacket read word = (bytes : List ℕ) × Contains read bytes × (word ≡ num bytes 0 4) × (is_owned word ≡ true)
+
+-- it has put a command with this buffer into its memory
+abbrev pub NamesBuffer : List (List ℕ) → Buffer → Type 0
+NamesBuffer read b = (bytes : List ℕ) × (changes : ℕ) × Contains read bytes × (b ≡ buffer_in bytes changes)
+
+-- ---- what may be touched
+
+-- so many bytes from an address on lie in a communication area or in a packet that it has named
+abbrev pub IsNamedForRings : List Call → ℕ → ℕ → Type 0
+IsNamedForRings calls address count =
+    ((r : Rings) × NamesArea (words calls) r × IsInArea r address count)
+    ⊎ ((word : ℕ) × NamesPacket (reads calls) word × IsInPacket word address count)
+
+-- so many bytes from an address on lie in a buffer that it has named
+abbrev pub IsNamedForData : List Call → ℕ → ℕ → Type 0
+IsNamedForData calls address count = (b : Buffer) × NamesBuffer (reads calls) b × IsInBuffer b address count
+
+-- the host has named all memory that an action touches
+abbrev pub IsNamed : List Call → Action → Type 0
+IsNamed calls (actions.Read address count) = IsNamedForRings calls address count
+IsNamed calls (actions.Write address bytes) = IsNamedForRings calls address (length bytes.items)
+IsNamed calls (actions.Fetch address count) = IsNamedForData calls address count
+IsNamed calls (actions.Store address count) = IsNamedForData calls address count
+IsNamed calls action = Unit {0}
+
+-- the law of ports: whoever calls a port that was made over a controller, and whatever the host writes, the port wants
+-- only memory touched that the host has named since it wrote IP last
+abbrev pub PortsTouchWhatIsNamed : Type 0 → Type 0
+PortsTouchWhatIsNamed K =
+    (hardware : Hardware) (credits : ℕ) (controller : Holdings K) (start p : Port K) (calls : List Call)
+    (action : Action)
+    → IsMadeOf hardware credits controller start → Answered start (Next action ∷ calls) p → IsNamed calls action

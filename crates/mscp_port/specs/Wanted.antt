@@ -1,0 +1,52 @@
+-- Which action is wanted for what a port has in hand.
+use Rattle.std.specs.Prelude.{◌≡◌, ℕ, ◌+◌, ◌-◌, ◌*◌, ◌%◌, min, List, IfSome, MatchOption}
+use Rattle.byteorder.specs.Endian.{little_bytes}
+use Rattle.arrayvec.specs.ArrayVec.{ArrayVec}
+use Rattle.mscp_port.specs.declared.action.Action.{Action}
+use Rattle.mscp_port.specs.declared.action.Action.TheVariants as actions
+use Rattle.mscp_port.specs.declared.port.Port.{Port}
+use Rattle.mscp_port.specs.declared.rings.Side.{Side}
+use Rattle.mscp_port.specs.declared.rings.Side.TheVariants.{Responses, Commands}
+use Rattle.mscp_port.specs.declared.task.Task.{Task}
+use Rattle.mscp_port.specs.declared.task.Task.TheVariants as tasks
+use Rattle.mscp_port.specs.Areas.{Rings, slot_in, slots_of, word_of}
+use Rattle.mscp_port.specs.Packets.{credits_told, packet_of}
+use Rattle.mscp_port.specs.Slots.{given_back, text_of}
+
+-- these bytes are to be written from this address on
+abbrev pub Writes : Action → ℕ → List ℕ → Type 0
+Writes action address bytes =
+    (written : ArrayVec ℕ) × (action ≡ actions.Write address written) × (written.items ≡ bytes)
+
+-- how many slots of a ring were given back, modulo 256
+abbrev pub given_in : {K : Type 0} → Port K → Side → ℕ
+given_in p Responses = p.responses
+given_in p Commands = p.commands
+
+-- the vector by which the host is interrupted: the low seven bits of its first word, times four
+abbrev pub vector_of : {K : Type 0} → Port K → ℕ
+vector_of p = p.words.first % 0x80 * 4
+
+-- what is wanted for the rings, if the host has named them; and else nothing for a while
+abbrev pub InRings : {K : Type 0} → Port K → Action → (Rings → Type 0) → Type 0
+InRings p action wanted = MatchOption p.rings (action ≡ actions.Pause) wanted
+
+-- what is wanted for each thing that is in hand: the header of a packet stands in the four bytes in front of its text,
+-- the slot in front of the one that was given back is two behind the next one, and interrupt words are written with 1
+abbrev pub IsWanted : {K : Type 0} → Port K → Task → Action → Type 0
+IsWanted p tasks.Free action = action ≡ actions.Rest
+IsWanted p tasks.Settle action = action ≡ actions.Pause
+IsWanted p (tasks.Step via reference block) action = action ≡ actions.Pause
+IsWanted p tasks.Interrupt action = action ≡ actions.Interrupt (vector_of p)
+IsWanted p (tasks.Slot side) action =
+    InRings p action (λ r. action ≡ actions.Read (slot_in r side (given_in p side)) 4)
+IsWanted p (tasks.Header slot) action = action ≡ actions.Read (text_of slot.word - 4) 4
+IsWanted p (tasks.Text slot size foreign) action = action ≡ actions.Read (text_of slot.word) (min size 64)
+IsWanted p (tasks.Packet slot) action = IfSome p.outgoing (λ o.
+    Writes action (text_of slot.word - 4) (packet_of (credits_told p) o.bytes.items))
+IsWanted p (tasks.Return side slot) action =
+    InRings p action (λ r. Writes action (slot_in r side (given_in p side)) (little_bytes 4 (given_back slot.word)))
+IsWanted p (tasks.Neighbour side) action =
+    InRings p action (λ r. action ≡ actions.Read (slot_in r side (given_in p side + 2 * slots_of r side - 2)) 4)
+IsWanted p (tasks.Word side) action = InRings p action (λ r. Writes action (word_of r side) (little_bytes 2 1))
+IsWanted p task action = Unit {0}

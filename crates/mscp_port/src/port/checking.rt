@@ -1,0 +1,36 @@
+// What is in hand is checked again: while it is, a volume may come or go.
+
+ghost use Rattle.std.specs.Prelude.{◌≡◌, ◌≤◌, ◌%◌, IfSome, None};
+ghost use Rattle.mscp_port.specs.Volumes.{IsOnVolume};
+
+use crate::buffers::{Buffer, Job, find_buffer};
+use crate::filling::STEP_WITHOUT_VOLUME;
+use crate::port::Port;
+use crate::port::serving::{DRIVE_ERROR, refusal};
+use crate::volumes::Volume;
+use mscp_queue::Picker;
+
+/// Why a step may not go on, if it may not, of whose command this is kept, and whose unit has this volume now.
+fn fault_with(job: &Job, buffer: &Buffer, volume: &Volume) -> Option<u16>
+    ensures status { IfSome result (λ status. 5 ≤ status % 32) }
+    // It goes on only on the volume that was there when its command came, and that its unit was brought online with.
+    ensures safe { result ≡ None → IsOnVolume buffer.now volume.now }
+{
+    if !volume.is_there || buffer.changes != volume.changes {
+        return Some(STEP_WITHOUT_VOLUME);
+    }
+    refusal(job.kind, buffer, volume)
+}
+
+impl<K: Picker> Port<K> {
+    /// Why a step may not go on, if it may not.
+    pub(crate) fn fault_of(&self, job: &Job) -> Option<u16>
+        ensures { IfSome result (λ status. 5 ≤ status % 32) }
+    {
+        let buffer = find_buffer(self.buffers.as_slice(), job.reference);
+        match (self.place_of(job.unit), buffer) {
+            (Some(place), Some(buffer)) => fault_with(job, &buffer, &self.volumes[place]),
+            _ => Some(DRIVE_ERROR),
+        }
+    }
+}

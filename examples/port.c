@@ -1,0 +1,129 @@
+/* port.c: what the proved port of mscp.h wants done, as callbacks. Take it into an emulator as it is, with port.h:
+ *
+ *     cc toy.c port.c $(pkg-config --cflags --libs mscp) -o toy
+ *
+ * toy.c is a machine with such a port. docs/PORT.md says what a port does. */
+#include "port.h"
+#include <string.h>
+
+enum { DRIVE_ERROR = 0x000B };
+
+/* One credit more than the host has is for commands that are answered at once. */
+int32_t port_open(struct port *port, const struct port_bus *bus, const struct mscp_hardware *hardware,
+                  const struct mscp_unit *units, size_t count)
+{
+    const struct mscp_limits limits = {
+        .id = (uint64_t)1 << 56 | (uint64_t)hardware->model << 48,
+        .budget = 512,
+        .credits = PORT_COMMANDS + 1,
+        .longest = 65536,
+        .timeout = 120,
+    };
+    port->bus = *bus;
+    port->mscp = mscp_port_in_memory(port->memory, sizeof port->memory);
+    return mscp_port_init(port->mscp, &limits, units, count, MSCP_SWEEP, hardware, PORT_COMMANDS);
+}
+
+uint16_t port_read(struct port *port, unsigned offset)
+{
+    if (offset != 0)
+        return (uint16_t)mscp_port_read_sa(port->mscp);
+    mscp_port_read_ip(port->mscp);
+    return 0;
+}
+
+void port_write(struct port *port, unsigned offset, uint16_t word)
+{
+    if (offset != 0)
+        mscp_port_write_sa(port->mscp, word);
+    else
+        mscp_port_write_ip(port->mscp);
+}
+
+/* ---- actions */
+
+/* The host's bytes of a block, with zeros behind them. */
+static enum mscp_outcome fetch(struct port *port, const struct mscp_action *action)
+{
+    memset(port->block, 0, sizeof port->block);
+    return port->bus.read(port->bus.machine, action->address, port->block, action->count);
+}
+
+/* Moves a block between its volume and the buffer, or compares the two. */
+static enum mscp_outcome transfer(struct port *port, const struct mscp_action *action)
+{
+    const struct port_bus *bus = &port->bus;
+    uint8_t other[MSCP_BLOCK] = {0};
+    bool good;
+    switch (action->opcode) {
+    case MSCP_READ:
+        good = bus->read_block(bus->machine, action->unit, action->block, port->block);
+        break;
+    case MSCP_WRITE:
+        good = bus->write_block(bus->machine, action->unit, action->block, port->block);
+        break;
+    case MSCP_ERASE:
+        good = bus->write_block(bus->machine, action->unit, action->block, other);
+        break;
+    default: /* ACCESS and COMPARE HOST DATA */
+        good = bus->read_block(bus->machine, action->unit, action->block, other);
+        if (good && action->opcode == MSCP_COMPARE_HOST_DATA && memcmp(other, port->block, action->count) != 0)
+            return MSCP_OUTCOME_DIFFERENT;
+    }
+    return good ? MSCP_OUTCOME_DONE : MSCP_OUTCOME_FAILED;
+}
+
+/* Does what the port wants, and tells it how that went. If the host wrote IP in the meantime the port wants that no
+ * more, and answers so: then there is nothing to do. */
+static int32_t act(struct port *port, const struct mscp_action *action)
+{
+    const struct port_bus *bus = &port->bus;
+    enum mscp_outcome outcome = MSCP_OUTCOME_DONE;
+    uint8_t bytes[sizeof action->bytes];
+    switch (action->kind) {
+    case MSCP_ACTION_READ:
+        outcome = bus->read(bus->machine, action->address, bytes, action->count);
+        if (outcome == MSCP_OUTCOME_DONE)
+            return mscp_port_was_read(port->mscp, bytes, action->count);
+        break;
+    case MSCP_ACTION_WRITE: outcome = bus->write(bus->machine, action->address, action->bytes, action->count); break;
+    case MSCP_ACTION_INTERRUPT: bus->interrupt(bus->machine, action->vector); break;
+    case MSCP_ACTION_FETCH: outcome = fetch(port, action); break;
+    case MSCP_ACTION_TRANSFER: outcome = transfer(port, action); break;
+    case MSCP_ACTION_STORE: outcome = bus->write(bus->machine, action->address, port->block, action->count); break;
+    default: break; /* PAUSE: the machine went on since the last turn */
+    }
+    return mscp_port_went(port->mscp, outcome, DRIVE_ERROR);
+}
+
+/* What was wanted is done at once, so that no volume changes in between. */
+bool port_turn(struct port *port, unsigned most)
+{
+    struct mscp_action action;
+    mscp_port_look_again(port->mscp);
+    for (unsigned done = 0; done < most; done++) {
+        if (mscp_port_next(port->mscp, &action) != MSCP_DONE)
+            return false;
+        if (done > 0 && action.kind == MSCP_ACTION_PAUSE)
+            return true;
+        act(port, &action);
+    }
+    return true;
+}
+
+/* ---- what comes from elsewhere */
+
+void port_second(struct port *port)
+{
+    mscp_port_tick(port->mscp);
+}
+
+bool port_insert(struct port *port, uint16_t unit, bool is_protected)
+{
+    return mscp_port_volume_came(port->mscp, unit, is_protected) == MSCP_DONE;
+}
+
+bool port_eject(struct port *port, uint16_t unit)
+{
+    return mscp_port_volume_went(port->mscp, unit) == MSCP_DONE;
+}

@@ -1,0 +1,229 @@
+/* A port of mscp.h, by a host in an array of memory: polls, aborts, transfers, volumes and time. Prints what is wrong, and
+ * ends with 1 where something is. */
+#include "machine.h"
+
+/* The figure of a READ falls at each poll, and its data come to where the host wants them. */
+static void polls(bool moves)
+{
+    uint32_t last = UINT32_MAX, polled = 0;
+    uint8_t packet[68];
+    build(&RQDX3);
+    machine.moves = moves;
+    initialise(0x1002, 4, 4, 0);
+    send_command(0, 1, MSCP_ONLINE, 0, 0, 0);
+    expect(1, 0x89, 0);
+    send_command(0, 2, MSCP_READ, 5 * 512, 10, 0x4002);
+    while (machine.transfers < 4) {
+        uint32_t before = machine.transfers;
+        while (machine.transfers == before && act())
+            continue;
+        send_command(0, 100 + polled, MSCP_GET_COMMAND_STATUS, 2, 0, 0);
+        while (look() == NULL && act())
+            continue;
+        is("the answer", take(packet) && packet[12] == 0x82, 1);
+        is("of its READ", number(packet + 16, 4), 2);
+        is("the figure falls", number(packet + 20, 4) < last, 1);
+        last = number(packet + 20, 4);
+        polled++;
+    }
+    expect(2, 0xA1, 0);
+    is("polls", polled, 4);
+    for (unsigned k = 0; k < 5 * 512; k++)
+        if (machine.memory[0x4002 + k] != (uint8_t)(k % 512 + 10 + k / 512))
+            is("this byte", k, -1);
+}
+
+/* An ABORT of what is at work, of what waits, and of nothing. No block is moved for what was aborted. */
+static void aborts(void)
+{
+    build(&RQDX3);
+    initialise(0x1000, 4, 4, 0);
+    send_command(0, 1, MSCP_ONLINE, 0, 0, 0);
+    expect(1, 0x89, 0);
+    send_command(0, 2, MSCP_READ, 20 * 512, 0, 0x4000);
+    send_command(0, 3, MSCP_READ, 512, 0, 0x8000);
+    while (machine.transfers < 4)
+        act();
+    send_command(0, 4, MSCP_ABORT, 2, 0, 0);
+    send_command(0, 5, MSCP_ABORT, 77, 0, 0);
+    send_command(0, 6, MSCP_ABORT, 3, 0, 0);
+    expect(2, 0xA1, 0x0002);
+    expect(4, 0x81, 0);
+    expect(5, 0x81, 0);
+    expect(3, 0xA1, 0x0002);
+    expect(6, 0x81, 0);
+    is("few blocks", machine.transfers <= 5, 1);
+    is("none of the second", number(machine.memory + 0x8000, 4), 0);
+    send_command(0, 2, MSCP_READ, 512, 1, 0x8000); /* the number again */
+    expect(2, 0xA1, 0);
+    is("its block", number(machine.memory + 0x8000, 4), 0x04030201);
+}
+
+/* What is answered without the controller, and what the host's diagnostic protocol gets. */
+static void own_answers(void)
+{
+    build(&RQDX3);
+    initialise(0x1000, 0, 0, 0);
+    send_command(1, 1, 11, 0, 0, 0);
+    expect(1, 0x8B, 0);
+    send_command(1, 2, 17, 0, 0, 0);
+    expect(2, 0x91, 0);
+    send_command(1, 3, 19, 0, 0, 0);
+    expect(3, 0x93, 0);
+    send_command(1, 4, 1, 0, 0, 0);
+    machine.memory[packet_of(false, 0) + 3] = 2;
+    expect(4, 0x80, 0x0801);
+}
+
+/* Each transfer that can't be made ends with its status. */
+static void refused_transfers(void)
+{
+    static const struct {
+        uint8_t opcode;
+        uint32_t bytes, address;
+        uint16_t status;
+    } cases[] = {
+        {MSCP_READ, 512, 0x4001, 0x0029},  {MSCP_READ, 511, 0x4000, 0x0049},
+        {MSCP_READ, 1024, 0xFE00, 0x0069}, {MSCP_WRITE, 1024, 0xFE00, 0x0069},
+        {MSCP_WRITE, 512, 0xFFFFFF00, 0x0069}, {MSCP_COMPARE_HOST_DATA, 512, 0x4000, 0x0007},
+        {MSCP_ACCESS, 512, 0x4001, 0},     {MSCP_READ, 0, 0x4000, 0},
+        {MSCP_WRITE, 512, 0x4000, 0},
+    };
+    build(&RQDX3);
+    initialise(0x1000, 0, 0, 0);
+    send_command(0, 1, MSCP_ONLINE, 0, 0, 0);
+    expect(1, 0x89, 0);
+    for (uint32_t i = 0; i < COUNT(cases); i++) {
+        send_command(0, 10 + i, cases[i].opcode, cases[i].bytes, 1, cases[i].address);
+        expect(10 + i, 0x80 | cases[i].opcode, cases[i].status);
+    }
+    is("written", number(machine.disks[0][1], 4), number(machine.memory + 0x4000, 4));
+    send_command(2, 50, MSCP_WRITE, 512, 1, 0x4000);
+    expect(50, 0xA2, 0x0004); /* not online */
+    is("a protected one", mscp_port_volume_came(machine.port, 2, 1), MSCP_DONE);
+    send_command(2, 51, MSCP_ONLINE, 0, 0, 0);
+    expect(51, 0x89, 0);
+    send_command(2, 52, MSCP_WRITE, 512, 1, 0x4000);
+    expect(52, 0xA2, 0x2006);
+    send_command(2, 53, MSCP_READ, 512, 1, 0x4000);
+    expect(53, 0xA1, 0);
+}
+
+/* ---- volumes */
+
+/* A volume goes, and another comes, while READs wait: no more of their blocks is moved, and those that come after an
+ * ONLINE are of the new one. */
+static void volumes_change(unsigned times)
+{
+    build(&RQDX3);
+    initialise(0x1002, 4, 4, 0);
+    send_command(0, 1, MSCP_ONLINE, 0, 0, 0);
+    expect(1, 0x89, 0);
+    send_command(0, 2, MSCP_READ, 8 * 512, 0, 0x4000);
+    send_command(0, 3, MSCP_READ, 512, 0, 0x8000);
+    while (machine.transfers < 3)
+        act();
+    for (unsigned i = 0; i < times; i++) {
+        is("it goes", mscp_port_volume_went(machine.port, 0), MSCP_DONE);
+        is("another comes", mscp_port_volume_came(machine.port, 0, 0), MSCP_DONE);
+    }
+    memset(machine.disks[0], 0xEE, sizeof machine.disks[0]);
+    expect(2, 0xA1, 0x0023);
+    expect(3, 0xA1, 0x0023);
+    for (unsigned k = 0; k < MEMORY; k += 2)
+        if (machine.memory[k] == 0xEE && machine.memory[k + 1] == 0xEE)
+            is("this byte", k, -1);
+    send_command(0, 4, MSCP_READ, 512, 0, 0x8000);
+    expect(4, 0xA1, 0x0004);
+    send_command(0, 5, MSCP_ONLINE, 0, 0, 0);
+    is("Success", end_of(5, 0x89) % 32, 0); /* of whatever subcode: the unit was online with the old one */
+    send_command(0, 6, MSCP_READ, 512, 0, 0x8000);
+    expect(6, 0xA1, 0);
+    is("of the new one", number(machine.memory + 0x8000, 4), 0xEEEEEEEE);
+    is("it goes", mscp_port_volume_went(machine.port, 0), MSCP_DONE);
+    send_command(0, 7, MSCP_ONLINE, 0, 0, 0);
+    expect(7, 0x89, 0x0023);
+    is("no unit", mscp_port_volume_came(machine.port, 9, 0), MSCP_UNKNOWN_UNIT);
+    is("no unit", mscp_port_volume_went(machine.port, 9), MSCP_UNKNOWN_UNIT);
+}
+
+/* A volume changes while the port has a WRITE's bytes fetched, or its block in hand: no block is written to the new one, and
+ * the port doesn't want it any more. */
+static void volume_changes_amid_a_block(bool is_block_wanted)
+{
+    struct mscp_action action = {0};
+    build(&RQDX3);
+    initialise(0x1000, 0, 0, 0);
+    send_command(0, 1, MSCP_ONLINE, 0, 0, 0);
+    expect(1, 0x89, 0);
+    memset(machine.memory + 0x4000, 0x77, MSCP_BLOCK);
+    send_command(0, 2, MSCP_WRITE, MSCP_BLOCK, 5, 0x4000);
+    while (mscp_port_next(machine.port, &action) == MSCP_DONE && action.kind != MSCP_ACTION_FETCH)
+        tell(&action, perform(&action));
+    is("a fetch", action.kind, MSCP_ACTION_FETCH);
+    tell(&action, perform(&action));
+    if (is_block_wanted)
+        is("its block", mscp_port_next(machine.port, &action) == MSCP_DONE && action.kind == MSCP_ACTION_TRANSFER, 1);
+    is("another comes", mscp_port_volume_came(machine.port, 0, 0), MSCP_DONE);
+    expect(2, 0xA2, 0x0023);
+    is("no block", machine.transfers, 0);
+}
+
+/* A volume that comes is told by an attention message without credits, if the host wants it. */
+static void attention(void)
+{
+    uint8_t packet[68], text[32] = {0};
+    build(&RQDX3);
+    for (unsigned wanted = 0; wanted < 2; wanted++) {
+        initialise(0x1000, 4, 4, 0);
+        text[8] = MSCP_SET_CONTROLLER_CHARACTERISTICS;
+        text[14] = wanted ? 0x80 : 0;
+        send(text, 32);
+        expect(0, 0x84, 0);
+        is("it comes", mscp_port_volume_came(machine.port, 3, 0), MSCP_DONE);
+        run(MOST_ACTIONS);
+        is("a message", take(packet), wanted);
+        if (wanted) {
+            is("its length and credits", number(packet, 4), 32);
+            is("its unit", number(packet + 8, 2), 3);
+            is("its code", packet[12], 0x40);
+            is("once", run(MOST_ACTIONS) == 0 || !take(packet), 1);
+        }
+    }
+}
+
+/* A host that is silent for 60 seconds is taken for dead, unless it wants no timeout. */
+static void silent_hosts(void)
+{
+    uint8_t text[32] = {0};
+    build(&RQDX3);
+    for (unsigned i = 0; i < 2; i++) {
+        initialise(0x1000, 0, 0, 0);
+        text[8] = MSCP_SET_CONTROLLER_CHARACTERISTICS;
+        if (i == 1) {
+            send(text, 32);
+            expect(0, 0x84, 0);
+        }
+        for (unsigned second = 0; second < 59; second++)
+            mscp_port_tick(machine.port);
+        is("SA", mscp_port_read_sa(machine.port), 0);
+        mscp_port_tick(machine.port);
+        is("SA", mscp_port_read_sa(machine.port), i == 0 ? 0x8009 : 0);
+    }
+}
+
+int main(void)
+{
+    polls(false);
+    polls(true);
+    aborts();
+    own_answers();
+    refused_transfers();
+    volumes_change(1);
+    volumes_change(2);
+    volume_changes_amid_a_block(false);
+    volume_changes_amid_a_block(true);
+    attention();
+    silent_hosts();
+    return wrong;
+}
