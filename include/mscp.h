@@ -55,7 +55,7 @@ uint32_t mscp_version(void);
 
 /* What a call answers: 0 and up what came of it, below 0 why it was refused. */
 enum mscp_status {
-    MSCP_NOTHING = 0,   /* no command waits, no end is there, no poll is to be sent */
+    MSCP_NOTHING = 0,   /* no command waits, no end is there, no poll is to be sent, a port wants nothing */
     MSCP_DONE = 1,      /* the call did what it says */
     MSCP_QUEUED = 2,    /* mscp_send: the command waits for steps */
     MSCP_ANSWERED = 3,  /* mscp_send: its end was made at once: take it */
@@ -78,7 +78,7 @@ enum mscp_status {
     MSCP_UNKNOWN = -9,      /* mscp_host_receive: the end of no outstanding command */
 
     MSCP_NOT_MADE = -10,    /* nothing was made in the handle's memory: init it first */
-    MSCP_MADE = -11,        /* an init, where something is made: reset a controller, give a host a new handle */
+    MSCP_MADE = -11,        /* an init, where something is made: reset a controller, give a host or a port a new handle */
     MSCP_NO_HANDLE = -12,   /* an init of what is no handle */
     MSCP_NO_MEMORY = -13,   /* an init: the memory is NULL */
     MSCP_MISALIGNED = -14,  /* an init: its address isn't a multiple of the alignment */
