@@ -55,7 +55,7 @@ uint32_t mscp_version(void);
 
 /* What a call answers: 0 and up what came of it, below 0 why it was refused. */
 enum mscp_status {
-    MSCP_NOTHING = 0,   /* no command waits, no end is there, no poll is to be sent */
+    MSCP_NOTHING = 0,   /* no command waits, no end is there, no poll is to be sent, a port wants nothing */
     MSCP_DONE = 1,      /* the call did what it says */
     MSCP_QUEUED = 2,    /* mscp_send: the command waits for steps */
     MSCP_ANSWERED = 3,  /* mscp_send: its end was made at once: take it */
@@ -78,7 +78,7 @@ enum mscp_status {
     MSCP_UNKNOWN = -9,      /* mscp_host_receive: the end of no outstanding command */
 
     MSCP_NOT_MADE = -10,    /* nothing was made in the handle's memory: init it first */
-    MSCP_MADE = -11,        /* an init, where something is made: reset a controller, give a host a new handle */
+    MSCP_MADE = -11,        /* an init, where something is made: reset a controller, give all else a new handle */
     MSCP_NO_HANDLE = -12,   /* an init of what is no handle */
     MSCP_NO_MEMORY = -13,   /* an init: the memory is NULL */
     MSCP_MISALIGNED = -14,  /* an init: its address isn't a multiple of the alignment */
@@ -193,13 +193,13 @@ struct mscp_hardware {
 /* What a port wants done. Its `address` and `count` are of host memory: so many bytes from there on. The block's buffer
  * is yours, and has MSCP_BLOCK bytes. */
 enum mscp_action_kind {
-    MSCP_ACTION_PAUSE = 1,     /* nothing, but the host is to go on a little, some hundred instructions: mscp_port_went */
+    MSCP_ACTION_PAUSE = 1,     /* nothing, but the host is to go on a little: some hundred instructions */
     MSCP_ACTION_READ = 2,      /* hand those bytes to mscp_port_was_read */
     MSCP_ACTION_WRITE = 3,     /* write `bytes` there */
     MSCP_ACTION_INTERRUPT = 4, /* interrupt the host by `vector` */
     MSCP_ACTION_FETCH = 5,     /* read those bytes into the block's buffer, and fill it up with zeros */
-    MSCP_ACTION_TRANSFER = 6,  /* what `opcode` says with the block's buffer and `block` of `unit`: MSCP_READ, MSCP_WRITE,
-                                * MSCP_ERASE (zeros into the block), MSCP_ACCESS (read it and drop it), or
+    MSCP_ACTION_TRANSFER = 6,  /* what `opcode` says with the block's buffer and `block` of `unit`: MSCP_READ,
+                                * MSCP_WRITE, MSCP_ERASE (zeros into the block), MSCP_ACCESS (read it and drop it), or
                                 * MSCP_COMPARE_HOST_DATA (the first `count` bytes of both) */
     MSCP_ACTION_STORE = 7      /* write the first `count` bytes of the buffer there */
 };
@@ -211,7 +211,7 @@ enum mscp_outcome {
     MSCP_OUTCOME_PARITY = 2,    /* it has a parity error */
     MSCP_OUTCOME_UNMAPPED = 3,  /* the bus maps no memory there */
     MSCP_OUTCOME_DIFFERENT = 4, /* the bytes that were compared differ */
-    MSCP_OUTCOME_FAILED = 5     /* the block couldn't be moved: its command ends with the status that is told beside it */
+    MSCP_OUTCOME_FAILED = 5     /* the block couldn't be moved: its command ends with the status told beside it */
 };
 
 /* A handle on memory of yours: where it is, and what is in it. Nothing in it is for you, save where the memory moves:
@@ -404,8 +404,8 @@ MSCP_INLINE struct mscp_port *mscp_port_in_memory(void *memory, size_t length)
 
 /* The memory with the handle at its head lies here now: whoever moved it calls this before any other call. Its
  * alignment is the same. A controller, a host and a port have no pointer into themselves, and the drive's work goes on:
- * mscp_begin or mscp_port_next tells it again. Of a handle of mscp_over the first two fields say where its memory is: set them, and no
- * other. */
+ * mscp_begin or mscp_port_next tells it again. Of a handle of mscp_over the first two fields say where its memory is:
+ * set them, and no other. */
 MSCP_INLINE struct mscp *mscp_moved(void *memory)
 {
     struct mscp *handle = (struct mscp *)memory;
@@ -631,8 +631,8 @@ MSCP_INLINE int32_t mscp_port_init(struct mscp_port *port, const struct mscp_lim
 /* The host reads IP, the first register, which shows 0. MSCP_DONE. */
 int32_t mscp_port_read_ip(struct mscp_port *port);
 
-/* The host writes IP, whatever it writes there, or its bus is reset: the port forgets all that its host has said, and is
- * in the first step of its initialisation. Volumes stay. What is in work is forgotten, too. MSCP_DONE. */
+/* The host writes IP, whatever it writes there, or its bus is reset: the port forgets all that its host has said, and
+ * what is in work, and is in the first step of its initialisation. Volumes stay. MSCP_DONE. */
 int32_t mscp_port_write_ip(struct mscp_port *port);
 
 /* What SA shows, the second register: 0 to 65535. */
@@ -642,7 +642,8 @@ int32_t mscp_port_read_sa(const struct mscp_port *port);
 int32_t mscp_port_write_sa(struct mscp_port *port, uint16_t word);
 
 /* What the port wants done next. MSCP_DONE, or MSCP_NOTHING until a register is touched, a volume comes or goes, the
- * clock ticks, or it is to look again. Until it is told how it went it answers the same, unless a register is touched. */
+ * clock ticks, or it is to look again. Until it is told how that went it answers the same, unless a register is touched,
+ * or the volume of its unit comes or goes: then a block isn't wanted any more. Do it before. */
 MSCP_MUST_USE int32_t mscp_port_next(struct mscp_port *port, struct mscp_action *action);
 
 /* These bytes were read in host memory, as it wanted: just as many. MSCP_DONE, or MSCP_UNASKED. */
@@ -658,8 +659,8 @@ MSCP_INLINE int32_t mscp_port_was_read(struct mscp_port *port, const uint8_t *by
  * MSCP_UNASKED. */
 MSCP_MUST_USE int32_t mscp_port_went(struct mscp_port *port, uint32_t outcome, uint16_t status);
 
-/* Where the machine has time for the disk: the port looks again whether its host has given slots for ends back, of which
- * nothing tells. MSCP_DONE. */
+/* Where the machine has time for the disk: the port looks again whether its host has given slots for ends back, of
+ * which nothing tells. MSCP_DONE. */
 int32_t mscp_port_look_again(struct mscp_port *port);
 
 /* A second went by. It looks again, too, and a host that was silent for too long is taken for dead. MSCP_DONE. */

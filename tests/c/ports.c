@@ -211,6 +211,46 @@ static void unasked(void)
     expect(1, 0x89, 0);
 }
 
+/* IP is written while an action is at work, at each action from the first word on to the end of a READ: what is told of
+ * it isn't wanted any more, and the port begins anew. */
+static void resets_amid_an_action(void)
+{
+    static const uint8_t bytes[64];
+    struct mscp_action action;
+    unsigned amid = 0;
+    for (bool is_done = false; !is_done; amid++) {
+        const uint16_t words[4] = {0x8000 | 0x80 | 0154 / 4, 0x1000, 0, 1};
+        unsigned actions = 0;
+        build(&RQDX3);
+        host.base = 0x1000;
+        host.responses = host.commands = 1;
+        host.sent = host.taken = 0;
+        for (unsigned step = 0; step < 6 && actions <= amid; step++) {
+            if (step < 4)
+                is("a word", mscp_port_write_sa(machine.port, words[step]), MSCP_DONE);
+            if (step >= 4) {
+                offer(0);
+                send_command(0, step, step == 4 ? MSCP_ONLINE : MSCP_READ, step == 4 ? 0 : 512, 0, 0x4000);
+            }
+            while (actions < amid && act())
+                actions++;
+            if (actions == amid && mscp_port_next(machine.port, &action) == MSCP_DONE)
+                actions++;
+        }
+        is_done = actions <= amid;
+        is("IP", mscp_port_write_ip(machine.port), MSCP_DONE);
+        is("not done any more", mscp_port_went(machine.port, MSCP_OUTCOME_DONE, 0), MSCP_UNASKED);
+        is("nor failed", mscp_port_went(machine.port, MSCP_OUTCOME_MISSING, 0), MSCP_UNASKED);
+        is("nor read", mscp_port_was_read(machine.port, bytes, 4), MSCP_UNASKED);
+        is("nothing is wanted", mscp_port_next(machine.port, &action), MSCP_NOTHING);
+        initialise(0x1000, 0, 0, 0);
+        send_command(0, 9, MSCP_ONLINE, 0, 0, 0);
+        expect(9, 0x89, 0);
+        is("credits anew", host.credits, 15);
+    }
+    is("many actions", amid > 25, 1);
+}
+
 int main(void)
 {
     steps();
@@ -231,5 +271,6 @@ int main(void)
     }
     fatal_errors();
     unasked();
+    resets_amid_an_action();
     return wrong;
 }
