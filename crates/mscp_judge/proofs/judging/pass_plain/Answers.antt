@@ -27,8 +27,7 @@ returns-clause-passed g c = λ d log s.
     + length (events_of (plain_request found.plain)) ≤ 1000000 =
     omega (arith, c.if-event_count-count.false, c.event_count.ensures, c.count.ensures, c.requires) in
     let first = passed_plain (Ok tt) c.args.judge.now c.ask_plain.new.self (plain_request found.plain) found.plain
-        before mid.number
-    rest mid.rest.now found.line.words.rest.now refl c.in_ok-count.ensures.stands
+    before mid.number rest mid.rest.now found.line.words.rest.now refl c.in_ok-count.ensures.stands
     c.in-Some.ensures.next c.in-Some.ensures.line c.in-Some.ensures.said found.agrees few d log s in
     let new = c.cut_due.new in
     let cut = c.cut_due.ensures in
