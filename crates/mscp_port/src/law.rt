@@ -1,6 +1,6 @@
 // What is true of every port.
 
-ghost use Rattle.mscp_port.specs.Histories.{PortsTouchWhatIsNamed};
+ghost use Rattle.mscp_port.specs.Histories.{PortsHaveCredit, PortsTouchWhatIsNamed};
 
 use mscp_queue::Picker;
 
@@ -10,6 +10,15 @@ use mscp_queue::Picker;
 /// alone, with what was answered to them.
 pub fn ports_touch_what_is_named<K: Picker>(picker: &K)
     ensures { PortsTouchWhatIsNamed K }
+{
+    let _ = picker;
+}
+
+/// A port was made for a host that may have so many commands outstanding. Whoever calls the port: where the controller has fewer
+/// of them that wait, or whose ends weren't taken, no message is refused for want of a credit. So no command of a host that
+/// keeps to its credits stays in its slot.
+pub fn ports_have_credit<K: Picker>(picker: &K)
+    ensures { PortsHaveCredit K }
 {
     let _ = picker;
 }
