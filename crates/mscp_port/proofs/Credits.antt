@@ -58,8 +58,8 @@ is_of_credit fault = false
 
 -- the first that holds of three
 first_of_three : (none one held : Bool) (f : SendFault) → none ≡ false → one ≡ false
-    → cond none (Some faults.NoCredit) (cond one (Some faults.LastCredit) (cond held (Some faults.Doubled) None)) ≡ Some f
-    → is_of_credit f ≡ false
+    → cond none (Some faults.NoCredit) (cond one (Some faults.LastCredit) (cond held (Some faults.Doubled) None))
+    ≡ Some f → is_of_credit f ≡ false
 unfolding is_of_credit
 first_of_three true one held f n o e = absurd (false≢true (sym n))
 first_of_three false true held f n o e = absurd (false≢true (sym o))
@@ -72,8 +72,8 @@ credit_left : (balance : ℕ) (os : List ℕ) (opcode reference : ℕ) (f : Send
 credit_left balance os opcode reference f two e =
     let none : nat_eq balance 0 ≡ false = eq_false balance 0 (λ h. omega (arith, two, h)) in
     let one : nat_eq balance 1 ≡ false = eq_false balance 1 (λ h. omega (arith, two, h)) in
-    first_of_three (nat_eq balance 0) (nat_eq balance 1 && not (is_immediate_class (class opcode))) (holds os reference) f
-    none (ap (λ b. b && not (is_immediate_class (class opcode))) one) e
+    first_of_three (nat_eq balance 0) (nat_eq balance 1 && not (is_immediate_class (class opcode)))
+    (holds os reference) f none (ap (λ b. b && not (is_immediate_class (class opcode))) one) e
 
 first_of_lengths : (short long : Bool) (o : Option SendFault) (f : SendFault) → (o ≡ Some f → is_of_credit f ≡ false)
     → cond short (Some faults.Short) (cond long (Some faults.Long) o) ≡ Some f → is_of_credit f ≡ false
@@ -111,7 +111,8 @@ outstanding_count : {K : Type 0} (h : Holdings K) → length (outstanding_of Fir
     ≡ length (waiting_on First h.waiting) + length (of First h.untaken)
 outstanding_count h =
     length-append (numbers (waiting_on First h.waiting)) (numbers_ended (of First h.untaken))
-    ∙ ap (λ m. m + length (numbers_ended (of First h.untaken))) (length-map (waiting_on First h.waiting) (λ r. r.command.reference))
+    ∙ ap (λ m. m + length (numbers_ended (of First h.untaken)))
+    (length-map (waiting_on First h.waiting) (λ r. r.command.reference))
     ∙ ap (λ n. length (waiting_on First h.waiting) + n) (length-map (of First h.untaken) (λ e. e.reference))
 
 two_left : (all before now held credits : ℕ) → now ≡ all → credits < all - before → held < credits → 2 ≤ now - held

@@ -122,8 +122,8 @@ pub record HasCredit {K : Type 0} (h : Holdings K) (bytes : List ℕ) : Type 0 w
   pub some : answer_to_message First h bytes ≢ Err NoCredit
   pub last : answer_to_message First h bytes ≢ Err LastCredit
 
--- the law of credits: a port was made for a host that may have so many commands outstanding. Whoever calls it, where the
--- controller has fewer of them that wait or whose ends weren't taken, no message is refused for want of a credit
+-- the law of credits: a port was made for a host that may have so many commands outstanding. Whoever calls it, where
+-- the controller has fewer of them that wait or whose ends weren't taken, no message is refused for want of a credit
 abbrev pub PortsHaveCredit : Type 0 → Type 0
 PortsHaveCredit K =
     (hardware : Hardware) (credits : ℕ) (controller : Holdings K) (start p : Port K) (calls : List Call)
