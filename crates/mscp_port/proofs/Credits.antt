@@ -1,5 +1,5 @@
 -- A port has a credit for each message of a host that has no more commands outstanding than it may.
-use Rattle.std.proofs.Common.{◌≡◌, ◌≢◌, ◌⊎◌, ◌∙◌, ◌+◌, ◌-◌, ◌<◌, ◌≤◌, ◌++◌, ℕ, Bool, true, false, cond, not, ◌&&◌, List, [], ◌∷◌, length, map, Option, None, Some, inl, inr, refl, ap, sym, subst, arith}
+use Rattle.std.proofs.Common.{◌≡◌, ◌≢◌, ◌∙◌, ◌+◌, ◌-◌, ◌<◌, ◌≤◌, ℕ, Bool, true, false, cond, not, ◌&&◌, List, [], ◌∷◌, length, Option, None, Some, inl, inr, refl, ap, sym, subst, arith}
 use Rattle.std.specs.Prelude.{Result, Ok, Err, nat_eq, nat_lt, slice_index, unwrap_or}
 use Rattle.std.proofs.lemmas.Bool.{false≢true}
 use Rattle.std.proofs.lemmas.List.{length-append, length-map}
@@ -17,7 +17,7 @@ use Rattle.mscp_control.specs.declared.event.Sent.{Sent}
 use Rattle.mscp_control.specs.Arrival.{credit_fault, holds, refusal}
 use Rattle.mscp_control.specs.Holdings.{Holdings, answer_to_message, balance_of, outstanding_of, sent_unless, waiting_on, numbers, numbers_ended}
 use Rattle.mscp_control.specs.Both.{of}
-use Rattle.mscp_control.specs.Settings.{Settings, credits_of}
+use Rattle.mscp_control.specs.Settings.{credits_of}
 use Rattle.mscp_port.specs.declared.hardware.Hardware.{Hardware}
 use Rattle.mscp_port.specs.declared.port.Port.{Port}
 use Rattle.mscp_port.specs.Calls.{IsMadeOf, Ticks}

@@ -23,7 +23,7 @@ use Rattle.mscp_port.specs.Messages.{handed, own_end}
 use Rattle.mscp_port.specs.Outgoings.{AnswersItself, HasSaid, Says}
 use Rattle.mscp_port.specs.Slots.{is_owned}
 use Rattle.mscp_packet.specs.Number.{num}
-use Rattle.mscp_port.specs.Ports.{IsAsNew, IsDue, IsIdle, IsReadingText, IsWithin, Learns, in_hand}
+use Rattle.mscp_port.specs.Ports.{Drops, IsAsNew, IsDue, IsIdle, IsReadingText, IsWithin, Learns, Leaves, in_hand}
 use Rattle.mscp_port.specs.Registers.{shown}
 use Rattle.mscp_port.specs.Wanted.{IsWanted}
 use Rattle.mscp_port.specs.Volumes.{no_volume, place_in, volume_at, volumes_changed}
@@ -77,6 +77,7 @@ pub record ReadsIp {K : Type 0} (old new : Port K) : Type 0 where
   pub nowhere : old.stage ≡ stages.Probing → old.rings ≡ None → IsAsNew (stages.Dead 7) old new
   pub elsewhere : old.stage ≢ stages.Up → old.stage ≢ stages.Probing → new ≡ old
   pub settings : new.controller.settings ≡ old.controller.settings
+  pub hand : Leaves old new ⊎ Drops old new
 
 -- the host wrote this word to SA
 pub record WritesSa {K : Type 0} (word : ℕ) (old new : Port K) : Type 0 where
@@ -95,6 +96,7 @@ pub record WritesSa {K : Type 0} (word : ℕ) (old new : Port K) : Type 0 where
   pub up : old.stage ≡ stages.Up → new ≡ old
   pub dead : (code : ℕ) → old.stage ≡ stages.Dead code → new ≡ old
   pub settings : new.controller.settings ≡ old.controller.settings
+  pub hand : Leaves old new ⊎ Drops old new
 
 -- ---- what is wanted
 
