@@ -78,8 +78,8 @@ IsPut calls (actions.Fetch address count) = IsPutForData calls address count
 IsPut calls (actions.Store address count) = IsPutForData calls address count
 IsPut calls action = Unit {0}
 
--- the law of places: whoever calls a port that was made over a controller, and tells of reads only after they were wanted:
--- the port wants only memory touched that the host has named in its memory since it wrote IP last
+-- the law of places: whoever calls a port that was made over a controller, and tells of reads only after they were
+-- wanted: the port wants only memory touched that the host has named in its memory since it wrote IP last
 abbrev pub PortsTouchWhatWasPut : Type 0 → Type 0
 PortsTouchWhatWasPut K =
     (hardware : Hardware) (credits : ℕ) (controller : Holdings K) (start p : Port K) (calls : List Call)

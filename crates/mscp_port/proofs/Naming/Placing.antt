@@ -108,7 +108,8 @@ IsNoRead tasks.Free = Unit {0}
 IsNoRead (tasks.Clear done) = Unit {0}
 IsNoRead task = ⊥
 
-asked_none : {K : Type 0} (p : Port K) (t : Task) (o : Option ℕ) → IsNoRead t → IfSome o (λ address. IsReadFrom p t address)
+asked_none : {K : Type 0} (p : Port K) (t : Task) (o : Option ℕ) → IsNoRead t
+    → IfSome o (λ address. IsReadFrom p t address)
 asked_none p t None h = tt
 asked_none p tasks.Free (Some address) h = tt
 asked_none p (tasks.Clear done) (Some address) h = tt
@@ -123,7 +124,8 @@ no_packet ws rs t h = absurd h
 dropped_placed : {K : Type 0} (ws : List ℕ) (rs : List (ℕ × List ℕ)) (o : Option ℕ) (old new : Port K)
     → Places ws rs o old → Drops old new → Places ws rs o new
 dropped_placed ws rs o old new k d =
-    let no : IsNoRead new.task = elim d.task [ inl free ↦ subst IsNoRead (sym free) tt | inr clear ↦ subst IsNoRead (sym clear) tt ] in
+    let no : IsNoRead new.task =
+    elim d.task [ inl free ↦ subst IsNoRead (sym free) tt | inr clear ↦ subst IsNoRead (sym clear) tt ] in
     record {
       asked = asked_none new new.task o no;
       packet = no_packet ws rs new.task no;
@@ -208,7 +210,9 @@ slot_read : {K : Type 0} (ws : List ℕ) (rs : List (ℕ × List ℕ)) (old : Po
     (bytes : List ℕ) → IfSome old.rings (λ r. NamesArea ws r) → IsReadingSlot t → IsReadFrom old t address
     → word ≡ num bytes 0 4 → is_owned word ≡ true → PutsPacket ws ((address, bytes) ∷ rs) word
 slot_read ws rs old (tasks.Slot side) address word bytes areas reading from is owned =
-    let found = ring_of old.rings (λ r. NamesArea ws r) (λ r. address ≡ slot_in r side (given_in old side)) areas from in (
+    let found =
+    ring_of old.rings (λ r. NamesArea ws r) (λ r. address ≡ slot_in r side (given_in old side)) areas from in
+    (
       found.0,
       side,
       given_in old side,
