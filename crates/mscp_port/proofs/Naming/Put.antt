@@ -100,7 +100,8 @@ placed hardware credits controller start p (call ∷ earlier) made asks a =
 -- ---- what an action touches
 
 ring_put : {K : Type 0} (calls : List Call) (o : Option ℕ) (p : Port K) (address count : ℕ)
-    → Knows (words calls) (reads calls) p → Places (words calls) (reads_at calls) o p → IsInRingsOrPacket p address count
+    → Knows (words calls) (reads calls) p → Places (words calls) (reads_at calls) o p
+    → IsInRingsOrPacket p address count
     → IsPutForRings calls address count
 ring_put calls o p address count k m lies = elim lies [
   | inl area ↦ inl (chosen p.rings (λ r. IsInArea r address count) (λ r. NamesArea (words calls) r) area k.area)
