@@ -1,3 +1,5 @@
 pub mod Among
+pub mod Credits
 pub mod Known
 pub mod Naming
+pub mod Settings

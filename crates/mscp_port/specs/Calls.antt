@@ -23,7 +23,7 @@ use Rattle.mscp_port.specs.Messages.{handed, own_end}
 use Rattle.mscp_port.specs.Outgoings.{AnswersItself, HasSaid, Says}
 use Rattle.mscp_port.specs.Slots.{is_owned}
 use Rattle.mscp_packet.specs.Number.{num}
-use Rattle.mscp_port.specs.Ports.{IsAsNew, IsDue, IsIdle, IsReadingText, IsWithin, Learns, in_hand}
+use Rattle.mscp_port.specs.Ports.{Drops, IsAsNew, IsDue, IsIdle, IsReadingText, IsWithin, Learns, Leaves, in_hand}
 use Rattle.mscp_port.specs.Registers.{shown}
 use Rattle.mscp_port.specs.Wanted.{IsWanted}
 use Rattle.mscp_port.specs.Volumes.{no_volume, place_in, volume_at, volumes_changed}
@@ -76,6 +76,8 @@ pub record ReadsIp {K : Type 0} (old new : Port K) : Type 0 where
       → new ≡ record old { stage = stages.Clearing; task = tasks.Clear 0 }
   pub nowhere : old.stage ≡ stages.Probing → old.rings ≡ None → IsAsNew (stages.Dead 7) old new
   pub elsewhere : old.stage ≢ stages.Up → old.stage ≢ stages.Probing → new ≡ old
+  pub settings : new.controller.settings ≡ old.controller.settings
+  pub hand : Leaves old new ⊎ Drops old new
 
 -- the host wrote this word to SA
 pub record WritesSa {K : Type 0} (word : ℕ) (old new : Port K) : Type 0 where
@@ -93,6 +95,8 @@ pub record WritesSa {K : Type 0} (word : ℕ) (old new : Port K) : Type 0 where
   pub clearing : old.stage ≡ stages.Clearing → new ≡ old
   pub up : old.stage ≡ stages.Up → new ≡ old
   pub dead : (code : ℕ) → old.stage ≡ stages.Dead code → new ≡ old
+  pub settings : new.controller.settings ≡ old.controller.settings
+  pub hand : Leaves old new ⊎ Drops old new
 
 -- ---- what is wanted
 
@@ -118,6 +122,7 @@ pub record Wants {K : Type 0} (old : Port K) (action : Action) (new : Port K) : 
   pub due : ((code : ℕ) → old.stage ≢ stages.Dead code) → old.task ≡ tasks.Free → IsDue new new.task
   -- and what goes out next: ends leave in the order in which the controller has them
   pub says : Says old new
+  pub settings : new.controller.settings ≡ old.controller.settings
   -- what is in hand stays so until it is told how that went
   pub goes_on : old.task ≢ tasks.Free → new ≡ old
 
@@ -145,6 +150,7 @@ pub record Hears {K : Type 0} (bytes : List ℕ) (old : Port K) (result : Result
   pub unasked : OnErr result (new ≡ old)
   pub frame : ChangesByReading old new
   pub learns : Learns bytes old new
+  pub settings : new.controller.settings ≡ old.controller.settings
   -- a message reaches the controller as its host wrote it, unless the port answers it itself
   pub handed : (slot : Descriptor) (size : ℕ) (foreign : Bool) → old.task ≡ tasks.Text slot size foreign
       → IsOk result → own_end foreign bytes ≡ None
@@ -232,6 +238,7 @@ pub record Goes {K : Type 0} (outcome : Outcome) (old : Port K) (result : Result
   pub dead : (code : ℕ) → old.stage ≡ stages.Dead code → IsErr result
   pub unasked : OnErr result (new ≡ old)
   pub steps : IsOk result → IfSome (step_answered old.task old.written) (λ word. TakesStep word old new)
+  pub settings : new.controller.settings ≡ old.controller.settings
   pub still : step_answered old.task old.written ≡ None → ChangesByActing old new × StaysInStage old new
   -- of its host's memory the port learns nothing but the area
   pub buffers : (b : Buffer) → Contains new.buffers.items b → Contains old.buffers.items b

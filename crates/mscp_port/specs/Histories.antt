@@ -1,12 +1,14 @@
 -- What somebody calls of a port, one call after the other, and what the host has named by then.
-use Rattle.std.specs.Prelude.{◌≡◌, ◌⊎◌, ◌++◌, ℕ, Bool, true, List, [], ◌∷◌, length, Contains, Result, Ok, Some}
+use Rattle.std.specs.Prelude.{◌≡◌, ◌≢◌, ◌<◌, ◌⊎◌, ◌++◌, ℕ, Bool, true, List, [], ◌∷◌, length, Contains, Result, Ok, Err, Some}
 use Rattle.mscp_packet.specs.Number.{num}
 use Rattle.mscp_port.specs.declared.action.Action.{Action}
 use Rattle.mscp_port.specs.declared.action.Action.TheVariants as actions
 use Rattle.mscp_port.specs.declared.action.Outcome.{Outcome}
 use Rattle.mscp_port.specs.declared.action.Unasked.{Unasked}
 use Rattle.mscp_port.specs.declared.buffers.Buffer.{Buffer}
-use Rattle.mscp_control.specs.Holdings.{Holdings}
+use Rattle.mscp_queue.specs.declared.name.Connection.TheVariants.{First}
+use Rattle.mscp_control.specs.declared.event.SendFault.TheVariants.{NoCredit, LastCredit}
+use Rattle.mscp_control.specs.Holdings.{Holdings, answer_to_message, balance_of, outstanding_of}
 use Rattle.mscp_port.specs.declared.hardware.Hardware.{Hardware}
 use Rattle.mscp_port.specs.declared.port.Port.{Port}
 use Rattle.mscp_port.specs.declared.port.watching.NoUnit.{NoUnit}
@@ -105,6 +107,8 @@ IsNamed calls (actions.Fetch address count) = IsNamedForData calls address count
 IsNamed calls (actions.Store address count) = IsNamedForData calls address count
 IsNamed calls action = Unit {0}
 
+-- ---- laws
+
 -- the law of ports: whoever calls a port that was made over a controller, and whatever the host writes, the port wants
 -- only memory touched that the host has named since it wrote IP last
 abbrev pub PortsTouchWhatIsNamed : Type 0 → Type 0
@@ -112,3 +116,17 @@ PortsTouchWhatIsNamed K =
     (hardware : Hardware) (credits : ℕ) (controller : Holdings K) (start p : Port K) (calls : List Call)
     (action : Action)
     → IsMadeOf hardware credits controller start → Answered start (Next action ∷ calls) p → IsNamed calls action
+
+-- no message with these bytes is refused for want of a credit
+pub record HasCredit {K : Type 0} (h : Holdings K) (bytes : List ℕ) : Type 0 where
+  pub some : answer_to_message First h bytes ≢ Err NoCredit
+  pub last : answer_to_message First h bytes ≢ Err LastCredit
+
+-- the law of credits: a port was made for a host that may have so many commands outstanding. Whoever calls it, where
+-- the controller has fewer of them that wait or whose ends weren't taken, no message is refused for want of a credit
+abbrev pub PortsHaveCredit : Type 0 → Type 0
+PortsHaveCredit K =
+    (hardware : Hardware) (credits : ℕ) (controller : Holdings K) (start p : Port K) (calls : List Call)
+    (bytes : List ℕ)
+    → IsMadeOf hardware credits controller start → credits < balance_of First controller → Answered start calls p
+    → length (outstanding_of First p.controller) < credits → HasCredit p.controller bytes

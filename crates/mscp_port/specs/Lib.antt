@@ -5,6 +5,7 @@ pub mod Histories
 pub mod Messages
 pub mod Outgoings
 pub mod Packets
+pub mod Places
 pub mod Ports
 pub mod Registers
 pub mod Slots

@@ -89,6 +89,19 @@ pub record Learns {K : Type 0} (bytes : List ℕ) (old new : Port K) : Type 0 wh
   pub buffers : (b : Buffer) → Contains new.buffers.items b → Contains old.buffers.items b
       ⊎ (IsReadingText old.task × (changes : ℕ) × (b ≡ buffer_in bytes changes))
 
+-- what is in hand stays so, and with it the rings, the slots that were given back, and the buffers
+pub record Leaves {K : Type 0} (old new : Port K) : Type 0 where
+  pub task : new.task ≡ old.task
+  pub rings : new.rings ≡ old.rings
+  pub responses : new.responses ≡ old.responses
+  pub commands : new.commands ≡ old.commands
+  pub buffers : new.buffers ≡ old.buffers
+
+-- nothing is in hand, or the communication area is to be cleared, and no buffer is learned of
+pub record Drops {K : Type 0} (old new : Port K) : Type 0 where
+  pub task : (new.task ≡ tasks.Free) ⊎ (new.task ≡ tasks.Clear 0)
+  pub buffers : (b : Buffer) → Contains new.buffers.items b → Contains old.buffers.items b
+
 -- ---- what is due
 
 -- nothing goes out, or the next slot of the ring of responses was the host's

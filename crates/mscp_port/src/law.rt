@@ -1,6 +1,7 @@
 // What is true of every port.
 
-ghost use Rattle.mscp_port.specs.Histories.{PortsTouchWhatIsNamed};
+ghost use Rattle.mscp_port.specs.Histories.{PortsHaveCredit, PortsTouchWhatIsNamed};
+ghost use Rattle.mscp_port.specs.Places.{PortsTouchWhatWasPut};
 
 use mscp_queue::Picker;
 
@@ -10,6 +11,24 @@ use mscp_queue::Picker;
 /// alone, with what was answered to them.
 pub fn ports_touch_what_is_named<K: Picker>(picker: &K)
     ensures { PortsTouchWhatIsNamed K }
+{
+    let _ = picker;
+}
+
+/// Whoever calls such a port, and tells of a read only after it was wanted: the packet's descriptor stood in a slot of a ring
+/// that the host named, and the buffer's command where such a descriptor says. So the host has put all of it into its memory, at
+/// the places where a host puts it.
+pub fn ports_touch_what_was_put<K: Picker>(picker: &K)
+    ensures { PortsTouchWhatWasPut K }
+{
+    let _ = picker;
+}
+
+/// A port was made for a host that may have so many commands outstanding. Whoever calls the port: where the controller has fewer
+/// of them that wait, or whose ends weren't taken, no message is refused for want of a credit. So no command of a host that
+/// keeps to its credits stays in its slot.
+pub fn ports_have_credit<K: Picker>(picker: &K)
+    ensures { PortsHaveCredit K }
 {
     let _ = picker;
 }

@@ -233,6 +233,7 @@ impl<K: Picker> Port<K> {
         requires taken { self.old.written ≡ None }
         ensures steps { TakesStep word self.old self.new }
         ensures out { (self.new.outgoing ≡ self.old.outgoing) ⊎ Dies self.old self.new }
+        ensures settings { self.new.controller.settings ≡ self.old.controller.settings }
         ensures buffers { (b : Kept) → Contains self.new.buffers.items b → Contains self.old.buffers.items b }
         ensures packet { in_hand self.new.task ≡ None }
     {
@@ -284,6 +285,7 @@ impl<K: Picker> Port<K> {
         ensures nowhere { third < 0x8000 → rings_named self.old.words.first self.old.words.second third ≡ None
             → IsAsNew (stages.Dead 7) self.old self.new }
         ensures out { (self.new.outgoing ≡ self.old.outgoing) ⊎ Dies self.old self.new }
+        ensures settings { self.new.controller.settings ≡ self.old.controller.settings }
         ensures buffers { (b : Kept) → Contains self.new.buffers.items b → Contains self.old.buffers.items b }
         ensures packet { in_hand self.old.task ≡ None → in_hand self.new.task ≡ None }
     {

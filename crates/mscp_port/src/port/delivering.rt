@@ -46,6 +46,7 @@ impl<K: Picker> Port<K> {
           volumes = self.new.volumes;
         } }
         ensures says { TakesEnd self.old self.new ⊎ TellsNews self.old self.new }
+        ensures settings { self.new.controller.settings ≡ self.old.controller.settings }
     {
         if let Some(bytes) = self.controller.take(Connection::First) {
             self.is_stalled = false;

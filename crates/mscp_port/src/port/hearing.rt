@@ -138,6 +138,7 @@ impl<K: Picker> Port<K> {
         ensures out { (self.new.outgoing ≡ self.old.outgoing) ⊎ AnswersItself is_foreign message.now self.old self.new
             ⊎ Dies self.old self.new }
         ensures task { (self.new.task ≡ tasks.Free) ⊎ (self.new.task ≡ tasks.Return Commands slot) }
+        ensures settings { self.new.controller.settings ≡ self.old.controller.settings }
         ensures own { end_of_own is_foreign message.now ≢ None → self.new.controller ≡ self.old.controller }
         ensures handed { end_of_own is_foreign message.now ≡ None
             → answer_to_message First self.old.controller (handed self.old.controller.settings.units message.now)
@@ -179,6 +180,7 @@ impl<K: Picker> Port<K> {
     fn send(&mut self, message: &[u8])
         requires short { 12 ≤ length message.now }
         requires long { length message.now ≤ 64 }
+        ensures settings { self.new.controller.settings ≡ self.old.controller.settings }
         ensures handed { answer_to_message First self.old.controller (handed self.old.controller.settings.units message.now)
             ≢ Err faults.Doubled
             → self.new.controller

@@ -146,6 +146,7 @@ impl<K: Picker> Port<K> {
         ensures block { (result ≡ tasks.Free) ⊎ IsOfBlock result }
         ensures idle { result ≡ tasks.Free → self.new.controller.waiting ≡ [] }
         ensures untaken { self.new.controller.untaken ≡ self.old.controller.untaken }
+        ensures settings { self.new.controller.settings ≡ self.old.controller.settings }
     {
         let Some(upcoming) = self.controller.begin() else {
             return Task::Free;
@@ -166,6 +167,7 @@ impl<K: Picker> Port<K> {
           buffers = self.new.buffers;
           volumes = self.new.volumes;
         } }
+        ensures settings { self.new.controller.settings ≡ self.old.controller.settings }
         ensures buffers { (b : Kept) → Contains self.new.buffers.items b → Contains self.old.buffers.items b }
         ensures packet { in_hand self.new.task ≡ None }
     {
@@ -189,6 +191,7 @@ impl<K: Picker> Port<K> {
           buffers = self.new.buffers;
           volumes = self.new.volumes;
         } }
+        ensures settings { self.new.controller.settings ≡ self.old.controller.settings }
         ensures buffers { (b : Kept) → Contains self.new.buffers.items b → Contains self.old.buffers.items b }
         ensures packet { in_hand self.new.task ≡ None }
     {
@@ -208,6 +211,7 @@ impl<K: Picker> Port<K> {
           buffers = self.new.buffers;
           volumes = self.new.volumes;
         } }
+        ensures settings { self.new.controller.settings ≡ self.old.controller.settings }
         ensures buffers { (b : Kept) → Contains self.new.buffers.items b → Contains self.old.buffers.items b }
         ensures packet { in_hand self.new.task ≡ None }
     {

@@ -124,6 +124,7 @@ impl<K: Picker> Port<K> {
         ensures packet { in_hand result ≡ None }
         ensures due { IsDue self.new result }
         ensures says { Says self.old self.new }
+        ensures settings { self.new.controller.settings ≡ self.old.controller.settings }
         ensures step { result ≡ tasks.Free → self.new.written ≡ None }
         ensures up { result ≡ tasks.Free → self.new.stage ≡ stages.Up → IsIdleUp self.new }
     {
@@ -152,6 +153,7 @@ impl<K: Picker> Port<K> {
             → (result ≡ tasks.Free) ⊎ IsOfBlock result }
         ensures idle { result ≡ tasks.Free → IsIdleUp self.new }
         ensures says { Says self.old self.new }
+        ensures settings { self.new.controller.settings ≡ self.old.controller.settings }
     {
         if self.outgoing.is_none() {
             self.find_outgoing();
@@ -327,6 +329,7 @@ impl<K: Picker> Port<K> {
           buffers = self.new.buffers;
           volumes = self.new.volumes;
         } }
+        ensures settings { self.new.controller.settings ≡ self.old.controller.settings }
         ensures buffers { (b : Kept) → Contains self.new.buffers.items b → Contains self.old.buffers.items b }
         ensures packet { in_hand self.new.task ≡ None }
     {
@@ -340,6 +343,7 @@ impl<K: Picker> Port<K> {
     fn settled(&mut self)
         ensures steps { IfSome self.old.written (λ word. TakesStep word self.old self.new) }
         ensures none { self.old.written ≡ None → self.new ≡ record self.old { task = tasks.Free } }
+        ensures settings { self.new.controller.settings ≡ self.old.controller.settings }
         ensures out { (self.new.outgoing ≡ self.old.outgoing) ⊎ Dies self.old self.new }
         ensures buffers { (b : Kept) → Contains self.new.buffers.items b → Contains self.old.buffers.items b }
         ensures packet { in_hand self.new.task ≡ None }

@@ -31,5 +31,6 @@ returns g c = record {
         (said_on c.args.self.now w.choose-self.new.self w.choose-self.result w.choose-self.ensures.says)
     | in_default w ↦ says_the_same c.args.self.now c.match-self.self w.self-is
   ];
+  settings = search rules;
   goes_on = search rules;
 }

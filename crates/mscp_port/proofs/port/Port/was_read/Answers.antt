@@ -19,6 +19,7 @@ returns-in-Text g c = record {
       | inr named ↦ inr (subst IsReadingText (sym c.in-Text.is) tt, named.0, named.1)
     ];
   };
+  settings = search rules;
   handed = search rules;
   own = search rules;
   nothing_else = λ no. absurd (no (subst IsReadingText (sym c.in-Text.is) tt));
@@ -39,6 +40,7 @@ returns-in-Slot g c = record {
   unasked = tt;
   frame = search rules;
   learns = search rules;
+  settings = search rules;
   handed = search rules;
   own = search rules;
   nothing_else = search rules;
@@ -53,6 +55,7 @@ returns-in-Header g c = record {
   unasked = tt;
   frame = search rules;
   learns = search rules;
+  settings = search rules;
   handed = search rules;
   own = search rules;
   nothing_else = search rules;

@@ -14,6 +14,7 @@ returns-in-Settle g c =
       unasked = tt;
       steps = λ done. subst (λ o. IfSome o (λ word. TakesStep word old new)) (sym word_is) c.settled.ensures.steps;
       still = λ none. unsettled old new (c.settled.ensures.none (sym word_is ∙ none));
+      settings = c.settled.ensures.settings;
       buffers = c.settled.ensures.buffers;
       packet = search rules;
       out = elim c.settled.ensures.out [ inl same ↦ inl same | inr dead ↦ inr (inr dead) ];

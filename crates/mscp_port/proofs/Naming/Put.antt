@@ -1,0 +1,133 @@
+-- What a port touches after a whole history was put into its host's memory.
+use Rattle.std.proofs.Common.{◌≢◌, ◌⊎◌, ℕ, List, [], ◌∷◌, length, Option, None, Some, IfSome, inl, inr, refl, ap, sym, subst}
+use Rattle.std.specs.Prelude.{Ok, Err}
+use Rattle.mscp_control.specs.Holdings.{Holdings}
+use Rattle.mscp_port.specs.declared.action.Action.{Action}
+use Rattle.mscp_port.specs.declared.action.Action.TheVariants as actions
+use Rattle.mscp_port.specs.declared.hardware.Hardware.{Hardware}
+use Rattle.mscp_port.specs.declared.port.Port.{Port}
+use Rattle.mscp_port.specs.declared.stage.Stage.{Stage}
+use Rattle.mscp_port.specs.Areas.{IsInArea}
+use Rattle.mscp_port.specs.Calls.{Hears, IsMadeOf, Ticks}
+use Rattle.mscp_port.specs.Histories.{Answered, Becomes, Call, NamesArea, words, reads, WriteIp, ReadIp, WriteSa, Next, WasRead, Went, LookAgain, Tick, Change}
+use Rattle.mscp_port.specs.Places.{AsksFirst, IsPut, IsPutForData, IsPutForRings, PutsPacket, asked, reads_at, with_read}
+use Rattle.mscp_port.specs.Ports.{Drops, IsAsNew, IsInPacket, IsInRingsOrPacket, IsInSomeBuffer, IsWithin, Leaves, in_hand}
+use Rattle.mscp_port.proofs.Among.{none_among}
+use Rattle.mscp_port.proofs.Naming.Knowing.{Knows}
+use Rattle.mscp_port.proofs.Naming.Placing.{Places, hand_placed, next_placed, nothing_placed, places_behind, read_placed, went_placed}
+use Rattle.mscp_port.proofs.Naming.Whole.{chosen, knows}
+
+new_drops : {K : Type 0} (s : Stage) (old new : Port K) → IsAsNew s old new → Drops old new
+new_drops s old new n = record {
+  task = inl n.task;
+  buffers = λ b h. absurd (none_among new.buffers.items b n.buffers h);
+}
+
+tick_hands : {K : Type 0} (old new : Port K) → Ticks old new → Leaves old new ⊎ Drops old new
+tick_hands old new r = elim r [
+  | inl e ↦ inl (record {
+    task = ap (λ p. p.task) e;
+    rings = ap (λ p. p.rings) e;
+    responses = ap (λ p. p.responses) e;
+    commands = ap (λ p. p.commands) e;
+    buffers = ap (λ p. p.buffers) e;
+  })
+  | inr dead ↦ inr (new_drops _ old new dead)
+]
+
+-- the bytes of a read that was wanted
+heard_placed : {K : Type 0} (ws : List ℕ) (rs : List (ℕ × List ℕ)) (o : Option ℕ) (old new : Port K) (bytes : List ℕ)
+    (done : Unit {0}) → IfSome old.rings (λ r. NamesArea ws r) → o ≢ None → Places ws rs o old
+    → Hears bytes old (Ok done) new → Places ws (with_read o bytes rs) None new
+heard_placed ws rs None old new bytes done areas some k r = absurd (some refl)
+heard_placed ws rs (Some address) old new bytes done areas some k r =
+    read_placed ws rs address old new bytes (Ok done) areas k r
+
+call_placed : {K : Type 0} (call : Call) (earlier : List Call) (old new : Port K)
+    → IfSome old.rings (λ r. NamesArea (words earlier) r) → AsksFirst (call ∷ earlier)
+    → Places (words earlier) (reads_at earlier) (asked earlier) old → Becomes call old new
+    → Places (words (call ∷ earlier)) (reads_at (call ∷ earlier)) (asked (call ∷ earlier)) new
+call_placed WriteIp earlier old new areas asks k r = nothing_placed [] [] new r.task r.buffers
+call_placed ReadIp earlier old new areas asks k r =
+    hand_placed (words earlier) (reads_at earlier) (asked earlier) old new k r.hand
+call_placed (WriteSa word) earlier old new areas asks k r =
+    places_behind (words earlier) (reads_at earlier) (asked earlier) new word
+    (hand_placed (words earlier) (reads_at earlier) (asked earlier) old new k r.hand)
+call_placed (Next action) earlier old new areas asks k r =
+    next_placed (words earlier) (reads_at earlier) (asked earlier) old new action k r
+call_placed (WasRead bytes (Ok done)) earlier old new areas asks k r =
+    heard_placed (words earlier) (reads_at earlier) (asked earlier) old new bytes done areas asks.0 k r
+call_placed (WasRead bytes (Err unasked)) earlier old new areas asks k r =
+    subst (Places (words earlier) (reads_at earlier) (asked earlier)) (sym r.unasked) k
+call_placed (Went outcome (Ok done)) earlier old new areas asks k r =
+    went_placed (words earlier) (reads_at earlier) (asked earlier) old new outcome (Ok done) k r
+call_placed (Went outcome (Err unasked)) earlier old new areas asks k r =
+    subst (Places (words earlier) (reads_at earlier) (asked earlier)) (sym r.unasked) k
+call_placed LookAgain earlier old new areas asks k r =
+    hand_placed (words earlier) (reads_at earlier) (asked earlier) old new k (inl (record {
+      task = ap (λ p. p.task) r;
+      rings = ap (λ p. p.rings) r;
+      responses = ap (λ p. p.responses) r;
+      commands = ap (λ p. p.commands) r;
+      buffers = ap (λ p. p.buffers) r;
+    }))
+call_placed Tick earlier old new areas asks k r =
+    hand_placed (words earlier) (reads_at earlier) (asked earlier) old new k (tick_hands old new r)
+call_placed (Change is_there protected unit result) earlier old new areas asks k r =
+    hand_placed (words earlier) (reads_at earlier) (asked earlier) old new k (inl (record {
+      task = ap (λ p. p.task) r.frame;
+      rings = ap (λ p. p.rings) r.frame;
+      responses = ap (λ p. p.responses) r.frame;
+      commands = ap (λ p. p.commands) r.frame;
+      buffers = ap (λ p. p.buffers) r.frame;
+    }))
+
+-- who asked before also asked earlier
+asked_before : (call : Call) (earlier : List Call) → AsksFirst (call ∷ earlier) → AsksFirst earlier
+asked_before (WasRead bytes (Ok done)) earlier asks = asks.1
+asked_before (WasRead bytes (Err unasked)) earlier asks = asks
+asked_before call earlier asks = asks
+
+pub placed : {K : Type 0} (hardware : Hardware) (credits : ℕ) (controller : Holdings K) (start p : Port K)
+    (calls : List Call) → IsMadeOf hardware credits controller start → AsksFirst calls → Answered start calls p
+    → Places (words calls) (reads_at calls) (asked calls) p
+placed hardware credits controller start p [] made asks e =
+    subst (Places [] [] None) (sym e) (nothing_placed [] [] start made.free made.buffers)
+placed hardware credits controller start p (call ∷ earlier) made asks a =
+    call_placed call earlier a.0 p (knows hardware credits controller start a.0 earlier made a.1).area asks
+    (placed hardware credits controller start a.0 earlier made (asked_before call earlier asks) a.1) a.2
+
+-- ---- what an action touches
+
+ring_put : {K : Type 0} (calls : List Call) (o : Option ℕ) (p : Port K) (address count : ℕ)
+    → Knows (words calls) (reads calls) p → Places (words calls) (reads_at calls) o p
+    → IsInRingsOrPacket p address count
+    → IsPutForRings calls address count
+ring_put calls o p address count k m lies = elim lies [
+  | inl area ↦ inl (chosen p.rings (λ r. IsInArea r address count) (λ r. NamesArea (words calls) r) area k.area)
+  | inr packet ↦ inr (chosen (in_hand p.task) (λ word. IsInPacket word address count)
+      (λ word. PutsPacket (words calls) (reads_at calls) word) packet m.packet)
+]
+
+data_put : {K : Type 0} (calls : List Call) (o : Option ℕ) (p : Port K) (address count : ℕ)
+    → Places (words calls) (reads_at calls) o p → IsInSomeBuffer p address count
+    → IsPutForData calls address count
+data_put calls o p address count m lies = (lies.0, m.buffer lies.0 lies.1, lies.2)
+
+within_put : {K : Type 0} (calls : List Call) (o : Option ℕ) (p : Port K) (action : Action)
+    → Knows (words calls) (reads calls) p → Places (words calls) (reads_at calls) o p → IsWithin p action
+    → IsPut calls action
+within_put calls o p (actions.Read address count) k m lies = ring_put calls o p address count k m lies
+within_put calls o p (actions.Write address bytes) k m lies = ring_put calls o p address (length bytes.items) k m lies
+within_put calls o p (actions.Fetch address count) k m lies = data_put calls o p address count m lies
+within_put calls o p (actions.Store address count) k m lies = data_put calls o p address count m lies
+within_put calls o p action k m lies = tt
+
+-- the law of places
+pub touches_what_was_put : {K : Type 0} (hardware : Hardware) (credits : ℕ) (controller : Holdings K)
+    (start p : Port K) (calls : List Call) (action : Action) → IsMadeOf hardware credits controller start
+    → AsksFirst calls → Answered start (Next action ∷ calls) p → IsPut calls action
+touches_what_was_put hardware credits controller start p calls action made asks a =
+    within_put calls (asked (Next action ∷ calls)) p action
+    (knows hardware credits controller start p (Next action ∷ calls) made a)
+    (placed hardware credits controller start p (Next action ∷ calls) made asks a) (a.2).within
