@@ -211,8 +211,7 @@ slot_read : {K : Type 0} (ws : List ℕ) (rs : List (ℕ × List ℕ)) (old : Po
     → word ≡ num bytes 0 4 → is_owned word ≡ true → PutsPacket ws ((address, bytes) ∷ rs) word
 slot_read ws rs old (tasks.Slot side) address word bytes areas reading from is owned =
     let found =
-    ring_of old.rings (λ r. NamesArea ws r) (λ r. address ≡ slot_in r side (given_in old side)) areas from in
-    (
+    ring_of old.rings (λ r. NamesArea ws r) (λ r. address ≡ slot_in r side (given_in old side)) areas from in (
       found.0,
       side,
       given_in old side,
