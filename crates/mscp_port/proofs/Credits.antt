@@ -26,7 +26,7 @@ use Rattle.mscp_port.specs.Histories.{Answered, Becomes, Call, HasCredit, WriteI
 -- ---- the settings stay
 
 ticked : {K : Type 0} (old new : Port K) → Ticks old new → new.controller.settings ≡ old.controller.settings
-ticked old new r = elim r [
+ticked old new r = elim r.either [
   | inl e ↦ ap (λ p. p.controller.settings) e
   | inr dead ↦ ap (λ h. h.settings) dead.controller
 ]

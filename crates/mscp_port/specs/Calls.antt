@@ -1,7 +1,8 @@
 -- What is called of a port, and what becomes of it.
-use Rattle.std.specs.Prelude.{◌≡◌, ◌≢◌, ◌≤◌, ◌<◌, ◌==◌, ◌+◌, ◌%◌, ◌/◌, ◌⊎◌, ◌↔◌, ℕ, Bool, true, false, nat_lt, if◌then◌else◌, List, [], Contains, IfSome, IsErr, IsOk, OnErr, Result, Option, None, Some, Err}
+use Rattle.std.specs.Prelude.{◌≡◌, ◌≢◌, ◌≤◌, ◌<◌, ◌==◌, ◌+◌, ◌-◌, ◌%◌, ◌/◌, ◌⊎◌, ◌↔◌, ℕ, Bool, true, false, nat_lt, if◌then◌else◌, List, [], length, Contains, IfSome, IsErr, IsOk, OnErr, Result, Option, None, Some, Err}
 use Rattle.mscp_queue.specs.declared.name.Connection.TheVariants.{First}
-use Rattle.mscp_control.specs.Holdings.{after_message, answer_to_message, Holdings}
+use Rattle.mscp_control.specs.Both.{of}
+use Rattle.mscp_control.specs.Holdings.{after_message, answer_to_message, Holdings, waiting_on}
 use Rattle.mscp_control.specs.declared.event.SendFault.TheVariants as faults
 use Rattle.mscp_port.specs.declared.action.Action.{Action}
 use Rattle.mscp_port.specs.declared.action.Action.TheVariants as actions
@@ -254,9 +255,21 @@ pub record Goes {K : Type 0} (outcome : Outcome) (old : Port K) (result : Result
 abbrev pub LooksAgain : {K : Type 0} → Port K → Port K → Type 0
 LooksAgain old new = new ≡ record old { is_full = false }
 
--- a second went by: the ring of responses is looked at again, or a host that was silent for too long is taken for dead
-abbrev pub Ticks : {K : Type 0} → Port K → Port K → Type 0
-Ticks old new = (new ≡ record old { is_full = false; left = new.left }) ⊎ IsAsNew (stages.Dead 9) old new
+-- the rings are in use, the host is to be heard within some time, and nothing is to be done for it
+pub record IsQuiet {K : Type 0} (p : Port K) : Type 0 where
+  pub up : p.stage ≡ stages.Up
+  pub limit : p.timeout ≢ 0
+  pub outgoing : p.outgoing ≡ None
+  pub waiting : length (waiting_on First p.controller.waiting) ≡ 0
+  pub untaken : length (of First p.controller.untaken) ≡ 0
+
+-- a second went by: the ring of responses is looked at again, and where it is quiet the seconds are counted off. A host
+-- that was silent for too long is taken for dead
+pub record Ticks {K : Type 0} (old new : Port K) : Type 0 where
+  pub counts : IsQuiet old → 1 < old.left → new ≡ record old { is_full = false; left = old.left - 1 }
+  pub silent : IsQuiet old → old.left ≤ 1 → IsAsNew (stages.Dead 9) old new
+  pub busy : (IsQuiet old → ⊥) → new ≡ record old { is_full = false; left = old.timeout }
+  pub either : (new ≡ record old { is_full = false; left = new.left }) ⊎ IsAsNew (stages.Dead 9) old new
 
 -- a volume came into the unit of this number, or its volume went
 pub record Changes {K : Type 0} (there protected : Bool) (unit : ℕ) (old : Port K) (result : Result Unit NoUnit)

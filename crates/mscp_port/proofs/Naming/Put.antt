@@ -24,7 +24,7 @@ new_drops s old new n = record {
 }
 
 tick_hands : {K : Type 0} (old new : Port K) → Ticks old new → Leaves old new ⊎ Drops old new
-tick_hands old new r = elim r [
+tick_hands old new r = elim r.either [
   | inl e ↦ inl (record {
     task = ap (λ p. p.task) e;
     rings = ap (λ p. p.rings) e;

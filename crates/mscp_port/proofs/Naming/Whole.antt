@@ -27,7 +27,7 @@ heard earlier old new bytes (Err unasked) k r = subst (Knows (words earlier) (re
 
 pub ticked : {K : Type 0} (ws : List ℕ) (bs : List (List ℕ)) (old new : Port K) → Knows ws bs old → Ticks old new
     → Knows ws bs new
-ticked ws bs old new k r = elim r [
+ticked ws bs old new k r = elim r.either [
   | inl e ↦ still_knows ws bs bs old new k
       (record {
         taken = inl (ap (λ p. answers p.stage p.words) e);

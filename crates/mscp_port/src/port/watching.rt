@@ -1,7 +1,7 @@
 // What comes from elsewhere than the host: volumes, and time.
 
-ghost use Rattle.std.specs.Prelude.{true, false};
-ghost use Rattle.mscp_port.specs.Calls.{Changes, LooksAgain, Ticks};
+ghost use Rattle.std.specs.Prelude.{◌↔◌, true, false, IsTrue};
+ghost use Rattle.mscp_port.specs.Calls.{Changes, IsQuiet, LooksAgain, Ticks};
 
 use crate::port::Port;
 use crate::stage::Stage;
@@ -37,9 +37,13 @@ impl<K: Picker> Port<K> {
         Ok(())
     }
 
-    /// Whether it has nothing to do for its host.
-    fn is_idle(&self) -> bool {
-        self.outgoing.is_none()
+    /// Whether a host is to be heard within some time, and nothing is to be done for it.
+    fn is_quiet(&self) -> bool
+        ensures { IsTrue result ↔ IsQuiet self.now }
+    {
+        self.stage == Stage::Up
+            && self.timeout != 0
+            && self.outgoing.is_none()
             && self.controller.waiting(Connection::First) == 0
             && self.controller.untaken(Connection::First) == 0
     }
@@ -58,7 +62,7 @@ impl<K: Picker> Port<K> {
         ensures { Ticks self.old self.new }
     {
         self.look_again();
-        if self.stage != Stage::Up || self.timeout == 0 || !self.is_idle() {
+        if !self.is_quiet() {
             self.left = self.timeout;
         } else if self.left > 1 {
             self.left -= 1;
