@@ -2,8 +2,6 @@
 
 ghost use Rattle.std.specs.Prelude.{◌≡◌, ◌-◌};
 
-#[cfg(test)]
-pub(crate) mod tests;
 
 use mscp_drive::Units;
 use mscp_queue::Connection;

@@ -13,8 +13,6 @@ ghost use Rattle.mscp_control.specs.Holdings.{Answers, Finishes, Foretells, IsBa
 
 mod restoring;
 mod seeing;
-#[cfg(test)]
-mod tests;
 
 use crate::account::Accounts;
 use crate::answer::{controller_end, refused_end, unit_status_end};

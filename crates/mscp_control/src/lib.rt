@@ -10,8 +10,6 @@ mod event;
 mod law;
 mod memory;
 mod running;
-#[cfg(test)]
-mod tests;
 mod worst_case;
 
 pub use crate::config::{Config, ConfigFault};
@@ -23,7 +21,7 @@ pub use crate::law::{
 };
 pub use crate::memory::OutOfMemory;
 pub use crate::running::{run, run_in, run_into};
-pub use crate::worst_case::worst;
+pub use crate::worst_case::{worst, worst_in};
 pub use mscp_queue::{
     Block, Choice, Connection, Drive, FaultStatus, Holder, Name, Oldest, Picker, Record, Report,
     Sweep, Upcoming, View,

@@ -7,8 +7,6 @@ ghost use Rattle.mscp_control.specs.Legal.{IsLegal};
 ghost use Rattle.mscp_control.specs.Longest.{WaitsTheBound, is_shown};
 ghost use Rattle.mscp_control.specs.Worst.{block_before, come_on, connection_at, handing, long_read, online_command, online_end, opened, pass_on, queueing, read_report, rest_on, runs_on, short_read, steps_on, worst_of};
 
-#[cfg(test)]
-mod tests;
 
 use crate::config::Config;
 use crate::event::{Entry, Event, Sent};
@@ -344,7 +342,7 @@ fn written<A: Allocator>(
 }
 
 /// `worst` over any allocator.
-fn worst_over<A: Allocator>(
+pub fn worst_in<A: Allocator>(
     alloc: A,
     config: &Config,
     unit: u16,
@@ -381,5 +379,5 @@ pub fn worst(
     ensures waits { IfOk result (λ answer. IfSome answer (λ trace. WaitsTheBound config.now unit trace.items)) }
     ensures shown { IfOk result (λ answer. is_some answer ≡ is_shown config.now unit) }
 {
-    worst_over(alloc, config, unit)
+    worst_in(alloc, config, unit)
 }

@@ -24,7 +24,7 @@ use Rattle.mscp_port.specs.Messages.{handed, own_end}
 use Rattle.mscp_port.specs.Outgoings.{AnswersItself, HasSaid, Says}
 use Rattle.mscp_port.specs.Slots.{is_owned}
 use Rattle.mscp_packet.specs.Number.{num}
-use Rattle.mscp_port.specs.Ports.{Drops, IsAsNew, IsDue, IsIdle, IsReadingText, IsWithin, Learns, Leaves, in_hand}
+use Rattle.mscp_port.specs.Ports.{Drops, IsAlive, IsAsNew, IsDue, IsIdle, IsOutcomeOf, IsReadingText, IsWithin, Learns, Leaves, in_hand, read_size}
 use Rattle.mscp_port.specs.Registers.{shown}
 use Rattle.mscp_port.specs.Wanted.{IsWanted}
 use Rattle.mscp_port.specs.Volumes.{no_volume, place_in, volume_at, volumes_changed}
@@ -118,9 +118,9 @@ pub record Wants {K : Type 0} (old : Port K) (action : Action) (new : Port K) : 
   -- nothing is wanted only then, or if nothing is in hand and nothing is due
   pub rests : action ≡ actions.Rest → ((code : ℕ) × (old.stage ≡ stages.Dead code)) ⊎ IsIdle new
   -- otherwise it is what is wanted for the thing in hand
-  pub wanted : ((code : ℕ) → old.stage ≢ stages.Dead code) → IsWanted new new.task action
+  pub wanted : IsAlive old → IsWanted new new.task action
   -- which is what is due, where there was nothing
-  pub due : ((code : ℕ) → old.stage ≢ stages.Dead code) → old.task ≡ tasks.Free → IsDue new new.task
+  pub due : IsAlive old → old.task ≡ tasks.Free → IsDue new new.task
   -- and what goes out next: ends leave in the order in which the controller has them
   pub says : Says old new
   pub settings : new.controller.settings ≡ old.controller.settings
@@ -148,6 +148,9 @@ ChangesByReading old new = (new ≡ record old {
 pub record Hears {K : Type 0} (bytes : List ℕ) (old : Port K) (result : Result Unit Unasked) (new : Port K)
     : Type 0 where
   pub dead : (code : ℕ) → old.stage ≡ stages.Dead code → IsErr result
+  -- as many bytes as are wanted are taken, and no others
+  pub taken : IsAlive old → read_size old.task ≡ Some (length bytes) → IsOk result
+  pub only : IsOk result → read_size old.task ≡ Some (length bytes)
   pub unasked : OnErr result (new ≡ old)
   pub frame : ChangesByReading old new
   pub learns : Learns bytes old new
@@ -237,6 +240,8 @@ StaysInStage old new = (new.stage ≡ old.stage) ⊎ (new.stage ≡ stages.Last)
 pub record Goes {K : Type 0} (outcome : Outcome) (old : Port K) (result : Result Unit Unasked) (new : Port K)
     : Type 0 where
   pub dead : (code : ℕ) → old.stage ≡ stages.Dead code → IsErr result
+  pub taken : IsAlive old → IsOutcomeOf old.task outcome → IsOk result
+  pub only : IsOk result → IsOutcomeOf old.task outcome
   pub unasked : OnErr result (new ≡ old)
   pub steps : IsOk result → IfSome (step_answered old.task old.written) (λ word. TakesStep word old new)
   pub settings : new.controller.settings ≡ old.controller.settings

@@ -1,9 +1,11 @@
 -- What a port knows of its host's memory, and what it may touch there.
-use Rattle.std.specs.Prelude.{◌≡◌, ◌≢◌, ℕ, ◌+◌, ◌-◌, ◌≤◌, ◌<◌, ◌⊎◌, true, false, List, [], length, Contains, IfSome, IsSomeAnd, Option, None, Some}
+use Rattle.std.specs.Prelude.{◌≡◌, ◌≢◌, ℕ, ◌+◌, ◌-◌, ◌≤◌, ◌<◌, ◌⊎◌, ◌&&◌, true, false, nat_le, if◌then◌else◌, List, [], length, Contains, IfSome, IsSomeAnd, Option, None, Some}
 use Rattle.mscp_control.specs.Holdings.{fresh}
 use Rattle.mscp_packet.specs.Number.{num}
 use Rattle.mscp_port.specs.declared.action.Action.{Action}
 use Rattle.mscp_port.specs.declared.action.Action.TheVariants as actions
+use Rattle.mscp_port.specs.declared.action.Outcome.{Outcome}
+use Rattle.mscp_port.specs.declared.action.Outcome.TheVariants as outcomes
 use Rattle.mscp_port.specs.declared.buffers.Buffer.{Buffer}
 use Rattle.mscp_port.specs.declared.port.Port.{Port}
 use Rattle.mscp_port.specs.declared.rings.Side.TheVariants.{Responses, Commands}
@@ -15,6 +17,10 @@ use Rattle.mscp_port.specs.Areas.{IsInArea}
 use Rattle.mscp_port.specs.Buffers.{buffer_in, IsInBuffer}
 use Rattle.mscp_port.specs.Slots.{is_owned, text_of}
 use Rattle.mscp_port.specs.Volumes.{volume_at, volume_reset}
+
+-- it had no fatal error
+abbrev pub IsAlive : {K : Type 0} → Port K → Type 0
+IsAlive p = (code : ℕ) → p.stage ≢ stages.Dead code
 
 -- ---- what is forgotten
 
@@ -56,6 +62,23 @@ in_hand (tasks.Text slot length foreign) = Some slot.word
 in_hand (tasks.Packet slot) = Some slot.word
 in_hand (tasks.Return side slot) = Some slot.word
 in_hand task = None
+
+-- how many bytes are wanted of the host's memory, if some are: a descriptor, a header, or a text of 12 to 64 bytes
+abbrev pub read_size : Task → Option ℕ
+read_size (tasks.Slot side) = Some 4
+read_size (tasks.Neighbour side) = Some 4
+read_size (tasks.Header slot) = Some 4
+read_size (tasks.Text slot size foreign) = if nat_le 12 size && nat_le size 64 then Some size else None
+read_size task = None
+
+-- what is in hand may have gone so: a read that was done is told by its bytes
+abbrev pub IsOutcomeOf : Task → Outcome → Type 0
+IsOutcomeOf tasks.Free outcome = ⊥
+IsOutcomeOf (tasks.Slot side) outcome = outcome ≢ outcomes.Done
+IsOutcomeOf (tasks.Neighbour side) outcome = outcome ≢ outcomes.Done
+IsOutcomeOf (tasks.Header slot) outcome = outcome ≢ outcomes.Done
+IsOutcomeOf (tasks.Text slot size foreign) outcome = outcome ≢ outcomes.Done
+IsOutcomeOf task outcome = Unit {0}
 
 -- it reads a slot of a ring
 abbrev pub IsReadingSlot : Task → Type 0

@@ -13,8 +13,6 @@ mod rings;
 mod slot;
 mod stage;
 mod task;
-#[cfg(test)]
-mod tests;
 mod volumes;
 
 pub use crate::action::{Action, Outcome, Unasked};

@@ -8,8 +8,6 @@ mod framing;
 mod law;
 mod reading;
 mod restoring;
-#[cfg(test)]
-mod tests;
 mod writing;
 
 pub use crate::fault::RestoreFault;

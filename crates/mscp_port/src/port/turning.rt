@@ -1,6 +1,6 @@
 // What the port wants done.
 
-ghost use Rattle.std.specs.Prelude.{◌≡◌, ◌≢◌, ◌≤◌, ◌<◌, ◌⊎◌, ◌+◌, ◌-◌, ◌*◌, ◌^◌, ◌%◌, ℕ, true, false, length, Contains, IfSome, IsErr, IsSomeAnd, OnErr, None, Some};
+ghost use Rattle.std.specs.Prelude.{◌≡◌, ◌≢◌, ◌≤◌, ◌<◌, ◌⊎◌, ◌↔◌, ◌+◌, ◌-◌, ◌*◌, ◌^◌, ◌%◌, ℕ, true, false, length, Contains, IfSome, IsErr, IsTrue, IsSomeAnd, OnErr, None, Some};
 ghost use Rattle.byteorder.specs.Endian.{little_bytes};
 ghost use Rattle.arrayvec.specs.ArrayVec.{array_vec_len};
 ghost use Rattle.mscp_port.specs.declared.action.Action.TheVariants as actions;
@@ -12,7 +12,7 @@ ghost use Rattle.mscp_port.specs.declared.task.Task.TheVariants as tasks;
 ghost use Rattle.mscp_port.specs.Areas.{IsInArea, slot_in, slots_of};
 ghost use Rattle.mscp_port.specs.Buffers.{IsInBuffer};
 ghost use Rattle.mscp_port.specs.Calls.{Dies, Goes, TakesStep, Wants};
-ghost use Rattle.mscp_port.specs.Ports.{HasNothingToHear, HasNothingToSay, IsDue, IsIdleUp, IsOfBlock, IsInSomeBuffer, IsWithin, in_hand};
+ghost use Rattle.mscp_port.specs.Ports.{HasNothingToHear, HasNothingToSay, IsDue, IsIdleUp, IsOfBlock, IsOutcomeOf, IsInSomeBuffer, IsWithin, in_hand};
 ghost use Rattle.mscp_port.specs.Outgoings.{HasSaid, Says};
 ghost use Rattle.mscp_port.specs.Packets.{credits_told, packet_of};
 ghost use Rattle.mscp_port.specs.Slots.{given_back, text_of};
@@ -286,10 +286,7 @@ impl<K: Picker> Port<K> {
     pub fn went(&mut self, outcome: Outcome) -> Result<(), Unasked>
         ensures { Goes outcome self.old result self.new }
     {
-        if self.is_dead() {
-            return Err(Unasked);
-        }
-        if self.task == Task::Free || (self.is_reading() && outcome == Outcome::Done) {
+        if self.is_dead() || !self.may_go(&outcome) {
             return Err(Unasked);
         }
         match self.task {
@@ -313,12 +310,17 @@ impl<K: Picker> Port<K> {
         Ok(())
     }
 
-    /// Whether it wants bytes of host memory.
-    fn is_reading(&self) -> bool {
-        matches!(
-            self.task,
-            Task::Slot(_) | Task::Header(_) | Task::Text { .. } | Task::Neighbour(_)
-        )
+    /// Whether what is in hand may have gone so. A read that was done is told by its bytes.
+    fn may_go(&self, outcome: &Outcome) -> bool
+        ensures { IsTrue result ↔ IsOutcomeOf self.now.task outcome.now }
+    {
+        match self.task {
+            Task::Free => false,
+            Task::Slot(_) | Task::Header(_) | Task::Text { .. } | Task::Neighbour(_) => {
+                *outcome != Outcome::Done
+            }
+            _ => true,
+        }
     }
 
     /// A part of a step was done, if what is kept of its command says what part.

@@ -8,6 +8,8 @@ use Rattle.mscp_port.proofs.port.Port.was_read.Goals as goal
 pub returns-in-Text : goal.returns-in-Text
 returns-in-Text g c = record {
   dead = search rules;
+  taken = search rules;
+  only = search rules;
   unasked = tt;
   frame = c.see_text.ensures.frame;
   learns = record {
@@ -37,6 +39,8 @@ returns-in-Text g c = record {
 pub returns-in-Slot : goal.returns-in-Slot
 returns-in-Slot g c = record {
   dead = search rules;
+  taken = search rules;
+  only = search rules;
   unasked = tt;
   frame = search rules;
   learns = search rules;
@@ -52,6 +56,8 @@ returns-in-Slot g c = record {
 pub returns-in-Header : goal.returns-in-Header
 returns-in-Header g c = record {
   dead = search rules;
+  taken = search rules;
+  only = search rules;
   unasked = tt;
   frame = search rules;
   learns = search rules;

@@ -11,6 +11,8 @@ returns-in-Settle g c =
     ap (λ t. step_answered t old.written) c.in-Settle.is in
     record {
       dead = search rules;
+      taken = search rules;
+      only = search rules;
       unasked = tt;
       steps = λ done. subst (λ o. IfSome o (λ word. TakesStep word old new)) (sym word_is) c.settled.ensures.steps;
       still = λ none. unsettled old new (c.settled.ensures.none (sym word_is ∙ none));
