@@ -2,7 +2,6 @@
 
 ghost use Rattle.std.specs.Prelude.{◌≡◌, ◌-◌};
 
-
 use mscp_drive::Units;
 use mscp_queue::Connection;
 use std::marker::Model;

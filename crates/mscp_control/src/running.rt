@@ -7,7 +7,6 @@ ghost use Rattle.mscp_control.specs.Legal.{IsPicked};
 ghost use Rattle.mscp_control.specs.Sweeping.{IsSweeping, Sweeps};
 ghost use Rattle.mscp_control.specs.Settings.{IsValid};
 
-
 use crate::config::Config;
 use crate::controller::Controller;
 use crate::event::{Entry, Event};

@@ -7,7 +7,6 @@ ghost use Rattle.mscp_control.specs.Legal.{IsLegal};
 ghost use Rattle.mscp_control.specs.Longest.{WaitsTheBound, is_shown};
 ghost use Rattle.mscp_control.specs.Worst.{block_before, come_on, connection_at, handing, long_read, online_command, online_end, opened, pass_on, queueing, read_report, rest_on, runs_on, short_read, steps_on, worst_of};
 
-
 use crate::config::Config;
 use crate::event::{Entry, Event, Sent};
 use crate::memory::OutOfMemory;

@@ -1,8 +1,8 @@
 // Whole runs, and the memory that they ask for.
 
 use super::limits::config;
-use mscp_control::{Entry, Event, SendFault, Sent, run, run_in};
 use arrayvec::ArrayVec;
+use mscp_control::{Entry, Event, SendFault, Sent, run, run_in};
 use mscp_packet::{End, EndBody};
 use mscp_queue::{Block, Connection, FaultStatus, Oldest, Report};
 use std::process::Abort;

@@ -3,7 +3,8 @@
 use arrayvec::ArrayVec;
 use linked_list_allocator::LocalHeap;
 use mscp_control::{
-    Block, Config, Connection, Entry, Event, OutOfMemory, Picker, Report, Sent, View, run, worst, worst_in,
+    Block, Config, Connection, Entry, Event, OutOfMemory, Picker, Report, Sent, View, run, worst,
+    worst_in,
 };
 use mscp_drive::{Unit, Units};
 use mscp_packet::{End, EndBody};
