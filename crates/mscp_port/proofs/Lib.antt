@@ -1,4 +1,5 @@
 pub mod Among
+pub mod Begun
 pub mod Credits
 pub mod Known
 pub mod Naming

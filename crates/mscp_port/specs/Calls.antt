@@ -19,6 +19,7 @@ use Rattle.mscp_port.specs.declared.slot.Descriptor.{Descriptor}
 use Rattle.mscp_port.specs.declared.stage.Stage.TheVariants as stages
 use Rattle.mscp_port.specs.declared.task.Task.{Task}
 use Rattle.mscp_port.specs.declared.task.Task.TheVariants as tasks
+use Rattle.mscp_port.specs.Acted.{Acts, step_task}
 use Rattle.mscp_port.specs.Areas.{rings_named}
 use Rattle.mscp_port.specs.Messages.{handed, own_end}
 use Rattle.mscp_port.specs.Outgoings.{AnswersItself, HasSaid, Says}
@@ -26,6 +27,7 @@ use Rattle.mscp_port.specs.Slots.{is_owned}
 use Rattle.mscp_packet.specs.Number.{num}
 use Rattle.mscp_port.specs.Ports.{Drops, IsAlive, IsAsNew, IsDue, IsIdle, IsOutcomeOf, IsReadingText, IsWithin, Learns, Leaves, in_hand, read_size}
 use Rattle.mscp_port.specs.Registers.{shown}
+use Rattle.mscp_port.specs.Seen.{Sees}
 use Rattle.mscp_port.specs.Wanted.{IsWanted}
 use Rattle.mscp_port.specs.Volumes.{no_volume, place_in, volume_at, volumes_changed}
 
@@ -152,6 +154,7 @@ pub record Hears {K : Type 0} (bytes : List ℕ) (old : Port K) (result : Result
   pub taken : IsAlive old → read_size old.task ≡ Some (length bytes) → IsOk result
   pub only : IsOk result → read_size old.task ≡ Some (length bytes)
   pub unasked : OnErr result (new ≡ old)
+  pub sees : IsOk result → Sees bytes old new
   pub frame : ChangesByReading old new
   pub learns : Learns bytes old new
   pub settings : new.controller.settings ≡ old.controller.settings
@@ -189,13 +192,13 @@ pub record TakesStep {K : Type 0} (word : ℕ) (old new : Port K) : Type 0 where
     stage = stages.Second;
     words = record old.words { first = word };
     written = None;
-    task = new.task;
+    task = step_task word tasks.Free;
   }
   pub second : old.stage ≡ stages.Second → new ≡ record old {
     stage = stages.Third;
     words = record old.words { second = word };
     written = None;
-    task = new.task;
+    task = step_task old.words.first tasks.Free;
   }
   -- the communication area is named: it is cleared at once, or after the purge and poll test, for which the top bit of
   -- the word is set
@@ -243,6 +246,7 @@ pub record Goes {K : Type 0} (outcome : Outcome) (old : Port K) (result : Result
   pub taken : IsAlive old → IsOutcomeOf old.task outcome → IsOk result
   pub only : IsOk result → IsOutcomeOf old.task outcome
   pub unasked : OnErr result (new ≡ old)
+  pub acts : IsOk result → Acts outcome old new
   pub steps : IsOk result → IfSome (step_answered old.task old.written) (λ word. TakesStep word old new)
   pub settings : new.controller.settings ≡ old.controller.settings
   pub still : step_answered old.task old.written ≡ None → ChangesByActing old new × StaysInStage old new

@@ -1,13 +1,17 @@
+pub mod Acted
 pub mod Areas
+pub mod Blocks
 pub mod Buffers
 pub mod Calls
 pub mod Histories
 pub mod Messages
+pub mod Moved
 pub mod Outgoings
 pub mod Packets
 pub mod Places
 pub mod Ports
 pub mod Registers
+pub mod Seen
 pub mod Slots
 pub mod Volumes
 pub mod Wanted

@@ -1,5 +1,5 @@
 -- Which action is wanted for what a port has in hand.
-use Rattle.std.specs.Prelude.{◌≡◌, ℕ, ◌+◌, ◌-◌, ◌*◌, ◌%◌, min, List, IfSome, MatchOption}
+use Rattle.std.specs.Prelude.{◌≡◌, ℕ, ◌+◌, ◌-◌, ◌*◌, ◌%◌, ◌==◌, min, replicate, List, IfSome, MatchOption}
 use Rattle.byteorder.specs.Endian.{little_bytes}
 use Rattle.arrayvec.specs.ArrayVec.{ArrayVec}
 use Rattle.mscp_port.specs.declared.action.Action.{Action}
@@ -9,7 +9,9 @@ use Rattle.mscp_port.specs.declared.rings.Side.{Side}
 use Rattle.mscp_port.specs.declared.rings.Side.TheVariants.{Responses, Commands}
 use Rattle.mscp_port.specs.declared.task.Task.{Task}
 use Rattle.mscp_port.specs.declared.task.Task.TheVariants as tasks
-use Rattle.mscp_port.specs.Areas.{Rings, slot_in, slots_of, word_of}
+use Rattle.mscp_port.specs.Acted.{vector_in}
+use Rattle.mscp_port.specs.Areas.{Rings, end_of, slot_in, slots_of, start_of, word_of}
+use Rattle.mscp_port.specs.Moved.{move_wanted, part_now}
 use Rattle.mscp_port.specs.Packets.{credits_told, packet_of}
 use Rattle.mscp_port.specs.Slots.{given_back, text_of}
 
@@ -23,9 +25,13 @@ abbrev pub given_in : {K : Type 0} → Port K → Side → ℕ
 given_in p Responses = p.responses
 given_in p Commands = p.commands
 
--- the vector by which the host is interrupted: the low seven bits of its first word, times four
+-- the vector by which the host is interrupted
 abbrev pub vector_of : {K : Type 0} → Port K → ℕ
-vector_of p = p.words.first % 0x80 * 4
+vector_of p = vector_in p.words.first
+
+-- the area is cleared from behind so many bytes on, and not past its end
+abbrev pub clear_from : {K : Type 0} → Port K → Rings → ℕ → ℕ
+clear_from p r done = min (start_of r (p.words.second % 2 == 1) + done % 2048) (end_of r)
 
 -- what is wanted for the rings, if the host has named them; and else nothing for a while
 abbrev pub InRings : {K : Type 0} → Port K → Action → (Rings → Type 0) → Type 0
@@ -49,4 +55,8 @@ IsWanted p (tasks.Return side slot) action =
 IsWanted p (tasks.Neighbour side) action =
     InRings p action (λ r. action ≡ actions.Read (slot_in r side (given_in p side + 2 * slots_of r side - 2)) 4)
 IsWanted p (tasks.Word side) action = InRings p action (λ r. Writes action (word_of r side) (little_bytes 2 1))
-IsWanted p task action = Unit {0}
+IsWanted p (tasks.Clear done) action = InRings p action (λ r.
+    Writes action (clear_from p r done) (replicate (min (end_of r - clear_from p r done) 64) 0))
+IsWanted p (tasks.Fetch job) action = action ≡ move_wanted p.task job (part_now p job)
+IsWanted p (tasks.Transfer job) action = action ≡ move_wanted p.task job (part_now p job)
+IsWanted p (tasks.Store job) action = action ≡ move_wanted p.task job (part_now p job)

@@ -3,6 +3,7 @@
 ghost use Rattle.std.specs.Prelude.{◌≡◌, ◌<◌, ◌⊎◌, ◌++◌, ◌∷◌, [], Contains, IfSome, None, length};
 ghost use Rattle.mscp_port.specs.declared.buffers.Buffer.{Buffer as Kept};
 ghost use Rattle.std.specs.List.{position};
+ghost use Rattle.mscp_port.specs.Blocks.{kept_of};
 ghost use Rattle.mscp_port.specs.Buffers.{IsInBuffer, buffer_in, four_or_zero as four_of, has_reference, part_of, two_or_zero as two_of, without};
 
 use arrayvec::ArrayVec;
@@ -92,9 +93,9 @@ impl Buffer {
 /// What is kept of the first command of a reference number, if there is one.
 #[tactic(auto, using(crate::proofs::Known::of_reference))]
 pub(crate) fn find_buffer(buffers: &[Buffer], reference: u32) -> Option<Buffer>
+    ensures value { result ≡ kept_of reference buffers.now }
     ensures among { IfSome result (λ b. Contains buffers.now b) }
     ensures reference { IfSome result (λ b. b.reference ≡ reference) }
-    ensures none { result ≡ None → position (has_reference reference) buffers.now ≡ None }
 {
     let place = place_of(buffers, reference)?;
     Some(buffers[place])

@@ -1,10 +1,11 @@
 // A port: its registers, and what it knows.
 
-ghost use Rattle.std.specs.Prelude.{◌≡◌, ◌≢◌, ◌⊎◌, ◌↔◌, ◌≤◌, ◌<◌, ◌+◌, [], ℕ, true, Contains, IfErr, IfOk, IfSome, IsOk, None, Some};
+ghost use Rattle.std.specs.Prelude.{◌≡◌, ◌≢◌, ◌⊎◌, ◌↔◌, ◌≤◌, ◌<◌, ◌+◌, ◌%◌, ◌==◌, [], ℕ, true, Contains, IfErr, IfOk, IfSome, IsOk, None, Some};
 ghost use Rattle.mscp_queue.specs.declared.name.Connection.TheVariants.{First};
 ghost use Rattle.mscp_control.specs.Holdings.{balance_of};
 ghost use Rattle.mscp_port.specs.declared.stage.Stage.TheVariants as stages;
 ghost use Rattle.mscp_port.specs.declared.task.Task.TheVariants as tasks;
+ghost use Rattle.mscp_port.specs.Acted.{step_task};
 ghost use Rattle.mscp_port.specs.Areas.{rings_named};
 ghost use Rattle.mscp_port.specs.Calls.{Dies, IsMadeOf, ReadsIp, TakesStep, WritesIp, WritesSa, sa_of};
 ghost use Rattle.mscp_port.specs.Ports.{IsAsNew, in_hand};
@@ -254,8 +255,7 @@ impl<K: Picker> Port<K> {
 
     /// The next step of the initialisation begins, and the host hears of it if it wants to.
     fn enter(&mut self, stage: Stage)
-        ensures frame { self.new ≡ record self.old { stage = stage; task = self.new.task } }
-        ensures task { (self.new.task ≡ self.old.task) ⊎ (self.new.task ≡ tasks.Interrupt) }
+        ensures { self.new ≡ record self.old { stage = stage; task = step_task self.old.words.first self.old.task } }
     {
         self.stage = stage;
         if self.words.first / 0x80 % 2 == 1 && self.vector() != 0 {
@@ -298,7 +298,9 @@ impl<K: Picker> Port<K> {
     }
 
     /// Whether the host wants purge interrupts, so that the area has a word for them.
-    pub(crate) fn has_purge_word(&self) -> bool {
+    pub(crate) fn has_purge_word(&self) -> bool
+        ensures { result ≡ (self.now.words.second % 2 == 1) }
+    {
         self.words.second % 2 == 1
     }
 

@@ -1,6 +1,7 @@
 // The volumes that lie in the units, and how they change.
 
 ghost use Rattle.std.specs.Prelude.{◌≡◌, ◌↔◌, true, EachIndex, Some, IsTrue};
+ghost use Rattle.mscp_port.specs.Blocks.{is_mounted};
 ghost use Rattle.mscp_port.specs.Volumes.{volume_at, volume_changed, volume_reset};
 
 /// A unit's volume. All is counted: a unit that was brought online with another volume than the one in it isn't online.
@@ -22,7 +23,8 @@ pub(crate) struct Volume {
 impl Volume {
     /// Whether the unit is online with the volume that is in it.
     pub fn is_mounted(&self) -> bool
-        ensures { IsTrue result ↔ ((self.now.is_there ≡ true) × (self.now.mounted ≡ Some self.now.changes)) }
+        ensures value { result ≡ is_mounted self.now }
+        ensures mounted { IsTrue result ↔ ((self.now.is_there ≡ true) × (self.now.mounted ≡ Some self.now.changes)) }
     {
         self.is_there && self.mounted == Some(self.changes)
     }

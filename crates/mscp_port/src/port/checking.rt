@@ -1,6 +1,8 @@
 // What is in hand is checked again: while it is, a volume may come or go.
 
 ghost use Rattle.std.specs.Prelude.{◌≡◌, ◌≤◌, ◌%◌, IfSome, None};
+ghost use Rattle.mscp_port.specs.Blocks.{fault_with as fault_of};
+ghost use Rattle.mscp_port.specs.Moved.{fault_now};
 ghost use Rattle.mscp_port.specs.Volumes.{IsOnVolume};
 
 use crate::buffers::{Buffer, Job, find_buffer};
@@ -12,6 +14,7 @@ use mscp_queue::Picker;
 
 /// Why a step may not go on, if it may not, of whose command this is kept, and whose unit has this volume now.
 fn fault_with(job: &Job, buffer: &Buffer, volume: &Volume) -> Option<u16>
+    ensures value { result ≡ fault_of job.now.kind buffer.now volume.now }
     ensures status { IfSome result (λ status. 5 ≤ status % 32) }
     // It goes on only on the volume that was there when its command came, and that its unit was brought online with.
     ensures safe { result ≡ None → IsOnVolume buffer.now volume.now }
@@ -25,7 +28,8 @@ fn fault_with(job: &Job, buffer: &Buffer, volume: &Volume) -> Option<u16>
 impl<K: Picker> Port<K> {
     /// Why a step may not go on, if it may not.
     pub(crate) fn fault_of(&self, job: &Job) -> Option<u16>
-        ensures { IfSome result (λ status. 5 ≤ status % 32) }
+        ensures value { result ≡ fault_now self.now job.now }
+        ensures status { IfSome result (λ status. 5 ≤ status % 32) }
     {
         let buffer = find_buffer(self.buffers.as_slice(), job.reference);
         match (self.place_of(job.unit), buffer) {

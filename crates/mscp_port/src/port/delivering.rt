@@ -8,6 +8,9 @@ ghost use Rattle.mscp_port.specs.declared.rings.Side.TheVariants.{Responses};
 ghost use Rattle.mscp_port.specs.declared.slot.Descriptor.{Descriptor};
 ghost use Rattle.mscp_port.specs.declared.stage.Stage.TheVariants as stages;
 ghost use Rattle.mscp_port.specs.declared.task.Task.TheVariants as tasks;
+ghost use Rattle.mscp_queue.specs.declared.name.Connection.TheVariants.{First};
+ghost use Rattle.mscp_control.specs.Holdings.{after_take};
+ghost use Rattle.mscp_port.specs.Acted.{WritesOut};
 ghost use Rattle.mscp_port.specs.Outgoings.{TakesEnd, TellsNews};
 ghost use Rattle.mscp_port.specs.Packets.{credits_told, packet_of};
 ghost use Rattle.mscp_port.specs.Calls.{Dies};
@@ -46,6 +49,8 @@ impl<K: Picker> Port<K> {
           volumes = self.new.volumes;
         } }
         ensures says { TakesEnd self.old self.new ⊎ TellsNews self.old self.new }
+        ensures held { (self.new.controller ≡ self.old.controller)
+            ⊎ (self.new.controller ≡ after_take First self.old.controller) }
         ensures settings { self.new.controller.settings ≡ self.old.controller.settings }
     {
         if let Some(bytes) = self.controller.take(Connection::First) {
@@ -144,6 +149,7 @@ impl<K: Picker> Port<K> {
 
     /// The packet was written.
     pub(crate) fn written_out(&mut self, slot: Descriptor, outcome: Outcome)
+        ensures writes { WritesOut outcome slot self.old self.new }
         ensures frame { (self.new ≡ record self.old { untold = self.new.untold; task = self.new.task })
             ⊎ Dies self.old self.new }
         ensures packet { IfSome (in_hand self.new.task) (λ word. word ≡ slot.word) }

@@ -1,9 +1,13 @@
 // What the port reads in host memory.
 
-ghost use Rattle.std.specs.Prelude.{◌≡◌, ◌≢◌, ◌≤◌, ◌<◌, ◌⊎◌, ℕ, true, false, length, Bool, Contains, IfSome, IsErr, IsOk, OnErr, None, Some, Err};
+ghost use Rattle.std.specs.Prelude.{◌≡◌, ◌≢◌, ◌≤◌, ◌<◌, ◌⊎◌, ◌++◌, ◌∷◌, [], ℕ, true, false, length, Bool, Contains, IfSome, IsErr, IsOk, OnErr, None, Some, Ok, Err};
 ghost use Rattle.mscp_queue.specs.declared.name.Connection.TheVariants.{First};
 ghost use Rattle.mscp_control.specs.Holdings.{after_message, answer_to_message};
+ghost use Rattle.mscp_control.specs.declared.event.SendFault.{SendFault as Refused};
 ghost use Rattle.mscp_control.specs.declared.event.SendFault.TheVariants as faults;
+ghost use Rattle.mscp_control.specs.declared.event.Sent.{Sent as Told};
+ghost use Rattle.mscp_control.specs.declared.event.Sent.TheVariants as sents;
+ghost use Rattle.mscp_packet.specs.Number.{num};
 ghost use Rattle.mscp_port.specs.declared.buffers.Buffer.{Buffer as Kept};
 ghost use Rattle.mscp_port.specs.declared.rings.Side.TheVariants.{Responses, Commands};
 ghost use Rattle.mscp_port.specs.declared.stage.Stage.TheVariants as stages;
@@ -13,7 +17,9 @@ ghost use Rattle.mscp_port.specs.Messages.{handed, own_end as end_of_own};
 ghost use Rattle.mscp_port.specs.Calls.{ChangesByReading, Dies, Hears};
 ghost use Rattle.mscp_port.specs.Outgoings.{AnswersItself};
 ghost use Rattle.mscp_port.specs.Ports.{IsAsNew, in_hand};
+ghost use Rattle.mscp_port.specs.Seen.{SeesHeader, SeesText, answered_to, changes_at, neighbour_seen, slot_seen};
 ghost use Rattle.mscp_port.specs.Slots.{is_owned};
+ghost use Rattle.mscp_port.specs.Volumes.{place_in};
 
 use crate::action::Unasked;
 use crate::buffers::{Buffer, forget_aborted, keep};
@@ -67,6 +73,7 @@ impl<K: Picker> Port<K> {
 
     /// The next slot of a ring. If it is the host's, there is nothing to do with the ring for now.
     fn see_slot(&mut self, side: Side, slot: Descriptor)
+        ensures value { self.new ≡ slot_seen side slot self.old }
         ensures frame { self.new ≡ record self.old {
           task = self.new.task;
           is_full = self.new.is_full;
@@ -93,7 +100,7 @@ impl<K: Picker> Port<K> {
     /// The slot in front of the one that was given back. If it is the port's, the ring of commands was full, or that of
     /// responses was empty, and the host hears of it.
     fn see_neighbour(&mut self, side: Side, word: u32)
-        ensures frame { self.new ≡ record self.old { task = self.new.task } }
+        ensures value { self.new ≡ record self.old { task = neighbour_seen side word } }
         ensures packet { in_hand self.new.task ≡ None }
     {
         let slot = Descriptor { word };
@@ -107,6 +114,7 @@ impl<K: Picker> Port<K> {
     /// The header of a command's packet: the length of its text in the low half, its type in bits 20 to 23, and its
     /// connection in the high byte.
     fn see_header(&mut self, slot: Descriptor, header: u32)
+        ensures value { SeesHeader slot header self.old self.new }
         ensures frame { (self.new ≡ record self.old { task = self.new.task }) ⊎ Dies self.old self.new }
         ensures task { (self.new.task ≡ tasks.Free)
             ⊎ ((size : ℕ) × (foreign : Bool) × (self.new.task ≡ tasks.Text slot size foreign)) }
@@ -134,6 +142,7 @@ impl<K: Picker> Port<K> {
     fn see_text(&mut self, slot: Descriptor, is_foreign: bool, message: &[u8])
         requires short { 12 ≤ length message.now }
         requires long { length message.now ≤ 64 }
+        ensures sees { SeesText slot is_foreign message.now self.old self.new }
         // What goes out stays so; where nothing did, it may be the port's own end.
         ensures out { (self.new.outgoing ≡ self.old.outgoing) ⊎ AnswersItself is_foreign message.now self.old self.new
             ⊎ Dies self.old self.new }
@@ -198,7 +207,16 @@ impl<K: Picker> Port<K> {
           left = self.new.left;
         }) ⊎ Dies self.old self.new }
         ensures task { (self.new.task ≡ self.old.task) ⊎ (self.new.task ≡ tasks.Free) }
-        ensures kept { (b : Kept) → Contains self.new.buffers.items b → Contains self.old.buffers.items b
+        ensures sent { (s : Told) → answered_to self.old message.now ≡ Ok s
+            → (self.new.task ≡ self.old.task) × (self.new.is_stalled ≡ self.old.is_stalled) }
+        ensures kept { (reference : ℕ) → answered_to self.old message.now ≡ Ok (sents.Queued reference)
+            → length self.old.buffers.items < 64
+            → self.new.buffers.items ≡ self.old.buffers.items
+            ++ buffer_in message.now (changes_at self.old.volumes
+            (place_in self.old.controller.settings.units (num message.now 4 2))) ∷ [] }
+        ensures waits { (fault : Refused) → answered_to self.old message.now ≡ Err fault → fault ≢ faults.Doubled
+            → self.new ≡ record self.old { controller = self.new.controller; is_stalled = true; task = tasks.Free } }
+        ensures among { (b : Kept) → Contains self.new.buffers.items b → Contains self.old.buffers.items b
             ⊎ ((changes : ℕ) × (b ≡ buffer_in message.now changes)) }
     {
         let sent = message_for_controller(message, self.controller.config().units());
@@ -219,6 +237,10 @@ impl<K: Picker> Port<K> {
     fn keep(&mut self, message: &[u8])
         requires short { 12 ≤ length message.now }
         ensures frame { self.new ≡ record self.old { buffers = self.new.buffers } }
+        ensures value { length self.old.buffers.items < 64
+            → self.new.buffers.items ≡ self.old.buffers.items
+            ++ buffer_in message.now (changes_at self.old.volumes
+            (place_in self.old.controller.settings.units (num message.now 4 2))) ∷ [] }
         ensures kept { (b : Kept) → Contains self.new.buffers.items b → Contains self.old.buffers.items b
             ⊎ ((changes : ℕ) × (b ≡ buffer_in message.now changes)) }
     {

@@ -1,7 +1,11 @@
 // How blocks are moved.
 
-ghost use Rattle.std.specs.Prelude.{◌≡◌, ◌≤◌, ◌%◌, ◌⊎◌, [], true, Contains, IfSome, None, Some};
+ghost use Rattle.std.specs.Prelude.{◌≡◌, ◌≤◌, ◌%◌, ◌⊎◌, [], true, Contains, IfSome, MatchOption, Option, None, Some};
 ghost use Rattle.mscp_port.specs.declared.buffers.Buffer.{Buffer as Kept};
+ghost use Rattle.mscp_port.specs.Blocks.{block_of as block_after, first_of, has_host_bytes as has_bytes, refusal_of, task_of, writes as writes_to};
+ghost use Rattle.mscp_queue.specs.declared.upcoming.Upcoming.{Upcoming as Foretold};
+ghost use Rattle.mscp_control.specs.Holdings.{Foretells};
+ghost use Rattle.mscp_port.specs.Moved.{TakesBlock, begun_task, fault_now, lost_with, next_part};
 ghost use Rattle.mscp_port.specs.Ports.{IsMoving, IsOfBlock, in_hand};
 ghost use Rattle.mscp_port.specs.Volumes.{IsOnVolume};
 ghost use Rattle.mscp_port.specs.declared.task.Task.TheVariants as tasks;
@@ -41,6 +45,7 @@ pub(crate) const DRIVE_ERROR: u16 = 0x000B;
 /// A block that ends its command with this status.
 fn bad(status: u16) -> Block
     requires { 5 ≤ status % 32 }
+    ensures { result ≡ Block.Bad status }
 {
     match FaultStatus::new(status) {
         Some(status) => Block::Bad(status),
@@ -49,7 +54,9 @@ fn bad(status: u16) -> Block
 }
 
 /// How a block was served whose action went so.
-fn block_of(outcome: Outcome) -> Block {
+fn block_of(outcome: Outcome) -> Block
+    ensures { result ≡ block_after outcome }
+{
     match outcome {
         Outcome::Done => Block::Good,
         Outcome::Missing => bad(MISSING),
@@ -61,17 +68,22 @@ fn block_of(outcome: Outcome) -> Block {
 }
 
 /// Whether a transfer moves bytes of host memory.
-fn has_host_bytes(kind: MoveKind) -> bool {
+fn has_host_bytes(kind: MoveKind) -> bool
+    ensures { result ≡ has_bytes kind }
+{
     matches!(kind, MoveKind::Compare | MoveKind::Read | MoveKind::Write)
 }
 
 /// Whether a transfer writes to the volume.
-fn writes(kind: MoveKind) -> bool {
+fn writes(kind: MoveKind) -> bool
+    ensures { result ≡ writes_to kind }
+{
     matches!(kind, MoveKind::Erase | MoveKind::Write)
 }
 
 /// Why a step of a transfer isn't made, if it isn't: the first that holds.
 pub(crate) fn refusal(kind: MoveKind, buffer: &Buffer, volume: &Volume) -> Option<u16>
+    ensures value { result ≡ refusal_of kind buffer.now volume.now }
     ensures status { IfSome result (λ status. 5 ≤ status % 32) }
     ensures mounted { result ≡ None → (volume.now.is_there ≡ true) × (volume.now.mounted ≡ Some volume.now.changes) }
     ensures even { result ≡ None → buffer.now.count % 2 ≡ 0 }
@@ -93,6 +105,7 @@ pub(crate) fn refusal(kind: MoveKind, buffer: &Buffer, volume: &Volume) -> Optio
 
 /// What is done first for a step of a transfer: the bytes of host memory are fetched, or the block is moved.
 fn first_task(job: Job) -> Task
+    ensures value { result ≡ first_of job.kind job }
     ensures packet { in_hand result ≡ None }
     ensures block { IsOfBlock result }
 {
@@ -104,6 +117,7 @@ fn first_task(job: Job) -> Task
 
 /// What is to be done for a step of a command, of whose message this is kept, and whose unit has this volume.
 fn task_for(upcoming: &Upcoming, buffer: &Buffer, volume: &Volume) -> Task
+    ensures value { result ≡ task_of upcoming.now buffer.now volume.now }
     ensures packet { in_hand result ≡ None }
     ensures block { IsOfBlock result }
     // No block is moved on a volume that came after its command, or that its unit wasn't brought online with.
@@ -141,6 +155,10 @@ fn task_for(upcoming: &Upcoming, buffer: &Buffer, volume: &Volume) -> Task
 impl<K: Picker> Port<K> {
     /// What is to be done for the next step of a command, if one waits.
     pub(crate) fn choose_block(&mut self) -> Task
+        ensures begins { (upcoming : Option Foretold)
+            × Foretells (K.picks self.old.controller.picker) self.old.controller upcoming self.new.controller
+            × (result
+            ≡ begun_task self.new.controller.settings.units self.new.buffers.items self.new.volumes upcoming) }
         ensures frame { self.new ≡ record self.old { controller = self.new.controller } }
         ensures packet { in_hand result ≡ None }
         ensures block { (result ≡ tasks.Free) ⊎ IsOfBlock result }
@@ -161,6 +179,7 @@ impl<K: Picker> Port<K> {
 
     /// The step of a command is taken, whose block had this outcome.
     pub(crate) fn finish(&mut self, connection: Connection, reference: u32, block: Block)
+        ensures takes { TakesBlock (K.picks self.old.controller.picker) connection reference block self.old self.new }
         ensures frame { self.new ≡ record self.old {
           controller = self.new.controller;
           task = self.new.task;
@@ -185,6 +204,8 @@ impl<K: Picker> Port<K> {
 
     /// A step that may not go on ends its command: its volume has changed, or its buffer isn't known.
     pub(crate) fn lost(&mut self, job: Job)
+        ensures takes { TakesBlock (K.picks self.old.controller.picker) job.connection job.reference
+            (lost_with (fault_now self.old job)) self.old self.new }
         ensures frame { self.new ≡ record self.old {
           controller = self.new.controller;
           task = self.new.task;
@@ -205,6 +226,10 @@ impl<K: Picker> Port<K> {
     /// A part of a step was done: the host's bytes are fetched, then the block is moved, and what was read goes to the host.
     /// A fault ends the command.
     pub(crate) fn moved(&mut self, job: Job, outcome: Outcome)
+        ensures moves { MatchOption (next_part self.old.task outcome job)
+            (TakesBlock (K.picks self.old.controller.picker) job.connection job.reference (block_after outcome)
+            self.old self.new)
+            (λ task. self.new ≡ record self.old { task = task }) }
         ensures frame { self.new ≡ record self.old {
           controller = self.new.controller;
           task = self.new.task;

@@ -1,6 +1,6 @@
 // What the port wants done.
 
-ghost use Rattle.std.specs.Prelude.{◌≡◌, ◌≢◌, ◌≤◌, ◌<◌, ◌⊎◌, ◌↔◌, ◌+◌, ◌-◌, ◌*◌, ◌^◌, ◌%◌, ℕ, true, false, length, Contains, IfSome, IsErr, IsTrue, IsSomeAnd, OnErr, None, Some};
+ghost use Rattle.std.specs.Prelude.{◌≡◌, ◌≢◌, ◌≤◌, ◌<◌, ◌⊎◌, ◌↔◌, ◌+◌, ◌-◌, ◌*◌, ◌^◌, ◌%◌, ℕ, true, false, length, Contains, IfSome, IsErr, IsOk, IsTrue, IsSomeAnd, MatchOption, min, replicate, OnErr, if◌then◌else◌, ◌==◌, None, Some};
 ghost use Rattle.byteorder.specs.Endian.{little_bytes};
 ghost use Rattle.arrayvec.specs.ArrayVec.{array_vec_len};
 ghost use Rattle.mscp_port.specs.declared.action.Action.TheVariants as actions;
@@ -9,14 +9,17 @@ ghost use Rattle.mscp_port.specs.declared.buffers.Buffer.{Buffer as Kept};
 ghost use Rattle.mscp_port.specs.declared.rings.Side.TheVariants.{Responses, Commands};
 ghost use Rattle.mscp_port.specs.declared.stage.Stage.TheVariants as stages;
 ghost use Rattle.mscp_port.specs.declared.task.Task.TheVariants as tasks;
-ghost use Rattle.mscp_port.specs.Areas.{IsInArea, slot_in, slots_of};
+ghost use Rattle.mscp_port.specs.Acted.{Acts, Clears, GivesBack, counted, vector_in};
+ghost use Rattle.mscp_port.specs.Areas.{IsInArea, end_of, slot_in, slots_of};
+ghost use Rattle.mscp_port.specs.Blocks.{kept_of};
 ghost use Rattle.mscp_port.specs.Buffers.{IsInBuffer};
 ghost use Rattle.mscp_port.specs.Calls.{Dies, Goes, TakesStep, Wants};
-ghost use Rattle.mscp_port.specs.Ports.{HasNothingToHear, HasNothingToSay, IsDue, IsIdleUp, IsOfBlock, IsOutcomeOf, IsInSomeBuffer, IsWithin, in_hand};
+ghost use Rattle.mscp_port.specs.Ports.{HasNothingToHear, HasNothingToSay, IsAlive, IsAsNew, IsDue, IsIdleUp, IsOfBlock, IsOutcomeOf, IsInSomeBuffer, IsWithin, in_hand};
+ghost use Rattle.mscp_port.specs.Moved.{BeginsBlock, Moves, MovesOn, move_wanted, part_kept, part_now};
 ghost use Rattle.mscp_port.specs.Outgoings.{HasSaid, Says};
 ghost use Rattle.mscp_port.specs.Packets.{credits_told, packet_of};
 ghost use Rattle.mscp_port.specs.Slots.{given_back, text_of};
-ghost use Rattle.mscp_port.specs.Wanted.{IsWanted, Writes, given_in};
+ghost use Rattle.mscp_port.specs.Wanted.{IsWanted, Writes, clear_from, given_in};
 
 use crate::action::{Action, Outcome, Unasked};
 use crate::buffers::{Buffer, Job, find_buffer};
@@ -44,7 +47,8 @@ const AREA: u32 = 2048;
 /// So many zeros.
 fn zeros(count: u32) -> ArrayVec<u8, 64>
     requires { count ≤ 64 }
-    ensures { length result.items ≡ count }
+    ensures value { result.items ≡ replicate count 0 }
+    ensures long { length result.items ≡ count }
 {
     let mut bytes = ArrayVec::new();
     put(&mut bytes, &[0; 64][..count as usize]);
@@ -94,7 +98,8 @@ fn number_before(rings: &Rings, side: Side, number: u32) -> u32
 
 /// The part of the buffer that is kept of a step's command.
 fn part_in(buffers: &[Buffer], job: &Job) -> Option<(u32, u32)>
-    ensures { IfSome result (λ part. (b : Kept) × Contains buffers.now b × IsInBuffer b part.0 part.1) }
+    ensures value { result ≡ part_kept (kept_of job.now.reference buffers.now) job.now.done }
+    ensures inside { IfSome result (λ part. (b : Kept) × Contains buffers.now b × IsInBuffer b part.0 part.1) }
 {
     find_buffer(buffers, job.reference)?.part(job.done)
 }
@@ -102,7 +107,9 @@ fn part_in(buffers: &[Buffer], job: &Job) -> Option<(u32, u32)>
 impl<K: Picker> Port<K> {
     /// What the port wants done next. Until it is told how that went it answers the same, unless a register is touched.
     pub fn next(&mut self) -> Action
-        ensures { Wants self.old result self.new }
+        ensures wants { Wants self.old result self.new }
+        ensures begins { IsAlive self.old → self.old.task ≡ tasks.Free → IsOfBlock self.new.task
+            → BeginsBlock (K.picks self.old.controller.picker) self.new.task self.old self.new }
     {
         if self.is_dead() {
             return Action::Rest;
@@ -126,6 +133,8 @@ impl<K: Picker> Port<K> {
         ensures says { Says self.old self.new }
         ensures settings { self.new.controller.settings ≡ self.old.controller.settings }
         ensures step { result ≡ tasks.Free → self.new.written ≡ None }
+        ensures begins { IsOfBlock result
+            → BeginsBlock (K.picks self.old.controller.picker) result self.old self.new }
         ensures up { result ≡ tasks.Free → self.new.stage ≡ stages.Up → IsIdleUp self.new }
     {
         if self.written.is_some() {
@@ -152,6 +161,8 @@ impl<K: Picker> Port<K> {
         ensures block { HasNothingToSay self.new → HasNothingToHear self.new
             → (result ≡ tasks.Free) ⊎ IsOfBlock result }
         ensures idle { result ≡ tasks.Free → IsIdleUp self.new }
+        ensures begins { IsOfBlock result
+            → BeginsBlock (K.picks self.old.controller.picker) result self.old self.new }
         ensures says { Says self.old self.new }
         ensures settings { self.new.controller.settings ≡ self.old.controller.settings }
     {
@@ -243,6 +254,8 @@ impl<K: Picker> Port<K> {
     fn clearing(&self, rings: &Rings, done: u32) -> Action
         requires { self.now.rings ≡ Some rings.now }
         ensures within { IsWithin self.now result }
+        ensures value { Writes result (clear_from self.now rings.now done)
+            (replicate (min (end_of rings.now - clear_from self.now rings.now done) 64) 0) }
         ensures some { result ≢ actions.Rest }
     {
         let from = (rings.start(self.has_purge_word()) + done % AREA).min(rings.end());
@@ -255,6 +268,7 @@ impl<K: Picker> Port<K> {
     /// A part of the buffer of a command is to be moved, or its block.
     fn moving(&self, job: &Job) -> Action
         ensures within { IsWithin self.now result }
+        ensures value { result ≡ move_wanted self.now.task job.now (part_now self.now job.now) }
         ensures some { result ≢ actions.Rest }
     {
         match (self.task, self.part(job)) {
@@ -272,7 +286,8 @@ impl<K: Picker> Port<K> {
 
     /// The part of a command's buffer that a step is about, if the step may go on.
     fn part(&self, job: &Job) -> Option<(u32, u32)>
-        ensures { IfSome result (λ part. IsInSomeBuffer self.now part.0 part.1) }
+        ensures value { result ≡ part_now self.now job.now }
+        ensures inside { IfSome result (λ part. IsInSomeBuffer self.now part.0 part.1) }
     {
         // What was read goes to the host, even if its volume has gone since.
         if !matches!(self.task, Task::Store(_)) && self.fault_of(job).is_some() {
@@ -284,7 +299,8 @@ impl<K: Picker> Port<K> {
     /// An action that isn't a read went so; or a read failed so. An error where nothing was wanted, or where a read is told
     /// to be done without its bytes.
     pub fn went(&mut self, outcome: Outcome) -> Result<(), Unasked>
-        ensures { Goes outcome self.old result self.new }
+        ensures goes { Goes outcome self.old result self.new }
+        ensures moves { IsOk result → Moves (K.picks self.old.controller.picker) outcome self.old self.new }
     {
         if self.is_dead() || !self.may_go(&outcome) {
             return Err(Unasked);
@@ -325,6 +341,7 @@ impl<K: Picker> Port<K> {
 
     /// A part of a step was done, if what is kept of its command says what part.
     fn move_on(&mut self, job: Job, outcome: Outcome)
+        ensures moves { MovesOn (K.picks self.old.controller.picker) outcome job self.old self.new }
         ensures frame { self.new ≡ record self.old {
           controller = self.new.controller;
           task = self.new.task;
@@ -358,6 +375,8 @@ impl<K: Picker> Port<K> {
 
     /// A part of the communication area was cleared, behind so many bytes.
     fn cleared(&mut self, done: u32, outcome: Outcome)
+        ensures clears { MatchOption self.old.rings (IsAsNew (stages.Dead 7) self.old self.new)
+            (λ r. Clears outcome r done self.old self.new) }
         ensures frame { (self.new ≡ record self.old { stage = self.new.stage; task = self.new.task })
             ⊎ Dies self.old self.new }
         ensures stage { (self.new.stage ≡ self.old.stage) ⊎ (self.new.stage ≡ stages.Last) ⊎ Dies self.old self.new }
@@ -380,6 +399,8 @@ impl<K: Picker> Port<K> {
 
     /// The next slot of a ring was given back.
     fn returned(&mut self, side: Side, slot: Descriptor, outcome: Outcome)
+        ensures gives_back { MatchOption self.old.rings (IsAsNew (stages.Dead 7) self.old self.new)
+            (λ r. GivesBack outcome r side slot self.old self.new) }
         ensures frame { (self.new ≡ record self.old {
           responses = self.new.responses;
           commands = self.new.commands;
@@ -410,12 +431,7 @@ impl<K: Picker> Port<K> {
 
     /// Counts a slot of a ring that was given back. What went out is gone.
     fn count(&mut self, side: Side)
-        ensures responses { side ≡ Responses → self.new ≡ record self.old {
-          responses = (self.old.responses + 1) % 256;
-          outgoing = None;
-          is_stalled = false;
-        } }
-        ensures commands { side ≡ Commands → self.new ≡ record self.old { commands = (self.old.commands + 1) % 256 } }
+        ensures { self.new ≡ counted side self.old }
     {
         match side {
             Side::Responses => {
@@ -429,7 +445,9 @@ impl<K: Picker> Port<K> {
 
     /// The interrupt word was written: the host is interrupted, if it wants that.
     fn interrupt(&mut self)
-        ensures frame { self.new ≡ record self.old { task = self.new.task } }
+        ensures value { self.new ≡ record self.old {
+          task = if vector_in self.old.words.first == 0 then tasks.Free else tasks.Interrupt;
+        } }
         ensures packet { in_hand self.new.task ≡ None }
     {
         self.task = if self.vector() == 0 {

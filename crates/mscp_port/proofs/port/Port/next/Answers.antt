@@ -1,13 +1,14 @@
 use Rattle.std.proofs.Common.{rules, sym, subst}
 use Rattle.mscp_port.specs.declared.port.Port.{Port}
 use Rattle.mscp_port.specs.Outgoings.{Says}
-use Rattle.mscp_port.specs.Ports.{IsDue}
+use Rattle.mscp_port.specs.Moved.{BeginsBlock}
+use Rattle.mscp_port.specs.Ports.{IsDue, IsOfBlock}
 use Rattle.mscp_port.proofs.Known.{said_on, says_the_same}
 use Rattle.mscp_port.proofs.port.Port.next.Goals as goal
 use Rattle.mscp_port.proofs.port.Port.next.Goals.{in-Free, in_default}
 
-pub returns : goal.returns
-returns g c = record {
+pub returns-clause-wants : goal.returns-clause-wants
+returns-clause-wants g c = record {
   frame = search rules;
   within = c.action.ensures.within;
   packet = search rules;
@@ -34,3 +35,12 @@ returns g c = record {
   settings = search rules;
   goes_on = search rules;
 }
+
+pub returns-clause-begins : goal.returns-clause-begins
+returns-clause-begins g c = λ alive free of_block. elim c.match-self.branch [
+  | in-Free w ↦ subst
+      (λ (p : Port g.row.K.Denot). IsOfBlock p.task
+      → BeginsBlock (g.K.Picker.picks c.args.self.now.controller.picker) p.task c.args.self.now p)
+      (sym w.self-is) (λ is. record { begun = (w.choose-self.ensures.begins is).begun }) of_block
+  | in_default w ↦ absurd (w.in_default.not-Free free)
+]

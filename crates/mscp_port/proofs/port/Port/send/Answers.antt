@@ -1,5 +1,9 @@
-use Rattle.std.proofs.Common.{ap, ◌∙◌}
+use Rattle.std.proofs.Common.{ap, ◌∙◌, ◌++◌, ◌∷◌, []}
 use Rattle.mscp_queue.specs.declared.name.Connection.TheVariants.{First}
+use Rattle.mscp_packet.specs.Number.{num}
+use Rattle.mscp_port.specs.Buffers.{buffer_in}
+use Rattle.mscp_port.specs.Seen.{changes_at}
+use Rattle.mscp_port.specs.Volumes.{place_in}
 use Rattle.mscp_port.proofs.Settings.{settings_after}
 use Rattle.mscp_port.proofs.port.Port.send.Goals as goal
 
@@ -12,3 +16,12 @@ pub returns-in-Ok-Answered-clause-settings : goal.returns-in-Ok-Answered-clause-
 returns-in-Ok-Answered-clause-settings g c =
     ap (λ p. p.controller.settings) c.heed.ensures ∙ ap (λ h. h.settings) c.send.ensures.after
     ∙ settings_after First c.args.self.now.controller c.deref.result.now
+
+pub returns-in-Ok-Queued-clause-kept : goal.returns-in-Ok-Queued-clause-kept
+returns-in-Ok-Queued-clause-kept g c = λ reference answer room.
+    let old = c.args.self.now in
+    let message = c.args.message.now in
+    c.keep.ensures.value room
+    ∙ ap (λ units. old.buffers.items ++ buffer_in message (changes_at old.volumes (place_in units (num message 4 2))) ∷ [])
+    (ap (λ h. h.settings.units) c.send.ensures.after
+    ∙ ap (λ s. s.units) (settings_after First old.controller c.deref.result.now))

@@ -3,8 +3,8 @@ use Rattle.mscp_port.specs.Calls.{TakesStep, step_answered}
 use Rattle.mscp_port.proofs.Known.{none_returned, unsettled}
 use Rattle.mscp_port.proofs.port.Port.went.Goals as goal
 
-pub returns-in-Settle : goal.returns-in-Settle
-returns-in-Settle g c =
+pub returns-in-Settle-clause-goes : goal.returns-in-Settle-clause-goes
+returns-in-Settle-clause-goes g c =
     let old = c.args.self.now in
     let new = c.settled.new.self in
     let word_is : step_answered old.task old.written ≡ old.written =
@@ -14,6 +14,7 @@ returns-in-Settle g c =
       taken = search rules;
       only = search rules;
       unasked = tt;
+      acts = search rules;
       steps = λ done. subst (λ o. IfSome o (λ word. TakesStep word old new)) (sym word_is) c.settled.ensures.steps;
       still = λ none. unsettled old new (c.settled.ensures.none (sym word_is ∙ none));
       settings = c.settled.ensures.settings;

@@ -1,0 +1,8 @@
+use Rattle.std.proofs.Common.{◌∙◌, ◌++◌, ap, take, replicate}
+use Rattle.std.proofs.lemmas.List.{take-replicate}
+use Rattle.mscp_port.proofs.port.turning.zeros.Goals as goal
+
+pub returns-clause-value : goal.returns-clause-value
+returns-clause-value c =
+    c.put.ensures.items ∙ ap (λ xs. xs ++ take c.args.count (replicate 64 0)) c.new-bytes.ensures
+    ∙ take-replicate c.args.count 64 0 c.requires

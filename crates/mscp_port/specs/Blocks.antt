@@ -1,0 +1,133 @@
+-- How the step of a command is taken, and why it isn't (statuses: manual, "Status and Event Codes").
+use Rattle.std.specs.Prelude.{ℕ, ◌+◌, ◌*◌, ◌%◌, ◌==◌, ◌&&◌, ◌||◌, not, Bool, true, false, if◌then◌else◌, slice_get, List, Option, None, Some}
+use Rattle.std.specs.List.{position}
+use Rattle.mscp_drive.specs.Shape.{Shape}
+use Rattle.mscp_packet.specs.declared.command.MoveKind.{MoveKind}
+use Rattle.mscp_packet.specs.declared.command.MoveKind.TheVariants as moves
+use Rattle.mscp_packet.specs.declared.command.Order.{Order}
+use Rattle.mscp_packet.specs.declared.command.Order.TheVariants as orders
+use Rattle.mscp_queue.specs.declared.block.Block.{Block}
+use Rattle.mscp_queue.specs.declared.block.Block.TheVariants as blocks
+use Rattle.mscp_queue.specs.declared.upcoming.Upcoming.{Upcoming}
+use Rattle.mscp_port.specs.declared.action.Outcome.{Outcome}
+use Rattle.mscp_port.specs.declared.action.Outcome.TheVariants as outcomes
+use Rattle.mscp_port.specs.declared.buffers.Buffer.{Buffer}
+use Rattle.mscp_port.specs.declared.buffers.Job.{Job}
+use Rattle.mscp_port.specs.declared.task.Task.{Task}
+use Rattle.mscp_port.specs.declared.task.Task.TheVariants as tasks
+use Rattle.mscp_port.specs.declared.volumes.Volume.{Volume}
+use Rattle.mscp_port.specs.Buffers.{has_reference, part_of}
+use Rattle.mscp_port.specs.Volumes.{place_in, volume_at}
+
+-- ---- transfers
+
+-- a transfer that moves bytes of host memory
+abbrev pub has_host_bytes : MoveKind → Bool
+has_host_bytes moves.Access = false
+has_host_bytes moves.Erase = false
+has_host_bytes moves.Compare = true
+has_host_bytes moves.Read = true
+has_host_bytes moves.Write = true
+
+-- one that writes to the volume
+abbrev pub writes : MoveKind → Bool
+writes moves.Access = false
+writes moves.Erase = true
+writes moves.Compare = false
+writes moves.Read = false
+writes moves.Write = true
+
+-- what is done first for a block: the host's bytes are fetched, or the block is moved
+abbrev pub first_of : MoveKind → Job → Task
+first_of moves.Access job = tasks.Transfer job
+first_of moves.Erase job = tasks.Transfer job
+first_of moves.Compare job = tasks.Fetch job
+first_of moves.Read job = tasks.Transfer job
+first_of moves.Write job = tasks.Fetch job
+
+-- ---- why a step isn't taken
+
+abbrev pub is_count : Option ℕ → ℕ → Bool
+is_count None n = false
+is_count (Some m) n = m == n
+
+-- the unit is online with the volume that is in it
+abbrev pub is_mounted : Volume → Bool
+is_mounted v = v.is_there && is_count v.mounted v.changes
+
+-- the first that holds: the unit isn't online with its volume (0xFFFE, which the host hears as Unit-Available), the
+-- address or the count is odd, the volume is protected by the host or by the hardware
+abbrev pub refusal_of : MoveKind → Buffer → Volume → Option ℕ
+refusal_of kind b v =
+    if not (is_mounted v) then Some 0xFFFE
+    else if has_host_bytes kind && b.address % 2 == 1 then Some 0x0029
+    else if b.count % 2 == 1 then Some 0x0049
+    else if writes kind && v.is_protected_by_host then Some 0x1006
+    else if writes kind && v.is_protected then Some 0x2006
+    else None
+
+-- no volume, or another one than when the command came (0xFFFF, which the host hears as Unit-Offline)
+abbrev pub has_changed : Buffer → Volume → Bool
+has_changed b v = not v.is_there || not (b.changes == v.changes)
+
+abbrev pub fault_with : MoveKind → Buffer → Volume → Option ℕ
+fault_with kind b v = if has_changed b v then Some 0xFFFF else refusal_of kind b v
+
+-- ---- what is done for a step
+
+abbrev pub kept_at : Option ℕ → List Buffer → Option Buffer
+kept_at None buffers = None
+kept_at (Some place) buffers = slice_get buffers place
+
+-- what is kept of the first command of a reference number
+abbrev pub kept_of : ℕ → List Buffer → Option Buffer
+kept_of reference buffers = kept_at (position (has_reference reference) buffers) buffers
+
+-- the step is taken with this outcome, and moves no block
+abbrev pub step_with : Upcoming → Block → Task
+step_with u block = tasks.Step u.connection u.command.reference block
+
+abbrev pub job_of : Upcoming → MoveKind → ℕ → Job
+job_of u kind block = record {
+  connection = u.connection;
+  reference = u.command.reference;
+  kind = kind;
+  unit = u.command.unit;
+  block = block;
+  done = u.done;
+}
+
+-- by its part of the buffer: past it memory isn't there, and a transfer of no bytes moves nothing
+abbrev pub part_task : Upcoming → MoveKind → ℕ → Option (ℕ × ℕ) → Task
+part_task u kind block None = step_with u (blocks.Bad 0x0069)
+part_task u kind block (Some part) =
+    if part.1 == 0 then step_with u blocks.Good else first_of kind (job_of u kind block)
+
+abbrev pub unless_refused : Upcoming → MoveKind → ℕ → Buffer → Option ℕ → Task
+unless_refused u kind block b None = part_task u kind block (part_of b u.done)
+unless_refused u kind block b (Some status) = step_with u (blocks.Bad status)
+
+-- by its order and the block that it touches
+abbrev pub move_task : Upcoming → Order → Option ℕ → Buffer → Volume → Task
+move_task u (orders.Move kind count first) (Some block) b v = unless_refused u kind block b (refusal_of kind b v)
+move_task u order lbn b v = step_with u blocks.Good
+
+abbrev pub is_available : Order → Bool
+is_available orders.Available = true
+is_available order = false
+
+-- for a step of a command, of whose message this is kept, and whose unit has this volume. AVAILABLE wants no volume
+abbrev pub task_of : Upcoming → Buffer → Volume → Task
+task_of u b v =
+    if is_available u.command.order then step_with u blocks.Good
+    else if has_changed b v then step_with u (blocks.Bad 0xFFFF)
+    else move_task u u.command.order u.lbn b v
+
+-- how a block was served whose action went so: memory isn't there, has a parity error, isn't mapped; bytes differ
+abbrev pub block_of : Outcome → Block
+block_of outcomes.Done = blocks.Good
+block_of outcomes.Missing = blocks.Bad 0x0069
+block_of outcomes.Parity = blocks.Bad 0x0089
+block_of outcomes.Unmapped = blocks.Bad 0x00A9
+block_of outcomes.Different = blocks.Bad 0x0007
+block_of (outcomes.Failed status) = blocks.Bad status

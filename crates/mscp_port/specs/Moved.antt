@@ -1,0 +1,124 @@
+-- What is wanted for a block in hand, and what follows once that was done.
+use Rattle.std.specs.Prelude.{◌≡◌, ◌⊎◌, ℕ, ◌||◌, Bool, true, false, is_none, if◌then◌else◌, List, MatchOption, Result, Option, None, Some}
+use Rattle.mscp_drive.specs.Shape.{Shape}
+use Rattle.mscp_packet.specs.declared.command.MoveKind.{MoveKind}
+use Rattle.mscp_packet.specs.declared.command.MoveKind.TheVariants as moves
+use Rattle.mscp_queue.specs.declared.block.Block.{Block}
+use Rattle.mscp_queue.specs.declared.block.Block.TheVariants as blocks
+use Rattle.mscp_queue.specs.declared.report.Report.{Report}
+use Rattle.mscp_queue.specs.declared.name.Connection.{Connection}
+use Rattle.mscp_queue.specs.declared.view.Choice.{Choice}
+use Rattle.mscp_queue.specs.Names.{name_on}
+use Rattle.mscp_queue.specs.declared.upcoming.Upcoming.{Upcoming}
+use Rattle.mscp_queue.specs.declared.name.Connection.TheVariants.{First}
+use Rattle.mscp_control.specs.Holdings.{Finishes, Foretells, Holdings, after_take}
+use Rattle.mscp_control.specs.declared.event.Stale.{Stale}
+use Rattle.mscp_port.specs.declared.action.Action.{Action}
+use Rattle.mscp_port.specs.declared.action.Action.TheVariants as actions
+use Rattle.mscp_port.specs.declared.action.Outcome.{Outcome}
+use Rattle.mscp_port.specs.declared.action.Outcome.TheVariants as outcomes
+use Rattle.mscp_port.specs.declared.buffers.Buffer.{Buffer}
+use Rattle.mscp_port.specs.declared.buffers.Job.{Job}
+use Rattle.mscp_port.specs.declared.port.Port.{Port}
+use Rattle.mscp_port.specs.declared.task.Task.{Task}
+use Rattle.mscp_port.specs.declared.task.Task.TheVariants as tasks
+use Rattle.mscp_port.specs.declared.volumes.Volume.{Volume}
+use Rattle.mscp_port.specs.Blocks.{block_of, fault_with, kept_of, step_with, task_of}
+use Rattle.mscp_port.specs.Buffers.{part_of}
+use Rattle.mscp_port.specs.Volumes.{place_in, volume_at}
+
+-- ---- which step is taken
+
+-- it ends with Drive Error where its unit or its buffer isn't known
+abbrev pub known_task : Upcoming → Option ℕ → Option Buffer → List Volume → Task
+known_task u (Some place) (Some b) volumes = task_of u b (volume_at volumes place)
+known_task u place kept volumes = step_with u (blocks.Bad 0x000B)
+
+-- what is done for the step that the controller has begun, if a command waits
+abbrev pub begun_task : List Shape → List Buffer → List Volume → Option Upcoming → Task
+begun_task units buffers volumes None = tasks.Free
+begun_task units buffers volumes (Some u) =
+    known_task u (place_in units u.command.unit) (kept_of u.command.reference buffers) volumes
+
+-- the controller has begun a step, by this picker's word, and that is taken in hand; before it an end may have been taken
+pub record BeginsBlock {K : Type 0} (picks : List Choice → ℕ → Type 0) (task : Task) (old new : Port K) : Type 0 where
+  pub begun : (held : Holdings K) × (upcoming : Option Upcoming)
+      × ((held ≡ old.controller) ⊎ (held ≡ after_take First old.controller))
+      × Foretells picks held upcoming new.controller
+      × (task ≡ begun_task new.controller.settings.units new.buffers.items new.volumes upcoming)
+
+-- ---- whether a step may go on
+
+-- it may not where its unit or its buffer isn't known (Drive Error)
+abbrev pub fault_at : Option ℕ → Option Buffer → MoveKind → List Volume → Option ℕ
+fault_at (Some place) (Some b) kind volumes = fault_with kind b (volume_at volumes place)
+fault_at place kept kind volumes = Some 0x000B
+
+-- why a step in hand may not go on, if it may not: its volume may have changed since
+abbrev pub fault_now : {K : Type 0} → Port K → Job → Option ℕ
+fault_now p job = fault_at (place_in p.controller.settings.units job.unit) (kept_of job.reference p.buffers.items)
+    job.kind p.volumes
+
+abbrev pub part_kept : Option Buffer → ℕ → Option (ℕ × ℕ)
+part_kept None done = None
+part_kept (Some b) done = part_of b done
+
+abbrev pub is_storing : Task → Bool
+is_storing (tasks.Store job) = true
+is_storing task = false
+
+-- the part of its buffer that a step in hand is about, if it may go on. What was read goes to the host, even if its
+-- volume has gone since
+abbrev pub part_now : {K : Type 0} → Port K → Job → Option (ℕ × ℕ)
+part_now p job =
+    if is_storing p.task || is_none (fault_now p job) then part_kept (kept_of job.reference p.buffers.items) job.done
+    else None
+
+-- ---- what is wanted
+
+-- the part is fetched, or stored, or the block is moved. Nothing of a step that may not go on
+abbrev pub move_wanted : Task → Job → Option (ℕ × ℕ) → Action
+move_wanted (tasks.Fetch other) job (Some part) = actions.Fetch part.0 part.1
+move_wanted (tasks.Store other) job (Some part) = actions.Store part.0 part.1
+move_wanted (tasks.Transfer other) job (Some part) = actions.Transfer job.kind job.unit job.block part.1
+move_wanted task job part = actions.Pause
+
+-- ---- what follows
+
+-- what was read of a block goes to the host
+abbrev pub behind_block : MoveKind → Job → Option Task
+behind_block moves.Read job = Some (tasks.Store job)
+behind_block kind job = None
+
+-- what of the step is next, if it isn't over: behind the fetch the block, and behind a block that was read the store
+abbrev pub next_part : Task → Outcome → Job → Option Task
+next_part (tasks.Fetch other) outcomes.Done job = Some (tasks.Transfer job)
+next_part (tasks.Transfer other) outcomes.Done job = behind_block job.kind job
+next_part task outcome job = None
+
+-- the controller is told of a step whose block had this outcome, and nothing is in hand
+pub record TakesBlock {K : Type 0} (picks : List Choice → ℕ → Type 0) (via : Connection) (reference : ℕ) (block : Block)
+    (old new : Port K) : Type 0 where
+  pub free : new.task ≡ tasks.Free
+  pub finished : (result : Result Report Stale)
+      × Finishes picks (name_on via reference) block old.controller result new.controller
+
+abbrev pub lost_with : Option ℕ → Block
+lost_with None = blocks.Bad 0x000B
+lost_with (Some status) = blocks.Bad status
+
+-- an action of a step went so
+abbrev pub MovesOn : {K : Type 0} → (List Choice → ℕ → Type 0) → Outcome → Job → Port K → Port K → Type 0
+MovesOn picks outcome job old new = MatchOption (part_now old job)
+    (TakesBlock picks job.connection job.reference (lost_with (fault_now old job)) old new)
+    (λ part. MatchOption (next_part old.task outcome job)
+    (TakesBlock picks job.connection job.reference (block_of outcome) old new)
+    (λ task. new ≡ record old { task = task }))
+
+-- what follows for a step in hand, with a block or without one
+pub record Moves {K : Type 0} (picks : List Choice → ℕ → Type 0) (outcome : Outcome) (old new : Port K) : Type 0 where
+  pub step : (via : Connection) (reference : ℕ) (block : Block) → old.task ≡ tasks.Step via reference block
+      → TakesBlock picks via reference block old new
+  pub fetch : (job : Job) → old.task ≡ tasks.Fetch job → MovesOn picks outcome job old new
+  pub transfer : (job : Job) → old.task ≡ tasks.Transfer job → MovesOn picks outcome job old new
+  pub store : (job : Job) → old.task ≡ tasks.Store job → MovesOn picks outcome job old new

@@ -1,0 +1,117 @@
+-- What follows what was read in host memory (port: UQSSP, "Ring Entries", "Envelope Header").
+use Rattle.std.specs.Prelude.{◌≡◌, ◌≢◌, ◌<◌, ℕ, ◌+◌, ◌/◌, ◌%◌, ◌==◌, ◌&&◌, ◌||◌, ◌++◌, ◌∷◌, [], not, Bool, true, false, nat_lt, if◌then◌else◌, List, length, MatchOption, Result, Option, None, Some, Ok, Err}
+use Rattle.mscp_packet.specs.Number.{num}
+use Rattle.mscp_queue.specs.declared.name.Connection.TheVariants.{First}
+use Rattle.mscp_control.specs.Holdings.{answer_to_message}
+use Rattle.mscp_control.specs.declared.event.SendFault.{SendFault}
+use Rattle.mscp_control.specs.declared.event.SendFault.TheVariants as faults
+use Rattle.mscp_control.specs.declared.event.Sent.{Sent}
+use Rattle.mscp_control.specs.declared.event.Sent.TheVariants as sents
+use Rattle.mscp_port.specs.declared.port.Port.{Port}
+use Rattle.mscp_port.specs.declared.rings.Side.{Side}
+use Rattle.mscp_port.specs.declared.rings.Side.TheVariants.{Responses, Commands}
+use Rattle.mscp_port.specs.declared.slot.Descriptor.{Descriptor}
+use Rattle.mscp_port.specs.declared.stage.Stage.TheVariants as stages
+use Rattle.mscp_port.specs.declared.task.Task.{Task}
+use Rattle.mscp_port.specs.declared.task.Task.TheVariants as tasks
+use Rattle.mscp_port.specs.declared.volumes.Volume.{Volume}
+use Rattle.mscp_port.specs.Buffers.{buffer_in}
+use Rattle.mscp_port.specs.Messages.{handed, own_end}
+use Rattle.mscp_port.specs.Outgoings.{AnswersItself}
+use Rattle.mscp_port.specs.Ports.{IsAsNew}
+use Rattle.mscp_port.specs.Slots.{is_owned}
+use Rattle.mscp_port.specs.Volumes.{place_in, volume_at}
+
+-- ---- a slot of a ring
+
+-- the next slot of a ring: one that is the port's is taken in hand, and else there is nothing to do with the ring
+abbrev pub slot_seen : {K : Type 0} → Side → Descriptor → Port K → Port K
+slot_seen Responses slot p =
+    if is_owned slot.word then record p { task = tasks.Packet slot }
+    else record p { is_full = true; task = tasks.Free }
+slot_seen Commands slot p =
+    if is_owned slot.word then record p { task = tasks.Header slot }
+    else record p { is_polled = false; task = tasks.Free }
+
+-- the slot in front of the one that was given back: if it is the port's, the interrupt word is written
+abbrev pub neighbour_seen : Side → ℕ → Task
+neighbour_seen side word = if is_owned word then tasks.Word side else tasks.Free
+
+-- ---- the header of a packet
+
+-- its low half is the length of the text, bits 20 to 23 are its type, and the high byte is its connection
+abbrev pub length_in : ℕ → ℕ
+length_in h = h % 0x1_0000
+
+abbrev pub type_in : ℕ → ℕ
+type_in h = h / 0x10_0000 % 0x10
+
+abbrev pub connection_in : ℕ → ℕ
+connection_in h = h / 0x100_0000
+
+-- the fatal error that a header is, if it is one: another type than a sequential message, another connection than
+-- that of the disk (0) or of the utilities (2), a text of less than 12 or over 64 bytes
+abbrev pub header_fault : ℕ → Option ℕ
+header_fault h =
+    if not (type_in h == 0) then Some 20
+    else if not (connection_in h == 0 || connection_in h == 2) then Some 14
+    else if nat_lt (length_in h) 12 || nat_lt 64 (length_in h) then Some 1
+    else None
+
+-- a header was read: its text is taken in hand, or it is a fatal error
+abbrev pub SeesHeader : {K : Type 0} → Descriptor → ℕ → Port K → Port K → Type 0
+SeesHeader slot h old new = MatchOption (header_fault h)
+    (new ≡ record old { task = tasks.Text slot (length_in h) (connection_in h == 2) })
+    (λ code. IsAsNew (stages.Dead code) old new)
+
+-- ---- the text of a command
+
+-- how often the volume of the unit at a place has changed, and 0 of no unit
+abbrev pub changes_at : List Volume → Option ℕ → ℕ
+changes_at volumes None = 0
+changes_at volumes (Some place) = (volume_at volumes place).changes
+
+-- what the controller answers to a message of its first connection
+abbrev pub answered_to : {K : Type 0} → Port K → List ℕ → Result Sent SendFault
+answered_to p b = answer_to_message First p.controller (handed p.controller.settings.units b)
+
+-- the command stays in its slot, and the host was heard
+abbrev pub stays : {K : Type 0} → Port K → Port K → Type 0
+stays old new = new ≡ record old {
+  controller = new.controller;
+  task = tasks.Free;
+  is_stalled = true;
+  left = old.timeout;
+}
+
+-- the text of a command was read
+pub record SeesText {K : Type 0} (slot : Descriptor) (foreign : Bool) (bytes : List ℕ) (old new : Port K) : Type 0 where
+  -- the port answers it itself, if nothing goes out yet: else it stays in its slot
+  pub own : own_end foreign bytes ≢ None → old.outgoing ≡ None
+      → (new.task ≡ tasks.Return Commands slot) × AnswersItself foreign bytes old new
+  pub own_waits : own_end foreign bytes ≢ None → old.outgoing ≢ None → stays old new
+  -- or the controller gets it, and its slot is given back
+  pub sent : (s : Sent) → own_end foreign bytes ≡ None → answered_to old bytes ≡ Ok s
+      → (new.task ≡ tasks.Return Commands slot) × (new.is_stalled ≡ old.is_stalled) × (new.outgoing ≡ old.outgoing)
+  -- of a command that is queued it is kept where its data are
+  pub kept : (reference : ℕ) → own_end foreign bytes ≡ None → answered_to old bytes ≡ Ok (sents.Queued reference)
+      → length old.buffers.items < 64
+      → new.buffers.items ≡ old.buffers.items
+      ++ buffer_in bytes (changes_at old.volumes (place_in old.controller.settings.units (num bytes 4 2))) ∷ []
+  -- a number in use is a fatal error, and for want of a credit the command stays in its slot
+  pub doubled : own_end foreign bytes ≡ None → answered_to old bytes ≡ Err faults.Doubled
+      → IsAsNew (stages.Dead 1) old new
+  pub waits : (fault : SendFault) → own_end foreign bytes ≡ None → answered_to old bytes ≡ Err fault
+      → fault ≢ faults.Doubled → stays old new
+
+-- ---- all
+
+-- what follows these bytes, which were wanted for what is in hand
+pub record Sees {K : Type 0} (bytes : List ℕ) (old new : Port K) : Type 0 where
+  pub slot : (side : Side) → old.task ≡ tasks.Slot side
+      → new ≡ slot_seen side (record { word = num bytes 0 4 }) old
+  pub neighbour : (side : Side) → old.task ≡ tasks.Neighbour side
+      → new ≡ record old { task = neighbour_seen side (num bytes 0 4) }
+  pub header : (slot : Descriptor) → old.task ≡ tasks.Header slot → SeesHeader slot (num bytes 0 4) old new
+  pub text : (slot : Descriptor) (size : ℕ) (foreign : Bool) → old.task ≡ tasks.Text slot size foreign
+      → SeesText slot foreign bytes old new
