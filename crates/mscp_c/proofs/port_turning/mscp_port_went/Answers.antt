@@ -17,7 +17,7 @@ returns-in-Ok-clause-went c = λ made.
     let told : TellsWent c.in-Some.outcome c.args.handle.now (told_code c.went.result) new = record {
       answer = c.went.result;
       goes = subst (λ (p : Held). Goes c.in-Some.outcome p c.went.result c.went.new.self)
-          (c.lend.ensures.value ∙ ap (λ (h : Handle). h.held) c.is_made.ensures.same) c.went.ensures;
+          (c.lend.ensures.value ∙ ap (λ (h : Handle). h.held) c.is_made.ensures.same) c.went.ensures.goes;
       rest = ap (λ (h : Handle). with_held h c.went.new.self) c.is_made.ensures.same;
       code = refl;
     } in
@@ -32,7 +32,7 @@ returns-in-Err-clause-went c = λ made.
     let told : TellsWent c.in-Some.outcome c.args.handle.now (told_code c.went.result) new = record {
       answer = c.went.result;
       goes = subst (λ (p : Held). Goes c.in-Some.outcome p c.went.result c.went.new.self)
-          (c.lend.ensures.value ∙ ap (λ (h : Handle). h.held) c.is_made.ensures.same) c.went.ensures;
+          (c.lend.ensures.value ∙ ap (λ (h : Handle). h.held) c.is_made.ensures.same) c.went.ensures.goes;
       rest = ap (λ (h : Handle). with_held h c.went.new.self) c.is_made.ensures.same;
       code = refl;
     } in
