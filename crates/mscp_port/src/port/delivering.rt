@@ -29,7 +29,7 @@ use crate::task::Task;
 use crate::volumes::Volume;
 use arrayvec::ArrayVec;
 use mscp_packet::fields::{put, put_two};
-use mscp_packet::{End, read_end, write_end};
+use mscp_packet::{End, write_end};
 use mscp_queue::{Connection, Picker};
 
 /// The flag by which a host wants attention messages.
@@ -53,10 +53,11 @@ impl<K: Picker> Port<K> {
             ⊎ (self.new.controller ≡ after_take First self.old.controller) }
         ensures settings { self.new.controller.settings ≡ self.old.controller.settings }
     {
-        if let Some(bytes) = self.controller.take(Connection::First) {
+        if let Some(end) = self.controller.ends(Connection::First).first().copied() {
+            let _bytes = self.controller.take(Connection::First);
             self.is_stalled = false;
             self.outgoing = Some(Outgoing {
-                bytes: self.told(bytes),
+                bytes: self.told(end),
                 is_end: true,
             });
         } else if self.flags / WANTS_ATTENTION % 2 == 1 {
@@ -64,15 +65,8 @@ impl<K: Picker> Port<K> {
         }
     }
 
-    /// The bytes of an end as the host gets them: with the statuses of volumes, and the fields that are the port's.
-    fn told(&self, bytes: ArrayVec<u8, 48>) -> ArrayVec<u8, 48> {
-        match read_end(&bytes) {
-            Ok(end) => self.end_told(end),
-            Err(_) => bytes,
-        }
-    }
-
-    fn end_told(&self, end: End) -> ArrayVec<u8, 48> {
+    /// An end as the host gets it: with the statuses of volumes, and the fields that are the port's.
+    fn told(&self, end: End) -> ArrayVec<u8, 48> {
         if end.code == 0x84 {
             let mut bytes = write_end(&end);
             if end.status == 0 {
