@@ -337,17 +337,40 @@ impl<K: Picker> Controller<K> {
         report
     }
 
+    /// The same. It is built into its caller, so that room for its report is cleared only where it is called.
+    #[inline(always)]
+    fn step_rest(&mut self, block: Block) -> Report
+        ensures step { Steps (K.picks self.old.picker) block self.old result self.new }
+        ensures account { IsBalanced self.new }
+    {
+        self.step_apart(block)
+    }
+
+    /// The step, if it is neither a command's first nor its last: else nothing changes.
+    #[inline(always)]
+    pub fn step_amid(&mut self, block: &Block) -> Option<Report>
+        ensures step { IfSome result (λ report. Steps (K.picks self.old.picker) block.now self.old report self.new) }
+        ensures account { IfSome result (λ report. IsBalanced self.new) }
+        ensures none { IfNone result (self.new ≡ self.old) }
+    {
+        let amid = self.queue.serve_amid(block)?;
+        keep_end(&mut self.accounts, &amid);
+        Some(amid)
+    }
+
     /// Serves one block, with this outcome, if a command waits: to the command that was begun, or else to that in service,
     /// or to one that the picker picks of those that may start.
     pub fn step(&mut self, block: Block) -> Report
         ensures step { Steps (K.picks self.old.picker) block self.old result self.new }
         ensures account { IsBalanced self.new }
     {
-        if let Some(amid) = self.queue.serve_amid(&block) {
-            keep_end(&mut self.accounts, &amid);
+        if let Some(amid) = self.step_amid(&block) {
             return amid;
         }
-        self.step_apart(block)
+        if self.queue.is_idle() {
+            return Report::Idle;
+        }
+        self.step_rest(block)
     }
 
     /// What is answered to an event.

@@ -1,6 +1,6 @@
 -- A step that is neither the first of its command nor the last.
 use Rattle.std.proofs.Common.{◌≡◌, Bool, ℕ, true, false, ◌&&◌, ap, refl, sym, ◌∙◌, arith}
-use Rattle.std.specs.Prelude.{not, if◌then◌else◌, None, Some, option_map}
+use Rattle.std.specs.Prelude.{not, if◌then◌else◌, None, Option, Some, option_map}
 use Rattle.mscp_drive.specs.Shape.{cylinder_of}
 use Rattle.mscp_drive.specs.declared.head.Head.{Head}
 use Rattle.mscp_queue.specs.declared.block.Block.{Block}
@@ -36,3 +36,20 @@ amid_drive k d d' r h none new head =
       online = state_left d.online r.command.order (sym none i);
       head = head i;
     })
+
+-- a head that goes on keeps its way
+way_stays : (to : Option ℕ) (h : Head) → (head_after false to h).up ≡ h.up
+way_stays None h = refl
+way_stays (Some to) h = refl
+
+-- so only the cylinder of it has to be written
+pub amid_carried : (k : Block) (d d' was : Drive) (r : Record) (h : Head) → is_amid k d r ≡ true
+    → d' ≡ record was { head = record { cylinder = h.cylinder; up = was.head.up } } → was ≡ d
+    → h ≡ head_after (is_unstarted r) (option_map (cylinder_of d.unit) (touched d r)) d.head
+    → d' ≡ record d { head = h }
+amid_carried k d d' was r h amid new is head =
+    let to = option_map (cylinder_of d.unit) (touched d r) in
+    let up : h.up ≡ d.head.up = ap (λ (z : Head). z.up) (head ∙ ap (λ b. head_after b to d.head) (amid_started k d r amid))
+    ∙ way_stays to d.head in
+    new ∙ (ap (λ (w : Drive). record w { head = record { cylinder = h.cylinder; up = w.head.up } }) is
+    ∙ (λ i. record d { head = record { cylinder = h.cylinder; up = sym up i } }))

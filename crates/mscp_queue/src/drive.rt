@@ -40,12 +40,12 @@ impl Drive {
         self.head = after.head;
     }
 
-    /// The head goes over to another place, and nothing else is written.
+    /// The head goes on to another cylinder, and nothing else is written.
     #[inline(always)]
-    pub(crate) fn move_head(&mut self, head: Head)
-        ensures { self.new ≡ record self.old { head = head } }
+    pub(crate) fn carry_head(&mut self, to: u32)
+        ensures { self.new ≡ record self.old { head = record { cylinder = to; up = self.old.head.up } } }
     {
-        self.head = head;
+        self.head.cylinder = to;
     }
 }
 

@@ -1,6 +1,6 @@
 // What a queue serves next, and its steps.
 
-ghost use Rattle.std.specs.Prelude.{◌≡◌, ◌<◌, [], length, IfNone, IfSome};
+ghost use Rattle.std.specs.Prelude.{◌≡◌, ◌<◌, [], true, length, IfNone, IfSome};
 ghost use Rattle.mscp_packet.specs.Ends.{IsOfKind};
 ghost use Rattle.mscp_queue.specs.Kept.{place_served, units_of};
 ghost use Rattle.mscp_queue.specs.Lines.{Begins, BeginsAt, Serves, ServesAt};
@@ -124,6 +124,13 @@ impl<K: Picker> Queue<K> {
         }
     }
 
+    /// Whether nothing waits. Then nothing was begun either.
+    pub fn is_idle(&self) -> bool
+        ensures { result ≡ true → (self.now.waiting ≡ []) × (self.now.begun ≡ None) }
+    {
+        self.backlog.len() == 0
+    }
+
     /// Serves a block, with this outcome, to the command in service, if it was served before and waits on after it: else
     /// nothing changes. Most steps are of this kind, and neither pick nor pass nor end a command: so they stand apart, without
     /// all that.
@@ -142,7 +149,7 @@ impl<K: Picker> Queue<K> {
             return None;
         }
         let way = way_of(drive, &record);
-        self.drives[at].move_head(way.head);
+        self.drives[at].carry_head(way.head.cylinder);
         self.backlog.serve(place, false);
         self.lineup.serve(place, at, false);
         self.begun = None;
