@@ -92,7 +92,9 @@ pub extern "C" fn mscp_step(handle: &mut Handle, status: u16, out: &mut ReportOu
     if !is_made(handle) {
         return NOT_MADE;
     }
-    if status == 0 && let Some(amid) = lend(handle).step_amid(&Block::Good) {
+    if status == 0
+        && let Some(amid) = lend(handle).step_amid(&Block::Good)
+    {
         return tell_report(out, &amid);
     }
     let Some(block) = block_of(status) else {

@@ -1,6 +1,6 @@
 // A controller: its queue, and the account of each connection's host.
 
-ghost use Rattle.std.specs.Prelude.{◌≡◌, ◌+◌, ◌≤◌, ◌^◌, true, false, slice_get, IfErr, IfSome, None, Some};
+ghost use Rattle.std.specs.Prelude.{◌≡◌, ◌+◌, ◌≤◌, ◌^◌, true, false, slice_get, IfErr, IfNone, IfSome, None, Some};
 ghost use Rattle.mscp_packet.specs.Ends.{IsEnd, IsOfKind};
 ghost use Rattle.mscp_queue.specs.Orders.{first_block, order_weight};
 ghost use Rattle.mscp_queue.specs.Names.{name_on};
@@ -353,9 +353,11 @@ impl<K: Picker> Controller<K> {
         ensures account { IfSome result (λ report. IsBalanced self.new) }
         ensures none { IfNone result (self.new ≡ self.old) }
     {
-        let amid = self.queue.serve_amid(block)?;
-        keep_end(&mut self.accounts, &amid);
-        Some(amid)
+        if let Some(amid) = self.queue.serve_amid(block) {
+            keep_end(&mut self.accounts, &amid);
+            return Some(amid);
+        }
+        None
     }
 
     /// Serves one block, with this outcome, if a command waits: to the command that was begun, or else to that in service,
