@@ -5,8 +5,8 @@ use Rattle.mscp_drive.specs.Shape.{cylinder_of}
 use Rattle.mscp_drive.specs.declared.head.Head.{Head}
 use Rattle.mscp_queue.specs.declared.block.Block.{Block}
 use Rattle.mscp_queue.specs.declared.drive.Drive.{Drive}
-use Rattle.mscp_queue.specs.Outcomes.{head_after, outcome_at}
-use Rattle.mscp_queue.specs.Records.{Record, is_unstarted}
+use Rattle.mscp_queue.specs.Outcomes.{goes_on, head_after, outcome_at}
+use Rattle.mscp_queue.specs.Records.{Record, is_unstarted, left_of}
 use Rattle.mscp_queue.specs.Serving.{drive_after, end_given, is_amid, state_left, touched}
 
 both : (a b : Bool) → (not a && b) ≡ true → (a ≡ false) × (b ≡ true)
@@ -21,10 +21,14 @@ both false b e = (refl, e)
 pub amid_started : (k : Block) (d : Drive) (r : Record) → is_amid k d r ≡ true → is_unstarted r ≡ false
 amid_started k d r e = (both (is_unstarted r) _ e).0
 
--- it brings no end
+-- a step after which its command waits on brings no end
+pub endless : (k : Block) (d : Drive) (r : Record) → goes_on d.online r.command.order k (left_of r) ≡ true
+    → end_given k d r ≡ None
+endless k d r e = ap (λ b. if b then None else Some (outcome_at d.unit d.online r.command r.good k)) e
+
+-- nor does this one
 pub amid_endless : (k : Block) (d : Drive) (r : Record) → is_amid k d r ≡ true → end_given k d r ≡ None
-amid_endless k d r e = ap (λ b. if b then None else Some (outcome_at d.unit d.online r.command r.good k))
-    (both (is_unstarted r) _ e).1
+amid_endless k d r e = endless k d r (both (is_unstarted r) _ e).1
 
 -- and it changes nothing of the drive but its head
 pub amid_drive : (k : Block) (d d' : Drive) (r : Record) (h : Head) → end_given k d r ≡ None

@@ -40,6 +40,14 @@ impl Drive {
         self.head = after.head;
     }
 
+    /// The head goes over to another place, and nothing else is written.
+    #[inline(always)]
+    pub(crate) fn move_head(&mut self, head: Head)
+        ensures { self.new ≡ record self.old { head = head } }
+    {
+        self.head = head;
+    }
+
     /// The head goes on to another cylinder, and nothing else is written.
     #[inline(always)]
     pub(crate) fn carry_head(&mut self, to: u32)
