@@ -1,6 +1,5 @@
 use Rattle.std.proofs.Common.{◌≡◌, ◌<◌, length, get_or, ap, subst, sym, ◌∙◌}
-use Rattle.std.specs.Prelude.{true, false, IfSome}
-use Rattle.mscp_packet.specs.Ends.{IsOfKind}
+use Rattle.std.specs.Prelude.{true, false}
 use Rattle.mscp_queue.specs.declared.aim.Aim.{Aim}
 use Rattle.mscp_queue.specs.Kept.{begun_name, goes_on_at}
 use Rattle.mscp_queue.specs.Lines.{Line}
