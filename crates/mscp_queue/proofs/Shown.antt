@@ -2,14 +2,15 @@
 use Rattle.std.proofs.Common.{◌≡◌, ◌≢◌, ◌<◌, ◌+◌, ◌^◌, ◌⊎◌, inl, inr, ℕ, zero, suc, Bool, true, false, not, ◌&&◌, ◌||◌, nat_eq, List, [], ◌∷◌, ◌++◌, map, set, take, drop, get_or, length, sym, subst, ap, ◌∙◌, refl, arith}
 use Rattle.std.specs.Prelude.{nat_lt, remove, slice_index_or}
 use Rattle.std.specs.List.{list_all}
-use Rattle.std.proofs.lemmas.Bool.{eq-eqb, le-ltb, lt-ltb, ne_eqb}
+use Rattle.std.specs.Int.{bit_at}
+use Rattle.std.proofs.lemmas.Bool.{eq-eqb, eqb-false, le-ltb, lt-ltb, ne_eqb}
 use Rattle.std.proofs.lemmas.List.{drop-map, get_or_default, get_or-map, get_or-set_same, get_or-set_other, length-map, length-set, map-append, take-map}
 use Rattle.mscp_queue.specs.declared.aim.Aim.{Aim}
 use Rattle.mscp_queue.specs.declared.slots.Slot.{Slot}
 use Rattle.mscp_queue.specs.declared.masks.Masks.{Masks}
 use Rattle.mscp_queue.specs.Masks.{AreMasks, AreSlots, HasCome, HasLeft, IsLowestFree, IsSet, Kind, bit, fences, has, keeps_back}
 use Rattle.mscp_queue.specs.Orders.{is_sequential}
-use Rattle.mscp_queue.specs.Records.{Record, advanced, is_in_service, no_record, passed_by}
+use Rattle.mscp_queue.specs.Records.{Record, advanced, is_in_service, is_unstarted, no_record, passed_by}
 use Rattle.mscp_queue.specs.Aims.{no_aim}
 use Rattle.mscp_queue.specs.Slots.{AreKept, held, is_unfenced, kind_at, kind_of, no_slot, shown, slot_at, with_due, with_item}
 use Rattle.mscp_queue.proofs.Freed.{free_tells}
@@ -310,6 +311,18 @@ kept_passed {rs} {own} {order} {m} {n} {r} toll other kept low e =
     by k is (inl s) = subst (λ k. kind_at (set rs n r) own k ≡ kind_at rs own k) (sym s)
         (ap (kind (get_or own n no_aim)) is)
     by k is (inr d) = ap (kind (get_or own k no_aim)) (get_or-set_other rs n k r no_record d)
+
+-- the bit of a command that was served before is set
+pub serves_since : {rs : List Record} {own : List Aim} {order : List ℕ} {m : Masks} {n : ℕ} (other : Record)
+    → AreKept rs own order m → n < 64 → has n order ≡ true → is_unstarted (get_or rs n other) ≡ false
+    → bit_at m.serving n ≡ 1
+serves_since {rs} {own} {order} {m} {n} other kept low there since =
+    let is : get_or rs n other ≡ get_or rs n no_record =
+    get_or_default rs n other no_record (omega (arith, low, kept.records_64)) in
+    let some : 0 < (get_or rs n no_record).done =
+    omega (arith, eqb-false (get_or rs n no_record).done 0 (ap (λ (q : Record). is_unstarted q) (sym is) ∙ since)) in
+    let serves : is_in_service (get_or rs n no_record) ≡ true = lt-ltb 0 (get_or rs n no_record).done some in
+    kept.masks.of_serving n low ∙ (λ i. bit (there i && serves i))
 
 pub kept_advanced : {rs : List Record} {own : List Aim} {order : List ℕ} {m m' : Masks} {n : ℕ} {r : Record}
     (other : Record)

@@ -7,13 +7,15 @@ use Rattle.mscp_packet.specs.declared.command.Order.TheVariants as orders
 use Rattle.mscp_drive.specs.Shape.{Shape}
 use Rattle.mscp_drive.specs.UnitList.{IsUnitList, unit_found}
 use Rattle.mscp_queue.specs.declared.aim.Aim.{Aim}
+use Rattle.mscp_queue.specs.declared.block.Block.{Block}
 use Rattle.mscp_queue.specs.declared.drive.Drive.{Drive}
 use Rattle.mscp_queue.specs.declared.name.Name.{Name}
 use Rattle.mscp_queue.specs.Aims.{aims_of, no_aim}
 use Rattle.mscp_queue.specs.Orders.{first_block, is_move, is_sequential, order_weight}
 use Rattle.mscp_queue.specs.Drives.{IsOnUnit, one_block}
 use Rattle.mscp_queue.specs.Pairs.{Pairs}
-use Rattle.mscp_queue.specs.Records.{Record, has_name, is_in_service, name_of, record_at}
+use Rattle.mscp_queue.specs.Records.{Record, drive_at, has_name, is_in_service, left_of, name_of, record_at}
+use Rattle.mscp_queue.specs.Outcomes.{goes_on}
 use Rattle.mscp_queue.specs.Serving.{IsServable}
 use Rattle.mscp_queue.specs.Waiters.{Waiters}
 
@@ -143,3 +145,10 @@ abbrev pub IsShut : List Record → List Aim → ℕ → ℕ → Type 0
 IsShut rs own place unspent = (unspent ≡ 0)
     ⊎ ((is_sequential (record_at rs place).command.order ≡ true)
     × All (λ a. a.drive ≡ (slice_index_or own place no_aim).drive) (drop (place + 1) own))
+
+-- ---- what a step does
+
+-- the command at a place waits on after a step with this block
+abbrev pub goes_on_at : Block → List Drive → List Record → ℕ → Bool
+goes_on_at k ds rs place =
+    goes_on (drive_at ds rs place).online (record_at rs place).command.order k (left_of (record_at rs place))

@@ -47,6 +47,14 @@ impl Drive {
     {
         self.head = head;
     }
+
+    /// The head goes on to another cylinder, and nothing else is written.
+    #[inline(always)]
+    pub(crate) fn carry_head(&mut self, to: u32)
+        ensures { self.new ≡ record self.old { head = record { cylinder = to; up = self.old.head.up } } }
+    {
+        self.head.cylinder = to;
+    }
 }
 
 /// The drive of the smallest unit, which fills the places of a list that isn't full.

@@ -100,13 +100,17 @@ impl Masks {
         self.waiting = with_bit(self.waiting, slot, true);
     }
 
-    /// The command of a slot is in service.
-    pub fn serve(&mut self, slot: usize)
-        requires { slot < 64 }
+    /// The command of a slot is in service: it starts, or it was since an earlier step.
+    #[inline(always)]
+    pub fn serve(&mut self, slot: usize, starts: bool)
+        requires slot { slot < 64 }
+        requires since { starts ≡ false → bit_at self.old.serving slot ≡ 1 }
         ensures others { self.new ≡ record self.old { serving = self.new.serving } }
         ensures set { IsSet true slot self.old.serving self.new.serving }
     {
-        self.serving = with_bit(self.serving, slot, true);
+        if starts {
+            self.serving = with_bit(self.serving, slot, true);
+        }
     }
 
     /// How many commands came earlier than that of the slot: its place.

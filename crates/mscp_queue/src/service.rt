@@ -1,13 +1,13 @@
 // One step of a waiting command on its drive.
 
-ghost use Rattle.std.specs.Prelude.{◌≡◌, ℕ, ◌+◌, ◌<◌, ◌≤◌, ◌^◌, Some, option_map};
+ghost use Rattle.std.specs.Prelude.{◌≡◌, ℕ, false, ◌+◌, ◌<◌, ◌≤◌, ◌^◌, Some, option_map};
 ghost use Rattle.mscp_drive.specs.Heads.{distance};
 ghost use Rattle.mscp_drive.specs.Shape.{cylinder_of};
 ghost use Rattle.mscp_queue.specs.Drives.{IsOnUnit};
 ghost use Rattle.mscp_queue.specs.Orders.{first_block};
-ghost use Rattle.mscp_queue.specs.Outcomes.{goes_on, head_after};
+ghost use Rattle.mscp_queue.specs.Outcomes.{goes_on, head_after, state_after};
 ghost use Rattle.mscp_queue.specs.Records.{is_unstarted, left_of};
-ghost use Rattle.mscp_queue.specs.Serving.{drive_after, end_given, is_amid, seek_from, state_left, touched, upcoming_of};
+ghost use Rattle.mscp_queue.specs.Serving.{drive_after, end_given, is_amid, seek_from, touched, upcoming_of};
 
 use crate::block::Block;
 use crate::drive::Drive;
@@ -17,13 +17,13 @@ use crate::upcoming::Upcoming;
 use mscp_drive::Head;
 use mscp_packet::{End, Order};
 
-/// What a step does: the block that it touches, how many cylinders the head goes, the end that it brings, and the
-/// drive that it leaves.
+/// What the last step of a command does: the block that it touches, how many cylinders the head goes, the end that it
+/// brings, and the drive that it leaves.
 #[derive(Clone, Copy, Debug, PartialEq, Eq)]
 pub(crate) struct Service {
     pub lbn: Option<u32>,
     pub seek: u32,
-    pub ended: Option<End>,
+    pub ended: End,
     pub drive: Drive,
 }
 
@@ -54,7 +54,7 @@ pub(crate) fn upcoming(drive: &Drive, served: &Record) -> Upcoming
 
 /// Whether the command waits on after a step with this block: the block is good, and not the last of a transfer.
 #[inline(always)]
-fn goes_on(drive: &Drive, served: &Record, block: &Block) -> bool
+pub(crate) fn goes_on(drive: &Drive, served: &Record, block: &Block) -> bool
     ensures value { result ≡ goes_on drive.now.online served.now.command.order block.now (left_of served.now) }
     ensures small { served.now.weight < 2 ^ 32 }
 {
@@ -70,26 +70,25 @@ pub(crate) fn is_amid(drive: &Drive, served: &Record, block: &Block) -> bool
     !served.is_unstarted() && goes_on(drive, served, block)
 }
 
-/// The end that a step with this block gives to the command, if it ends.
+/// The end that a step with this block gives to the command, which doesn't wait on after it.
 #[inline(always)]
-fn end_given(drive: &Drive, served: &Record, block: &Block) -> Option<End>
-    requires { served.now.done < served.now.weight }
-    ensures { result ≡ end_given block.now drive.now served.now }
+fn end_given(drive: &Drive, served: &Record, block: &Block) -> End
+    requires unfinished { served.now.done < served.now.weight }
+    requires short { served.now.weight < 2 ^ 32 }
+    requires last { goes_on drive.now.online served.now.command.order block.now (left_of served.now) ≡ false }
+    ensures { Some result ≡ end_given block.now drive.now served.now }
 {
-    if goes_on(drive, served, block) {
-        return None;
-    }
     let command = served.command();
-    Some(outcome(&drive.unit, drive.online, &command, served.done(), block))
+    outcome(&drive.unit, drive.online, &command, served.done(), block)
 }
 
-/// The state that a step leaves its unit in, which ended the order so or not.
-fn state_left(online: bool, order: &Order, ended: &Option<End>) -> bool
-    ensures { result ≡ state_left online order.now ended.now }
+/// The state that the end of the order leaves its unit in, which has this status.
+fn state_left(online: bool, order: &Order, status: u16) -> bool
+    ensures { result ≡ state_after online order.now status }
 {
-    match (order, ended) {
-        (Order::Online, Some(end)) if is_success(end.status) => true,
-        (Order::Available, Some(end)) if is_success(end.status) => false,
+    match order {
+        Order::Online if is_success(status) => true,
+        Order::Available if is_success(status) => false,
         _ => online,
     }
 }
@@ -134,14 +133,16 @@ pub(crate) fn way_of(drive: &Drive, served: &Record) -> Way
     Way { lbn, seek, head }
 }
 
-/// What a step of the command with this block does.
+/// What a step of the command with this block does, which doesn't wait on after it.
 #[inline(always)]
 pub(crate) fn serve(drive: &Drive, served: &Record, block: &Block) -> Service
     requires unfinished { served.now.done < served.now.weight }
+    requires short { served.now.weight < 2 ^ 32 }
     requires small { first_block served.now.command.order + served.now.done < 2 ^ 32 }
+    requires last { goes_on drive.now.online served.now.command.order block.now (left_of served.now) ≡ false }
     ensures lbn { result.lbn ≡ touched drive.now served.now }
     ensures seek { result.seek ≡ seek_from drive.now (touched drive.now served.now) }
-    ensures ended { result.ended ≡ end_given block.now drive.now served.now }
+    ensures ended { Some result.ended ≡ end_given block.now drive.now served.now }
     ensures drive { result.drive ≡ drive_after block.now drive.now served.now }
     ensures on_unit { ((lbn : ℕ) → touched drive.now served.now ≡ Some lbn → lbn < drive.now.unit.size)
         → IsOnUnit drive.now → IsOnUnit result.drive }
@@ -154,7 +155,7 @@ pub(crate) fn serve(drive: &Drive, served: &Record, block: &Block) -> Service
         ended,
         drive: Drive {
             unit: drive.unit,
-            online: state_left(drive.online, &served.command().order, &ended),
+            online: state_left(drive.online, &served.command().order, ended.status),
             head: way.head,
         },
     }

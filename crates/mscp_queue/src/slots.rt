@@ -136,8 +136,9 @@ impl Slots {
         ensures { self.new ≡ slice_set self.old place (with_item advanced (slot_at self.old place)) }
     {
         let slot = usize::from(self.order[place]);
+        let starts = self.records[slot].is_unstarted();
         self.records[slot].advance();
-        self.masks.serve(slot);
+        self.masks.serve(slot, starts);
     }
 
     /// Sets the due of the command at the place.

@@ -164,6 +164,20 @@ fn show_each(view: &mut View, backlog: &Backlog, drives: &[Drive]) -> ArrayVec<u
     places
 }
 
+/// Shows the oldest, where it has nothing left of the budget: then nobody else may start.
+fn show_oldest(view: &mut View, backlog: &Backlog, drives: &[Drive])
+    requires view { view.old ≡ [] }
+    requires some { 0 < length backlog.now.waiting }
+    requires waiting { CanBeShown drives.now backlog.now.waiting backlog.now.aims }
+    requires order { ArePassedInOrder backlog.now.waiting }
+    requires spent { (record_at backlog.now.waiting 0).passed ≡ backlog.now.budget }
+    ensures view { view.new ≡ view_of backlog.now.budget drives.now backlog.now.waiting }
+    ensures places { open_places backlog.now.budget backlog.now.waiting ≡ 0 ∷ [] }
+{
+    let (record, drive, cylinder) = aimed_at(backlog, drives, 0);
+    view.push(choice_of(record, drive, cylinder));
+}
+
 /// Whether each that waits is a transfer that each may still pass: the longest that may come, or else the longest of them.
 /// Who came earlier was passed by at least as many blocks, so that the oldest tells it for all. Then each may start.
 fn may_all_start(backlog: &Backlog, longest: u32) -> bool
@@ -204,6 +218,10 @@ pub(crate) fn picked_place<K: Picker>(
         return picker.pick(lineup.view.shown());
     }
     view.clear();
+    if backlog.unspent() == 0 {
+        show_oldest(view, backlog, drives);
+        return picker.pick(view);
+    }
     let places = show_each(view, backlog, drives);
     usize::from(places[picker.pick(view)])
 }

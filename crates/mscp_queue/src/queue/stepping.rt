@@ -1,8 +1,8 @@
 // What a queue serves next, and its steps.
 
-ghost use Rattle.std.specs.Prelude.{◌≡◌, ◌<◌, [], length, IfNone, IfSome};
+ghost use Rattle.std.specs.Prelude.{◌≡◌, ◌<◌, [], true, false, length, IfNone, IfSome, None};
 ghost use Rattle.mscp_packet.specs.Ends.{IsOfKind};
-ghost use Rattle.mscp_queue.specs.Kept.{place_served, units_of};
+ghost use Rattle.mscp_queue.specs.Kept.{goes_on_at, units_of};
 ghost use Rattle.mscp_queue.specs.Lines.{Begins, BeginsAt, Serves, ServesAt};
 ghost use Rattle.mscp_queue.specs.Serving.{IsNext, end_in};
 
@@ -10,16 +10,9 @@ use crate::block::Block;
 use crate::picker::Picker;
 use crate::queue::Queue;
 use crate::report::Report;
-use crate::service::{is_amid, serve, upcoming, way_of};
+use crate::service::{goes_on, is_amid, serve, upcoming, way_of};
 use crate::start::picked_place;
 use crate::upcoming::Upcoming;
-
-/// The place of the command in service after a step of the one at a place, which ended it or not.
-fn place_served(ends: bool, place: usize) -> Option<usize>
-    ensures { result ≡ place_served ends place }
-{
-    if ends { None } else { Some(place) }
-}
 
 impl<K: Picker> Queue<K> {
     /// The place of the command in service, or, where none is, of one that the picker picks.
@@ -95,10 +88,42 @@ impl<K: Picker> Queue<K> {
         Some(self.begin_at(place))
     }
 
-    /// Serves a block, with this outcome, to the record at the place.
+    /// Serves a block to the record at the place, whose command waits on after it: nobody leaves, and no end is made.
     #[inline(always)]
-    fn serve_at(&mut self, place: usize, block: &Block) -> Report
-        requires { IsNext (K.picks self.old.picker) self.old.budget self.old.drives self.old.waiting self.old.begun place }
+    fn serve_on(&mut self, place: usize, block: &Block) -> Report
+        requires next { IsNext (K.picks self.old.picker) self.old.budget self.old.drives self.old.waiting self.old.begun place }
+        requires on { goes_on_at block.now self.old.drives self.old.waiting place ≡ true }
+        ensures served { ServesAt (K.picks self.old.picker) block.now self.old result self.new place }
+        ensures endless { end_in result ≡ None }
+        ensures units { units_of self.new.drives ≡ units_of self.old.drives }
+    {
+        // The contract names the block. That it is a good one is known.
+        let _ = block;
+        let record = *self.backlog.record(place);
+        let at = usize::from(self.backlog.aim(place).drive);
+        let way = way_of(&self.drives[at], &record);
+        self.drives[at].move_head(way.head);
+        self.backlog.serve(place, false);
+        self.lineup.serve(place, at, false);
+        self.begun = None;
+        self.serving = Some(place);
+        let command = record.command();
+        Report::Served {
+            connection: record.connection(),
+            reference: command.reference,
+            unit: command.unit,
+            lbn: way.lbn,
+            started: record.is_unstarted(),
+            seek: way.seek,
+            ended: None,
+        }
+    }
+
+    /// Serves a block, with this outcome, to the record at the place, whose command ends with it.
+    #[inline(always)]
+    fn serve_last(&mut self, place: usize, block: &Block) -> Report
+        requires next { IsNext (K.picks self.old.picker) self.old.budget self.old.drives self.old.waiting self.old.begun place }
+        requires last { goes_on_at block.now self.old.drives self.old.waiting place ≡ false }
         ensures served { ServesAt (K.picks self.old.picker) block.now self.old result self.new place }
         ensures shaped { IfSome (end_in result) IsOfKind }
         ensures units { units_of self.new.drives ≡ units_of self.old.drives }
@@ -107,11 +132,10 @@ impl<K: Picker> Queue<K> {
         let at = usize::from(self.backlog.aim(place).drive);
         let service = serve(&self.drives[at], &record, block);
         self.drives[at].follow(&service.drive);
-        let ends = service.ended.is_some();
-        self.backlog.serve(place, ends);
-        self.lineup.serve(place, at, ends);
+        self.backlog.serve(place, true);
+        self.lineup.serve(place, at, true);
         self.begun = None;
-        self.serving = place_served(ends, place);
+        self.serving = None;
         let command = record.command();
         Report::Served {
             connection: record.connection(),
@@ -120,8 +144,31 @@ impl<K: Picker> Queue<K> {
             lbn: service.lbn,
             started: record.is_unstarted(),
             seek: service.seek,
-            ended: service.ended,
+            ended: Some(service.ended),
         }
+    }
+
+    /// Serves a block, with this outcome, to the record at the place. Where its command waits on after it, that stands apart:
+    /// no room for an end is cleared and moved.
+    #[inline(always)]
+    fn serve_at(&mut self, place: usize, block: &Block) -> Report
+        requires { IsNext (K.picks self.old.picker) self.old.budget self.old.drives self.old.waiting self.old.begun place }
+        ensures served { ServesAt (K.picks self.old.picker) block.now self.old result self.new place }
+        ensures shaped { IfSome (end_in result) IsOfKind }
+        ensures units { units_of self.new.drives ≡ units_of self.old.drives }
+    {
+        let at = usize::from(self.backlog.aim(place).drive);
+        if goes_on(&self.drives[at], self.backlog.record(place), block) {
+            return self.serve_on(place, block);
+        }
+        self.serve_last(place, block)
+    }
+
+    /// Whether nothing waits. Then nothing was begun either.
+    pub fn is_idle(&self) -> bool
+        ensures { result ≡ true → (self.now.waiting ≡ []) × (self.now.begun ≡ None) }
+    {
+        self.backlog.len() == 0
     }
 
     /// Serves a block, with this outcome, to the command in service, if it was served before and waits on after it: else
@@ -142,7 +189,7 @@ impl<K: Picker> Queue<K> {
             return None;
         }
         let way = way_of(drive, &record);
-        self.drives[at].move_head(way.head);
+        self.drives[at].carry_head(way.head.cylinder);
         self.backlog.serve(place, false);
         self.lineup.serve(place, at, false);
         self.begun = None;
@@ -166,9 +213,9 @@ impl<K: Picker> Queue<K> {
         ensures shaped { IfSome (end_in result) IsOfKind }
         ensures units { units_of self.new.drives ≡ units_of self.old.drives }
     {
-        match self.next_place() {
-            Some(place) => self.serve_at(place, &block),
-            None => Report::Idle,
+        if let Some(place) = self.next_place() {
+            return self.serve_at(place, &block);
         }
+        Report::Idle
     }
 }

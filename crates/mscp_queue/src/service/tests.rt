@@ -39,13 +39,14 @@ fn drive(rt: &impl Abort) -> Drive {
 #[test]
 fn the_head_turns_at_a_start_alone(rt: HostRuntime) {
     let first = transfer();
-    let started = serve(&drive(&rt), &first, &Block::Good).drive;
+    let mut turned = drive(&rt);
+    turned.head = way_of(&turned, &first).head;
     let down = Head {
         cylinder: 9,
         up: false,
     };
-    assert_eq!(rt; started.head, down);
-    let ended = serve(&started, &first.advanced(), &Block::Good).drive;
+    assert_eq!(rt; turned.head, down);
+    let ended = serve(&turned, &first.advanced(), &Block::Good).drive;
     let carried = Head {
         cylinder: 10,
         up: false,

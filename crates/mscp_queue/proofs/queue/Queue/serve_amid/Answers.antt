@@ -11,7 +11,7 @@ use Rattle.mscp_queue.specs.Lines.{Line, served}
 use Rattle.mscp_queue.specs.Records.{Record, drive_at, no_record, record_at, step_toll}
 use Rattle.mscp_queue.specs.Serving.{IsNext, drive_after, end_given, report_of}
 use Rattle.mscp_queue.proofs.Aims.{place_same}
-use Rattle.mscp_queue.proofs.Amid.{amid_drive, amid_endless, amid_started}
+use Rattle.mscp_queue.proofs.Amid.{amid_carried, amid_drive, amid_endless, amid_started}
 use Rattle.mscp_queue.proofs.Drives.{known_at, set_replaced}
 use Rattle.mscp_queue.proofs.Lineups.{as_many, lineup_served}
 use Rattle.mscp_queue.proofs.Mapped.{refilled}
@@ -138,15 +138,16 @@ invariant_of-self g c =
     let known = (ready.held.each place no_record next.servable.inside).waitable.known in
     let amid = sym c.is_amid.ensures ∙ c.if-not-is_amid.false in
     let none = amid_endless k d z amid in
-    let d' = c.move_head.new.self in
+    let d' = c.carry_head.new.self in
     let seen = c.deref_mut.ensures.value in
     let inside : c.from-at.result < length c.deref_mut.result.now =
     subst (λ l. c.from-at.result < length l) (sym seen) at.inside in
     let there : get_or c.deref_mut.result.now c.from-at.result c.index-deref_mut-at.result ≡ d =
     sym (get_or_default c.deref_mut.result.now c.from-at.result d c.index-deref_mut-at.result inside)
     ∙ (ap (λ l. get_or l c.from-at.result d) (seen ∙ sym c.deref.ensures.0) ∙ sym c.index-deref-at.is) in
-    let after : d' ≡ drive_after k d z = amid_drive k d d' z c.way_of-way.result.head none
-    (c.move_head.ensures ∙ ap (λ (w : Drive). record w { head = c.way_of-way.result.head }) there)
+    let new = amid_carried k d d' _ z c.way_of-way.result.head amid c.carry_head.ensures there
+    c.way_of-way.ensures.head in
+    let after : d' ≡ drive_after k d z = amid_drive k d d' z c.way_of-way.result.head none new
     c.way_of-way.ensures.head in
     let ds' = refill (length ds) ds (set c.deref_mut.result.now c.from-at.result d') in
     let now : ds' ≡ replaced r.command.unit d' ds =
@@ -172,9 +173,7 @@ invariant_of-self g c =
       some = refl;
       after = after;
       cost = ap step_toll (sym own);
-      on = λ inside on. subst IsOnUnit (sym (c.move_head.ensures
-          ∙ ap (λ (w : Drive). record w { head = c.way_of-way.result.head }) there))
-          (c.way_of-way.ensures.on_unit inside on);
+      on = λ inside on. subst IsOnUnit (sym new) (c.way_of-way.ensures.on_unit inside on);
       records = e.waiting;
       serves_on = ap is_some (c.in_ok-place.was);
       drives = now ∙ ap (λ (z : Record). replaced z.command.unit d' ds) (sym own);
@@ -215,15 +214,16 @@ returns-clause-units g c =
     let known = (ready.held.each place no_record next.servable.inside).waitable.known in
     let amid = sym c.is_amid.ensures ∙ c.if-not-is_amid.false in
     let none = amid_endless k d z amid in
-    let d' = c.move_head.new.self in
+    let d' = c.carry_head.new.self in
     let seen = c.deref_mut.ensures.value in
     let inside : c.from-at.result < length c.deref_mut.result.now =
     subst (λ l. c.from-at.result < length l) (sym seen) at.inside in
     let there : get_or c.deref_mut.result.now c.from-at.result c.index-deref_mut-at.result ≡ d =
     sym (get_or_default c.deref_mut.result.now c.from-at.result d c.index-deref_mut-at.result inside)
     ∙ (ap (λ l. get_or l c.from-at.result d) (seen ∙ sym c.deref.ensures.0) ∙ sym c.index-deref-at.is) in
-    let after : d' ≡ drive_after k d z = amid_drive k d d' z c.way_of-way.result.head none
-    (c.move_head.ensures ∙ ap (λ (w : Drive). record w { head = c.way_of-way.result.head }) there)
+    let new = amid_carried k d d' _ z c.way_of-way.result.head amid c.carry_head.ensures there
+    c.way_of-way.ensures.head in
+    let after : d' ≡ drive_after k d z = amid_drive k d d' z c.way_of-way.result.head none new
     c.way_of-way.ensures.head in
     let ds' = refill (length ds) ds (set c.deref_mut.result.now c.from-at.result d') in
     let now : ds' ≡ replaced r.command.unit d' ds =
@@ -259,15 +259,16 @@ returns-clause-some g c =
     let known = (ready.held.each place no_record next.servable.inside).waitable.known in
     let amid = sym c.is_amid.ensures ∙ c.if-not-is_amid.false in
     let none = amid_endless k d z amid in
-    let d' = c.move_head.new.self in
+    let d' = c.carry_head.new.self in
     let seen = c.deref_mut.ensures.value in
     let inside : c.from-at.result < length c.deref_mut.result.now =
     subst (λ l. c.from-at.result < length l) (sym seen) at.inside in
     let there : get_or c.deref_mut.result.now c.from-at.result c.index-deref_mut-at.result ≡ d =
     sym (get_or_default c.deref_mut.result.now c.from-at.result d c.index-deref_mut-at.result inside)
     ∙ (ap (λ l. get_or l c.from-at.result d) (seen ∙ sym c.deref.ensures.0) ∙ sym c.index-deref-at.is) in
-    let after : d' ≡ drive_after k d z = amid_drive k d d' z c.way_of-way.result.head none
-    (c.move_head.ensures ∙ ap (λ (w : Drive). record w { head = c.way_of-way.result.head }) there)
+    let new = amid_carried k d d' _ z c.way_of-way.result.head amid c.carry_head.ensures there
+    c.way_of-way.ensures.head in
+    let after : d' ≡ drive_after k d z = amid_drive k d d' z c.way_of-way.result.head none new
     c.way_of-way.ensures.head in
     let ds' = refill (length ds) ds (set c.deref_mut.result.now c.from-at.result d') in
     let now : ds' ≡ replaced r.command.unit d' ds =

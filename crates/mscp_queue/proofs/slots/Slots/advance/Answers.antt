@@ -1,6 +1,6 @@
-use Rattle.std.proofs.Common.{ap, arith}
+use Rattle.std.proofs.Common.{ap, sym, ◌∙◌, arith}
 use Rattle.mscp_queue.specs.Records.{Record, advanced}
-use Rattle.mscp_queue.proofs.Shown.{item_at, item_set, kept_advanced, number_of}
+use Rattle.mscp_queue.proofs.Shown.{item_at, item_set, kept_advanced, number_of, serves_since}
 use Rattle.mscp_queue.proofs.slots.Slots.advance.Goals as goal
 
 pub listed : goal.listed
@@ -15,28 +15,47 @@ bounds-self-inside-slot c =
     (number_of c.self.inside.dues c.args.self.now c.self.invariant c.self.view_is c.requires.place c.from-slot.ensures
     c.deref.ensures.0).low
 
+pub listed-2 : goal.listed-2
+listed-2 c =
+    let n = number_of c.self.inside.dues c.args.self.now c.self.invariant c.self.view_is c.requires.place
+    c.from-slot.ensures
+    c.deref.ensures.0 in
+    omega (arith, n.low, c.self.invariant.records_64)
+
+pub bounds-self-inside-slot-2 : goal.bounds-self-inside-slot-2
+bounds-self-inside-slot-2 c =
+    (number_of c.self.inside.dues c.args.self.now c.self.invariant c.self.view_is c.requires.place c.from-slot.ensures
+    c.deref.ensures.0).low
+
 pub advance-requires : goal.advance-requires
 advance-requires c =
     let n = number_of c.self.inside.dues c.args.self.now c.self.invariant c.self.view_is c.requires.place
     c.from-slot.ensures
     c.deref.ensures.0 in
-    let is = ap (λ (q : Record). q.done) (item_at c.self.inside.dues c.args.self.now c.index-self-slot.result
+    let is = ap (λ (q : Record). q.done) (item_at c.self.inside.dues c.args.self.now c.index-self-slot-2.result
     c.self.invariant
     c.self.view_is c.requires.place n) in
-    let own = ap (λ (q : Record). q.done) c.index-self-slot.is in
+    let own = ap (λ (q : Record). q.done) c.index-self-slot-2.is in
     omega (arith, is, own, c.requires.unfinished)
 
-pub serve-requires : goal.serve-requires
-serve-requires c =
+pub serve-requires-clause-slot : goal.serve-requires-clause-slot
+serve-requires-clause-slot c =
     (number_of c.self.inside.dues c.args.self.now c.self.invariant c.self.view_is c.requires.place c.from-slot.ensures
     c.deref.ensures.0).low
+
+pub serve-requires-clause-since : goal.serve-requires-clause-since
+serve-requires-clause-since c = λ since.
+    let n = number_of c.self.inside.dues c.args.self.now c.self.invariant c.self.view_is c.requires.place
+    c.from-slot.ensures
+    c.deref.ensures.0 in
+    serves_since c.index-self-slot.result c.self.invariant n.low n.taken (sym c.is_unstarted-starts.ensures ∙ since)
 
 pub invariant_of-self : goal.invariant_of-self
 invariant_of-self c =
     let n = number_of c.self.inside.dues c.args.self.now c.self.invariant c.self.view_is c.requires.place
     c.from-slot.ensures
     c.deref.ensures.0 in
-    kept_advanced c.index-self-slot.result c.self.invariant n.low n.taken
+    kept_advanced c.index-self-slot-2.result c.self.invariant n.low n.taken
     c.advance.ensures c.serve.ensures.others
     c.serve.ensures.set
 
@@ -45,5 +64,5 @@ returns c =
     let n = number_of c.self.inside.dues c.args.self.now c.self.invariant c.self.view_is c.requires.place
     c.from-slot.ensures
     c.deref.ensures.0 in
-    item_set c.self.inside.dues c.args.self.now advanced c.index-self-slot.result c.self.invariant c.self.view_is
+    item_set c.self.inside.dues c.args.self.now advanced c.index-self-slot-2.result c.self.invariant c.self.view_is
     c.requires.place n c.advance.ensures

@@ -1,0 +1,20 @@
+use Rattle.std.proofs.Common.{[], ◌∷◌, ◌++◌, true, ap, inl, refl, sym, ◌∙◌, arith}
+use Rattle.mscp_queue.specs.Views.{choice_of, choices_at}
+use Rattle.mscp_queue.proofs.Starting.{found_all, looks_more, looks_none, shut_is}
+use Rattle.mscp_queue.proofs.start.show_oldest.Goals as goal
+
+pub returns-clause-places : goal.returns-clause-places
+returns-clause-places c =
+    let b = c.args.backlog.now in
+    let ds = c.args.drives.now in
+    sym (found_all (looks_more {choices = []} true refl refl refl (looks_none b.budget ds b.waiting [] [] refl refl))
+    c.requires.some
+    (shut_is b.budget 0 ds b.waiting b.aims 0 c.requires.waiting c.requires.order
+    (omega (arith, c.requires.spent)) c.requires.some (inl refl)))
+
+pub returns-clause-view : goal.returns-clause-view
+returns-clause-view c =
+    let at = c.aimed_at-cylinder.ensures in
+    let own = c.choice_of.ensures ∙ (λ i. choice_of (at.drive i) (at.«record» i)) in
+    c.push.ensures ∙ ((λ i. c.requires.view i ++ own i ∷ [])
+    ∙ ap (choices_at c.args.drives.now c.args.backlog.now.waiting) (sym (returns-clause-places c)))
