@@ -1,6 +1,7 @@
 pub mod Areas
 pub mod Buffers
 pub mod Calls
+pub mod Codes
 pub mod Histories
 pub mod Messages
 pub mod Outgoings
@@ -8,6 +9,8 @@ pub mod Packets
 pub mod Places
 pub mod Ports
 pub mod Registers
+pub mod Restored
+pub mod Saved
 pub mod Slots
 pub mod Volumes
 pub mod Wanted
