@@ -52,6 +52,7 @@ uint32_t mscp_version(void);
 #define MSCP_BLOCK 512u       /* bytes of a block */
 #define MSCP_SAVED_MAX 3664u  /* bytes that a controller is saved as, at most */
 #define MSCP_HOST_SAVED_MAX 794u /* bytes that a host is saved as, at most */
+#define MSCP_PORT_SAVED_MAX 5272u /* bytes that a port is saved as, at most */
 
 /* What a call answers: 0 and up what came of it, below 0 why it was refused. */
 enum mscp_status {
@@ -428,7 +429,7 @@ MSCP_INLINE struct mscp_port *mscp_port_moved(void *memory)
     return handle;
 }
 
-/* The library's own form of twelve calls: their pointer to a list or to bytes is never NULL. In C call those without
+/* The library's own form of fourteen calls: their pointer to a list or to bytes is never NULL. In C call those without
  * _at. */
 int32_t mscp_init_at(struct mscp *mscp, const struct mscp_limits *limits, const struct mscp_unit *units, size_t count,
                      uint32_t picker);
@@ -446,6 +447,8 @@ int32_t mscp_host_restore_at(struct mscp_host *host, const uint8_t *bytes, size_
 int32_t mscp_port_init_at(struct mscp_port *port, const struct mscp_limits *limits, const struct mscp_unit *units,
                           size_t count, uint32_t picker, const struct mscp_hardware *hardware, uint32_t credits);
 int32_t mscp_port_was_read_at(struct mscp_port *port, const uint8_t *bytes, size_t length);
+int32_t mscp_port_save_at(const struct mscp_port *port, uint8_t *bytes, size_t room, size_t *length);
+int32_t mscp_port_restore_at(struct mscp_port *port, const uint8_t *bytes, size_t length);
 
 /* ---- the controller. Each call but mscp_init and mscp_restore answers MSCP_NOT_MADE where there is none. Then each of
  * a connection answers MSCP_BAD_CONNECTION where its number is no enum mscp_connection, and nothing changes. A second
@@ -612,13 +615,13 @@ MSCP_INLINE int32_t mscp_host_restore(struct mscp_host *host, const uint8_t *byt
     return mscp_host_restore_at(host, length == 0 ? &none : bytes, length);
 }
 
-/* ---- a port over a controller of its own. Each call but mscp_port_init answers MSCP_NOT_MADE where there is none.
- * docs/PORT.md says how an emulator takes it in. */
+/* ---- a port over a controller of its own. Each call but mscp_port_init and mscp_port_restore answers MSCP_NOT_MADE where
+ * there is none. docs/PORT.md says how an emulator takes it in. */
 
 /* Makes a port in the handle's memory, over a controller as mscp_init makes one. Its host may have so many commands
  * outstanding: 1 to one fewer than the first connection has credits. Its units have no volumes yet. MSCP_DONE, or the
  * first fault of those of mscp_init (-11 to -15 and -20 to -31), MSCP_BAD_BUS and MSCP_BAD_HOST_CREDITS. This takes up
- * to 48 KiB of the stack, and no other call of a port over 2. */
+ * to 48 KiB of the stack, and no other call of a port over 2, but for those that save and restore. */
 MSCP_MUST_USE
 MSCP_INLINE int32_t mscp_port_init(struct mscp_port *port, const struct mscp_limits *limits,
                                    const struct mscp_unit *units, size_t count, uint32_t picker,
@@ -672,6 +675,29 @@ MSCP_MUST_USE int32_t mscp_port_volume_came(struct mscp_port *port, uint16_t uni
 
 /* The volume of a unit went. MSCP_DONE, or MSCP_UNKNOWN_UNIT. */
 MSCP_MUST_USE int32_t mscp_port_volume_went(struct mscp_port *port, uint16_t unit);
+
+/* As many bytes as a port is saved as, at most: MSCP_PORT_SAVED_MAX. */
+size_t mscp_port_save_size(void);
+
+/* All of the port, as mscp_save does it of a controller, which is in it. What it wants stays wanted: tell how that went
+ * after a restore, or ask again. */
+MSCP_MUST_USE
+MSCP_INLINE int32_t mscp_port_save(const struct mscp_port *port, uint8_t *bytes, size_t room, size_t *length)
+{
+    uint8_t none = 0;
+    return mscp_port_save_at(port, room == 0 ? &none : bytes, room, length);
+}
+
+/* Makes the port that was saved, in the handle's memory: it goes on as it would have there. MSCP_DONE, or the first fault
+ * of those of the memory (-11 to -15) and those of the bytes (-40 to -54), which may be those of its controller's. Bytes
+ * of a stranger make a port with which every call is safe, or none. This takes up to 210 KiB of the stack, and
+ * mscp_port_save up to 28. */
+MSCP_MUST_USE
+MSCP_INLINE int32_t mscp_port_restore(struct mscp_port *port, const uint8_t *bytes, size_t length)
+{
+    const uint8_t none = 0;
+    return mscp_port_restore_at(port, length == 0 ? &none : bytes, length);
+}
 
 /* ---- statuses as texts */
 

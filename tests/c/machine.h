@@ -10,6 +10,7 @@ static struct {
     struct mscp_port *port;
     uint64_t rooms[2][(MSCP_HEAD + MSCP_PORT_SIZE) / sizeof(uint64_t)]; /* the port lies in one of them */
     bool moves; /* before each action the port goes to the other room, as to a file and back */
+    bool saves; /* and so it does by the bytes that it is saved as */
     uint8_t memory[MEMORY];
     uint8_t disks[UNITS][BLOCKS][MSCP_BLOCK];
     uint8_t block[MSCP_BLOCK];
@@ -123,16 +124,36 @@ static inline void move_port(void)
     machine.port = mscp_port_moved(to);
 }
 
+/* The port is restored in the other room from what it was saved as, and saved as that again. */
+static inline void restore_port(void)
+{
+    static uint8_t bytes[MSCP_PORT_SAVED_MAX], again[MSCP_PORT_SAVED_MAX];
+    uint64_t *from = (void *)machine.port == machine.rooms[0] ? machine.rooms[0] : machine.rooms[1];
+    uint64_t *to = from == machine.rooms[0] ? machine.rooms[1] : machine.rooms[0];
+    size_t length = 0, other = 0;
+    is("save", mscp_port_save(machine.port, bytes, sizeof bytes, &length), MSCP_DONE);
+    memset(from, 0xA5, sizeof machine.rooms[0]);
+    machine.port = mscp_port_in_memory(to, sizeof machine.rooms[0]);
+    is("restore", mscp_port_restore(machine.port, bytes, length), MSCP_DONE);
+    is("save again", mscp_port_save(machine.port, again, sizeof again, &other), MSCP_DONE);
+    is("as long", (int64_t)other, (int64_t)length);
+    is("the same bytes", memcmp(bytes, again, length), 0);
+}
+
 /* Does one action. Whether there was one. */
 static inline bool act(void)
 {
     struct mscp_action action;
     if (machine.moves)
         move_port();
+    if (machine.saves)
+        restore_port();
     if (mscp_port_next(machine.port, &action) != MSCP_DONE)
         return false;
     if (machine.moves)
         move_port();
+    if (machine.saves)
+        restore_port();
     tell(&action, perform(&action));
     return true;
 }

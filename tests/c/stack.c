@@ -9,13 +9,15 @@
 enum {
     NOTHING, SEND, BEGIN, FINISH, STEP, TAKE, LOOK, FIGURE, BALANCE, WAITING, UNTAKEN, IS_ONLINE, RESET, SUBMIT, POLL,
     RECEIVE, HOST_BALANCE, SAVE, HOST_SAVE, INIT, HOST_INIT, RESTORE, HOST_RESTORE, PORT_INIT, READ_IP, WRITE_IP, READ_SA,
-    WRITE_SA, NEXT, WAS_READ, WENT, LOOK_AGAIN, TICK, VOLUME_CAME, VOLUME_WENT, CALLS
+    WRITE_SA, NEXT, WAS_READ, WENT, LOOK_AGAIN, TICK, VOLUME_CAME, VOLUME_WENT,
+    PORT_SAVE, PORT_RESTORE, CALLS
 };
 static const char *const NAMES[CALLS] = {
     "nothing", "send", "begin", "finish", "step", "take", "look", "figure", "balance", "waiting", "untaken",
     "is_online", "reset", "host_submit", "host_poll", "host_receive", "host_balance", "save", "host_save", "init", "host_init",
     "restore", "host_restore", "port_init", "port_read_ip", "port_write_ip", "port_read_sa", "port_write_sa", "port_next",
     "port_was_read", "port_went", "port_look_again", "port_tick", "port_volume_came", "port_volume_went",
+    "port_save", "port_restore",
 };
 
 /* Aligned for anything. */
@@ -32,7 +34,8 @@ static const struct mscp_limits LIMITS = {1, 16, 64, 0, 8, 60};
 static struct mscp_unit units[16];
 static volatile int64_t answered; /* by the last call */
 static uint8_t bytes[MSCP_SAVED_MAX], host_bytes[MSCP_HOST_SAVED_MAX]; /* as both are saved */
-static size_t saved, host_saved;
+static uint8_t port_bytes[MSCP_PORT_SAVED_MAX];
+static size_t saved, host_saved, port_saved;
 
 static void run(int call)
 {
@@ -83,6 +86,10 @@ static void run(int call)
     case TICK: answered = mscp_port_tick(port); break;
     case VOLUME_CAME: answered = mscp_port_volume_came(port, 15, 0); break;
     case VOLUME_WENT: answered = mscp_port_volume_went(port, 15); break;
+    case PORT_SAVE: answered = mscp_port_save(port, port_bytes, sizeof port_bytes, &port_saved); break;
+    case PORT_RESTORE:
+        answered = mscp_port_restore(mscp_port_in_memory(&fresh_port, sizeof fresh_port), port_bytes, port_saved);
+        break;
     case HOST_INIT: answered = mscp_host_init(mscp_host_in_memory(&fresh_host, sizeof fresh_host), 64); break;
     }
 }
@@ -167,7 +174,7 @@ static void put_four(uint32_t address, uint32_t number)
         memory[address + i] = (uint8_t)(number >> (8 * i));
 }
 
-/* The port comes up, with rings of 64 slots, and takes in the opcodes of all commands, of which READs wait. */
+/* The port comes up, with rings of 64 slots, takes in the opcodes of all commands, of which READs wait, and is saved. */
 static void work(void)
 {
     static const uint8_t OPCODES[8] = {MSCP_ONLINE, MSCP_READ, MSCP_READ, MSCP_SET_CONTROLLER_CHARACTERISTICS,
@@ -190,6 +197,8 @@ static void work(void)
     }
     must(mscp_port_read_ip(port), MSCP_DONE);
     serve();
+    measure(PORT_SAVE);
+    measure(PORT_RESTORE);
 }
 
 /* The most that mscp.h says of a call. */
@@ -202,6 +211,8 @@ static size_t most(int call)
     case PORT_INIT: return 48 * 1024;
     case RESTORE: return 130 * 1024;
     case HOST_RESTORE: return 6 * 1024;
+    case PORT_SAVE: return 28 * 1024;
+    case PORT_RESTORE: return 210 * 1024;
     default: return 2 * 1024;
     }
 }

@@ -32,4 +32,6 @@ void calls(struct mscp *mscp, struct mscp_host *host, const struct mscp_limits *
     mscp_port_went(port, MSCP_OUTCOME_DONE, 0);
     mscp_port_volume_came(port, 0, 0);
     mscp_port_volume_went(port, 0);
+    mscp_port_save(port, out, 1, length);
+    mscp_port_restore(port, bytes, 12);
 }

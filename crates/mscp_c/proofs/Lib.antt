@@ -1,3 +1,4 @@
+pub mod Policies
 pub mod Ascending
 pub mod Configured
 pub mod Handled

@@ -5,6 +5,7 @@ pub mod Hosted
 pub mod Made
 pub mod PortGiven
 pub mod PortMade
+pub mod PortSaving
 pub mod PortServed
 pub mod PortTold
 pub mod Restoring

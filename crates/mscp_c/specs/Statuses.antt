@@ -14,6 +14,8 @@ use Rattle.mscp_host.specs.declared.restoring.RestoreFault as hosted
 use Rattle.mscp_host.specs.declared.restoring.RestoreFault.TheVariants as host_bytes
 use Rattle.mscp_memory.specs.declared.fault.RoomFault.{RoomFault}
 use Rattle.mscp_memory.specs.declared.fault.RoomFault.TheVariants as rooms
+use Rattle.mscp_port.specs.declared.port.restoring.RestoreFault as ported
+use Rattle.mscp_port.specs.declared.port.restoring.RestoreFault.TheVariants as port_bytes
 use Rattle.mscp_saved.specs.declared.fault.RestoreFault.{RestoreFault}
 use Rattle.mscp_saved.specs.declared.fault.RestoreFault.TheVariants as bytes
 use Rattle.mscp_c.specs.declared.status.TheConstants as status
@@ -93,3 +95,11 @@ host_restore_code host_bytes.Version = status.SAVED_VERSION
 host_restore_code host_bytes.Credits = status.SAVED_LIMITS
 host_restore_code host_bytes.Outstanding = status.SAVED_CREDITS
 host_restore_code host_bytes.Form = status.SAVED_FORM
+
+-- of bytes that are no saved port: those of its controller have their own
+abbrev pub port_restore_code : ported.RestoreFault → ℤ
+port_restore_code port_bytes.Length = status.SAVED_LENGTH
+port_restore_code port_bytes.Magic = status.SAVED_MAGIC
+port_restore_code port_bytes.Version = status.SAVED_VERSION
+port_restore_code (port_bytes.Controller fault) = restore_code fault
+port_restore_code port_bytes.Form = status.SAVED_FORM

@@ -24,7 +24,7 @@ pub extern "C" fn mscp_save_size() -> usize
 }
 
 /// The number of a policy.
-fn policy_number(policy: Policy) -> u8
+pub(crate) fn policy_number(policy: Policy) -> u8
     ensures { result ≡ policy_number policy }
 {
     match policy {

@@ -11,6 +11,7 @@ mod outs;
 mod port_given;
 mod port_making;
 mod port_registers;
+mod port_saving;
 mod port_telling;
 mod port_turning;
 mod port_watching;

@@ -1,7 +1,7 @@
 // What the calls answer: 0 and up what came of a call, below 0 why it was refused.
 
 ghost use Rattle.std.specs.Prelude.{◌≡◌};
-ghost use Rattle.mscp_c.specs.Statuses.{host_code, host_restore_code, limits_code, restore_code, room_code, send_fault_code, unit_code, units_code};
+ghost use Rattle.mscp_c.specs.Statuses.{host_code, host_restore_code, limits_code, port_restore_code, restore_code, room_code, send_fault_code, unit_code, units_code};
 ghost use Rattle.mscp_c.specs.Made.{init_code};
 ghost use Rattle.mscp_c.specs.PortMade.{port_init_code};
 
@@ -11,6 +11,7 @@ use mscp_control::{ConfigFault, SendFault};
 use mscp_drive::{UnitFault, UnitsFault};
 use mscp_host::{HostFault, RestoreFault as HostRestoreFault};
 use mscp_memory::RoomFault;
+use mscp_port::RestoreFault as PortRestoreFault;
 use mscp_saved::RestoreFault;
 
 /// There is nothing: no command waits, no end was made, no poll is to be sent.
@@ -106,7 +107,7 @@ pub(crate) const UNASKED: i32 = -36;
 /// No unit has this number.
 pub(crate) const UNKNOWN_UNIT: i32 = -37;
 
-/// Bytes that are no saved controller, and no saved host.
+/// Bytes that are no saved controller, no saved host, and no saved port.
 pub(crate) const SAVED_LENGTH: i32 = -40;
 
 pub(crate) const SAVED_MAGIC: i32 = -41;
@@ -272,5 +273,18 @@ pub(crate) fn host_restore_code(fault: HostRestoreFault) -> i32
         HostRestoreFault::Credits => SAVED_LIMITS,
         HostRestoreFault::Outstanding => SAVED_CREDITS,
         HostRestoreFault::Form => SAVED_FORM,
+    }
+}
+
+/// The status of bytes that are no saved port.
+pub(crate) fn port_restore_code(fault: PortRestoreFault) -> i32
+    ensures { result ≡ port_restore_code fault }
+{
+    match fault {
+        PortRestoreFault::Length => SAVED_LENGTH,
+        PortRestoreFault::Magic => SAVED_MAGIC,
+        PortRestoreFault::Version => SAVED_VERSION,
+        PortRestoreFault::Controller(fault) => restore_code(fault),
+        PortRestoreFault::Form => SAVED_FORM,
     }
 }

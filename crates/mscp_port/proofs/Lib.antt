@@ -1,3 +1,6 @@
+pub mod Back
+pub mod Comes
+pub mod Coded
 pub mod Among
 pub mod Begun
 pub mod Credits

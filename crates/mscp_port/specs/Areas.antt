@@ -1,5 +1,5 @@
 -- The communication area: where a host and its port meet in the host's memory (port: UQSSP, "Communication Area").
-use Rattle.std.specs.Prelude.{ℕ, ◌+◌, ◌-◌, ◌*◌, ◌/◌, ◌%◌, ◌^◌, ◌≤◌, ◌<◌, Bool, nat_lt, if◌then◌else◌, Option, None, Some}
+use Rattle.std.specs.Prelude.{ℕ, ◌+◌, ◌-◌, ◌*◌, ◌/◌, ◌%◌, ◌^◌, ◌≤◌, ◌<◌, ◌&&◌, Bool, nat_le, nat_lt, if◌then◌else◌, Option, None, Some}
 use Rattle.mscp_port.specs.declared.rings.Side.{Side}
 use Rattle.mscp_port.specs.declared.rings.Side.TheVariants.{Responses, Commands}
 
@@ -40,6 +40,17 @@ area_named first second third = record {
 abbrev pub rings_named : ℕ → ℕ → ℕ → Option Rings
 rings_named first second third =
     if nat_lt (base_named second third) 8 then None else Some (area_named first second third)
+
+-- whether it is an area
+abbrev pub are_rings : Rings → Bool
+are_rings r =
+    nat_le 8 r.base && nat_lt r.base 0x8000_0000
+    && (nat_le 1 r.responses && nat_le r.responses 128)
+    && (nat_le 1 r.commands && nat_le r.commands 128)
+
+-- these rings, if they are an area
+abbrev pub rings_of : Rings → Option Rings
+rings_of r = if are_rings r then Some r else None
 
 abbrev pub slots_of : Rings → Side → ℕ
 slots_of r Responses = r.responses

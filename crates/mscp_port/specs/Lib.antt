@@ -3,6 +3,7 @@ pub mod Areas
 pub mod Blocks
 pub mod Buffers
 pub mod Calls
+pub mod Codes
 pub mod Histories
 pub mod Messages
 pub mod Moved
@@ -11,6 +12,8 @@ pub mod Packets
 pub mod Places
 pub mod Ports
 pub mod Registers
+pub mod Restored
+pub mod Saved
 pub mod Seen
 pub mod Slots
 pub mod Volumes

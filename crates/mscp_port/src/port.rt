@@ -16,12 +16,16 @@ ghost use Rattle.mscp_port.specs.Wanted.{vector_of};
 mod checking;
 mod delivering;
 mod hearing;
+mod restoring;
+mod saving;
 mod serving;
 mod turning;
 mod watching;
 
 use crate::buffers::Buffer;
 use crate::hardware::Hardware;
+pub use crate::port::restoring::RestoreFault;
+pub use crate::port::saving::ROOM;
 pub use crate::port::watching::NoUnit;
 use crate::rings::Rings;
 use crate::stage::Stage;

@@ -1,7 +1,7 @@
 // The communication area, where a host and its port meet.
 
 ghost use Rattle.std.specs.Prelude.{◌≡◌, ◌≤◌, ◌<◌, ◌+◌, ◌^◌};
-ghost use Rattle.mscp_port.specs.Areas.{IsInArea, end_of, rings_named, slot_in, slots, slots_of, start_of, word_of};
+ghost use Rattle.mscp_port.specs.Areas.{AreRings, IsInArea, end_of, rings_named, rings_of, slot_in, slots, slots_of, start_of, word_of};
 
 use std::marker::Model;
 
@@ -70,6 +70,30 @@ impl Rings {
             responses: slots_of_log(first / 0x0100 % 8),
             commands: slots_of_log(first / 0x0800 % 8),
         })
+    }
+
+    /// The area of this base and of rings of so many slots. None if there can be none.
+    pub fn of(base: u32, responses: u32, commands: u32) -> Option<Rings>
+        ensures { result ≡ rings_of (record { base = base; responses = responses; commands = commands }) }
+    {
+        let has_room = 8 <= base && base < 0x8000_0000;
+        if has_room && (1..=128).contains(&responses) && (1..=128).contains(&commands) {
+            Some(Rings {
+                base,
+                responses,
+                commands,
+            })
+        } else {
+            None
+        }
+    }
+
+    /// Its base.
+    pub fn base(&self) -> u32
+        ensures value { result ≡ self.now.base }
+        ensures area { AreRings self.now }
+    {
+        self.base
     }
 
     /// How many slots a ring has.

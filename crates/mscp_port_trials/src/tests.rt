@@ -3,4 +3,5 @@
 mod firmware;
 mod machine;
 mod registers;
+mod saving;
 mod volumes;

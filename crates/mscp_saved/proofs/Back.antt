@@ -28,7 +28,7 @@ use Rattle.mscp_saved.specs.Saved.{begun_connection, begun_reference, connection
 
 -- ---- a drive
 
-flag_back : (so : Bool) → nat_eq (flag_byte so) 1 ≡ so
+pub flag_back : (so : Bool) → nat_eq (flag_byte so) 1 ≡ so
 flag_back true = refl
 flag_back false = refl
 

@@ -12,5 +12,6 @@ mod writing;
 
 pub use crate::fault::RestoreFault;
 pub use crate::law::restoring_is_faithful;
+pub use crate::reading::{connection_in, part};
 pub use crate::restoring::restore;
-pub use crate::writing::{ROOM, save};
+pub use crate::writing::{ROOM, connection_byte, save};

@@ -13,7 +13,7 @@ use mscp_packet::fields::{eight_at, four_at, two_at};
 use mscp_packet::{Command, End, EndBody, Order, read_command, read_end};
 
 /// The bytes of the part at a place, where all parts have one size.
-fn part(b: &[u8], size: usize, place: usize) -> &[u8]
+pub fn part(b: &[u8], size: usize, place: usize) -> &[u8]
     requires { size * place + size ≤ length b.now }
     ensures value { result.now ≡ part size place b.now }
     ensures len { length result.now ≡ size }
@@ -22,7 +22,7 @@ fn part(b: &[u8], size: usize, place: usize) -> &[u8]
 }
 
 /// The connection of a number.
-fn connection_in(byte: u8) -> Connection
+pub fn connection_in(byte: u8) -> Connection
     ensures { result ≡ connection_in byte }
 {
     if byte == 1 {

@@ -25,7 +25,7 @@ pub(crate) const MAGIC: u32 = 0x5143_534D;
 pub(crate) const VERSION: u32 = 1;
 
 /// The number of a connection.
-fn connection_byte(connection: Connection) -> u8
+pub fn connection_byte(connection: Connection) -> u8
     ensures { result ≡ connection_byte connection }
 {
     match connection {

@@ -5,7 +5,7 @@ use mscp_port::Action;
 
 /// A machine whose port is up, with one slot in each ring. The text of a response lies at 0x0E04, so that its endcode is at
 /// 0x0E0C, and its status two bytes behind.
-fn up(rt: &impl std::process::Abort) -> (Machine, Slots) {
+pub(super) fn up(rt: &impl std::process::Abort) -> (Machine, Slots) {
     let mut machine = Machine::new(rt);
     machine.answer(rt, 0x0B40, 0x8000);
     machine.answer(rt, 0x1080, 0x0E84);

@@ -1,7 +1,5 @@
-use Rattle.std.proofs.Common.{◌≡◌, ◌∙◌, ℕ, nat_eq, List, Ok, ap, refl, subst, sym}
-use Rattle.std.specs.Prelude.{if◌then◌else◌}
+use Rattle.std.proofs.Common.{◌≡◌, ◌∙◌, ℕ, List, Ok, ap, subst, sym}
 use Rattle.mscp_memory.specs.declared.policy.Policy.{Policy}
-use Rattle.mscp_memory.specs.declared.policy.Policy.TheVariants.{Oldest, Sweep}
 use Rattle.mscp_memory.specs.ControllerRoom.{Held}
 use Rattle.mscp_memory.specs.ControllerHandles.{with_held}
 use Rattle.mscp_memory.specs.declared.controller.handle.Handle.{Handle}
@@ -9,13 +7,10 @@ use Rattle.mscp_saved.specs.Saved.{saved_bytes}
 use Rattle.mscp_saved.specs.Restored.{restored}
 use Rattle.mscp_c.specs.Restoring.{policy_named, policy_number, restored_by, saved_by}
 use Rattle.mscp_c.specs.Saving.{room_after}
+use Rattle.mscp_c.proofs.Policies.{number_back}
 use Rattle.mscp_c.proofs.controller_saving.mscp_save_at.Goals as goal
 
 -- the policy that a saved controller names is its own
-number_back : (policy : Policy) → (if nat_eq (policy_number policy) 1 then Sweep else Oldest) ≡ policy
-number_back Oldest = refl
-number_back Sweep = refl
-
 named_back : (h : Held) → policy_named (saved_by h) ≡ h.picker
 named_back h = number_back h.picker
 

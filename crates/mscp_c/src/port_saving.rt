@@ -1,0 +1,86 @@
+// A port as bytes, and back.
+
+ghost use Rattle.std.specs.Prelude.{◌≡◌, true, false, slice_index, Ok};
+ghost use Rattle.mscp_memory.specs.PortHandles.{is_made};
+ghost use Rattle.mscp_c.specs.PortSaving.{policy_named, restored_by, restores, saved_by};
+ghost use Rattle.mscp_c.specs.Saving.{length_after, room_after, save_code};
+
+use crate::controller_saving::policy_number;
+use crate::saving::tell_saved;
+use crate::status::{DONE, NOT_MADE, port_restore_code, room_code};
+use mscp_memory::Policy;
+use mscp_memory::port::{Handle, is_made, lend, place, room_fault};
+use mscp_port::{Port, ROOM, RestoreFault};
+
+/// The most bytes that a port is saved as.
+#[unsafe(no_mangle)]
+pub extern "C" fn mscp_port_save_size() -> usize
+    ensures { result ≡ 5272 }
+{
+    ROOM
+}
+
+/// All of the port, as bytes at the front of the room, and how many they are.
+#[unsafe(no_mangle)]
+pub extern "C" fn mscp_port_save_at(handle: &mut Handle, room: &mut [u8], length: &mut usize) -> i32
+    ensures code { is_made handle.old ≡ true → result ≡ save_code (saved_by handle.old.held) room.old }
+    ensures told { is_made handle.old ≡ true → room.new ≡ room_after (saved_by handle.old.held) room.old }
+    ensures count { is_made handle.old ≡ true
+        → length.new ≡ length_after (saved_by handle.old.held) room.old length.old }
+    ensures back { is_made handle.old ≡ true → restored_by (saved_by handle.old.held) ≡ Ok handle.old.held }
+    ensures same { handle.new ≡ handle.old }
+    ensures unmade { is_made handle.old ≡ false
+        → (result ≡ NOT_MADE) × (room.new ≡ room.old) × (length.new ≡ length.old) }
+{
+    if !is_made(handle) {
+        return NOT_MADE;
+    }
+    let port = lend(handle);
+    let bytes = port.save(policy_number(*port.picker()));
+    tell_saved(room, length, bytes.as_slice())
+}
+
+/// The byte at a place, or 0 behind the last one.
+fn byte_or_zero(bytes: &[u8], place: usize) -> u8
+    ensures { result ≡ slice_index bytes.now place }
+{
+    if place < bytes.len() { bytes[place] } else { 0 }
+}
+
+/// The policy that the bytes of its controller name, or another one where they name none.
+fn policy_named(bytes: &[u8]) -> Policy
+    ensures { result ≡ policy_named bytes.now }
+{
+    let text = usize::from(byte_or_zero(bytes, 70));
+    let buffers = usize::from(byte_or_zero(bytes, 71));
+    if byte_or_zero(bytes, 280 + text + 20 * buffers + 30) == 1 {
+        Policy::Sweep
+    } else {
+        Policy::Oldest
+    }
+}
+
+/// The port that bytes say, with the policy that they name, or why there is none.
+fn restored_by(bytes: &[u8]) -> Result<Port<Policy>, RestoreFault>
+    ensures { result ≡ restored_by bytes.now }
+{
+    let policy = policy_named(bytes);
+    Port::restore(bytes, policy_number(policy), policy)
+}
+
+/// The port that bytes say is in the room that the handle has.
+#[unsafe(no_mangle)]
+pub extern "C" fn mscp_port_restore_at(handle: &mut Handle, bytes: &[u8]) -> i32
+    ensures { (result, handle.new) ≡ restores handle.old bytes.now }
+{
+    if let Some(fault) = room_fault(handle) {
+        return room_code(fault);
+    }
+    match restored_by(bytes) {
+        Ok(port) => {
+            place(handle, port);
+            DONE
+        }
+        Err(fault) => port_restore_code(fault),
+    }
+}

@@ -1,0 +1,47 @@
+-- What comes of bytes whose head has no fault.
+use Rattle.std.proofs.Common.{◌≡◌, ℕ, ◌+◌, Bool, List, drop, refl, ap, sym, ◌∙◌}
+use Rattle.std.specs.Prelude.{Option, Some, None, Result, Ok, Err, if◌then◌else◌, slice_index}
+use Rattle.std.specs.Str.{bytes_eq}
+use Rattle.std.proofs.lemmas.List.{get_or-drop}
+use Rattle.mscp_control.specs.Holdings.{Holdings}
+use Rattle.mscp_saved.specs.declared.fault.RestoreFault.{RestoreFault as ControllerFault}
+use Rattle.mscp_saved.specs.Restored.{restored as controller_restored}
+use Rattle.mscp_saved.proofs.Faithful.{same_of}
+use Rattle.mscp_port.specs.declared.port.Port.{Port}
+use Rattle.mscp_port.specs.declared.port.restoring.RestoreFault.{RestoreFault}
+use Rattle.mscp_port.specs.declared.port.restoring.RestoreFault.TheVariants as faults
+use Rattle.mscp_port.specs.Restored.{controller_place, frame_fault, over, restored, restored_unless, whose}
+use Rattle.mscp_port.specs.Saved.{saved_bytes}
+
+-- the bytes of a controller say this
+pub comes : {K : Type 0} (number : ℕ) (picker : K) (b : List ℕ) (r : Result (Holdings K) ControllerFault)
+    → frame_fault b ≡ None → r ≡ controller_restored number picker (drop (controller_place b) b)
+    → over number b r ≡ restored number picker b
+comes number picker b r none said =
+    ap (over number b) said ∙ ap (λ (f : Option RestoreFault). restored_unless f number picker b) (sym none)
+
+-- and the port over it is saved as other bytes, or as these
+pub is_whose : {K : Type 0} (number : ℕ) (b : List ℕ) (p : Port K) (same : Bool)
+    → bytes_eq (saved_bytes number p) b ≡ same
+    → (if same then Ok p else Err faults.Form) ≡ whose number b p
+is_whose number b p same e = ap (λ (same : Bool). if same then Ok p else Err faults.Form) (sym e)
+
+-- ---- what is restored
+
+module _ {K : Type 0} (number : ℕ) (picker : K) (b : List ℕ) (p : Port K) where
+  by_controller : (r : Result (Holdings K) ControllerFault)
+      → controller_restored number picker (drop (controller_place b) b) ≡ r → over number b r ≡ Ok p
+      → slice_index b (controller_place b + 30) ≡ number
+  by_controller (Err fault) said e = cc
+  by_controller (Ok h) said e =
+      sym (get_or-drop (controller_place b) b 30 0)
+      ∙ ap (λ l. slice_index l 30) (sym (same_of number picker h (drop (controller_place b) b) said).0)
+
+  by_fault : (f : Option RestoreFault) → restored_unless f number picker b ≡ Ok p
+      → slice_index b (controller_place b + 30) ≡ number
+  by_fault (Some fault) e = cc
+  by_fault None e = by_controller (controller_restored number picker (drop (controller_place b) b)) refl e
+
+  -- its bytes tell the number of its picker
+  pub number_told : restored number picker b ≡ Ok p → slice_index b (controller_place b + 30) ≡ number
+  number_told e = by_fault (frame_fault b) e

@@ -1,0 +1,9 @@
+use Rattle.std.proofs.Common.{◌≡◌}
+use Rattle.arrayvec.specs.ArrayVec.{array_vec_len}
+use Rattle.mscp_saved.specs.Read.{parts_in}
+use Rattle.mscp_port.specs.Restored.{buffer_in}
+use Rattle.mscp_port.proofs.port.restoring.buffers_in.Given as goal
+
+abbrev pub invariant-loop-place : goal.invariant-loop-place
+invariant-loop-place l =
+    record { items : l.buffers.items ≡ parts_in buffer_in 20 l.place l.b; len : array_vec_len l.buffers ≡ l.place }

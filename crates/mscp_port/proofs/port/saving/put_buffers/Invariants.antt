@@ -1,0 +1,13 @@
+use Rattle.std.proofs.Common.{All, ◌≡◌, ◌+◌, ◌*◌, ◌++◌, take}
+use Rattle.std.specs.Prelude.{flat_map}
+use Rattle.arrayvec.specs.ArrayVec.{array_vec_len}
+use Rattle.mscp_port.specs.Saved.{HasBufferRange, buffer_bytes}
+use Rattle.mscp_port.proofs.port.saving.put_buffers.Given as goal
+
+abbrev pub invariant-loop-buffer : goal.invariant-loop-buffer
+invariant-loop-buffer l =
+    record {
+      items : l.out.items ≡ l.fn.out.items ++ flat_map buffer_bytes (take l.buffer-index l.buffers);
+      len : array_vec_len l.out ≡ array_vec_len l.fn.out + 20 * l.buffer-index;
+      range : All HasBufferRange (take l.buffer-index l.buffers);
+    }

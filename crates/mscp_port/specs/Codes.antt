@@ -1,0 +1,190 @@
+-- What has no number of its own, as numbers, and what numbers stand for.
+use Rattle.std.specs.Prelude.{ℕ, ◌%◌, ◌≤◌, nat_eq, nat_le, nat_lt, if◌then◌else◌, Option, Some, None}
+use Rattle.mscp_packet.specs.declared.command.MoveKind.{MoveKind}
+use Rattle.mscp_packet.specs.declared.command.MoveKind.TheVariants as moves
+use Rattle.mscp_queue.specs.declared.block.Block.{Block}
+use Rattle.mscp_queue.specs.declared.block.Block.TheVariants.{Good, Bad}
+use Rattle.mscp_saved.specs.Read.{connection_in}
+use Rattle.mscp_saved.specs.Saved.{connection_byte, flag_byte}
+use Rattle.mscp_port.specs.declared.buffers.Job.{Job}
+use Rattle.mscp_port.specs.declared.codes.Coded.{Coded}
+use Rattle.mscp_port.specs.declared.hardware.Bus.{Bus}
+use Rattle.mscp_port.specs.declared.hardware.Bus.TheVariants.{Q, Uni}
+use Rattle.mscp_port.specs.declared.rings.Side.{Side}
+use Rattle.mscp_port.specs.declared.rings.Side.TheVariants.{Responses, Commands}
+use Rattle.mscp_port.specs.declared.stage.Stage.{Stage}
+use Rattle.mscp_port.specs.declared.stage.Stage.TheVariants as stages
+use Rattle.mscp_port.specs.declared.task.Task.{Task}
+use Rattle.mscp_port.specs.declared.task.Task.TheVariants as tasks
+
+-- ---- what there may be
+
+-- whether there is something
+abbrev pub some_byte : {X : Type 0} → Option X → ℕ
+some_byte None = 0
+some_byte (Some x) = 1
+
+abbrev pub number_or_none : Option ℕ → ℕ
+number_or_none None = 0
+number_or_none (Some n) = n
+
+abbrev pub optional : {X : Type 0} → ℕ → X → Option X
+optional byte x = if nat_eq byte 1 then Some x else None
+
+-- ---- a bus, a ring, and a transfer
+
+abbrev pub bus_byte : Bus → ℕ
+bus_byte Q = 1
+bus_byte Uni = 2
+
+abbrev pub bus_in : ℕ → Bus
+bus_in byte = if nat_eq byte 1 then Q else Uni
+
+abbrev pub side_byte : Side → ℕ
+side_byte Responses = 1
+side_byte Commands = 2
+
+abbrev pub side_in : ℕ → Side
+side_in byte = if nat_eq byte 1 then Responses else Commands
+
+abbrev pub kind_byte : MoveKind → ℕ
+kind_byte moves.Access = 1
+kind_byte moves.Erase = 2
+kind_byte moves.Compare = 3
+kind_byte moves.Read = 4
+kind_byte moves.Write = 5
+
+abbrev pub kind_in : ℕ → MoveKind
+kind_in byte =
+    if nat_eq byte 1 then moves.Access else (
+    if nat_eq byte 2 then moves.Erase else (
+    if nat_eq byte 3 then moves.Compare else (
+    if nat_eq byte 4 then moves.Read else moves.Write)))
+
+-- ---- a stage: its number, and the word that it has
+
+abbrev pub stage_byte : Stage → ℕ
+stage_byte stages.First = 0
+stage_byte (stages.Wrapped word) = 1
+stage_byte stages.Second = 2
+stage_byte stages.Third = 3
+stage_byte stages.Purging = 4
+stage_byte stages.Probing = 5
+stage_byte stages.Clearing = 6
+stage_byte stages.Last = 7
+stage_byte stages.Up = 8
+stage_byte (stages.Dead code) = 9
+
+abbrev pub stage_word : Stage → ℕ
+stage_word (stages.Wrapped word) = word
+stage_word (stages.Dead code) = code
+stage_word stage = 0
+
+abbrev pub stage_in : ℕ → ℕ → Stage
+stage_in byte word =
+    if nat_eq byte 1 then stages.Wrapped word else (
+    if nat_eq byte 2 then stages.Second else (
+    if nat_eq byte 3 then stages.Third else (
+    if nat_eq byte 4 then stages.Purging else (
+    if nat_eq byte 5 then stages.Probing else (
+    if nat_eq byte 6 then stages.Clearing else (
+    if nat_eq byte 7 then stages.Last else (
+    if nat_eq byte 8 then stages.Up else (
+    if nat_eq byte 9 then stages.Dead word else stages.First))))))))
+
+-- ---- a task: its number, and what is known for it
+
+abbrev pub nothing : Coded
+nothing = record { task = 0; whom = 0; first = 0; second = 0; third = 0; two = 0; how = 0 }
+
+-- the outcome of a block: whether it was bad, and the status
+abbrev pub bad_byte : Block → ℕ
+bad_byte Good = 0
+bad_byte (Bad status) = 1
+
+abbrev pub bad_status : Block → ℕ
+bad_status Good = 0
+bad_status (Bad status) = status
+
+abbrev pub block_in : ℕ → ℕ → Block
+block_in byte status = if nat_eq byte 1 then (if nat_le 5 (status % 32) then Bad status else Good) else Good
+
+-- a step of a transfer
+abbrev pub coded_job : ℕ → Job → Coded
+coded_job task j = record {
+  task = task;
+  whom = connection_byte j.connection;
+  first = j.reference;
+  second = j.block;
+  third = j.done;
+  two = j.unit;
+  how = kind_byte j.kind;
+}
+
+abbrev pub job_in : Coded → Job
+job_in c = record {
+  connection = connection_in c.whom;
+  reference = c.first;
+  kind = kind_in c.how;
+  unit = c.two;
+  block = c.second;
+  done = c.third;
+}
+
+abbrev pub coded_task : Task → Coded
+coded_task tasks.Free = nothing
+coded_task tasks.Settle = record nothing { task = 1 }
+coded_task (tasks.Clear done) = record nothing { task = 2; first = done }
+coded_task (tasks.Slot side) = record nothing { task = 3; whom = side_byte side }
+coded_task (tasks.Header slot) = record nothing { task = 4; first = slot.word }
+coded_task (tasks.Text slot size foreign) =
+    record nothing { task = 5; whom = flag_byte foreign; first = slot.word; second = size }
+coded_task (tasks.Packet slot) = record nothing { task = 6; first = slot.word }
+coded_task (tasks.Return side slot) = record nothing { task = 7; whom = side_byte side; first = slot.word }
+coded_task (tasks.Neighbour side) = record nothing { task = 8; whom = side_byte side }
+coded_task (tasks.Word side) = record nothing { task = 9; whom = side_byte side }
+coded_task tasks.Interrupt = record nothing { task = 10 }
+coded_task (tasks.Step via reference block) = record nothing {
+  task = 11;
+  whom = connection_byte via;
+  first = reference;
+  two = bad_status block;
+  how = bad_byte block;
+}
+coded_task (tasks.Fetch job) = coded_job 12 job
+coded_task (tasks.Transfer job) = coded_job 13 job
+coded_task (tasks.Store job) = coded_job 14 job
+
+-- what comes before the rings are in use
+abbrev pub early_task_in : Coded → Task
+early_task_in c =
+    if nat_eq c.task 1 then tasks.Settle else (
+    if nat_eq c.task 2 then tasks.Clear c.first else tasks.Free)
+
+-- what is done with the rings
+abbrev pub ring_task_in : Coded → Task
+ring_task_in c =
+    if nat_eq c.task 3 then tasks.Slot (side_in c.whom) else (
+    if nat_eq c.task 4 then tasks.Header (record { word = c.first }) else (
+    if nat_eq c.task 5 then tasks.Text (record { word = c.first }) c.second (nat_eq c.whom 1) else (
+    if nat_eq c.task 6 then tasks.Packet (record { word = c.first }) else (
+    if nat_eq c.task 7 then tasks.Return (side_in c.whom) (record { word = c.first }) else (
+    if nat_eq c.task 8 then tasks.Neighbour (side_in c.whom) else tasks.Word (side_in c.whom))))))
+
+-- what is done for a command
+abbrev pub block_task_in : Coded → Task
+block_task_in c =
+    if nat_eq c.task 11 then tasks.Step (connection_in c.whom) c.first (block_in c.how c.two) else (
+    if nat_eq c.task 12 then tasks.Fetch (job_in c) else (
+    if nat_eq c.task 13 then tasks.Transfer (job_in c) else (
+    if nat_eq c.task 14 then tasks.Store (job_in c) else tasks.Interrupt)))
+
+abbrev pub task_in : Coded → Task
+task_in c =
+    if nat_lt c.task 3 then early_task_in c else (
+    if nat_lt c.task 10 then ring_task_in c else block_task_in c)
+
+-- a status is one of those that a block may end with
+abbrev pub HasStatus : Task → Type 0
+HasStatus (tasks.Step via reference (Bad status)) = 5 ≤ status % 32
+HasStatus task = Unit {0}

@@ -1,0 +1,351 @@
+// What has no number of its own, as numbers, and what numbers stand for.
+
+ghost use Rattle.std.specs.Prelude.{◌≡◌, ◌<◌, ◌≤◌};
+ghost use Rattle.mscp_port.specs.declared.task.Task.TheVariants as tasks;
+ghost use Rattle.mscp_port.specs.Codes.{HasStatus, bad_byte, bad_status, block_in, block_task_in, bus_byte, bus_in, coded_job, coded_task, early_task_in, job_in, kind_byte, kind_in, nothing, ring_task_in, side_byte, side_in, stage_byte, stage_in, stage_word, task_in};
+
+use crate::buffers::Job;
+use crate::hardware::Bus;
+use crate::rings::Side;
+use crate::slot::Descriptor;
+use crate::stage::Stage;
+use crate::task::Task;
+use mscp_packet::MoveKind;
+use mscp_queue::{Block, Connection, FaultStatus};
+use mscp_saved::{connection_byte, connection_in};
+
+/// A task as numbers: which it is, and what is known for it. What it lacks is 0.
+#[derive(Clone, Copy, Debug, PartialEq, Eq)]
+pub(crate) struct Coded {
+    pub task: u8,
+    /// The ring, the connection, or whether a text is for another connection than the disk's.
+    pub whom: u8,
+    /// How many bytes are clear, the descriptor of a slot, or the reference number of a command.
+    pub first: u32,
+    /// The length of a text, or a block.
+    pub second: u32,
+    /// How many steps came before.
+    pub third: u32,
+    /// The unit, or the status of a bad block.
+    pub two: u16,
+    /// Which transfer it is, or whether a block was bad.
+    pub how: u8,
+}
+
+/// A task that lacks everything.
+const NOTHING: Coded = Coded {
+    task: 0,
+    whom: 0,
+    first: 0,
+    second: 0,
+    third: 0,
+    two: 0,
+    how: 0,
+};
+
+/// The number of a bus.
+pub(crate) fn bus_byte(bus: Bus) -> u8
+    ensures { result ≡ bus_byte bus }
+{
+    match bus {
+        Bus::Q => 1,
+        Bus::Uni => 2,
+    }
+}
+
+/// The bus of a number.
+pub(crate) fn bus_in(byte: u8) -> Bus
+    ensures { result ≡ bus_in byte }
+{
+    if byte == 1 { Bus::Q } else { Bus::Uni }
+}
+
+/// The number of a ring.
+fn side_byte(side: Side) -> u8
+    ensures { result ≡ side_byte side }
+{
+    match side {
+        Side::Responses => 1,
+        Side::Commands => 2,
+    }
+}
+
+/// The ring of a number.
+fn side_in(byte: u8) -> Side
+    ensures { result ≡ side_in byte }
+{
+    if byte == 1 {
+        Side::Responses
+    } else {
+        Side::Commands
+    }
+}
+
+/// The number of a transfer's kind.
+fn kind_byte(kind: MoveKind) -> u8
+    ensures { result ≡ kind_byte kind }
+{
+    match kind {
+        MoveKind::Access => 1,
+        MoveKind::Erase => 2,
+        MoveKind::Compare => 3,
+        MoveKind::Read => 4,
+        MoveKind::Write => 5,
+    }
+}
+
+/// The kind of a transfer, by its number.
+fn kind_in(byte: u8) -> MoveKind
+    ensures { result ≡ kind_in byte }
+{
+    match byte {
+        1 => MoveKind::Access,
+        2 => MoveKind::Erase,
+        3 => MoveKind::Compare,
+        4 => MoveKind::Read,
+        _ => MoveKind::Write,
+    }
+}
+
+/// The number of a stage.
+pub(crate) fn stage_byte(stage: Stage) -> u8
+    ensures { result ≡ stage_byte stage }
+{
+    match stage {
+        Stage::First => 0,
+        Stage::Wrapped(_) => 1,
+        Stage::Second => 2,
+        Stage::Third => 3,
+        Stage::Purging => 4,
+        Stage::Probing => 5,
+        Stage::Clearing => 6,
+        Stage::Last => 7,
+        Stage::Up => 8,
+        Stage::Dead(_) => 9,
+    }
+}
+
+/// The word of a stage, or 0 where it has none.
+pub(crate) fn stage_word(stage: Stage) -> u16
+    ensures { result ≡ stage_word stage }
+{
+    match stage {
+        Stage::Wrapped(word) => word,
+        Stage::Dead(code) => code,
+        _ => 0,
+    }
+}
+
+/// The stage of a number, with this word.
+pub(crate) fn stage_in(byte: u8, word: u16) -> Stage
+    ensures { result ≡ stage_in byte word }
+{
+    match byte {
+        1 => Stage::Wrapped(word),
+        2 => Stage::Second,
+        3 => Stage::Third,
+        4 => Stage::Purging,
+        5 => Stage::Probing,
+        6 => Stage::Clearing,
+        7 => Stage::Last,
+        8 => Stage::Up,
+        9 => Stage::Dead(word),
+        _ => Stage::First,
+    }
+}
+
+/// Whether a block was bad, and its status.
+fn coded_block(block: Block) -> (u8, u16)
+    ensures bad { result.0 ≡ bad_byte block }
+    ensures status { result.1 ≡ bad_status block }
+{
+    match block {
+        Block::Good => (0, 0),
+        Block::Bad(status) => (1, status.get()),
+    }
+}
+
+/// The outcome of a block that was bad, if this is 1, with this status.
+fn block_in(byte: u8, status: u16) -> Block
+    ensures { result ≡ block_in byte status }
+{
+    if byte != 1 {
+        return Block::Good;
+    }
+    match FaultStatus::new(status) {
+        Some(status) => Block::Bad(status),
+        None => Block::Good,
+    }
+}
+
+/// A step of a transfer as numbers, for the task of this number.
+fn coded_job(task: u8, job: Job) -> Coded
+    ensures { result ≡ coded_job task job }
+{
+    Coded {
+        task,
+        whom: connection_byte(job.connection),
+        first: job.reference,
+        second: job.block,
+        third: job.done,
+        two: job.unit,
+        how: kind_byte(job.kind),
+    }
+}
+
+/// The step of a transfer that numbers say.
+fn job_in(coded: Coded) -> Job
+    ensures { result ≡ job_in coded }
+{
+    Job {
+        connection: connection_in(coded.whom),
+        reference: coded.first,
+        kind: kind_in(coded.how),
+        unit: coded.two,
+        block: coded.second,
+        done: coded.third,
+    }
+}
+
+/// A task that has to do with a ring.
+fn of_ring(task: u8, side: Side) -> Coded
+    ensures { result ≡ record nothing { task = task; whom = side_byte side } }
+{
+    Coded {
+        task,
+        whom: side_byte(side),
+        ..NOTHING
+    }
+}
+
+/// A task that has to do with a packet.
+fn of_packet(task: u8, slot: Descriptor) -> Coded
+    ensures { result ≡ record nothing { task = task; first = slot.word } }
+{
+    Coded {
+        task,
+        first: slot.word,
+        ..NOTHING
+    }
+}
+
+/// The taking of a step whose block had this outcome.
+fn coded_step(connection: Connection, reference: u32, block: Block) -> Coded
+    ensures value { result ≡ coded_task (tasks.Step connection reference block) }
+    ensures status { HasStatus (tasks.Step connection reference block) }
+{
+    let (how, two) = coded_block(block);
+    Coded {
+        task: 11,
+        whom: connection_byte(connection),
+        first: reference,
+        two,
+        how,
+        ..NOTHING
+    }
+}
+
+/// A task as numbers.
+pub(crate) fn coded_task(task: Task) -> Coded
+    ensures value { result ≡ coded_task task }
+    ensures status { HasStatus task }
+{
+    match task {
+        Task::Free => NOTHING,
+        Task::Settle => Coded { task: 1, ..NOTHING },
+        Task::Clear(first) => Coded {
+            task: 2,
+            first,
+            ..NOTHING
+        },
+        Task::Slot(side) => of_ring(3, side),
+        Task::Header(slot) => of_packet(4, slot),
+        Task::Text {
+            slot,
+            length,
+            is_foreign,
+        } => Coded {
+            whom: if is_foreign { 1 } else { 0 },
+            second: length,
+            ..of_packet(5, slot)
+        },
+        Task::Packet(slot) => of_packet(6, slot),
+        Task::Return(side, slot) => Coded {
+            first: slot.word,
+            ..of_ring(7, side)
+        },
+        Task::Neighbour(side) => of_ring(8, side),
+        Task::Word(side) => of_ring(9, side),
+        Task::Interrupt => Coded {
+            task: 10,
+            ..NOTHING
+        },
+        Task::Step(connection, reference, block) => coded_step(connection, reference, block),
+        Task::Fetch(job) => coded_job(12, job),
+        Task::Transfer(job) => coded_job(13, job),
+        Task::Store(job) => coded_job(14, job),
+    }
+}
+
+/// The task that numbers say, of those before the rings are in use.
+fn early_task_in(coded: Coded) -> Task
+    ensures { result ≡ early_task_in coded }
+{
+    match coded.task {
+        1 => Task::Settle,
+        2 => Task::Clear(coded.first),
+        _ => Task::Free,
+    }
+}
+
+/// The task that numbers say, of those with the rings.
+fn ring_task_in(coded: Coded) -> Task
+    ensures { result ≡ ring_task_in coded }
+{
+    let side = side_in(coded.whom);
+    let slot = Descriptor { word: coded.first };
+    match coded.task {
+        3 => Task::Slot(side),
+        4 => Task::Header(slot),
+        5 => Task::Text {
+            slot,
+            length: coded.second,
+            is_foreign: coded.whom == 1,
+        },
+        6 => Task::Packet(slot),
+        7 => Task::Return(side, slot),
+        8 => Task::Neighbour(side),
+        _ => Task::Word(side),
+    }
+}
+
+/// The task that numbers say, of those for a command.
+fn block_task_in(coded: Coded) -> Task
+    ensures { result ≡ block_task_in coded }
+{
+    let job = job_in(coded);
+    match coded.task {
+        11 => Task::Step(
+            job.connection,
+            job.reference,
+            block_in(coded.how, coded.two),
+        ),
+        12 => Task::Fetch(job),
+        13 => Task::Transfer(job),
+        14 => Task::Store(job),
+        _ => Task::Interrupt,
+    }
+}
+
+/// The task that numbers say.
+pub(crate) fn task_in(coded: Coded) -> Task
+    ensures { result ≡ task_in coded }
+{
+    if coded.task < 3 {
+        early_task_in(coded)
+    } else if coded.task < 10 {
+        ring_task_in(coded)
+    } else {
+        block_task_in(coded)
+    }
+}

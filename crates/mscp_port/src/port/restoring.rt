@@ -1,0 +1,316 @@
+// Bytes to a port.
+
+ghost use Rattle.std.specs.Prelude.{◌≡◌, ◌*◌, ◌≤◌, ◌<◌, true, nat_eq, length, drop, slice_index, IfOk, None};
+ghost use Rattle.mscp_packet.specs.Number.{num};
+ghost use Rattle.mscp_control.specs.Restored.{IsSound};
+ghost use Rattle.mscp_saved.specs.Read.{parts_in};
+ghost use Rattle.mscp_port.specs.Codes.{optional, stage_in};
+ghost use Rattle.mscp_port.specs.Restored.{IsFramed, area_in, buffer_in, buffers_in, coded_in, controller_place, frame_fault, hardware_in, is_framed, outgoing_in, port_in, restored, rings_if, text_in, volume_in, volumes_in, words_in};
+ghost use Rattle.mscp_port.specs.Saved.{saved_bytes};
+
+use crate::buffers::Buffer;
+use crate::codes::{Coded, bus_in, stage_in, task_in};
+use crate::hardware::Hardware;
+use crate::port::saving::{MAGIC, VERSION};
+use crate::port::{Outgoing, Port, Words};
+use crate::rings::Rings;
+use crate::stage::Stage;
+use crate::volumes::Volume;
+use arrayvec::ArrayVec;
+use mscp_control::Controller;
+use mscp_packet::fields::{four_at, put, two_at};
+use mscp_queue::Picker;
+use mscp_saved::part;
+
+/// Why bytes are no saved port: the first that holds, in this order.
+#[derive(Clone, Copy, Debug, PartialEq, Eq)]
+pub enum RestoreFault {
+    /// Fewer bytes than a head and volumes have, or not as many as the head tells, or too few for its parts; or more parts than
+    /// any port has: a text of 48 bytes, and 64 commands of which something is kept.
+    Length,
+    /// They don't begin with "MSCP".
+    Magic,
+    /// A version of the format that isn't known.
+    Version,
+    /// The bytes of the controller are no saved controller, with this picker's number.
+    Controller(mscp_saved::RestoreFault),
+    /// The bytes say a port, and aren't those that it is saved as.
+    Form,
+}
+
+/// What kind of port it is.
+fn hardware_in(b: &[u8]) -> Hardware
+    requires { 280 ≤ length b.now }
+    ensures { result ≡ hardware_in b.now }
+{
+    Hardware {
+        bus: bus_in(b[12]),
+        model: b[13],
+        software: b[14],
+        version: b[15],
+    }
+}
+
+/// A number, if there is one.
+fn optional<T: Copy>(byte: u8, number: T) -> Option<T>
+    ensures { result ≡ optional byte number }
+{
+    if byte == 1 { Some(number) } else { None }
+}
+
+/// Whether something is so.
+fn flag_at(b: &[u8], at: usize) -> bool
+    requires { at < length b.now }
+    ensures { result ≡ nat_eq (slice_index b.now at) 1 }
+{
+    b[at] == 1
+}
+
+/// How far the port has come.
+fn stage_of(b: &[u8]) -> Stage
+    requires { 280 ≤ length b.now }
+    ensures { result ≡ stage_in (slice_index b.now 33) (num b.now 34 2) }
+{
+    stage_in(b[33], two_at(b, 34))
+}
+
+/// What the host wrote to SA.
+fn written_in(b: &[u8]) -> Option<u16>
+    requires { 280 ≤ length b.now }
+    ensures { result ≡ optional (slice_index b.now 36) (num b.now 37 2) }
+{
+    optional(b[36], two_at(b, 37))
+}
+
+/// The communication area, if there is one.
+fn rings_in(b: &[u8]) -> Option<Rings>
+    requires { 280 ≤ length b.now }
+    ensures { result ≡ rings_if (slice_index b.now 39) (area_in b.now) }
+{
+    if b[39] != 1 {
+        return None;
+    }
+    Rings::of(four_at(b, 40), four_at(b, 44), four_at(b, 48))
+}
+
+/// A task, as numbers.
+fn coded_in(b: &[u8]) -> Coded
+    requires { 280 ≤ length b.now }
+    ensures { result ≡ coded_in b.now }
+{
+    Coded {
+        task: b[52],
+        whom: b[53],
+        first: four_at(b, 54),
+        second: four_at(b, 58),
+        third: four_at(b, 62),
+        two: two_at(b, 66),
+        how: b[68],
+    }
+}
+
+/// What the host wrote in the first two steps.
+fn words_in(b: &[u8]) -> Words
+    requires { 280 ≤ length b.now }
+    ensures { result ≡ words_in b.now }
+{
+    Words {
+        first: two_at(b, 29),
+        second: two_at(b, 31),
+    }
+}
+
+/// What goes out, by its number and its text.
+fn outgoing_in(byte: u8, text: &[u8]) -> Option<Outgoing>
+    requires { length text.now ≤ 48 }
+    ensures { result ≡ outgoing_in byte text.now }
+{
+    if byte == 0 {
+        return None;
+    }
+    let mut bytes = ArrayVec::new();
+    put(&mut bytes, text);
+    Some(Outgoing {
+        bytes,
+        is_end: byte == 2,
+    })
+}
+
+/// The volume in the bytes of one.
+fn volume_in(b: &[u8]) -> Volume
+    requires { length b.now ≡ 13 }
+    ensures { result ≡ volume_in b.now }
+{
+    Volume {
+        is_there: b[0] == 1,
+        is_protected: b[1] == 1,
+        is_protected_by_host: b[2] == 1,
+        changes: four_at(b, 4),
+        mounted: optional(b[8], four_at(b, 9)),
+        is_news: b[3] == 1,
+    }
+}
+
+/// 16 volumes, behind one another from the first byte on.
+fn volumes_in(b: &[u8]) -> [Volume; 16]
+    requires { 208 ≤ length b.now }
+    ensures { result ≡ parts_in volume_in 13 16 b.now }
+{
+    let mut volumes = ArrayVec::new();
+    for place in 0..16 {
+        volumes.push(volume_in(part(b, 13, place)));
+    }
+    let Ok(volumes) = volumes.into_inner() else {
+        unreachable!();
+    };
+    volumes
+}
+
+/// What is kept of a command, in the bytes of that.
+fn buffer_in(b: &[u8]) -> Buffer
+    requires { length b.now ≡ 20 }
+    ensures { result ≡ buffer_in b.now }
+{
+    Buffer {
+        reference: four_at(b, 0),
+        address: four_at(b, 4),
+        count: four_at(b, 8),
+        modifiers: two_at(b, 12),
+        flags: two_at(b, 14),
+        changes: four_at(b, 16),
+    }
+}
+
+/// What is kept of so many commands, behind one another from the first byte on.
+fn buffers_in(b: &[u8], count: usize) -> ArrayVec<Buffer, 64>
+    requires few { count ≤ 64 }
+    requires long { 20 * count ≤ length b.now }
+    ensures { result.items ≡ parts_in buffer_in 20 count b.now }
+{
+    let mut buffers = ArrayVec::new();
+    for place in 0..count {
+        buffers.push(buffer_in(part(b, 20, place)));
+    }
+    buffers
+}
+
+/// Whether there is a head with volumes, and as many bytes as it tells, which are not too few for its parts; and no more of
+/// each part than a port has.
+fn is_framed(b: &[u8]) -> bool
+    ensures value { result ≡ is_framed b.now }
+    ensures framed { result ≡ true → IsFramed b.now }
+{
+    if b.len() < 280 {
+        return false;
+    }
+    let (text, buffers) = (usize::from(b[70]), usize::from(b[71]));
+    four_at(b, 8) as usize == b.len()
+        && text <= 48
+        && buffers <= 64
+        && 280 + text + 20 * buffers <= b.len()
+}
+
+/// Why no parts are read: the first fault that holds.
+fn frame_fault(b: &[u8]) -> Option<RestoreFault>
+    ensures value { result ≡ frame_fault b.now }
+    ensures framed { result ≡ None → IsFramed b.now }
+{
+    if !is_framed(b) {
+        return Some(RestoreFault::Length);
+    }
+    if four_at(b, 0) != MAGIC {
+        return Some(RestoreFault::Magic);
+    }
+    if four_at(b, 4) != VERSION {
+        return Some(RestoreFault::Version);
+    }
+    None
+}
+
+/// What goes out.
+fn outgoing_of(b: &[u8]) -> Option<Outgoing>
+    requires { IsFramed b.now }
+    ensures { result ≡ outgoing_in (slice_index b.now 69) (text_in b.now) }
+{
+    outgoing_in(b[69], &b[280..][..usize::from(b[70])])
+}
+
+/// The volumes.
+fn volumes_of(b: &[u8]) -> [Volume; 16]
+    requires { 280 ≤ length b.now }
+    ensures { result ≡ volumes_in b.now }
+{
+    volumes_in(&b[72..])
+}
+
+/// What is kept of commands.
+fn buffers_of(b: &[u8]) -> ArrayVec<Buffer, 64>
+    requires { IsFramed b.now }
+    ensures { result.items ≡ buffers_in b.now }
+{
+    buffers_in(&b[280 + usize::from(b[70])..], usize::from(b[71]))
+}
+
+/// The port over this controller that bytes say.
+fn port_in<K>(b: &[u8], controller: Controller<K>) -> Port<K>
+    requires { IsFramed b.now }
+    ensures { result ≡ port_in b.now controller }
+{
+    Port {
+        hardware: hardware_in(b),
+        controller,
+        more: b[16],
+        untold: b[17],
+        stage: stage_of(b),
+        words: words_in(b),
+        written: written_in(b),
+        rings: rings_in(b),
+        responses: b[18],
+        commands: b[19],
+        task: task_in(coded_in(b)),
+        outgoing: outgoing_of(b),
+        is_polled: flag_at(b, 20),
+        is_stalled: flag_at(b, 21),
+        is_full: flag_at(b, 22),
+        buffers: buffers_of(b),
+        volumes: volumes_of(b),
+        flags: two_at(b, 23),
+        timeout: two_at(b, 25),
+        left: two_at(b, 27),
+    }
+}
+
+/// The bytes of the controller.
+fn controller_bytes(b: &[u8]) -> &[u8]
+    requires { IsFramed b.now }
+    ensures { result.now ≡ drop (controller_place b.now) b.now }
+{
+    &b[280 + usize::from(b[70]) + 20 * usize::from(b[71])..]
+}
+
+impl<K: Picker> Port<K> {
+    /// The port that bytes say, with this picker, whose number has to be that which it was saved with, if they are the bytes
+    /// that the port is saved as; or why they aren't. So whatever bytes come: what is restored is a port over a controller
+    /// that keeps each promise of one. What it heard before only who saved it knows.
+    pub fn restore(bytes: &[u8], number: u8, picker: K) -> Result<Port<K>, RestoreFault>
+    where
+        K: Drop,
+        ensures value { result ≡ restored number picker bytes.now }
+        ensures same { IfOk result (λ p. saved_bytes number p ≡ bytes.now) }
+        ensures sound { IfOk result (λ p. IsSound p.controller) }
+    {
+        if let Some(fault) = frame_fault(bytes) {
+            return Err(fault);
+        }
+        let controller = match mscp_saved::restore(controller_bytes(bytes), number, picker) {
+            Ok(controller) => controller,
+            Err(fault) => return Err(RestoreFault::Controller(fault)),
+        };
+        let port = port_in(bytes, controller);
+        if port.save(number).as_slice() == bytes {
+            Ok(port)
+        } else {
+            Err(RestoreFault::Form)
+        }
+    }
+}

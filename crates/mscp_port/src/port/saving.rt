@@ -1,0 +1,323 @@
+// A port to bytes.
+
+ghost use Rattle.std.specs.Prelude.{◌≡◌, ◌+◌, ◌*◌, ◌≤◌, ◌<◌, ◌^◌, ◌++◌, [], ◌∷◌, flat_map, length, All, IfSome, Ok};
+ghost use Rattle.arrayvec.specs.ArrayVec.{array_vec_len};
+ghost use Rattle.mscp_saved.specs.Saved.{flag_byte};
+ghost use Rattle.mscp_port.specs.Areas.{AreRings};
+ghost use Rattle.mscp_port.specs.Codes.{HasStatus, coded_task, number_or_none, stage_word};
+ghost use Rattle.mscp_port.specs.Restored.{restored};
+ghost use Rattle.mscp_port.specs.Saved.{HasBufferRange, HasCodedRange, HasHandRange, HasStateRange, HasVolumeRange, area_bytes, buffer_bytes, coded_bytes, counts_bytes, frame_bytes, hand_bytes, hardware_bytes, head_bytes, host_bytes, lengths_bytes, mounted_bytes, outgoing_byte, outgoing_text, rings_bytes, saved_bytes, stage_bytes, state_bytes, volume_bytes, words_bytes, written_bytes};
+
+use crate::buffers::Buffer;
+use crate::codes::{Coded, bus_byte, coded_task, stage_byte, stage_word};
+use crate::hardware::Hardware;
+use crate::port::{Outgoing, Port, Words};
+use crate::rings::{Rings, Side};
+use crate::stage::Stage;
+use crate::volumes::Volume;
+use arrayvec::ArrayVec;
+use mscp_packet::fields::{put, put_four, put_two};
+use mscp_queue::Picker;
+
+/// The most bytes that a port is saved as: a head, 16 volumes, a text of 48 bytes, what is kept of 64 commands, and a
+/// controller.
+pub const ROOM: usize = 5272;
+
+/// "MSCP", as a number.
+pub(super) const MAGIC: u32 = 0x5043_534D;
+
+/// The version of the format.
+pub(super) const VERSION: u32 = 1;
+
+/// Appends whether something is so.
+fn put_flag(out: &mut ArrayVec<u8, ROOM>, so: bool)
+    requires { array_vec_len out.old + 1 ≤ 5272 }
+    ensures items { out.new.items ≡ out.old.items ++ (flag_byte so ∷ []) }
+    ensures len { array_vec_len out.new ≡ array_vec_len out.old + 1 }
+{
+    out.push(if so { 1 } else { 0 });
+}
+
+/// Appends what tells how long all is.
+fn put_frame(out: &mut ArrayVec<u8, ROOM>, total: u32)
+    requires { out.old.items ≡ [] }
+    ensures items { out.new.items ≡ frame_bytes total }
+    ensures len { array_vec_len out.new ≡ 12 }
+    ensures range { total < 2 ^ 32 }
+{
+    put_four(out, MAGIC);
+    put_four(out, VERSION);
+    put_four(out, total);
+}
+
+/// Appends what kind of port it is.
+fn put_hardware(out: &mut ArrayVec<u8, ROOM>, hardware: Hardware)
+    requires { array_vec_len out.old + 4 ≤ 5272 }
+    ensures items { out.new.items ≡ out.old.items ++ hardware_bytes hardware }
+    ensures len { array_vec_len out.new ≡ array_vec_len out.old + 4 }
+{
+    out.push(bus_byte(hardware.bus));
+    out.push(hardware.model);
+    out.push(hardware.software);
+    out.push(hardware.version);
+}
+
+/// Appends what the host wrote in the first two steps.
+fn put_words(out: &mut ArrayVec<u8, ROOM>, words: Words)
+    requires { array_vec_len out.old + 4 ≤ 5272 }
+    ensures items { out.new.items ≡ out.old.items ++ words_bytes words }
+    ensures len { array_vec_len out.new ≡ array_vec_len out.old + 4 }
+    ensures first { words.first < 2 ^ 16 }
+    ensures second { words.second < 2 ^ 16 }
+{
+    put_two(out, words.first);
+    put_two(out, words.second);
+}
+
+/// Appends how far the port has come.
+fn put_stage(out: &mut ArrayVec<u8, ROOM>, stage: Stage)
+    requires { array_vec_len out.old + 3 ≤ 5272 }
+    ensures items { out.new.items ≡ out.old.items ++ stage_bytes stage }
+    ensures len { array_vec_len out.new ≡ array_vec_len out.old + 3 }
+    ensures range { stage_word stage < 2 ^ 16 }
+{
+    out.push(stage_byte(stage));
+    put_two(out, stage_word(stage));
+}
+
+/// Appends what the host wrote to SA.
+fn put_written(out: &mut ArrayVec<u8, ROOM>, written: Option<u16>)
+    requires { array_vec_len out.old + 3 ≤ 5272 }
+    ensures items { out.new.items ≡ out.old.items ++ written_bytes written }
+    ensures len { array_vec_len out.new ≡ array_vec_len out.old + 3 }
+    ensures range { number_or_none written < 2 ^ 16 }
+{
+    match written {
+        Some(word) => {
+            out.push(1);
+            put_two(out, word);
+        }
+        None => {
+            out.push(0);
+            put_two(out, 0);
+        }
+    }
+}
+
+/// Appends where the communication area is.
+fn put_area(out: &mut ArrayVec<u8, ROOM>, rings: Rings)
+    requires { array_vec_len out.old + 12 ≤ 5272 }
+    ensures items { out.new.items ≡ out.old.items ++ area_bytes rings }
+    ensures len { array_vec_len out.new ≡ array_vec_len out.old + 12 }
+    ensures range { AreRings rings }
+{
+    put_four(out, rings.base());
+    put_four(out, rings.slots(Side::Responses));
+    put_four(out, rings.slots(Side::Commands));
+}
+
+/// Appends the communication area, if there is one.
+fn put_rings(out: &mut ArrayVec<u8, ROOM>, rings: Option<Rings>)
+    requires { array_vec_len out.old + 13 ≤ 5272 }
+    ensures items { out.new.items ≡ out.old.items ++ rings_bytes rings }
+    ensures len { array_vec_len out.new ≡ array_vec_len out.old + 13 }
+    ensures range { IfSome rings (λ r. AreRings r) }
+{
+    match rings {
+        Some(rings) => {
+            out.push(1);
+            put_area(out, rings);
+        }
+        None => {
+            out.push(0);
+            put(out, &[0; 12]);
+        }
+    }
+}
+
+/// Appends a task.
+fn put_coded(out: &mut ArrayVec<u8, ROOM>, coded: Coded)
+    requires { array_vec_len out.old + 17 ≤ 5272 }
+    ensures items { out.new.items ≡ out.old.items ++ coded_bytes coded }
+    ensures len { array_vec_len out.new ≡ array_vec_len out.old + 17 }
+    ensures range { HasCodedRange coded }
+{
+    out.push(coded.task);
+    out.push(coded.whom);
+    put_four(out, coded.first);
+    put_four(out, coded.second);
+    put_four(out, coded.third);
+    put_two(out, coded.two);
+    out.push(coded.how);
+}
+
+/// Appends how often a volume had changed when its unit was brought online, if it was.
+fn put_mounted(out: &mut ArrayVec<u8, ROOM>, mounted: Option<u32>)
+    requires { array_vec_len out.old + 5 ≤ 5272 }
+    ensures items { out.new.items ≡ out.old.items ++ mounted_bytes mounted }
+    ensures len { array_vec_len out.new ≡ array_vec_len out.old + 5 }
+    ensures range { number_or_none mounted < 2 ^ 32 }
+{
+    match mounted {
+        Some(changes) => {
+            out.push(1);
+            put_four(out, changes);
+        }
+        None => {
+            out.push(0);
+            put_four(out, 0);
+        }
+    }
+}
+
+/// Appends a volume.
+fn put_volume(out: &mut ArrayVec<u8, ROOM>, volume: Volume)
+    requires { array_vec_len out.old + 13 ≤ 5272 }
+    ensures items { out.new.items ≡ out.old.items ++ volume_bytes volume }
+    ensures len { array_vec_len out.new ≡ array_vec_len out.old + 13 }
+    ensures range { HasVolumeRange volume }
+{
+    put_flag(out, volume.is_there);
+    put_flag(out, volume.is_protected);
+    put_flag(out, volume.is_protected_by_host);
+    put_flag(out, volume.is_news);
+    put_four(out, volume.changes);
+    put_mounted(out, volume.mounted);
+}
+
+/// Appends volumes.
+fn put_volumes(out: &mut ArrayVec<u8, ROOM>, volumes: &[Volume])
+    requires { array_vec_len out.old + 13 * length volumes.now ≤ 5272 }
+    ensures items { out.new.items ≡ out.old.items ++ flat_map volume_bytes volumes.now }
+    ensures len { array_vec_len out.new ≡ array_vec_len out.old + 13 * length volumes.now }
+    ensures range { All HasVolumeRange volumes.now }
+{
+    for volume in volumes {
+        put_volume(out, *volume);
+    }
+}
+
+/// Appends what is kept of a command.
+fn put_buffer(out: &mut ArrayVec<u8, ROOM>, buffer: Buffer)
+    requires { array_vec_len out.old + 20 ≤ 5272 }
+    ensures items { out.new.items ≡ out.old.items ++ buffer_bytes buffer }
+    ensures len { array_vec_len out.new ≡ array_vec_len out.old + 20 }
+    ensures range { HasBufferRange buffer }
+{
+    put_four(out, buffer.reference);
+    put_four(out, buffer.address);
+    put_four(out, buffer.count);
+    put_two(out, buffer.modifiers);
+    put_two(out, buffer.flags);
+    put_four(out, buffer.changes);
+}
+
+/// Appends what is kept of commands.
+fn put_buffers(out: &mut ArrayVec<u8, ROOM>, buffers: &[Buffer])
+    requires { array_vec_len out.old + 20 * length buffers.now ≤ 5272 }
+    ensures items { out.new.items ≡ out.old.items ++ flat_map buffer_bytes buffers.now }
+    ensures len { array_vec_len out.new ≡ array_vec_len out.old + 20 * length buffers.now }
+    ensures range { All HasBufferRange buffers.now }
+{
+    for buffer in buffers {
+        put_buffer(out, *buffer);
+    }
+}
+
+/// The text of what goes out, which is empty if nothing does.
+fn text_of(outgoing: &Option<Outgoing>) -> &[u8]
+    ensures value { result.now ≡ outgoing_text outgoing.now }
+    ensures short { length result.now ≤ 48 }
+{
+    match outgoing {
+        Some(outgoing) => outgoing.bytes.as_slice(),
+        None => &[],
+    }
+}
+
+/// Whether something goes out, and whether that is an end.
+fn outgoing_byte(outgoing: &Option<Outgoing>) -> u8
+    ensures { result ≡ outgoing_byte outgoing.now }
+{
+    match outgoing {
+        Some(outgoing) if outgoing.is_end => 2,
+        Some(_) => 1,
+        None => 0,
+    }
+}
+
+impl<K: Picker> Port<K> {
+    /// Appends what it counts, and whether something is so.
+    fn put_counts(&self, out: &mut ArrayVec<u8, ROOM>)
+        requires { array_vec_len out.old + 7 ≤ 5272 }
+        ensures items { out.new.items ≡ out.old.items ++ counts_bytes self.now }
+        ensures len { array_vec_len out.new ≡ array_vec_len out.old + 7 }
+    {
+        out.push(self.more);
+        out.push(self.untold);
+        out.push(self.responses);
+        out.push(self.commands);
+        put_flag(out, self.is_polled);
+        put_flag(out, self.is_stalled);
+        put_flag(out, self.is_full);
+    }
+
+    /// Appends what kind of port it is, what it counts, and what its host has set.
+    fn put_state(&self, out: &mut ArrayVec<u8, ROOM>)
+        requires { array_vec_len out.old + 21 ≤ 5272 }
+        ensures items { out.new.items ≡ out.old.items ++ state_bytes self.now }
+        ensures len { array_vec_len out.new ≡ array_vec_len out.old + 21 }
+        ensures range { HasStateRange self.now }
+    {
+        put_hardware(out, self.hardware);
+        self.put_counts(out);
+        put_two(out, self.flags);
+        put_two(out, self.timeout);
+        put_two(out, self.left);
+        put_words(out, self.words);
+    }
+
+    /// Appends how far it has come, and what it has in hand.
+    fn put_hand(&self, out: &mut ArrayVec<u8, ROOM>)
+        requires { array_vec_len out.old + 39 ≤ 5272 }
+        ensures items { out.new.items ≡ out.old.items ++ hand_bytes self.now }
+        ensures len { array_vec_len out.new ≡ array_vec_len out.old + 39 }
+        ensures range { HasHandRange self.now }
+    {
+        put_stage(out, self.stage);
+        put_written(out, self.written);
+        put_rings(out, self.rings);
+        put_coded(out, coded_task(self.task));
+        out.push(outgoing_byte(&self.outgoing));
+        out.push(text_of(&self.outgoing).len() as u8);
+        out.push(self.buffers.len() as u8);
+    }
+
+    /// The picker of its controller.
+    pub fn picker(&self) -> &K
+        ensures { result.now ≡ self.now.controller.picker }
+    {
+        self.controller.picker()
+    }
+
+    /// All of it but the picker, as bytes, at most `ROOM`. The picker is told by a number, which is the caller's. What is the
+    /// same port has the same bytes, and `restore` makes the same port of them again.
+    pub fn save(&self, number: u8) -> ArrayVec<u8, ROOM>
+        ensures bytes { result.items ≡ saved_bytes number self.now }
+        ensures back { restored number self.now.controller.picker result.items ≡ Ok self.now }
+    {
+        let controller = mscp_saved::save(&self.controller, number);
+        let text = text_of(&self.outgoing);
+        let buffers = self.buffers.as_slice();
+        let total = 280 + text.len() + 20 * buffers.len() + controller.len();
+        let mut out = ArrayVec::new();
+        put_frame(&mut out, total as u32);
+        self.put_state(&mut out);
+        self.put_hand(&mut out);
+        put_volumes(&mut out, &self.volumes);
+        put(&mut out, text);
+        put_buffers(&mut out, buffers);
+        put(&mut out, controller.as_slice());
+        out
+    }
+}
