@@ -40,7 +40,8 @@ begun_task units buffers volumes None = tasks.Free
 begun_task units buffers volumes (Some u) =
     known_task u (place_in units u.command.unit) (kept_of u.command.reference buffers) volumes
 
--- the controller has begun a step, by this picker's word, and that is taken in hand; before it an end may have been taken
+-- the controller has begun a step, by this picker's word, and that is taken in hand; before it an end may have been
+-- taken
 pub record BeginsBlock {K : Type 0} (picks : List Choice → ℕ → Type 0) (task : Task) (old new : Port K) : Type 0 where
   pub begun : (held : Holdings K) × (upcoming : Option Upcoming)
       × ((held ≡ old.controller) ⊎ (held ≡ after_take First old.controller))

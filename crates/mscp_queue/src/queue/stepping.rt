@@ -166,7 +166,8 @@ impl<K: Picker> Queue<K> {
 
     /// Whether nothing waits. Then nothing was begun either.
     pub fn is_idle(&self) -> bool
-        ensures { result ≡ true → (self.now.waiting ≡ []) × (self.now.begun ≡ None) }
+        ensures value { result ≡ true ↔ (self.now.waiting ≡ []) }
+        ensures begun { result ≡ true → self.now.begun ≡ None }
     {
         self.backlog.len() == 0
     }

@@ -13,7 +13,8 @@ returns-clause-begins g c = λ of_block.
     begun_behind g.K.Picker.picks c.choose_block.result old between c.choose_block.new.self
     (elim c.if-is_none.branch [
       | then-is_none w ↦ subst
-          (λ (p : Port g.row.K.Denot). (p.controller ≡ old.controller) ⊎ (p.controller ≡ after_take First old.controller))
+          (λ (p : Port g.row.K.Denot). (p.controller ≡ old.controller)
+            ⊎ (p.controller ≡ after_take First old.controller))
           (sym w.self-is) w.find_outgoing.ensures.held
       | else-is_none w ↦ inl (ap (λ (p : Port g.row.K.Denot). p.controller) w.self-is)
     ])
