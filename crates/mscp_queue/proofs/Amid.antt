@@ -53,8 +53,8 @@ pub amid_carried : (k : Block) (d d' was : Drive) (r : Record) (h : Head) → is
     → d' ≡ record d { head = h }
 amid_carried k d d' was r h amid new is head =
     let to = option_map (cylinder_of d.unit) (touched d r) in
-    let up : h.up ≡ d.head.up =
-    ap (λ (z : Head). z.up) (head ∙ ap (λ b. head_after b to d.head) (amid_started k d r amid))
+    let goes : h ≡ head_after false to d.head = head ∙ ap (λ b. head_after b to d.head) (amid_started k d r amid) in
+    let up : h.up ≡ d.head.up = ap (λ (z : Head). z.up) goes
     ∙ way_stays to d.head in
     new ∙ (ap (λ (w : Drive). record w { head = record { cylinder = h.cylinder; up = w.head.up } }) is
     ∙ (λ i. record d { head = record { cylinder = h.cylinder; up = sym up i } }))

@@ -1,6 +1,6 @@
 // What a queue serves next, and its steps.
 
-ghost use Rattle.std.specs.Prelude.{◌≡◌, ◌<◌, [], true, false, length, IfNone, IfSome, None};
+ghost use Rattle.std.specs.Prelude.{◌≡◌, ◌↔◌, ◌<◌, [], true, false, length, IfNone, IfSome, None};
 ghost use Rattle.mscp_packet.specs.Ends.{IsOfKind};
 ghost use Rattle.mscp_queue.specs.Kept.{goes_on_at, units_of};
 ghost use Rattle.mscp_queue.specs.Lines.{Begins, BeginsAt, Serves, ServesAt};

@@ -13,7 +13,8 @@ pub invariant_of-self : goal.invariant_of-self
 invariant_of-self g c =
     subst (IsHeld c.self.inside.config c.serve_amid.new.self) (sym c.keep_end.ensures)
     (held_stepped c.self.inside.config (g.K.Picker.picks c.self.inside.queue.picker) c.args.block.now
-    c.self.inside.queue c.in-Some.amid c.serve_amid.new.self c.self.inside.accounts c.self.invariant
+    c.self.inside.queue
+    c.in-Some.amid c.serve_amid.new.self c.self.inside.accounts c.self.invariant
     c.in-Some.ensures.some c.serve_amid.ensures.units c.in-Some.ensures.shaped)
 
 pub returns-in-Some-clause-account : goal.returns-in-Some-clause-account
