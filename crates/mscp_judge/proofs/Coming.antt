@@ -1,6 +1,6 @@
 -- What a call leaves, as a judge stands then.
 use Rattle.std.proofs.Common.{◌≡◌, ◌≢◌, inl, inr, ℕ, zero, suc, ◌+◌, ◌-◌, ◌<◌, true, false, List, [], ◌∷◌, ◌++◌, drop, length, replicate, refl, ap, sym, ◌∙◌, subst, arith, length-append, length-drop, drop-drop, append_assoc, append-nil}
-use Rattle.std.specs.Prelude.{All, OnOk, Result, Ok, Err, ◌≤◌}
+use Rattle.std.specs.Prelude.{All, OnOk, Result, Ok, Err, None, ◌≤◌}
 use Rattle.std.specs.List.{list_all}
 use Rattle.std.proofs.Math.Seq.{drop-append_seam}
 use Rattle.std.proofs.lemmas.List.{length-replicate}
@@ -15,7 +15,8 @@ use Rattle.mscp_queue.specs.declared.report.Report.{Report}
 use Rattle.mscp_queue.specs.Records.{Record, record_at}
 use Rattle.mscp_control.specs.Settings.{IsValid, Settings, bound}
 use Rattle.mscp_control.specs.History.{Trace, is_step}
-use Rattle.mscp_control.specs.Holdings.{Answers, Holdings, fresh}
+use Rattle.mscp_control.specs.Holdings.{Answers, Holdings, Steps, fresh}
+use Rattle.mscp_queue.specs.declared.report.Report.TheVariants.{Idle}
 use Rattle.mscp_control.specs.Legal.{IsLegal}
 use Rattle.mscp_reader.specs.Lexical.{is_printed, words}
 use Rattle.mscp_script.specs.Text.{Reported, entry_lines, reported, step_count, step_line, with_entry}
@@ -64,6 +65,33 @@ came_on (Ok x) old new name event entry mid a m e z figure passed f p lf lp o =
       };
     }
 came_on (Err x) old new name event entry mid a m e z figure passed f p lf lp o = tt
+
+-- a step at which nothing waits and nothing was begun is idle, and leaves what is held
+pub idle_steps : (name : Named) (k : Block) (h h' : Holdings Named) → h' ≡ h → h.waiting ≡ [] → h.begun ≡ None
+    → Steps (IsNamed name) k h Idle h'
+idle_steps name k h h' e waits begun =
+    subst (λ (x : Holdings Named). Steps (IsNamed name) k h Idle x) (sym e) (record {
+      serves = (waits, begun, refl);
+      ends = λ i. record {
+        first = sym (append-nil h.untaken.first) i;
+        second = sym (append-nil h.untaken.second) i;
+      };
+      settings = refl;
+    })
+
+-- and so it comes
+pub idle_came : {A : Type 0} (r : Result (Unit {0}) OutOfMemory) (old new : Judge A) (mid : Reported)
+    → old.controller.waiting ≡ [] → old.controller.begun ≡ None → new.controller ≡ with_picker old.controller nobody
+    → mid ≡ record old.reporter { lines = [] } → OnOk r (new.reporter ≡ with_entry mid (entries.Stepped Idle))
+    → new.told ≡ 0 → IsLarger old.peaks.figure 0 new.peaks.figure → IsLarger old.peaks.passed 0 new.peaks.passed
+    → OnOk r (Came nobody old new (events.Step old.block))
+idle_came r old new mid waits begun held m e z f p =
+    let none : new.controller.waiting ≡ [] = ap (λ (h : Holdings Named). h.waiting) held ∙ waits in
+    came_on r old new nobody (events.Step old.block) (entries.Stepped Idle) mid
+    (idle_steps nobody old.block (with_picker old.controller nobody) new.controller held waits begun)
+    m e z 0 0 refl (sym (ap (λ (rs : List Record). (record_at rs 0).passed) none)) f p
+    (subst (λ rs. All (λ (r : Record). r.passed ≤ 0) rs) (sym none)
+    (λ k d inside. absurd (omega (arith, inside))))
 
 -- ---- a new judge
 

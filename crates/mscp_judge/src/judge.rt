@@ -1,11 +1,12 @@
 // A controller that answers what a log says, and what of its answers wasn't told yet.
 
-ghost use Rattle.std.specs.Prelude.{◌≡◌, ◌+◌, ◌-◌, ◌<◌, ◌^◌, ◌++◌, [], codes, length, true, false, OnOk, IfOk};
+ghost use Rattle.std.specs.Prelude.{◌≡◌, ◌+◌, ◌-◌, ◌<◌, ◌^◌, ◌++◌, [], codes, length, true, false, OnOk, IfOk, None};
 ghost use Rattle.mscp_control.specs.Settings.{IsValid, Settings};
 ghost use Rattle.mscp_control.specs.declared.event.Event.TheVariants as events;
 ghost use Rattle.mscp_reader.specs.Plain.{plain_request};
 ghost use Rattle.mscp_reader.specs.Requests.{events_of};
 ghost use Rattle.mscp_judge.specs.Logs.{AreAnswers, Log, asking, nothing, telling};
+ghost use Rattle.mscp_judge.specs.Naming.{nobody as none_named};
 ghost use Rattle.mscp_judge.specs.Standing.{Came, HasShortLine, IsSettled, Stands, due, totals_of};
 
 mod telling;
@@ -188,8 +189,9 @@ impl<A: Allocator> Judge<A> {
         ensures due { result ≡ true → due self.now ≡ [] }
         ensures owed { result ≡ true → 0 < self.now.owed }
         ensures nothing { result ≡ true → self.now.controller.waiting ≡ [] }
+        ensures begun { result ≡ true → self.now.controller.begun ≡ None }
     {
-        self.owes() && self.controller.len() == 0
+        self.owes() && self.controller.len() == 0 && self.controller.begun().is_none()
     }
 
     /// A step is answered at which nothing waits, and its line is told.
@@ -198,14 +200,36 @@ impl<A: Allocator> Judge<A> {
         requires due { due self.old ≡ [] }
         requires owed { 0 < self.old.owed }
         requires nothing { self.old.controller.waiting ≡ [] }
+        requires begun { self.old.controller.begun ≡ None }
         ensures told { OnOk result ((c : Settings) (log : Log) → Stands c log self.old
             → Stands c (telling log (codes "idle\n")) self.new) }
         ensures count { OnOk result (self.new.reporter.count + self.new.owed
             ≡ self.old.reporter.count + self.old.owed) }
     {
-        self.step(nobody())?;
+        self.idle_step()?;
         self.tell_all();
         Ok(())
+    }
+
+    /// What `step` does where nothing waits: the controller is idle, and stays as it is.
+    #[inline(always)]
+    fn idle_step(&mut self) -> Result<(), OutOfMemory>
+        requires count { self.old.reporter.count + 1 < 2 ^ 64 }
+        requires owed { 0 < self.old.owed }
+        requires nothing { self.old.controller.waiting ≡ [] }
+        requires begun { self.old.controller.begun ≡ None }
+        ensures came { OnOk result (Came none_named self.old self.new (events.Step self.old.block)) }
+        ensures owed { self.new.owed ≡ self.old.owed - 1 }
+        ensures block { self.new.block ≡ self.old.block }
+        ensures count { OnOk result (self.new.reporter.count + self.new.owed
+            ≡ self.old.reporter.count + self.old.owed) }
+    {
+        self.owed -= 1;
+        self.reporter.forget_lines();
+        self.told = 0;
+        let _before = self.controller.replace_picker(nobody());
+        self.peaks.rise(0, 0);
+        self.reporter.idled()
     }
 
     /// So many steps are asked for, each with this outcome.

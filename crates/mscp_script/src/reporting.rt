@@ -2,6 +2,7 @@
 
 ghost use Rattle.std.specs.Prelude.{◌≡◌, ◌+◌, ◌<◌, ◌≤◌, ◌^◌, [], IfOk, OnOk, length};
 ghost use Rattle.mscp_control.specs.declared.event.Entry.TheVariants as entries;
+ghost use Rattle.mscp_queue.specs.declared.report.Report.TheVariants as reports;
 ghost use Rattle.mscp_script.specs.Text.{finished, reported, step_line, text, with_entry};
 
 mod lines;
@@ -14,6 +15,7 @@ use crate::reporting::tail::Tail;
 use crate::totals::Totals;
 use arrayvec::ArrayVec;
 use mscp_control::{Connection, Entry, OutOfMemory, Report, SendFault, Sent};
+use mscp_text::put;
 use std::alloc::{Allocator, Global};
 use std::marker::Model;
 
@@ -127,6 +129,17 @@ impl<A: Allocator> Reporter<A> {
     {
         put_step(&mut self.out, &mut self.line, report)?;
         self.totals.add_step(report);
+        Ok(())
+    }
+
+    /// Reports a step at which nothing waited.
+    #[inline(always)]
+    pub fn idled(&mut self) -> Result<(), OutOfMemory>
+        requires { self.old.count + 1 < 2 ^ 64 }
+        ensures { OnOk result (self.new ≡ with_entry self.old (entries.Stepped reports.Idle)) }
+    {
+        put(&mut self.out, "idle\n")?;
+        self.totals.add_step(&Report::Idle);
         Ok(())
     }
 
