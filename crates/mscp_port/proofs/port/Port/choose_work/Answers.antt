@@ -14,7 +14,7 @@ returns-clause-begins g c = λ of_block.
     (elim c.if-is_none.branch [
       | then-is_none w ↦ subst
           (λ (p : Port g.row.K.Denot). (p.controller ≡ old.controller)
-            ⊎ (p.controller ≡ after_take First old.controller))
+          ⊎ (p.controller ≡ after_take First old.controller))
           (sym w.self-is) w.find_outgoing.ensures.held
       | else-is_none w ↦ inl (ap (λ (p : Port g.row.K.Denot). p.controller) w.self-is)
     ])

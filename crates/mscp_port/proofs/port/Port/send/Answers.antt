@@ -23,6 +23,6 @@ returns-in-Ok-Queued-clause-kept g c = λ reference answer room.
     let message = c.args.message.now in
     c.keep.ensures.value room
     ∙ ap (λ units. old.buffers.items
-        ++ buffer_in message (changes_at old.volumes (place_in units (num message 4 2))) ∷ [])
+    ++ buffer_in message (changes_at old.volumes (place_in units (num message 4 2))) ∷ [])
     (ap (λ h. h.settings.units) c.send.ensures.after
     ∙ ap (λ s. s.units) (settings_after First old.controller c.deref.result.now))
