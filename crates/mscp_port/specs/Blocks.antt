@@ -1,7 +1,6 @@
 -- How the step of a command is taken, and why it isn't (statuses: manual, "Status and Event Codes").
-use Rattle.std.specs.Prelude.{ℕ, ◌+◌, ◌*◌, ◌%◌, ◌==◌, ◌&&◌, ◌||◌, not, Bool, true, false, if◌then◌else◌, slice_get, List, Option, None, Some}
+use Rattle.std.specs.Prelude.{ℕ, ◌%◌, ◌==◌, ◌&&◌, ◌||◌, not, Bool, true, false, if◌then◌else◌, slice_get, List, Option, None, Some}
 use Rattle.std.specs.List.{position}
-use Rattle.mscp_drive.specs.Shape.{Shape}
 use Rattle.mscp_packet.specs.declared.command.MoveKind.{MoveKind}
 use Rattle.mscp_packet.specs.declared.command.MoveKind.TheVariants as moves
 use Rattle.mscp_packet.specs.declared.command.Order.{Order}
@@ -17,7 +16,6 @@ use Rattle.mscp_port.specs.declared.task.Task.{Task}
 use Rattle.mscp_port.specs.declared.task.Task.TheVariants as tasks
 use Rattle.mscp_port.specs.declared.volumes.Volume.{Volume}
 use Rattle.mscp_port.specs.Buffers.{has_reference, part_of}
-use Rattle.mscp_port.specs.Volumes.{place_in, volume_at}
 
 -- ---- transfers
 

@@ -1,5 +1,5 @@
 -- What follows what was read in host memory (port: UQSSP, "Ring Entries", "Envelope Header").
-use Rattle.std.specs.Prelude.{◌≡◌, ◌≢◌, ◌<◌, ℕ, ◌+◌, ◌/◌, ◌%◌, ◌==◌, ◌&&◌, ◌||◌, ◌++◌, ◌∷◌, [], not, Bool, true, false, nat_lt, if◌then◌else◌, List, length, MatchOption, Result, Option, None, Some, Ok, Err}
+use Rattle.std.specs.Prelude.{◌≡◌, ◌≢◌, ◌<◌, ℕ, ◌/◌, ◌%◌, ◌==◌, ◌||◌, ◌++◌, ◌∷◌, [], not, Bool, true, false, nat_lt, if◌then◌else◌, List, length, MatchOption, Result, Option, None, Some, Ok, Err}
 use Rattle.mscp_packet.specs.Number.{num}
 use Rattle.mscp_queue.specs.declared.name.Connection.TheVariants.{First}
 use Rattle.mscp_control.specs.Holdings.{answer_to_message}
