@@ -344,7 +344,8 @@ impl<K: Picker> Controller<K> {
         self.step_apart(block)
     }
 
-    /// The step, if it is neither a command's first nor its last: else nothing changes.
+    /// The step, if this finds that it is neither a command's first nor its last: else nothing changes. No clause says when it
+    /// finds that, so None tells nothing, and `step` is to be asked.
     #[inline(always)]
     pub fn step_amid(&mut self, block: &Block) -> Option<Report>
         ensures step { IfSome result (λ report. Steps (K.picks self.old.picker) block.now self.old report self.new) }
