@@ -1,5 +1,4 @@
-use Rattle.std.proofs.Common.{ap, refl, subst, sym, ◌∙◌}
-use Rattle.mscp_control.specs.Holdings.{Holdings}
+use Rattle.std.proofs.Common.{ap, refl, ◌∙◌}
 use Rattle.mscp_judge.specs.declared.naming.Named.{Named}
 use Rattle.mscp_judge.specs.Standing.{with_picker}
 use Rattle.mscp_judge.proofs.Coming.{idle_came}
