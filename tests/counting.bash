@@ -1,6 +1,6 @@
 # What the tests here share: each names itself, and the last line counts them.
 
-passed=0 failed=0
+passed=0 failed=0 skipped=0
 
 # Runs a test, of which the words tell what must hold, and says how it went.
 try() {
@@ -15,10 +15,18 @@ try() {
     fi
 }
 
-# The last line, and the status: without a test nothing was tested, which is a failure too.
+# Says that a test isn't run, since the machine lacks what a package of Debian has.
+skip() {
+    skipped=$((skipped + 1))
+    echo "$1: skipped, since it wants the package $2"
+}
+
+# The last line, and the status: without a test nothing was tested, which is a failure too, unless some were skipped.
 count() {
-    echo "$passed passed, $failed failed"
-    [ "$failed" -eq 0 ] && [ "$passed" -gt 0 ]
+    local left_out=''
+    [ "$skipped" -eq 0 ] || left_out=", $skipped skipped"
+    echo "$passed passed, $failed failed$left_out"
+    [ "$failed" -eq 0 ] && [ $((passed + skipped)) -gt 0 ]
 }
 
 # Makes the folder `room` for what a test writes, which is removed at every end.
