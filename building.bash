@@ -171,17 +171,61 @@ follow() {
     draw ''
 }
 
-# Proves and builds by rt, or says what rt said and ends.
-prove() {
-    local status
-    said='' doing='reading the sources' checked=''
-    follow < <(cd -- "$crate" && tied env -u RT_ALLOW_C -u RT_BACKEND -u RT_SECONDS PYTHONUNBUFFERED=1 TMPDIR="$room" \
-        rt "${words[@]}" <"$input" 2>&1 {lock}>&-)
-    wait "$!"
-    status=$?
+# Becomes rt with these words, whatever the caller's settings are.
+become_rt() { tied env -u RT_ALLOW_C -u RT_BACKEND -u RT_SECONDS PYTHONUNBUFFERED=1 TMPDIR="$room" rt "$@"; }
+
+# The project's crates that this one stands on, lowest first.
+below() {
+    local low
+    for low in $(sed -nE "s/^$1( staticlib)?://p" "$top/crates.txt"); do
+        [ ! -d "$top/crates/$low" ] || { below "$low" && echo "$low"; }
+    done | awk '!seen[$0]++'
+}
+
+# Proves and builds a library in a folder of its own, once those that it stands on are there, since runs of rt that share a
+# crate wait for each other.
+build_library() {
+    local at=$room/apart/$1 low
+    mkdir -p -- "$at/crates" && cp -- "$top/crates.txt" "$top/HANDLES" "$at" || return
+    for low in $(below "$1"); do
+        until [ -e "$room/apart/$low/built" ]; do sleep 0.1; done
+        cp -al -- "$room/apart/$low/crates/$low" "$at/crates" || return
+    done
+    cp -a -- "$top/crates/$1" "$at/crates" && (cd -- "$at/crates/$1" && become_rt lib </dev/null) && : >"$at/built"
+}
+
+# Has these libraries built, each by a process that ends where this one does.
+build_libraries() {
+    local low
+    for low in "$@"; do tied "$BASH" "$top/building.bash" build_library "$top" "$name" "$nothing" "$room" "$low" & done
+    for low in "$@"; do wait -n || return; done
+    for low in "$@"; do
+        mv -- "$room/apart/$low/crates/$low/out" "$top/crates/$low" || refuse "crates/$low/out can't be written"
+    done
+}
+
+# Ends, where rt did not end well, with what it said.
+ended_well() {
+    local status=$?
     [ "$status" -ne 0 ] || return 0
     printf %s "$said" >&2
     refuse "what stands here isn't proved and built, as rt ended with status $status"
+}
+
+# Proves and builds by rt: the libraries side by side if nothing of them is there, and then what is wanted, which takes them.
+prove() {
+    local libraries
+    said='' doing='reading the sources' checked=''
+    mapfile -t libraries < <(below "${crate##*/}")
+    if [ "${#libraries[@]}" -gt 0 ] && ! (cd -- "$top/crates" && find "${libraries[@]/%//out}" -maxdepth 0 2>/dev/null) | grep -q .; then
+        follow < <(tied "$BASH" "$top/building.bash" build_libraries "$top" "$name" "$nothing" "$room" "${libraries[@]}" \
+            2>&1 {lock}>&-)
+        wait "$!"
+        ended_well
+    fi
+    follow < <(cd -- "$crate" && become_rt "${words[@]}" <"$input" 2>&1 {lock}>&-)
+    wait "$!"
+    ended_well
 }
 
 # Keeps what rt built, if that and the sources are still the same after it was copied.
@@ -223,8 +267,11 @@ build() {
 
 if [ "$0" = "${BASH_SOURCE[0]}" ]; then
     set -u
-    top=$2 name=$3 nothing=$4 room=$5
-    "$1"
+    role=$1 top=$2 name=$3 nothing=$4 room=$5
+    shift 5
+    "$role" "$@"
+    ended=$?
+    [[ $role != build_* ]] || exit "$ended"
     command -v rt >/dev/null || refuse "the Rattle kit's command rt is wanted on the path"
     is_kept || build
     echo "$wanted"

@@ -1,7 +1,7 @@
 // What is promised of who calls from C.
 
 ghost use Rattle.std.specs.Prelude.{◌≡◌, pos, true};
-ghost use Rattle.mscp_control.specs.Settings.{IsValid};
+ghost use Rattle.mscp_events.specs.Settings.{IsValid};
 ghost use Rattle.mscp_memory.specs.ControllerHandles.{is_made};
 ghost use Rattle.mscp_c.specs.HandleCalls.{HandlesKeepThePromise};
 ghost use Rattle.mscp_c.specs.Statuses.{minus};

@@ -10,9 +10,9 @@ use Rattle.mscp_packet.specs.Statuses.{invalid_version, unit_offline}
 use Rattle.mscp_drive.specs.Shape.{Shape}
 use Rattle.mscp_drive.specs.Extent as extent
 use Rattle.mscp_queue.specs.Orders.{order_weight}
-use Rattle.mscp_control.specs.declared.event.SendFault.{SendFault}
-use Rattle.mscp_control.specs.declared.event.SendFault.TheVariants.{Short, Long, NoCredit, LastCredit, Doubled}
-use Rattle.mscp_control.specs.Settings.{Settings, unit_found}
+use Rattle.mscp_control.specs.declared.entry.SendFault.{SendFault}
+use Rattle.mscp_control.specs.declared.entry.SendFault.TheVariants.{Short, Long, NoCredit, LastCredit, Doubled}
+use Rattle.mscp_events.specs.Settings.{Settings, unit_found}
 
 -- ---- credits
 

@@ -1,4 +1,3 @@
-pub mod Settings
 pub mod Arrival
 pub mod Outcomes
 pub mod Holdings
@@ -11,7 +10,6 @@ pub mod Figures
 pub mod Holders
 pub mod Units
 pub mod Ends
-pub mod Both
 pub mod Accounts
 pub mod Account
 pub mod Credits

@@ -7,8 +7,8 @@ ghost use Rattle.mscp_control.specs.Accounts.{account, come, ended, fresh, left,
 mod restoring;
 
 use arrayvec::ArrayVec;
+use mscp_events::Connection;
 use mscp_packet::End;
-use mscp_queue::Connection;
 
 /// What is kept for the host of one connection.
 #[derive(Drop)]

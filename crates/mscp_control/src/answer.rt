@@ -5,8 +5,8 @@ ghost use Rattle.mscp_packet.specs.Statuses.{success};
 ghost use Rattle.mscp_queue.specs.Outcomes.{end_with};
 ghost use Rattle.mscp_control.specs.Outcomes.{controller_body, refused_end, unit_body, unit_status};
 
-use crate::config::Config;
 use mscp_drive::Unit;
+use mscp_events::Config;
 use mscp_packet::status::{SUCCESS, UNIT_AVAILABLE};
 use mscp_packet::{Command, End, EndBody};
 use mscp_queue::{end_with, endcode_of};

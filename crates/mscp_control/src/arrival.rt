@@ -4,10 +4,10 @@ ghost use Rattle.std.specs.Prelude.{◌≡◌, ◌+◌, ◌≤◌, ◌^◌, IfOk
 ghost use Rattle.mscp_packet.specs.Opcodes.{class, is_immediate_class};
 ghost use Rattle.mscp_control.specs.Arrival.{is_immediate, judged, move_fault, unit_fault, version_fault};
 ghost use Rattle.mscp_queue.specs.Orders.{first_block};
-ghost use Rattle.mscp_control.specs.Settings.{unit_found};
+ghost use Rattle.mscp_events.specs.Settings.{unit_found};
 ghost use Rattle.mscp_drive.specs.Extent.{weighed, weight};
 
-use crate::config::Config;
+use mscp_events::Config;
 use mscp_packet::status::{INVALID_VERSION, UNIT_OFFLINE};
 use mscp_packet::{Command, Order, class_of};
 

@@ -7,8 +7,8 @@ ghost use Rattle.mscp_queue.specs.Names.{name_on};
 ghost use Rattle.mscp_queue.specs.Outcomes.{IsCoded};
 ghost use Rattle.mscp_control.specs.Arrival.{credit_fault, fault_of, holds, is_queued};
 ghost use Rattle.mscp_control.specs.Accounts.{CanEnd, reported};
-ghost use Rattle.mscp_control.specs.Both.{of};
-ghost use Rattle.mscp_control.specs.Settings.{IsValid};
+ghost use Rattle.mscp_events.specs.Both.{of};
+ghost use Rattle.mscp_events.specs.Settings.{IsValid};
 ghost use Rattle.mscp_control.specs.Holdings.{Answers, Finishes, Foretells, IsBalanced, Steps, aborting, after_message, after_take, answer_to_message, answered_end, arrives, balance_of, end_taken, with_end, fresh, outstanding_of, queued, reference_aborted, taken_as};
 
 mod restoring;
@@ -17,13 +17,13 @@ mod seeing;
 use crate::account::Accounts;
 use crate::answer::{controller_end, refused_end, unit_status_end};
 use crate::arrival::{is_immediate, judge, may_take_last_credit};
-use crate::config::Config;
-use crate::event::{Entry, Event, SendFault, Sent, Stale};
+use crate::entry::{Entry, SendFault, Sent, Stale};
 use arrayvec::ArrayVec;
 use mscp_drive::Units;
+use mscp_events::{Block, Config, Connection, Event};
 use mscp_packet::status::SUCCESS;
 use mscp_packet::{Command, End, EndBody, Order, read_command, write_end};
-use mscp_queue::{Block, Connection, Picker, Queue, Report, Upcoming, Waiting, end_with};
+use mscp_queue::{Picker, Queue, Report, Upcoming, Waiting, end_with};
 use std::marker::Model;
 
 /// Gives the end that a report brings, if it brings one, to the host of its command's connection.

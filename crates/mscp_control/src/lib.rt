@@ -4,25 +4,21 @@
 mod account;
 mod answer;
 mod arrival;
-mod config;
 mod controller;
-mod event;
+mod entry;
 mod law;
-mod memory;
 mod running;
 mod worst_case;
 
-pub use crate::config::{Config, ConfigFault};
 pub use crate::controller::Controller;
-pub use crate::event::{Entry, Event, SendFault, Sent, Stale};
+pub use crate::entry::{Entry, SendFault, Sent, Stale};
 pub use crate::law::{
     controllers_keep_the_promise, legal_traces_make_progress, runs_keep_the_promise,
     the_bound_is_the_least,
 };
-pub use crate::memory::OutOfMemory;
 pub use crate::running::{run, run_in, run_into};
 pub use crate::worst_case::{worst, worst_in};
+pub use mscp_events::{Block, Config, ConfigFault, Connection, Event, FaultStatus, OutOfMemory};
 pub use mscp_queue::{
-    Block, Choice, Connection, Drive, FaultStatus, Holder, Name, Oldest, Picker, Record, Report,
-    Sweep, Upcoming, View,
+    Choice, Drive, Holder, Name, Oldest, Picker, Record, Report, Sweep, Upcoming, View,
 };

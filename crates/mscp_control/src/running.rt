@@ -5,12 +5,11 @@ ghost use Rattle.mscp_control.specs.Holdings.{Answered};
 ghost use Rattle.mscp_control.specs.Headline.{Headline};
 ghost use Rattle.mscp_control.specs.Legal.{IsPicked};
 ghost use Rattle.mscp_control.specs.Sweeping.{IsSweeping, Sweeps};
-ghost use Rattle.mscp_control.specs.Settings.{IsValid};
+ghost use Rattle.mscp_events.specs.Settings.{IsValid};
 
-use crate::config::Config;
 use crate::controller::Controller;
-use crate::event::{Entry, Event};
-use crate::memory::OutOfMemory;
+use crate::entry::Entry;
+use mscp_events::{Config, Event, OutOfMemory};
 use mscp_queue::Picker;
 use std::alloc::{Allocator, Global};
 

@@ -26,6 +26,10 @@ shape number track group cylinder size id media serial =
       serial = serial;
     }
 
+-- a unit of one block, which stands for one that isn't configured
+abbrev pub one_block : Shape
+one_block = record { number = 0; track = 1; group = 1; cylinder = 1; size = 1; id = 0; media = 0; serial = 0 }
+
 -- the blocks of a cylinder (profile)
 abbrev pub cylinder_blocks : Shape → ℕ
 cylinder_blocks u = u.track * u.group * u.cylinder

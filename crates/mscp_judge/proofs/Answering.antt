@@ -8,16 +8,16 @@ use Rattle.std.specs.Str.{bytes_eq}
 use Rattle.std.proofs.lemmas.List.{length-map}
 use Rattle.arrayvec.specs.ArrayVec.{ArrayVec}
 use Rattle.hex.specs.Hex.{encode_lower}
-use Rattle.mscp_queue.specs.declared.name.Connection.{Connection}
-use Rattle.mscp_queue.specs.declared.name.Connection.TheVariants.{First, Second}
+use Rattle.mscp_events.specs.declared.connection.Connection.{Connection}
+use Rattle.mscp_events.specs.declared.connection.Connection.TheVariants.{First, Second}
 use Rattle.mscp_queue.specs.declared.report.Report.{Report}
 use Rattle.mscp_queue.specs.declared.report.Report.TheVariants.{Idle, Served}
 use Rattle.mscp_packet.specs.declared.end.End.{End}
-use Rattle.mscp_control.specs.declared.event.Entry.TheVariants as entries
-use Rattle.mscp_control.specs.declared.event.SendFault.{SendFault}
-use Rattle.mscp_control.specs.declared.event.SendFault.TheVariants.{Short, Long, NoCredit, LastCredit, Doubled}
-use Rattle.mscp_control.specs.declared.event.Sent.{Sent}
-use Rattle.mscp_control.specs.declared.event.Sent.TheVariants as sents
+use Rattle.mscp_control.specs.declared.entry.Entry.TheVariants as entries
+use Rattle.mscp_control.specs.declared.entry.SendFault.{SendFault}
+use Rattle.mscp_control.specs.declared.entry.SendFault.TheVariants.{Short, Long, NoCredit, LastCredit, Doubled}
+use Rattle.mscp_control.specs.declared.entry.Sent.{Sent}
+use Rattle.mscp_control.specs.declared.entry.Sent.TheVariants as sents
 use Rattle.mscp_text.specs.Lines.{line, status_text}
 use Rattle.mscp_reader.specs.Lexical.{is_comment, words}
 use Rattle.mscp_reader.specs.Plain.{IsApart}

@@ -1,8 +1,8 @@
 -- How a judge stands after a line that asks.
 use Rattle.std.proofs.Common.{◌≡◌, inl, false, List, [], ◌∷◌, ◌++◌, refl, ap, sym, ◌∙◌, subst, append_assoc, append-nil}
-use Rattle.mscp_control.specs.declared.event.Event.{Event}
-use Rattle.mscp_control.specs.declared.event.Entry.{Entry}
-use Rattle.mscp_control.specs.Settings.{Settings}
+use Rattle.mscp_events.specs.declared.event.Event.{Event}
+use Rattle.mscp_control.specs.declared.entry.Entry.{Entry}
+use Rattle.mscp_events.specs.Settings.{Settings}
 use Rattle.mscp_control.specs.History.{Moment, Trace, is_step}
 use Rattle.mscp_control.specs.Holdings.{Answers, Holdings, fresh}
 use Rattle.mscp_control.specs.Legal.{IsLegal, IsRight}

@@ -1,7 +1,7 @@
 -- The rule that a line breaks which comes to a judge.
 use Rattle.std.proofs.Common.{◌≡◌, ◌≢◌, ℕ, true, false, List, [], refl, sym, ◌∙◌}
 use Rattle.std.proofs.lemmas.Bool.{true≢false}
-use Rattle.mscp_control.specs.Settings.{IsValid, Settings}
+use Rattle.mscp_events.specs.Settings.{IsValid, Settings}
 use Rattle.mscp_control.specs.History.{Trace}
 use Rattle.mscp_control.specs.Holdings.{fresh}
 use Rattle.mscp_reader.specs.Lexical.{words}

@@ -5,15 +5,15 @@ use Rattle.std.specs.List.{list_all}
 use Rattle.std.proofs.Math.Seq.{drop-append_seam}
 use Rattle.std.proofs.lemmas.List.{length-replicate}
 use Rattle.std.proofs.lemmas.Bool.{and_parts, false≢true}
-use Rattle.mscp_queue.specs.declared.block.Block.{Block}
-use Rattle.mscp_control.specs.declared.event.Event.{Event}
-use Rattle.mscp_control.specs.declared.event.Event.TheVariants as events
-use Rattle.mscp_control.specs.declared.event.Entry.{Entry}
-use Rattle.mscp_control.specs.declared.event.Entry.TheVariants as entries
-use Rattle.mscp_control.specs.declared.memory.OutOfMemory.{OutOfMemory}
+use Rattle.mscp_events.specs.declared.block.Block.{Block}
+use Rattle.mscp_events.specs.declared.event.Event.{Event}
+use Rattle.mscp_events.specs.declared.event.Event.TheVariants as events
+use Rattle.mscp_control.specs.declared.entry.Entry.{Entry}
+use Rattle.mscp_control.specs.declared.entry.Entry.TheVariants as entries
+use Rattle.mscp_events.specs.declared.memory.OutOfMemory.{OutOfMemory}
 use Rattle.mscp_queue.specs.declared.report.Report.{Report}
 use Rattle.mscp_queue.specs.Records.{Record, record_at}
-use Rattle.mscp_control.specs.Settings.{IsValid, Settings, bound}
+use Rattle.mscp_events.specs.Settings.{IsValid, Settings, bound}
 use Rattle.mscp_control.specs.History.{Trace, is_step}
 use Rattle.mscp_control.specs.Holdings.{Answers, Holdings, Steps, fresh}
 use Rattle.mscp_queue.specs.declared.report.Report.TheVariants.{Idle}

@@ -1,8 +1,8 @@
 -- A log of which there is a legal trace is judged to be legal, and no other.
 use Rattle.std.proofs.Common.{◌≡◌, ℕ, ◌+◌, ◌≤◌, true, false, List, [], ◌∷◌, ◌++◌, length, refl, ap, sym, ◌∙◌, subst, arith, append_assoc, append-nil}
 use Rattle.std.specs.Prelude.{if◌then◌else◌, Result, Ok, Err}
-use Rattle.mscp_control.specs.Settings.{Settings}
-use Rattle.mscp_control.specs.declared.event.Event.{Event}
+use Rattle.mscp_events.specs.Settings.{Settings}
+use Rattle.mscp_events.specs.declared.event.Event.{Event}
 use Rattle.mscp_text.specs.Steps.{◌>>=◌}
 use Rattle.mscp_text.specs.Lines.{line}
 use Rattle.mscp_reader.specs.Lexical.{lines}

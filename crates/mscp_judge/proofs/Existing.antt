@@ -3,12 +3,12 @@ use Rattle.std.proofs.Common.{◌≡◌, ℕ, zero, suc, Bool, true, false, ◌|
 use Rattle.std.specs.Prelude.{nat_eq, replicate, slice_get, ◌&&◌}
 use Rattle.std.specs.List.{AllByRecursion, list_all}
 use Rattle.std.proofs.lemmas.Bool.{false≢true, lt-ltb}
-use Rattle.mscp_queue.specs.declared.block.Block.{Block}
+use Rattle.mscp_events.specs.declared.block.Block.{Block}
 use Rattle.mscp_queue.specs.declared.report.Report.TheVariants.{Idle, Served}
-use Rattle.mscp_control.specs.declared.event.Event.TheVariants as events
-use Rattle.mscp_control.specs.declared.event.Entry.{Entry}
-use Rattle.mscp_control.specs.declared.event.Entry.TheVariants as entries
-use Rattle.mscp_control.specs.Settings.{IsValid, Settings}
+use Rattle.mscp_events.specs.declared.event.Event.TheVariants as events
+use Rattle.mscp_control.specs.declared.entry.Entry.{Entry}
+use Rattle.mscp_control.specs.declared.entry.Entry.TheVariants as entries
+use Rattle.mscp_events.specs.Settings.{IsValid, Settings}
 use Rattle.mscp_control.specs.History.{Moment, Trace}
 use Rattle.mscp_control.specs.Commands.{connection, done, in_service, is_idle, is_waiting, reference, unit, waiting}
 use Rattle.mscp_control.specs.Passing.{is_startable}

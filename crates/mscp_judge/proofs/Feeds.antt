@@ -7,14 +7,14 @@ use Rattle.std.proofs.Math.Seq.{get_or-append_seam, take-append_seam}
 use Rattle.mscp_queue.proofs.Placed.{cut_at}
 use Rattle.hex.specs.Hex.{encode_lower}
 use Rattle.arrayvec.specs.ArrayVec.{ArrayVec}
-use Rattle.mscp_queue.specs.declared.name.Connection.{Connection}
+use Rattle.mscp_events.specs.declared.connection.Connection.{Connection}
 use Rattle.mscp_queue.specs.declared.report.Report.{Report}
 use Rattle.mscp_queue.specs.declared.report.Report.TheVariants.{Idle, Served}
-use Rattle.mscp_control.specs.declared.event.Entry.{Entry}
-use Rattle.mscp_control.specs.declared.event.Entry.TheVariants as entries
-use Rattle.mscp_control.specs.declared.event.SendFault.{SendFault}
-use Rattle.mscp_control.specs.declared.event.Sent.{Sent}
-use Rattle.mscp_control.specs.declared.event.Sent.TheVariants as sents
+use Rattle.mscp_control.specs.declared.entry.Entry.{Entry}
+use Rattle.mscp_control.specs.declared.entry.Entry.TheVariants as entries
+use Rattle.mscp_control.specs.declared.entry.SendFault.{SendFault}
+use Rattle.mscp_control.specs.declared.entry.Sent.{Sent}
+use Rattle.mscp_control.specs.declared.entry.Sent.TheVariants as sents
 use Rattle.mscp_text.specs.Lines.{line}
 use Rattle.mscp_script.specs.Text.{aborted_part, block_word, connection_word, ended_part, entry_lines, figure_line, message_line, refusal_word, step_line, take_line}
 use Rattle.mscp_judge.specs.Standing.{BeginsWith, EndsLine}

@@ -7,14 +7,14 @@ use Rattle.mscp_packet.specs.Commands.{IsCommand, command_of}
 use Rattle.mscp_packet.specs.declared.command.Command.{Command}
 use Rattle.mscp_packet.specs.declared.reading.PacketFault.{PacketFault}
 use Rattle.mscp_packet.specs.declared.reading.PacketFault.TheVariants as sizes
-use Rattle.mscp_control.specs.Settings.{Settings}
-use Rattle.mscp_control.specs.Both.{Both}
-use Rattle.mscp_control.specs.declared.event.Event.{Event}
-use Rattle.mscp_control.specs.declared.event.Event.TheVariants as events
+use Rattle.mscp_events.specs.Settings.{Settings}
+use Rattle.mscp_events.specs.Both.{Both}
+use Rattle.mscp_events.specs.declared.event.Event.{Event}
+use Rattle.mscp_events.specs.declared.event.Event.TheVariants as events
 use Rattle.mscp_control.proofs.Bridge.Judging.{command_is}
 use Rattle.mscp_host.specs.Accounts.{Account}
 use Rattle.mscp_text.specs.Steps.{◌>>=◌}
-use Rattle.mscp_queue.specs.declared.block.Block.{Block}
+use Rattle.mscp_events.specs.declared.block.Block.{Block}
 use Rattle.mscp_reader.specs.Lexical.{lines}
 use Rattle.mscp_reader.specs.Requests.{events_of, request}
 use Rattle.mscp_reader.specs.Grammar.{Begins, HasGone, Place, more_events, next, said_at}

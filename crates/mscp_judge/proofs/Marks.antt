@@ -4,11 +4,11 @@ use Rattle.std.specs.Prelude.{None}
 use Rattle.std.proofs.lemmas.Grind.{flat_map-append}
 use Rattle.std.proofs.lemmas.List.{map-append}
 use Rattle.std.proofs.Math.Seq.{get_or-append_seam, take-append_seam}
-use Rattle.mscp_queue.specs.declared.name.Connection.TheVariants.{First}
-use Rattle.mscp_control.specs.declared.event.Event.{Event}
-use Rattle.mscp_control.specs.declared.event.Event.TheVariants as events
-use Rattle.mscp_control.specs.declared.event.Entry.TheVariants as entries
-use Rattle.mscp_control.specs.Settings.{Settings}
+use Rattle.mscp_events.specs.declared.connection.Connection.TheVariants.{First}
+use Rattle.mscp_events.specs.declared.event.Event.{Event}
+use Rattle.mscp_events.specs.declared.event.Event.TheVariants as events
+use Rattle.mscp_control.specs.declared.entry.Entry.TheVariants as entries
+use Rattle.mscp_events.specs.Settings.{Settings}
 use Rattle.mscp_control.specs.History.{Moment, Trace, moment}
 use Rattle.mscp_control.specs.Legal.{IsLegal, IsRight}
 use Rattle.mscp_script.specs.Text.{entry_lines}

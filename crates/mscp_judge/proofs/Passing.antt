@@ -5,8 +5,8 @@ use Rattle.std.specs.Prelude.{codes, nat_lt, OnOk, Result, Ok, Err}
 use Rattle.std.specs.List.{AllByRecursion, flat_map}
 use Rattle.std.proofs.lemmas.Bool.{false≢true}
 use Rattle.std.proofs.lemmas.Bool.Decides.{nat_tests}
-use Rattle.mscp_control.specs.Settings.{Settings}
-use Rattle.mscp_control.specs.declared.memory.OutOfMemory.{OutOfMemory}
+use Rattle.mscp_events.specs.Settings.{Settings}
+use Rattle.mscp_events.specs.declared.memory.OutOfMemory.{OutOfMemory}
 use Rattle.mscp_text.specs.Lines.{line}
 use Rattle.mscp_text.specs.Steps.{◌>>=◌}
 use Rattle.mscp_reader.specs.Grammar.{said_at}

@@ -3,8 +3,8 @@ use Rattle.std.proofs.Common.{◌≡◌, ◌≢◌, ℕ, ◌+◌, Bool, true, fa
 use Rattle.std.specs.Prelude.{nat_le, nat_lt, if◌then◌else◌, Result, Ok, Err}
 use Rattle.std.specs.List.{list_all}
 use Rattle.std.proofs.lemmas.List.{append_cancel_left}
-use Rattle.mscp_control.specs.Settings.{Settings}
-use Rattle.mscp_control.specs.declared.event.Event.{Event}
+use Rattle.mscp_events.specs.Settings.{Settings}
+use Rattle.mscp_events.specs.declared.event.Event.{Event}
 use Rattle.mscp_text.specs.Steps.{◌>>=◌}
 use Rattle.mscp_reader.specs.Lexical.{is_comment, is_printed, said, words}
 use Rattle.mscp_reader.specs.Requests.{events_of, request}

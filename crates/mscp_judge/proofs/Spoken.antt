@@ -10,8 +10,8 @@ use Rattle.std.proofs.lemmas.Bool.{and_from, and_parts, false≢true, le-leb}
 use Rattle.std.proofs.lemmas.Fmt.{decimal_is_IsNumeral}
 use Rattle.std.proofs.lemmas.Str.Parse.{digit_from_value}
 use Rattle.mscp_packet.specs.declared.end.End.{End}
-use Rattle.mscp_queue.specs.declared.name.Connection.{Connection}
-use Rattle.mscp_queue.specs.declared.name.Connection.TheVariants.{First, Second}
+use Rattle.mscp_events.specs.declared.connection.Connection.{Connection}
+use Rattle.mscp_events.specs.declared.connection.Connection.TheVariants.{First, Second}
 use Rattle.mscp_queue.specs.declared.report.Report.{Report}
 use Rattle.mscp_queue.specs.declared.report.Report.TheVariants.{Idle, Served}
 use Rattle.mscp_queue.specs.Names.{name_on}

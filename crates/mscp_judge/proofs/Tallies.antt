@@ -7,20 +7,20 @@ use Rattle.std.proofs.lemmas.List.Elements.{All-contains, All-contains_itself, r
 use Rattle.std.proofs.lemmas.List.Sums.{sum_by_push}
 use Rattle.std.proofs.lemmas.Bool.{cases_lt, false≢true}
 use Rattle.mscp_packet.specs.Commands.{command_of}
-use Rattle.mscp_queue.specs.declared.name.Connection.{Connection}
+use Rattle.mscp_events.specs.declared.connection.Connection.{Connection}
 use Rattle.mscp_queue.specs.Figures.{figure_of_name}
 use Rattle.mscp_queue.specs.Names.{name_on}
 use Rattle.mscp_queue.specs.Records.{Record, record_at}
 use Rattle.mscp_queue.proofs.Lists.{every_append, every_mapped, every_kept}
-use Rattle.mscp_control.specs.declared.event.Event.{Event}
-use Rattle.mscp_control.specs.declared.event.Event.TheVariants as events
-use Rattle.mscp_control.specs.declared.event.Entry.{Entry}
-use Rattle.mscp_control.specs.declared.event.Entry.TheVariants as entries
-use Rattle.mscp_control.specs.declared.event.Sent.{Sent}
-use Rattle.mscp_control.specs.declared.event.Sent.TheVariants as sents
+use Rattle.mscp_events.specs.declared.event.Event.{Event}
+use Rattle.mscp_events.specs.declared.event.Event.TheVariants as events
+use Rattle.mscp_control.specs.declared.entry.Entry.{Entry}
+use Rattle.mscp_control.specs.declared.entry.Entry.TheVariants as entries
+use Rattle.mscp_control.specs.declared.entry.Sent.{Sent}
+use Rattle.mscp_control.specs.declared.entry.Sent.TheVariants as sents
 use Rattle.mscp_control.specs.Arrival.{is_queued}
 use Rattle.mscp_control.specs.Credits.{arrival}
-use Rattle.mscp_control.specs.Settings.{IsValid, Settings, bound}
+use Rattle.mscp_events.specs.Settings.{IsValid, Settings, bound}
 use Rattle.mscp_control.specs.History.{Moment, Trace, is_step, queues}
 use Rattle.mscp_control.specs.Commands.{ends_in, name, waiting}
 use Rattle.mscp_control.specs.Passing.{passed}

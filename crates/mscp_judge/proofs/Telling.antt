@@ -2,14 +2,14 @@
 use Rattle.std.proofs.Common.{◌≡◌, ◌-◌, ◌<◌, [], ◌++◌, length, refl, ap, sym, ◌∙◌, subst, arith, append_assoc, append-nil, ◌≤◌, List, ℕ, ◌∷◌}
 use Rattle.std.specs.Prelude.{codes, OnOk, Result, Ok, Err}
 use Rattle.std.specs.List.{flat_map}
-use Rattle.mscp_queue.specs.declared.block.Block.{Block}
+use Rattle.mscp_events.specs.declared.block.Block.{Block}
 use Rattle.mscp_queue.specs.declared.report.Report.{Report}
 use Rattle.mscp_queue.specs.declared.report.Report.TheVariants.{Idle, Served}
-use Rattle.mscp_control.specs.declared.event.Event.TheVariants as events
-use Rattle.mscp_control.specs.declared.event.Entry.{Entry}
-use Rattle.mscp_control.specs.declared.event.Entry.TheVariants as entries
-use Rattle.mscp_control.specs.declared.memory.OutOfMemory.{OutOfMemory}
-use Rattle.mscp_control.specs.Settings.{IsValid, Settings}
+use Rattle.mscp_events.specs.declared.event.Event.TheVariants as events
+use Rattle.mscp_control.specs.declared.entry.Entry.{Entry}
+use Rattle.mscp_control.specs.declared.entry.Entry.TheVariants as entries
+use Rattle.mscp_events.specs.declared.memory.OutOfMemory.{OutOfMemory}
+use Rattle.mscp_events.specs.Settings.{IsValid, Settings}
 use Rattle.mscp_control.specs.Holdings.{Answers, Holdings}
 use Rattle.mscp_text.specs.Lines.{line}
 use Rattle.mscp_reader.specs.Lexical.{words}

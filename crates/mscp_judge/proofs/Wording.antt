@@ -3,7 +3,7 @@ use Rattle.std.proofs.Common.{◌≡◌, ◌≢◌, ◌||◌, ℕ, Bool, true, f
 use Rattle.std.specs.Prelude.{codes, None, Ok}
 use Rattle.std.specs.Str.{bytes_eq}
 use Rattle.std.proofs.lemmas.Slice.Eq.{bytes_eq-Decides}
-use Rattle.mscp_control.specs.Settings.{Settings}
+use Rattle.mscp_events.specs.Settings.{Settings}
 use Rattle.mscp_reader.specs.Lexical.{words}
 use Rattle.mscp_reader.specs.Grammar.{said_at}
 use Rattle.mscp_reader.specs.Outcome.{in_line}

@@ -3,10 +3,10 @@ use Rattle.std.specs.Prelude.{All, Contains, ◌≡◌, ◌≢◌, ◌⊎◌, �
 use Rattle.mscp_queue.specs.Figures.{figure_of_name}
 use Rattle.mscp_queue.specs.Names.{name_on}
 use Rattle.mscp_queue.specs.Records.{record_at}
-use Rattle.mscp_control.specs.declared.event.Entry.{Entry}
-use Rattle.mscp_control.specs.declared.event.Entry.TheVariants as entries
-use Rattle.mscp_control.specs.declared.event.Sent.TheVariants as sents
-use Rattle.mscp_control.specs.Settings.{Settings, bound}
+use Rattle.mscp_control.specs.declared.entry.Entry.{Entry}
+use Rattle.mscp_control.specs.declared.entry.Entry.TheVariants as entries
+use Rattle.mscp_control.specs.declared.entry.Sent.TheVariants as sents
+use Rattle.mscp_events.specs.Settings.{Settings, bound}
 use Rattle.mscp_control.specs.History.{Trace, is_step}
 use Rattle.mscp_control.specs.Commands.{waiting}
 use Rattle.mscp_control.specs.Passing.{passed}

@@ -1,7 +1,7 @@
 // A log, judged line by line.
 
 ghost use Rattle.std.specs.Prelude.{◌≡◌, ◌+◌, ◌<◌, ◌≤◌, ◌++◌, [], codes, true, false, IfOk, IfSome, OnOk, Ok, length};
-ghost use Rattle.mscp_control.specs.Settings.{IsValid, Settings};
+ghost use Rattle.mscp_events.specs.Settings.{IsValid, Settings};
 ghost use Rattle.mscp_reader.specs.Lexical as lexical;
 ghost use Rattle.mscp_reader.specs.declared.events.TheConstants.{MOST_EVENTS};
 ghost use Rattle.mscp_judge.specs.Judged.{Breaks, Finds, Hears, Judges, Passed};

@@ -1,7 +1,7 @@
 // The rule that a line breaks.
 
 ghost use Rattle.std.specs.Prelude.{◌≡◌, ◌≤◌, IfSome, IfNone};
-ghost use Rattle.mscp_control.specs.Settings.{IsValid, Settings};
+ghost use Rattle.mscp_events.specs.Settings.{IsValid, Settings};
 ghost use Rattle.mscp_control.specs.History.{Trace};
 ghost use Rattle.mscp_control.specs.Holdings.{fresh};
 ghost use Rattle.mscp_judge.specs.Naming.{name_of};

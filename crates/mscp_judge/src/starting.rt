@@ -1,7 +1,7 @@
 // The commands that may start.
 
 ghost use Rattle.std.specs.Prelude.{◌≡◌, ◌<◌, ◌++◌, ◌∷◌, [], cond, filter, length};
-ghost use Rattle.mscp_control.specs.Settings.{IsValid, Settings};
+ghost use Rattle.mscp_events.specs.Settings.{IsValid, Settings};
 ghost use Rattle.mscp_control.specs.History.{Trace};
 ghost use Rattle.mscp_control.specs.Holdings.{fresh};
 ghost use Rattle.mscp_judge.specs.declared.naming.Named.{Named};

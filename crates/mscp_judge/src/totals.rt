@@ -1,8 +1,8 @@
 // The totals of a log.
 
 ghost use Rattle.std.specs.Prelude.{◌≡◌};
-ghost use Rattle.mscp_control.specs.declared.event.Entry.TheVariants as entries;
-ghost use Rattle.mscp_control.specs.Settings.{bound};
+ghost use Rattle.mscp_control.specs.declared.entry.Entry.TheVariants as entries;
+ghost use Rattle.mscp_events.specs.Settings.{bound};
 ghost use Rattle.mscp_judge.specs.Totals.{IsLarger, figure_queued};
 
 use crate::naming::Named;

@@ -4,7 +4,7 @@ use Rattle.std.specs.Prelude.{if◌then◌else◌, Option, Some, None}
 use Rattle.std.proofs.lemmas.Bool.{le-leb}
 use Rattle.mscp_packet.specs.declared.command.MoveKind.{MoveKind}
 use Rattle.mscp_packet.specs.declared.command.MoveKind.TheVariants as moves
-use Rattle.mscp_queue.specs.declared.block.Block.TheVariants.{Good, Bad}
+use Rattle.mscp_events.specs.declared.block.Block.TheVariants.{Good, Bad}
 use Rattle.mscp_saved.proofs.Back.{connection_back, flag_back}
 use Rattle.mscp_port.specs.declared.buffers.Job.{Job}
 use Rattle.mscp_port.specs.declared.hardware.Bus.{Bus}

@@ -9,15 +9,15 @@ use Rattle.mscp_packet.specs.Commands.{command_of}
 use Rattle.mscp_packet.specs.Number.{num}
 use Rattle.mscp_packet.specs.Opcodes.{class, is_immediate_class}
 use Rattle.mscp_queue.proofs.Masked.{eq_false}
-use Rattle.mscp_queue.specs.declared.name.Connection.{Connection}
-use Rattle.mscp_queue.specs.declared.name.Connection.TheVariants.{First}
-use Rattle.mscp_control.specs.declared.event.SendFault.{SendFault}
-use Rattle.mscp_control.specs.declared.event.SendFault.TheVariants as faults
-use Rattle.mscp_control.specs.declared.event.Sent.{Sent}
+use Rattle.mscp_events.specs.declared.connection.Connection.{Connection}
+use Rattle.mscp_events.specs.declared.connection.Connection.TheVariants.{First}
+use Rattle.mscp_control.specs.declared.entry.SendFault.{SendFault}
+use Rattle.mscp_control.specs.declared.entry.SendFault.TheVariants as faults
+use Rattle.mscp_control.specs.declared.entry.Sent.{Sent}
 use Rattle.mscp_control.specs.Arrival.{credit_fault, holds, refusal}
 use Rattle.mscp_control.specs.Holdings.{Holdings, answer_to_message, balance_of, outstanding_of, sent_unless, waiting_on, numbers, numbers_ended}
-use Rattle.mscp_control.specs.Both.{of}
-use Rattle.mscp_control.specs.Settings.{credits_of}
+use Rattle.mscp_events.specs.Both.{of}
+use Rattle.mscp_events.specs.Settings.{credits_of}
 use Rattle.mscp_port.specs.declared.hardware.Hardware.{Hardware}
 use Rattle.mscp_port.specs.declared.port.Port.{Port}
 use Rattle.mscp_port.specs.Calls.{IsMadeOf, Ticks}

@@ -1,12 +1,12 @@
 -- What follows what was read in host memory (port: UQSSP, "Ring Entries", "Envelope Header").
 use Rattle.std.specs.Prelude.{◌≡◌, ◌≢◌, ◌<◌, ℕ, ◌/◌, ◌%◌, ◌==◌, ◌||◌, ◌++◌, ◌∷◌, [], not, Bool, true, false, nat_lt, if◌then◌else◌, List, length, MatchOption, Result, Option, None, Some, Ok, Err}
 use Rattle.mscp_packet.specs.Number.{num}
-use Rattle.mscp_queue.specs.declared.name.Connection.TheVariants.{First}
+use Rattle.mscp_events.specs.declared.connection.Connection.TheVariants.{First}
 use Rattle.mscp_control.specs.Holdings.{answer_to_message}
-use Rattle.mscp_control.specs.declared.event.SendFault.{SendFault}
-use Rattle.mscp_control.specs.declared.event.SendFault.TheVariants as faults
-use Rattle.mscp_control.specs.declared.event.Sent.{Sent}
-use Rattle.mscp_control.specs.declared.event.Sent.TheVariants as sents
+use Rattle.mscp_control.specs.declared.entry.SendFault.{SendFault}
+use Rattle.mscp_control.specs.declared.entry.SendFault.TheVariants as faults
+use Rattle.mscp_control.specs.declared.entry.Sent.{Sent}
+use Rattle.mscp_control.specs.declared.entry.Sent.TheVariants as sents
 use Rattle.mscp_port.specs.declared.port.Port.{Port}
 use Rattle.mscp_port.specs.declared.rings.Side.{Side}
 use Rattle.mscp_port.specs.declared.rings.Side.TheVariants.{Responses, Commands}

@@ -6,13 +6,13 @@ use Rattle.std.proofs.Math.Nat.{div-mul-le_self}
 use Rattle.std.proofs.lemmas.Nat.{le-div}
 use Rattle.std.proofs.lemmas.List.{drop-map, get_or-map, get_or_default, map-append, take-map}
 use Rattle.mscp_packet.specs.declared.command.Command.{Command}
-use Rattle.mscp_drive.specs.Shape.{Shape, cylinder_blocks, cylinder_of, last_cylinder}
+use Rattle.mscp_drive.specs.Shape.{Shape, cylinder_blocks, cylinder_of, last_cylinder, one_block}
 use Rattle.mscp_drive.specs.UnitList.{unit_found}
 use Rattle.mscp_queue.specs.declared.aim.Aim.{Aim}
 use Rattle.mscp_queue.specs.declared.drive.Drive.{Drive}
-use Rattle.mscp_queue.specs.declared.name.Connection.{Connection}
+use Rattle.mscp_events.specs.declared.connection.Connection.{Connection}
 use Rattle.mscp_queue.specs.Aims.{IsAimed, aim_of, aims_of, unit_place}
-use Rattle.mscp_queue.specs.Drives.{IsOnUnit, drive_of, has_number, one_block}
+use Rattle.mscp_queue.specs.Drives.{IsOnUnit, drive_of, has_number}
 use Rattle.mscp_queue.specs.Kept.{CanBeShown, HasBlocks, is_known, units_of}
 use Rattle.mscp_queue.specs.Orders.{first_block, is_move}
 use Rattle.mscp_queue.specs.Records.{Record, advanced, drive_at, fresh_record, no_record, passed_by, record_at}

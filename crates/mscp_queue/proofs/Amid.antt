@@ -3,7 +3,7 @@ use Rattle.std.proofs.Common.{◌≡◌, Bool, ℕ, true, false, ◌&&◌, ap, r
 use Rattle.std.specs.Prelude.{not, if◌then◌else◌, None, Option, Some, option_map}
 use Rattle.mscp_drive.specs.Shape.{cylinder_of}
 use Rattle.mscp_drive.specs.declared.head.Head.{Head}
-use Rattle.mscp_queue.specs.declared.block.Block.{Block}
+use Rattle.mscp_events.specs.declared.block.Block.{Block}
 use Rattle.mscp_queue.specs.declared.drive.Drive.{Drive}
 use Rattle.mscp_queue.specs.Outcomes.{goes_on, head_after, outcome_at}
 use Rattle.mscp_queue.specs.Records.{Record, is_unstarted, left_of}

@@ -44,14 +44,14 @@ use Rattle.mscp_drive.specs.Heads.{sweep_cost}
 use Rattle.std.proofs.lemmas.Bool.{eq-eqb, eqb-true, false≢true, ne_eqb}
 use Rattle.std.proofs.lemmas.List.{ext_get_or, get_or_default, get_or-map, length-map, map-append}
 use Rattle.mscp_packet.specs.declared.command.Command.{Command}
-use Rattle.mscp_drive.specs.Shape.{Shape, cylinder_of, last_cylinder}
+use Rattle.mscp_drive.specs.Shape.{Shape, cylinder_of, last_cylinder, one_block}
 use Rattle.mscp_queue.specs.Orders.{first_block, is_move, order_cost}
 use Rattle.mscp_queue.specs.declared.drive.Drive.{Drive}
-use Rattle.mscp_queue.specs.declared.name.Connection.{Connection}
+use Rattle.mscp_events.specs.declared.connection.Connection.{Connection}
 use Rattle.mscp_queue.specs.declared.name.Name.{Name}
 use Rattle.mscp_queue.specs.declared.view.Choice.{Choice}
 use Rattle.mscp_queue.specs.Aims.{aim_of, no_aim, unit_place}
-use Rattle.mscp_queue.specs.Drives.{drive_of, fresh_drive, has_number, one_block, replaced}
+use Rattle.mscp_queue.specs.Drives.{drive_of, fresh_drive, has_number, replaced}
 use Rattle.mscp_queue.specs.Kept.{CanBeShown, is_known, names, units_of}
 use Rattle.mscp_queue.specs.Lineups.{AreOnDrive, IsLineup, IsRecosted, IsRenewed, choice_in, cost_on, costing, costing_if, has_choice_name, no_choice, sure_of}
 use Rattle.mscp_queue.specs.Masks.{IsSet}

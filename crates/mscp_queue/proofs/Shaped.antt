@@ -13,7 +13,7 @@ use Rattle.mscp_packet.specs.declared.end.BodyKind.TheVariants as kinds
 use Rattle.mscp_packet.specs.declared.end.EndBody.TheVariants as bodies
 use Rattle.mscp_packet.specs.Ends.{IsOfKind, kind_of_body, kind_of_code, refused_body, zero_body}
 use Rattle.mscp_drive.specs.Shape.{Shape}
-use Rattle.mscp_queue.specs.declared.block.Block.{Block}
+use Rattle.mscp_events.specs.declared.block.Block.{Block}
 use Rattle.mscp_queue.specs.declared.drive.Drive.{Drive}
 use Rattle.mscp_queue.specs.Kept.{IsKept}
 use Rattle.mscp_queue.specs.Orders.{endcode, is_move, is_sequential}

@@ -5,12 +5,12 @@ use Rattle.std.specs.List.{AllByRecursion, list_all, range_with_len}
 use Rattle.std.proofs.lemmas.Bool.{eq-eqb, le-leb, leb-true, lt-leb, true≢false}
 use Rattle.std.proofs.lemmas.List.{get_or-map, get_or-drop, get_or-take, length-append, length-drop, length-map, length-take-le, map-append, take-map}
 use Rattle.std.proofs.lemmas.List.Elements.{All-from_recursion, All-take, filter-append, recursion_from_All}
-use Rattle.mscp_drive.specs.Shape.{Shape}
+use Rattle.mscp_drive.specs.Shape.{Shape, one_block}
 use Rattle.mscp_queue.specs.declared.aim.Aim.{Aim}
 use Rattle.mscp_queue.specs.declared.drive.Drive.{Drive}
 use Rattle.mscp_queue.specs.declared.view.Choice.{Choice}
 use Rattle.mscp_queue.specs.Aims.{aim_of, aims_of, no_aim, unit_place}
-use Rattle.mscp_queue.specs.Drives.{fresh_drive, one_block}
+use Rattle.mscp_queue.specs.Drives.{fresh_drive}
 use Rattle.mscp_queue.specs.Kept.{ArePassedInOrder, CanBeShown, IsShut, is_known, units_of}
 use Rattle.mscp_queue.specs.Masks.{Kind, keeps_back}
 use Rattle.mscp_queue.specs.Orders.{is_sequential}

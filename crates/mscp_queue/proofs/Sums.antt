@@ -8,7 +8,7 @@ use Rattle.std.proofs.lemmas.List.Elements.{recursion_from_All}
 use Rattle.std.proofs.lemmas.List.FromFn.{map-range_with_len_more}
 use Rattle.std.proofs.lemmas.List.Sums.{sum_by-append, sum_by-cons, sum_by_push}
 use Rattle.mscp_queue.specs.declared.drive.Drive.{Drive}
-use Rattle.mscp_queue.specs.declared.name.Connection.{Connection}
+use Rattle.mscp_events.specs.declared.connection.Connection.{Connection}
 use Rattle.mscp_queue.specs.declared.name.Name.{Name}
 use Rattle.mscp_queue.specs.Kept.{IsHeld}
 use Rattle.mscp_queue.specs.Figures.{figure_at, figures_from, looked_at}

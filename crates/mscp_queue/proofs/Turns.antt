@@ -8,14 +8,14 @@ use Rattle.mscp_packet.specs.declared.command.Command.{Command}
 use Rattle.mscp_packet.specs.declared.command.Order.{Order}
 use Rattle.mscp_packet.specs.declared.command.Order.TheVariants as orders
 use Rattle.mscp_packet.specs.declared.end.End.{End}
-use Rattle.mscp_drive.specs.Shape.{Shape}
+use Rattle.mscp_drive.specs.Shape.{Shape, one_block}
 use Rattle.mscp_drive.specs.UnitList.{IsUnitList, NumbersRise, unit_found}
-use Rattle.mscp_queue.specs.declared.block.Block.{Block}
+use Rattle.mscp_events.specs.declared.block.Block.{Block}
 use Rattle.mscp_queue.specs.declared.drive.Drive.{Drive}
 use Rattle.mscp_queue.specs.Outcomes.{goes_on, is_good_block, outcome_at, touches}
 use Rattle.mscp_queue.specs.declared.name.Name.{Name}
 use Rattle.mscp_queue.specs.Orders.{first_block, is_move, order_weight}
-use Rattle.mscp_queue.specs.Drives.{IsOnUnit, drive_of, fresh_drive, has_number, one_block, replaced}
+use Rattle.mscp_queue.specs.Drives.{IsOnUnit, drive_of, fresh_drive, has_number, replaced}
 use Rattle.mscp_queue.specs.Kept.{IsHeld, IsInside, IsKept, units_of}
 use Rattle.mscp_queue.specs.Records.{Record, advanced, step_toll, is_in_service, is_unstarted, left_of, no_record, passed_by, record_at}
 use Rattle.mscp_queue.specs.Serving.{IsServable, drive_after, end_given, touched}

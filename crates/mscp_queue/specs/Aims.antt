@@ -2,11 +2,11 @@
 use Rattle.std.specs.Prelude.{◌≡◌, ℕ, ◌<◌, true, nat_eq, List, map, unwrap_or}
 use Rattle.std.specs.List.{position_or_len}
 use Rattle.mscp_packet.specs.declared.command.Command.{Command}
-use Rattle.mscp_drive.specs.Shape.{Shape, cylinder_of}
+use Rattle.mscp_drive.specs.Shape.{Shape, cylinder_of, one_block}
 use Rattle.mscp_drive.specs.UnitList.{unit_found}
 use Rattle.mscp_queue.specs.declared.aim.Aim.{Aim}
 use Rattle.mscp_queue.specs.declared.drive.Drive.{Drive}
-use Rattle.mscp_queue.specs.Drives.{IsOnUnit, one_block}
+use Rattle.mscp_queue.specs.Drives.{IsOnUnit}
 use Rattle.mscp_queue.specs.Orders.{first_block, is_move}
 use Rattle.mscp_queue.specs.Records.{Record}
 

@@ -1,11 +1,7 @@
 -- Units with their states and heads.
 use Rattle.std.specs.Prelude.{ℕ, ◌≤◌, Bool, false, true, find, unwrap_or, nat_eq, if◌then◌else◌, List, map}
-use Rattle.mscp_drive.specs.Shape.{Shape, last_cylinder}
+use Rattle.mscp_drive.specs.Shape.{Shape, last_cylinder, one_block}
 use Rattle.mscp_queue.specs.declared.drive.Drive.{Drive}
-
--- a unit of one block, which stands for one that isn't configured
-abbrev pub one_block : Shape
-one_block = record { number = 0; track = 1; group = 1; cylinder = 1; size = 1; id = 0; media = 0; serial = 0 }
 
 -- a unit to which nothing came so far: it is available, and its head is on cylinder 0 and goes up (profile)
 abbrev pub fresh_drive : Shape → Drive

@@ -4,15 +4,15 @@ use Rattle.std.specs.List.{AllByRecursion}
 use Rattle.mscp_packet.specs.declared.command.Command.{Command}
 use Rattle.mscp_packet.specs.declared.command.Order.{Order}
 use Rattle.mscp_packet.specs.declared.command.Order.TheVariants as orders
-use Rattle.mscp_drive.specs.Shape.{Shape}
+use Rattle.mscp_drive.specs.Shape.{Shape, one_block}
 use Rattle.mscp_drive.specs.UnitList.{IsUnitList, unit_found}
 use Rattle.mscp_queue.specs.declared.aim.Aim.{Aim}
-use Rattle.mscp_queue.specs.declared.block.Block.{Block}
+use Rattle.mscp_events.specs.declared.block.Block.{Block}
 use Rattle.mscp_queue.specs.declared.drive.Drive.{Drive}
 use Rattle.mscp_queue.specs.declared.name.Name.{Name}
 use Rattle.mscp_queue.specs.Aims.{aims_of, no_aim}
 use Rattle.mscp_queue.specs.Orders.{first_block, is_move, is_sequential, order_weight}
-use Rattle.mscp_queue.specs.Drives.{IsOnUnit, one_block}
+use Rattle.mscp_queue.specs.Drives.{IsOnUnit}
 use Rattle.mscp_queue.specs.Pairs.{Pairs}
 use Rattle.mscp_queue.specs.Records.{Record, drive_at, has_name, is_in_service, left_of, name_of, record_at}
 use Rattle.mscp_queue.specs.Outcomes.{goes_on}

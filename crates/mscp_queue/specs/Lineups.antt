@@ -18,14 +18,14 @@ use Rattle.std.specs.Prelude.{
 use Rattle.std.specs.Int.{bit_at}
 use Rattle.mscp_packet.specs.declared.class.Class.TheVariants.{Unknown}
 use Rattle.mscp_drive.specs.Heads.{sweep_cost}
-use Rattle.mscp_drive.specs.Shape.{Shape, last_cylinder}
+use Rattle.mscp_drive.specs.Shape.{Shape, last_cylinder, one_block}
 use Rattle.mscp_queue.specs.declared.drive.Drive.{Drive}
-use Rattle.mscp_queue.specs.declared.name.Connection.TheVariants.{First}
+use Rattle.mscp_events.specs.declared.connection.Connection.TheVariants.{First}
 use Rattle.mscp_queue.specs.declared.name.Name.{Name}
 use Rattle.mscp_queue.specs.declared.view.Choice.{Choice}
 use Rattle.mscp_queue.specs.declared.aim.Aim.{Aim}
 use Rattle.mscp_queue.specs.Aims.{no_aim, unit_place}
-use Rattle.mscp_queue.specs.Drives.{drive_of, fresh_drive, one_block}
+use Rattle.mscp_queue.specs.Drives.{drive_of, fresh_drive}
 use Rattle.mscp_queue.specs.Kept.{IsReady, units_of}
 use Rattle.mscp_queue.specs.Waiters.{Waiters}
 use Rattle.mscp_queue.specs.Names.{same_name}

@@ -4,7 +4,7 @@ use Rattle.mscp_packet.specs.declared.command.Order.{Order}
 use Rattle.mscp_packet.specs.declared.end.End.{End}
 use Rattle.mscp_drive.specs.Shape.{cylinder_of}
 use Rattle.mscp_drive.specs.Heads.{distance}
-use Rattle.mscp_queue.specs.declared.block.Block.{Block}
+use Rattle.mscp_events.specs.declared.block.Block.{Block}
 use Rattle.mscp_queue.specs.declared.report.Report.{Report}
 use Rattle.mscp_queue.specs.declared.report.Report.TheVariants.{Idle, Served}
 use Rattle.mscp_queue.specs.declared.drive.Drive.{Drive}

@@ -15,11 +15,12 @@ mod restoring;
 
 use crate::aim::Aim;
 use crate::drive::Drive;
-use crate::name::{Connection, Name};
+use crate::name::Name;
 use crate::record::Record;
 use crate::roll::Roll;
 use crate::slots::{Slot, Slots};
 use arrayvec::ArrayVec;
+use mscp_events::Connection;
 use std::marker::Model;
 
 /// Where the clock is set back to 0, so that no due outgrows its number.

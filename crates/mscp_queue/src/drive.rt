@@ -2,7 +2,8 @@
 
 ghost use Rattle.std.specs.Prelude.{◌≡◌, ◌≤◌, find, length, map};
 ghost use Rattle.std.specs.Option.{option_copied};
-ghost use Rattle.mscp_queue.specs.Drives.{drive_of, fresh_drive, has_number, one_block};
+ghost use Rattle.mscp_drive.specs.Shape.{one_block};
+ghost use Rattle.mscp_queue.specs.Drives.{drive_of, fresh_drive, has_number};
 
 use arrayvec::ArrayVec;
 use mscp_drive::{Head, Unit};

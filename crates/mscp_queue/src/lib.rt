@@ -3,7 +3,6 @@
 
 mod aim;
 mod backlog;
-mod block;
 mod drive;
 pub mod lanes;
 mod lineup;
@@ -24,9 +23,8 @@ mod upcoming;
 mod view;
 mod why;
 
-pub use crate::block::{Block, FaultStatus};
 pub use crate::drive::Drive;
-pub use crate::name::{Connection, Name};
+pub use crate::name::Name;
 pub use crate::outcome::{end_with, endcode_of};
 pub use crate::picker::{Oldest, Picker, Sweep};
 pub use crate::queue::{Queue, Waiting};
@@ -35,3 +33,4 @@ pub use crate::report::Report;
 pub use crate::upcoming::Upcoming;
 pub use crate::view::{Choice, View};
 pub use crate::why::Holder;
+pub use mscp_events::{Block, Connection, FaultStatus};

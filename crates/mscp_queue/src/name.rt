@@ -3,15 +3,8 @@
 ghost use Rattle.std.specs.Prelude.{◌≡◌};
 ghost use Rattle.mscp_queue.specs.Names.{same_name};
 
-/// One of the two connections of a controller. Each has a host of its own, which numbers its commands itself.
-#[derive(Clone, Copy, Debug, Default, PartialEq, Eq)]
-pub enum Connection {
-    /// The connection that each controller has.
-    #[default]
-    First,
-    /// The connection that a controller may have besides.
-    Second,
-}
+use mscp_events::Connection;
+
 
 /// The name of a command that waits: the connection that it came by, and its reference number.
 #[derive(Clone, Copy, Debug, PartialEq, Eq)]

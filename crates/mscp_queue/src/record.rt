@@ -4,7 +4,8 @@ ghost use Rattle.std.specs.Prelude.{◌≡◌, ◌+◌, ◌-◌, ◌<◌, ◌≤
 ghost use Rattle.mscp_queue.specs.Orders.{is_sequential, order_weight};
 ghost use Rattle.mscp_queue.specs.Records.{advanced, step_toll, fresh_record, has_name, left_of, name_of, no_record, passed_by};
 
-use crate::name::{Connection, Name};
+use crate::name::Name;
+use mscp_events::Connection;
 use mscp_packet::{Command, Order};
 use std::marker::Model;
 

@@ -9,12 +9,12 @@ ghost use Rattle.mscp_queue.specs.Outcomes.{goes_on, head_after, state_after};
 ghost use Rattle.mscp_queue.specs.Records.{is_unstarted, left_of};
 ghost use Rattle.mscp_queue.specs.Serving.{drive_after, end_given, is_amid, seek_from, touched, upcoming_of};
 
-use crate::block::Block;
 use crate::drive::Drive;
 use crate::outcome::{is_success, outcome, touches};
 use crate::record::Record;
 use crate::upcoming::Upcoming;
 use mscp_drive::Head;
+use mscp_events::Block;
 use mscp_packet::{End, Order};
 
 /// What the last step of a command does: the block that it touches, how many cylinders the head goes, the end that it

@@ -1,6 +1,6 @@
 // What is told before a step.
 
-use crate::name::Connection;
+use mscp_events::Connection;
 use mscp_packet::Command;
 
 /// What the next step serves: the command and the connection that it came by, the block that the step touches, how many steps the command had, and how many

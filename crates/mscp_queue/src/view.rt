@@ -4,8 +4,9 @@ ghost use Rattle.std.specs.Prelude.{◌≡◌, ◌↔◌, ◌<◌, ◌≤◌, �
 ghost use Rattle.mscp_queue.specs.Lineups.{costing, no_choice};
 ghost use Rattle.mscp_queue.specs.Views.{choice_name};
 
-use crate::name::{Connection, Name};
+use crate::name::Name;
 use arrayvec::ArrayVec;
+use mscp_events::Connection;
 use mscp_packet::Class;
 use std::fmt;
 use std::fmt::{Debug, Formatter, Write};
@@ -42,7 +43,7 @@ impl Choice {
 /// A choice of nothing, which fills the places of a list that isn't full.
 impl Default for Choice {
     ghost use Rattle.mscp_packet.specs.declared.class.Class.TheVariants.{Unknown};
-    ghost use Rattle.mscp_queue.specs.declared.name.Connection.TheVariants.{First};
+    ghost use Rattle.mscp_events.specs.declared.connection.Connection.TheVariants.{First};
 
     fn default() -> Choice
         ensures { result ≡ record { connection = First; reference = 0; unit = 0; class = Unknown; cost = 0 } }

@@ -6,9 +6,9 @@ ghost use Rattle.mscp_queue.specs.Views.{fences, is_open_at};
 ghost use Rattle.mscp_queue.specs.Why.{holder_of, holders_at, is_nobody, is_overdrawn};
 
 use crate::backlog::Backlog;
-use crate::name::Connection;
 use crate::record::Record;
 use arrayvec::ArrayVec;
+use mscp_events::Connection;
 
 /// An earlier command that keeps a waiting one back.
 #[derive(Clone, Copy, Debug, Default, PartialEq, Eq)]

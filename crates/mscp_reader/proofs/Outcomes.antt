@@ -8,9 +8,9 @@ use Rattle.mscp_reader.specs.declared.fault.Cause.TheVariants as causes
 use Rattle.mscp_reader.specs.declared.fault.ScriptFault.{ScriptFault}
 use Rattle.mscp_reader.specs.declared.fault.ReadFault.{ReadFault}
 use Rattle.mscp_reader.specs.declared.fault.ReadFault.TheVariants as faults
-use Rattle.mscp_control.specs.Both.{Both}
-use Rattle.mscp_control.specs.Settings.{Settings}
-use Rattle.mscp_control.specs.declared.event.Event.{Event}
+use Rattle.mscp_events.specs.Both.{Both}
+use Rattle.mscp_events.specs.Settings.{Settings}
+use Rattle.mscp_events.specs.declared.event.Event.{Event}
 use Rattle.mscp_reader.specs.Grammar.{Place, next_unless_skipped, Begins, HasBudget, HasCredits, HasPassing, HasLongest, HasTimeout, HasUnits, HasGone, IsInHeader, said_at, next, after_line, credits, limit, limits, first_units, unit_or_go}
 use Rattle.mscp_reader.specs.Outcome.{Fails, Sets, Leads, budget_of, in_line, limited, lines_outcome, onward, all_read}
 use Rattle.mscp_reader.specs.declared.header.Limit.{Limit}

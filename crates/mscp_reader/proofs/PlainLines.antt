@@ -23,9 +23,9 @@ use Rattle.mscp_reader.specs.declared.events.Request.TheVariants as requests
 use Rattle.mscp_reader.specs.declared.fault.Cause.{Cause}
 use Rattle.mscp_reader.specs.declared.fault.Cause.TheVariants as causes
 use Rattle.mscp_reader.specs.declared.plain.Plain.{Plain}
-use Rattle.mscp_queue.specs.declared.name.Connection.TheVariants.{First}
-use Rattle.mscp_control.specs.Settings.{Settings}
-use Rattle.mscp_control.specs.declared.event.Event.{Event}
+use Rattle.mscp_events.specs.declared.connection.Connection.TheVariants.{First}
+use Rattle.mscp_events.specs.Settings.{Settings}
+use Rattle.mscp_events.specs.declared.event.Event.{Event}
 use Rattle.mscp_reader.proofs.Outcomes.{speaks}
 use Rattle.mscp_reader.proofs.Cuts.{front_len, front_len_is, parts_after, split_parts, words_none}
 

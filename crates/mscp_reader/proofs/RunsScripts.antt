@@ -3,11 +3,11 @@ use Rattle.std.proofs.Common.{◌≡◌, ◌+◌, ℕ, List, [], ◌∷◌, ◌+
 use Rattle.std.specs.Prelude.{codes, replicate, Ok, Err}
 use Rattle.std.specs.List.{flat_map}
 use Rattle.mscp_drive.specs.Shape.{Shape}
-use Rattle.mscp_queue.specs.declared.name.Connection.TheVariants.{First, Second}
-use Rattle.mscp_control.specs.Settings.{Settings}
-use Rattle.mscp_queue.specs.declared.block.Block.TheVariants.{Good, Bad}
-use Rattle.mscp_control.specs.declared.event.Event.{Event}
-use Rattle.mscp_control.specs.declared.event.Event.TheVariants as events
+use Rattle.mscp_events.specs.declared.connection.Connection.TheVariants.{First, Second}
+use Rattle.mscp_events.specs.Settings.{Settings}
+use Rattle.mscp_events.specs.declared.block.Block.TheVariants.{Good, Bad}
+use Rattle.mscp_events.specs.declared.event.Event.{Event}
+use Rattle.mscp_events.specs.declared.event.Event.TheVariants as events
 use Rattle.mscp_packet.specs.declared.command.Order.TheVariants as orders
 use Rattle.mscp_packet.specs.declared.command.MoveKind.TheVariants as moves
 use Rattle.mscp_packet.specs.Commands.{command_bytes}

@@ -2,7 +2,7 @@
 
 ghost use Rattle.std.specs.Prelude.{◌≡◌, ◌+◌, ◌++◌, ◌≤◌, [], List, length, vec_len, IfOk, IfErr, OnOk};
 ghost use Rattle.mscp_packet.specs.Commands.{command_bytes};
-ghost use Rattle.mscp_control.specs.Settings.{Settings};
+ghost use Rattle.mscp_events.specs.Settings.{Settings};
 ghost use Rattle.mscp_text.specs.Steps.{Gives};
 ghost use Rattle.mscp_reader.specs.Lexical as lexical;
 ghost use Rattle.mscp_reader.specs.Requests as requests;
@@ -14,7 +14,7 @@ use crate::lines::{Line, Lines};
 use crate::numbers::{message, narrow, status, wide};
 use crate::words::Words;
 use arrayvec::ArrayVec;
-use mscp_control::{Block, Connection, Event, FaultStatus, OutOfMemory};
+use mscp_events::{Block, Connection, Event, FaultStatus, OutOfMemory};
 use mscp_packet::{Command, MoveKind, Order, write_command};
 use std::alloc::Allocator;
 

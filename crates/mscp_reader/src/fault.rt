@@ -5,7 +5,7 @@ ghost use Rattle.mscp_reader.specs.Causes.{cause_word};
 ghost use Rattle.mscp_reader.specs.Outcome.{in_line};
 ghost use Rattle.mscp_reader.specs.declared.fault.ReadFault.TheVariants as variants;
 
-use mscp_control::OutOfMemory;
+use mscp_events::OutOfMemory;
 use thiserror::Error;
 
 /// What is wrong with a line: the first that holds, in this order.

@@ -2,13 +2,13 @@
 
 ghost use Rattle.std.specs.Prelude.{◌≡◌, ◌<◌, ◌≤◌, [], ℕ, nat_lt, length, IfOk, IfErr, OnOk};
 ghost use Rattle.std.specs.List.{list_all};
-ghost use Rattle.mscp_control.specs.Settings as settings;
+ghost use Rattle.mscp_events.specs.Settings as settings;
 ghost use Rattle.mscp_drive.specs.UnitList.{IsUnitList, NumbersRise};
 ghost use Rattle.mscp_text.specs.Steps.{Gives};
 ghost use Rattle.mscp_reader.specs.Lexical as lexical;
 ghost use Rattle.mscp_reader.specs.Grammar as grammar;
 ghost use Rattle.mscp_reader.specs.Grammar.{Place, Begins, HasCredits, HasTimeout, HasUnits, HasGone};
-ghost use Rattle.mscp_control.specs.Both.{Both};
+ghost use Rattle.mscp_events.specs.Both.{Both};
 ghost use Rattle.mscp_reader.specs.Outcome.{Sets, Heads, Leads, both_of, budget_of, in_line, limited, rest_headed, rest_outcome, settled, place_after};
 
 use crate::fault::{Cause, ScriptFault};
@@ -16,7 +16,7 @@ use crate::lines::Lines;
 use crate::numbers::{narrow, number, wide};
 use crate::words::Words;
 use arrayvec::ArrayVec;
-use mscp_control::Config;
+use mscp_events::Config;
 use mscp_drive::{Unit, Units};
 
 /// What a script's controller is known by.

@@ -1,8 +1,8 @@
 // What the definitions of a script say together.
 
 ghost use Rattle.std.specs.Prelude.{◌≡◌, ◌↔◌, ℕ, List, Ok, Err};
-ghost use Rattle.mscp_control.specs.Settings.{Settings};
-ghost use Rattle.mscp_control.specs.declared.event.Event.{Event};
+ghost use Rattle.mscp_events.specs.Settings.{Settings};
+ghost use Rattle.mscp_events.specs.declared.event.Event.{Event};
 ghost use Rattle.mscp_reader.specs.Grammar.{IsFault, Reads};
 ghost use Rattle.mscp_reader.specs.Outcome.{script_outcome};
 ghost use Rattle.mscp_reader.specs.declared.fault.ScriptFault.{ScriptFault};

@@ -3,14 +3,14 @@
 
 ghost use Rattle.std.specs.Prelude.{◌≡◌, ◌≤◌, [], true, not, position, take, length, IfSome};
 ghost use Rattle.std.specs.List.{list_all};
-ghost use Rattle.mscp_queue.specs.declared.name.Connection.TheVariants.{First};
+ghost use Rattle.mscp_events.specs.declared.connection.Connection.TheVariants.{First};
 ghost use Rattle.mscp_reader.specs.Lexical as lexical;
 ghost use Rattle.mscp_reader.specs.Requests as requests;
 ghost use Rattle.mscp_reader.specs.Plain.{Asks, CutsWord, Ends, IsNumeral, IsPlain, is_letter, plain_request};
 
 use crate::events::{Form, MOST_STEPS, Request, form_of};
 use crate::numbers::MOST_DIGITS;
-use mscp_control::Connection;
+use mscp_events::Connection;
 use mscp_packet::{Command, MoveKind, Order};
 
 /// What a plain line asks for. It doesn't name the second connection.

@@ -1,8 +1,8 @@
 // Scripts: a header, which makes a configuration, and then events.
 
 ghost use Rattle.std.specs.Prelude.{◌≡◌, ◌↔◌, ◌<◌, ◌≤◌, List, length, vec_len, IfOk, IfErr, Ok, Err};
-ghost use Rattle.mscp_control.specs.Settings.{Settings};
-ghost use Rattle.mscp_control.specs.declared.event.Event.{Event};
+ghost use Rattle.mscp_events.specs.Settings.{Settings};
+ghost use Rattle.mscp_events.specs.declared.event.Event.{Event};
 ghost use Rattle.mscp_reader.specs.Grammar.{Begins, Reads, IsFault};
 ghost use Rattle.mscp_reader.specs.Outcome.{Tells, meaning_of, rest_outcome, script_outcome};
 
@@ -10,7 +10,7 @@ use crate::events::read_events;
 use crate::fault::{Cause, ReadFault, ScriptFault};
 use crate::header::read_header;
 use crate::lines::Lines;
-use mscp_control::{Config, Event};
+use mscp_events::{Config, Event};
 use std::alloc::{Allocator, Global};
 
 /// The most bytes that a script has.

@@ -13,12 +13,11 @@ use Rattle.mscp_packet.specs.declared.end.EndBody.{EndBody}
 use Rattle.mscp_packet.specs.declared.end.EndBody.TheVariants as bodies
 use Rattle.mscp_packet.specs.Number.{num}
 use Rattle.mscp_packet.proofs.Numbers.{eight, four, two}
-use Rattle.mscp_drive.specs.Shape.{Shape}
+use Rattle.mscp_drive.specs.Shape.{Shape, one_block}
 use Rattle.mscp_queue.specs.declared.drive.Drive.{Drive}
-use Rattle.mscp_queue.specs.declared.name.Connection.{Connection}
-use Rattle.mscp_queue.specs.declared.name.Connection.TheVariants.{First, Second}
+use Rattle.mscp_events.specs.declared.connection.Connection.{Connection}
+use Rattle.mscp_events.specs.declared.connection.Connection.TheVariants.{First, Second}
 use Rattle.mscp_queue.specs.declared.name.Name.{Name}
-use Rattle.mscp_queue.specs.Drives.{one_block}
 use Rattle.mscp_queue.specs.Orders.{is_move, is_sequential, order_weight}
 use Rattle.mscp_queue.specs.Records.{Record}
 use Rattle.mscp_saved.specs.Ranges.{HasDriveRange, HasUnitRange, HasWaitingRange}

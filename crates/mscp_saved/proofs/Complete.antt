@@ -9,12 +9,12 @@ use Rattle.mscp_packet.specs.declared.command.Order.TheVariants as orders
 use Rattle.mscp_packet.specs.declared.end.End.{End}
 use Rattle.mscp_packet.specs.Ends.{IsOfKind, kind_of_body, kind_of_code}
 use Rattle.mscp_drive.specs.Extent.{blocks, invalid_block, invalid_byte_count, weight}
-use Rattle.mscp_drive.specs.Shape.{Shape, last_cylinder}
+use Rattle.mscp_drive.specs.Shape.{Shape, last_cylinder, one_block}
 use Rattle.mscp_queue.specs.declared.drive.Drive.{Drive}
-use Rattle.mscp_queue.specs.declared.name.Connection.{Connection}
-use Rattle.mscp_queue.specs.declared.name.Connection.TheVariants.{First, Second}
+use Rattle.mscp_events.specs.declared.connection.Connection.{Connection}
+use Rattle.mscp_events.specs.declared.connection.Connection.TheVariants.{First, Second}
 use Rattle.mscp_queue.specs.declared.name.Name.{Name}
-use Rattle.mscp_queue.specs.Drives.{IsOnUnit, one_block}
+use Rattle.mscp_queue.specs.Drives.{IsOnUnit}
 use Rattle.mscp_queue.specs.Kept.{AreApart, ArePassedInOrder, IsStillServable, IsWaitable, names}
 use Rattle.mscp_queue.specs.Records.{Record, has_name, is_in_service, is_unstarted, name_of, record_at}
 use Rattle.mscp_queue.specs.Serving.{IsServable}
@@ -24,8 +24,8 @@ use Rattle.mscp_queue.proofs.Nexts.{name_found}
 use Rattle.mscp_control.specs.Arrival.{is_queued, move_fault, unit_fault}
 use Rattle.mscp_control.specs.Holdings.{Holdings, waiting_on}
 use Rattle.mscp_control.specs.Restored.{IsCovered, IsSound}
-use Rattle.mscp_control.specs.Settings.{IsValid, Settings, bound, credits_of, limit_fault, room_of, unit_found}
-use Rattle.mscp_control.specs.declared.config.ConfigFault.TheVariants.{Credits, Longest, Timeout, Figure}
+use Rattle.mscp_events.specs.Settings.{IsValid, Settings, bound, credits_of, limit_fault, room_of, unit_found}
+use Rattle.mscp_events.specs.declared.config.ConfigFault.TheVariants.{Credits, Longest, Timeout, Figure}
 use Rattle.mscp_saved.specs.declared.fault.RestoreFault.TheVariants as faults
 use Rattle.mscp_saved.specs.Restored.{are_apart, are_ends, are_on_units, are_passed, is_covered, may_be_begun, may_serve, may_serve_at, parts_fault, settings_fault}
 use Rattle.mscp_saved.proofs.Rising.{test_of_units}

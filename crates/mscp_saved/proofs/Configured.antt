@@ -4,8 +4,8 @@ use Rattle.std.specs.Prelude.{Option, Some, None, is_some, not, if◌then◌else
 use Rattle.std.proofs.lemmas.Bool.{false_from_ne_true}
 use Rattle.mscp_drive.specs.Shape.{Shape}
 use Rattle.mscp_drive.specs.UnitList.{IsUnitList}
-use Rattle.mscp_control.specs.declared.config.ConfigFault.{ConfigFault}
-use Rattle.mscp_control.specs.Settings.{Settings, configured, configured_unless, limit_fault}
+use Rattle.mscp_events.specs.declared.config.ConfigFault.{ConfigFault}
+use Rattle.mscp_events.specs.Settings.{Settings, configured, configured_unless, limit_fault}
 use Rattle.mscp_saved.specs.declared.fault.RestoreFault.TheVariants as faults
 use Rattle.mscp_saved.specs.Restored.{are_units, settings_fault, unless}
 use Rattle.mscp_saved.proofs.Rising.{test_of_units, units_of_test}

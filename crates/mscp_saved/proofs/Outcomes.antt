@@ -11,7 +11,7 @@ use Rattle.mscp_queue.specs.declared.name.Name.{Name}
 use Rattle.mscp_queue.specs.Kept.{IsWaitable}
 use Rattle.mscp_queue.specs.Records.{Record}
 use Rattle.mscp_control.specs.Restored.{IsSound, made_of}
-use Rattle.mscp_control.specs.Settings.{IsValid, Settings}
+use Rattle.mscp_events.specs.Settings.{IsValid, Settings}
 use Rattle.mscp_saved.specs.declared.fault.RestoreFault.{RestoreFault}
 use Rattle.mscp_saved.specs.declared.fault.RestoreFault.TheVariants as faults
 use Rattle.mscp_saved.specs.Read.{all_waiting_in, begun_in, drives_in, end_in, end_with, first_count, first_in, first_place, held_in, part, parts_in, second_count, second_in, second_place, settings_in, waiting_count, waiting_in, waiting_place}

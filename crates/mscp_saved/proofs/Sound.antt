@@ -10,8 +10,8 @@ use Rattle.mscp_packet.specs.Ends.{IsOfKind}
 use Rattle.mscp_drive.specs.Shape.{last_cylinder}
 use Rattle.mscp_drive.specs.UnitList.{IsUnitList}
 use Rattle.mscp_queue.specs.declared.drive.Drive.{Drive}
-use Rattle.mscp_queue.specs.declared.name.Connection.{Connection}
-use Rattle.mscp_queue.specs.declared.name.Connection.TheVariants.{First, Second}
+use Rattle.mscp_events.specs.declared.connection.Connection.{Connection}
+use Rattle.mscp_events.specs.declared.connection.Connection.TheVariants.{First, Second}
 use Rattle.mscp_queue.specs.declared.name.Name.{Name}
 use Rattle.mscp_queue.specs.Drives.{IsOnUnit}
 use Rattle.mscp_queue.specs.Kept.{AreApart, ArePassedInOrder, IsKept, IsStillServable, IsWaitable, names, units_of}
@@ -23,7 +23,7 @@ use Rattle.mscp_queue.proofs.Lists.{every_of, every_weaker}
 use Rattle.mscp_queue.proofs.Named.{differ_is}
 use Rattle.mscp_control.specs.Holdings.{waiting_on}
 use Rattle.mscp_control.specs.Restored.{IsCovered, IsSound, made_of}
-use Rattle.mscp_control.specs.Settings.{IsValid, Settings, credits_of, room_of}
+use Rattle.mscp_events.specs.Settings.{IsValid, Settings, credits_of, room_of}
 use Rattle.mscp_control.proofs.Promise.Sides.{sides_length}
 use Rattle.mscp_saved.specs.declared.fault.RestoreFault.{RestoreFault}
 use Rattle.mscp_saved.specs.declared.fault.RestoreFault.TheVariants as faults

@@ -6,7 +6,7 @@ use Rattle.mscp_queue.specs.declared.drive.Drive.{Drive}
 use Rattle.mscp_queue.specs.Records.{Record}
 use Rattle.mscp_drive.specs.Shape.{Shape}
 use Rattle.mscp_control.specs.Holdings.{Holdings}
-use Rattle.mscp_control.specs.Settings.{Settings}
+use Rattle.mscp_events.specs.Settings.{Settings}
 
 -- those of a unit, no size of which is zero
 pub record HasUnitRange (u : Shape) : Type 0 where

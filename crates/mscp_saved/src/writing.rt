@@ -3,8 +3,8 @@
 ghost use Rattle.std.specs.Prelude.{◌≡◌, ◌+◌, ◌*◌, ◌≤◌, ◌<◌, ◌^◌, ◌++◌, [], flat_map, length, All, IfSome, slice_index_or, Ok};
 ghost use Rattle.arrayvec.specs.ArrayVec.{array_vec_len};
 ghost use Rattle.mscp_packet.specs.Ends.{HasBodyRange, HasEndRange};
-ghost use Rattle.mscp_queue.specs.declared.name.Connection.TheVariants.{First, Second};
-ghost use Rattle.mscp_control.specs.Both.{of};
+ghost use Rattle.mscp_events.specs.declared.connection.Connection.TheVariants.{First, Second};
+ghost use Rattle.mscp_events.specs.Both.{of};
 ghost use Rattle.mscp_control.specs.Restored.{IsSound};
 ghost use Rattle.mscp_saved.specs.Ranges.{HasDriveRange, HasLimitRange, HasRange, HasUnitRange, HasWaitingRange};
 ghost use Rattle.mscp_saved.specs.Restored.{restored};

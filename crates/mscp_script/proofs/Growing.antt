@@ -5,10 +5,10 @@ use Rattle.std.proofs.lemmas.List.Sums.{sum_by_push}
 use Rattle.std.proofs.lemmas.List.{append_assoc, flat_map_more, replicate_more}
 use Rattle.mscp_queue.specs.declared.view.Choice.{Choice}
 use Rattle.mscp_queue.specs.Pickers.{IsSweep}
-use Rattle.mscp_control.specs.declared.memory.OutOfMemory.{OutOfMemory}
-use Rattle.mscp_control.specs.declared.event.Event.{Event}
-use Rattle.mscp_control.specs.declared.event.Entry.{Entry}
-use Rattle.mscp_control.specs.Settings.{Settings}
+use Rattle.mscp_events.specs.declared.memory.OutOfMemory.{OutOfMemory}
+use Rattle.mscp_events.specs.declared.event.Event.{Event}
+use Rattle.mscp_control.specs.declared.entry.Entry.{Entry}
+use Rattle.mscp_events.specs.Settings.{Settings}
 use Rattle.mscp_control.specs.Holdings.{Answered, Answers, Holdings, fresh}
 use Rattle.mscp_reader.specs.Grammar.{HasGone}
 use Rattle.mscp_reader.specs.Outcome.{rest_outcome}

@@ -1,8 +1,8 @@
 // The report of a script in one pass: what a line asks for comes to a controller as soon as the line is read.
 
 ghost use Rattle.std.specs.Prelude.{◌≡◌, ◌≤◌, List, [], length, IfOk, OnOk};
-ghost use Rattle.mscp_control.specs.Settings.{Settings};
-ghost use Rattle.mscp_control.specs.declared.event.Event.{Event};
+ghost use Rattle.mscp_events.specs.Settings.{Settings};
+ghost use Rattle.mscp_events.specs.declared.event.Event.{Event};
 ghost use Rattle.mscp_reader.specs.Lexical as lexical;
 ghost use Rattle.mscp_reader.specs.Grammar.{Begins, HasGone, IsFault, next};
 ghost use Rattle.mscp_reader.specs.Outcome.{in_line, rest_outcome};

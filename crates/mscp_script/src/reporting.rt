@@ -1,7 +1,7 @@
 // A report, which grows by the lines of each entry, and ends with the totals.
 
 ghost use Rattle.std.specs.Prelude.{◌≡◌, ◌+◌, ◌<◌, ◌≤◌, ◌^◌, [], IfOk, OnOk, length};
-ghost use Rattle.mscp_control.specs.declared.event.Entry.TheVariants as entries;
+ghost use Rattle.mscp_control.specs.declared.entry.Entry.TheVariants as entries;
 ghost use Rattle.mscp_queue.specs.declared.report.Report.TheVariants as reports;
 ghost use Rattle.mscp_script.specs.Text.{finished, reported, step_line, text, with_entry};
 

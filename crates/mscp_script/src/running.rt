@@ -2,9 +2,9 @@
 
 ghost use Rattle.std.specs.Prelude.{◌≡◌, ◌+◌, ◌<◌, ◌^◌, [], length, replicate, OnOk, IfOk};
 ghost use Rattle.mscp_control.specs.Holdings.{fresh};
-ghost use Rattle.mscp_control.specs.Settings.{IsValid};
-ghost use Rattle.mscp_control.specs.declared.event.Event.TheVariants as events;
-ghost use Rattle.mscp_queue.specs.declared.block.Block.TheVariants.{Good};
+ghost use Rattle.mscp_events.specs.Settings.{IsValid};
+ghost use Rattle.mscp_events.specs.declared.event.Event.TheVariants as events;
+ghost use Rattle.mscp_events.specs.declared.block.Block.TheVariants.{Good};
 ghost use Rattle.mscp_reader.specs.Plain.{plain_request};
 ghost use Rattle.mscp_reader.specs.Requests.{events_of};
 ghost use Rattle.mscp_script.specs.Running.{Meets, Ran};

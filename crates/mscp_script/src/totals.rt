@@ -25,8 +25,8 @@ pub struct Totals {
 }
 
 impl Totals {
-    ghost use Rattle.mscp_queue.specs.declared.name.Connection.{Connection};
-    ghost use Rattle.mscp_control.specs.declared.event.Entry.TheVariants as entries;
+    ghost use Rattle.mscp_events.specs.declared.connection.Connection.{Connection};
+    ghost use Rattle.mscp_control.specs.declared.entry.Entry.TheVariants as entries;
     ghost use Rattle.mscp_script.specs.Counted.{IsCounted};
 
     /// The totals of no entry.

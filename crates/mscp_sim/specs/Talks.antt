@@ -3,15 +3,15 @@
 -- connection, names another command.
 use Rattle.std.specs.Prelude.{ℕ, Bool, true, false, not, ◌&&◌, nat_eq, nat_lt, if◌then◌else◌, List, [], ◌∷◌, take, map, filter, find, flat_map, slice_index_or, Option, Some, None, option_map, option_to_list}
 use Rattle.std.specs.List.{list_any, range_with_len}
-use Rattle.mscp_queue.specs.declared.name.Connection.{Connection}
-use Rattle.mscp_queue.specs.declared.name.Connection.TheVariants.{First, Second}
+use Rattle.mscp_events.specs.declared.connection.Connection.{Connection}
+use Rattle.mscp_events.specs.declared.connection.Connection.TheVariants.{First, Second}
 use Rattle.mscp_queue.specs.Names.{name_on, same_connection}
 use Rattle.mscp_packet.specs.declared.command.Order.TheVariants as orders
 use Rattle.mscp_packet.specs.Commands.{opcode_byte}
 use Rattle.mscp_packet.specs.Number.{num}
-use Rattle.mscp_control.specs.declared.event.Entry.TheVariants as entries
-use Rattle.mscp_control.specs.Settings.{Settings, credits_of}
-use Rattle.mscp_control.specs.Both.{Both}
+use Rattle.mscp_control.specs.declared.entry.Entry.TheVariants as entries
+use Rattle.mscp_events.specs.Settings.{Settings, credits_of}
+use Rattle.mscp_events.specs.Both.{Both}
 use Rattle.mscp_control.specs.History.{Moment, Trace, last_or}
 use Rattle.mscp_control.specs.Figures.{figure_of}
 use Rattle.mscp_host.specs.declared.submission.Submission.{Submission}

@@ -1,8 +1,8 @@
 // Two hosts and a controller that talk.
 
 ghost use Rattle.std.specs.Prelude.{◌≡◌, ℕ, ◌+◌, ◌<◌, ◌≤◌, ◌^◌, [], ◌∷◌, ◌++◌, length, option_to_list, Some, IfOk};
-ghost use Rattle.mscp_control.specs.Settings.{IsValid};
-ghost use Rattle.mscp_control.specs.Both.{Both};
+ghost use Rattle.mscp_events.specs.Settings.{IsValid};
+ghost use Rattle.mscp_events.specs.Both.{Both};
 ghost use Rattle.mscp_host.specs.Accounts.{Account};
 ghost use Rattle.mscp_sim.specs.Conversing.{Goes, GoesOn};
 ghost use Rattle.mscp_sim.specs.TwoEnds.{AreTwoEnds};

@@ -1,7 +1,7 @@
 // The hosts of both connections.
 
 ghost use Rattle.std.specs.Prelude.{◌≡◌, ◌≤◌, length};
-ghost use Rattle.mscp_control.specs.Both.{of, put};
+ghost use Rattle.mscp_events.specs.Both.{of, put};
 ghost use Rattle.mscp_host.specs.Accounts.{fresh, heard, polls_oldest, submits};
 
 use arrayvec::ArrayVec;
@@ -20,7 +20,7 @@ pub(crate) struct Hosts {
 // A clause sees both accounts. A host that isn't there has no credits, and nothing outstanding.
 impl Model for Hosts {
     ghost use Rattle.std.specs.Prelude.{unwrap_or};
-    ghost use Rattle.mscp_control.specs.Both.{Both};
+    ghost use Rattle.mscp_events.specs.Both.{Both};
     ghost use Rattle.mscp_host.specs.Accounts.{Account, fresh};
 
     ghost Value = { Both Account };

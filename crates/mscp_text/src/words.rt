@@ -36,6 +36,20 @@ pub fn put_field<N: Integer, A: Allocator>(
     put_number(out, number)
 }
 
+/// Appends words and a number, and then other words and a number.
+pub fn put_two<N: Integer, M: Integer, A: Allocator>(
+    out: &mut Vec<u8, A>,
+    words: &str,
+    number: N,
+    more: &str,
+    other: M,
+) -> Result<(), AllocError>
+    ensures { OnOk result (out.new.items ≡ out.old.items ++ (words.now ++ N.text number) ++ (more.now ++ M.text other)) }
+{
+    put_field(out, words, number)?;
+    put_field(out, more, other)
+}
+
 /// Appends at most 48 bytes, each as two lower case hexadecimal digits.
 pub fn put_hex<A: Allocator>(out: &mut Vec<u8, A>, bytes: &[u8]) -> Result<(), AllocError>
     requires { length bytes.now ≤ 48 }

@@ -9,15 +9,15 @@ use Rattle.mscp_queue.specs.Kept.{AreApart, names}
 use Rattle.mscp_queue.specs.declared.name.Name.{Name}
 use Rattle.mscp_queue.specs.Outcomes.{aborted_end}
 use Rattle.mscp_queue.specs.Records.{Record, aborted_record, has_name, name_of, without}
-use Rattle.mscp_queue.specs.declared.name.Connection.{Connection}
+use Rattle.mscp_events.specs.declared.connection.Connection.{Connection}
 use Rattle.mscp_queue.specs.Names.{name_on, same_name}
 use Rattle.mscp_queue.proofs.Named.{differ_is, is_differ, is_same, same_is}
 use Rattle.mscp_queue.proofs.Aborts.{found_once}
 use Rattle.mscp_queue.proofs.Lists.{every_from, every_mapped, every_parts, every_weaker, filter_all, filter_on}
 use Rattle.mscp_queue.proofs.Placed.{filter_map_of, find_cases, find_first, find_none, map_map}
-use Rattle.mscp_control.specs.declared.event.Entry.TheVariants as entries
-use Rattle.mscp_control.specs.declared.event.Sent.TheVariants as sents
-use Rattle.mscp_control.specs.Settings.{Settings}
+use Rattle.mscp_control.specs.declared.entry.Entry.TheVariants as entries
+use Rattle.mscp_control.specs.declared.entry.Sent.TheVariants as sents
+use Rattle.mscp_events.specs.Settings.{Settings}
 use Rattle.mscp_control.specs.Arrival.{order_fault}
 use Rattle.mscp_control.specs.History.{Trace}
 use Rattle.mscp_control.specs.Commands.{command, name, reference, waiting, good, ends_in, is_waiting}

@@ -2,15 +2,15 @@
 use Rattle.std.proofs.Common.{◌≡◌, ◌+◌, false, List, [], ◌∷◌, ◌++◌, length, ap, refl, sym, ◌∙◌, append-nil, arith}
 use Rattle.std.specs.Prelude.{if◌then◌else◌, drop, option_to_list, Some, None}
 use Rattle.mscp_packet.specs.declared.end.End.{End}
-use Rattle.mscp_queue.specs.declared.name.Connection.{Connection}
-use Rattle.mscp_queue.specs.declared.name.Connection.TheVariants.{First, Second}
+use Rattle.mscp_events.specs.declared.connection.Connection.{Connection}
+use Rattle.mscp_events.specs.declared.connection.Connection.TheVariants.{First, Second}
 use Rattle.mscp_queue.specs.declared.report.Report.{Report}
 use Rattle.mscp_queue.specs.declared.report.Report.TheVariants as reports
 use Rattle.mscp_queue.specs.Names.{same_connection}
 use Rattle.mscp_control.specs.declared.account.Account.{Account}
 use Rattle.mscp_control.specs.declared.account.Accounts.{Accounts}
 use Rattle.mscp_control.specs.Accounts.{CanEnd, account, come, ended, left, put_account, reported, taken, untaken_in}
-use Rattle.mscp_control.specs.Both.{Both, of, put}
+use Rattle.mscp_events.specs.Both.{Both, of, put}
 use Rattle.mscp_control.specs.Holdings.{ends_after, ends_reported, more_ends}
 
 -- ---- one of them is changed

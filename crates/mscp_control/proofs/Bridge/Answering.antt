@@ -2,8 +2,8 @@
 use Rattle.std.proofs.Common.{◌≡◌, ℕ, ◌+◌, ◌<◌, List, [], ◌∷◌, ◌++◌, take, get_or, length, refl, ap, sym, ◌∙◌, subst, arith}
 use Rattle.std.proofs.lemmas.List.{length_push, take_more}
 use Rattle.mscp_queue.specs.declared.view.Choice.{Choice}
-use Rattle.mscp_control.specs.declared.event.Event.{Event}
-use Rattle.mscp_control.specs.declared.event.Entry.{Entry}
+use Rattle.mscp_events.specs.declared.event.Event.{Event}
+use Rattle.mscp_control.specs.declared.entry.Entry.{Entry}
 use Rattle.mscp_control.specs.Holdings.{Answered, Answers, Holdings}
 use Rattle.mscp_control.proofs.Bridge.Owning.{owner_kept}
 

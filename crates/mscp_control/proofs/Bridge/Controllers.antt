@@ -8,10 +8,10 @@ use Rattle.mscp_queue.specs.Records.{name_of}
 use Rattle.mscp_queue.specs.Why.{holders_of_name}
 use Rattle.mscp_queue.specs.Kept.{names}
 use Rattle.mscp_queue.proofs.Placed.{map_map}
-use Rattle.mscp_control.specs.declared.event.Event.{Event}
-use Rattle.mscp_control.specs.declared.event.Entry.{Entry}
-use Rattle.mscp_control.specs.Settings.{Settings, IsValid, credits_of}
-use Rattle.mscp_control.specs.Both.{of}
+use Rattle.mscp_events.specs.declared.event.Event.{Event}
+use Rattle.mscp_control.specs.declared.entry.Entry.{Entry}
+use Rattle.mscp_events.specs.Settings.{Settings, IsValid, credits_of}
+use Rattle.mscp_events.specs.Both.{of}
 use Rattle.mscp_control.specs.Holdings.{Answered, Holdings, fresh, waiting_on}
 use Rattle.mscp_control.specs.Runs.{IsRun}
 use Rattle.mscp_control.specs.Legal.{IsPick}

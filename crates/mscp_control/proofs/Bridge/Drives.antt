@@ -7,12 +7,12 @@ use Rattle.mscp_packet.specs.declared.command.Command.{Command}
 use Rattle.mscp_packet.specs.declared.command.Order.{Order}
 use Rattle.mscp_packet.specs.declared.command.Order.TheVariants as orders
 use Rattle.mscp_packet.specs.declared.end.End.{End}
-use Rattle.mscp_drive.specs.Shape.{Shape, cylinder_of}
+use Rattle.mscp_drive.specs.Shape.{Shape, cylinder_of, one_block}
 use Rattle.mscp_drive.specs.UnitList.{IsUnitList}
-use Rattle.mscp_queue.specs.declared.block.Block.{Block}
+use Rattle.mscp_events.specs.declared.block.Block.{Block}
 use Rattle.mscp_queue.specs.declared.drive.Drive.{Drive}
-use Rattle.mscp_control.specs.Settings.{Settings, unit_found, unit_shape}
-use Rattle.mscp_queue.specs.Drives.{one_block, drive_of, fresh_drive, has_number, replaced}
+use Rattle.mscp_events.specs.Settings.{Settings, unit_found, unit_shape}
+use Rattle.mscp_queue.specs.Drives.{drive_of, fresh_drive, has_number, replaced}
 use Rattle.mscp_control.specs.Arrival.{is_immediate, is_queued, move_fault, order_fault, unit_fault}
 use Rattle.mscp_queue.specs.Outcomes.{head_after}
 use Rattle.mscp_control.specs.History.{Trace, Moment, service_in}

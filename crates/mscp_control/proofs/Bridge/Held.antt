@@ -4,12 +4,12 @@ use Rattle.std.specs.Prelude.{filter, find, sum_by}
 use Rattle.std.specs.List.{AllByRecursion, position, range_with_len}
 use Rattle.std.proofs.lemmas.List.{length-append, length-map, map-append}
 use Rattle.mscp_packet.specs.declared.end.End.{End}
-use Rattle.mscp_queue.specs.declared.name.Connection.{Connection}
+use Rattle.mscp_events.specs.declared.connection.Connection.{Connection}
 use Rattle.mscp_queue.specs.declared.name.Name.{Name}
 use Rattle.mscp_queue.specs.Names.{same_name}
 use Rattle.mscp_queue.specs.Records.{Record, has_name, is_in_service, left_of, record_at, no_record}
-use Rattle.mscp_control.specs.Settings.{Settings}
-use Rattle.mscp_control.specs.Both.{Both, of}
+use Rattle.mscp_events.specs.Settings.{Settings}
+use Rattle.mscp_events.specs.Both.{Both, of}
 use Rattle.mscp_control.specs.History.{Trace}
 use Rattle.mscp_control.specs.Commands.{command, connection, name, reference, weight, waiting, done, good, left, in_service}
 use Rattle.mscp_control.specs.Passing.{passed}

@@ -12,7 +12,7 @@ use Rattle.mscp_queue.specs.Why as records
 use Rattle.mscp_queue.specs.Why.{is_nobody}
 use Rattle.mscp_queue.proofs.Lists.{every_kept, every_weaker, range_below}
 use Rattle.mscp_queue.proofs.Placed.{at_place, find_cases, find_first, find_none, map_map, map_on, position_first, position_none}
-use Rattle.mscp_control.specs.Settings.{Settings}
+use Rattle.mscp_events.specs.Settings.{Settings}
 use Rattle.mscp_control.specs.History.{Trace}
 use Rattle.mscp_control.specs.Commands.{earlier, is_idle, name, waiting}
 use Rattle.mscp_control.specs.Holders.{holder, holders, holders_found, holders_of, keeps_back}

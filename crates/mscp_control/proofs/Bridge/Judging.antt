@@ -4,14 +4,14 @@ use Rattle.std.specs.Prelude.{cond, nat_eq, nat_lt, if◌then◌else◌, slice_i
 use Rattle.std.specs.List.{list_any}
 use Rattle.std.proofs.lemmas.List.Folds.{list_any-append}
 use Rattle.std.proofs.lemmas.Bool.{le-ltb, true≢false}
-use Rattle.mscp_queue.specs.declared.name.Connection.{Connection}
+use Rattle.mscp_events.specs.declared.connection.Connection.{Connection}
 use Rattle.mscp_queue.specs.Names.{name_on, same_connection}
 use Rattle.mscp_queue.specs.Records.{Record, has_name}
 use Rattle.mscp_packet.specs.declared.command.Command.{Command}
 use Rattle.mscp_packet.specs.Number.{num}
 use Rattle.mscp_packet.specs.Commands.{IsCommand, command_of}
 use Rattle.mscp_packet.specs.declared.end.End.{End}
-use Rattle.mscp_control.specs.declared.event.SendFault.TheVariants.{Short, Long}
+use Rattle.mscp_control.specs.declared.entry.SendFault.TheVariants.{Short, Long}
 use Rattle.mscp_control.specs.Holdings.{numbers, numbers_ended, waiting_on}
 use Rattle.mscp_control.specs.Arrival.{credit_fault, holds, refusal}
 

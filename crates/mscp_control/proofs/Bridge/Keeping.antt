@@ -8,9 +8,9 @@ use Rattle.mscp_packet.specs.declared.command.Command.{Command}
 use Rattle.mscp_packet.specs.declared.end.End.{End}
 use Rattle.mscp_packet.specs.Ends.{IsOfKind}
 use Rattle.mscp_drive.specs.Shape.{Shape}
-use Rattle.mscp_queue.specs.declared.block.Block.{Block}
-use Rattle.mscp_queue.specs.declared.name.Connection.{Connection}
-use Rattle.mscp_queue.specs.declared.name.Connection.TheVariants.{First, Second}
+use Rattle.mscp_events.specs.declared.block.Block.{Block}
+use Rattle.mscp_events.specs.declared.connection.Connection.{Connection}
+use Rattle.mscp_events.specs.declared.connection.Connection.TheVariants.{First, Second}
 use Rattle.mscp_queue.specs.declared.name.Name.{Name}
 use Rattle.mscp_queue.specs.declared.report.Report.{Report}
 use Rattle.mscp_queue.specs.declared.report.Report.TheVariants as reports
@@ -27,9 +27,9 @@ use Rattle.mscp_queue.proofs.Named.{own_side}
 use Rattle.mscp_control.specs.declared.account.Account.{Account}
 use Rattle.mscp_control.specs.declared.account.Accounts.{Accounts}
 use Rattle.mscp_control.specs.Accounts.{CanEnd, account, come, ended, fresh, left, put_account, reported, taken, untaken_in}
-use Rattle.mscp_control.specs.Settings.{Settings, IsValid, credits_of, room}
+use Rattle.mscp_events.specs.Settings.{Settings, IsValid, credits_of, room}
 use Rattle.mscp_control.specs.Holdings.{ends_reported, waiting_on}
-use Rattle.mscp_control.specs.Both.{of}
+use Rattle.mscp_events.specs.Both.{of}
 use Rattle.mscp_control.specs.Kept.{IsAccount, IsHeld}
 use Rattle.mscp_control.proofs.Bridge.Accounts.{each_account, of_more, reported_at, seen_left, seen_of}
 use Rattle.mscp_control.proofs.Bridge.Counting.{count_stepped, other_count, own_count, push_count}

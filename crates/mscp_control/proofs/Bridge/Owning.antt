@@ -5,17 +5,17 @@ use Rattle.mscp_packet.specs.declared.command.Command.{Command}
 use Rattle.mscp_packet.specs.declared.command.Order.{Order}
 use Rattle.mscp_packet.specs.declared.command.Order.TheVariants as orders
 use Rattle.mscp_packet.specs.Commands.{command_of}
-use Rattle.mscp_queue.specs.declared.block.Block.{Block}
-use Rattle.mscp_queue.specs.declared.name.Connection.{Connection}
+use Rattle.mscp_events.specs.declared.block.Block.{Block}
+use Rattle.mscp_events.specs.declared.connection.Connection.{Connection}
 use Rattle.mscp_queue.specs.declared.report.Report.{Report}
 use Rattle.mscp_queue.specs.declared.report.Report.TheVariants as reports
 use Rattle.mscp_queue.specs.declared.view.Choice.{Choice}
 use Rattle.mscp_queue.specs.Lines.{Line, Serves}
-use Rattle.mscp_control.specs.declared.event.SendFault.{SendFault}
-use Rattle.mscp_control.specs.declared.event.Event.{Event}
-use Rattle.mscp_control.specs.declared.event.Event.TheVariants as events
-use Rattle.mscp_control.specs.declared.event.Entry.{Entry}
-use Rattle.mscp_control.specs.declared.event.Entry.TheVariants as entries
+use Rattle.mscp_control.specs.declared.entry.SendFault.{SendFault}
+use Rattle.mscp_events.specs.declared.event.Event.{Event}
+use Rattle.mscp_events.specs.declared.event.Event.TheVariants as events
+use Rattle.mscp_control.specs.declared.entry.Entry.{Entry}
+use Rattle.mscp_control.specs.declared.entry.Entry.TheVariants as entries
 use Rattle.mscp_control.specs.Arrival.{refusal, is_queued}
 use Rattle.mscp_control.specs.Holdings.{Answers, Holdings, aborting, answered_end, balance_of, begun_after, with_end, held_unless, line_of, outstanding_of, queued}
 

@@ -5,11 +5,11 @@ use Rattle.std.specs.List.{AllByRecursion}
 use Rattle.std.proofs.lemmas.List.{drop-drop, map-append}
 use Rattle.mscp_packet.specs.declared.end.End.{End}
 use Rattle.mscp_packet.specs.Commands.{command_of}
-use Rattle.mscp_queue.specs.declared.name.Connection.{Connection}
+use Rattle.mscp_events.specs.declared.connection.Connection.{Connection}
 use Rattle.mscp_queue.specs.declared.name.Name.{Name}
 use Rattle.mscp_queue.specs.Records.{Record, fresh_record, name_of}
-use Rattle.mscp_control.specs.Settings.{Settings}
-use Rattle.mscp_control.specs.Both.{Both, of}
+use Rattle.mscp_events.specs.Settings.{Settings}
+use Rattle.mscp_events.specs.Both.{Both, of}
 use Rattle.mscp_queue.specs.Orders.{order_weight}
 use Rattle.mscp_control.specs.History.{Trace, Moment, connection_of, queues, sent_bytes, is_good, takes, service_in}
 use Rattle.mscp_control.specs.Commands.{name, waiting, done, good, service_is, service_starts, ends_in}

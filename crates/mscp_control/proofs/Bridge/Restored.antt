@@ -3,8 +3,8 @@ use Rattle.std.proofs.Common.{All, ◌≡◌, true, List, length, ap, sym, subst
 use Rattle.std.proofs.lemmas.List.Elements.{All-from_recursion, recursion_from_All}
 use Rattle.mscp_packet.specs.declared.end.End.{End}
 use Rattle.mscp_packet.specs.Ends.{IsOfKind}
-use Rattle.mscp_queue.specs.declared.name.Connection.{Connection}
-use Rattle.mscp_queue.specs.declared.name.Connection.TheVariants.{First, Second}
+use Rattle.mscp_events.specs.declared.connection.Connection.{Connection}
+use Rattle.mscp_events.specs.declared.connection.Connection.TheVariants.{First, Second}
 use Rattle.mscp_queue.specs.Kept.{ArePassedInOrder, units_of}
 use Rattle.mscp_queue.specs.Kept as queue
 use Rattle.mscp_queue.specs.Lines.{Line}
@@ -15,7 +15,7 @@ use Rattle.mscp_control.specs.Accounts.{account, untaken_in}
 use Rattle.mscp_control.specs.Holdings.{Holdings, waiting_on}
 use Rattle.mscp_control.specs.Kept.{IsAccount, IsHeld}
 use Rattle.mscp_control.specs.Restored.{IsCovered, IsSound}
-use Rattle.mscp_control.specs.Settings.{Settings, room}
+use Rattle.mscp_events.specs.Settings.{Settings, room}
 
 covered_of : {c : Settings} {rs : List Record} {via : Connection} {own : Account} → IsAccount c rs via own
     → IsCovered c rs via own.untaken.items

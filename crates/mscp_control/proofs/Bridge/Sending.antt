@@ -10,14 +10,14 @@ use Rattle.mscp_packet.specs.Commands.{command_of}
 use Rattle.mscp_drive.specs.Shape.{Shape}
 use Rattle.mscp_queue.specs.declared.drive.Drive.{Drive}
 use Rattle.mscp_queue.specs.Records.{Record, aborted_record, name_of}
-use Rattle.mscp_control.specs.declared.event.SendFault.{SendFault}
-use Rattle.mscp_control.specs.declared.event.Sent.{Sent}
-use Rattle.mscp_control.specs.declared.event.Sent.TheVariants as sents
+use Rattle.mscp_control.specs.declared.entry.SendFault.{SendFault}
+use Rattle.mscp_control.specs.declared.entry.Sent.{Sent}
+use Rattle.mscp_control.specs.declared.entry.Sent.TheVariants as sents
 use Rattle.arrayvec.specs.ArrayVec.{ArrayVec}
-use Rattle.mscp_control.specs.declared.event.Event.TheVariants as events
-use Rattle.mscp_control.specs.declared.event.Entry.TheVariants as entries
-use Rattle.mscp_control.specs.Settings.{Settings, credits_of, unit_found}
-use Rattle.mscp_control.specs.Both.{Both, of}
+use Rattle.mscp_events.specs.declared.event.Event.TheVariants as events
+use Rattle.mscp_control.specs.declared.entry.Entry.TheVariants as entries
+use Rattle.mscp_events.specs.Settings.{Settings, credits_of, unit_found}
+use Rattle.mscp_events.specs.Both.{Both, of}
 use Rattle.mscp_control.specs.Arrival.{is_queued, order_fault, refusal, unit_fault}
 use Rattle.mscp_control.specs.Outcomes.{answer_body, answer_status, own_end, own_end_with}
 use Rattle.mscp_queue.specs.Outcomes.{end_with}
@@ -30,8 +30,8 @@ use Rattle.mscp_control.specs.Ends as history
 use Rattle.mscp_control.specs.Credits.{arrival, taken_in, taken_unless}
 use Rattle.mscp_control.specs.Legal.{IsRight}
 use Rattle.mscp_control.specs.Holdings.{Holdings, record_aborted, reference_aborted, aborting, after_message, answer_to_message, answered_end, balance_of, with_end, figure_polled, held_unless, outstanding_of, queued, sent_unless, waiting_on}
-use Rattle.mscp_queue.specs.declared.name.Connection.{Connection}
-use Rattle.mscp_queue.specs.declared.name.Connection.TheVariants.{First, Second}
+use Rattle.mscp_events.specs.declared.connection.Connection.{Connection}
+use Rattle.mscp_events.specs.declared.connection.Connection.TheVariants.{First, Second}
 use Rattle.mscp_queue.specs.Names.{name_on, same_connection}
 use Rattle.mscp_queue.specs.Drives.{drive_of}
 use Rattle.mscp_queue.specs.Figures.{figure_of_name}

@@ -13,7 +13,7 @@ use Rattle.mscp_queue.specs.Records.{Record, name_of, record_at}
 use Rattle.mscp_queue.specs.Records as recorded
 use Rattle.mscp_queue.specs.Serving.{IsNext}
 use Rattle.mscp_queue.specs.Views.{open_places}
-use Rattle.mscp_control.specs.Settings.{Settings, unit_found}
+use Rattle.mscp_events.specs.Settings.{Settings, unit_found}
 use Rattle.mscp_control.specs.History.{Trace}
 use Rattle.mscp_control.specs.Commands.{name, unit, is_idle, is_waiting, waiting, done, in_service}
 use Rattle.mscp_control.specs.Passing.{is_startable, startable}

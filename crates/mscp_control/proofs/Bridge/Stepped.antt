@@ -8,8 +8,8 @@ use Rattle.std.proofs.lemmas.Bool.{eq-eqb, lt-ltb, true≢false, false≢true}
 use Rattle.std.proofs.lemmas.List.{map-append, take-map, drop-map}
 use Rattle.std.proofs.lemmas.List.Elements.{recursion_from_All}
 use Rattle.mscp_packet.specs.declared.end.End.{End}
-use Rattle.mscp_queue.specs.declared.block.Block.{Block}
-use Rattle.mscp_queue.specs.declared.block.Block.TheVariants.{Good, Bad}
+use Rattle.mscp_events.specs.declared.block.Block.{Block}
+use Rattle.mscp_events.specs.declared.block.Block.TheVariants.{Good, Bad}
 use Rattle.mscp_queue.specs.declared.drive.Drive.{Drive}
 use Rattle.mscp_queue.specs.declared.report.Report.{Report}
 use Rattle.mscp_queue.specs.declared.report.Report.TheVariants as reports
@@ -17,18 +17,18 @@ use Rattle.mscp_queue.specs.declared.view.Choice.{Choice}
 use Rattle.mscp_queue.specs.Drives.{drive_of, replaced}
 use Rattle.mscp_queue.specs.Lines.{Line, ServesAt}
 use Rattle.mscp_queue.specs.declared.name.Name.{Name}
-use Rattle.mscp_queue.specs.declared.name.Connection.{Connection}
-use Rattle.mscp_queue.specs.declared.name.Connection.TheVariants.{First, Second}
+use Rattle.mscp_events.specs.declared.connection.Connection.{Connection}
+use Rattle.mscp_events.specs.declared.connection.Connection.TheVariants.{First, Second}
 use Rattle.mscp_queue.specs.Names.{same_connection, same_name}
 use Rattle.mscp_queue.specs.Orders.{order_weight}
 use Rattle.mscp_queue.specs.Outcomes.{goes_on, is_good_block, touches}
 use Rattle.mscp_queue.specs.Records.{Record, advanced, step_toll, passed_by, record_at, remains}
 use Rattle.mscp_queue.specs.Records as recorded
 use Rattle.mscp_queue.specs.Serving.{IsNext, drive_after, end_given, report_of, waiting_after}
-use Rattle.mscp_control.specs.declared.event.Event.TheVariants as events
-use Rattle.mscp_control.specs.declared.event.Entry.TheVariants as entries
-use Rattle.mscp_control.specs.Settings.{Settings, IsValid}
-use Rattle.mscp_control.specs.Both.{Both, of}
+use Rattle.mscp_events.specs.declared.event.Event.TheVariants as events
+use Rattle.mscp_control.specs.declared.entry.Entry.TheVariants as entries
+use Rattle.mscp_events.specs.Settings.{Settings, IsValid}
+use Rattle.mscp_events.specs.Both.{Both, of}
 use Rattle.mscp_control.specs.History.{Trace, Moment, is_good, service_in, WhenStarted}
 use Rattle.mscp_control.specs.Commands.{connection, name, reference, service_name, unit, order, is_waiting, waiting, weight, done, good, left, serves_in}
 use Rattle.mscp_control.specs.Passing.{passed}

@@ -13,7 +13,7 @@ use Rattle.mscp_queue.specs.Pickers.{IsFirstLeast}
 use Rattle.mscp_queue.specs.Pairs.{Pairs}
 use Rattle.mscp_queue.proofs.Lists.{every_append, every_both, every_mapped, every_parts, every_weaker, pairs_filter, pairs_middle}
 use Rattle.mscp_queue.proofs.Placed.{find_first, map_map}
-use Rattle.mscp_control.specs.Settings.{Settings}
+use Rattle.mscp_events.specs.Settings.{Settings}
 use Rattle.mscp_control.specs.History.{Trace, moment, Service, service_in, WhenStarted}
 use Rattle.mscp_control.specs.Commands.{name, service_name, waiting}
 use Rattle.mscp_control.specs.Passing.{is_startable, startable}

@@ -7,8 +7,8 @@ use Rattle.mscp_queue.specs.Lines.{BeginsAt, Line}
 use Rattle.mscp_queue.specs.declared.name.Name.{Name}
 use Rattle.mscp_queue.specs.Records.{Record, name_of}
 use Rattle.mscp_queue.specs.Serving.{IsNext, upcoming_of}
-use Rattle.mscp_control.specs.Settings.{Settings}
-use Rattle.mscp_control.specs.Both.{of}
+use Rattle.mscp_events.specs.Settings.{Settings}
+use Rattle.mscp_events.specs.Both.{of}
 use Rattle.mscp_control.specs.History.{Trace}
 use Rattle.mscp_control.specs.Commands.{is_waiting, name, unit, waiting}
 use Rattle.mscp_control.specs.Legal.{IsLegal, IsPick, block_of}

@@ -10,7 +10,7 @@ use Rattle.mscp_queue.specs.Drives.{drive_of}
 use Rattle.mscp_queue.specs.Records.{Record, drive_at, no_record, record_at}
 use Rattle.mscp_queue.specs.Views.{choice_of, is_open_at, open_places, view_of}
 use Rattle.mscp_queue.specs.Views as records
-use Rattle.mscp_control.specs.Settings.{Settings}
+use Rattle.mscp_events.specs.Settings.{Settings}
 use Rattle.mscp_control.specs.History.{Trace}
 use Rattle.mscp_control.specs.Commands.{command, unit, waiting, weight, earlier, is_idle}
 use Rattle.mscp_control.specs.Passing.{fences, is_affordable, is_free, is_startable, passed, startable}

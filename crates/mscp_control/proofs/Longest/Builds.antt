@@ -1,9 +1,9 @@
 -- One more round of each loop that writes the longest run.
 use Rattle.std.proofs.Common.{◌≡◌, ℕ, suc, ◌*◌, ◌≤◌, ◌+◌, ◌-◌, [], ◌∷◌, ◌++◌, ap, arith}
 use Rattle.mscp_drive.specs.Shape.{Shape}
-use Rattle.mscp_queue.specs.declared.name.Connection.TheVariants.{First}
+use Rattle.mscp_events.specs.declared.connection.Connection.TheVariants.{First}
 use Rattle.mscp_control.specs.declared.worst_case.Transfer.{Transfer}
-use Rattle.mscp_control.specs.Settings.{Settings}
+use Rattle.mscp_events.specs.Settings.{Settings}
 use Rattle.mscp_control.specs.History.{Trace}
 use Rattle.mscp_control.specs.Worst.{come_on, connection_at, long_read, pass_on, queueing, read_command, rest_on, runs_on, short_read, stepping, steps_on}
 

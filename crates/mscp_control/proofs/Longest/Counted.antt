@@ -2,7 +2,7 @@
 use Rattle.std.proofs.Common.{◌≡◌, ℕ, zero, suc, ◌+◌, ◌-◌, ◌<◌, ◌≤◌, Bool, true, false, cond, not, [], ◌∷◌, ◌++◌, length, take, refl, ap, sym, ◌∙◌, subst, arith}
 use Rattle.std.proofs.lemmas.Bool.{and_parts}
 use Rattle.std.proofs.lemmas.List.{length-take-le, take_all}
-use Rattle.mscp_control.specs.Settings.{Settings, IsValid, bound}
+use Rattle.mscp_events.specs.Settings.{Settings, IsValid, bound}
 use Rattle.mscp_control.specs.History.{Trace, is_step, moment}
 use Rattle.mscp_control.specs.Commands.{ends_in, is_waiting, name, steps_after}
 use Rattle.mscp_control.specs.Figures.{figure}

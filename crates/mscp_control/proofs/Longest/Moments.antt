@@ -10,26 +10,26 @@ use Rattle.mscp_packet.specs.Ends.{end_bytes}
 use Rattle.mscp_packet.specs.Number.{num}
 use Rattle.mscp_packet.specs.Opcodes.{class, is_immediate_class}
 use Rattle.mscp_packet.proofs.Commands.{command_bytes_are_messages}
-use Rattle.mscp_drive.specs.Shape.{Shape}
-use Rattle.mscp_queue.specs.declared.block.Block.TheVariants.{Good}
+use Rattle.mscp_drive.specs.Shape.{Shape, one_block}
+use Rattle.mscp_events.specs.declared.block.Block.TheVariants.{Good}
 use Rattle.mscp_queue.specs.declared.drive.Drive.{Drive}
-use Rattle.mscp_queue.specs.declared.name.Connection.{Connection}
+use Rattle.mscp_events.specs.declared.connection.Connection.{Connection}
 use Rattle.mscp_queue.specs.declared.name.Name.{Name}
 use Rattle.mscp_queue.specs.declared.view.Choice.{Choice}
-use Rattle.mscp_queue.specs.Drives.{drive_of, fresh_drive, has_number, one_block, replaced}
+use Rattle.mscp_queue.specs.Drives.{drive_of, fresh_drive, has_number, replaced}
 use Rattle.mscp_queue.specs.Lines.{ServesAt}
 use Rattle.mscp_queue.specs.Records.{Record, fresh_record, has_name, name_of, no_record, passed_by, record_at, remains, step_toll}
 use Rattle.mscp_queue.specs.Serving.{IsServable, drive_after, drives_after, end_given, report_of, waiting_after}
 use Rattle.mscp_queue.proofs.Named.{is_same}
 use Rattle.mscp_queue.proofs.Placed.{at_place}
-use Rattle.mscp_control.specs.declared.event.Event.TheVariants as events
-use Rattle.mscp_control.specs.declared.event.Entry.TheVariants as entries
-use Rattle.mscp_control.specs.declared.event.Sent.TheVariants as sents
-use Rattle.mscp_control.specs.Settings.{Settings, IsValid, credits_of, unit_found}
-use Rattle.mscp_control.specs.Both.{Both, of, put}
+use Rattle.mscp_events.specs.declared.event.Event.TheVariants as events
+use Rattle.mscp_control.specs.declared.entry.Entry.TheVariants as entries
+use Rattle.mscp_control.specs.declared.entry.Sent.TheVariants as sents
+use Rattle.mscp_events.specs.Settings.{Settings, IsValid, credits_of, unit_found}
+use Rattle.mscp_events.specs.Both.{Both, of, put}
 use Rattle.mscp_control.specs.Controllers.{drive_now}
 use Rattle.mscp_control.specs.Arrival.{holds, is_queued, refusal}
-use Rattle.mscp_control.specs.declared.event.SendFault.TheVariants.{Short, Long, NoCredit, LastCredit, Doubled}
+use Rattle.mscp_control.specs.declared.entry.SendFault.TheVariants.{Short, Long, NoCredit, LastCredit, Doubled}
 use Rattle.mscp_control.specs.History.{Moment, Trace}
 use Rattle.mscp_control.specs.Holdings.{Holdings, aborting, after_message, after_take, answer_to_message, answered_end, balance_of, ends_after, fresh, held_unless, line_of, numbers, numbers_ended, outstanding_of, queued, reference_aborted, sent_unless, waiting_on, with_end}
 use Rattle.mscp_control.specs.Legal.{IsLegal}

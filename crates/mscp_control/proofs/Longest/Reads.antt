@@ -7,15 +7,15 @@ use Rattle.std.proofs.lemmas.List.{length-map, map-append}
 use Rattle.std.proofs.lemmas.List.FromFn.{length-range_with_len}
 use Rattle.mscp_drive.specs.Extent as extent
 use Rattle.mscp_drive.specs.Shape.{Shape}
-use Rattle.mscp_queue.specs.declared.name.Connection.{Connection}
-use Rattle.mscp_queue.specs.declared.name.Connection.TheVariants.{First, Second}
+use Rattle.mscp_events.specs.declared.connection.Connection.{Connection}
+use Rattle.mscp_events.specs.declared.connection.Connection.TheVariants.{First, Second}
 use Rattle.mscp_queue.specs.Names.{same_connection}
 use Rattle.mscp_queue.specs.Records.{Record, fresh_record, passed_by}
 use Rattle.mscp_queue.proofs.Lists.{range_more}
 use Rattle.mscp_queue.proofs.Placed.{map_map}
 use Rattle.mscp_control.specs.declared.worst_case.Transfer.{Transfer}
-use Rattle.mscp_control.specs.Settings.{Settings, IsValid, credits_of, room, room_of}
-use Rattle.mscp_control.specs.Both.{of}
+use Rattle.mscp_events.specs.Settings.{Settings, IsValid, credits_of, room, room_of}
+use Rattle.mscp_events.specs.Both.{of}
 use Rattle.mscp_control.specs.Arrival.{holds, is_queued, move_fault}
 use Rattle.mscp_control.specs.Holdings.{numbers, numbers_ended, waiting_on}
 use Rattle.mscp_control.specs.Worst.{connection_at, long_read, read_command, short_read}

@@ -15,10 +15,10 @@ use Rattle.mscp_packet.specs.Statuses.{success}
 use Rattle.mscp_drive.specs.declared.head.Head.{Head}
 use Rattle.mscp_drive.specs.Heads.{distance}
 use Rattle.mscp_drive.specs.Shape.{Shape, cylinder_of}
-use Rattle.mscp_queue.specs.declared.block.Block.TheVariants.{Good}
+use Rattle.mscp_events.specs.declared.block.Block.TheVariants.{Good}
 use Rattle.mscp_queue.specs.declared.drive.Drive.{Drive}
-use Rattle.mscp_queue.specs.declared.name.Connection.{Connection}
-use Rattle.mscp_queue.specs.declared.name.Connection.TheVariants.{First, Second}
+use Rattle.mscp_events.specs.declared.connection.Connection.{Connection}
+use Rattle.mscp_events.specs.declared.connection.Connection.TheVariants.{First, Second}
 use Rattle.mscp_queue.specs.declared.report.Report.{Report}
 use Rattle.mscp_queue.specs.declared.report.Report.TheVariants.{Served}
 use Rattle.mscp_queue.specs.Outcomes.{end_with, head_after, outcome_at}
@@ -28,12 +28,12 @@ use Rattle.mscp_queue.specs.Views.{is_affordable, is_free, is_open}
 use Rattle.mscp_queue.proofs.Lists.{every_append}
 use Rattle.mscp_queue.proofs.Placed.{at_place}
 use Rattle.mscp_queue.specs.Drives.{fresh_drive}
-use Rattle.mscp_control.specs.declared.event.Event.TheVariants as events
-use Rattle.mscp_control.specs.declared.event.Entry.TheVariants as entries
+use Rattle.mscp_events.specs.declared.event.Event.TheVariants as events
+use Rattle.mscp_control.specs.declared.entry.Entry.TheVariants as entries
 use Rattle.mscp_control.specs.declared.worst_case.Transfer.{Transfer}
-use Rattle.mscp_control.specs.Settings.{Settings, room}
+use Rattle.mscp_events.specs.Settings.{Settings, room}
 use Rattle.mscp_control.specs.Arrival.{unit_fault}
-use Rattle.mscp_control.specs.Both.{Both, of, put}
+use Rattle.mscp_events.specs.Both.{Both, of, put}
 use Rattle.mscp_control.specs.History.{Trace}
 use Rattle.mscp_control.specs.Holdings.{ends_after}
 use Rattle.mscp_control.specs.Worst.{block_before, come_on, connection_at, long_read, online_command, online_end, opened, pass_on, queueing, read_command, read_end, read_report, rest_on, runs_on, short_read, stepping, steps_on}

@@ -7,13 +7,13 @@ use Rattle.std.proofs.lemmas.List.{length_push}
 use Rattle.mscp_packet.specs.declared.command.Command.{Command}
 use Rattle.mscp_packet.specs.Commands.{command_bytes, command_of}
 use Rattle.mscp_drive.specs.Shape.{Shape}
-use Rattle.mscp_queue.specs.declared.name.Connection.{Connection}
-use Rattle.mscp_queue.specs.declared.name.Connection.TheVariants.{First}
+use Rattle.mscp_events.specs.declared.connection.Connection.{Connection}
+use Rattle.mscp_events.specs.declared.connection.Connection.TheVariants.{First}
 use Rattle.mscp_queue.specs.declared.name.Name.{Name}
 use Rattle.mscp_queue.specs.Names.{name_on, same_name}
 use Rattle.mscp_queue.proofs.Named.{is_differ}
 use Rattle.mscp_control.specs.declared.worst_case.Transfer.{Transfer}
-use Rattle.mscp_control.specs.Settings.{Settings, room}
+use Rattle.mscp_events.specs.Settings.{Settings, room}
 use Rattle.mscp_control.specs.History.{Moment, Trace, is_step}
 use Rattle.mscp_control.specs.Commands.{ends_in, is_waiting, name, steps_after, unit}
 use Rattle.mscp_control.specs.Worst.{connection_at, handing, long_read, pass_on, queueing, read_command, read_end, rest_on, runs_on, short_read, stepping, steps_on}

@@ -4,7 +4,7 @@ use Rattle.std.specs.Prelude.{filter, nat_le, nat_lt, slice_get, Some, is_some}
 use Rattle.std.specs.List.{AllByRecursion, list_all}
 use Rattle.std.proofs.lemmas.Bool.{false≢true, ltb-true}
 use Rattle.mscp_queue.proofs.Lists.{every_weaker, filter_none}
-use Rattle.mscp_control.specs.Settings.{Settings}
+use Rattle.mscp_events.specs.Settings.{Settings}
 use Rattle.mscp_control.specs.History.{Trace}
 use Rattle.mscp_control.specs.Commands.{done, earlier, in_service, is_idle, waiting}
 use Rattle.mscp_control.specs.Passing.{fences, is_free, is_startable, passed, toll}

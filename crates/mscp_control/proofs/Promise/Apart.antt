@@ -4,7 +4,7 @@ use Rattle.std.specs.Prelude.{nat_eq, filter}
 use Rattle.std.specs.List.{AllByRecursion}
 use Rattle.std.proofs.lemmas.Bool.{or_parts, eqb-false, true≢false}
 use Rattle.mscp_packet.specs.declared.end.End.{End}
-use Rattle.mscp_control.specs.Settings.{Settings}
+use Rattle.mscp_events.specs.Settings.{Settings}
 use Rattle.mscp_packet.specs.Commands.{command_of}
 use Rattle.mscp_control.specs.Arrival.{holds}
 use Rattle.mscp_control.specs.History.{Trace, Moment, connection_of, queues, sent_bytes}

@@ -3,11 +3,11 @@ use Rattle.std.proofs.Common.{◌≡◌, ℕ, ◌<◌, ◌≤◌, true, [], ◌�
 use Rattle.std.specs.Prelude.{Option, Some, None, is_some, Contains}
 use Rattle.std.proofs.lemmas.Bool.{true≢false, false≢true}
 use Rattle.mscp_queue.specs.declared.report.Report.TheVariants as reports
-use Rattle.mscp_control.specs.declared.event.Event.{Event}
-use Rattle.mscp_control.specs.declared.event.Event.TheVariants as events
-use Rattle.mscp_control.specs.declared.event.Entry.{Entry}
-use Rattle.mscp_control.specs.declared.event.Entry.TheVariants as entries
-use Rattle.mscp_control.specs.Settings.{Settings}
+use Rattle.mscp_events.specs.declared.event.Event.{Event}
+use Rattle.mscp_events.specs.declared.event.Event.TheVariants as events
+use Rattle.mscp_control.specs.declared.entry.Entry.{Entry}
+use Rattle.mscp_control.specs.declared.entry.Entry.TheVariants as entries
+use Rattle.mscp_events.specs.Settings.{Settings}
 use Rattle.mscp_control.specs.History.{Trace, Moment, is_step, Service, service_in}
 use Rattle.mscp_control.specs.Commands.{waiting}
 use Rattle.mscp_control.specs.Figures.{figure}

@@ -3,8 +3,8 @@ use Rattle.std.proofs.Common.{◌≡◌, ℕ, ◌+◌, ◌-◌, ◌<◌, Bool, t
 use Rattle.std.specs.Prelude.{nat_eq}
 use Rattle.std.specs.List.{AllByRecursion}
 use Rattle.std.proofs.lemmas.Bool.{lt-ltb, eq-eqb, and_right}
-use Rattle.mscp_queue.specs.declared.block.Block.{Block}
-use Rattle.mscp_control.specs.Settings.{Settings}
+use Rattle.mscp_events.specs.declared.block.Block.{Block}
+use Rattle.mscp_events.specs.Settings.{Settings}
 use Rattle.mscp_control.specs.History.{Trace, Moment, Service}
 use Rattle.mscp_control.specs.Commands.{weight, is_waiting, done, service_name, service_starts}
 use Rattle.mscp_control.specs.Passing.{toll, passed}

@@ -2,8 +2,8 @@
 use Rattle.std.proofs.Common.{◌≡◌, ℕ, ◌+◌, ◌<◌, ◌≤◌, List, [], ◌∷◌, ◌++◌, length, ap, sym, ◌∙◌, subst}
 use Rattle.std.specs.Prelude.{None, is_some}
 use Rattle.std.specs.List.{AllByRecursion}
-use Rattle.mscp_queue.specs.declared.block.Block.{Block}
-use Rattle.mscp_control.specs.Settings.{Settings}
+use Rattle.mscp_events.specs.declared.block.Block.{Block}
+use Rattle.mscp_events.specs.Settings.{Settings}
 use Rattle.mscp_control.specs.History.{Trace, Moment, Service, service_in}
 use Rattle.mscp_control.specs.Commands.{weight, waiting, done, service_starts}
 use Rattle.mscp_control.specs.Passing.{toll, passed}

@@ -4,19 +4,19 @@ use Rattle.std.specs.Prelude.{filter, nat_eq, ◌&&◌, if◌then◌else◌, con
 use Rattle.std.proofs.lemmas.Bool.{true≢false}
 use Rattle.mscp_packet.specs.declared.command.Command.{Command}
 use Rattle.mscp_packet.specs.declared.end.End.{End}
-use Rattle.mscp_queue.specs.declared.name.Connection.{Connection}
+use Rattle.mscp_events.specs.declared.connection.Connection.{Connection}
 use Rattle.mscp_queue.specs.declared.name.Name.{Name}
 use Rattle.mscp_queue.specs.declared.report.Report.TheVariants as reports
 use Rattle.mscp_queue.specs.Names.{same_connection}
 use Rattle.mscp_queue.proofs.Lists.{every_from, every_filter, every_weaker, every_kept, filter_all}
 use Rattle.mscp_queue.proofs.Named.{one_side}
 use Rattle.mscp_queue.proofs.Placed.{map_on}
-use Rattle.mscp_control.specs.declared.event.Sent.TheVariants as sents
-use Rattle.mscp_control.specs.declared.event.Event.{Event}
-use Rattle.mscp_control.specs.declared.event.Event.TheVariants as events
-use Rattle.mscp_control.specs.declared.event.Entry.{Entry}
-use Rattle.mscp_control.specs.declared.event.Entry.TheVariants as entries
-use Rattle.mscp_control.specs.Settings.{Settings, credits_of}
+use Rattle.mscp_control.specs.declared.entry.Sent.TheVariants as sents
+use Rattle.mscp_events.specs.declared.event.Event.{Event}
+use Rattle.mscp_events.specs.declared.event.Event.TheVariants as events
+use Rattle.mscp_control.specs.declared.entry.Entry.{Entry}
+use Rattle.mscp_control.specs.declared.entry.Entry.TheVariants as entries
+use Rattle.mscp_events.specs.Settings.{Settings, credits_of}
 use Rattle.mscp_control.specs.History.{Trace, Moment, comes_by, takes}
 use Rattle.mscp_control.specs.Commands.{connection, name, reference, waiting, waiting_by, ends_in}
 use Rattle.mscp_control.specs.Ends.{answer, ends_at}

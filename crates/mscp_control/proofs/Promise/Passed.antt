@@ -4,8 +4,8 @@ use Rattle.std.specs.Prelude.{nat_lt, filter, sum_by, Some}
 use Rattle.std.specs.List.{AllByRecursion}
 use Rattle.std.proofs.lemmas.List.Sums.{sum_by-cons}
 use Rattle.std.proofs.lemmas.Bool.{lt-ltb, le-ltb, and_left, and_right}
-use Rattle.mscp_queue.specs.declared.block.Block.{Block}
-use Rattle.mscp_control.specs.Settings.{Settings}
+use Rattle.mscp_events.specs.declared.block.Block.{Block}
+use Rattle.mscp_events.specs.Settings.{Settings}
 use Rattle.mscp_control.specs.History.{Trace, Moment, Service, service_in}
 use Rattle.mscp_control.specs.Commands.{name, waiting, later, starts_in, service_name, service_starts}
 use Rattle.mscp_control.specs.Passing.{toll, is_unstarted, passed_at, passed}

@@ -10,11 +10,11 @@ use Rattle.std.proofs.lemmas.List.Elements.{All-contains, All-from_recursion}
 use Rattle.mscp_packet.specs.declared.command.Command.{Command}
 use Rattle.mscp_packet.specs.declared.command.Order.{Order}
 use Rattle.mscp_packet.specs.declared.command.Order.TheVariants as orders
-use Rattle.mscp_control.specs.declared.event.Event.{Event}
-use Rattle.mscp_control.specs.declared.event.Entry.{Entry}
-use Rattle.mscp_control.specs.declared.event.Entry.TheVariants as entries
-use Rattle.mscp_control.specs.declared.event.Sent.TheVariants as sents
-use Rattle.mscp_control.specs.Settings.{Settings, IsValid, bound}
+use Rattle.mscp_events.specs.declared.event.Event.{Event}
+use Rattle.mscp_control.specs.declared.entry.Entry.{Entry}
+use Rattle.mscp_control.specs.declared.entry.Entry.TheVariants as entries
+use Rattle.mscp_control.specs.declared.entry.Sent.TheVariants as sents
+use Rattle.mscp_events.specs.Settings.{Settings, IsValid, bound}
 use Rattle.mscp_control.specs.History.{Trace, Moment, answers, moment, positions, sent_bytes, Service, service_in, WhenStarted}
 use Rattle.mscp_control.specs.Commands.{name, sent_command, weight, is_waiting, waiting, done, left, steps_after, service_name}
 use Rattle.mscp_control.specs.Passing.{passed, is_free}
@@ -23,7 +23,7 @@ use Rattle.mscp_control.specs.Ends.{answer, answer_to, ends_at}
 use Rattle.mscp_control.specs.Account.{ends}
 use Rattle.mscp_control.specs.Legal.{IsRight, IsLegal}
 use Rattle.mscp_control.specs.Headline.{IsFreeStart, LeavesOther, Promise, TellsFigure, poll_end}
-use Rattle.mscp_queue.specs.declared.name.Connection.{Connection}
+use Rattle.mscp_events.specs.declared.connection.Connection.{Connection}
 use Rattle.mscp_queue.specs.Names.{name_on}
 use Rattle.mscp_queue.proofs.Lists.{every_weaker, every_append, every_both}
 use Rattle.mscp_control.proofs.Promise.Among.{alone, figure_of_one}

@@ -14,8 +14,8 @@ use Rattle.mscp_packet.specs.Commands.{order_with, command_of}
 use Rattle.mscp_drive.specs.Shape.{Shape}
 use Rattle.mscp_drive.specs.Extent.{blocks}
 use Rattle.mscp_drive.specs.Extent as extent
-use Rattle.mscp_queue.specs.declared.name.Connection.{Connection}
-use Rattle.mscp_control.specs.Settings.{Settings, unit_found}
+use Rattle.mscp_events.specs.declared.connection.Connection.{Connection}
+use Rattle.mscp_events.specs.Settings.{Settings, unit_found}
 use Rattle.mscp_control.specs.Arrival.{move_fault, order_fault, fault_of, is_immediate, is_queued}
 use Rattle.mscp_queue.specs.Orders.{order_weight}
 use Rattle.mscp_control.specs.History.{Trace, Moment, queues, sent_bytes}

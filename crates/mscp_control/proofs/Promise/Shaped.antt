@@ -16,18 +16,18 @@ use Rattle.mscp_packet.specs.Commands.{command_of, order_with, parameters}
 use Rattle.mscp_packet.specs.declared.end.End.{End}
 use Rattle.mscp_packet.specs.Ends.{IsOfKind, kind_of_body, kind_of_code}
 use Rattle.mscp_packet.specs.Statuses.{invalid_length}
-use Rattle.mscp_queue.specs.declared.block.Block.{Block}
+use Rattle.mscp_events.specs.declared.block.Block.{Block}
 use Rattle.mscp_queue.specs.declared.report.Report.TheVariants as reports
 use Rattle.mscp_queue.specs.Orders.{endcode}
 use Rattle.mscp_queue.specs.Outcomes.{IsCoded, aborted_end, goes_on}
 use Rattle.mscp_queue.proofs.Shaped.{aborted_kind, ended_kind, refused_kind}
 use Rattle.mscp_queue.proofs.Lists.{every_append}
 use Rattle.mscp_queue.proofs.Placed.{found_is}
-use Rattle.mscp_control.specs.declared.event.Event.TheVariants as events
-use Rattle.mscp_control.specs.declared.event.Entry.TheVariants as entries
-use Rattle.mscp_queue.specs.declared.name.Connection.{Connection}
+use Rattle.mscp_events.specs.declared.event.Event.TheVariants as events
+use Rattle.mscp_control.specs.declared.entry.Entry.TheVariants as entries
+use Rattle.mscp_events.specs.declared.connection.Connection.{Connection}
 use Rattle.mscp_queue.specs.Names.{same_connection}
-use Rattle.mscp_control.specs.Settings.{Settings, unit_shape}
+use Rattle.mscp_events.specs.Settings.{Settings, unit_shape}
 use Rattle.mscp_control.specs.Outcomes.{answer_body, own_end, own_end_with}
 use Rattle.mscp_control.specs.History.{Moment, Trace, moment, positions, collect, sent_bytes, answers}
 use Rattle.mscp_control.specs.Commands.{command, good, unit, order, left}

@@ -10,8 +10,8 @@ use Rattle.mscp_packet.specs.declared.command.Order.TheVariants as orders
 use Rattle.mscp_packet.specs.declared.end.End.{End}
 use Rattle.mscp_drive.specs.Shape.{cylinder_of}
 use Rattle.mscp_drive.specs.declared.head.Head.{Head}
-use Rattle.mscp_queue.specs.declared.block.Block.{Block}
-use Rattle.mscp_control.specs.Settings.{Settings, unit_shape}
+use Rattle.mscp_events.specs.declared.block.Block.{Block}
+use Rattle.mscp_events.specs.Settings.{Settings, unit_shape}
 use Rattle.mscp_queue.specs.Outcomes.{is_success, state_after, head_after}
 use Rattle.mscp_control.specs.History.{Trace, Moment, collect, last_or, Service, service_in}
 use Rattle.mscp_control.specs.Commands.{name, unit, order, waiting, service_name}

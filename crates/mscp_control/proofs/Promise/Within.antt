@@ -4,9 +4,9 @@ use Rattle.std.specs.Prelude.{filter, sum_by, Contains}
 use Rattle.std.specs.List.{AllByRecursion}
 use Rattle.std.proofs.lemmas.List.Elements.{All-from_recursion, recursion_from_All, Contains-get_or}
 use Rattle.std.proofs.lemmas.List.Sums.{sum_by-le}
-use Rattle.mscp_queue.specs.declared.name.Connection.{Connection}
-use Rattle.mscp_queue.specs.declared.name.Connection.TheVariants.{First, Second}
-use Rattle.mscp_control.specs.Settings.{Settings, bound, room}
+use Rattle.mscp_events.specs.declared.connection.Connection.{Connection}
+use Rattle.mscp_events.specs.declared.connection.Connection.TheVariants.{First, Second}
+use Rattle.mscp_events.specs.Settings.{Settings, bound, room}
 use Rattle.mscp_control.specs.History.{Trace, Moment, connection_of, queues, is_step, sent_bytes}
 use Rattle.mscp_control.specs.Commands.{connection, name, weight, waiting, done, left, steps_after, ends_in}
 use Rattle.mscp_control.specs.Passing.{passed}

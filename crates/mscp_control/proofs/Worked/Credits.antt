@@ -3,15 +3,15 @@ use Rattle.std.proofs.Common.{◌≡◌, [], ◌∷◌, ◌++◌, refl}
 use Rattle.std.specs.Prelude.{replicate, None, Ok, Err}
 use Rattle.mscp_packet.specs.declared.command.Order.TheVariants as orders
 use Rattle.mscp_packet.specs.Commands.{command_of}
-use Rattle.mscp_control.specs.declared.event.SendFault.TheVariants as faults
-use Rattle.mscp_control.specs.declared.event.Sent.TheVariants as sents
+use Rattle.mscp_control.specs.declared.entry.SendFault.TheVariants as faults
+use Rattle.mscp_control.specs.declared.entry.Sent.TheVariants as sents
 use Rattle.mscp_control.specs.History.{Trace, moment, collect}
 use Rattle.mscp_control.specs.Commands.{command, is_waiting, waiting, done, good}
 use Rattle.mscp_control.specs.Passing.{passed_at, passed, is_free, is_startable, startable}
 use Rattle.mscp_control.specs.Figures.{figure, figure_of}
 use Rattle.mscp_control.specs.Units.{is_online, head_cylinder, head_up}
 use Rattle.mscp_control.specs.Ends.{answer, outcome}
-use Rattle.mscp_queue.specs.declared.name.Connection.TheVariants.{First}
+use Rattle.mscp_events.specs.declared.connection.Connection.TheVariants.{First}
 use Rattle.mscp_control.specs.Account.{ends, untaken, balance, outstanding}
 use Rattle.mscp_control.specs.Credits.{arrival}
 use Rattle.mscp_control.specs.Legal.{IsLegal, block_of}

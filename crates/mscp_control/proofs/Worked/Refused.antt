@@ -3,7 +3,7 @@ use Rattle.std.proofs.Common.{[], ◌∷◌, ◌++◌, refl}
 use Rattle.std.specs.Prelude.{replicate, None, Ok}
 use Rattle.mscp_packet.specs.declared.command.Order.TheVariants as orders
 use Rattle.mscp_packet.specs.Commands.{command_of}
-use Rattle.mscp_control.specs.declared.event.Sent.TheVariants as sents
+use Rattle.mscp_control.specs.declared.entry.Sent.TheVariants as sents
 use Rattle.mscp_control.specs.History.{Trace, moment, collect}
 use Rattle.mscp_control.specs.Commands.{command, is_waiting, waiting, done, good}
 use Rattle.mscp_control.specs.Passing.{passed_at, passed, is_free, is_startable, startable}

@@ -1,14 +1,15 @@
 // The accounts of the connections' hosts as they were.
 
 ghost use Rattle.std.specs.Prelude.{◌≡◌, ◌≤◌, length};
-ghost use Rattle.mscp_queue.specs.declared.name.Connection.TheVariants.{First, Second};
+ghost use Rattle.mscp_events.specs.declared.connection.Connection.TheVariants.{First, Second};
 ghost use Rattle.mscp_control.specs.Accounts.{account};
 ghost use Rattle.mscp_control.specs.Holdings.{waiting_on};
 
 use crate::account::{Account, Accounts};
 use arrayvec::ArrayVec;
+use mscp_events::Connection;
 use mscp_packet::End;
-use mscp_queue::{Connection, Record};
+use mscp_queue::Record;
 
 /// How many of the records are of commands of the connection.
 fn count_on(connection: Connection, records: &[Record]) -> u32

@@ -2,15 +2,15 @@
 
 ghost use Rattle.std.specs.Prelude.{◌≡◌, ◌<◌, length};
 ghost use Rattle.mscp_queue.specs.Records.{record_at};
-ghost use Rattle.mscp_control.specs.Both.{of};
+ghost use Rattle.mscp_events.specs.Both.{of};
 ghost use Rattle.mscp_control.specs.Restored.{IsSound, made_of};
 
 use crate::account::Accounts;
-use crate::config::Config;
 use crate::controller::Controller;
 use arrayvec::ArrayVec;
+use mscp_events::{Config, Connection};
 use mscp_packet::End;
-use mscp_queue::{Connection, Drive, Name, Picker, Queue, Record};
+use mscp_queue::{Drive, Name, Picker, Queue, Record};
 
 impl<K: Picker> Controller<K> {
     /// The controller with these settings and this picker, in which these commands wait and these ends of each connection

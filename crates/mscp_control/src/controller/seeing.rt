@@ -9,13 +9,14 @@ ghost use Rattle.mscp_queue.specs.Views.{is_open_at};
 ghost use Rattle.mscp_queue.specs.Why.{holders_of_name, is_nobody};
 ghost use Rattle.std.specs.List.{position};
 ghost use Rattle.mscp_control.specs.Arrival.{holds};
-ghost use Rattle.mscp_control.specs.Both.{of};
-ghost use Rattle.mscp_control.specs.Settings.{credits_of};
+ghost use Rattle.mscp_events.specs.Both.{of};
+ghost use Rattle.mscp_events.specs.Settings.{credits_of};
 ghost use Rattle.mscp_control.specs.Holdings.{IsBalanced, balance_of, waiting_on};
 
 use crate::controller::Controller;
 use arrayvec::ArrayVec;
-use mscp_queue::{Connection, Holder, Picker};
+use mscp_events::Connection;
+use mscp_queue::{Holder, Picker};
 
 impl<K: Picker> Controller<K> {
     /// How many credits of the connection are free: each of its waiting commands and of its untaken ends holds one (manual,

@@ -4,7 +4,7 @@ ghost use Rattle.std.specs.Prelude.{◌≡◌, ◌≢◌, IfSome, ◌+◌, ◌<�
 ghost use Rattle.std.specs.List.{list_all};
 ghost use Rattle.mscp_control.specs.History.{Trace};
 ghost use Rattle.mscp_control.specs.Holdings.{fresh};
-ghost use Rattle.mscp_control.specs.Settings.{IsValid, Settings};
+ghost use Rattle.mscp_events.specs.Settings.{IsValid, Settings};
 ghost use Rattle.mscp_reader.specs.Lexical as lexical;
 ghost use Rattle.mscp_judge.specs.declared.naming.Named as named;
 ghost use Rattle.mscp_judge.specs.Judged.{Breaks, IsAhead, IsTold, Tells};

@@ -8,7 +8,7 @@ ghost use Rattle.mscp_port.specs.declared.rings.Side.TheVariants.{Responses};
 ghost use Rattle.mscp_port.specs.declared.slot.Descriptor.{Descriptor};
 ghost use Rattle.mscp_port.specs.declared.stage.Stage.TheVariants as stages;
 ghost use Rattle.mscp_port.specs.declared.task.Task.TheVariants as tasks;
-ghost use Rattle.mscp_queue.specs.declared.name.Connection.TheVariants.{First};
+ghost use Rattle.mscp_events.specs.declared.connection.Connection.TheVariants.{First};
 ghost use Rattle.mscp_control.specs.Holdings.{after_take};
 ghost use Rattle.mscp_port.specs.Acted.{WritesOut};
 ghost use Rattle.mscp_port.specs.Outgoings.{TakesEnd, TellsNews};

@@ -1,12 +1,12 @@
 // What the port reads in host memory.
 
 ghost use Rattle.std.specs.Prelude.{◌≡◌, ◌≢◌, ◌≤◌, ◌<◌, ◌⊎◌, ◌++◌, ◌∷◌, [], ℕ, true, false, length, Bool, Contains, IfSome, IsErr, IsOk, OnErr, None, Some, Ok, Err};
-ghost use Rattle.mscp_queue.specs.declared.name.Connection.TheVariants.{First};
+ghost use Rattle.mscp_events.specs.declared.connection.Connection.TheVariants.{First};
 ghost use Rattle.mscp_control.specs.Holdings.{after_message, answer_to_message};
-ghost use Rattle.mscp_control.specs.declared.event.SendFault.{SendFault as Refused};
-ghost use Rattle.mscp_control.specs.declared.event.SendFault.TheVariants as faults;
-ghost use Rattle.mscp_control.specs.declared.event.Sent.{Sent as Told};
-ghost use Rattle.mscp_control.specs.declared.event.Sent.TheVariants as sents;
+ghost use Rattle.mscp_control.specs.declared.entry.SendFault.{SendFault as Refused};
+ghost use Rattle.mscp_control.specs.declared.entry.SendFault.TheVariants as faults;
+ghost use Rattle.mscp_control.specs.declared.entry.Sent.{Sent as Told};
+ghost use Rattle.mscp_control.specs.declared.entry.Sent.TheVariants as sents;
 ghost use Rattle.mscp_packet.specs.Number.{num};
 ghost use Rattle.mscp_port.specs.declared.buffers.Buffer.{Buffer as Kept};
 ghost use Rattle.mscp_port.specs.declared.rings.Side.TheVariants.{Responses, Commands};

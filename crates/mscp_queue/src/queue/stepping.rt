@@ -6,13 +6,13 @@ ghost use Rattle.mscp_queue.specs.Kept.{goes_on_at, units_of};
 ghost use Rattle.mscp_queue.specs.Lines.{Begins, BeginsAt, Serves, ServesAt};
 ghost use Rattle.mscp_queue.specs.Serving.{IsNext, end_in};
 
-use crate::block::Block;
 use crate::picker::Picker;
 use crate::queue::Queue;
 use crate::report::Report;
 use crate::service::{goes_on, is_amid, serve, upcoming, way_of};
 use crate::start::picked_place;
 use crate::upcoming::Upcoming;
+use mscp_events::Block;
 
 impl<K: Picker> Queue<K> {
     /// The place of the command in service, or, where none is, of one that the picker picks.

@@ -7,9 +7,9 @@ ghost use Rattle.mscp_queue.specs.Kept.{IsWaitable, units_of};
 ghost use Rattle.mscp_queue.specs.Orders.{order_weight};
 
 use super::*;
-use crate::block::Block;
 use crate::picker::Sweep;
 use mscp_drive::Unit;
+use mscp_events::Block;
 use mscp_packet::MoveKind;
 use std::process::Abort;
 

@@ -2,8 +2,8 @@ ghost use Rattle.std.specs.Prelude.{◌≡◌};
 ghost use Rattle.mscp_queue.specs.Orders.{first_block};
 
 use super::*;
-use crate::name::Connection;
 use mscp_drive::Unit;
+use mscp_events::Connection;
 use mscp_packet::{Command, MoveKind};
 use std::process::Abort;
 

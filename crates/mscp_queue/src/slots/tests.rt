@@ -1,7 +1,7 @@
 ghost use Rattle.std.specs.Prelude.{◌<◌};
 
 use super::*;
-use crate::name::Connection;
+use mscp_events::Connection;
 use mscp_packet::{Command, MoveKind, Order};
 
 /// A READ of a block with this reference number.

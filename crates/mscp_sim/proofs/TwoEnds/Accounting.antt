@@ -8,12 +8,12 @@ use Rattle.std.proofs.lemmas.Bool.{false≢true, true≢false}
 use Rattle.std.proofs.lemmas.List.{map-append}
 use Rattle.std.proofs.lemmas.List.Folds.{find-append}
 use Rattle.mscp_packet.specs.declared.command.Command.{Command}
-use Rattle.mscp_queue.specs.declared.name.Connection.{Connection}
+use Rattle.mscp_events.specs.declared.connection.Connection.{Connection}
 use Rattle.mscp_queue.proofs.Lists.{every_from, filter_all}
 use Rattle.mscp_queue.proofs.Placed.{found_is, map_on}
 use Rattle.mscp_queue.proofs.Named.{own_side}
-use Rattle.mscp_control.specs.Settings.{Settings, credits_of}
-use Rattle.mscp_control.specs.declared.event.Sent.{Sent}
+use Rattle.mscp_events.specs.Settings.{Settings, credits_of}
+use Rattle.mscp_control.specs.declared.entry.Sent.{Sent}
 use Rattle.mscp_host.specs.declared.submission.Submission.{Submission}
 use Rattle.mscp_host.specs.Accounts.{is_immediate, oldest, poll_of, submission_of, submitted, watching}
 use Rattle.mscp_sim.specs.declared.conversing.Turn.{Turn}

@@ -5,7 +5,7 @@ use Rattle.std.specs.List.{AllByRecursion}
 use Rattle.std.proofs.lemmas.Bool.{eq-eqb}
 use Rattle.std.proofs.lemmas.List.{length-append, map-append}
 use Rattle.std.proofs.lemmas.List.Elements.{filter-append}
-use Rattle.mscp_queue.specs.declared.name.Connection.{Connection}
+use Rattle.mscp_events.specs.declared.connection.Connection.{Connection}
 use Rattle.mscp_queue.specs.declared.name.Name.{Name}
 use Rattle.mscp_queue.specs.Names.{name_on, same_connection}
 use Rattle.mscp_queue.proofs.Named.{own_side, same_is}
@@ -19,7 +19,7 @@ use Rattle.mscp_queue.specs.Records.{Record, aborted_record, fresh_record, has_n
 use Rattle.mscp_queue.proofs.Lists.{every_append, every_from, filter_filter, filter_on}
 use Rattle.mscp_queue.proofs.Placed.{Found, find_cases, find_none, find_first}
 use Rattle.mscp_control.specs.Holdings.{Holdings, aborting, more_ends, numbers_ended, outstanding_of, queued, waiting_on, with_end}
-use Rattle.mscp_control.specs.Both.{Both, of}
+use Rattle.mscp_events.specs.Both.{Both, of}
 use Rattle.mscp_control.proofs.Bridge.Accounts.{of_more}
 use Rattle.mscp_host.specs.declared.submission.Submission.{Submission}
 use Rattle.mscp_host.specs.Accounts.{Account, is_code_of}

@@ -7,7 +7,7 @@ use Rattle.std.proofs.Math.Seq.{take-append_seam}
 use Rattle.mscp_queue.specs.declared.name.Name.{Name}
 use Rattle.mscp_queue.specs.Names.{name_on, same_name}
 use Rattle.mscp_queue.proofs.Named.{same_is}
-use Rattle.mscp_control.specs.Settings.{Settings}
+use Rattle.mscp_events.specs.Settings.{Settings}
 use Rattle.mscp_control.specs.History.{Moment, Trace, connection_of, is_step, moment, queues}
 use Rattle.mscp_control.specs.Commands.{ends_in, is_waiting, name, sent_command, waiting}
 use Rattle.mscp_control.specs.Figures.{figure, figure_found, figure_of}

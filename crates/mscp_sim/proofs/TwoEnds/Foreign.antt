@@ -9,12 +9,12 @@ use Rattle.mscp_packet.specs.declared.command.Order.{Order}
 use Rattle.mscp_packet.specs.declared.command.Order.TheVariants as orders
 use Rattle.mscp_packet.specs.declared.end.End.{End}
 use Rattle.mscp_packet.specs.Commands.{command_of}
-use Rattle.mscp_queue.specs.declared.name.Connection.{Connection}
+use Rattle.mscp_events.specs.declared.connection.Connection.{Connection}
 use Rattle.mscp_queue.specs.Names.{name_on, same_connection}
 use Rattle.mscp_queue.specs.Records.{Record, fresh_record, has_name, without}
 use Rattle.mscp_queue.proofs.Lists.{every_from, filter_filter, filter_on}
 use Rattle.mscp_queue.proofs.Named.{one_side, other_side}
-use Rattle.mscp_control.specs.declared.event.SendFault.{SendFault}
+use Rattle.mscp_control.specs.declared.entry.SendFault.{SendFault}
 use Rattle.mscp_control.specs.Arrival.{is_queued, refusal}
 use Rattle.mscp_control.specs.Holdings.{Holdings, aborting, after_message, after_take, answered_end, balance_of, held_unless, outstanding_of, queued, waiting_on, with_end}
 use Rattle.mscp_host.specs.Accounts.{Account}

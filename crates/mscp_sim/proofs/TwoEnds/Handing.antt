@@ -12,8 +12,8 @@ use Rattle.mscp_packet.specs.declared.end.BodyKind.{BodyKind}
 use Rattle.mscp_packet.specs.Commands.{opcode_byte}
 use Rattle.mscp_packet.specs.Ends.{HasBody, IsEnd, end_at, end_length, kind_of_code, reading_with}
 use Rattle.mscp_queue.proofs.Lists.{every_weaker, every_both}
-use Rattle.mscp_queue.specs.declared.name.Connection.{Connection}
-use Rattle.mscp_control.specs.Both.{of, put}
+use Rattle.mscp_events.specs.declared.connection.Connection.{Connection}
+use Rattle.mscp_events.specs.Both.{of, put}
 use Rattle.mscp_control.specs.Holdings.{Holdings, numbers_ended, outstanding_of, waiting_on}
 use Rattle.mscp_host.specs.declared.submission.Submission.{Submission}
 use Rattle.mscp_host.specs.declared.watch.Watch.{Watch}

@@ -1,8 +1,8 @@
 -- What the hosts of both connections and a controller keep of each other after a turn of one.
 use Rattle.std.proofs.Common.{◌≡◌, ℕ, false, List, sym, subst}
-use Rattle.mscp_queue.specs.declared.name.Connection.{Connection}
+use Rattle.mscp_events.specs.declared.connection.Connection.{Connection}
 use Rattle.mscp_queue.specs.Names.{same_connection}
-use Rattle.mscp_control.specs.Both.{Both, of, put}
+use Rattle.mscp_events.specs.Both.{Both, of, put}
 use Rattle.mscp_control.specs.Holdings.{Holdings, after_message, after_take}
 use Rattle.mscp_host.specs.Accounts.{Account}
 use Rattle.mscp_sim.specs.Matches.{Flight, Match, MatchOn, Matches}

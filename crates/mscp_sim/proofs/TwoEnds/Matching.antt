@@ -10,9 +10,9 @@ use Rattle.mscp_packet.specs.Commands.{opcode_byte}
 use Rattle.mscp_queue.specs.Orders.{endcode}
 use Rattle.mscp_queue.specs.Records.{Record}
 use Rattle.mscp_queue.proofs.Lists.{every_append, every_parts, every_weaker}
-use Rattle.mscp_queue.specs.declared.name.Connection.{Connection}
-use Rattle.mscp_control.specs.Both.{of}
-use Rattle.mscp_control.specs.Settings.{credits_of}
+use Rattle.mscp_events.specs.declared.connection.Connection.{Connection}
+use Rattle.mscp_events.specs.Both.{of}
+use Rattle.mscp_events.specs.Settings.{credits_of}
 use Rattle.mscp_control.specs.Holdings.{Holdings, numbers, numbers_ended, outstanding_of, waiting_on}
 use Rattle.mscp_host.specs.declared.submission.Submission.{Submission}
 use Rattle.mscp_host.specs.declared.watch.Watch.{Watch}

@@ -6,8 +6,8 @@ use Rattle.std.proofs.lemmas.Bool.{eqb-true, eq-eqb, false≢true, true_from_ne_
 use Rattle.std.proofs.lemmas.Bool.Decides.{nat_tests}
 use Rattle.mscp_packet.specs.declared.end.End.{End}
 use Rattle.mscp_packet.specs.declared.end.EndBody.TheVariants as bodies
-use Rattle.mscp_queue.specs.declared.name.Connection.{Connection}
-use Rattle.mscp_control.specs.Settings.{Settings}
+use Rattle.mscp_events.specs.declared.connection.Connection.{Connection}
+use Rattle.mscp_events.specs.Settings.{Settings}
 use Rattle.mscp_control.specs.Holdings.{Holdings}
 use Rattle.mscp_host.specs.declared.news.HostFault.{HostFault}
 use Rattle.mscp_host.specs.declared.news.News.{News}

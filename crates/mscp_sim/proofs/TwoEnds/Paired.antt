@@ -8,19 +8,19 @@ use Rattle.mscp_packet.specs.declared.end.End.{End}
 use Rattle.mscp_packet.specs.declared.end.EndBody.TheVariants as bodies
 use Rattle.mscp_packet.specs.Commands.{command_bytes, command_of}
 use Rattle.mscp_packet.specs.Ends.{end_bytes}
-use Rattle.mscp_queue.specs.declared.block.Block.TheVariants.{Good}
-use Rattle.mscp_queue.specs.declared.name.Connection.{Connection}
-use Rattle.mscp_queue.specs.declared.name.Connection.TheVariants.{First, Second}
+use Rattle.mscp_events.specs.declared.block.Block.TheVariants.{Good}
+use Rattle.mscp_events.specs.declared.connection.Connection.{Connection}
+use Rattle.mscp_events.specs.declared.connection.Connection.TheVariants.{First, Second}
 use Rattle.mscp_queue.specs.declared.report.Report.TheVariants as reports
-use Rattle.mscp_control.specs.declared.event.Event.TheVariants as events
-use Rattle.mscp_control.specs.declared.event.Entry.TheVariants as entries
-use Rattle.mscp_control.specs.declared.event.Sent.{Sent}
-use Rattle.mscp_control.specs.declared.event.Sent.TheVariants as sents
+use Rattle.mscp_events.specs.declared.event.Event.TheVariants as events
+use Rattle.mscp_control.specs.declared.entry.Entry.TheVariants as entries
+use Rattle.mscp_control.specs.declared.entry.Sent.{Sent}
+use Rattle.mscp_control.specs.declared.entry.Sent.TheVariants as sents
 use Rattle.mscp_control.specs.History.{moment}
 use Rattle.mscp_control.specs.Commands.{command, is_waiting, waiting, done}
 use Rattle.mscp_control.specs.Passing.{passed_at, passed}
 use Rattle.mscp_control.specs.Figures.{figure, figure_of}
-use Rattle.mscp_control.specs.Settings.{Settings}
+use Rattle.mscp_events.specs.Settings.{Settings}
 use Rattle.mscp_control.proofs.Worked.Literals.{onlined, read, settings}
 use Rattle.mscp_host.specs.Accounts.{fresh, polls_oldest}
 use Rattle.mscp_host.specs.Accounts as host

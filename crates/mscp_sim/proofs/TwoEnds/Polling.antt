@@ -5,7 +5,7 @@ use Rattle.std.specs.Option.{option_or}
 use Rattle.std.specs.List.{AllByRecursion}
 use Rattle.std.proofs.lemmas.Bool.{false≢true, true≢false}
 use Rattle.std.proofs.lemmas.List.Folds.{find-append}
-use Rattle.mscp_queue.specs.declared.name.Connection.{Connection}
+use Rattle.mscp_events.specs.declared.connection.Connection.{Connection}
 use Rattle.mscp_queue.proofs.Lists.{every_append, every_weaker}
 use Rattle.mscp_sim.specs.Talks.{Talk, is_asked, in_flight, outstanding, said, sends}
 use Rattle.mscp_sim.proofs.TwoEnds.Accounting.{NoEnd, all_stay, outs_sent}

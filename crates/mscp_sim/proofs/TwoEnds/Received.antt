@@ -5,10 +5,10 @@ use Rattle.std.specs.List.{AllByRecursion}
 use Rattle.std.proofs.Math.Bool.{and-false, and-true}
 use Rattle.std.proofs.lemmas.Bool.{false≢true, true≢false}
 use Rattle.mscp_packet.specs.declared.end.End.{End}
-use Rattle.mscp_queue.specs.declared.name.Connection.{Connection}
+use Rattle.mscp_events.specs.declared.connection.Connection.{Connection}
 use Rattle.mscp_queue.proofs.Lists.{every_filter, every_weaker}
 use Rattle.mscp_queue.proofs.Placed.{filter_map_of}
-use Rattle.mscp_control.specs.Settings.{Settings, credits_of}
+use Rattle.mscp_events.specs.Settings.{Settings, credits_of}
 use Rattle.mscp_host.specs.declared.watch.Watch.{Watch}
 use Rattle.mscp_host.specs.Accounts.{answered, outstanding_with, received, watch_after, without}
 use Rattle.mscp_sim.specs.Matches.{references, times}

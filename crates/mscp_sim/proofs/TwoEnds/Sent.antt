@@ -6,10 +6,10 @@ use Rattle.std.proofs.Math.Bool.{and-false, or-true}
 use Rattle.std.proofs.lemmas.Bool.{eq-eqb, false≢true, true≢false}
 use Rattle.arrayvec.specs.ArrayVec.{ArrayVec}
 use Rattle.mscp_packet.specs.declared.command.Command.{Command}
-use Rattle.mscp_queue.specs.declared.name.Connection.{Connection}
+use Rattle.mscp_events.specs.declared.connection.Connection.{Connection}
 use Rattle.mscp_queue.specs.declared.view.Choice.{Choice}
-use Rattle.mscp_control.specs.Settings.{Settings}
-use Rattle.mscp_control.specs.Both.{Both, of}
+use Rattle.mscp_events.specs.Settings.{Settings}
+use Rattle.mscp_events.specs.Both.{Both, of}
 use Rattle.mscp_control.specs.History.{Moment, queues}
 use Rattle.mscp_control.proofs.Promise.Sides.{queues_by}
 use Rattle.mscp_control.specs.Commands.{sent_command}
@@ -32,10 +32,10 @@ use Rattle.mscp_sim.proofs.TwoEnds.Sides.{each_side, of_other, of_put, put_own}
 use Rattle.mscp_sim.proofs.TwoEnds.Turning.{Comes, Side, Turns, TurnsOn, is_news, kept_back, named_in, never_idle, no_news, none_some, not_lost, queues_in, quiet, turns_of}
 use Rattle.mscp_queue.specs.Names.{same_connection}
 use Rattle.mscp_queue.proofs.Named.{own_side}
-use Rattle.mscp_control.specs.declared.event.Sent.{Sent}
-use Rattle.mscp_control.specs.declared.event.Event.TheVariants as events
-use Rattle.mscp_control.specs.declared.event.Entry.TheVariants as entries
-use Rattle.mscp_control.specs.Both.{put}
+use Rattle.mscp_control.specs.declared.entry.Sent.{Sent}
+use Rattle.mscp_events.specs.declared.event.Event.TheVariants as events
+use Rattle.mscp_control.specs.declared.entry.Entry.TheVariants as entries
+use Rattle.mscp_events.specs.Both.{put}
 use Rattle.mscp_control.specs.Holdings.{after_message}
 
 -- ---- a new number

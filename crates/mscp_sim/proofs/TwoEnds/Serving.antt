@@ -4,11 +4,11 @@ use Rattle.std.specs.Prelude.{if◌then◌else◌, Option, Some, None, is_some, 
 use Rattle.std.proofs.lemmas.Bool.{false≢true}
 use Rattle.std.proofs.lemmas.List.{map-append}
 use Rattle.std.proofs.lemmas.List.Elements.{filter-append}
-use Rattle.mscp_queue.specs.declared.name.Connection.{Connection}
-use Rattle.mscp_queue.specs.declared.name.Connection.TheVariants.{First, Second}
+use Rattle.mscp_events.specs.declared.connection.Connection.{Connection}
+use Rattle.mscp_events.specs.declared.connection.Connection.TheVariants.{First, Second}
 use Rattle.mscp_queue.specs.Names.{same_connection}
 use Rattle.mscp_packet.specs.declared.end.End.{End}
-use Rattle.mscp_queue.specs.declared.block.Block.{Block}
+use Rattle.mscp_events.specs.declared.block.Block.{Block}
 use Rattle.mscp_queue.specs.declared.report.Report.{Report}
 use Rattle.mscp_queue.specs.declared.report.Report.TheVariants as reports
 use Rattle.mscp_queue.specs.declared.drive.Drive.{Drive}
@@ -19,7 +19,7 @@ use Rattle.mscp_queue.specs.Records.{Record, advanced, drive_at, left_of, no_rec
 use Rattle.mscp_queue.specs.Serving.{end_given, waiting_after}
 use Rattle.mscp_queue.proofs.Placed.{cut_at}
 use Rattle.mscp_control.specs.Holdings.{Holdings, Steps, ends_after, ends_reported, waiting_on}
-use Rattle.mscp_control.specs.Both.{Both, of}
+use Rattle.mscp_events.specs.Both.{Both, of}
 use Rattle.mscp_host.specs.Accounts.{Account}
 use Rattle.mscp_sim.specs.Matches.{Flight, Matches, commands}
 use Rattle.mscp_sim.proofs.TwoEnds.Matching.{Ends, ends_match, stays}

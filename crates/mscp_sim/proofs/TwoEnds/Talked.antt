@@ -4,17 +4,17 @@ use Rattle.std.specs.Prelude.{nat_eq, zip, Option, Some, None, is_some, option_t
 use Rattle.std.proofs.lemmas.Bool.{cases_eq, false≢true}
 use Rattle.std.proofs.lemmas.List.{drop-drop, length-drop, get_or-drop}
 use Rattle.mscp_packet.specs.Number.{num}
-use Rattle.mscp_queue.specs.declared.name.Connection.{Connection}
-use Rattle.mscp_queue.specs.declared.name.Connection.TheVariants.{First, Second}
+use Rattle.mscp_events.specs.declared.connection.Connection.{Connection}
+use Rattle.mscp_events.specs.declared.connection.Connection.TheVariants.{First, Second}
 use Rattle.mscp_queue.specs.Names.{same_connection}
 use Rattle.mscp_queue.proofs.Named.{one_side}
 use Rattle.mscp_queue.proofs.Placed.{found_is}
 use Rattle.mscp_queue.specs.declared.view.Choice.{Choice}
-use Rattle.mscp_control.specs.declared.event.Entry.TheVariants as entries
-use Rattle.mscp_control.specs.Both.{Both, of}
+use Rattle.mscp_control.specs.declared.entry.Entry.TheVariants as entries
+use Rattle.mscp_events.specs.Both.{Both, of}
 use Rattle.mscp_control.specs.Legal.{IsLegal, IsPicked}
 use Rattle.mscp_control.specs.Sweeping.{IsSweeping}
-use Rattle.mscp_control.specs.Settings.{Settings, IsValid}
+use Rattle.mscp_events.specs.Settings.{Settings, IsValid}
 use Rattle.mscp_control.specs.Calls.{AnsweredCalls}
 use Rattle.mscp_control.specs.Controllers.{ControllersKeepThePromise, KeepsPromise}
 use Rattle.mscp_control.specs.Headline.{Promise}

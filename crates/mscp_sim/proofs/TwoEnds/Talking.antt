@@ -4,7 +4,7 @@ use Rattle.std.specs.Prelude.{Option, Some, None, option_to_list}
 use Rattle.std.proofs.lemmas.Grind.{flat_map-append}
 use Rattle.std.proofs.lemmas.List.{map-append, take_more}
 use Rattle.mscp_queue.specs.declared.view.Choice.{Choice}
-use Rattle.mscp_control.specs.Both.{Both}
+use Rattle.mscp_events.specs.Both.{Both}
 use Rattle.mscp_control.specs.History.{Moment, Trace}
 use Rattle.mscp_control.specs.Holdings.{Holdings}
 use Rattle.mscp_control.proofs.Bridge.Owning.{owner_kept}

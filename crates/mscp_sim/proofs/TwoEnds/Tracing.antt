@@ -8,9 +8,9 @@ use Rattle.std.proofs.lemmas.List.{map-append, take_more, take_all}
 use Rattle.mscp_queue.specs.declared.name.Name.{Name}
 use Rattle.mscp_queue.specs.Names.{same_name}
 use Rattle.mscp_queue.specs.declared.view.Choice.{Choice}
-use Rattle.mscp_control.specs.declared.event.Event.{Event}
-use Rattle.mscp_control.specs.declared.event.Entry.{Entry}
-use Rattle.mscp_control.specs.Settings.{Settings}
+use Rattle.mscp_events.specs.declared.event.Event.{Event}
+use Rattle.mscp_control.specs.declared.entry.Entry.{Entry}
+use Rattle.mscp_events.specs.Settings.{Settings}
 use Rattle.mscp_control.specs.History.{Moment, Trace}
 use Rattle.mscp_control.specs.Commands.{name, waiting}
 use Rattle.mscp_control.specs.Figures.{figure, figure_found, figure_of}

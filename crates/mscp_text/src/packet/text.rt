@@ -5,7 +5,7 @@ ghost use Rattle.mscp_text.specs.Lines.{status_text};
 ghost use Rattle.mscp_text.specs.Shown.{body_text, code_text, command_text, end_text, invalid_name, move_name, order_text, packet_line};
 
 use crate::packet::Packet;
-use crate::words::{put, put_field, put_hex};
+use crate::words::{put, put_field, put_hex, put_two};
 use mscp_packet::status::INVALID_OPCODE;
 use mscp_packet::{Command, End, EndBody, MoveKind, Order};
 use std::alloc::{AllocError, Allocator};
@@ -50,8 +50,7 @@ fn put_order<A: Allocator>(out: &mut Vec<u8, A>, order: Order) -> Result<(), All
         Order::SetUnit => put(out, "SET UNIT CHARACTERISTICS"),
         Order::Move(kind, count, block) => {
             put(out, move_name(kind))?;
-            put_field(out, " bytes ", count)?;
-            put_field(out, " block ", block)
+            put_two(out, " bytes ", count, " block ", block)
         }
         Order::Invalid { opcode, status } => {
             put(out, invalid_name(status))?;
@@ -64,8 +63,7 @@ fn put_order<A: Allocator>(out: &mut Vec<u8, A>, order: Order) -> Result<(), All
 fn put_command<A: Allocator>(out: &mut Vec<u8, A>, command: Command) -> Result<(), AllocError>
     ensures { OnOk result (out.new.items ≡ out.old.items ++ command_text command) }
 {
-    put_field(out, "command ", command.reference)?;
-    put_field(out, " unit ", command.unit)?;
+    put_two(out, "command ", command.reference, " unit ", command.unit)?;
     put(out, " ")?;
     put_order(out, command.order)
 }
@@ -77,10 +75,7 @@ fn put_body<A: Allocator>(out: &mut Vec<u8, A>, body: EndBody) -> Result<(), All
     match body {
         EndBody::Bare => Ok(()),
         EndBody::Abort(other) => put_field(out, " of ", other),
-        EndBody::Status { other, figure } => {
-            put_field(out, " of ", other)?;
-            put_field(out, " figure ", figure)
-        }
+        EndBody::Status { other, figure } => { put_two(out, " of ", other, " figure ", figure) }
         EndBody::UnitStatus {
             id,
             media,
@@ -88,26 +83,19 @@ fn put_body<A: Allocator>(out: &mut Vec<u8, A>, body: EndBody) -> Result<(), All
             group,
             cylinder,
         } => {
-            put_field(out, " id ", id)?;
-            put_field(out, " media ", media)?;
-            put_field(out, " track ", track)?;
-            put_field(out, " group ", group)?;
+            put_two(out, " id ", id, " media ", media)?;
+            put_two(out, " track ", track, " group ", group)?;
             put_field(out, " cylinder ", cylinder)
         }
-        EndBody::Controller { timeout, id } => {
-            put_field(out, " timeout ", timeout)?;
-            put_field(out, " id ", id)
-        }
+        EndBody::Controller { timeout, id } => { put_two(out, " timeout ", timeout, " id ", id) }
         EndBody::Online {
             id,
             media,
             size,
             serial,
         } => {
-            put_field(out, " id ", id)?;
-            put_field(out, " media ", media)?;
-            put_field(out, " size ", size)?;
-            put_field(out, " serial ", serial)
+            put_two(out, " id ", id, " media ", media)?;
+            put_two(out, " size ", size, " serial ", serial)
         }
         EndBody::Moved(count) => put_field(out, " bytes ", count),
     }
@@ -133,8 +121,7 @@ fn put_status<A: Allocator>(out: &mut Vec<u8, A>, status: u16) -> Result<(), All
 fn put_end<A: Allocator>(out: &mut Vec<u8, A>, end: End) -> Result<(), AllocError>
     ensures { OnOk result (out.new.items ≡ out.old.items ++ end_text end) }
 {
-    put_field(out, "end ", end.reference)?;
-    put_field(out, " unit ", end.unit)?;
+    put_two(out, "end ", end.reference, " unit ", end.unit)?;
     put_code(out, end.code)?;
     put_status(out, end.status)?;
     put_body(out, end.body)

@@ -1,5 +1,5 @@
 use Rattle.std.proofs.Common.{◌+◌, ◌≤◌, length}
-use Rattle.mscp_control.specs.Settings.{Settings}
+use Rattle.mscp_events.specs.Settings.{Settings}
 use Rattle.mscp_judge.specs.Judged.{Passed}
 use Rattle.mscp_judge.specs.Logs.{nothing}
 use Rattle.mscp_judge.specs.Standing.{Stands}

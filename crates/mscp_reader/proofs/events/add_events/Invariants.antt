@@ -1,7 +1,7 @@
 use Rattle.std.proofs.Common.{◌≡◌, ◌++◌}
 use Rattle.std.specs.Prelude.{replicate}
-use Rattle.mscp_queue.specs.declared.block.Block.TheVariants.{Good}
-use Rattle.mscp_control.specs.declared.event.Event.TheVariants as events
+use Rattle.mscp_events.specs.declared.block.Block.TheVariants.{Good}
+use Rattle.mscp_events.specs.declared.event.Event.TheVariants as events
 use Rattle.mscp_reader.proofs.events.add_events.Given as goal
 
 abbrev pub invariant-loop-step : goal.invariant-loop-step

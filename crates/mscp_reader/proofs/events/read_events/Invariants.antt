@@ -1,5 +1,5 @@
 use Rattle.std.proofs.Common.{◌≡◌, ◌≤◌, [], length, vec_len}
-use Rattle.mscp_control.specs.Settings.{Settings}
+use Rattle.mscp_events.specs.Settings.{Settings}
 use Rattle.mscp_reader.specs.Grammar.{HasGone}
 use Rattle.mscp_reader.specs.Outcome.{rest_outcome}
 use Rattle.mscp_reader.proofs.events.read_events.Given as goal

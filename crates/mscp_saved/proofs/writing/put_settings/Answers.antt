@@ -1,6 +1,6 @@
 use Rattle.std.proofs.Common.{List, ◌∷◌, [], length, refl, ap, ◌∙◌}
 use Rattle.mscp_queue.specs.declared.drive.Drive.{Drive}
-use Rattle.mscp_control.specs.Settings.{Settings}
+use Rattle.mscp_events.specs.Settings.{Settings}
 use Rattle.mscp_saved.specs.Saved.{limits_bytes}
 use Rattle.mscp_saved.proofs.Bytes.{first, grow, more}
 use Rattle.mscp_saved.proofs.writing.put_settings.Goals as goal

@@ -4,7 +4,7 @@ use Rattle.std.proofs.lemmas.Bool.{false≢true}
 use Rattle.arrayvec.specs.ArrayVec.{ArrayVec}
 use Rattle.mscp_packet.specs.declared.end.End.{End}
 use Rattle.mscp_packet.specs.Ends.{IsEnd}
-use Rattle.mscp_control.specs.Both.{Both, of, put}
+use Rattle.mscp_events.specs.Both.{Both, of, put}
 use Rattle.mscp_host.specs.Accounts.{Account, heard}
 use Rattle.mscp_sim.specs.Matches.{Match}
 use Rattle.mscp_sim.proofs.TwoEnds.Matched.{take_match}

@@ -1,5 +1,5 @@
 use Rattle.std.proofs.Common.{refl}
-use Rattle.mscp_control.specs.Both.{of}
+use Rattle.mscp_events.specs.Both.{of}
 use Rattle.mscp_sim.proofs.TwoEnds.Serving.{steps_match}
 use Rattle.mscp_sim.proofs.conversing.step.Goals as goal
 

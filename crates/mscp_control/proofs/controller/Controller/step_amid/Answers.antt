@@ -1,5 +1,5 @@
 use Rattle.std.proofs.Common.{subst, sym}
-use Rattle.mscp_queue.specs.declared.name.Connection.TheVariants.{First, Second}
+use Rattle.mscp_events.specs.declared.connection.Connection.TheVariants.{First, Second}
 use Rattle.mscp_control.specs.Kept.{IsHeld}
 use Rattle.mscp_control.proofs.Bridge.Keeping.{balanced, can_end, held_stepped}
 use Rattle.mscp_control.proofs.controller.Controller.step_amid.Goals as goal

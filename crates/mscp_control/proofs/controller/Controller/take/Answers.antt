@@ -1,7 +1,7 @@
 use Rattle.std.proofs.Common.{◌≡◌, ◌∙◌, ap, subst, sym}
 use Rattle.std.specs.Prelude.{slice_get}
 use Rattle.mscp_packet.specs.Ends.{IsEnd}
-use Rattle.mscp_control.specs.Both.{of}
+use Rattle.mscp_events.specs.Both.{of}
 use Rattle.mscp_control.specs.Holdings.{Holdings}
 use Rattle.mscp_control.specs.Kept.{IsHeld}
 use Rattle.mscp_control.proofs.Bridge.Accounts.{seen_of}

@@ -1,6 +1,6 @@
 use Rattle.std.proofs.Common.{◌∙◌, subst, sym}
 use Rattle.mscp_judge.specs.Heard.{IsHeard, sends_on}
-use Rattle.mscp_queue.specs.declared.block.Block.TheVariants.{Good}
+use Rattle.mscp_events.specs.declared.block.Block.TheVariants.{Good}
 use Rattle.mscp_judge.proofs.Listening.{steps_send}
 use Rattle.mscp_judge.proofs.hearing.Hearing.send_all.Goals as goal
 

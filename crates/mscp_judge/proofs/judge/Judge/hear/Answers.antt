@@ -1,7 +1,7 @@
 use Rattle.std.proofs.Common.{◌≡◌, [], sym, ◌∙◌, ap, arith}
 use Rattle.std.proofs.lemmas.Grind.{common_steps}
 use Rattle.std.specs.Prelude.{replicate}
-use Rattle.mscp_control.specs.declared.event.Event.TheVariants as events
+use Rattle.mscp_events.specs.declared.event.Event.TheVariants as events
 use Rattle.mscp_judge.proofs.Breaking.{broken_unasked}
 use Rattle.mscp_judge.proofs.Coming.{ready_not, stands_open_held}
 use Rattle.mscp_judge.proofs.judge.Judge.hear.Goals as goal

@@ -1,6 +1,6 @@
 use Rattle.std.proofs.Common.{refl, sym, subst, Ok}
-use Rattle.mscp_control.specs.declared.event.Entry.TheVariants as entries
-use Rattle.mscp_control.specs.declared.event.Event.TheVariants as events
+use Rattle.mscp_control.specs.declared.entry.Entry.TheVariants as entries
+use Rattle.mscp_events.specs.declared.event.Event.TheVariants as events
 use Rattle.mscp_judge.specs.Logs.{AreAnswers}
 use Rattle.mscp_judge.proofs.Answering.{sent_answers}
 use Rattle.mscp_judge.proofs.Coming.{came_on}

@@ -1,6 +1,6 @@
 use Rattle.std.proofs.Common.{◌++◌, ◌<◌, [], ◌∷◌, ◌∙◌, inr, sym, subst, ap, length, arith}
 use Rattle.std.proofs.lemmas.List.{length-replicate}
-use Rattle.mscp_control.specs.declared.event.Event.TheVariants as events
+use Rattle.mscp_events.specs.declared.event.Event.TheVariants as events
 use Rattle.mscp_judge.specs.declared.naming.Named.{Named}
 use Rattle.mscp_judge.specs.Judged.{IsTold}
 use Rattle.mscp_judge.specs.Logs.{telling}

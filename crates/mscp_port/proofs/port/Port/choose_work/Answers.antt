@@ -1,5 +1,5 @@
 use Rattle.std.proofs.Common.{◌≡◌, ◌⊎◌, inl, ap, sym, subst}
-use Rattle.mscp_queue.specs.declared.name.Connection.TheVariants.{First}
+use Rattle.mscp_events.specs.declared.connection.Connection.TheVariants.{First}
 use Rattle.mscp_control.specs.Holdings.{after_take}
 use Rattle.mscp_port.specs.declared.port.Port.{Port}
 use Rattle.mscp_port.proofs.Begun.{begun_behind}

@@ -1,5 +1,5 @@
 use Rattle.std.proofs.Common.{ap, ◌∙◌, ◌++◌, ◌∷◌, []}
-use Rattle.mscp_queue.specs.declared.name.Connection.TheVariants.{First}
+use Rattle.mscp_events.specs.declared.connection.Connection.TheVariants.{First}
 use Rattle.mscp_packet.specs.Number.{num}
 use Rattle.mscp_port.specs.Buffers.{buffer_in}
 use Rattle.mscp_port.specs.Seen.{changes_at}

@@ -1,6 +1,6 @@
 use Rattle.std.proofs.Common.{OnOk, ◌∙◌, subst}
-use Rattle.mscp_queue.specs.declared.name.Connection.TheVariants.{First}
-use Rattle.mscp_control.specs.declared.event.Event.TheVariants as events
+use Rattle.mscp_events.specs.declared.connection.Connection.TheVariants.{First}
+use Rattle.mscp_events.specs.declared.event.Event.TheVariants as events
 use Rattle.mscp_script.specs.Running.{Ran}
 use Rattle.mscp_script.proofs.Growing.{meets_ok}
 use Rattle.mscp_script.proofs.running.Run.meet_plain.Goals as goal

@@ -1,6 +1,6 @@
 use Rattle.std.proofs.Common.{◌≡◌, ◌+◌, replicate}
-use Rattle.mscp_queue.specs.declared.block.Block.TheVariants.{Good}
-use Rattle.mscp_control.specs.declared.event.Event.TheVariants as events
+use Rattle.mscp_events.specs.declared.block.Block.TheVariants.{Good}
+use Rattle.mscp_events.specs.declared.event.Event.TheVariants as events
 use Rattle.mscp_script.specs.Running.{Meets}
 use Rattle.mscp_script.proofs.running.Run.steps.Given as goal
 

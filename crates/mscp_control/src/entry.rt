@@ -1,8 +1,9 @@
-// What comes to a controller, and what it answers.
+// What a controller answers.
 
 use arrayvec::ArrayVec;
+use mscp_events::Connection;
 use mscp_packet::PacketFault;
-use mscp_queue::{Block, Connection, Report};
+use mscp_queue::Report;
 
 /// Why a message is refused: the first that holds, in this order. Nothing is changed.
 #[derive(Clone, Copy, Debug, PartialEq, Eq)]
@@ -47,19 +48,6 @@ pub enum Sent {
         reference: u32,
         aborted: Option<u32>,
     },
-}
-
-/// What comes to a controller.
-#[derive(Debug, PartialEq, Drop)]
-pub enum Event {
-    /// A message of the connection's host.
-    Send(Connection, ArrayVec<u8, 64>),
-    /// The connection's host takes its oldest end.
-    Take(Connection),
-    /// The drive serves one block, with this outcome.
-    Step(Block),
-    /// The figures of all waiting commands are asked for.
-    Look,
 }
 
 /// What a controller answers to an event.
