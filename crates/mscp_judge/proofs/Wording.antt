@@ -8,7 +8,7 @@ use Rattle.mscp_reader.specs.Lexical.{words}
 use Rattle.mscp_reader.specs.Grammar.{said_at}
 use Rattle.mscp_reader.specs.Outcome.{in_line}
 use Rattle.mscp_reader.specs.Plain.{plain_request}
-use Rattle.mscp_reader.specs.Requests.{asked_if, events_of, form_of, request, second_request}
+use Rattle.mscp_reader.specs.Requests.{asked_if, event_form, events_of, form_of, message_form, plain_form, request, second_request}
 use Rattle.mscp_reader.specs.declared.events.Request.{Request}
 use Rattle.mscp_reader.specs.declared.plain.Plain.{Plain}
 use Rattle.mscp_reader.proofs.PlainLines.{plain_next}
@@ -27,7 +27,7 @@ same_word : (word other : List ℕ) → NoForm other → bytes_eq word other ≡
 same_word word other n e = subst NoForm (sym ((bytes_eq-Decides word other).0 e)) n
 
 no_form : (word : List ℕ) → is_answer_word word ≡ true → NoForm word
-unfolding form_of
+unfolding form_of plain_form message_form event_form
 no_form word h =
     let q = bytes_eq word (codes "queued") in
     let a = bytes_eq word (codes "answered") in
@@ -72,7 +72,7 @@ second_no_answer (word ∷ rest) what h = at (is_answer_word word) refl
 
 named_second : (word : List ℕ) (rest : List (List ℕ)) → word ≡ codes "second"
     → request (word ∷ rest) ≡ second_request rest
-unfolding request form_of
+unfolding request form_of plain_form message_form event_form
 named_second word rest e = ap (λ w. asked_if (form_of w) w rest) e
 
 no_answer_words : (word : List ℕ) (rest : List (List ℕ)) (what : Request) → request (word ∷ rest) ≡ Ok what

@@ -13,7 +13,7 @@ use Rattle.mscp_packet.specs.declared.command.Order.TheVariants as orders
 use Rattle.mscp_packet.specs.declared.command.MoveKind.{MoveKind}
 use Rattle.mscp_reader.specs.Lexical.{is_comment, is_digit, is_numeral, is_printed, is_some_word, lines, narrow, number, said, steps_in, wide, without_empty_last, words}
 use Rattle.mscp_reader.specs.Plain.{plain_request, Asks, Cuts, CutsWord, Ends, IsApart, IsNumeral, IsPlain, is_letter}
-use Rattle.mscp_reader.specs.Requests.{asked, events_of, form_of, request, sent}
+use Rattle.mscp_reader.specs.Requests.{asked, event_form, events_of, form_of, message_form, plain_form, request, sent}
 use Rattle.mscp_reader.specs.Grammar.{HasGone, Place, next, said_at}
 use Rattle.mscp_reader.specs.Outcome.{in_line, onward, lines_outcome, rest_outcome}
 use Rattle.mscp_reader.specs.declared.events.Form.{Form}
@@ -231,7 +231,7 @@ unfolding asked
 look_asks xs = ([], refl, λ more behind e. e)
 
 some_word : (w : List ℕ) (form : Form) → form_of w ≡ Some form → 0 < length w
-unfolding form_of
+unfolding form_of plain_form message_form event_form
 some_word [] form h = cc
 some_word (b ∷ w) form h = omega arith
 

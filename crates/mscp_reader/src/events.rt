@@ -169,25 +169,75 @@ fn read_second(mut words: Words<'_>) -> Result<Request, Cause>
 pub fn form_of(word: &[u8]) -> Option<Form>
     ensures { result ≡ requests.form_of word.now }
 {
-    match word {
-        b"read" => Some(Form::Transfer(MoveKind::Read)),
-        b"write" => Some(Form::Transfer(MoveKind::Write)),
-        b"access" => Some(Form::Transfer(MoveKind::Access)),
-        b"erase" => Some(Form::Transfer(MoveKind::Erase)),
-        b"compare" => Some(Form::Transfer(MoveKind::Compare)),
-        b"online" => Some(Form::Plain(Order::Online)),
-        b"available" => Some(Form::Plain(Order::Available)),
-        b"setunit" => Some(Form::Plain(Order::SetUnit)),
-        b"unitstatus" => Some(Form::Plain(Order::UnitStatus)),
-        b"setcontroller" => Some(Form::SetController),
-        b"abort" => Some(Form::Abort),
-        b"status" => Some(Form::Status),
-        b"packet" => Some(Form::Packet),
-        b"step" => Some(Form::Step),
-        b"bad" => Some(Form::Bad),
-        b"take" => Some(Form::Take),
-        b"look" => Some(Form::Look),
-        _ => None,
+    if word == b"read".as_slice() {
+        Some(Form::Transfer(MoveKind::Read))
+    } else if word == b"write".as_slice() {
+        Some(Form::Transfer(MoveKind::Write))
+    } else if word == b"access".as_slice() {
+        Some(Form::Transfer(MoveKind::Access))
+    } else if word == b"erase".as_slice() {
+        Some(Form::Transfer(MoveKind::Erase))
+    } else if word == b"compare".as_slice() {
+        Some(Form::Transfer(MoveKind::Compare))
+    } else {
+        plain_form(word)
+    }
+}
+
+/// The form of the line of this first word, which is no transfer.
+#[inline(always)]
+#[tactic(auto, unfolding(crate::specs::Requests::plain_form))]
+fn plain_form(word: &[u8]) -> Option<Form>
+    ensures { result ≡ requests.plain_form word.now }
+{
+    if word == b"online".as_slice() {
+        Some(Form::Plain(Order::Online))
+    } else if word == b"available".as_slice() {
+        Some(Form::Plain(Order::Available))
+    } else if word == b"setunit".as_slice() {
+        Some(Form::Plain(Order::SetUnit))
+    } else if word == b"unitstatus".as_slice() {
+        Some(Form::Plain(Order::UnitStatus))
+    } else {
+        message_form(word)
+    }
+}
+
+/// The form of the line of this first word, which is no command to a unit.
+#[inline(always)]
+#[tactic(auto, unfolding(crate::specs::Requests::message_form))]
+fn message_form(word: &[u8]) -> Option<Form>
+    ensures { result ≡ requests.message_form word.now }
+{
+    if word == b"setcontroller".as_slice() {
+        Some(Form::SetController)
+    } else if word == b"abort".as_slice() {
+        Some(Form::Abort)
+    } else if word == b"status".as_slice() {
+        Some(Form::Status)
+    } else if word == b"packet".as_slice() {
+        Some(Form::Packet)
+    } else {
+        event_form(word)
+    }
+}
+
+/// The form of the line of this first word, which is no message.
+#[inline(always)]
+#[tactic(auto, unfolding(crate::specs::Requests::event_form))]
+fn event_form(word: &[u8]) -> Option<Form>
+    ensures { result ≡ requests.event_form word.now }
+{
+    if word == b"step".as_slice() {
+        Some(Form::Step)
+    } else if word == b"bad".as_slice() {
+        Some(Form::Bad)
+    } else if word == b"take".as_slice() {
+        Some(Form::Take)
+    } else if word == b"look".as_slice() {
+        Some(Form::Look)
+    } else {
+        None
     }
 }
 

@@ -16,8 +16,8 @@ use crate::lines::Lines;
 use crate::numbers::{narrow, number, wide};
 use crate::words::Words;
 use arrayvec::ArrayVec;
-use mscp_events::Config;
 use mscp_drive::{Unit, Units};
+use mscp_events::Config;
 
 /// What a script's controller is known by.
 const IDENTIFIER: u64 = 1;
