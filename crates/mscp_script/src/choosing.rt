@@ -5,9 +5,6 @@ ghost use Rattle.std.specs.String.{string_bytes};
 ghost use Rattle.mscp_text.specs.Steps.{Gives};
 ghost use Rattle.mscp_script.specs.Chosen.{chosen, seen};
 
-#[cfg(test)]
-mod tests;
-
 use thiserror::Error;
 
 /// What a call of the program is to do.

@@ -9,8 +9,6 @@ mod reporting;
 mod running;
 mod simulation;
 mod stream;
-#[cfg(test)]
-mod tests;
 mod totals;
 
 pub use crate::choosing::{Deed, LineFault, choose};

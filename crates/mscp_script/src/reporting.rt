@@ -7,8 +7,6 @@ ghost use Rattle.mscp_script.specs.Text.{finished, reported, step_line, text, wi
 
 mod lines;
 mod tail;
-#[cfg(test)]
-mod tests;
 
 use crate::reporting::lines::{put_figures, put_sent, put_step, put_taken, put_totals};
 use crate::reporting::tail::Tail;

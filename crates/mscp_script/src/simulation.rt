@@ -5,9 +5,6 @@ ghost use Rattle.mscp_reader.specs.Grammar.{IsFault};
 ghost use Rattle.mscp_script.specs.Simulated.{IsGiven, LeavesRest, WritesOnce, WritesReport, sim_of_reading, sim_of_script};
 ghost use Rattle.mscp_script.specs.declared.simulation.SimFault.TheVariants as faults;
 
-#[cfg(test)]
-mod tests;
-
 use crate::reading::{LIMIT, ReadAllFault, read_all};
 use crate::reported::report_script;
 use crate::stream::{Failed, Sink, Source};

@@ -3,6 +3,7 @@
 
 mod aborting;
 mod blocks;
+mod entries;
 mod figures;
 mod first;
 mod giving_up;
@@ -11,6 +12,7 @@ mod messages;
 mod rounds;
 mod scripts;
 mod streams;
+mod texts;
 
 use mscp_control::Config;
 use mscp_drive::{Unit, Units};
