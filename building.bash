@@ -186,10 +186,10 @@ below() {
 # crate wait for each other.
 build_library() {
     local at=$room/apart/$1 low
-    mkdir -p -- "$at/crates" && cp -- "$top/crates.txt" "$top/HANDLES" "$at" || return
+    mkdir -p -- "$at/crates" && cp -- "$top/HANDLES" "$at" && grep -E "^$1( staticlib)?:" "$top/crates.txt" >"$at/crates.txt" || return
     for low in $(below "$1"); do
         until [ -e "$room/apart/$low/built" ]; do sleep 0.1; done
-        cp -al -- "$room/apart/$low/crates/$low" "$at/crates" || return
+        cp -al -- "$room/apart/$low/crates/$low" "$at/crates" && grep "^$low:" "$top/crates.txt" >>"$at/crates.txt" || return
     done
     cp -a -- "$top/crates/$1" "$at/crates" && (cd -- "$at/crates/$1" && become_rt lib </dev/null) && : >"$at/built"
 }
