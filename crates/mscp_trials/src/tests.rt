@@ -1,16 +1,28 @@
-// What a user meets on the worst day: bad blocks and aborts at each point, every message, memory that is refused at each
-// request, streams that fail at each call, and scripts that mean no good.
+// The tests of all libraries that want public calls alone. They stand in a crate of their own, so that no library is
+// proved once more for them.
+//
+// `packets`, `drives`, `queues`, `controllers`, `ports`, `hosts` and `talks` try a library each: whether its clauses say what
+// is meant, and that its calls are there. The others are what a user meets on the worst day: bad blocks and aborts at each
+// point, every message, memory that is refused at each request, streams that fail at each call, and scripts that mean no
+// good.
 
 mod aborting;
 mod blocks;
+mod controllers;
+mod drives;
 mod figures;
 mod first;
 mod giving_up;
+mod hosts;
 mod memory;
 mod messages;
+mod packets;
+mod ports;
+mod queues;
 mod rounds;
 mod scripts;
 mod streams;
+mod talks;
 
 use mscp_control::Config;
 use mscp_drive::{Unit, Units};

@@ -1,24 +1,11 @@
 // What an ABORT leaves of the figures of all others.
 
+use super::controllers::Newest;
 use super::unit;
-use mscp_control::{Block, Config, Connection, Controller, Picker, Sent, View};
+use mscp_control::{Block, Config, Connection, Controller, Sent};
 use mscp_drive::Units;
 use mscp_packet::{Command, MoveKind, Order, write_command};
 use std::process::Abort;
-
-/// Picks the newest command that may start.
-#[derive(Drop)]
-struct Newest;
-
-impl Picker for Newest {
-    ghost use Rattle.std.specs.Prelude.{◌≡◌, ◌+◌, length};
-
-    ghost picks = { λ _ view place. place + 1 ≡ length view };
-
-    fn pick(&self, view: &View) -> usize {
-        view.choices().len().saturating_sub(1)
-    }
-}
 
 /// A controller of four units, where each command may be passed three times.
 fn controller(rt: &impl Abort) -> Controller<Newest> {

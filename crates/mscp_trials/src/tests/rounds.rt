@@ -3,26 +3,13 @@
 ghost use Rattle.std.specs.Prelude.{◌<◌, ◌≤◌};
 
 use super::config;
-use mscp_control::{Block, Connection, Controller, Picker, Report, Sent, View, run};
+use super::controllers::Newest;
+use mscp_control::{Block, Connection, Controller, Report, Sent, run};
 use mscp_packet::{Command, End, EndBody, MoveKind, Order, write_command};
 use mscp_script::{read_script, report};
 use sha2::{Digest, Sha256};
 use std::process::Abort;
 use std::test::Fail;
-
-/// Picks the newest command that may start.
-#[derive(Drop)]
-struct Newest;
-
-impl Picker for Newest {
-    ghost use Rattle.std.specs.Prelude.{◌≡◌, ◌+◌, length};
-
-    ghost picks = { λ _ view place. place + 1 ≡ length view };
-
-    fn pick(&self, view: &View) -> usize {
-        view.choices().len().saturating_sub(1)
-    }
-}
 
 /// The longest transfer.
 const BLOCKS: u32 = 8;

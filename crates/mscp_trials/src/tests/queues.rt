@@ -5,24 +5,11 @@ ghost use Rattle.mscp_drive.specs.Shape.{shape};
 ghost use Rattle.mscp_queue.specs.Kept.{IsWaitable, units_of};
 ghost use Rattle.mscp_queue.specs.Orders.{order_weight};
 
-use crate::{Block, Connection, Picker, Queue, Report, View, Waiting};
+use super::controllers::Newest;
 use mscp_drive::{Unit, Units};
 use mscp_packet::{MoveKind, Order};
+use mscp_queue::{Block, Connection, Queue, Report, Waiting};
 use std::process::Abort;
-
-/// Picks the newest command that may start.
-#[derive(Drop)]
-struct Newest;
-
-impl Picker for Newest {
-    ghost use Rattle.std.specs.Prelude.{◌≡◌, ◌+◌, length};
-
-    ghost picks = { λ _ view place. place + 1 ≡ length view };
-
-    fn pick(&self, view: &View) -> usize {
-        view.choices().len().saturating_sub(1)
-    }
-}
 
 /// A queue of unit 0, which has 1000 blocks, 20 blocks a cylinder. Each command may be passed by so many blocks.
 fn queue(rt: &impl Abort, budget: u32) -> Queue<Newest>

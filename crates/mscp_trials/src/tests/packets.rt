@@ -1,7 +1,10 @@
 // The worked messages of the formats, and one message of every opcode and of every endcode. `hex` would be a crate
 // more for these tables, so the bytes are written out.
 
-use super::*;
+use mscp_packet::{
+    Class, Command, End, EndBody, EndFault, MoveKind, Order, PacketFault, class_of, read_command,
+    read_end, read_written_command, read_written_end, write_command, write_end,
+};
 
 fn command(reference: u32, unit: u16, order: Order) -> Command {
     Command {

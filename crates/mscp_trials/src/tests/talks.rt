@@ -1,9 +1,14 @@
+// Talks of two hosts and a controller.
+
 mod paired;
 
-use super::*;
-use mscp_control::Sweep;
+use arrayvec::ArrayVec;
+use mscp_control::{Block, Config, Connection, Entry, Event, Report, Sent, Sweep};
 use mscp_drive::{Unit, Units};
-use mscp_packet::{End, EndBody, MoveKind, Order};
+use mscp_host::{HostFault, News};
+use mscp_packet::{Command, End, EndBody, MoveKind, Order};
+use mscp_sim::{Heard, Talk, Turn, converse};
+use std::alloc::Global;
 use std::process::Abort;
 
 /// A unit of 1000 blocks, 20 in a cylinder.
@@ -262,10 +267,15 @@ const ANSWER: [u8; 20] = [
     10, 0, 0, 0, 0, 0, 0, 0, 0x82, 0, 0, 0, 1, 0, 0, 0, 18, 0, 0, 0,
 ];
 
-fn bytes_of(bytes: &[u8]) -> ArrayVec<u8, 48> {
+fn bytes_of<const ROOM: usize>(bytes: &[u8]) -> ArrayVec<u8, ROOM> {
     let mut all = ArrayVec::new();
     let _ = all.try_extend_from_slice(bytes);
     all
+}
+
+/// A message of this connection comes.
+fn event_of(connection: Connection, message: &[u8]) -> Event {
+    Event::Send(connection, bytes_of(message))
 }
 
 /// The moment of READ of 1024 bytes at block 40, of this reference number, which is below 256.

@@ -1,7 +1,7 @@
 // Who is served, under one picker and under another.
 
 use super::Newest;
-use mscp_control::{Block, Config, Connection, Controller, Oldest, Picker, Report};
+use mscp_control::{Block, Config, Connection, Controller, Oldest, Picker, Report, Sweep};
 use mscp_drive::{Unit, Units};
 use mscp_packet::{Command, MoveKind, Order, write_command};
 use std::process::Abort;
@@ -125,4 +125,54 @@ fn a_start_passes_every_earlier_command(rt: HostRuntime) {
     assert_eq!(rt; next(&mut newest), 3);
     send(&rt, &mut newest, &[read(4, 0, 0)]);
     assert_eq!(rt; four(&mut newest), [1, 2, 4, 0]);
+}
+
+/// The next step serves this command, and the head crosses so many cylinders for it.
+fn serves(rt: &impl Abort, controller: &mut Controller<Sweep>, wanted: u32, cylinders: u32) {
+    let Report::Served {
+        reference,
+        seek,
+        ..
+    } = controller.step(Block::Good)
+    else {
+        panic!(rt; "a command waits");
+    };
+    assert_eq!(rt; (reference, seek), (wanted, cylinders));
+}
+
+/// A sweep whose head went up to cylinder 10.
+fn on_cylinder_10(rt: &impl Abort) -> Controller<Sweep> {
+    let mut sweep = controller(rt, 16, Sweep);
+    send(rt, &mut sweep, &[read(1, 0, 200)]);
+    serves(rt, &mut sweep, 1, 10);
+    sweep
+}
+
+// Block 199 is on cylinder 9. On its way down the head comes to block 160, on cylinder 8, before it comes back to block 200.
+#[test]
+fn a_start_below_turns_the_head(rt: HostRuntime) {
+    let mut sweep = on_cylinder_10(&rt);
+    send(&rt, &mut sweep, &[read(2, 0, 199)]);
+    serves(&rt, &mut sweep, 2, 1);
+    send(&rt, &mut sweep, &[read(3, 0, 200), read(4, 0, 160)]);
+    serves(&rt, &mut sweep, 4, 1);
+    serves(&rt, &mut sweep, 3, 2);
+}
+
+// The second block of the READ of blocks 199 and 200 carries the head up to cylinder 10 again, but doesn't turn it. So it
+// goes down to block 100, on cylinder 5, before it comes to block 220, on cylinder 11.
+#[test]
+fn the_head_turns_at_a_start_alone(rt: HostRuntime) {
+    let mut sweep = on_cylinder_10(&rt);
+    let both = Command {
+        reference: 2,
+        unit: 0,
+        order: Order::Move(MoveKind::Read, 1024, 199),
+    };
+    send(&rt, &mut sweep, &[both]);
+    serves(&rt, &mut sweep, 2, 1);
+    serves(&rt, &mut sweep, 2, 1);
+    send(&rt, &mut sweep, &[read(3, 0, 220), read(4, 0, 100)]);
+    serves(&rt, &mut sweep, 4, 5);
+    serves(&rt, &mut sweep, 3, 6);
 }

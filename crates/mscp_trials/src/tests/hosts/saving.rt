@@ -1,6 +1,7 @@
 // A host as bytes, and back.
 
 use super::*;
+use mscp_host::RestoreFault;
 
 /// A host of 4 credits: a READ of which 18 was told, and its second poll.
 fn polled_twice(rt: &impl Abort) -> Host {

@@ -1,7 +1,9 @@
+// The end of a host.
+
 mod driver;
 mod saving;
 
-use super::*;
+use mscp_host::{Host, HostFault, News, Poll};
 use mscp_packet::{Command, End, EndBody, MoveKind, Order, write_end};
 use std::process::Abort;
 use std::test::Fail;

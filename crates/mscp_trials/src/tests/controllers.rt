@@ -1,5 +1,4 @@
-// A controller in a program of one's own, by what the crate names at its root alone. docs/USING.md has this code, and
-// that of emulator.rt.
+// A controller in a program of one's own. docs/USING.md has this code, and that of emulator.rt.
 
 mod beginning;
 mod connections;
@@ -36,7 +35,7 @@ fn controller<K: Picker>(rt: &impl Abort, picker: K) -> Controller<K> {
 
 /// Picks the newest command that may start.
 #[derive(Drop)]
-struct Newest;
+pub struct Newest;
 
 impl Picker for Newest {
     ghost use Rattle.std.specs.Prelude.{◌≡◌, ◌+◌, length};

@@ -1,6 +1,6 @@
 // Units of 1000 blocks, 20 of them a cylinder, and units of the largest sizes.
 
-use super::*;
+use mscp_drive::{Head, Unit, UnitFault, Units, UnitsFault};
 
 fn made(number: u16, sizes: (u16, u16, u16), size: u32) -> Option<Unit> {
     Unit::new(number, sizes.0, sizes.1, sizes.2, size, 1, 2, 3).ok()
