@@ -8,7 +8,9 @@
 
 mod aborting;
 mod blocks;
+mod calls;
 mod controllers;
+mod crowds;
 mod drives;
 mod figures;
 mod first;
@@ -16,6 +18,7 @@ mod giving_up;
 mod hosts;
 mod memory;
 mod messages;
+mod moments;
 mod packets;
 mod ports;
 mod queues;
@@ -23,27 +26,9 @@ mod rounds;
 mod scripts;
 mod streams;
 mod talks;
+mod values;
 
-use mscp_control::Config;
-use mscp_drive::{Unit, Units};
-use std::process::Abort;
-
-/// A unit of 1000 blocks, 20 blocks a cylinder.
-fn unit(rt: &impl Abort, number: u16) -> Unit {
-    Unit::new(number, 10, 2, 1, 1000, 1, 0, 1)
-        .ok()
-        .expect(rt, "no size is zero")
-}
-
-/// The configuration of these credits and this budget, of unit 0 alone, with the longest transfer of 8 blocks.
-fn config(rt: &impl Abort, credits: u32, budget: u64) -> Config {
-    let units = Units::new(&[unit(rt, 0)]).ok().expect(rt, "one unit");
-    Config::new(credits, 0, budget, 8, 60, 1, units)
-        .ok()
-        .expect(rt, "limits")
-}
-
-/// The same header as a script has it: 4 credits, a budget of 16.
+/// The configuration of 4 credits and a budget of 16 blocks, as the header of a script.
 const HEADER: &str = "credits 4
 passing 2
 longest 8

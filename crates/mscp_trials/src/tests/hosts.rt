@@ -3,46 +3,25 @@
 mod driver;
 mod saving;
 
+use super::values::{command, ended};
 use mscp_host::{Host, HostFault, News, Poll};
 use mscp_packet::{Command, End, EndBody, MoveKind, Order, write_end};
 use std::process::Abort;
 use std::test::Fail;
 
-fn command(reference: u32, order: Order) -> Command {
-    Command {
-        reference,
-        unit: 0,
-        order,
-    }
-}
-
+/// A READ of two blocks.
 fn read(reference: u32) -> Command {
     command(reference, Order::Move(MoveKind::Read, 1024, 40))
 }
 
-fn end(reference: u32, code: u8, body: EndBody) -> End {
-    End {
-        reference,
-        unit: 0,
-        code,
-        status: 0,
-        body,
-    }
-}
-
-/// The end of a READ.
+/// The end of that READ.
 fn read_end(reference: u32) -> End {
-    end(reference, 0xA1, EndBody::Moved(1024))
+    ended(reference, 0xA1, 0, EndBody::Moved(1024))
 }
 
 /// The end of a poll that tells this figure of another command.
 fn answer(reference: u32, other: u32, figure: u32) -> End {
-    end(reference, 0x82, EndBody::Status { other, figure })
-}
-
-/// What a host says of this end.
-fn hears(host: &mut Host, end: End) -> Result<News, HostFault> {
-    host.receive(write_end(&end).as_slice())
+    ended(reference, 0x82, 0, EndBody::Status { other, figure })
 }
 
 /// A host of so many credits.
@@ -50,17 +29,47 @@ fn new_host(rt: &impl Abort, credits: u32) -> Host {
     Host::new(credits).expect(rt, "2 to 64 credits")
 }
 
-/// Whether the poll is to be sent, with these bytes.
-fn asks(poll: Result<Poll, HostFault>, bytes: &[u8]) -> bool {
-    match poll {
-        Ok(Poll::Ask(message)) => message.as_slice() == bytes,
-        _ => false,
-    }
+/// The host submits a command.
+fn submits(rt: &impl Abort, host: &mut Host, command: &Command) {
+    assert!(rt; host.submit(command).is_ok());
+}
+
+/// It refuses to.
+fn refuses(rt: &impl Abort, host: &mut Host, command: &Command, fault: HostFault) {
+    assert!(rt; host.submit(command) == Err(fault));
+}
+
+/// A poll of this reference number is this.
+fn polls(rt: &impl Abort, host: &mut Host, reference: u32, wanted: Result<Poll, HostFault>) {
+    assert!(rt; host.poll(reference) == wanted);
+}
+
+/// A poll of this reference number is to be sent, with these bytes.
+fn asks(rt: &impl Abort, host: &mut Host, reference: u32, bytes: &[u8]) {
+    let Ok(Poll::Ask(message)) = host.poll(reference) else {
+        panic!(rt; "a poll is to be sent");
+    };
+    assert_eq!(rt; message.as_slice(), bytes);
 }
 
 /// The GET COMMAND STATUS of this reference number about that one, both below 256.
 fn status_bytes(reference: u8, other: u8) -> [u8; 16] {
     [reference, 0, 0, 0, 0, 0, 0, 0, 2, 0, 0, 0, other, 0, 0, 0]
+}
+
+/// The host says this of an end.
+fn hears(rt: &impl Abort, host: &mut Host, end: End, wanted: Result<News, HostFault>) {
+    assert!(rt; host.receive(write_end(&end).as_slice()) == wanted);
+}
+
+/// A command ends.
+fn ends(rt: &impl Abort, host: &mut Host, end: End) {
+    hears(rt, host, end, Ok(News::Ended(end)));
+}
+
+/// So many credits are free.
+fn has_free(rt: &impl Abort, host: &Host, credits: u32) {
+    assert_eq!(rt; host.balance(), credits);
 }
 
 #[test]
@@ -69,57 +78,55 @@ fn takes_2_to_64_credits(rt: HostRuntime) {
         assert!(rt; Host::new(credits).err() == Some(HostFault::Credits));
     }
     for credits in [2, 64] {
-        assert_eq!(rt; new_host(&rt, credits).balance(), credits);
+        has_free(&rt, &new_host(&rt, credits), credits);
     }
 }
 
+/// A poll of command 1 is sent, and the host says this of its answer. It has three credits while no poll is under way.
+fn is_told(rt: &impl Abort, host: &mut Host, reference: u8, figure: u32, news: News) {
+    let number = u32::from(reference);
+    asks(rt, host, number, &status_bytes(reference, 1));
+    has_free(rt, host, 2);
+    hears(rt, host, answer(number, 1, figure), Ok(news));
+    has_free(rt, host, 3);
+}
+
 #[test]
-fn says_what_each_answer_tells(rt: HostRuntime) -> Result<(), Fail> {
+fn says_what_each_answer_tells(rt: HostRuntime) {
     let mut host = new_host(&rt, 4);
-    assert!(rt; host.submit(&read(1)).is_ok());
-    let answers = [
-        (10, 5, News::First(5)),
-        (11, 5, News::Reset),
-        (12, 0, News::Lost),
-        (13, 0, News::Reset),
-        (14, 3, News::Reset),
-        (15, 2, News::Progress(2)),
-    ];
-    for (reference, figure, wanted) in answers {
-        assert!(rt; asks(host.poll(u32::from(reference)), &status_bytes(reference, 1)));
-        assert_eq!(rt; host.balance(), 2);
-        let heard = hears(&mut host, answer(u32::from(reference), 1, figure));
-        assert!(rt; heard == Ok(wanted), "of poll {reference}");
-        assert_eq!(rt; host.balance(), 3);
-    }
-    assert!(rt; hears(&mut host, read_end(1)) == Ok(News::Ended(read_end(1))));
-    assert_eq!(rt; host.balance(), 4);
-    Ok(())
+    submits(&rt, &mut host, &read(1));
+    is_told(&rt, &mut host, 10, 5, News::First(5));
+    is_told(&rt, &mut host, 11, 5, News::Reset);
+    is_told(&rt, &mut host, 12, 0, News::Lost);
+    is_told(&rt, &mut host, 13, 0, News::Reset);
+    is_told(&rt, &mut host, 14, 3, News::Reset);
+    is_told(&rt, &mut host, 15, 2, News::Progress(2));
+    ends(&rt, &mut host, read_end(1));
+    has_free(&rt, &host, 4);
 }
 
 #[test]
 fn a_first_answer_of_0_is_lost(rt: HostRuntime) {
     let mut host = new_host(&rt, 4);
-    assert!(rt; host.submit(&read(1)).is_ok());
-    assert!(rt; host.poll(10).is_ok());
-    assert!(rt; hears(&mut host, answer(10, 1, 0)) == Ok(News::Lost));
+    submits(&rt, &mut host, &read(1));
+    is_told(&rt, &mut host, 10, 0, News::Lost);
 }
 
 #[test]
 fn polls_one_at_a_time_and_the_oldest(rt: HostRuntime) {
     let mut host = new_host(&rt, 8);
-    assert!(rt; host.poll(10) == Ok(Poll::Nothing));
-    assert!(rt; host.submit(&command(7, Order::UnitStatus)).is_ok());
-    assert!(rt; host.poll(10) == Ok(Poll::Nothing));
-    assert!(rt; host.submit(&read(2)).is_ok());
-    assert!(rt; host.submit(&read(1)).is_ok());
-    assert!(rt; asks(host.poll(10), &status_bytes(10, 2)));
-    assert!(rt; host.poll(11) == Ok(Poll::Busy));
-    assert_eq!(rt; host.balance(), 4);
-    assert!(rt; hears(&mut host, read_end(2)) == Ok(News::Ended(read_end(2))));
-    assert!(rt; host.poll(11) == Ok(Poll::Busy));
-    assert!(rt; hears(&mut host, answer(10, 2, 0)) == Ok(News::Late));
-    assert!(rt; asks(host.poll(11), &status_bytes(11, 1)));
+    polls(&rt, &mut host, 10, Ok(Poll::Nothing));
+    submits(&rt, &mut host, &command(7, Order::UnitStatus));
+    polls(&rt, &mut host, 10, Ok(Poll::Nothing));
+    submits(&rt, &mut host, &read(2));
+    submits(&rt, &mut host, &read(1));
+    asks(&rt, &mut host, 10, &status_bytes(10, 2));
+    polls(&rt, &mut host, 11, Ok(Poll::Busy));
+    has_free(&rt, &host, 4);
+    ends(&rt, &mut host, read_end(2));
+    polls(&rt, &mut host, 11, Ok(Poll::Busy));
+    hears(&rt, &mut host, answer(10, 2, 0), Ok(News::Late));
+    asks(&rt, &mut host, 11, &status_bytes(11, 1));
 }
 
 #[test]
@@ -130,75 +137,82 @@ fn a_poll_names_the_unit_of_its_command(rt: HostRuntime) {
         unit: 300,
         order: Order::Online,
     };
-    assert!(rt; host.submit(&online).is_ok());
+    submits(&rt, &mut host, &online);
     let asked = [10, 0, 0, 0, 44, 1, 0, 0, 2, 0, 0, 0, 7, 0, 0, 0];
-    assert!(rt; asks(host.poll(10), &asked));
+    asks(&rt, &mut host, 10, &asked);
 }
 
 #[test]
 fn a_number_used_again_is_another_command(rt: HostRuntime) {
     let mut host = new_host(&rt, 4);
-    assert!(rt; host.submit(&read(1)).is_ok());
-    assert!(rt; host.poll(10).is_ok());
-    assert!(rt; hears(&mut host, answer(10, 1, 9)) == Ok(News::First(9)));
-    assert!(rt; host.poll(11).is_ok());
-    assert!(rt; hears(&mut host, read_end(1)) == Ok(News::Ended(read_end(1))));
-    assert!(rt; host.submit(&read(1)).is_ok());
-    assert!(rt; hears(&mut host, answer(11, 1, 0)) == Ok(News::Late));
-    assert!(rt; host.poll(12).is_ok());
-    assert!(rt; hears(&mut host, answer(12, 1, 20)) == Ok(News::First(20)));
+    submits(&rt, &mut host, &read(1));
+    is_told(&rt, &mut host, 10, 9, News::First(9));
+    asks(&rt, &mut host, 11, &status_bytes(11, 1));
+    ends(&rt, &mut host, read_end(1));
+    submits(&rt, &mut host, &read(1));
+    hears(&rt, &mut host, answer(11, 1, 0), Ok(News::Late));
+    is_told(&rt, &mut host, 12, 20, News::First(20));
 }
 
 #[test]
 fn keeps_the_last_credit(rt: HostRuntime) {
     let mut host = new_host(&rt, 2);
-    assert!(rt; host.submit(&read(1)).is_ok());
-    assert!(rt; host.submit(&read(2)) == Err(HostFault::LastCredit));
-    assert!(rt; host.submit(&command(1, Order::UnitStatus)) == Err(HostFault::Doubled));
-    assert!(rt; host.poll(1) == Err(HostFault::Doubled));
-    assert!(rt; host.submit(&command(3, Order::UnitStatus)).is_ok());
-    assert!(rt; host.submit(&command(1, Order::UnitStatus)) == Err(HostFault::NoCredit));
-    assert!(rt; host.poll(4) == Err(HostFault::NoCredit));
-    assert_eq!(rt; host.balance(), 0);
+    let immediate = command(1, Order::UnitStatus);
+    submits(&rt, &mut host, &read(1));
+    refuses(&rt, &mut host, &read(2), HostFault::LastCredit);
+    refuses(&rt, &mut host, &immediate, HostFault::Doubled);
+    polls(&rt, &mut host, 1, Err(HostFault::Doubled));
+    submits(&rt, &mut host, &command(3, Order::UnitStatus));
+    refuses(&rt, &mut host, &immediate, HostFault::NoCredit);
+    polls(&rt, &mut host, 4, Err(HostFault::NoCredit));
+    has_free(&rt, &host, 0);
+}
+
+/// A host of eight credits: READ 1, a command whose opcode is that of an end, and poll 10 of READ 1.
+fn with_the_opcode_of_an_end(rt: &impl Abort) -> Host {
+    let mut host = new_host(rt, 8);
+    submits(rt, &mut host, &read(1));
+    let opcode_of_an_end = Order::Invalid {
+        opcode: 0x90,
+        status: 0x0801,
+    };
+    submits(rt, &mut host, &command(5, opcode_of_an_end));
+    asks(rt, &mut host, 10, &status_bytes(10, 1));
+    host
+}
+
+/// The host knows of no command that this end is of, and its credits stay.
+fn is_unknown(rt: &impl Abort, host: &mut Host, end: End) {
+    hears(rt, host, end, Err(HostFault::Unknown));
+    has_free(rt, host, 5);
+}
+
+/// The host can't read these bytes.
+fn is_unreadable(rt: &impl Abort, host: &mut Host, bytes: &[u8]) {
+    assert!(rt; host.receive(bytes) == Err(HostFault::Unreadable));
 }
 
 #[test]
 fn refuses_ends_that_are_none_of_its_commands(rt: HostRuntime) {
-    let mut host = new_host(&rt, 8);
-    assert!(rt; host.submit(&read(1)).is_ok());
-    let opcode_of_an_end = command(
-        5,
-        Order::Invalid {
-            opcode: 0x90,
-            status: 0x0801,
-        },
-    );
-    assert!(rt; host.submit(&opcode_of_an_end).is_ok());
-    assert!(rt; host.poll(10).is_ok());
-    let unknown = [
-        read_end(2),
-        end(1, 0xA2, EndBody::Moved(1024)),
-        end(5, 0x90, EndBody::Moved(0)),
-        answer(10, 5, 3),
-        answer(11, 1, 3),
-    ];
-    for end in unknown {
-        assert!(rt; hears(&mut host, end) == Err(HostFault::Unknown));
-        assert_eq!(rt; host.balance(), 5);
-    }
-    for bytes in [b"".as_slice(), b"\x01\0\0\0\0\0\0\0\xa1\0\0\0".as_slice()] {
-        assert!(rt; host.receive(bytes) == Err(HostFault::Unreadable));
-    }
-    let refused = [
-        end(1, 0x80, EndBody::Bare),
-        end(5, 0x80, EndBody::Bare),
-        end(10, 0x80, EndBody::Bare),
-    ];
-    for end in refused {
-        assert!(rt; hears(&mut host, end) == Ok(News::Ended(end)));
-    }
-    assert_eq!(rt; host.balance(), 8);
-    assert!(rt; host.poll(10) == Ok(Poll::Nothing));
+    let mut host = with_the_opcode_of_an_end(&rt);
+    is_unknown(&rt, &mut host, read_end(2));
+    is_unknown(&rt, &mut host, ended(1, 0xA2, 0, EndBody::Moved(1024)));
+    is_unknown(&rt, &mut host, ended(5, 0x90, 0, EndBody::Moved(0)));
+    is_unknown(&rt, &mut host, answer(10, 5, 3));
+    is_unknown(&rt, &mut host, answer(11, 1, 3));
+    is_unreadable(&rt, &mut host, b"");
+    is_unreadable(&rt, &mut host, b"\x01\0\0\0\0\0\0\0\xa1\0\0\0");
+}
+
+// Whatever the command, the end of an unknown opcode is one of its ends.
+#[test]
+fn an_end_of_endcode_0x80_is_of_any_command(rt: HostRuntime) {
+    let mut host = with_the_opcode_of_an_end(&rt);
+    ends(&rt, &mut host, ended(1, 0x80, 0, EndBody::Bare));
+    ends(&rt, &mut host, ended(5, 0x80, 0, EndBody::Bare));
+    ends(&rt, &mut host, ended(10, 0x80, 0, EndBody::Bare));
+    has_free(&rt, &host, 8);
+    polls(&rt, &mut host, 10, Ok(Poll::Nothing));
 }
 
 #[test]

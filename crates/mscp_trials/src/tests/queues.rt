@@ -50,27 +50,28 @@ fn served(queue: &mut Queue<Newest>) -> Option<u32> {
     }
 }
 
+/// Where each may be passed by so many blocks, the commands 1 to 4 are served in this order.
+fn serves(rt: &impl Abort, budget: u32, order: [u32; 4])
+    requires { budget < 4 }
+{
+    let mut queue = queue(rt, budget);
+    queue.push(read(1));
+    queue.push(read(2));
+    queue.push(read(3));
+    queue.push(read(4));
+    for wanted in order {
+        assert_eq!(rt; served(&mut queue), Some(wanted), "passed by {budget}");
+    }
+    assert_eq!(rt; served(&mut queue), None);
+}
+
 // Where each may be passed by one block, the start of 4 passes 1, 2 and 3, and then none of them may be passed any more.
 // So from then on the oldest alone may start: 1, and then 2, since 3 would pass it by a second block. The unit is available,
 // and each transfer ends in its first step.
 #[test]
 fn a_start_passes_every_earlier_command(rt: HostRuntime) {
-    let table = [
-        (0, [1, 2, 3, 4]),
-        (1, [4, 1, 2, 3]),
-        (2, [4, 3, 1, 2]),
-        (3, [4, 3, 2, 1]),
-    ];
-    for (budget, order) in table {
-        assert!(rt; budget < 4);
-        let mut queue = queue(&rt, budget);
-        queue.push(read(1));
-        queue.push(read(2));
-        queue.push(read(3));
-        queue.push(read(4));
-        for wanted in order {
-            assert_eq!(rt; served(&mut queue), Some(wanted), "passed by {budget}");
-        }
-        assert_eq!(rt; served(&mut queue), None);
-    }
+    serves(&rt, 0, [1, 2, 3, 4]);
+    serves(&rt, 1, [4, 1, 2, 3]);
+    serves(&rt, 2, [4, 3, 1, 2]);
+    serves(&rt, 3, [4, 3, 2, 1]);
 }

@@ -1,5 +1,7 @@
 // The loop of an emulator, as docs/USING.md has it, and what it does.
 
+mod moving;
+
 use super::*;
 use mscp_packet::{Command, EndBody, read_end, write_command};
 
@@ -237,104 +239,6 @@ fn are_all(bytes: &[u8], byte: u8) -> bool {
     bytes.iter().all(|other| *other == byte)
 }
 
-// 700 bytes are a block of 512 and 188 of the next: 188 + 324 = 512.
-#[test]
-fn data_go_to_the_disk_and_come_back(rt: HostRuntime) {
-    let mut machine = online_machine(&rt, Oldest);
-    let write = transfer(34, 1, 700, 10, 100);
-    assert_eq!(rt; machine.on_message(&write), Ok(()));
-    assert_eq!(rt; machine.on_message(&write), Err(SendFault::Doubled));
-    let read = transfer(33, 2, 1024, 10, 2048);
-    assert_eq!(rt; machine.on_message(&read), Ok(()));
-    assert_eq!(rt; machine.controller.figure(Connection::First, 1), 18);
-    for block in [10, 11] {
-        let report = machine.on_turn().expect(&rt, "the WRITE");
-        assert_eq!(rt; served(&report), Some((1, 0, Some(block))));
-    }
-    assert!(rt; are_all(&machine.disk[10], 7));
-    assert!(rt; are_all(&machine.disk[11][..188], 7));
-    assert!(rt; are_all(&machine.disk[11][188..], 0));
-    assert_eq!(rt; end(&rt, &mut machine), (1, 0, EndBody::Moved(700)));
-    for block in [10, 11] {
-        let report = machine.on_turn().expect(&rt, "the READ");
-        assert_eq!(rt; served(&report), Some((2, 0, Some(block))));
-    }
-    assert!(rt; are_all(&machine.memory[..2748], 7));
-    assert!(rt; are_all(&machine.memory[2748..3072], 0));
-    assert!(rt; are_all(&machine.memory[3072..], 7));
-    assert_eq!(rt; end(&rt, &mut machine), (2, 0, EndBody::Moved(1024)));
-    assert!(rt; machine.buffers.is_empty());
-}
-
-// It names block 10, which keeps what it has.
-#[test]
-fn a_transfer_of_no_bytes_moves_nothing(rt: HostRuntime) {
-    let mut machine = online_machine(&rt, Oldest);
-    machine.disk[10] = [60; 512];
-    for (opcode, reference) in [(34, 1), (33, 2)] {
-        let empty = transfer(opcode, reference, 0, 10, 0);
-        assert_eq!(rt; machine.on_message(&empty), Ok(()));
-        let report = machine.on_turn().expect(&rt, "its step");
-        let number = u32::from(reference);
-        assert_eq!(rt; served(&report), Some((number, 0, Some(10))));
-        assert_eq!(rt; end(&rt, &mut machine), (number, 0, EndBody::Moved(0)));
-    }
-    assert!(rt; are_all(&machine.disk[10], 60));
-    assert!(rt; are_all(&machine.memory, 7));
-}
-
-// The unit has 1000 blocks, and the file only 64: block 63 is its last.
-#[test]
-fn a_block_that_the_file_has_not_is_bad(rt: HostRuntime) {
-    let mut machine = online_machine(&rt, Oldest);
-    let read = transfer(33, 1, 1024, 63, 0);
-    assert_eq!(rt; machine.on_message(&read), Ok(()));
-    assert!(rt; machine.on_turn().is_some());
-    assert!(rt; machine.on_turn().is_some());
-    assert_eq!(rt; end(&rt, &mut machine), (1, 0x0008, EndBody::Moved(512)));
-    assert!(rt; machine.on_turn().is_none());
-    assert!(rt; are_all(&machine.memory[..512], 0));
-    assert!(rt; are_all(&machine.memory[512..], 7));
-}
-
-// With four credits three commands may wait, and a poll has the last credit.
-#[test]
-fn a_host_that_sends_too_many_is_told(rt: HostRuntime) {
-    let mut machine = online_machine(&rt, Oldest);
-    for reference in 1..4 {
-        let read = transfer(33, reference, 512, 0, 0);
-        assert_eq!(rt; machine.on_message(&read), Ok(()));
-    }
-    let read = transfer(33, 4, 512, 0, 0);
-    assert_eq!(rt; machine.on_message(&read), Err(SendFault::LastCredit));
-    let poll = message(5, Order::Status(1));
-    assert_eq!(rt; machine.on_message(poll.as_slice()), Ok(()));
-    assert_eq!(rt; machine.on_message(&read), Err(SendFault::NoCredit));
-    let told = EndBody::Status {
-        other: 1,
-        figure: 17,
-    };
-    assert_eq!(rt; end(&rt, &mut machine), (5, 0, told));
-}
-
-// Block 60 is on cylinder 3, and the head on cylinder 0. The READ of block 0 would cost nothing, but it came too late.
-#[test]
-fn arrivals_change_nothing_of_what_was_begun(rt: HostRuntime) {
-    let mut machine = online_machine(&rt, Sweep);
-    machine.disk[60] = [60; 512];
-    let far = transfer(33, 1, 512, 60, 0);
-    assert_eq!(rt; machine.on_message(&far), Ok(()));
-    let mut job = machine.begin().expect(&rt, "the far READ");
-    let near = transfer(33, 2, 512, 0, 1024);
-    assert_eq!(rt; machine.on_message(&near), Ok(()));
-    let block = machine.work(&mut job);
-    let report = machine.finish(&job, block).ok().expect(&rt, "not stale");
-    assert_eq!(rt; served(&report), Some((1, 0, Some(60))));
-    assert!(rt; are_all(&machine.memory[..512], 60));
-    let report = machine.on_turn().expect(&rt, "the near READ");
-    assert_eq!(rt; served(&report), Some((2, 0, Some(0))));
-}
-
 #[test]
 fn what_was_aborted_meanwhile_leaves_the_memory_alone(rt: HostRuntime) {
     let mut machine = online_machine(&rt, Oldest);
@@ -350,34 +254,4 @@ fn what_was_aborted_meanwhile_leaves_the_memory_alone(rt: HostRuntime) {
     assert_eq!(rt; end(&rt, &mut machine), (2, 0, EndBody::Abort(1)));
     assert!(rt; machine.controller.take(Connection::First).is_none());
     assert!(rt; machine.buffers.is_empty());
-}
-
-#[test]
-fn a_reset_forgets_what_the_machine_had(rt: HostRuntime) {
-    let mut machine = online_machine(&rt, Oldest);
-    let read = transfer(33, 1, 1024, 40, 0);
-    assert_eq!(rt; machine.on_message(&read), Ok(()));
-    assert!(rt; machine.on_turn().is_some());
-    let mut job = machine.begin().expect(&rt, "the second block");
-    machine.on_reset();
-    let block = machine.work(&mut job);
-    assert_eq!(rt; machine.finish(&job, block), Err(Stale));
-    assert!(rt; machine.on_turn().is_none());
-    assert!(rt; machine.controller.take(Connection::First).is_none());
-    assert!(rt; machine.buffers.is_empty());
-}
-
-// Of two READs the newest starts, and then the other.
-#[test]
-fn a_picker_of_ones_own_picks(rt: HostRuntime) {
-    let mut machine = online_machine(&rt, Newest);
-    for reference in 2..4 {
-        let read = transfer(33, reference, 512, 10 * reference, 0);
-        assert_eq!(rt; machine.on_message(&read), Ok(()));
-    }
-    for reference in [3, 2] {
-        let report = machine.on_turn().expect(&rt, "a READ");
-        let block = 10 * reference;
-        assert_eq!(rt; served(&report), Some((reference, 0, Some(block))));
-    }
 }

@@ -1,62 +1,32 @@
 // Who is served, under one picker and under another.
 
 use super::Newest;
-use mscp_control::{Block, Config, Connection, Controller, Oldest, Picker, Report, Sweep};
-use mscp_drive::{Unit, Units};
-use mscp_packet::{Command, MoveKind, Order, write_command};
+use crate::tests::calls::{bring_online, queues};
+use crate::tests::values::{FIRST, command, limits, read, unit};
+use mscp_control::{Block, Controller, Oldest, Picker, Report, Sweep};
+use mscp_packet::{Command, Order};
 use std::process::Abort;
 
-/// A unit of 1000 blocks, 20 blocks a cylinder.
-fn unit(rt: &impl Abort, number: u16) -> Unit {
-    let id = u64::from(number) + 1;
-    let serial = u32::from(number) + 1;
-    Unit::new(number, 10, 2, 1, 1000, id, 0, serial)
-        .ok()
-        .expect(rt, "no size is zero")
-}
-
-/// A controller of two units with 8 credits, which may pass each command so many times.
+/// A controller of two units with 8 credits, which may pass each command by so many blocks.
 fn controller<K: Picker>(rt: &impl Abort, budget: u64, picker: K) -> Controller<K> {
-    let units = Units::new(&[unit(rt, 0), unit(rt, 1)])
-        .ok()
-        .expect(rt, "numbers that rise");
-    let config = Config::new(8, 0, budget, 8, 60, 1, units)
-        .ok()
-        .expect(rt, "limits");
+    let config = limits(rt, (8, 0), budget, &[unit(rt, 0), unit(rt, 1)]);
     let mut controller = Controller::new(config, picker);
-    for number in 0..2 {
-        let online = Command {
-            reference: 900,
-            unit: number,
-            order: Order::Online,
-        };
-        assert!(rt;
-            controller
-                .send(Connection::First, write_command(&online).as_slice())
-                .is_ok()
-        );
-        let _report = controller.step(Block::Good);
-        assert!(rt; controller.take(Connection::First).is_some());
-    }
+    bring_online(rt, &mut controller, 0);
+    bring_online(rt, &mut controller, 1);
     controller
 }
 
 /// A READ of one block.
-fn read(reference: u32, unit: u16, block: u32) -> Command {
+fn one(reference: u32, unit: u16, block: u32) -> Command {
     Command {
-        reference,
         unit,
-        order: Order::Move(MoveKind::Read, 512, block),
+        ..read(reference, 512, block)
     }
 }
 
 fn send<K: Picker>(rt: &impl Abort, controller: &mut Controller<K>, commands: &[Command]) {
     for command in commands {
-        assert!(rt;
-            controller
-                .send(Connection::First, write_command(command).as_slice())
-                .is_ok()
-        );
+        queues(rt, controller, FIRST, command);
     }
 }
 
@@ -68,49 +38,40 @@ fn next<K: Picker>(controller: &mut Controller<K>) -> u32 {
     }
 }
 
-/// Four steps.
-fn four<K: Picker>(controller: &mut Controller<K>) -> [u32; 4] {
-    [
-        next(controller),
-        next(controller),
-        next(controller),
-        next(controller),
-    ]
+/// Of these commands, with this budget, four steps serve these.
+fn serves_of<K: Picker + Drop>(
+    rt: &impl Abort,
+    budget: u64,
+    picker: K,
+    commands: &[Command; 4],
+    wanted: [u32; 4],
+) {
+    let mut controller = controller(rt, budget, picker);
+    send(rt, &mut controller, commands);
+    are_next(rt, &mut controller, wanted);
 }
 
-/// A SET UNIT CHARACTERISTICS between two reads of its unit, and a read of another unit.
-fn fenced() -> [Command; 4] {
-    let fence = Command {
-        reference: 2,
-        unit: 0,
-        order: Order::SetUnit,
-    };
-    [read(1, 0, 400), fence, read(3, 0, 0), read(4, 1, 0)]
+/// Four steps serve these.
+fn are_next<K: Picker>(rt: &impl Abort, controller: &mut Controller<K>, wanted: [u32; 4]) {
+    for reference in wanted {
+        assert_eq!(rt; next(controller), reference, "of {wanted:?}");
+    }
 }
 
-/// Reads alone: one of unit 0, and three of unit 1.
-fn reads() -> [Command; 4] {
-    [read(1, 0, 0), read(2, 1, 0), read(3, 1, 0), read(4, 1, 0)]
-}
-
+// A SET UNIT CHARACTERISTICS stands between two reads of its unit, beside a read of another unit.
 #[test]
 fn a_fence_is_one_units(rt: HostRuntime) {
-    let mut oldest = controller(&rt, 2, Oldest);
-    send(&rt, &mut oldest, &fenced());
-    assert_eq!(rt; four(&mut oldest), [1, 2, 3, 4]);
-    let mut newest = controller(&rt, 2, Newest);
-    send(&rt, &mut newest, &fenced());
-    assert_eq!(rt; four(&mut newest), [4, 1, 2, 3]);
+    let fence = command(2, Order::SetUnit);
+    let fenced = [one(1, 0, 400), fence, one(3, 0, 0), one(4, 1, 0)];
+    serves_of(&rt, 2, Oldest, &fenced, [1, 2, 3, 4]);
+    serves_of(&rt, 2, Newest, &fenced, [4, 1, 2, 3]);
 }
 
 #[test]
 fn a_command_is_passed_by_the_budget_at_most(rt: HostRuntime) {
-    let mut oldest = controller(&rt, 2, Oldest);
-    send(&rt, &mut oldest, &reads());
-    assert_eq!(rt; four(&mut oldest), [1, 2, 3, 4]);
-    let mut newest = controller(&rt, 2, Newest);
-    send(&rt, &mut newest, &reads());
-    assert_eq!(rt; four(&mut newest), [4, 3, 1, 2]);
+    let reads = [one(1, 0, 0), one(2, 1, 0), one(3, 1, 0), one(4, 1, 0)];
+    serves_of(&rt, 2, Oldest, &reads, [1, 2, 3, 4]);
+    serves_of(&rt, 2, Newest, &reads, [4, 3, 1, 2]);
 }
 
 // The start of 3 passes 1 and 2, each by all of its budget. So 4, which comes then, passes neither.
@@ -120,11 +81,11 @@ fn a_start_passes_every_earlier_command(rt: HostRuntime) {
     send(
         &rt,
         &mut newest,
-        &[read(1, 0, 0), read(2, 0, 0), read(3, 0, 0)],
+        &[one(1, 0, 0), one(2, 0, 0), one(3, 0, 0)],
     );
     assert_eq!(rt; next(&mut newest), 3);
-    send(&rt, &mut newest, &[read(4, 0, 0)]);
-    assert_eq!(rt; four(&mut newest), [1, 2, 4, 0]);
+    queues(&rt, &mut newest, FIRST, &one(4, 0, 0));
+    are_next(&rt, &mut newest, [1, 2, 4, 0]);
 }
 
 /// The next step serves this command, and the head crosses so many cylinders for it.
@@ -143,7 +104,7 @@ fn serves(rt: &impl Abort, controller: &mut Controller<Sweep>, wanted: u32, cyli
 /// A sweep whose head went up to cylinder 10.
 fn on_cylinder_10(rt: &impl Abort) -> Controller<Sweep> {
     let mut sweep = controller(rt, 16, Sweep);
-    send(rt, &mut sweep, &[read(1, 0, 200)]);
+    queues(rt, &mut sweep, FIRST, &one(1, 0, 200));
     serves(rt, &mut sweep, 1, 10);
     sweep
 }
@@ -152,9 +113,9 @@ fn on_cylinder_10(rt: &impl Abort) -> Controller<Sweep> {
 #[test]
 fn a_start_below_turns_the_head(rt: HostRuntime) {
     let mut sweep = on_cylinder_10(&rt);
-    send(&rt, &mut sweep, &[read(2, 0, 199)]);
+    queues(&rt, &mut sweep, FIRST, &one(2, 0, 199));
     serves(&rt, &mut sweep, 2, 1);
-    send(&rt, &mut sweep, &[read(3, 0, 200), read(4, 0, 160)]);
+    send(&rt, &mut sweep, &[one(3, 0, 200), one(4, 0, 160)]);
     serves(&rt, &mut sweep, 4, 1);
     serves(&rt, &mut sweep, 3, 2);
 }
@@ -164,15 +125,10 @@ fn a_start_below_turns_the_head(rt: HostRuntime) {
 #[test]
 fn the_head_turns_at_a_start_alone(rt: HostRuntime) {
     let mut sweep = on_cylinder_10(&rt);
-    let both = Command {
-        reference: 2,
-        unit: 0,
-        order: Order::Move(MoveKind::Read, 1024, 199),
-    };
-    send(&rt, &mut sweep, &[both]);
+    queues(&rt, &mut sweep, FIRST, &read(2, 1024, 199));
     serves(&rt, &mut sweep, 2, 1);
     serves(&rt, &mut sweep, 2, 1);
-    send(&rt, &mut sweep, &[read(3, 0, 220), read(4, 0, 100)]);
+    send(&rt, &mut sweep, &[one(3, 0, 220), one(4, 0, 100)]);
     serves(&rt, &mut sweep, 4, 5);
     serves(&rt, &mut sweep, 3, 6);
 }

@@ -4,16 +4,13 @@ mod faults;
 mod flips;
 mod rounds;
 
+use crate::tests::calls::sent;
+use crate::tests::values::{FIRST, SECOND, command, limits, unit};
 use arrayvec::ArrayVec;
-use mscp_control::{Block, Config, Connection, Controller, Sent, Sweep};
-use mscp_drive::{Unit, Units};
-use mscp_packet::{Command, MoveKind, Order, write_command};
+use mscp_control::{Block, Connection, Controller, Sweep};
+use mscp_packet::{MoveKind, Order};
 use mscp_saved::{ROOM, RestoreFault, restore, save};
 use std::process::Abort;
-
-const FIRST: Connection = Connection::First;
-
-const SECOND: Connection = Connection::Second;
 
 /// A head: 1 drive, 2 waiting commands, 1 end and 212 bytes; credits of 4 and 2, a budget of 16, a longest transfer of 8,
 /// 60 seconds, and picker 7. What was begun is command 1 of the first connection.
@@ -62,13 +59,7 @@ fn small(rt: &impl Abort) -> ArrayVec<u8, ROOM> {
 
 /// A controller of these credits and of that unit.
 fn controller(rt: &impl Abort, credits: u32, second: u32, budget: u64) -> Controller<Sweep> {
-    let unit = Unit::new(0, 10, 2, 1, 1000, 1, 0, 1)
-        .ok()
-        .expect(rt, "no size is zero");
-    let units = Units::new(&[unit]).ok().expect(rt, "a list of units");
-    let config = Config::new(credits, second, budget, 8, 60, 1, units)
-        .ok()
-        .expect(rt, "limits that a controller can keep");
+    let config = limits(rt, (credits, second), budget, &[unit(rt, 0)]);
     Controller::new(config, Sweep)
 }
 
@@ -79,16 +70,15 @@ fn send(
     connection: Connection,
     reference: u32,
     order: Order,
-) -> Sent {
-    let command = Command {
-        reference,
-        unit: 0,
-        order,
-    };
-    controller
-        .send(connection, write_command(&command).as_slice())
-        .ok()
-        .expect(rt, "a command that is not refused")
+) {
+    let sent = sent(controller, connection, &command(reference, order));
+    assert!(rt; sent.is_ok());
+}
+
+/// ONLINE 900 is served, and its end waits.
+fn come_online(rt: &impl Abort, controller: &mut Controller<Sweep>) {
+    send(rt, controller, FIRST, 900, Order::Online);
+    let _served = controller.step(Block::Good);
 }
 
 /// A transfer of so many blocks, up to 255, from a block on.
@@ -103,16 +93,20 @@ fn restored(rt: &impl Abort, bytes: &[u8]) -> Controller<Sweep> {
         .expect(rt, "the bytes of a controller")
 }
 
+/// The controller is saved as these bytes.
+fn is_saved_as(rt: &impl Abort, controller: &Controller<Sweep>, bytes: &[u8]) {
+    assert!(rt; save(controller, 7).as_slice() == bytes);
+}
+
 #[test]
 fn the_bytes_are_these(rt: HostRuntime) {
     let mut saved = controller(&rt, 4, 2, 16);
-    let _online = send(&rt, &mut saved, FIRST, 900, Order::Online);
-    let _served = saved.step(Block::Good);
-    let _read = send(&rt, &mut saved, FIRST, 1, transfer(MoveKind::Read, 2, 40));
+    come_online(&rt, &mut saved);
+    send(&rt, &mut saved, FIRST, 1, transfer(MoveKind::Read, 2, 40));
     let _first = saved.step(Block::Good);
-    let _write = send(&rt, &mut saved, SECOND, 1, transfer(MoveKind::Write, 1, 0));
+    send(&rt, &mut saved, SECOND, 1, transfer(MoveKind::Write, 1, 0));
     assert!(rt; saved.begin().is_some());
-    assert!(rt; save(&saved, 7).as_slice() == small(&rt).as_slice());
-    let again = restored(&rt, small(&rt).as_slice());
-    assert!(rt; save(&again, 7).as_slice() == small(&rt).as_slice());
+    let bytes = small(&rt);
+    is_saved_as(&rt, &saved, bytes.as_slice());
+    is_saved_as(&rt, &restored(&rt, bytes.as_slice()), bytes.as_slice());
 }

@@ -1,10 +1,10 @@
 // The traces in which a command waits longest.
 
-use arrayvec::ArrayVec;
+use crate::tests::moments::Moments;
+use crate::tests::values::{FIRST, ended, read_ended};
 use linked_list_allocator::LocalHeap;
 use mscp_control::{
-    Block, Config, Connection, Entry, Event, OutOfMemory, Picker, Report, Sent, View, run, worst,
-    worst_in,
+    Block, Config, Connection, Entry, Event, OutOfMemory, Picker, Report, View, worst, worst_in,
 };
 use mscp_drive::{Unit, Units};
 use mscp_packet::{End, EndBody};
@@ -34,15 +34,42 @@ fn config(rt: &impl Abort, (credits, second, budget, longest): Limits) -> Config
 
 // ---- a whole trace
 
-fn sent(rt: &impl Abort, reference: u32, bytes: &[u8]) -> (Event, Entry) {
-    let mut message = ArrayVec::new();
-    message.try_extend_from_slice(bytes).expect(rt, "room");
-    let queued = Entry::Sent(Connection::First, Ok(Sent::Queued(reference)));
-    (Event::Send(Connection::First, message), queued)
+/// A step of a command of unit 3.
+fn served(reference: u32, lbn: Option<u32>, started: bool, seek: u32, end: Option<End>) -> Report {
+    Report::Served {
+        connection: FIRST,
+        reference,
+        unit: 3,
+        lbn,
+        started,
+        seek,
+        ended: end.map(|end| End { unit: 3, ..end }),
+    }
+}
+
+/// ONLINE 2 of unit 3 comes, is served, and its end is taken.
+fn comes_online(rt: &impl Abort, moments: &mut Moments) {
+    moments.queues(rt, 2, &[2, 0, 0, 0, 3, 0, 0, 0, 9, 0, 0, 0]);
+    let body = EndBody::Online {
+        id: 1,
+        media: 0,
+        size: 2,
+        serial: 1,
+    };
+    let report = served(2, None, true, 0, Some(ended(2, 0x89, 0, body)));
+    moments.steps(rt, Block::Good, report);
+    let mut end = [0; 44];
+    end[0] = 2;
+    end[4] = 3;
+    end[8] = 0x89;
+    end[20] = 1;
+    end[36] = 2;
+    end[40] = 1;
+    moments.takes(rt, &end);
 }
 
 /// The message of a READ of at most 1023 bytes.
-fn read(reference: u8, bytes: u16, block: u8) -> [u8; 32] {
+fn message(reference: u8, bytes: u16, block: u8) -> [u8; 32] {
     let mut message = [0; 32];
     let [low, high] = bytes.to_le_bytes();
     message[0] = reference;
@@ -54,115 +81,71 @@ fn read(reference: u8, bytes: u16, block: u8) -> [u8; 32] {
     message
 }
 
-/// The end of a READ, as bytes.
-fn read_bytes(reference: u8, bytes: u16) -> [u8; 32] {
-    let mut end = read(reference, bytes, 0);
-    end[8] = 0xA1;
-    end
+/// A READ comes.
+fn reads(rt: &impl Abort, moments: &mut Moments, reference: u8, bytes: u16, block: u8) {
+    let message = message(reference, bytes, block);
+    moments.queues(rt, u32::from(reference), &message);
 }
 
-fn taken(rt: &impl Abort, bytes: &[u8]) -> (Event, Entry) {
-    let mut end = ArrayVec::new();
-    end.try_extend_from_slice(bytes).expect(rt, "room");
-    (
-        Event::Take(Connection::First),
-        Entry::Taken(Connection::First, Some(end)),
-    )
+/// The first of its two steps.
+fn starts(rt: &impl Abort, moments: &mut Moments, reference: u32, block: u32, seek: u32) {
+    let report = served(reference, Some(block), true, seek, None);
+    moments.steps(rt, Block::Good, report);
 }
 
-/// A step of a READ, which ends it if so many bytes are told.
-fn served(
-    reference: u32,
+/// Its last step, which is its first too, or not.
+fn ends(
+    rt: &impl Abort,
+    moments: &mut Moments,
+    (reference, bytes): (u32, u32),
     block: u32,
     started: bool,
     seek: u32,
-    bytes: Option<u32>,
-) -> (Event, Entry) {
-    let ended = bytes.map(|bytes| End {
-        reference,
-        unit: 3,
-        code: 0xA1,
-        status: 0,
-        body: EndBody::Moved(bytes),
-    });
-    let report = Report::Served {
-        connection: Connection::First,
-        reference,
-        unit: 3,
-        lbn: Some(block),
-        started,
-        seek,
-        ended,
-    };
-    (Event::Step(Block::Good), Entry::Stepped(report))
+) {
+    let end = read_ended(reference, 0, bytes);
+    let report = served(reference, Some(block), started, seek, Some(end));
+    moments.steps(rt, Block::Good, report);
 }
 
-/// ONLINE 2 of unit 3 ends.
-fn online_served() -> (Event, Entry) {
-    let end = End {
-        reference: 2,
-        unit: 3,
-        code: 0x89,
-        status: 0,
-        body: EndBody::Online {
-            id: 1,
-            media: 0,
-            size: 2,
-            serial: 1,
-        },
-    };
-    let report = Report::Served {
-        connection: Connection::First,
-        reference: 2,
-        unit: 3,
-        lbn: None,
-        started: true,
-        seek: 0,
-        ended: Some(end),
-    };
-    (Event::Step(Block::Good), Entry::Stepped(report))
+/// The end of a READ is taken.
+fn is_taken(rt: &impl Abort, moments: &mut Moments, reference: u8, bytes: u16) {
+    let mut end = message(reference, bytes, 0);
+    end[8] = 0xA1;
+    moments.takes(rt, &end);
 }
 
-/// The end of that ONLINE, as bytes.
-fn online_bytes() -> [u8; 44] {
-    let mut end = [0; 44];
-    end[0] = 2;
-    end[4] = 3;
-    end[8] = 0x89;
-    end[20] = 1;
-    end[36] = 2;
-    end[40] = 1;
-    end
+/// READ 2 of one block comes, is served at once, and its end is taken.
+fn passes(rt: &impl Abort, moments: &mut Moments) {
+    reads(rt, moments, 2, 512, 1);
+    ends(rt, moments, (2, 512), 1, true, 0);
+    is_taken(rt, moments, 2, 512);
 }
 
 // Three credits, transfers of at most 2 blocks, and a budget of one such pass, 2 blocks: command 1, which is sent last of
 // the two that may wait, ends at the sixth step after it.
 #[test]
 fn worst_finds_memory(rt: HostRuntime) {
+    let mut wanted = Moments::new(&rt);
+    comes_online(&rt, &mut wanted);
+    reads(&rt, &mut wanted, 0, 1023, 0);
+    reads(&rt, &mut wanted, 1, 1023, 0);
+    starts(&rt, &mut wanted, 0, 0, 0);
+    ends(&rt, &mut wanted, (0, 1023), 1, false, 1);
+    is_taken(&rt, &mut wanted, 0, 1023);
+    passes(&rt, &mut wanted);
+    passes(&rt, &mut wanted);
+    starts(&rt, &mut wanted, 1, 0, 1);
+    ends(&rt, &mut wanted, (1, 1023), 1, false, 1);
     let config = config(&rt, (3, 0, 2, 2));
-    let trace = worst(rt.alloc(), &config, 3)
+    wanted.are(&rt, trace_of(&rt, &config).as_slice());
+}
+
+/// The trace of unit 3.
+fn trace_of(rt: &(impl Abort + AllocGlobal), config: &Config) -> Vec<(Event, Entry)> {
+    worst(rt.alloc(), config, 3)
         .ok()
-        .expect(&rt, "memory")
-        .expect(&rt, "another command can pass");
-    let wanted = [
-        sent(&rt, 2, &[2, 0, 0, 0, 3, 0, 0, 0, 9, 0, 0, 0]),
-        online_served(),
-        taken(&rt, &online_bytes()),
-        sent(&rt, 0, &read(0, 1023, 0)),
-        sent(&rt, 1, &read(1, 1023, 0)),
-        served(0, 0, true, 0, None),
-        served(0, 1, false, 1, Some(1023)),
-        taken(&rt, &read_bytes(0, 1023)),
-        sent(&rt, 2, &read(2, 512, 1)),
-        served(2, 1, true, 0, Some(512)),
-        taken(&rt, &read_bytes(2, 512)),
-        sent(&rt, 2, &read(2, 512, 1)),
-        served(2, 1, true, 0, Some(512)),
-        taken(&rt, &read_bytes(2, 512)),
-        served(1, 0, true, 1, None),
-        served(1, 1, false, 1, Some(1023)),
-    ];
-    assert_eq!(rt; trace.as_slice(), wanted.as_slice());
+        .expect(rt, "memory")
+        .expect(rt, "another command can pass")
 }
 
 // ---- many limits
@@ -212,46 +195,34 @@ fn ended_by(moment: &(Event, Entry)) -> Option<u32> {
     }
 }
 
-// `run` gives the same, whatever the limits: with no budget and with one that isn't a whole number of passes, over one
-// connection and over both.
+/// The trace of these limits, over the first connection, in which so many may wait, has so many steps behind the last
+/// arrival, and `run` gives the same.
+fn is_run(rt: &(impl Abort + AllocGlobal), limits: Limits, room: u32, bound: usize) {
+    let trace = trace_of(rt, &config(rt, limits));
+    let last = trace.last().and_then(ended_by);
+    assert_eq!(rt; last, Some(room.saturating_sub(1)));
+    let came = (room as usize).saturating_add(3);
+    assert_eq!(rt; steps_behind(trace.as_slice(), came), bound);
+    let picker = ByName {
+        connection: FIRST,
+        reference: room,
+    };
+    Moments::of(trace).are_run(rt, config(rt, limits), picker);
+}
+
+// With no budget and with one that isn't a whole number of passes, over one connection and over both.
 #[test]
 fn a_picker_by_name_runs_it(rt: HostRuntime) {
-    let rows: [(Limits, u32, usize); 10] = [
-        ((3, 0, 0, 1), 2, 2),
-        ((3, 0, 2, 2), 2, 6),
-        ((3, 0, 7, 2), 2, 11),
-        ((2, 2, 0, 1), 2, 2),
-        ((2, 2, 5, 3), 2, 11),
-        ((4, 0, 9, 8), 3, 33),
-        ((3, 4, 10, 4), 5, 30),
-        ((2, 62, 3, 1), 62, 65),
-        ((62, 2, 3, 2), 62, 127),
-        ((64, 0, 3, 2), 63, 129),
-    ];
-    for (limits, room, bound) in rows {
-        let trace = worst(rt.alloc(), &config(&rt, limits), 3)
-            .ok()
-            .expect(&rt, "memory")
-            .expect(&rt, "another command can pass");
-        let last = trace.last().and_then(ended_by);
-        assert_eq!(rt; last, Some(room.saturating_sub(1)));
-        let came = (room as usize).saturating_add(3);
-        assert_eq!(rt; steps_behind(trace.as_slice(), came), bound);
-        let mut events = Vec::new(rt.alloc());
-        let mut entries = Vec::new(rt.alloc());
-        for (event, entry) in trace {
-            events.push(event).ok().expect(&rt, "memory");
-            entries.push(entry).ok().expect(&rt, "memory");
-        }
-        let picker = ByName {
-            connection: Connection::First,
-            reference: room,
-        };
-        let ran = run(rt.alloc(), config(&rt, limits), picker, events.as_slice())
-            .ok()
-            .expect(&rt, "memory");
-        assert_eq!(rt; ran.as_slice(), entries.as_slice());
-    }
+    is_run(&rt, (3, 0, 0, 1), 2, 2);
+    is_run(&rt, (3, 0, 2, 2), 2, 6);
+    is_run(&rt, (3, 0, 7, 2), 2, 11);
+    is_run(&rt, (2, 2, 0, 1), 2, 2);
+    is_run(&rt, (2, 2, 5, 3), 2, 11);
+    is_run(&rt, (4, 0, 9, 8), 3, 33);
+    is_run(&rt, (3, 4, 10, 4), 5, 30);
+    is_run(&rt, (2, 62, 3, 1), 62, 65);
+    is_run(&rt, (62, 2, 3, 2), 62, 127);
+    is_run(&rt, (64, 0, 3, 2), 63, 129);
 }
 
 /// Whether a trace of this unit is given.

@@ -1,7 +1,10 @@
 // A driver's loop, as docs/HOST.md has it, and what it does.
 
-use super::*;
+use super::{answer, read_end, status_bytes};
 use arrayvec::ArrayVec;
+use mscp_host::{Host, HostFault, News, Poll};
+use mscp_packet::{Command, End, MoveKind, Order, write_end};
+use std::process::Abort;
 
 /// A driver of one controller.
 #[derive(Drop)]
@@ -79,40 +82,58 @@ fn new_driver(rt: &impl Abort) -> Driver {
     }
 }
 
-/// What the driver does when this end comes.
-fn gets(driver: &mut Driver, end: End) -> Deed {
-    driver.on_end(write_end(&end).as_slice())
+/// A driver whose READ 1 of blocks 40 and 41 was sent.
+fn reading(rt: &impl Abort) -> Driver {
+    let mut driver = new_driver(rt);
+    assert!(rt; driver.read(1024, 40).is_some());
+    driver
+}
+
+/// The timer goes off: the poll of this number is to be sent, and the driver waits.
+fn polls(rt: &impl Abort, driver: &mut Driver, number: u8) {
+    let (poll, deed) = driver.on_timer();
+    let poll = poll.expect(rt, "a poll");
+    assert_eq!(rt; poll.as_slice(), status_bytes(number, 1).as_slice());
+    assert_eq!(rt; deed, Deed::Wait);
+}
+
+/// The timer goes off: no poll is to be sent, and the driver does this.
+fn times_out(rt: &impl Abort, driver: &mut Driver, wanted: Deed) {
+    assert_eq!(rt; driver.on_timer(), (None, wanted));
+}
+
+/// This end comes, and the driver does this.
+fn gets(rt: &impl Abort, driver: &mut Driver, end: End, wanted: Deed) {
+    assert_eq!(rt; driver.on_end(write_end(&end).as_slice()), wanted);
 }
 
 #[test]
 fn a_driver_waits_while_the_figure_falls(rt: HostRuntime) {
-    let mut driver = new_driver(&rt);
-    assert!(rt; driver.read(1024, 40).is_some());
-    for (number, figure) in [(2, 18), (3, 1)] {
-        let (poll, deed) = driver.on_timer();
-        let poll = poll.expect(&rt, "a poll");
-        assert_eq!(rt; poll.as_slice(), status_bytes(number, 1).as_slice());
-        assert_eq!(rt; deed, Deed::Wait);
-        let told = answer(u32::from(number), 1, figure);
-        assert_eq!(rt; gets(&mut driver, told), Deed::Wait);
-    }
-    assert_eq!(rt; gets(&mut driver, read_end(1)), Deed::Complete(read_end(1)));
-    assert_eq!(rt; driver.on_timer(), (None, Deed::Wait));
+    let mut driver = reading(&rt);
+    polls(&rt, &mut driver, 2);
+    gets(&rt, &mut driver, answer(2, 1, 18), Deed::Wait);
+    polls(&rt, &mut driver, 3);
+    gets(&rt, &mut driver, answer(3, 1, 1), Deed::Wait);
+    gets(&rt, &mut driver, read_end(1), Deed::Complete(read_end(1)));
+    times_out(&rt, &mut driver, Deed::Wait);
 }
 
+/// Of a READ the figure 18 was told, and then comes this answer: the driver resynchronises.
+fn resynchronises(rt: &impl Abort, told: End) {
+    let mut driver = reading(rt);
+    polls(rt, &mut driver, 2);
+    gets(rt, &mut driver, answer(2, 1, 18), Deed::Wait);
+    polls(rt, &mut driver, 3);
+    gets(rt, &mut driver, told, Deed::Resynchronise);
+}
+
+// Its figure stands, it has forgotten the command, it answers for another one, or it doesn't answer.
 #[test]
 fn a_driver_resynchronises_where_the_controller_stands(rt: HostRuntime) {
-    // Its figure stands, it has forgotten the command, it answers for another one, or it doesn't answer.
-    for told in [answer(3, 1, 18), answer(3, 1, 0), answer(3, 7, 5)] {
-        let mut driver = new_driver(&rt);
-        assert!(rt; driver.read(1024, 40).is_some());
-        assert!(rt; driver.on_timer().0.is_some());
-        assert_eq!(rt; gets(&mut driver, answer(2, 1, 18)), Deed::Wait);
-        assert!(rt; driver.on_timer().0.is_some());
-        assert_eq!(rt; gets(&mut driver, told), Deed::Resynchronise);
-    }
-    let mut silent = new_driver(&rt);
-    assert!(rt; silent.read(1024, 40).is_some());
-    assert!(rt; silent.on_timer().0.is_some());
-    assert_eq!(rt; silent.on_timer(), (None, Deed::Resynchronise));
+    resynchronises(&rt, answer(3, 1, 18));
+    resynchronises(&rt, answer(3, 1, 0));
+    resynchronises(&rt, answer(3, 7, 5));
+    let mut silent = reading(&rt);
+    polls(&rt, &mut silent, 2);
+    times_out(&rt, &mut silent, Deed::Resynchronise);
 }

@@ -69,6 +69,15 @@ impl Slots {
     }
 }
 
+/// The one slot in each ring. The text of a response lies at 0x0E04, so that its endcode is at 0x0E0C, and its status two
+/// bytes behind.
+pub(crate) const SLOTS: Slots = Slots {
+    responses: 0x0E84,
+    commands: 0x0E88,
+    response: 0x0E00,
+    command: 0x0E40,
+};
+
 /// A unit as an RD54 is one, but of few blocks.
 fn unit(rt: &impl Abort, number: u16) -> Unit {
     Unit::new(
@@ -115,6 +124,21 @@ impl Machine {
         }
     }
 
+    /// A machine whose port is up, with these slots.
+    pub fn up(rt: &impl Abort) -> Machine {
+        let mut machine = Machine::new(rt);
+        machine.come_up(rt, 0x0E84);
+        machine
+    }
+
+    /// The host goes through the initialisation, with one slot in each ring of this communication area, and no interrupts.
+    pub fn come_up(&mut self, rt: &impl Abort, area: u16) {
+        self.answer(rt, 0x0B40, 0x8000);
+        self.answer(rt, 0x1080, area);
+        self.answer(rt, 0x2000, 0x0000);
+        self.answer(rt, 0x4133, 0x0001);
+    }
+
     /// So many bytes of memory from an address on, if they are there.
     pub fn bytes(&self, address: u32, count: u32) -> Option<&[u8]> {
         let from = address as usize;
@@ -137,6 +161,21 @@ impl Machine {
             }
         }
         true
+    }
+
+    /// These bytes stand there.
+    pub fn shows(&self, rt: &impl Abort, address: u32, wanted: &[u8]) {
+        assert!(rt; self.has(address, wanted), "at {address}");
+    }
+
+    /// SA shows this.
+    pub fn has_sa(&self, rt: &impl Abort, shown: u16) {
+        assert_eq!(rt; self.port.read_sa(), shown);
+    }
+
+    /// So many interrupts came.
+    pub fn was_interrupted(&self, rt: &impl Abort, times: u32) {
+        assert_eq!(rt; self.interrupts, times);
     }
 
     /// Puts bytes into memory, if there is room for them.
@@ -235,7 +274,7 @@ impl Machine {
 
     /// Answers a step of the initialisation, in which SA shows this.
     pub fn answer(&mut self, rt: &impl Abort, shown: u16, word: u16) {
-        assert_eq!(rt; self.port.read_sa(), shown);
+        self.has_sa(rt, shown);
         self.port.write_sa(word);
         self.run(rt, 100);
     }

@@ -1,7 +1,6 @@
 // A port as bytes, and back.
 
-use super::machine::{Machine, Slots};
-use super::volumes::up;
+use super::machine::{Machine, SLOTS};
 use arrayvec::ArrayVec;
 use mscp_control::Sweep;
 use mscp_port::{Action, Outcome, Port, ROOM, RestoreFault};
@@ -18,9 +17,9 @@ const READ: [u8; 32] = [
 
 /// A machine that is to move the second block of that READ. Its unit 0 has a volume of which the host wants no news.
 fn in_the_middle(rt: &impl Abort) -> Machine {
-    let (mut machine, slots) = up(rt);
-    slots.send(rt, &mut machine, 12, &ONLINE);
-    slots.put(&mut machine, 32, &READ);
+    let mut machine = Machine::up(rt);
+    SLOTS.send(rt, &mut machine, 12, &ONLINE);
+    SLOTS.put(&mut machine, 32, &READ);
     for _ in 0..100 {
         if matches!(machine.port.next(), Action::Transfer { block: 4, .. }) {
             break;
@@ -80,43 +79,51 @@ fn the_bytes_are_these(rt: HostRuntime) {
     assert!(rt; saved[300..304] == b"MSCQ"[..]);
 }
 
+/// The host writes a word to SA of both.
+fn write(rt: &impl Abort, stays: &mut Machine, moves: &mut Machine, word: u16) {
+    stays.port.write_sa(word);
+    moves.port.write_sa(word);
+    go_on_alike(rt, stays, moves);
+}
+
+/// It sends a message to both.
+fn send(rt: &impl Abort, stays: &mut Machine, moves: &mut Machine, message: &[u8]) {
+    SLOTS.put(stays, message.len() as u32, message);
+    SLOTS.put(moves, message.len() as u32, message);
+    go_on_alike(rt, stays, moves);
+}
+
 /// A port that is saved and restored before each action, and one that stays, do the same.
 #[test]
 fn a_port_goes_on_from_its_bytes(rt: HostRuntime) {
     let mut stays = Machine::new(&rt);
     let mut moves = Machine::new(&rt);
-    let words = [0x809B, 0x0E84, 0x0000, 0x0001];
-    let slots = Slots {
-        responses: 0x0E84,
-        commands: 0x0E88,
-        response: 0x0E00,
-        command: 0x0E40,
-    };
-    for word in words {
-        stays.port.write_sa(word);
-        moves.port.write_sa(word);
-        go_on_alike(&rt, &mut stays, &mut moves);
-    }
-    for message in [&ONLINE[..], &READ[..]] {
-        slots.put(&mut stays, message.len() as u32, message);
-        slots.put(&mut moves, message.len() as u32, message);
-        go_on_alike(&rt, &mut stays, &mut moves);
-    }
-    assert!(rt; moves.has(0x0E0C, &[0xA1, 0, 0, 0]));
-    assert!(rt; moves.has(0x0400, &[3, 4, 5, 6]));
-    assert_eq!(rt; stays.interrupts, 3);
+    write(&rt, &mut stays, &mut moves, 0x809B);
+    write(&rt, &mut stays, &mut moves, 0x0E84);
+    write(&rt, &mut stays, &mut moves, 0x0000);
+    write(&rt, &mut stays, &mut moves, 0x0001);
+    send(&rt, &mut stays, &mut moves, &ONLINE);
+    send(&rt, &mut stays, &mut moves, &READ);
+    moves.shows(&rt, 0x0E0C, &[0xA1, 0, 0, 0]);
+    moves.shows(&rt, 0x0400, &[3, 4, 5, 6]);
+    stays.was_interrupted(&rt, 3);
+}
+
+/// One action of both, of which the second one is another port before. Whether there was one.
+fn act_alike(rt: &impl Abort, stays: &mut Machine, moves: &mut Machine) -> bool {
+    moves.port = again(rt, &moves.port);
+    let acted = stays.act(rt);
+    assert_eq!(rt; moves.act(rt), acted);
+    assert!(rt; moves.port.save(7).as_slice() == stays.port.save(7).as_slice());
+    assert!(rt; moves.memory[..] == stays.memory[..]);
+    moves.was_interrupted(rt, stays.interrupts);
+    acted
 }
 
 /// Both do what they want until they rest, and the second one is another port each time.
 fn go_on_alike(rt: &impl Abort, stays: &mut Machine, moves: &mut Machine) {
     for _ in 0..100 {
-        moves.port = again(rt, &moves.port);
-        let acted = stays.act(rt);
-        assert_eq!(rt; moves.act(rt), acted);
-        assert!(rt; moves.port.save(7).as_slice() == stays.port.save(7).as_slice());
-        assert!(rt; moves.memory[..] == stays.memory[..]);
-        assert_eq!(rt; moves.interrupts, stays.interrupts);
-        if !acted {
+        if !act_alike(rt, stays, moves) {
             return;
         }
     }
@@ -133,37 +140,45 @@ fn with(bytes: &[u8], place: usize, byte: u8) -> ArrayVec<u8, ROOM> {
     edited
 }
 
+/// These bytes with another one at a place have this fault.
+fn has_fault(rt: &impl Abort, saved: &[u8], place: usize, byte: u8, fault: RestoreFault) {
+    let bytes = with(saved, place, byte);
+    assert!(rt; Port::restore(bytes.as_slice(), 7, Sweep).err() == Some(fault));
+}
+
 #[test]
 fn other_bytes_are_refused(rt: HostRuntime) {
     let saved = in_the_middle(&rt).port.save(7);
-    let faults = [
-        // the length, a text of 49 bytes, 65 commands, and more of either than there are bytes
-        (8, 14, RestoreFault::Length),
-        (70, 49, RestoreFault::Length),
-        (71, 65, RestoreFault::Length),
-        (71, 13, RestoreFault::Length),
-        (0, 0, RestoreFault::Magic),
-        (4, 2, RestoreFault::Version),
-        // a controller that begins elsewhere, by a command that isn't kept, or isn't one
-        (71, 0, RestoreFault::Controller(ControllerFault::Length)),
-        (300, 0, RestoreFault::Controller(ControllerFault::Magic)),
-        // no bus, no flag, no stage, a word where there is none, no ring, no task, no kind, a text where nothing goes out
-        (12, 3, RestoreFault::Form),
-        (20, 2, RestoreFault::Form),
-        (33, 10, RestoreFault::Form),
-        (34, 1, RestoreFault::Form),
-        (37, 1, RestoreFault::Form),
-        (44, 129, RestoreFault::Form),
-        (48, 0, RestoreFault::Form),
-        (52, 15, RestoreFault::Form),
-        (68, 6, RestoreFault::Form),
-        (69, 3, RestoreFault::Form),
-        (94, 1, RestoreFault::Form),
-    ];
-    for (place, byte, fault) in faults {
-        let bytes = with(&saved, place, byte);
-        assert!(rt; Port::restore(bytes.as_slice(), 7, Sweep).err() == Some(fault));
-    }
+    // The length, a text of 49 bytes, 65 commands, and more of either than there are bytes.
+    has_fault(&rt, &saved, 8, 14, RestoreFault::Length);
+    has_fault(&rt, &saved, 70, 49, RestoreFault::Length);
+    has_fault(&rt, &saved, 71, 65, RestoreFault::Length);
+    has_fault(&rt, &saved, 71, 13, RestoreFault::Length);
+    has_fault(&rt, &saved, 0, 0, RestoreFault::Magic);
+    has_fault(&rt, &saved, 4, 2, RestoreFault::Version);
+    // A controller that begins elsewhere, by a command that isn't kept, or isn't one.
+    let length = RestoreFault::Controller(ControllerFault::Length);
+    has_fault(&rt, &saved, 71, 0, length);
+    let magic = RestoreFault::Controller(ControllerFault::Magic);
+    has_fault(&rt, &saved, 300, 0, magic);
+}
+
+#[test]
+fn bytes_of_no_form_are_refused(rt: HostRuntime) {
+    let saved = in_the_middle(&rt).port.save(7);
+    // No bus, no flag, no stage, a word where there is none.
+    has_fault(&rt, &saved, 12, 3, RestoreFault::Form);
+    has_fault(&rt, &saved, 20, 2, RestoreFault::Form);
+    has_fault(&rt, &saved, 33, 10, RestoreFault::Form);
+    has_fault(&rt, &saved, 34, 1, RestoreFault::Form);
+    has_fault(&rt, &saved, 37, 1, RestoreFault::Form);
+    // No ring, no task, no kind, a text where nothing goes out.
+    has_fault(&rt, &saved, 44, 129, RestoreFault::Form);
+    has_fault(&rt, &saved, 48, 0, RestoreFault::Form);
+    has_fault(&rt, &saved, 52, 15, RestoreFault::Form);
+    has_fault(&rt, &saved, 68, 6, RestoreFault::Form);
+    has_fault(&rt, &saved, 69, 3, RestoreFault::Form);
+    has_fault(&rt, &saved, 94, 1, RestoreFault::Form);
 }
 
 /// What comes of all of these bytes but the last.
@@ -181,6 +196,19 @@ fn another_picker_and_fewer_bytes_are_refused(rt: HostRuntime) {
     assert!(rt; Port::restore(&[], 7, Sweep).err() == Some(RestoreFault::Length));
 }
 
+/// Whether these bytes are a port's. It is saved as they are, and what comes then does no harm.
+fn goes_on(rt: &impl Abort, bytes: &[u8]) -> bool {
+    let Ok(mut port) = Port::restore(bytes, 7, Sweep) else {
+        return false;
+    };
+    assert!(rt; port.save(7).as_slice() == bytes);
+    let _ = port.next();
+    let _ = port.went(Outcome::Done);
+    let _ = port.next();
+    port.tick();
+    true
+}
+
 /// What a flipped bit says is saved as it stands, and does no harm.
 #[test]
 fn a_flipped_bit_does_no_harm(rt: HostRuntime) {
@@ -189,13 +217,8 @@ fn a_flipped_bit_does_no_harm(rt: HostRuntime) {
     for place in 0..saved.len() {
         for mask in [1, 2, 4, 8, 16, 32, 64, 128] {
             let bytes = with(&saved, place, saved[place] ^ mask);
-            if let Ok(mut port) = Port::restore(bytes.as_slice(), 7, Sweep) {
+            if goes_on(&rt, bytes.as_slice()) {
                 restored = restored.saturating_add(1);
-                assert!(rt; port.save(7).as_slice() == bytes.as_slice());
-                let _ = port.next();
-                let _ = port.went(Outcome::Done);
-                let _ = port.next();
-                port.tick();
             }
         }
     }

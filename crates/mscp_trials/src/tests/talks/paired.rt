@@ -1,133 +1,72 @@
 // Two hosts that talk with one controller, and one whose connection isn't there.
 
 use super::*;
+use crate::tests::values::{abort_ended, command};
 
-const SECOND: Connection = Connection::Second;
-
-/// READ 1 of 1024 bytes by a connection, which are two blocks, at this block.
-fn read_by(connection: Connection, block: u32) -> Turn {
-    let command = Command {
-        reference: 1,
-        unit: 0,
-        order: Order::Move(MoveKind::Read, 1024, block),
-    };
-    Turn::Submit(connection, command)
+/// READ 1 of 1024 bytes, which are two blocks, at this block.
+fn two_at(block: u32) -> Command {
+    read(1, 1024, block)
 }
 
-/// A step that serves READ 1 of a connection.
-fn served_by(
-    connection: Connection,
-    lbn: u32,
-    started: bool,
-    seek: u32,
-    ended: Option<End>,
-) -> Heard {
-    Heard::Stepped(Report::Served {
-        connection,
-        reference: 1,
-        unit: 0,
-        lbn: Some(lbn),
-        started,
-        seek,
-        ended,
-    })
+/// Each of them has a READ 1, and polls it under this number. The ends say this to the first and to the second.
+fn both_poll(rt: &impl Abort, told: &mut Told, reference: u32, first: News, second: News) {
+    told.polls(rt, FIRST, reference, Heard::Asked);
+    told.polls(rt, SECOND, reference, Heard::Asked);
+    told.takes(rt, SECOND, Heard::News(second));
+    told.takes(rt, FIRST, Heard::News(first));
 }
 
-/// The end of READ 1, of which one block was read before it was aborted.
-fn aborted_end() -> End {
-    End {
-        reference: 1,
-        unit: 0,
-        code: 0xA1,
-        status: 2,
-        body: EndBody::Moved(512),
-    }
-}
-
-/// The end of ABORT 2 of command 1.
-fn abort_end() -> End {
-    End {
-        reference: 2,
-        unit: 0,
-        code: 0x81,
-        status: 0,
-        body: EndBody::Abort(1),
-    }
-}
-
-/// After these turns this is heard, where unit 0 came online before and the second connection has 4 credits.
-fn hear(rt: &impl Abort, alloc: Global, turns: &[(Turn, Heard)]) {
-    let mut all = Vec::new(alloc);
-    let mut told = Vec::new(alloc);
-    for turn in [online(), STEP, Turn::Take(FIRST)] {
-        all.push(turn).ok().expect(rt, "memory");
-    }
-    for heard in online_told() {
-        told.push(heard).ok().expect(rt, "memory");
-    }
-    for (turn, heard) in turns {
-        all.push(*turn).ok().expect(rt, "memory");
-        told.push(*heard).ok().expect(rt, "memory");
-    }
-    let talk = talk_of(rt, alloc, 4, &all);
-    assert_eq!(rt; talk.heard.as_slice(), told.as_slice());
-}
-
-// Each host has a READ 1, and polls it under the same numbers. A step lies between any two polls of one command.
-#[test]
-fn each_host_has_its_own_commands(rt: HostRuntime) {
-    let abort = Command {
-        reference: 2,
-        unit: 0,
-        order: Order::Abort(1),
-    };
+/// The first host aborts its READ, of which one block was read. The second hears nothing of it.
+fn first_aborts(rt: &impl Abort, told: &mut Told) {
+    let abort = command(2, Order::Abort(1));
     let answered = Sent::Answered {
         reference: 2,
         aborted: Some(1),
     };
-    let turns = [
-        (read_by(FIRST, 40), QUEUED),
-        (read_by(SECOND, 60), QUEUED),
-        (Turn::Poll(FIRST, 10), Heard::Asked),
-        (Turn::Poll(SECOND, 10), Heard::Asked),
-        (Turn::Take(SECOND), Heard::News(News::First(20))),
-        (Turn::Take(FIRST), Heard::News(News::First(18))),
-        (STEP, served_by(FIRST, 40, true, 2, None)),
-        (Turn::Poll(FIRST, 11), Heard::Asked),
-        (Turn::Poll(SECOND, 11), Heard::Asked),
-        (Turn::Take(SECOND), Heard::News(News::Progress(19))),
-        (Turn::Take(FIRST), Heard::News(News::Progress(1))),
-        (Turn::Submit(FIRST, abort), Heard::Submitted(answered)),
-        (Turn::Take(SECOND), Heard::Quiet),
-        (Turn::Take(FIRST), Heard::News(News::Ended(aborted_end()))),
-        (Turn::Take(FIRST), Heard::News(News::Ended(abort_end()))),
-        (Turn::Poll(FIRST, 12), Heard::Nothing),
-        (STEP, served_by(SECOND, 60, true, 1, None)),
-        (Turn::Poll(SECOND, 12), Heard::Asked),
-        (Turn::Take(SECOND), Heard::News(News::Progress(1))),
-        (STEP, served_by(SECOND, 61, false, 0, Some(read_end()))),
-        (Turn::Take(FIRST), Heard::Quiet),
-        (Turn::Take(SECOND), Heard::News(News::Ended(read_end()))),
-        (Turn::Poll(SECOND, 13), Heard::Nothing),
-    ];
-    hear(&rt, rt.alloc(), &turns);
+    let read = News::Ended(read_ended(1, 2, 512));
+    let own = News::Ended(abort_ended(2, 1));
+    told.hears(rt, Turn::Submit(FIRST, abort), Heard::Submitted(answered));
+    told.takes(rt, SECOND, Heard::Quiet);
+    told.takes(rt, FIRST, Heard::News(read));
+    told.takes(rt, FIRST, Heard::News(own));
+    told.polls(rt, FIRST, 12, Heard::Nothing);
+}
+
+/// The second host's READ is served to its end. The first hears nothing of it.
+fn second_is_served(rt: &impl Abort, told: &mut Told) {
+    let first = served(SECOND, 1, Some(60), true, 1, None);
+    let last = served(SECOND, 1, Some(61), false, 0, Some(two_ended()));
+    told.steps(rt, first);
+    told.polls(rt, SECOND, 12, Heard::Asked);
+    told.takes(rt, SECOND, Heard::News(News::Progress(1)));
+    told.steps(rt, last);
+    told.takes(rt, FIRST, Heard::Quiet);
+    told.takes(rt, SECOND, Heard::News(News::Ended(two_ended())));
+    told.polls(rt, SECOND, 13, Heard::Nothing);
+}
+
+// A step lies between any two polls of one command.
+#[test]
+fn each_host_has_its_own_commands(rt: HostRuntime) {
+    let mut told = Told::online(&rt);
+    told.queues(&rt, FIRST, two_at(40));
+    told.queues(&rt, SECOND, two_at(60));
+    both_poll(&rt, &mut told, 10, News::First(18), News::First(20));
+    told.steps(&rt, first(2));
+    both_poll(&rt, &mut told, 11, News::Progress(1), News::Progress(19));
+    first_aborts(&rt, &mut told);
+    second_is_served(&rt, &mut told);
+    let _talk = told.talk(&rt, 4);
 }
 
 // A host that has no connection has no credit, nothing to poll, and no end. Its take comes to the controller.
 #[test]
 fn an_absent_host_sends_nothing(rt: HostRuntime) {
-    let turns = [
-        read_by(SECOND, 40),
-        Turn::Poll(SECOND, 10),
-        Turn::Take(SECOND),
-    ];
-    let wanted = [
-        Heard::Refused(HostFault::NoCredit),
-        Heard::Nothing,
-        Heard::Quiet,
-    ];
-    let talk = talk(&rt, rt.alloc(), &turns);
-    assert_eq!(rt; talk.heard.as_slice(), wanted.as_slice());
-    let trace = [(Event::Take(SECOND), Entry::Taken(SECOND, None))];
-    assert_eq!(rt; talk.trace.as_slice(), trace.as_slice());
+    let mut told = Told::new(&rt);
+    told.refuses(&rt, SECOND, two_at(40), HostFault::NoCredit);
+    told.polls(&rt, SECOND, 10, Heard::Nothing);
+    told.takes(&rt, SECOND, Heard::Quiet);
+    let mut came = Moments::new(&rt);
+    came.takes_nothing(&rt, SECOND);
+    came.are(&rt, told.talk(&rt, 0).trace.as_slice());
 }

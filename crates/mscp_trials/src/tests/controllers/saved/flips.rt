@@ -5,14 +5,13 @@ use super::*;
 /// Some of both connections wait, ends weren't taken, and one was passed.
 fn mixed(rt: &impl Abort) -> Controller<Sweep> {
     let mut both = controller(rt, 6, 8, 16);
-    let _online = send(rt, &mut both, FIRST, 900, Order::Online);
-    let _served = both.step(Block::Good);
-    let _read = send(rt, &mut both, SECOND, 1, transfer(MoveKind::Read, 3, 100));
-    let _erase = send(rt, &mut both, FIRST, 1, transfer(MoveKind::Erase, 2, 7));
+    come_online(rt, &mut both);
+    send(rt, &mut both, SECOND, 1, transfer(MoveKind::Read, 3, 100));
+    send(rt, &mut both, FIRST, 1, transfer(MoveKind::Erase, 2, 7));
     let _passed = both.step(Block::Good);
     assert_eq!(rt; both.most_passed(), 2);
-    let _later = send(rt, &mut both, FIRST, 2, Order::Available);
-    let _poll = send(rt, &mut both, SECOND, 8, Order::Status(1));
+    send(rt, &mut both, FIRST, 2, Order::Available);
+    send(rt, &mut both, SECOND, 8, Order::Status(1));
     both
 }
 
@@ -35,29 +34,35 @@ fn run_on(rt: &impl Abort, controller: &mut Controller<Sweep>) {
     controller.reset();
 }
 
-/// How many of all flips are a controller's bytes again: those are saved as they are, and run on.
-fn count_taken(rt: &impl Abort, saved: &[u8]) -> usize {
+/// Whether these bytes are a controller's: it is saved as they are, and runs on.
+fn goes_on(rt: &impl Abort, bytes: &[u8]) -> bool {
+    let Ok(mut again) = restore(bytes, 7, Sweep) else {
+        return false;
+    };
+    is_saved_as(rt, &again, bytes);
+    run_on(rt, &mut again);
+    true
+}
+
+/// At least so many of all flips are a controller's bytes again.
+fn are_taken(rt: &impl Abort, saved: &[u8], least: usize) {
     let mut count: usize = 0;
     for place in 0..saved.len() {
         for mask in [1, 2, 4, 8, 16, 32, 64, 128] {
             let flipped = [saved[place] ^ mask];
             let bytes = joined(rt, &[&saved[..place], &flipped, &saved[place + 1..]]);
-            if let Ok(mut again) = restore(bytes.as_slice(), 7, Sweep) {
-                assert!(rt; save(&again, 7).as_slice() == bytes.as_slice());
-                run_on(rt, &mut again);
+            if goes_on(rt, bytes.as_slice()) {
                 count = count.saturating_add(1);
             }
         }
     }
-    count
+    assert!(rt; count >= least);
 }
 
 #[test]
 fn a_flipped_bit_does_no_harm(rt: HostRuntime) {
     // Any numbers may stand for the controller's identifier and those of its unit: these are 192 bits.
-    let fresh = save(&controller(&rt, 4, 2, 16), 7);
-    assert!(rt; count_taken(&rt, fresh.as_slice()) >= 192);
-    assert!(rt; count_taken(&rt, small(&rt).as_slice()) >= 192);
-    let mixed = save(&mixed(&rt), 7);
-    assert!(rt; count_taken(&rt, mixed.as_slice()) >= 192);
+    are_taken(&rt, save(&controller(&rt, 4, 2, 16), 7).as_slice(), 192);
+    are_taken(&rt, small(&rt).as_slice(), 192);
+    are_taken(&rt, save(&mixed(&rt), 7).as_slice(), 192);
 }
