@@ -2,8 +2,6 @@
 #![tactic(auto)]
 
 mod head;
-#[cfg(test)]
-mod tests;
 mod unit;
 mod units;
 

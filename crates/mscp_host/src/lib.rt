@@ -7,8 +7,6 @@ mod outstanding;
 mod restoring;
 mod saving;
 mod submission;
-#[cfg(test)]
-mod tests;
 mod watch;
 
 pub use crate::host::Host;

@@ -8,8 +8,6 @@ pub mod fields;
 mod law;
 mod reading;
 pub mod status;
-#[cfg(test)]
-mod tests;
 mod writing;
 
 pub use crate::class::{Class, class_of};

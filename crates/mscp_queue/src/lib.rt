@@ -17,8 +17,6 @@ mod roll;
 mod service;
 mod slots;
 mod start;
-#[cfg(test)]
-mod tests;
 mod upcoming;
 mod view;
 mod why;

@@ -160,6 +160,3 @@ pub(crate) fn serve(drive: &Drive, served: &Record, block: &Block) -> Service
         },
     }
 }
-
-#[cfg(test)]
-mod tests;

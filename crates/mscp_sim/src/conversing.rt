@@ -9,9 +9,6 @@ ghost use Rattle.mscp_sim.specs.TwoEnds.{AreTwoEnds};
 ghost use Rattle.mscp_sim.specs.Matches.{Match};
 ghost use Rattle.mscp_sim.specs.Rooms.{HasRoom};
 
-#[cfg(test)]
-mod tests;
-
 use crate::hosts::Hosts;
 use arrayvec::ArrayVec;
 use mscp_control::{

@@ -1,4 +1,4 @@
-//! Trials of the whole by its public calls, as the crate's tests; and memory that is refused once, for them.
+//! Trials of all libraries by their public calls, as the crate's tests; and memory that is refused once, for them.
 #![tactic(auto)]
 
 mod scarce;

@@ -1,9 +1,10 @@
 // No call says that memory is wanted where there is some: not where there is nothing to do, not for any opcode or length,
 // and not at any count of events or turns.
 
+use super::HEADER;
 use super::messages::{TABLE, message};
 use super::streams::simulated;
-use super::{HEADER, config};
+use super::values::config;
 use arrayvec::ArrayVec;
 use mscp_control::{Block, Connection, Event, Sweep, run};
 use mscp_script::{ShowFault, read_script, report, show_packet};

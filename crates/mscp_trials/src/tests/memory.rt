@@ -1,15 +1,15 @@
 // Memory that is refused: at the first request of a call, at the second, and so on, until a run asks less often than that.
 // Each refusal is told, and nothing is kept of what was handed out before it. The last run gives what the call promises.
 
-use super::config;
 use super::first::{REPORT, SCRIPT};
+use super::moments::event_of;
 use super::streams::{NEVER, reading, writing};
+use super::values::{FIRST, command, config};
 use crate::Scarce;
-use arrayvec::ArrayVec;
 use linked_list_allocator::LocalHeap;
-use mscp_control::{Block, Connection, Entry, Event, OutOfMemory, Sweep, run, run_in};
+use mscp_control::{Block, Entry, Event, OutOfMemory, Sweep, run, run_in};
 use mscp_host::News;
-use mscp_packet::{Command, MoveKind, Order, write_command};
+use mscp_packet::{MoveKind, Order, write_command};
 use mscp_script::{
     ReadFault, ShowFault, SimFault, read_script, read_script_in, report, report_in, show_packet_in,
     simulate_in,
@@ -30,16 +30,8 @@ fn nothing_is_kept(rt: &impl Abort, heap: &Scarce<Global>, is_refused: bool) {
 }
 
 fn sent(rt: &impl Abort, reference: u32, order: Order) -> Event {
-    let command = Command {
-        reference,
-        unit: 0,
-        order,
-    };
-    let mut message = ArrayVec::new();
-    message
-        .try_extend_from_slice(write_command(&command).as_slice())
-        .expect(rt, "room");
-    Event::Send(Connection::First, message)
+    let message = write_command(&command(reference, order));
+    event_of(rt, FIRST, message.as_slice())
 }
 
 /// Unit 0 is online. READ 1 is far away, and READ 2, of four blocks, passes it; then READ 2 is aborted.
@@ -47,7 +39,7 @@ fn passed_and_aborted(rt: &impl Abort) -> [Event; 10] {
     [
         sent(rt, 900, Order::Online),
         Event::Step(Block::Good),
-        Event::Take(Connection::First),
+        Event::Take(FIRST),
         sent(rt, 1, Order::Move(MoveKind::Read, 512, 800)),
         sent(rt, 2, Order::Move(MoveKind::Read, 2048, 0)),
         Event::Look,
@@ -99,10 +91,7 @@ fn run_is_refused_memory(rt: HostRuntime) -> Result<(), Fail> {
 fn run_asks_for_the_entries_alone(rt: HostRuntime) {
     let mut events = Vec::new(rt.alloc());
     for _take in 0..1000 {
-        events
-            .push(Event::Take(Connection::First))
-            .ok()
-            .expect(&rt, "memory");
+        events.push(Event::Take(FIRST)).ok().expect(&rt, "memory");
     }
     let bytes = 1000 * size_of::<Entry>();
     let heap = LocalHeap::new(rt.alloc(), bytes).ok().expect(&rt, "memory");
@@ -245,15 +234,10 @@ fn show_packet_is_refused_memory(rt: HostRuntime) {
 }
 
 fn submit(reference: u32, order: Order) -> Turn {
-    let command = Command {
-        reference,
-        unit: 0,
-        order,
-    };
-    Turn::Submit(Connection::First, command)
+    Turn::Submit(FIRST, command(reference, order))
 }
 
-const TAKE: Turn = Turn::Take(Connection::First);
+const TAKE: Turn = Turn::Take(FIRST);
 
 /// Unit 0 comes online. A READ is polled twice, and no step lies between.
 fn polled_twice() -> [Turn; 8] {
@@ -262,9 +246,9 @@ fn polled_twice() -> [Turn; 8] {
         Turn::Step(Block::Good),
         TAKE,
         submit(1, Order::Move(MoveKind::Read, 1024, 40)),
-        Turn::Poll(Connection::First, 10),
+        Turn::Poll(FIRST, 10),
         TAKE,
-        Turn::Poll(Connection::First, 11),
+        Turn::Poll(FIRST, 11),
         TAKE,
     ]
 }

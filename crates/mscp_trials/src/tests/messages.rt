@@ -1,7 +1,7 @@
 // Every opcode, in every length, of zeros and of ones: each comes to a controller of its own. What is wanted is worked out
 // from the table of opcodes below, and from the rules of arrival.
 
-use super::config;
+use super::values::config;
 use arrayvec::ArrayVec;
 use mscp_control::{Connection, Controller, Oldest, SendFault, Sent};
 use std::process::Abort;

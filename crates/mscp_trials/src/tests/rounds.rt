@@ -2,27 +2,14 @@
 
 ghost use Rattle.std.specs.Prelude.{◌<◌, ◌≤◌};
 
-use super::config;
-use mscp_control::{Block, Connection, Controller, Picker, Report, Sent, View, run};
-use mscp_packet::{Command, End, EndBody, MoveKind, Order, write_command};
+use super::calls::{bring_online, has_figure, queues, steps, takes_nothing};
+use super::controllers::Newest;
+use super::values::{FIRST, config, read, read_ended, served};
+use mscp_control::{Block, Controller, Report, run};
 use mscp_script::{read_script, report};
 use sha2::{Digest, Sha256};
 use std::process::Abort;
 use std::test::Fail;
-
-/// Picks the newest command that may start.
-#[derive(Drop)]
-struct Newest;
-
-impl Picker for Newest {
-    ghost use Rattle.std.specs.Prelude.{◌≡◌, ◌+◌, length};
-
-    ghost picks = { λ _ view place. place + 1 ≡ length view };
-
-    fn pick(&self, view: &View) -> usize {
-        view.choices().len().saturating_sub(1)
-    }
-}
 
 /// The longest transfer.
 const BLOCKS: u32 = 8;
@@ -41,37 +28,12 @@ fn first_block(number: u32) -> u32
     number * 37 % 900
 }
 
-fn send(rt: &impl Abort, controller: &mut Controller<Newest>, reference: u32, order: Order) {
-    let command = Command {
-        reference,
-        unit: 0,
-        order,
-    };
-    let sent = controller
-        .send(Connection::First, write_command(&command).as_slice())
-        .ok()
-        .expect(rt, "credit");
-    assert_eq!(rt; sent, Sent::Queued(reference));
-}
-
 /// The step that serves the block of a command, when the head is on this block's cylinder: there are 20 blocks on one.
-fn served(reference: u32, lbn: u32, place: u32, from: u32) -> Report {
-    let end = End {
-        reference,
-        unit: 0,
-        code: 0xA1,
-        status: 0,
-        body: EndBody::Moved(512 * 8),
-    };
-    Report::Served {
-        connection: Connection::First,
-        reference,
-        unit: 0,
-        lbn: Some(lbn),
-        started: place == 0,
-        seek: (lbn / 20).abs_diff(from / 20),
-        ended: if place == 7 { Some(end) } else { None },
-    }
+fn serving(reference: u32, lbn: u32, place: u32, from: u32) -> Report {
+    let end = read_ended(reference, 0, 512 * 8);
+    let ended = if place == 7 { Some(end) } else { None };
+    let seek = (lbn / 20).abs_diff(from / 20);
+    served(FIRST, reference, Some(lbn), place == 0, seek, ended)
 }
 
 /// Serves a READ to its end, from where the head is, and answers where it is then.
@@ -81,42 +43,51 @@ fn serve(rt: &impl Abort, controller: &mut Controller<Newest>, reference: u32, f
     let first = first_block(reference);
     let mut head = from;
     for place in 0..BLOCKS {
-        let report = controller.step(Block::Good);
-        assert_eq!(rt;
-            report,
-            served(reference, first + place, place, head),
-            "block {place} of {reference}"
-        );
+        let report = serving(reference, first + place, place, head);
+        steps(rt, controller, Block::Good, report);
         head = first + place;
     }
     head
 }
 
-// The figure of the first is its own blocks and the budget less the blocks of those that passed it. A later one waits for all
-// before it too.
+/// Fills all places. A later one waits for all before it too.
+fn fill(rt: &impl Abort, controller: &mut Controller<Newest>) {
+    for number in 1..64u32 {
+        let read = read(number, 512 * BLOCKS, first_block(number));
+        queues(rt, controller, FIRST, &read);
+        has_figure(rt, controller, FIRST, number, BLOCKS * number + BUDGET);
+    }
+}
+
+/// Empties them, with the head here, and answers where it is then. The figure of the first is its own blocks and the budget
+/// less the blocks of those that passed it.
+fn empty(rt: &impl Abort, controller: &mut Controller<Newest>, from: u32) -> u32 {
+    let mut head = from;
+    for passed in 0..PLACES {
+        let figure = BLOCKS + BUDGET - BLOCKS * passed;
+        has_figure(rt, controller, FIRST, 1, figure);
+        head = serve(rt, controller, PLACES - passed, head);
+    }
+    head
+}
+
+/// Takes an end of each.
+fn take_all(rt: &impl Abort, controller: &mut Controller<Newest>) {
+    for _number in 0..PLACES {
+        assert!(rt; controller.take(FIRST).is_some());
+    }
+    takes_nothing(rt, controller, FIRST);
+}
+
 #[test]
 fn sixty_three_places_are_filled_and_emptied(rt: HostRuntime) {
     let mut controller = Controller::new(config(&rt, 64, u64::from(BUDGET)), Newest);
-    send(&rt, &mut controller, 99, Order::Online);
-    let _online = controller.step(Block::Good);
-    assert!(rt; controller.take(Connection::First).is_some());
+    bring_online(&rt, &mut controller, 0);
     let mut head = 0;
     for _round in 0..100 {
-        for number in 1..64u32 {
-            let read = Order::Move(MoveKind::Read, 512 * BLOCKS, first_block(number));
-            send(&rt, &mut controller, number, read);
-            let figure = controller.figure(Connection::First, number);
-            assert_eq!(rt; figure, BLOCKS * number + BUDGET);
-        }
-        for passed in 0..PLACES {
-            let figure = controller.figure(Connection::First, 1);
-            assert_eq!(rt; figure, BLOCKS + BUDGET - BLOCKS * passed);
-            head = serve(&rt, &mut controller, PLACES - passed, head);
-        }
-        for _number in 0..PLACES {
-            assert!(rt; controller.take(Connection::First).is_some());
-        }
-        assert!(rt; controller.take(Connection::First).is_none());
+        fill(&rt, &mut controller);
+        head = empty(&rt, &mut controller, head);
+        take_all(&rt, &mut controller);
     }
 }
 

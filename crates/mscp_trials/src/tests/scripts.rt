@@ -1,9 +1,10 @@
 // Scripts at their limits, and scripts that mean no good: what is said of each is the same whether its events are listed or
 // run as they are read.
 
+use super::HEADER;
 use super::first::{REPORT, SCRIPT};
 use super::streams::simulated;
-use super::{HEADER, config};
+use super::values::config;
 use mscp_control::{Sweep, run};
 use mscp_script::{read_script, report};
 use std::fmt::Write;

@@ -1,0 +1,134 @@
+// Who is served, under one picker and under another.
+
+use super::Newest;
+use crate::tests::calls::{bring_online, queues};
+use crate::tests::values::{FIRST, command, limits, read, unit};
+use mscp_control::{Block, Controller, Oldest, Picker, Report, Sweep};
+use mscp_packet::{Command, Order};
+use std::process::Abort;
+
+/// A controller of two units with 8 credits, which may pass each command by so many blocks.
+fn controller<K: Picker>(rt: &impl Abort, budget: u64, picker: K) -> Controller<K> {
+    let config = limits(rt, (8, 0), budget, &[unit(rt, 0), unit(rt, 1)]);
+    let mut controller = Controller::new(config, picker);
+    bring_online(rt, &mut controller, 0);
+    bring_online(rt, &mut controller, 1);
+    controller
+}
+
+/// A READ of one block.
+fn one(reference: u32, unit: u16, block: u32) -> Command {
+    Command {
+        unit,
+        ..read(reference, 512, block)
+    }
+}
+
+fn send<K: Picker>(rt: &impl Abort, controller: &mut Controller<K>, commands: &[Command]) {
+    for command in commands {
+        queues(rt, controller, FIRST, command);
+    }
+}
+
+/// The command that a step serves, 0 if none waits.
+fn next<K: Picker>(controller: &mut Controller<K>) -> u32 {
+    match controller.step(Block::Good) {
+        Report::Served { reference, .. } => reference,
+        Report::Idle => 0,
+    }
+}
+
+/// Of these commands, with this budget, four steps serve these.
+fn serves_of<K: Picker + Drop>(
+    rt: &impl Abort,
+    budget: u64,
+    picker: K,
+    commands: &[Command; 4],
+    wanted: [u32; 4],
+) {
+    let mut controller = controller(rt, budget, picker);
+    send(rt, &mut controller, commands);
+    are_next(rt, &mut controller, wanted);
+}
+
+/// Four steps serve these.
+fn are_next<K: Picker>(rt: &impl Abort, controller: &mut Controller<K>, wanted: [u32; 4]) {
+    for reference in wanted {
+        assert_eq!(rt; next(controller), reference, "of {wanted:?}");
+    }
+}
+
+// A SET UNIT CHARACTERISTICS stands between two reads of its unit, beside a read of another unit.
+#[test]
+fn a_fence_is_one_units(rt: HostRuntime) {
+    let fence = command(2, Order::SetUnit);
+    let fenced = [one(1, 0, 400), fence, one(3, 0, 0), one(4, 1, 0)];
+    serves_of(&rt, 2, Oldest, &fenced, [1, 2, 3, 4]);
+    serves_of(&rt, 2, Newest, &fenced, [4, 1, 2, 3]);
+}
+
+#[test]
+fn a_command_is_passed_by_the_budget_at_most(rt: HostRuntime) {
+    let reads = [one(1, 0, 0), one(2, 1, 0), one(3, 1, 0), one(4, 1, 0)];
+    serves_of(&rt, 2, Oldest, &reads, [1, 2, 3, 4]);
+    serves_of(&rt, 2, Newest, &reads, [4, 3, 1, 2]);
+}
+
+// The start of 3 passes 1 and 2, each by all of its budget. So 4, which comes then, passes neither.
+#[test]
+fn a_start_passes_every_earlier_command(rt: HostRuntime) {
+    let mut newest = controller(&rt, 1, Newest);
+    send(
+        &rt,
+        &mut newest,
+        &[one(1, 0, 0), one(2, 0, 0), one(3, 0, 0)],
+    );
+    assert_eq!(rt; next(&mut newest), 3);
+    queues(&rt, &mut newest, FIRST, &one(4, 0, 0));
+    are_next(&rt, &mut newest, [1, 2, 4, 0]);
+}
+
+/// The next step serves this command, and the head crosses so many cylinders for it.
+fn serves(rt: &impl Abort, controller: &mut Controller<Sweep>, wanted: u32, cylinders: u32) {
+    let Report::Served {
+        reference,
+        seek,
+        ..
+    } = controller.step(Block::Good)
+    else {
+        panic!(rt; "a command waits");
+    };
+    assert_eq!(rt; (reference, seek), (wanted, cylinders));
+}
+
+/// A sweep whose head went up to cylinder 10.
+fn on_cylinder_10(rt: &impl Abort) -> Controller<Sweep> {
+    let mut sweep = controller(rt, 16, Sweep);
+    queues(rt, &mut sweep, FIRST, &one(1, 0, 200));
+    serves(rt, &mut sweep, 1, 10);
+    sweep
+}
+
+// Block 199 is on cylinder 9. On its way down the head comes to block 160, on cylinder 8, before it comes back to block 200.
+#[test]
+fn a_start_below_turns_the_head(rt: HostRuntime) {
+    let mut sweep = on_cylinder_10(&rt);
+    queues(&rt, &mut sweep, FIRST, &one(2, 0, 199));
+    serves(&rt, &mut sweep, 2, 1);
+    send(&rt, &mut sweep, &[one(3, 0, 200), one(4, 0, 160)]);
+    serves(&rt, &mut sweep, 4, 1);
+    serves(&rt, &mut sweep, 3, 2);
+}
+
+// The second block of the READ of blocks 199 and 200 carries the head up to cylinder 10 again, but doesn't turn it. So it
+// goes down to block 100, on cylinder 5, before it comes to block 220, on cylinder 11.
+#[test]
+fn the_head_turns_at_a_start_alone(rt: HostRuntime) {
+    let mut sweep = on_cylinder_10(&rt);
+    queues(&rt, &mut sweep, FIRST, &read(2, 1024, 199));
+    serves(&rt, &mut sweep, 2, 1);
+    serves(&rt, &mut sweep, 2, 1);
+    send(&rt, &mut sweep, &[one(3, 0, 220), one(4, 0, 100)]);
+    serves(&rt, &mut sweep, 4, 5);
+    serves(&rt, &mut sweep, 3, 6);
+}

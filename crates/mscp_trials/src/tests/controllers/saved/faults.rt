@@ -1,0 +1,194 @@
+// Each fault, by bytes that have it.
+
+use super::*;
+
+/// Where the parts of the small controller begin.
+const D: usize = 48;
+
+const R: usize = 82;
+
+const W: usize = 123;
+
+const E: usize = 164;
+
+/// What comes of the small controller's bytes, once those at these places are others.
+fn fault_of(rt: &impl Abort, edits: &[(usize, u8)]) -> Option<RestoreFault> {
+    let mut bytes = small(rt);
+    for (place, byte) in edits {
+        assert!(rt; *place < bytes.len());
+        bytes[*place] = *byte;
+    }
+    restore(bytes.as_slice(), 7, Sweep).err()
+}
+
+/// The small controller's bytes, once those at these places are others, have this fault.
+fn has_fault(rt: &impl Abort, edits: &[(usize, u8)], fault: RestoreFault) {
+    assert_eq!(rt; fault_of(rt, edits), Some(fault));
+}
+
+#[test]
+fn an_edit_of_the_head_is_told(rt: HostRuntime) {
+    assert_eq!(rt; fault_of(&rt, &[]), None);
+    // The length that the head tells, and how much there is of each part.
+    has_fault(&rt, &[(8, 213)], RestoreFault::Length);
+    has_fault(&rt, &[(11, 1)], RestoreFault::Length);
+    has_fault(&rt, &[(31, 2)], RestoreFault::Length);
+    has_fault(&rt, &[(40, 1)], RestoreFault::Length);
+    has_fault(&rt, &[(41, 2)], RestoreFault::Length);
+    has_fault(&rt, &[(42, 1)], RestoreFault::Length);
+    has_fault(&rt, &[(0, 0x4E)], RestoreFault::Magic);
+    has_fault(&rt, &[(3, 0)], RestoreFault::Magic);
+    has_fault(&rt, &[(4, 0)], RestoreFault::Version);
+    has_fault(&rt, &[(4, 2)], RestoreFault::Version);
+    // One credit, 64 + 2 credits, no blocks, 2^23 + 8 blocks, no seconds, 316 seconds, a budget of 2^32 - 1.
+    has_fault(&rt, &[(12, 1)], RestoreFault::Limits);
+    has_fault(&rt, &[(12, 64)], RestoreFault::Limits);
+    has_fault(&rt, &[(24, 0)], RestoreFault::Limits);
+    has_fault(&rt, &[(26, 128)], RestoreFault::Limits);
+    has_fault(&rt, &[(28, 0)], RestoreFault::Limits);
+    has_fault(&rt, &[(29, 1)], RestoreFault::Limits);
+    has_fault(
+        &rt,
+        &[(20, 255), (21, 255), (22, 255), (23, 255)],
+        RestoreFault::Limits,
+    );
+}
+
+#[test]
+fn an_edit_of_a_part_is_told(rt: HostRuntime) {
+    // The last cylinder is 49.
+    has_fault(&rt, &[(D + 30, 50)], RestoreFault::Heads);
+    has_fault(&rt, &[(D + 33, 1)], RestoreFault::Heads);
+    // No second connection, and two commands of one that has room for one.
+    has_fault(&rt, &[(16, 0)], RestoreFault::Credits);
+    has_fault(&rt, &[(R + 40, 2)], RestoreFault::Credits);
+    // GET COMMAND STATUS, an unknown opcode, unit 5, block 999 of two, 10 blocks.
+    has_fault(&rt, &[(R + 8, 0x02)], RestoreFault::Command);
+    has_fault(&rt, &[(W + 8, 0x7F)], RestoreFault::Command);
+    has_fault(&rt, &[(W + 4, 5)], RestoreFault::Command);
+    has_fault(&rt, &[(R + 28, 0xE7), (R + 29, 3)], RestoreFault::Command);
+    has_fault(&rt, &[(W + 13, 0x14)], RestoreFault::Command);
+    has_fault(&rt, &[(W + 40, 1)], RestoreFault::Doubled);
+    // Both steps were done, the only one was, and both commands are in service.
+    has_fault(&rt, &[(R + 32, 2)], RestoreFault::Steps);
+    has_fault(&rt, &[(W + 32, 1)], RestoreFault::Steps);
+    has_fault(&rt, &[(W + 13, 4), (W + 32, 1)], RestoreFault::Steps);
+    has_fault(&rt, &[(R + 36, 17)], RestoreFault::Passed);
+    has_fault(&rt, &[(W + 36, 1)], RestoreFault::Passed);
+    has_fault(&rt, &[(E + 8, 0x42)], RestoreFault::Ends);
+    // No command 2, and one that waits for that in service.
+    has_fault(&rt, &[(44, 2)], RestoreFault::Begun);
+    has_fault(&rt, &[(43, 2)], RestoreFault::Begun);
+    // Neither online nor not, a connection that is none, and something where nothing is written.
+    has_fault(&rt, &[(D + 28, 2)], RestoreFault::Form);
+    has_fault(&rt, &[(W + 40, 3)], RestoreFault::Form);
+    has_fault(&rt, &[(E + 47, 1)], RestoreFault::Form);
+}
+
+/// An edit for each fault, which is told where it is alone, or before all that follow.
+const EDITS: [(usize, u8); 13] = [
+    (9, 1),
+    (0, 0),
+    (4, 2),
+    (28, 0),
+    (D + 30, 50),
+    (12, 2),
+    (W + 4, 5),
+    (W + 40, 1),
+    (R + 32, 2),
+    (R + 36, 17),
+    (E + 8, 0x42),
+    (44, 2),
+    (E + 47, 1),
+];
+
+/// With the edits from this one on there is this fault.
+fn is_first(rt: &impl Abort, place: usize, fault: RestoreFault) {
+    let edits = EDITS.get(place..).expect(rt, "13 edits");
+    has_fault(rt, edits, fault);
+}
+
+#[test]
+fn the_first_fault_is_told(rt: HostRuntime) {
+    is_first(&rt, 0, RestoreFault::Length);
+    is_first(&rt, 1, RestoreFault::Magic);
+    is_first(&rt, 2, RestoreFault::Version);
+    is_first(&rt, 3, RestoreFault::Limits);
+    is_first(&rt, 4, RestoreFault::Heads);
+    is_first(&rt, 5, RestoreFault::Credits);
+    is_first(&rt, 6, RestoreFault::Command);
+    is_first(&rt, 7, RestoreFault::Doubled);
+    is_first(&rt, 8, RestoreFault::Steps);
+    is_first(&rt, 9, RestoreFault::Passed);
+    is_first(&rt, 10, RestoreFault::Ends);
+    is_first(&rt, 11, RestoreFault::Begun);
+    is_first(&rt, 12, RestoreFault::Form);
+}
+
+/// These bytes have this fault, or none.
+fn comes_to(rt: &impl Abort, bytes: &[u8], fault: Option<RestoreFault>) {
+    assert_eq!(rt; restore(bytes, 7, Sweep).err(), fault);
+}
+
+#[test]
+fn a_wrong_number_of_bytes_is_told(rt: HostRuntime) {
+    let bytes = small(&rt);
+    for length in [0, 1, 47, 48, 82, 211] {
+        let some = bytes.as_slice().get(..length).expect(&rt, "212 bytes");
+        comes_to(&rt, some, Some(RestoreFault::Length));
+    }
+    let longer = joined(&rt, &[&HEAD, &DRIVE, &READ, &WRITE, &END, &[0]]);
+    comes_to(&rt, longer.as_slice(), Some(RestoreFault::Length));
+}
+
+#[test]
+fn the_number_of_another_picker_is_told(rt: HostRuntime) {
+    let fault = restore(small(&rt).as_slice(), 6, Sweep).err();
+    assert_eq!(rt; fault, Some(RestoreFault::Picker));
+}
+
+/// A head of so many drives, up to 255 bytes in all, in which nothing waits and nothing was begun.
+fn empty_head(drives: u8, length: u8) -> [u8; 48] {
+    let mut head = HEAD;
+    head[8] = length;
+    head[31] = drives;
+    head[40] = 0;
+    head[41] = 0;
+    head[43] = 0;
+    head[44] = 0;
+    head
+}
+
+/// These parts behind one another have this fault, or none.
+fn parts_come_to(rt: &impl Abort, parts: &[&[u8]], fault: Option<RestoreFault>) {
+    comes_to(rt, joined(rt, parts).as_slice(), fault);
+}
+
+#[test]
+fn units_that_no_controller_has_are_told(rt: HostRuntime) {
+    parts_come_to(&rt, &[&empty_head(0, 48)], Some(RestoreFault::Units));
+    let mut next = DRIVE;
+    next[0] = 3;
+    let head = empty_head(2, 116);
+    parts_come_to(&rt, &[&head, &DRIVE, &next], None);
+    parts_come_to(&rt, &[&head, &next, &DRIVE], Some(RestoreFault::Units));
+    // A unit with a size of zero is read as number 0 with one block, whose bytes are others.
+    let mut empty = DRIVE;
+    empty[2] = 0;
+    empty[30] = 0;
+    parts_come_to(&rt, &[&empty_head(1, 82), &empty], Some(RestoreFault::Form));
+}
+
+#[test]
+fn too_many_drives_are_told(rt: HostRuntime) {
+    // 17 drives take 626 bytes.
+    let mut head = empty_head(17, 0x72);
+    head[9] = 2;
+    let mut bytes = joined(&rt, &[&head]);
+    for number in 0..17 {
+        let mut drive = DRIVE;
+        drive[0] = number;
+        assert!(rt; bytes.try_extend_from_slice(&drive).is_ok());
+    }
+    comes_to(&rt, bytes.as_slice(), Some(RestoreFault::Length));
+}

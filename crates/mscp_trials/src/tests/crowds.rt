@@ -1,0 +1,43 @@
+// Sixty-three commands over four units.
+
+use super::calls::{bring_online, has_free, queues};
+use super::values::{FIRST, limits, unit};
+use mscp_control::{Controller, Picker};
+use mscp_packet::{Command, MoveKind, Order};
+use std::process::Abort;
+
+/// The command of this reference number: the last four are SET UNIT CHARACTERISTICS, and the others read one to eight
+/// blocks.
+pub fn one_of_many(reference: u32) -> Command {
+    let order = if reference >= 60 {
+        Order::SetUnit
+    } else {
+        let bytes = 512 * (reference % 8 + 1);
+        Order::Move(MoveKind::Read, bytes, reference * 13 % 900)
+    };
+    Command {
+        reference,
+        unit: (reference % 4) as u16,
+        order,
+    }
+}
+
+/// A controller of four units that are online, where each command may be passed by three of the longest transfers.
+fn of_four_units<K: Picker>(rt: &impl Abort, picker: K) -> Controller<K> {
+    let four = [unit(rt, 0), unit(rt, 1), unit(rt, 2), unit(rt, 3)];
+    let mut controller = Controller::new(limits(rt, (64, 0), 24, &four), picker);
+    for number in 0..4 {
+        bring_online(rt, &mut controller, number);
+    }
+    controller
+}
+
+/// Such a controller, to which commands 1 to 63 came.
+pub fn full<K: Picker>(rt: &impl Abort, picker: K) -> Controller<K> {
+    let mut controller = of_four_units(rt, picker);
+    for reference in 1..64 {
+        queues(rt, &mut controller, FIRST, &one_of_many(reference));
+    }
+    has_free(rt, &controller, FIRST, 1);
+    controller
+}

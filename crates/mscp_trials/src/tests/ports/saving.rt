@@ -1,0 +1,228 @@
+// A port as bytes, and back.
+
+use super::machine::{Machine, SLOTS};
+use arrayvec::ArrayVec;
+use mscp_control::Sweep;
+use mscp_port::{Action, Outcome, Port, ROOM, RestoreFault};
+use mscp_saved::RestoreFault as ControllerFault;
+use std::process::Abort;
+
+/// An ONLINE of unit 0, and a READ of four blocks from block 3 on to address 0x0400, whose number is 2.
+const ONLINE: [u8; 12] = [1, 0, 0, 0, 0, 0, 0, 0, 9, 0, 0, 0];
+
+const READ: [u8; 32] = [
+    2, 0, 0, 0, 0, 0, 0, 0, 0x21, 0, 0, 0, 0, 8, 0, 0, 0, 4, 0, 0, 0, 0, 0, 0, 0, 0, 0, 0, 3, 0, 0,
+    0,
+];
+
+/// A machine that is to move the second block of that READ. Its unit 0 has a volume of which the host wants no news.
+fn in_the_middle(rt: &impl Abort) -> Machine {
+    let mut machine = Machine::up(rt);
+    SLOTS.send(rt, &mut machine, 12, &ONLINE);
+    SLOTS.put(&mut machine, 32, &READ);
+    for _ in 0..100 {
+        if matches!(machine.port.next(), Action::Transfer { block: 4, .. }) {
+            break;
+        }
+        machine.act(rt);
+    }
+    machine
+}
+
+/// The head of its port.
+#[rattlefmt::skip]
+const HEAD: [u8; 72] = [
+    // "MSCP", version 1, and 280 + 20 + 48 + 4 * 34 + 41 bytes
+    0x4D, 0x53, 0x43, 0x50, 1, 0, 0, 0, 0x0D, 2, 0, 0,
+    // the Q-bus, and model, software and hardware of an RQDX3
+    1, 19, 3, 1,
+    // 15 credits beside one, of which 1 is untold; a slot of responses and two of commands were given back
+    15, 1, 1, 2,
+    // no slot is looked for, no command waits for a credit, and the ring of responses isn't full
+    0, 0, 0,
+    // no controller flags, 60 seconds, and 60 left
+    0, 0, 60, 0, 60, 0,
+    // the host's first two words
+    0x00, 0x80, 0x84, 0x0E,
+    // up; no word is written
+    8, 0, 0, 0, 0, 0,
+    // the base, and one slot in each ring
+    1, 0x84, 0x0E, 0, 0, 1, 0, 0, 0, 1, 0, 0, 0,
+    // the transfer, on the first connection, of number 2, of block 4, one step behind the first, on unit 0: a READ
+    13, 1, 2, 0, 0, 0, 4, 0, 0, 0, 1, 0, 0, 0, 0, 0, 4,
+    // nothing goes out, and something is kept of one command
+    0, 0, 1,
+];
+
+/// The volumes of units 0 and 1: one that is there and is news, changed once, and online; and none.
+const VOLUMES: [u8; 26] = [
+    1, 0, 0, 1, 1, 0, 0, 0, 1, 1, 0, 0, 0, 0, 0, 0, 0, 0, 0, 0, 0, 0, 0, 0, 0, 0,
+];
+
+/// What is kept of the READ: its number, address and count, no modifiers, no flags, and the volume that changed once.
+const BUFFER: [u8; 20] = [2, 0, 0, 0, 0, 4, 0, 0, 0, 8, 0, 0, 0, 0, 0, 0, 1, 0, 0, 0];
+
+/// The port that its bytes say, with the picker of number 7.
+fn again(rt: &impl Abort, port: &Port<Sweep>) -> Port<Sweep> {
+    Port::restore(port.save(7).as_slice(), 7, Sweep)
+        .ok()
+        .expect(rt, "what was saved")
+}
+
+#[test]
+fn the_bytes_are_these(rt: HostRuntime) {
+    let saved = in_the_middle(&rt).port.save(7);
+    assert_eq!(rt; saved.len(), 525);
+    assert!(rt; saved[..72] == HEAD[..]);
+    assert!(rt; saved[72..98] == VOLUMES[..]);
+    assert!(rt; saved[280..300] == BUFFER[..]);
+    assert!(rt; saved[300..304] == b"MSCQ"[..]);
+}
+
+/// The host writes a word to SA of both.
+fn write(rt: &impl Abort, stays: &mut Machine, moves: &mut Machine, word: u16) {
+    stays.port.write_sa(word);
+    moves.port.write_sa(word);
+    go_on_alike(rt, stays, moves);
+}
+
+/// It sends a message to both.
+fn send(rt: &impl Abort, stays: &mut Machine, moves: &mut Machine, message: &[u8]) {
+    SLOTS.put(stays, message.len() as u32, message);
+    SLOTS.put(moves, message.len() as u32, message);
+    go_on_alike(rt, stays, moves);
+}
+
+/// A port that is saved and restored before each action, and one that stays, do the same.
+#[test]
+fn a_port_goes_on_from_its_bytes(rt: HostRuntime) {
+    let mut stays = Machine::new(&rt);
+    let mut moves = Machine::new(&rt);
+    write(&rt, &mut stays, &mut moves, 0x809B);
+    write(&rt, &mut stays, &mut moves, 0x0E84);
+    write(&rt, &mut stays, &mut moves, 0x0000);
+    write(&rt, &mut stays, &mut moves, 0x0001);
+    send(&rt, &mut stays, &mut moves, &ONLINE);
+    send(&rt, &mut stays, &mut moves, &READ);
+    moves.shows(&rt, 0x0E0C, &[0xA1, 0, 0, 0]);
+    moves.shows(&rt, 0x0400, &[3, 4, 5, 6]);
+    stays.was_interrupted(&rt, 3);
+}
+
+/// One action of both, of which the second one is another port before. Whether there was one.
+fn act_alike(rt: &impl Abort, stays: &mut Machine, moves: &mut Machine) -> bool {
+    moves.port = again(rt, &moves.port);
+    let acted = stays.act(rt);
+    assert_eq!(rt; moves.act(rt), acted);
+    assert!(rt; moves.port.save(7).as_slice() == stays.port.save(7).as_slice());
+    assert!(rt; moves.memory[..] == stays.memory[..]);
+    moves.was_interrupted(rt, stays.interrupts);
+    acted
+}
+
+/// Both do what they want until they rest, and the second one is another port each time.
+fn go_on_alike(rt: &impl Abort, stays: &mut Machine, moves: &mut Machine) {
+    for _ in 0..100 {
+        if !act_alike(rt, stays, moves) {
+            return;
+        }
+    }
+    assert!(rt; false, "it rests");
+}
+
+/// These bytes with another one at a place.
+fn with(bytes: &[u8], place: usize, byte: u8) -> ArrayVec<u8, ROOM> {
+    let mut edited = ArrayVec::new();
+    let _ = edited.try_extend_from_slice(bytes);
+    if let Some(there) = edited.get_mut(place) {
+        *there = byte;
+    }
+    edited
+}
+
+/// These bytes with another one at a place have this fault.
+fn has_fault(rt: &impl Abort, saved: &[u8], place: usize, byte: u8, fault: RestoreFault) {
+    let bytes = with(saved, place, byte);
+    assert!(rt; Port::restore(bytes.as_slice(), 7, Sweep).err() == Some(fault));
+}
+
+#[test]
+fn other_bytes_are_refused(rt: HostRuntime) {
+    let saved = in_the_middle(&rt).port.save(7);
+    // The length, a text of 49 bytes, 65 commands, and more of either than there are bytes.
+    has_fault(&rt, &saved, 8, 14, RestoreFault::Length);
+    has_fault(&rt, &saved, 70, 49, RestoreFault::Length);
+    has_fault(&rt, &saved, 71, 65, RestoreFault::Length);
+    has_fault(&rt, &saved, 71, 13, RestoreFault::Length);
+    has_fault(&rt, &saved, 0, 0, RestoreFault::Magic);
+    has_fault(&rt, &saved, 4, 2, RestoreFault::Version);
+    // A controller that begins elsewhere, by a command that isn't kept, or isn't one.
+    let length = RestoreFault::Controller(ControllerFault::Length);
+    has_fault(&rt, &saved, 71, 0, length);
+    let magic = RestoreFault::Controller(ControllerFault::Magic);
+    has_fault(&rt, &saved, 300, 0, magic);
+}
+
+#[test]
+fn bytes_of_no_form_are_refused(rt: HostRuntime) {
+    let saved = in_the_middle(&rt).port.save(7);
+    // No bus, no flag, no stage, a word where there is none.
+    has_fault(&rt, &saved, 12, 3, RestoreFault::Form);
+    has_fault(&rt, &saved, 20, 2, RestoreFault::Form);
+    has_fault(&rt, &saved, 33, 10, RestoreFault::Form);
+    has_fault(&rt, &saved, 34, 1, RestoreFault::Form);
+    has_fault(&rt, &saved, 37, 1, RestoreFault::Form);
+    // No ring, no task, no kind, a text where nothing goes out.
+    has_fault(&rt, &saved, 44, 129, RestoreFault::Form);
+    has_fault(&rt, &saved, 48, 0, RestoreFault::Form);
+    has_fault(&rt, &saved, 52, 15, RestoreFault::Form);
+    has_fault(&rt, &saved, 68, 6, RestoreFault::Form);
+    has_fault(&rt, &saved, 69, 3, RestoreFault::Form);
+    has_fault(&rt, &saved, 94, 1, RestoreFault::Form);
+}
+
+/// What comes of all of these bytes but the last.
+fn fault_without_the_last(bytes: &[u8]) -> Option<RestoreFault> {
+    let last = bytes.len().checked_sub(1)?;
+    Port::restore(&bytes[..last], 7, Sweep).err()
+}
+
+#[test]
+fn another_picker_and_fewer_bytes_are_refused(rt: HostRuntime) {
+    let saved = in_the_middle(&rt).port.save(7);
+    let other_picker = RestoreFault::Controller(ControllerFault::Picker);
+    assert!(rt; Port::restore(&saved, 8, Sweep).err() == Some(other_picker));
+    assert!(rt; fault_without_the_last(&saved) == Some(RestoreFault::Length));
+    assert!(rt; Port::restore(&[], 7, Sweep).err() == Some(RestoreFault::Length));
+}
+
+/// Whether these bytes are a port's. It is saved as they are, and what comes then does no harm.
+fn goes_on(rt: &impl Abort, bytes: &[u8]) -> bool {
+    let Ok(mut port) = Port::restore(bytes, 7, Sweep) else {
+        return false;
+    };
+    assert!(rt; port.save(7).as_slice() == bytes);
+    let _ = port.next();
+    let _ = port.went(Outcome::Done);
+    let _ = port.next();
+    port.tick();
+    true
+}
+
+/// What a flipped bit says is saved as it stands, and does no harm.
+#[test]
+fn a_flipped_bit_does_no_harm(rt: HostRuntime) {
+    let saved = in_the_middle(&rt).port.save(7);
+    let mut restored: u32 = 0;
+    for place in 0..saved.len() {
+        for mask in [1, 2, 4, 8, 16, 32, 64, 128] {
+            let bytes = with(&saved, place, saved[place] ^ mask);
+            if goes_on(&rt, bytes.as_slice()) {
+                restored = restored.saturating_add(1);
+            }
+        }
+    }
+    // Any number may stand for model and versions, credits and slots, what the host has set, its words, what is kept of a
+    // command, and the identifiers of the controller and its four units: of 8 bytes, and 16 each.
+    assert!(rt; restored >= 24 + 32 + 48 + 32 + 160 + 64 + 4 * 128);
+}
