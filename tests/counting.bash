@@ -47,3 +47,11 @@ is_gone() {
     done
     return 1
 }
+
+# Builds the C library to this file, with these words of rt more. Another build of it waits, since rt has one place for all.
+build_library() {
+    local to=$1
+    shift
+    mkdir -p out && flock out/lock "$BASH" -c 'cd crates/mscp_c && rt lib "${@:2}" && cp out/libmscp_c.a "$1"' '' "$to" "$@" \
+        >"$room/rt" 2>&1 || { cat -- "$room/rt" && return 1; }
+}
