@@ -5,7 +5,6 @@ ghost use Rattle.mscp_queue.specs.Names.{same_name};
 
 use mscp_events::Connection;
 
-
 /// The name of a command that waits: the connection that it came by, and its reference number.
 #[derive(Clone, Copy, Debug, PartialEq, Eq)]
 pub struct Name {
