@@ -4,36 +4,53 @@ use super::calls::{aborts, has_free};
 use super::controllers::Newest;
 use super::crowds::full;
 use super::values::FIRST;
-use mscp_control::{Block, Connection, Controller};
+use mscp_control::{Block, Controller};
 use std::process::Abort;
 
-/// The figure of no command is greater after the ABORT of this one than before, and only its own is 0.
-fn none_is_greater(
+/// The figure of a command isn't greater after the ABORT of this one than before, and only its own is 0.
+fn is_not_greater(
     rt: &impl Abort,
     controller: &Controller<Newest>,
-    figures: &[(Connection, u32, u32)],
+    reference: u32,
+    figure: u32,
     aborted: u32,
 ) {
-    for (_, reference, figure) in figures {
-        let now = controller.figure(FIRST, *reference);
-        assert!(rt; now <= *figure, "{reference} after an abort of {aborted}");
-        assert_eq!(rt; now == 0, *reference == aborted);
-    }
+    let now = controller.figure(FIRST, reference);
+    assert!(rt; now <= figure, "{reference} after an abort of {aborted}");
+    assert_eq!(rt; now == 0, reference == aborted);
 }
 
-/// After so many steps an ABORT of this command raises no figure.
-fn raises_no_figure(rt: &impl Abort, steps: u32, other: u32) {
+/// So many commands wait.
+fn are_waiting(rt: &impl Abort, controller: &Controller<Newest>, count: u32) {
+    assert_eq!(rt; controller.waiting(FIRST), count);
+}
+
+/// So many ends weren't taken.
+fn are_untaken(rt: &impl Abort, controller: &Controller<Newest>, count: u32) {
+    assert_eq!(rt; controller.untaken(FIRST), count);
+}
+
+/// A controller that served so many steps.
+fn after(rt: &impl Abort, steps: u32) -> Controller<Newest> {
     let mut controller = full(rt, Newest);
     for _ in 0..steps {
         let _report = controller.step(Block::Good);
     }
+    controller
+}
+
+/// After so many steps an ABORT of this command raises no figure.
+fn raises_no_figure(rt: &impl Abort, steps: u32, other: u32) {
+    let mut controller = after(rt, steps);
+    are_waiting(rt, &controller, 63);
     let before = controller.look();
-    assert_eq!(rt; before.len(), 63);
     aborts(rt, &mut controller, FIRST, 100, other);
-    assert_eq!(rt; controller.look().len(), 62);
+    are_waiting(rt, &controller, 62);
     has_free(rt, &controller, FIRST, 0);
-    assert_eq!(rt; controller.untaken(FIRST), 2);
-    none_is_greater(rt, &controller, before.as_slice(), other);
+    are_untaken(rt, &controller, 2);
+    for (_, reference, figure) in before {
+        is_not_greater(rt, &controller, reference, figure, other);
+    }
 }
 
 // The last four have to wait for all others of their units, so number 59 starts first: it reads four blocks, and passes

@@ -23,13 +23,10 @@ fn reading(rt: &impl Abort, weight: u32, done: u32) -> Controller<Oldest>
 /// The end of READ 1 with this status, and so many bytes.
 fn ended(status: u8, count: u32) -> [u8; 32] {
     let [low, high, _, _] = count.to_le_bytes();
-    let mut end = [0; 32];
-    end[0] = 1;
-    end[8] = 0xA1;
-    end[10] = status;
-    end[12] = low;
-    end[13] = high;
-    end
+    [
+        1, 0, 0, 0, 0, 0, 0, 0, 0xA1, 0, status, 0, low, high, 0, 0, 0, 0, 0, 0, 0, 0, 0, 0, 0, 0,
+        0, 0, 0, 0, 0, 0,
+    ]
 }
 
 /// After so many of the blocks the next is bad, and ends the READ.

@@ -1,9 +1,10 @@
 // Every opcode, in every length, of zeros and of ones: each comes to a controller of its own. What is wanted is worked out
 // from the table of opcodes below, and from the rules of arrival.
 
-use super::values::config;
+use super::calls::has_free;
+use super::values::{FIRST, config};
 use arrayvec::ArrayVec;
-use mscp_control::{Connection, Controller, Oldest, SendFault, Sent};
+use mscp_control::{Controller, Oldest, SendFault, Sent};
 use std::process::Abort;
 
 /// An opcode, the least bytes of its command, the bytes of its end, and whether it waits for steps.
@@ -146,21 +147,25 @@ pub(super) fn message(opcode: u8, fill: u8) -> [u8; 65] {
     bytes
 }
 
+/// A message comes to a new controller.
+fn is_judged(rt: &impl Abort, opcode: u8, fill: u8, length: usize) {
+    let bytes = message(opcode, fill);
+    let some = bytes.get(..length).expect(rt, "65 bytes");
+    let mut controller = Controller::new(config(rt, 4, 16), Oldest);
+    let sent = controller.send(FIRST, some);
+    let (wanted, end) = judged(rt, opcode, length, fill);
+    assert_eq!(rt; sent, wanted, "of {opcode}, {length} bytes {fill}");
+    has_free(rt, &controller, FIRST, if wanted.is_ok() { 3 } else { 4 });
+    let taken = controller.take(FIRST);
+    assert_eq!(rt; taken, end, "of {opcode}, {length} bytes {fill}");
+}
+
 #[test]
 fn every_message_is_judged_by_the_table(rt: HostRuntime) {
     for opcode in 0..=255 {
-        for fill in [0x00, 0xFF] {
-            let bytes = message(opcode, fill);
-            for length in 0..66 {
-                let mut controller = Controller::new(config(&rt, 4, 16), Oldest);
-                let sent = controller.send(Connection::First, &bytes[..length]);
-                let (wanted, end) = judged(&rt, opcode, length, fill);
-                assert_eq!(rt; sent, wanted, "of {opcode}, {length} bytes {fill}");
-                let balance = if wanted.is_ok() { 3 } else { 4 };
-                assert_eq!(rt; controller.balance(Connection::First), balance);
-                let taken = controller.take(Connection::First);
-                assert_eq!(rt; taken, end, "of {opcode}, {length} bytes {fill}");
-            }
+        for length in 0..66 {
+            is_judged(&rt, opcode, 0x00, length);
+            is_judged(&rt, opcode, 0xFF, length);
         }
     }
 }
@@ -168,8 +173,8 @@ fn every_message_is_judged_by_the_table(rt: HostRuntime) {
 #[test]
 fn sixty_four_ones_are_an_unknown_opcode(rt: HostRuntime) {
     let mut controller = Controller::new(config(&rt, 4, 16), Oldest);
-    assert!(rt; controller.send(Connection::First, &[0xFF; 64]).is_ok());
-    let end = controller.take(Connection::First).expect(&rt, "an end");
+    assert!(rt; controller.send(FIRST, &[0xFF; 64]).is_ok());
+    let end = controller.take(FIRST).expect(&rt, "an end");
     let wanted = b"\xff\xff\xff\xff\xff\xff\0\0\x80\0\x01\x08";
     assert_eq!(rt; end.as_slice(), wanted.as_slice());
 }

@@ -158,20 +158,22 @@ fn code_in(bytes: &[u8]) -> Result<u8, EndFault> {
     Ok(read_end(bytes)?.code)
 }
 
-/// Bytes with this endcode are an end, or have this fault.
-fn is_judged(rt: &impl Abort, bytes: &[u8], wanted: Result<u8, EndFault>) {
-    assert_eq!(rt; code_in(bytes), wanted);
+/// So many zeros with this endcode are an end, or have this fault.
+fn is_judged(rt: &impl Abort, code: u8, length: usize, wanted: Result<u8, EndFault>) {
+    let bytes = zeros(code);
+    let some = bytes.get(..length).expect(rt, "65 bytes");
+    assert_eq!(rt; code_in(some), wanted);
 }
 
 #[test]
 fn ends_are_judged_by_length_then_endcode(rt: HostRuntime) {
-    is_judged(&rt, &zeros(0xA1)[..31], Err(EndFault::Length));
-    is_judged(&rt, &zeros(0x83)[..47], Err(EndFault::Length));
-    is_judged(&rt, &zeros(0x83)[..48], Ok(0x83));
-    is_judged(&rt, &zeros(0x21)[..11], Err(EndFault::Length));
-    is_judged(&rt, &zeros(0x21)[..12], Err(EndFault::Code));
-    is_judged(&rt, &zeros(0x21)[..64], Err(EndFault::Code));
-    is_judged(&rt, &zeros(0x21), Err(EndFault::Length));
+    is_judged(&rt, 0xA1, 31, Err(EndFault::Length));
+    is_judged(&rt, 0x83, 47, Err(EndFault::Length));
+    is_judged(&rt, 0x83, 48, Ok(0x83));
+    is_judged(&rt, 0x21, 11, Err(EndFault::Length));
+    is_judged(&rt, 0x21, 12, Err(EndFault::Code));
+    is_judged(&rt, 0x21, 64, Err(EndFault::Code));
+    is_judged(&rt, 0x21, 65, Err(EndFault::Length));
 }
 
 /// The body of an end of these bytes, or their fault.
@@ -181,8 +183,9 @@ fn body_in(bytes: &[u8]) -> Result<EndBody, EndFault> {
 
 /// The body of a refused command with this endcode is that of zeros.
 fn is_zeros(rt: &impl Abort, code: u8) {
-    let body = EndBody::refused(code);
-    assert_eq!(rt; body_in(&zeros(code)[..64]), Ok(body), "of {code}");
+    let bytes = zeros(code);
+    let some = bytes.get(..64).expect(rt, "65 bytes");
+    assert_eq!(rt; body_in(some), Ok(EndBody::refused(code)), "of {code}");
 }
 
 #[test]

@@ -101,21 +101,38 @@ fn is_stale(
     is_stale_by(rt, controller, reference, bad, figures, balance);
 }
 
+/// READ 1 of block 40 and READ 2 of block 0 wait.
+fn with_two(rt: &impl Abort) -> Controller<Oldest> {
+    let mut controller = ready(rt, Oldest);
+    queues(rt, &mut controller, FIRST, &read(1, 512, 40));
+    queues(rt, &mut controller, FIRST, &read(2, 512, 0));
+    controller
+}
+
+/// READ 1 is begun.
+fn begins_first(rt: &impl Abort, controller: &mut Controller<Oldest>) {
+    let begun = upcoming(read(1, 512, 40), Some(40), 0, 1);
+    begins(rt, controller, Some(begun));
+}
+
 // The budget is 16 blocks. So the first READ, of one block, has the figure 16 + 1 = 17,
 // and the second that and the block before it, 18.
+const BOTH: [(Connection, u32, u32); 2] = [(FIRST, 1, 17), (FIRST, 2, 18)];
+
 #[test]
 fn a_stale_finish_changes_nothing(rt: HostRuntime) {
-    let mut controller = ready(&rt, Oldest);
-    let first = read(1, 512, 40);
-    queues(&rt, &mut controller, FIRST, &first);
-    queues(&rt, &mut controller, FIRST, &read(2, 512, 0));
-    let both = [(FIRST, 1, 17), (FIRST, 2, 18)];
-    is_stale(&rt, &mut controller, 1, &both, 2);
-    let begun = upcoming(first, Some(40), 0, 1);
-    begins(&rt, &mut controller, Some(begun));
-    is_stale(&rt, &mut controller, 2, &both, 2);
-    is_stale(&rt, &mut controller, 3, &both, 2);
-    begins(&rt, &mut controller, Some(begun));
+    let mut controller = with_two(&rt);
+    is_stale(&rt, &mut controller, 1, &BOTH, 2);
+    begins_first(&rt, &mut controller);
+    is_stale(&rt, &mut controller, 2, &BOTH, 2);
+    is_stale(&rt, &mut controller, 3, &BOTH, 2);
+    begins_first(&rt, &mut controller);
+}
+
+#[test]
+fn a_finish_of_what_ended_or_was_forgotten_is_stale(rt: HostRuntime) {
+    let mut controller = with_two(&rt);
+    begins_first(&rt, &mut controller);
     let report = first_and_last(1, 40, 2);
     finishes(&rt, &mut controller, FIRST, 1, Ok(report));
     takes(&rt, &mut controller, FIRST, read_ended(1, 0, 512));

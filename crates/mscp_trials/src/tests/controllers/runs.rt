@@ -89,7 +89,10 @@ fn commands_that_are_not_valid_are_answered_at_once(rt: HostRuntime) {
     no_unit[13] = 2;
     moments.answers(&rt, 6, &no_unit);
     moments.takes(&rt, &transfer(6, 7, 0xA1, 0x03));
-    moments.answers(&rt, 8, &transfer(8, 0, 0x21, 0)[..31]);
+    let mut short = [0; 31];
+    short[0] = 8;
+    short[8] = 0x21;
+    moments.answers(&rt, 8, &short);
     moments.takes(&rt, &transfer(8, 0, 0xA1, 0x01));
     moments.answers(&rt, 1, b"\x01\0\0\0\0\0\0\0\x04\0\0\0\x01\0");
     let mut version = [0; 28];

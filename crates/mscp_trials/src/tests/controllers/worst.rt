@@ -265,22 +265,35 @@ fn there_is_none_where_nothing_can_pass_or_no_unit_has_the_blocks(rt: HostRuntim
     }
 }
 
-/// A heap that has just the bytes of so many moments is enough, and all of it is used. With a moment's bytes less there is
-/// no answer.
-fn asks_for(rt: &(impl Abort + AllocGlobal), limits: Limits, moments: u16) {
-    let config = config(rt, limits);
+/// A heap of the bytes of so many moments.
+fn heap_of(rt: &(impl Abort + AllocGlobal), moments: u16) -> LocalHeap {
     let bytes = usize::from(moments) * size_of::<(Event, Entry)>();
-    let heap = LocalHeap::new(rt.alloc(), bytes).ok().expect(rt, "memory");
-    let trace = worst_in(&heap, &config, 3)
+    LocalHeap::new(rt.alloc(), bytes).ok().expect(rt, "memory")
+}
+
+/// A heap that has just the bytes of so many moments is enough, and all of it is used.
+fn is_enough(rt: &(impl Abort + AllocGlobal), limits: Limits, moments: u16) {
+    let heap = heap_of(rt, moments);
+    let trace = worst_in(&heap, &config(rt, limits), 3)
         .ok()
         .expect(rt, "room for the moments")
         .expect(rt, "another command can pass");
     assert_eq!(rt; trace.len(), usize::from(moments));
     assert_eq!(rt; heap.used(), heap.size());
-    let less = bytes.saturating_sub(size_of::<(Event, Entry)>());
-    let small = LocalHeap::new(rt.alloc(), less).ok().expect(rt, "memory");
-    assert_eq!(rt; worst_in(&small, &config, 3).err(), Some(OutOfMemory));
-    assert_eq!(rt; small.used(), 0);
+}
+
+/// With these bytes there is no answer.
+fn is_too_small(rt: &(impl Abort + AllocGlobal), limits: Limits, moments: u16) {
+    let heap = heap_of(rt, moments);
+    let refused = worst_in(&heap, &config(rt, limits), 3).err();
+    assert_eq!(rt; refused, Some(OutOfMemory));
+    assert_eq!(rt; heap.used(), 0);
+}
+
+/// The trace asks for so many moments, and no less serve.
+fn asks_for(rt: &(impl Abort + AllocGlobal), limits: Limits, moments: u16) {
+    is_enough(rt, limits, moments);
+    is_too_small(rt, limits, moments.saturating_sub(1));
 }
 
 #[test]
