@@ -88,8 +88,11 @@ fn write(rt: &impl Abort, stays: &mut Machine, moves: &mut Machine, word: u16) {
 
 /// It sends a message to both.
 fn send(rt: &impl Abort, stays: &mut Machine, moves: &mut Machine, message: &[u8]) {
-    SLOTS.put(stays, message.len() as u32, message);
-    SLOTS.put(moves, message.len() as u32, message);
+    let length = u32::try_from(message.len())
+        .ok()
+        .expect(rt, "a short message");
+    SLOTS.put(stays, length, message);
+    SLOTS.put(moves, length, message);
     go_on_alike(rt, stays, moves);
 }
 
