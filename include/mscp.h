@@ -457,7 +457,7 @@ int32_t mscp_port_restore_at(struct mscp_port *port, const uint8_t *bytes, size_
 /* Makes a controller in the handle's memory: of these limits, of so many units in rising order of their numbers, served
  * by a picker of enum mscp_picker. MSCP_DONE, or the first fault in this order: those of the memory (-11 to -15),
  * MSCP_BAD_PICKER, MSCP_MANY_UNITS, those of the first unit that has one (-21 to -24), MSCP_UNITS_FALL, MSCP_NO_UNITS,
- * those of the limits (-28 to -31). The controller is made on the stack, of which this takes up to 40 KiB, and is moved
+ * those of the limits (-28 to -31). The controller is made on the stack, of which this takes up to 46 KiB, and is moved
  * into the memory. No other call takes over 2 KiB of the stack, but for those that save and restore. The memory may go
  * at any time, without a call. */
 MSCP_MUST_USE
@@ -552,7 +552,7 @@ MSCP_INLINE int32_t mscp_save(const struct mscp *mscp, uint8_t *bytes, size_t ro
 /* Makes the controller that was saved, in the handle's memory: whatever is called then answers as if it had been called
  * there. MSCP_DONE, or the first fault of those of the memory (-11 to -15) and those of the bytes (-40 to -54). Bytes of
  * a stranger make a controller with which every call is safe, or none; what came to it before, only who saved it knows.
- * This takes up to 130 KiB of the stack, and mscp_save up to 12. */
+ * This takes up to 144 KiB of the stack, and mscp_save up to 12. */
 MSCP_MUST_USE
 MSCP_INLINE int32_t mscp_restore(struct mscp *mscp, const uint8_t *bytes, size_t length)
 {
@@ -690,7 +690,7 @@ MSCP_INLINE int32_t mscp_port_save(const struct mscp_port *port, uint8_t *bytes,
 
 /* Makes the port that was saved, in the handle's memory: it goes on as it would have there. MSCP_DONE, or the first fault
  * of those of the memory (-11 to -15) and those of the bytes (-40 to -54), which may be those of its controller's. Bytes
- * of a stranger make a port with which every call is safe, or none. This takes up to 210 KiB of the stack, and
+ * of a stranger make a port with which every call is safe, or none. This takes up to 220 KiB of the stack, and
  * mscp_port_save up to 28. */
 MSCP_MUST_USE
 MSCP_INLINE int32_t mscp_port_restore(struct mscp_port *port, const uint8_t *bytes, size_t length)
