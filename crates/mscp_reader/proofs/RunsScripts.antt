@@ -95,8 +95,8 @@ asked_for =
     ∷ events.Look ∷ []
 
 shown_read : Reads (text shown) (settings (shape 0 ∷ [])) asked_for
-unfolding lines words said number message status form_of plain_form message_form event_form asked request second_request setting credits credits_of limit
-    unit_of more_units first_units with_unit
+unfolding lines words said number message status form_of plain_form message_form event_form asked request
+    second_request setting credits credits_of limit unit_of more_units first_units with_unit
     gone unit_or_go next after_line lines_outcome decode_pairs
 shown_read = is_read (text shown) (settings (shape 0 ∷ [])) asked_for (lit≤ tt) refl
 
@@ -105,8 +105,8 @@ abbrev two : List (List ℕ)
 two = limits_lines ++ codes "unit 0 10 2 1 1000" ∷ codes "unit 7 10 2 1 1000" ∷ codes "go" ∷ []
 
 two_read : Reads (text two) (settings (shape 0 ∷ shape 7 ∷ [])) []
-unfolding lines words said number message status form_of plain_form message_form event_form asked request second_request setting credits credits_of limit
-    unit_of more_units first_units with_unit
+unfolding lines words said number message status form_of plain_form message_form event_form asked request
+    second_request setting credits credits_of limit unit_of more_units first_units with_unit
     gone unit_or_go next after_line lines_outcome decode_pairs
 two_read = is_read (text two) (settings (shape 0 ∷ shape 7 ∷ [])) [] (lit≤ tt) refl
 
@@ -119,8 +119,8 @@ both =
 both_read : Reads (text both) (record (settings (shape 0 ∷ [])) { second = 3 })
     (events.Send Second (record { items = command_bytes (record { reference = 2; unit = 0; order = orders.Abort 1 }) })
     ∷ events.Take First ∷ events.Take Second ∷ [])
-unfolding lines words said number message status form_of plain_form message_form event_form asked request second_request setting credits credits_of limit
-    unit_of more_units first_units with_unit
+unfolding lines words said number message status form_of plain_form message_form event_form asked request
+    second_request setting credits credits_of limit unit_of more_units first_units with_unit
     gone unit_or_go next after_line lines_outcome decode_pairs
 both_read = is_read (text both) (record (settings (shape 0 ∷ [])) { second = 3 })
     (events.Send Second (record { items = command_bytes (record { reference = 2; unit = 0; order = orders.Abort 1 }) })
@@ -136,8 +136,8 @@ abbrev long : List (List ℕ)
 long = header ++ replicate 201 32 ∷ []
 
 long_fault : Faulty long 7 causes.Long
-unfolding lines words said number message status form_of plain_form message_form event_form asked request second_request setting credits credits_of limit
-    unit_of more_units first_units with_unit
+unfolding lines words said number message status form_of plain_form message_form event_form asked request
+    second_request setting credits credits_of limit unit_of more_units first_units with_unit
     gone unit_or_go next after_line lines_outcome decode_pairs
 long_fault = is_fault (text long) (at_line 7 causes.Long) (lit≤ tt) refl
 
@@ -146,8 +146,8 @@ abbrev alone : List (List ℕ)
 alone = header ++ codes "second" ∷ []
 
 alone_fault : Faulty alone 7 causes.Count
-unfolding lines words said number message status form_of plain_form message_form event_form asked request second_request setting credits credits_of limit
-    unit_of more_units first_units with_unit
+unfolding lines words said number message status form_of plain_form message_form event_form asked request
+    second_request setting credits credits_of limit unit_of more_units first_units with_unit
     gone unit_or_go next after_line lines_outcome decode_pairs
 alone_fault = is_fault (text alone) (at_line 7 causes.Count) (lit≤ tt) refl
 
@@ -156,8 +156,8 @@ abbrev hostless : List (List ℕ)
 hostless = header ++ codes "second look 1" ∷ []
 
 hostless_fault : Faulty hostless 7 causes.Word
-unfolding lines words said number message status form_of plain_form message_form event_form asked request second_request setting credits credits_of limit
-    unit_of more_units first_units with_unit
+unfolding lines words said number message status form_of plain_form message_form event_form asked request
+    second_request setting credits credits_of limit unit_of more_units first_units with_unit
     gone unit_or_go next after_line lines_outcome decode_pairs
 hostless_fault = is_fault (text hostless) (at_line 7 causes.Word) (lit≤ tt) refl
 
@@ -166,8 +166,8 @@ abbrev three : List (List ℕ)
 three = codes "credits 4 4 4" ∷ []
 
 three_fault : Faulty three 1 causes.Count
-unfolding lines words said number message status form_of plain_form message_form event_form asked request second_request setting credits credits_of limit
-    unit_of more_units first_units with_unit
+unfolding lines words said number message status form_of plain_form message_form event_form asked request
+    second_request setting credits credits_of limit unit_of more_units first_units with_unit
     gone unit_or_go next after_line lines_outcome decode_pairs
 three_fault = is_fault (text three) (at_line 1 causes.Count) (lit≤ tt) refl
 
@@ -176,8 +176,8 @@ abbrev byte : List (List ℕ)
 byte = header ++ (9 ∷ codes "take") ∷ []
 
 byte_fault : Faulty byte 7 causes.Byte
-unfolding lines words said number message status form_of plain_form message_form event_form asked request second_request setting credits credits_of limit
-    unit_of more_units first_units with_unit
+unfolding lines words said number message status form_of plain_form message_form event_form asked request
+    second_request setting credits credits_of limit unit_of more_units first_units with_unit
     gone unit_or_go next after_line lines_outcome decode_pairs
 byte_fault = is_fault (text byte) (at_line 7 causes.Byte) (lit≤ tt) refl
 
@@ -186,8 +186,8 @@ abbrev again : List (List ℕ)
 again = header ++ codes "credits 4" ∷ []
 
 again_fault : Faulty again 7 causes.Word
-unfolding lines words said number message status form_of plain_form message_form event_form asked request second_request setting credits credits_of limit
-    unit_of more_units first_units with_unit
+unfolding lines words said number message status form_of plain_form message_form event_form asked request
+    second_request setting credits credits_of limit unit_of more_units first_units with_unit
     gone unit_or_go next after_line lines_outcome decode_pairs
 again_fault = is_fault (text again) (at_line 7 causes.Word) (lit≤ tt) refl
 
@@ -196,8 +196,8 @@ abbrev word_first : List (List ℕ)
 word_first = codes "passing 0" ∷ []
 
 word_first_fault : Faulty word_first 1 causes.Word
-unfolding lines words said number message status form_of plain_form message_form event_form asked request second_request setting credits credits_of limit
-    unit_of more_units first_units with_unit
+unfolding lines words said number message status form_of plain_form message_form event_form asked request
+    second_request setting credits credits_of limit unit_of more_units first_units with_unit
     gone unit_or_go next after_line lines_outcome decode_pairs
 word_first_fault = is_fault (text word_first) (at_line 1 causes.Word) (lit≤ tt) refl
 
@@ -206,8 +206,8 @@ abbrev word_comment : List (List ℕ)
 word_comment = header ++ codes " # no comment" ∷ []
 
 word_comment_fault : Faulty word_comment 7 causes.Word
-unfolding lines words said number message status form_of plain_form message_form event_form asked request second_request setting credits credits_of limit
-    unit_of more_units first_units with_unit
+unfolding lines words said number message status form_of plain_form message_form event_form asked request
+    second_request setting credits credits_of limit unit_of more_units first_units with_unit
     gone unit_or_go next after_line lines_outcome decode_pairs
 word_comment_fault = is_fault (text word_comment) (at_line 7 causes.Word) (lit≤ tt) refl
 
@@ -216,8 +216,8 @@ abbrev count : List (List ℕ)
 count = header ++ codes "take 1" ∷ []
 
 count_fault : Faulty count 7 causes.Count
-unfolding lines words said number message status form_of plain_form message_form event_form asked request second_request setting credits credits_of limit
-    unit_of more_units first_units with_unit
+unfolding lines words said number message status form_of plain_form message_form event_form asked request
+    second_request setting credits credits_of limit unit_of more_units first_units with_unit
     gone unit_or_go next after_line lines_outcome decode_pairs
 count_fault = is_fault (text count) (at_line 7 causes.Count) (lit≤ tt) refl
 
@@ -226,8 +226,8 @@ abbrev count_first : List (List ℕ)
 count_first = header ++ codes "read 1 x" ∷ []
 
 count_first_fault : Faulty count_first 7 causes.Count
-unfolding lines words said number message status form_of plain_form message_form event_form asked request second_request setting credits credits_of limit
-    unit_of more_units first_units with_unit
+unfolding lines words said number message status form_of plain_form message_form event_form asked request
+    second_request setting credits credits_of limit unit_of more_units first_units with_unit
     gone unit_or_go next after_line lines_outcome decode_pairs
 count_first_fault = is_fault (text count_first) (at_line 7 causes.Count) (lit≤ tt) refl
 
@@ -236,8 +236,8 @@ abbrev zero_steps : List (List ℕ)
 zero_steps = header ++ codes "step 0" ∷ []
 
 zero_steps_fault : Faulty zero_steps 7 causes.Number
-unfolding lines words said number message status form_of plain_form message_form event_form asked request second_request setting credits credits_of limit
-    unit_of more_units first_units with_unit
+unfolding lines words said number message status form_of plain_form message_form event_form asked request
+    second_request setting credits credits_of limit unit_of more_units first_units with_unit
     gone unit_or_go next after_line lines_outcome decode_pairs
 zero_steps_fault = is_fault (text zero_steps) (at_line 7 causes.Number) (lit≤ tt) refl
 
@@ -246,8 +246,8 @@ abbrev odd_digits : List (List ℕ)
 odd_digits = header ++ codes "packet abc" ∷ []
 
 odd_digits_fault : Faulty odd_digits 7 causes.Hex
-unfolding lines words said number message status form_of plain_form message_form event_form asked request second_request setting credits credits_of limit
-    unit_of more_units first_units with_unit
+unfolding lines words said number message status form_of plain_form message_form event_form asked request
+    second_request setting credits credits_of limit unit_of more_units first_units with_unit
     gone unit_or_go next after_line lines_outcome decode_pairs
 odd_digits_fault = is_fault (text odd_digits) (at_line 7 causes.Hex) (lit≤ tt) refl
 
@@ -256,8 +256,8 @@ abbrev hex_four : List (List ℕ)
 hex_four = header ++ codes "bad 0" ∷ []
 
 hex_four_fault : Faulty hex_four 7 causes.Hex
-unfolding lines words said number message status form_of plain_form message_form event_form asked request second_request setting credits credits_of limit
-    unit_of more_units first_units with_unit
+unfolding lines words said number message status form_of plain_form message_form event_form asked request
+    second_request setting credits credits_of limit unit_of more_units first_units with_unit
     gone unit_or_go next after_line lines_outcome decode_pairs
 hex_four_fault = is_fault (text hex_four) (at_line 7 causes.Hex) (lit≤ tt) refl
 
@@ -266,8 +266,8 @@ abbrev code_four : List (List ℕ)
 code_four = header ++ codes "bad 0004" ∷ []
 
 code_four_fault : Faulty code_four 7 causes.Status
-unfolding lines words said number message status form_of plain_form message_form event_form asked request second_request setting credits credits_of limit
-    unit_of more_units first_units with_unit
+unfolding lines words said number message status form_of plain_form message_form event_form asked request
+    second_request setting credits credits_of limit unit_of more_units first_units with_unit
     gone unit_or_go next after_line lines_outcome decode_pairs
 code_four_fault = is_fault (text code_four) (at_line 7 causes.Status) (lit≤ tt) refl
 
@@ -276,8 +276,8 @@ abbrev no_size : List (List ℕ)
 no_size = limits_lines ++ codes "unit 0 0 2 1 1000" ∷ []
 
 no_size_fault : Faulty no_size 5 causes.Unit
-unfolding lines words said number message status form_of plain_form message_form event_form asked request second_request setting credits credits_of limit
-    unit_of more_units first_units with_unit
+unfolding lines words said number message status form_of plain_form message_form event_form asked request
+    second_request setting credits credits_of limit unit_of more_units first_units with_unit
     gone unit_or_go next after_line lines_outcome decode_pairs
 no_size_fault = is_fault (text no_size) (at_line 5 causes.Unit) (lit≤ tt) refl
 
@@ -286,8 +286,8 @@ abbrev unit_again : List (List ℕ)
 unit_again = limits_lines ++ codes "unit 3 10 2 1 1000" ∷ codes "unit 3 10 2 1 1000" ∷ []
 
 unit_again_fault : Faulty unit_again 6 causes.Unit
-unfolding lines words said number message status form_of plain_form message_form event_form asked request second_request setting credits credits_of limit
-    unit_of more_units first_units with_unit
+unfolding lines words said number message status form_of plain_form message_form event_form asked request
+    second_request setting credits credits_of limit unit_of more_units first_units with_unit
     gone unit_or_go next after_line lines_outcome decode_pairs
 unit_again_fault = is_fault (text unit_again) (at_line 6 causes.Unit) (lit≤ tt) refl
 
@@ -297,8 +297,8 @@ one_credit = codes "credits 1" ∷ codes "passing 0" ∷ codes "longest 8" ∷ c
     ∷ codes "go" ∷ codes "wrong" ∷ []
 
 one_credit_fault : Faulty one_credit 6 causes.Config
-unfolding lines words said number message status form_of plain_form message_form event_form asked request second_request setting credits credits_of limit
-    unit_of more_units first_units with_unit
+unfolding lines words said number message status form_of plain_form message_form event_form asked request
+    second_request setting credits credits_of limit unit_of more_units first_units with_unit
     gone unit_or_go next after_line lines_outcome decode_pairs
 one_credit_fault = is_fault (text one_credit) (at_line 6 causes.Config) (lit≤ tt) refl
 
@@ -307,8 +307,8 @@ abbrev no_go : List (List ℕ)
 no_go = limits_lines ++ [] ∷ []
 
 no_go_fault : Faulty no_go 6 causes.Header
-unfolding lines words said number message status form_of plain_form message_form event_form asked request second_request setting credits credits_of limit
-    unit_of more_units first_units with_unit
+unfolding lines words said number message status form_of plain_form message_form event_form asked request
+    second_request setting credits credits_of limit unit_of more_units first_units with_unit
     gone unit_or_go next after_line lines_outcome decode_pairs
 no_go_fault = is_fault (text no_go) (at_line 6 causes.Header) (lit≤ tt) refl
 
