@@ -67,17 +67,17 @@ attend() {
 # What is built: for people, by which words of rt in which crate, to which file, and its name where it is kept. The
 # status of rt run may be the program's, so that gets an input on which it ends with 0.
 the_program() {
-    what='the program' minutes='5 minutes on four processors, up to 15'
+    what='the program'
     words=(run) crate=$top/crates/mscpq built=$crate/out/mscpq kept=$top/out/mscpq
     input=$crate/stdin
 }
 the_judge() {
-    what='the judge' minutes='5 minutes on four processors, up to 15'
+    what='the judge'
     words=run crate=$top/crates/mscpjudge built=$crate/out/mscpjudge kept=$top/out/mscpjudge
     input=$crate/stdin
 }
 the_library() {
-    what='the library' minutes='5 minutes on four processors, up to 10'
+    what='the library'
     words=(lib) crate=$top/crates/mscp_c built=$crate/out/libmscp_c.a kept=$top/out/libmscp
     input=/dev/null
 }
@@ -247,7 +247,7 @@ is_kept() {
 build() {
     local before='' now round=0
     SECONDS=0
-    say "proving and building $what: from nothing about $minutes on busy ones"
+    say "proving and building $what: from nothing, allow 15 minutes on four processors"
     mkdir -p -- "$top/out" && exec {lock}>>"$top/out/lock" || refuse "$top/out can't be written"
     flock -n "$lock" || { say 'waiting for another build' && flock "$lock"; } || refuse "$top/out/lock can't be locked"
     # Nobody else builds now, so a room that is there was left by a build that was killed.
