@@ -12,7 +12,7 @@ use mscp_packet::{Command, Order};
 
 /// The place of the drive of a command's unit, and the cylinder of its first block, 0 where it has none. Neither changes
 /// while the command waits, and each start asks for both.
-#[derive(Clone, Copy, Debug, Default, PartialEq, Eq)]
+#[derive(Clone, Copy, Default)]
 pub(crate) struct Aim {
     pub drive: u8,
     pub cylinder: u32,

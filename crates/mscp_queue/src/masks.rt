@@ -5,7 +5,7 @@ ghost use Rattle.std.specs.Int.{bit_at};
 ghost use Rattle.mscp_queue.specs.Masks.{HasCome, HasLeft, IsBehind, IsLowestFree, IsSet, fences};
 
 /// Which slots are taken, and what is known of their commands: one bit a slot.
-#[derive(Clone, Copy, Debug, PartialEq, Eq)]
+#[derive(Clone, Copy)]
 pub(crate) struct Masks {
     /// Those that are taken.
     pub waiting: u64,

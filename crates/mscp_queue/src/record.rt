@@ -11,7 +11,7 @@ use std::marker::Model;
 
 /// A waiting command: the connection that it came by, what it asks for, how many steps it takes, how many it had, and by
 /// how many blocks it was passed.
-#[derive(Clone, Copy, Debug, PartialEq, Eq)]
+#[derive(Clone, Copy)]
 pub struct Record {
     // The parts of the command stand beside the connection, in this order, since a record takes 32 bytes so.
     reference: u32,

@@ -19,7 +19,7 @@ use mscp_packet::{End, Order};
 
 /// What the last step of a command does: the block that it touches, how many cylinders the head goes, the end that it
 /// brings, and the drive that it leaves.
-#[derive(Clone, Copy, Debug, PartialEq, Eq)]
+#[derive(Clone, Copy)]
 pub(crate) struct Service {
     pub lbn: Option<u32>,
     pub seek: u32,
@@ -107,7 +107,7 @@ fn head_on(head: &Head, to: u32, starts: bool) -> (u32, Head)
 }
 
 /// What a step has its unit's head do: the block that it touches, how many cylinders the head goes, and the head then.
-#[derive(Clone, Copy, Debug, PartialEq, Eq)]
+#[derive(Clone, Copy)]
 pub(crate) struct Way {
     pub lbn: Option<u32>,
     pub seek: u32,

@@ -19,7 +19,7 @@ use arrayvec::ArrayVec;
 use std::marker::Model;
 
 /// What a slot holds: the record of a waiting command, where it aims, and its due.
-#[derive(Clone, Copy, Debug, PartialEq, Eq)]
+#[derive(Clone, Copy)]
 pub(crate) struct Slot {
     pub item: Record,
     pub aim: Aim,

@@ -9,6 +9,7 @@
 mod aborting;
 mod blocks;
 mod calls;
+mod checks;
 mod controllers;
 mod crowds;
 mod drives;

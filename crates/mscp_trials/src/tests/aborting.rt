@@ -4,6 +4,7 @@ use super::calls::{aborts, has_free};
 use super::controllers::Newest;
 use super::crowds::full;
 use super::values::FIRST;
+use crate::tests::checks::{same, same_of};
 use mscp_control::{Block, Controller};
 use std::process::Abort;
 
@@ -16,18 +17,18 @@ fn is_not_greater(
     aborted: u32,
 ) {
     let now = controller.figure(FIRST, reference);
-    assert!(rt; now <= figure, "{reference} after an abort of {aborted}");
-    assert_eq!(rt; now == 0, reference == aborted);
+    same_of(rt, (reference, aborted), now <= figure, true);
+    same(rt, now == 0, reference == aborted);
 }
 
 /// So many commands wait.
 fn are_waiting(rt: &impl Abort, controller: &Controller<Newest>, count: u32) {
-    assert_eq!(rt; controller.waiting(FIRST), count);
+    same(rt, controller.waiting(FIRST), count);
 }
 
 /// So many ends weren't taken.
 fn are_untaken(rt: &impl Abort, controller: &Controller<Newest>, count: u32) {
-    assert_eq!(rt; controller.untaken(FIRST), count);
+    same(rt, controller.untaken(FIRST), count);
 }
 
 /// A controller that served so many steps.

@@ -1,6 +1,7 @@
 // One call of a controller each, and what it answers.
 
 use super::values::{FIRST, command};
+use crate::tests::checks::{holds, same};
 use mscp_control::{
     Block, Connection, Controller, Picker, Report, SendFault, Sent, Stale, Upcoming,
 };
@@ -24,7 +25,7 @@ pub fn queues<K: Picker>(
     command: &Command,
 ) {
     let queued = Ok(Sent::Queued(command.reference));
-    assert_eq!(rt; sent(controller, connection, command), queued);
+    same(rt, sent(controller, connection, command), queued);
 }
 
 /// The command has its end at once, and has aborted this one, or none.
@@ -37,7 +38,7 @@ pub fn answers<K: Picker>(
 ) {
     let reference = command.reference;
     let answered = Ok(Sent::Answered { reference, aborted });
-    assert_eq!(rt; sent(controller, connection, command), answered);
+    same(rt, sent(controller, connection, command), answered);
 }
 
 /// An ABORT of the other command finds it.
@@ -60,7 +61,7 @@ pub fn refuses<K: Picker>(
     command: &Command,
     fault: SendFault,
 ) {
-    assert_eq!(rt; sent(controller, connection, command), Err(fault));
+    same(rt, sent(controller, connection, command), Err(fault));
 }
 
 /// The oldest end that wasn't taken is this one.
@@ -71,7 +72,7 @@ pub fn takes<K: Picker>(
     end: End,
 ) {
     let bytes = controller.take(connection).expect(rt, "an end");
-    assert_eq!(rt; read_end(bytes.as_slice()), Ok(end));
+    same(rt, read_end(bytes.as_slice()), Ok(end));
 }
 
 /// The oldest end that wasn't taken has these bytes.
@@ -82,7 +83,7 @@ pub fn takes_bytes<K: Picker>(
     wanted: &[u8],
 ) {
     let bytes = controller.take(connection).expect(rt, "an end");
-    assert_eq!(rt; bytes.as_slice(), wanted);
+    same(rt, bytes.as_slice(), wanted);
 }
 
 /// Each end was taken.
@@ -91,7 +92,7 @@ pub fn takes_nothing<K: Picker>(
     controller: &mut Controller<K>,
     connection: Connection,
 ) {
-    assert!(rt; controller.take(connection).is_none());
+    holds(rt, controller.take(connection).is_none());
 }
 
 /// This is begun, or nothing.
@@ -100,7 +101,7 @@ pub fn begins<K: Picker>(
     controller: &mut Controller<K>,
     upcoming: Option<Upcoming>,
 ) {
-    assert_eq!(rt; controller.begin(), upcoming);
+    same(rt, controller.begin(), upcoming);
 }
 
 /// A step with this block does this.
@@ -110,7 +111,7 @@ pub fn steps<K: Picker>(
     block: Block,
     report: Report,
 ) {
-    assert_eq!(rt; controller.step(block), report);
+    same(rt, controller.step(block), report);
 }
 
 /// A finish with a good block does this, or is stale.
@@ -121,9 +122,10 @@ pub fn finishes<K: Picker>(
     reference: u32,
     wanted: Result<Report, Stale>,
 ) {
-    assert_eq!(rt;
+    same(
+        rt,
         controller.finish(connection, reference, Block::Good),
-        wanted
+        wanted,
     );
 }
 
@@ -134,7 +136,7 @@ pub fn has_free<K: Picker>(
     connection: Connection,
     credits: u32,
 ) {
-    assert_eq!(rt; controller.balance(connection), credits);
+    same(rt, controller.balance(connection), credits);
 }
 
 /// The command has this figure.
@@ -145,7 +147,7 @@ pub fn has_figure<K: Picker>(
     reference: u32,
     figure: u32,
 ) {
-    assert_eq!(rt; controller.figure(connection, reference), figure);
+    same(rt, controller.figure(connection, reference), figure);
 }
 
 /// These wait, with these figures.
@@ -154,7 +156,7 @@ pub fn shows<K: Picker>(
     controller: &Controller<K>,
     figures: &[(Connection, u32, u32)],
 ) {
-    assert_eq!(rt; controller.look().as_slice(), figures);
+    same(rt, controller.look().as_slice(), figures);
 }
 
 /// Brings a unit online, and takes the end.
@@ -166,5 +168,5 @@ pub fn bring_online<K: Picker>(rt: &impl Abort, controller: &mut Controller<K>, 
     };
     queues(rt, controller, FIRST, &online);
     let _report = controller.step(Block::Good);
-    assert!(rt; controller.take(FIRST).is_some());
+    holds(rt, controller.take(FIRST).is_some());
 }

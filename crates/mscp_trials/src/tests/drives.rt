@@ -1,5 +1,6 @@
 // Units of 1000 blocks, 20 of them a cylinder, and units of the largest sizes.
 
+use crate::tests::checks::{holds, same};
 use mscp_drive::{Head, Unit, UnitFault, Units, UnitsFault};
 use std::process::Abort;
 
@@ -14,18 +15,19 @@ fn usual(number: u16) -> Unit {
 #[test]
 fn the_numbers_of_a_unit_are_kept(rt: HostRuntime) {
     let unit = usual(7);
-    assert_eq!(rt; (unit.number(), unit.size()), (7, 1000));
-    assert_eq!(rt;
+    same(&rt, (unit.number(), unit.size()), (7, 1000));
+    same(
+        &rt,
         (unit.track(), unit.group(), unit.cylinder_size()),
-        (10, 2, 1)
+        (10, 2, 1),
     );
-    assert_eq!(rt; (unit.id(), unit.media(), unit.serial()), (1, 2, 3));
+    same(&rt, (unit.id(), unit.media(), unit.serial()), (1, 2, 3));
 }
 
 /// A unit of these sizes has this fault.
 fn has_fault(rt: &impl Abort, sizes: (u16, u16, u16), size: u32, fault: UnitFault) {
     let unit = Unit::new(0, sizes.0, sizes.1, sizes.2, size, 0, 0, 0);
-    assert_eq!(rt; unit, Err(fault));
+    same(rt, unit, Err(fault));
 }
 
 #[test]
@@ -38,12 +40,12 @@ fn the_first_size_of_zero_is_the_fault(rt: HostRuntime) {
 
 /// The block is on this cylinder.
 fn is_on(rt: &impl Abort, unit: &Unit, block: u32, cylinder: u32) {
-    assert_eq!(rt; unit.cylinder(block), cylinder);
+    same(rt, unit.cylinder(block), cylinder);
 }
 
 /// The last cylinder is this one.
 fn ends_on(rt: &impl Abort, unit: &Unit, cylinder: u32) {
-    assert_eq!(rt; unit.last_cylinder(), cylinder);
+    same(rt, unit.last_cylinder(), cylinder);
 }
 
 #[test]
@@ -61,7 +63,7 @@ fn a_block_has_a_cylinder(rt: HostRuntime) {
 #[test]
 fn the_largest_units_have_cylinders(rt: HostRuntime) {
     let largest = made(0, (65535, 65535, 65535), 4294967295).unwrap_or_default();
-    assert_eq!(rt; largest.track(), 65535);
+    same(&rt, largest.track(), 65535);
     is_on(&rt, &largest, 4294967295, 0);
     ends_on(&rt, &largest, 0);
     let least = made(0, (1, 1, 1), 4294967295).unwrap_or_default();
@@ -70,7 +72,7 @@ fn the_largest_units_have_cylinders(rt: HostRuntime) {
 
 /// A transfer of so many bytes from a block on has this weight, or status, where 8 blocks are the longest.
 fn weighs(rt: &impl Abort, block: u32, bytes: u32, weight: Result<u32, u16>) {
-    assert_eq!(rt; usual(0).check(block, bytes, 8), weight);
+    same(rt, usual(0).check(block, bytes, 8), weight);
 }
 
 #[test]
@@ -92,18 +94,18 @@ fn a_transfer_is_weighed(rt: HostRuntime) {
 fn the_longest_transfer_is_weighed(rt: HostRuntime) {
     let largest = made(0, (1, 1, 1), 4294967295).unwrap_or_default();
     let past = largest.check(4294967294, 4294967295, 8388608);
-    assert_eq!(rt; past, Err(0x0C01));
+    same(&rt, past, Err(0x0C01));
     let longest = largest.check(0, 4294967295, 8388608);
-    assert_eq!(rt; longest, Ok(8388608));
+    same(&rt, longest, Ok(8388608));
 }
 
 /// A READ on a cylinder costs so much.
 fn costs(rt: &impl Abort, cylinder: u32, up: bool, to: u32, cost: u64) {
     let unit = usual(0);
     let head = Head { cylinder, up };
-    assert!(rt; cylinder <= unit.last_cylinder());
-    assert!(rt; to <= unit.last_cylinder());
-    assert_eq!(rt; head.cost(&unit, to), cost);
+    holds(rt, cylinder <= unit.last_cylinder());
+    holds(rt, to <= unit.last_cylinder());
+    same(rt, head.cost(&unit, to), cost);
 }
 
 #[test]
@@ -124,9 +126,9 @@ fn turns(rt: &impl Abort, (cylinder, up): (u32, bool), to: u32, turned: bool, fa
         cylinder: to,
         up: turned,
     };
-    assert_eq!(rt; head.moved(to), started);
-    assert_eq!(rt; head.carried(to), Head { cylinder: to, up });
-    assert_eq!(rt; head.distance(to), far);
+    same(rt, head.moved(to), started);
+    same(rt, head.carried(to), Head { cylinder: to, up });
+    same(rt, head.distance(to), far);
 }
 
 #[test]
@@ -135,7 +137,7 @@ fn a_start_turns_the_head_and_a_later_block_does_not(rt: HostRuntime) {
         cylinder: 0,
         up: true,
     };
-    assert_eq!(rt; Head::default(), new);
+    same(&rt, Head::default(), new);
     turns(&rt, (10, true), 30, true, 20);
     turns(&rt, (10, true), 5, false, 5);
     turns(&rt, (10, false), 30, true, 20);
@@ -146,7 +148,7 @@ fn a_start_turns_the_head_and_a_later_block_does_not(rt: HostRuntime) {
 
 /// A list of these units has this fault.
 fn is_refused(rt: &impl Abort, units: &[Unit], fault: UnitsFault) {
-    assert_eq!(rt; Units::new(units).err(), Some(fault));
+    same(rt, Units::new(units).err(), Some(fault));
 }
 
 #[test]
@@ -158,12 +160,12 @@ fn a_list_of_units_rises(rt: HostRuntime) {
     is_refused(&rt, &[a, a], UnitsFault::NotAscending);
     is_refused(&rt, &[a, c, b], UnitsFault::NotAscending);
     let most: [Unit; 16] = std::array::from_fn(|i| usual(i as u16));
-    assert!(rt; Units::new(&most).is_ok());
+    holds(&rt, Units::new(&most).is_ok());
 }
 
 /// The list finds this under a number.
 fn finds(rt: &impl Abort, units: &Units, number: u16, wanted: Option<&Unit>) {
-    assert_eq!(rt; units.find(number), wanted);
+    same(rt, units.find(number), wanted);
 }
 
 #[test]
@@ -172,12 +174,12 @@ fn units_are_found_and_made_again(rt: HostRuntime) {
     let Ok(units) = Units::new(&[a, b, c]) else {
         panic!(rt; "the numbers rise");
     };
-    assert_eq!(rt; units.list(), [a, b, c].as_slice());
+    same(&rt, units.list(), [a, b, c].as_slice());
     finds(&rt, &units, 2, Some(&a));
     finds(&rt, &units, 5, Some(&b));
     finds(&rt, &units, 65535, Some(&c));
     for absent in [0, 3, 6, 65534] {
         finds(&rt, &units, absent, None);
     }
-    assert_eq!(rt; Units::new(units.list()), Ok(units));
+    same(&rt, Units::new(units.list()), Ok(units));
 }

@@ -1,5 +1,6 @@
 // Entries that no script leads to: a report has the lines of these, too.
 
+use crate::tests::checks::{holds, same};
 use arrayvec::ArrayVec;
 use mscp_control::{Connection, Entry, Report, SendFault, Sent};
 use mscp_packet::{End, EndBody};
@@ -62,7 +63,11 @@ end 0200000000000000820000ff
 second end abababababababababababababababababababababababababababababababababababababababababababababababab
 steps 2 seeks 8589934590 pending 0
 ";
-    assert_eq!(rt; report(rt.alloc(), &entries)?.as_slice(), wanted.as_bytes());
+    same(
+        &rt,
+        report(rt.alloc(), &entries)?.as_slice(),
+        wanted.as_bytes(),
+    );
     Ok(())
 }
 
@@ -71,9 +76,9 @@ steps 2 seeks 8589934590 pending 0
 fn what_waits_is_counted_at_the_end_alone(rt: HostRuntime) -> Result<(), Fail> {
     let none_left = [served(0, Some(END)), served(0, Some(END)), queued(1)];
     let text = report(rt.alloc(), &none_left)?;
-    assert!(rt; text.ends_with(b"steps 2 seeks 8589934590 pending 0\n"));
+    holds(&rt, text.ends_with(b"steps 2 seeks 8589934590 pending 0\n"));
     let some_left = [served(0, Some(END)), queued(1), queued(2), queued(3)];
     let text = report(rt.alloc(), &some_left)?;
-    assert!(rt; text.ends_with(b"steps 1 seeks 4294967295 pending 2\n"));
+    holds(&rt, text.ends_with(b"steps 1 seeks 4294967295 pending 2\n"));
     Ok(())
 }

@@ -5,6 +5,7 @@ use super::HEADER;
 use super::messages::{TABLE, message};
 use super::streams::simulated;
 use super::values::config;
+use crate::tests::checks::{holds, same, same_of};
 use arrayvec::ArrayVec;
 use mscp_control::{Block, Connection, Event, Sweep, run};
 use mscp_script::{ShowFault, read_script, report, show_packet};
@@ -17,17 +18,17 @@ const NOTHING: &[u8] = b"steps 0 seeks 0 pending 0\n";
 #[test]
 fn nothing_to_do_wants_no_memory(rt: HostRuntime) -> Result<(), Fail> {
     let entries = run(rt.alloc(), config(&rt, 4, 16), Sweep, &[])?;
-    assert_eq!(rt; entries.len(), 0);
-    assert_eq!(rt; report(rt.alloc(), &entries)?.as_slice(), NOTHING);
+    same(&rt, entries.len(), 0);
+    same(&rt, report(rt.alloc(), &entries)?.as_slice(), NOTHING);
     let script = read_script(rt.alloc(), HEADER.as_bytes())?;
-    assert_eq!(rt; script.events.len(), 0);
+    same(&rt, script.events.len(), 0);
     let text = simulated(&rt, HEADER.as_bytes())
         .ok()
         .expect(&rt, "a script");
-    assert_eq!(rt; text.as_slice(), NOTHING);
+    same(&rt, text.as_slice(), NOTHING);
     let talk = converse(rt.alloc(), config(&rt, 4, 16), Sweep, &[])?;
-    assert_eq!(rt; talk.heard.len(), 0);
-    assert_eq!(rt; talk.trace.len(), 0);
+    same(&rt, talk.heard.len(), 0);
+    same(&rt, talk.trace.len(), 0);
     Ok(())
 }
 
@@ -76,11 +77,15 @@ fn every_packet_is_shown_or_has_its_fault(rt: HostRuntime) -> Result<(), Fail> {
                 show_packet(rt.alloc(), word.as_str()),
                 begins(opcode, length),
             ) {
-                (Ok(line), Ok(wanted)) => assert!(rt;
-                    line.starts_with(wanted.as_bytes()),
-                    "of {word}"
-                ),
-                (Err(fault), Err(wanted)) => assert_eq!(rt; fault, wanted, "of {word}"),
+                (Ok(line), Ok(wanted)) => {
+                    same_of(
+                        &rt,
+                        word.as_str(),
+                        line.starts_with(wanted.as_bytes()),
+                        true,
+                    )
+                }
+                (Err(fault), Err(wanted)) => same_of(&rt, word.as_str(), fault, wanted),
                 _ => panic!(rt; "of {word}"),
             }
         }
@@ -116,14 +121,14 @@ fn all_messages(rt: &(impl Abort + AllocGlobal)) -> Result<(Vec<Event>, String),
 fn every_message_is_run_and_reported(rt: HostRuntime) -> Result<(), Fail> {
     let (events, script) = all_messages(&rt)?;
     let read = read_script(rt.alloc(), script.as_bytes())?;
-    assert!(rt; read.events == events);
+    holds(&rt, read.events == events);
     let entries = run(rt.alloc(), read.config, Sweep, &events)?;
-    assert_eq!(rt; entries.len(), 98_304);
+    same(&rt, entries.len(), 98_304);
     let text = simulated(&rt, script.as_bytes())
         .ok()
         .expect(&rt, "a script");
-    assert!(rt; text == report(rt.alloc(), &entries)?);
-    assert!(rt; text.ends_with(b"steps 32768 seeks 0 pending 0\n"));
+    holds(&rt, text == report(rt.alloc(), &entries)?);
+    holds(&rt, text.ends_with(b"steps 32768 seeks 0 pending 0\n"));
     Ok(())
 }
 
@@ -131,9 +136,9 @@ fn every_message_is_run_and_reported(rt: HostRuntime) -> Result<(), Fail> {
 fn a_talk_of_many_turns_is_heard(rt: HostRuntime) -> Result<(), Fail> {
     let turns = vec![in rt.alloc(); Turn::Take(Connection::First); 1_000_000]?;
     let talk = converse(rt.alloc(), config(&rt, 4, 16), Sweep, &turns)?;
-    assert_eq!(rt; talk.heard.len(), 1_000_000);
-    assert_eq!(rt; talk.trace.len(), 1_000_000);
-    assert_eq!(rt; talk.heard.last(), Some(&Heard::Quiet));
+    same(&rt, talk.heard.len(), 1_000_000);
+    same(&rt, talk.trace.len(), 1_000_000);
+    same(&rt, talk.heard.last(), Some(&Heard::Quiet));
     Ok(())
 }
 
@@ -152,10 +157,13 @@ fn a_long_run_without_credits_is_run(rt: HostRuntime) -> Result<(), Fail> {
     wanted.push_str("steps 0 seeks 0 pending 1\n")?;
     let read = read_script(rt.alloc(), script.as_bytes())?;
     let entries = run(rt.alloc(), read.config, Sweep, &read.events)?;
-    assert!(rt; report(rt.alloc(), &entries)?.as_slice() == wanted.as_bytes());
+    holds(
+        &rt,
+        report(rt.alloc(), &entries)?.as_slice() == wanted.as_bytes(),
+    );
     let text = simulated(&rt, script.as_bytes())
         .ok()
         .expect(&rt, "a script");
-    assert!(rt; text.as_slice() == wanted.as_bytes());
+    holds(&rt, text.as_slice() == wanted.as_bytes());
     Ok(())
 }

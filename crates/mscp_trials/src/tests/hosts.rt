@@ -4,6 +4,7 @@ mod driver;
 mod saving;
 
 use super::values::{command, ended};
+use crate::tests::checks::{holds, same};
 use mscp_host::{Host, HostFault, News, Poll};
 use mscp_packet::{Command, End, EndBody, MoveKind, Order, write_end};
 use std::process::Abort;
@@ -31,17 +32,17 @@ fn new_host(rt: &impl Abort, credits: u32) -> Host {
 
 /// The host submits a command.
 fn submits(rt: &impl Abort, host: &mut Host, command: &Command) {
-    assert!(rt; host.submit(command).is_ok());
+    holds(rt, host.submit(command).is_ok());
 }
 
 /// It refuses to.
 fn refuses(rt: &impl Abort, host: &mut Host, command: &Command, fault: HostFault) {
-    assert!(rt; host.submit(command) == Err(fault));
+    holds(rt, host.submit(command) == Err(fault));
 }
 
 /// A poll of this reference number is this.
 fn polls(rt: &impl Abort, host: &mut Host, reference: u32, wanted: Result<Poll, HostFault>) {
-    assert!(rt; host.poll(reference) == wanted);
+    holds(rt, host.poll(reference) == wanted);
 }
 
 /// A poll of this reference number is to be sent, with these bytes.
@@ -49,7 +50,7 @@ fn asks(rt: &impl Abort, host: &mut Host, reference: u32, bytes: &[u8]) {
     let Ok(Poll::Ask(message)) = host.poll(reference) else {
         panic!(rt; "a poll is to be sent");
     };
-    assert_eq!(rt; message.as_slice(), bytes);
+    same(rt, message.as_slice(), bytes);
 }
 
 /// The GET COMMAND STATUS of this reference number about that one, both below 256.
@@ -59,7 +60,7 @@ fn status_bytes(reference: u8, other: u8) -> [u8; 16] {
 
 /// The host says this of an end.
 fn hears(rt: &impl Abort, host: &mut Host, end: End, wanted: Result<News, HostFault>) {
-    assert!(rt; host.receive(write_end(&end).as_slice()) == wanted);
+    holds(rt, host.receive(write_end(&end).as_slice()) == wanted);
 }
 
 /// A command ends.
@@ -69,13 +70,13 @@ fn ends(rt: &impl Abort, host: &mut Host, end: End) {
 
 /// So many credits are free.
 fn has_free(rt: &impl Abort, host: &Host, credits: u32) {
-    assert_eq!(rt; host.balance(), credits);
+    same(rt, host.balance(), credits);
 }
 
 #[test]
 fn takes_2_to_64_credits(rt: HostRuntime) {
     for credits in [0, 1, 65, 4_294_967_295] {
-        assert!(rt; Host::new(credits).err() == Some(HostFault::Credits));
+        holds(&rt, Host::new(credits).err() == Some(HostFault::Credits));
     }
     for credits in [2, 64] {
         has_free(&rt, &new_host(&rt, credits), credits);
@@ -189,7 +190,7 @@ fn is_unknown(rt: &impl Abort, host: &mut Host, end: End) {
 
 /// The host can't read these bytes.
 fn is_unreadable(rt: &impl Abort, host: &mut Host, bytes: &[u8]) {
-    assert!(rt; host.receive(bytes) == Err(HostFault::Unreadable));
+    holds(rt, host.receive(bytes) == Err(HostFault::Unreadable));
 }
 
 #[test]
@@ -226,7 +227,7 @@ fn each_fault_has_its_text(rt: HostRuntime) -> Result<(), Fail> {
         (HostFault::Unknown, "unknown"),
     ];
     for (fault, text) in cases {
-        assert_eq!(rt; fault.to_string(rt.alloc())?.as_str(), text);
+        same(&rt, fault.to_string(rt.alloc())?.as_str(), text);
     }
     Ok(())
 }

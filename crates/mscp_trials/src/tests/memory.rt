@@ -6,6 +6,7 @@ use super::moments::event_of;
 use super::streams::{NEVER, reading, writing};
 use super::values::{FIRST, command, config};
 use crate::Scarce;
+use crate::tests::checks::{holds, same, same_of};
 use linked_list_allocator::LocalHeap;
 use mscp_control::{Block, Entry, Event, OutOfMemory, Sweep, run, run_in};
 use mscp_host::News;
@@ -25,8 +26,8 @@ const MANY: u64 = 40;
 
 /// A request was refused, if this says so, and whatever was handed out came back.
 fn nothing_is_kept(rt: &impl Abort, heap: &Scarce<Global>, is_refused: bool) {
-    assert_eq!(rt; heap.has_refused(), is_refused);
-    assert_eq!(rt; heap.held(), 0);
+    same(rt, heap.has_refused(), is_refused);
+    same(rt, heap.held(), 0);
 }
 
 fn sent(rt: &impl Abort, reference: u32, order: Order) -> Event {
@@ -74,10 +75,10 @@ fn run_is_refused_memory(rt: HostRuntime) -> Result<(), Fail> {
             Err(OutOfMemory) => nothing_is_kept(&rt, &heap, true),
             Ok(entries) => {
                 let text = report(rt.alloc(), &entries)?;
-                assert_eq!(rt; text.as_slice(), PASSED_AND_ABORTED);
+                same(&rt, text.as_slice(), PASSED_AND_ABORTED);
                 drop(entries);
                 nothing_is_kept(&rt, &heap, false);
-                assert_eq!(rt; number, 2);
+                same(&rt, number, 2);
                 return Ok(());
             }
         }
@@ -98,14 +99,14 @@ fn run_asks_for_the_entries_alone(rt: HostRuntime) {
     let entries = run_in(&heap, config(&rt, 4, 16), Sweep, &events)
         .ok()
         .expect(&rt, "room for the entries");
-    assert_eq!(rt; entries.len(), 1000);
-    assert_eq!(rt; heap.used(), heap.size());
+    same(&rt, entries.len(), 1000);
+    same(&rt, heap.used(), heap.size());
     let small = LocalHeap::new(rt.alloc(), bytes - size_of::<Entry>())
         .ok()
         .expect(&rt, "memory");
     let refused = run_in(&small, config(&rt, 4, 16), Sweep, &events).err();
-    assert_eq!(rt; refused, Some(OutOfMemory));
-    assert_eq!(rt; small.used(), 0);
+    same(&rt, refused, Some(OutOfMemory));
+    same(&rt, small.used(), 0);
 }
 
 #[test]
@@ -121,10 +122,10 @@ fn report_is_refused_memory(rt: HostRuntime) -> Result<(), Fail> {
         match report_in(&heap, &entries) {
             Err(OutOfMemory) => nothing_is_kept(&rt, &heap, true),
             Ok(text) => {
-                assert_eq!(rt; text.as_slice(), PASSED_AND_ABORTED);
+                same(&rt, text.as_slice(), PASSED_AND_ABORTED);
                 drop(text);
                 nothing_is_kept(&rt, &heap, false);
-                assert!(rt; number > 2);
+                holds(&rt, number > 2);
                 return Ok(());
             }
         }
@@ -141,12 +142,12 @@ fn read_script_is_refused_memory(rt: HostRuntime) -> Result<(), Fail> {
             Err(ReadFault::OutOfMemory) => nothing_is_kept(&rt, &heap, true),
             Err(ReadFault::Script(_)) => panic!(rt; "it has no fault"),
             Ok(script) => {
-                assert_eq!(rt; script.config, config(&rt, 4, 16));
-                assert_eq!(rt; script.events.as_slice(), whole.events.as_slice());
-                assert_eq!(rt; script.events.len(), 10);
+                same(&rt, &script.config, &config(&rt, 4, 16));
+                same(&rt, script.events.as_slice(), whole.events.as_slice());
+                same(&rt, script.events.len(), 10);
                 drop(script);
                 nothing_is_kept(&rt, &heap, false);
-                assert!(rt; number > 1);
+                holds(&rt, number > 1);
                 return Ok(());
             }
         }
@@ -167,12 +168,12 @@ fn simulate_is_refused_memory(rt: HostRuntime) {
         nothing_is_kept(&rt, &heap, answer.is_err());
         match answer {
             Err(fault) => {
-                assert_eq!(rt; fault, SimFault::OutOfMemory);
-                assert_eq!(rt; bytes.len(), 0);
+                same(&rt, fault, SimFault::OutOfMemory);
+                same(&rt, bytes.len(), 0);
             }
             Ok(()) => {
-                assert_eq!(rt; bytes.as_slice(), REPORT);
-                assert!(rt; number > 10);
+                same(&rt, bytes.as_slice(), REPORT);
+                holds(&rt, number > 10);
                 return;
             }
         }
@@ -209,12 +210,12 @@ fn shown(rt: &(impl Abort + AllocGlobal), word: &str, wanted: Result<&[u8], Show
         match show_packet_in(&heap, word) {
             Err(ShowFault::OutOfMemory) => nothing_is_kept(rt, &heap, true),
             Err(fault) => {
-                assert_eq!(rt; Err(fault), wanted, "of {word}");
+                same_of(rt, word, Err(fault), wanted);
                 nothing_is_kept(rt, &heap, false);
                 return number;
             }
             Ok(line) => {
-                assert_eq!(rt; Ok(line.as_slice()), wanted, "of {word}");
+                same_of(rt, word, Ok(line.as_slice()), wanted);
                 drop(line);
                 nothing_is_kept(rt, &heap, false);
                 return number;
@@ -229,7 +230,7 @@ fn shown(rt: &(impl Abort + AllocGlobal), word: &str, wanted: Result<&[u8], Show
 fn show_packet_is_refused_memory(rt: HostRuntime) {
     for (word, wanted) in SHOWN {
         let number = shown(&rt, word, wanted);
-        assert_eq!(rt; number > 1, wanted.is_ok(), "of {word}");
+        same_of(&rt, word, number > 1, wanted.is_ok());
     }
 }
 
@@ -266,12 +267,12 @@ fn converse_is_refused_memory(rt: HostRuntime) {
                     Heard::Asked,
                     Heard::News(News::Reset),
                 ];
-                assert_eq!(rt; talk.heard.len(), 8);
-                assert_eq!(rt; talk.trace.len(), 8);
-                assert_eq!(rt; talk.heard.get(4..), Some(wanted.as_slice()));
+                same(&rt, talk.heard.len(), 8);
+                same(&rt, talk.trace.len(), 8);
+                same(&rt, talk.heard.get(4..), Some(wanted.as_slice()));
                 drop(talk);
                 nothing_is_kept(&rt, &heap, false);
-                assert_eq!(rt; number, 3);
+                same(&rt, number, 3);
                 return;
             }
         }

@@ -3,6 +3,7 @@
 
 use super::calls::has_free;
 use super::values::{FIRST, config};
+use crate::tests::checks::{holds, same, same_of};
 use arrayvec::ArrayVec;
 use mscp_control::{Controller, Oldest, SendFault, Sent};
 use std::process::Abort;
@@ -154,10 +155,10 @@ fn is_judged(rt: &impl Abort, opcode: u8, fill: u8, length: usize) {
     let mut controller = Controller::new(config(rt, 4, 16), Oldest);
     let sent = controller.send(FIRST, some);
     let (wanted, end) = judged(rt, opcode, length, fill);
-    assert_eq!(rt; sent, wanted, "of {opcode}, {length} bytes {fill}");
+    same_of(rt, (opcode, length, fill), sent, wanted);
     has_free(rt, &controller, FIRST, if wanted.is_ok() { 3 } else { 4 });
     let taken = controller.take(FIRST);
-    assert_eq!(rt; taken, end, "of {opcode}, {length} bytes {fill}");
+    same_of(rt, (opcode, length, fill), taken, end);
 }
 
 #[test]
@@ -173,8 +174,8 @@ fn every_message_is_judged_by_the_table(rt: HostRuntime) {
 #[test]
 fn sixty_four_ones_are_an_unknown_opcode(rt: HostRuntime) {
     let mut controller = Controller::new(config(&rt, 4, 16), Oldest);
-    assert!(rt; controller.send(FIRST, &[0xFF; 64]).is_ok());
+    holds(&rt, controller.send(FIRST, &[0xFF; 64]).is_ok());
     let end = controller.take(FIRST).expect(&rt, "an end");
     let wanted = b"\xff\xff\xff\xff\xff\xff\0\0\x80\0\x01\x08";
-    assert_eq!(rt; end.as_slice(), wanted.as_slice());
+    same(&rt, end.as_slice(), wanted.as_slice());
 }

@@ -1,6 +1,7 @@
 // Moments of a run: each event, and what it answers.
 
 use super::values::FIRST;
+use crate::tests::checks::same;
 use arrayvec::ArrayVec;
 use mscp_control::{Block, Config, Connection, Entry, Event, Picker, Report, SendFault, Sent, run};
 use std::process::Abort;
@@ -82,7 +83,7 @@ impl Moments {
 
     /// All of them are these.
     pub fn are(&self, rt: &impl Abort, trace: &[(Event, Entry)]) {
-        assert_eq!(rt; trace, self.list.as_slice());
+        same(rt, trace, self.list.as_slice());
     }
 
     /// A run of the events answers just so.
@@ -101,6 +102,6 @@ impl Moments {
         let ran = run(rt.alloc(), config, picker, events.as_slice())
             .ok()
             .expect(rt, "memory");
-        assert_eq!(rt; ran.as_slice(), entries.as_slice());
+        same(rt, ran.as_slice(), entries.as_slice());
     }
 }

@@ -3,6 +3,7 @@
 mod worked;
 
 use super::values::ended;
+use crate::tests::checks::{same, same_of};
 use mscp_packet::{
     Class, Command, End, EndBody, EndFault, MoveKind, Order, PacketFault, class_of, read_command,
     read_end, read_written_end, write_command,
@@ -19,8 +20,8 @@ fn command(reference: u32, unit: u16, order: Order) -> Command {
 
 #[test]
 fn an_end_is_zero_by_default(rt: HostRuntime) {
-    assert_eq!(rt; EndBody::default(), EndBody::Bare);
-    assert_eq!(rt; End::default(), ended(0, 0, 0, EndBody::Bare));
+    same(&rt, EndBody::default(), EndBody::Bare);
+    same(&rt, End::default(), ended(0, 0, 0, EndBody::Bare));
 }
 
 /// The body that an end is read back with, or its fault.
@@ -30,7 +31,7 @@ fn body_back(end: &End) -> Result<EndBody, EndFault> {
 
 /// An end of this endcode and this body is read back with that body, or has that fault.
 fn comes_back(rt: &impl Abort, code: u8, body: EndBody, wanted: Result<EndBody, EndFault>) {
-    assert_eq!(rt; body_back(&ended(1, code, 0, body)), wanted);
+    same(rt, body_back(&ended(1, code, 0, body)), wanted);
 }
 
 #[test]
@@ -52,7 +53,7 @@ fn ones(code: u8) -> [u8; 64] {
 /// A command of ones is read as this order.
 fn orders(rt: &impl Abort, opcode: u8, order: Order) {
     let wanted = command(0xFFFF_FFFF, 0xFFFF, order);
-    assert_eq!(rt; read_command(&ones(opcode)), Ok(wanted));
+    same(rt, read_command(&ones(opcode)), Ok(wanted));
 }
 
 /// An end of ones is read with this body.
@@ -64,7 +65,7 @@ fn tells(rt: &impl Abort, code: u8, body: EndBody) {
         status: 0xFFFF,
         body,
     };
-    assert_eq!(rt; read_end(&ones(code)), Ok(wanted));
+    same(rt, read_end(&ones(code)), Ok(wanted));
 }
 
 #[test]
@@ -114,18 +115,14 @@ fn has_at_least(rt: &impl Abort, opcode: u8, least: usize) {
     for length in 12..33 {
         let order = order_in(rt, &bytes[..length]);
         let wanted = if length < least { 0x0001 } else { 0 };
-        assert_eq!(rt;
-            refusal(&order),
-            wanted,
-            "{length} bytes of opcode {opcode}"
-        );
+        same_of(rt, (opcode, length), refusal(&order), wanted);
     }
 }
 
 #[test]
 fn commands_are_judged_by_length(rt: HostRuntime) {
-    assert_eq!(rt; read_command(&[0; 11]), Err(PacketFault::Short));
-    assert_eq!(rt; read_command(&[0; 65]), Err(PacketFault::Long));
+    same(&rt, read_command(&[0; 11]), Err(PacketFault::Short));
+    same(&rt, read_command(&[0; 65]), Err(PacketFault::Long));
     has_at_least(&rt, 1, 16);
     has_at_least(&rt, 2, 16);
     has_at_least(&rt, 3, 12);
@@ -147,9 +144,10 @@ fn an_unknown_opcode_is_written_as_it_came(rt: HostRuntime) {
         status: 0x0801,
     };
     let written = write_command(&command(7, 0, order));
-    assert_eq!(rt;
+    same(
+        &rt,
         written.as_slice(),
-        b"\x07\0\0\0\0\0\0\0\x05\0\0\0".as_slice()
+        b"\x07\0\0\0\0\0\0\0\x05\0\0\0".as_slice(),
     );
 }
 
@@ -162,7 +160,7 @@ fn code_in(bytes: &[u8]) -> Result<u8, EndFault> {
 fn is_judged(rt: &impl Abort, code: u8, length: usize, wanted: Result<u8, EndFault>) {
     let bytes = zeros(code);
     let some = bytes.get(..length).expect(rt, "65 bytes");
-    assert_eq!(rt; code_in(some), wanted);
+    same(rt, code_in(some), wanted);
 }
 
 #[test]
@@ -185,7 +183,7 @@ fn body_in(bytes: &[u8]) -> Result<EndBody, EndFault> {
 fn is_zeros(rt: &impl Abort, code: u8) {
     let bytes = zeros(code);
     let some = bytes.get(..64).expect(rt, "65 bytes");
-    assert_eq!(rt; body_in(some), Ok(EndBody::refused(code)), "of {code}");
+    same_of(rt, code, body_in(some), Ok(EndBody::refused(code)));
 }
 
 #[test]
@@ -195,12 +193,12 @@ fn refused_commands_have_the_body_that_zeros_are_read_as(rt: HostRuntime) {
     ] {
         is_zeros(&rt, code);
     }
-    assert_eq!(rt; EndBody::refused(0x85), EndBody::Bare);
+    same(&rt, EndBody::refused(0x85), EndBody::Bare);
 }
 
 /// The opcode has this class.
 fn has_class(rt: &impl Abort, opcode: u8, class: Class) {
-    assert_eq!(rt; class_of(opcode), class, "of {opcode}");
+    same_of(rt, opcode, class_of(opcode), class);
 }
 
 #[test]

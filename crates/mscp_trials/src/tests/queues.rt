@@ -6,6 +6,7 @@ ghost use Rattle.mscp_queue.specs.Kept.{IsWaitable, units_of};
 ghost use Rattle.mscp_queue.specs.Orders.{order_weight};
 
 use super::controllers::Newest;
+use crate::tests::checks::{same, same_of};
 use mscp_drive::{Unit, Units};
 use mscp_packet::{MoveKind, Order};
 use mscp_queue::{Block, Connection, Queue, Report, Waiting};
@@ -60,9 +61,9 @@ fn serves(rt: &impl Abort, budget: u32, order: [u32; 4])
     queue.push(read(3));
     queue.push(read(4));
     for wanted in order {
-        assert_eq!(rt; served(&mut queue), Some(wanted), "passed by {budget}");
+        same_of(rt, budget, served(&mut queue), Some(wanted));
     }
-    assert_eq!(rt; served(&mut queue), None);
+    same(rt, served(&mut queue), None);
 }
 
 // Where each may be passed by one block, the start of 4 passes 1, 2 and 3, and then none of them may be passed any more.

@@ -5,6 +5,7 @@ ghost use Rattle.std.specs.Prelude.{◌<◌, ◌≤◌};
 use super::calls::{bring_online, has_figure, queues, steps, takes_nothing};
 use super::controllers::Newest;
 use super::values::{FIRST, config, read, read_ended, served};
+use crate::tests::checks::{holds, same};
 use mscp_control::{Block, Controller, Report, run};
 use mscp_script::{read_script, report};
 use sha2::{Digest, Sha256};
@@ -74,7 +75,7 @@ fn empty(rt: &impl Abort, controller: &mut Controller<Newest>, from: u32) -> u32
 /// Takes an end of each.
 fn take_all(rt: &impl Abort, controller: &mut Controller<Newest>) {
     for _number in 0..PLACES {
-        assert!(rt; controller.take(FIRST).is_some());
+        holds(rt, controller.take(FIRST).is_some());
     }
     takes_nothing(rt, controller, FIRST);
 }
@@ -123,7 +124,7 @@ fn rounds_are_answered_as_by_a_list(rt: HostRuntime) -> Result<(), Fail> {
     let read = read_script(rt.alloc(), script.as_bytes())?;
     let entries = run(rt.alloc(), read.config, Newest, &read.events)?;
     let text = report(rt.alloc(), &entries)?;
-    assert_eq!(rt; text.len(), 2_647_582);
-    assert!(rt; Sha256::digest(&text) == ANSWERED_BY_A_LIST);
+    same(&rt, text.len(), 2_647_582);
+    holds(&rt, Sha256::digest(&text) == ANSWERED_BY_A_LIST);
     Ok(())
 }

@@ -5,6 +5,7 @@ use super::HEADER;
 use super::first::{REPORT, SCRIPT};
 use super::streams::simulated;
 use super::values::config;
+use crate::tests::checks::{holds, same};
 use mscp_control::{Sweep, run};
 use mscp_script::{read_script, report};
 use std::fmt::Write;
@@ -28,11 +29,11 @@ fn filled(
 fn refuses(rt: &(impl Abort + AllocGlobal), script: &[u8], wanted: &str) -> Result<(), Fail> {
     match read_script(rt.alloc(), script) {
         Ok(_) => panic!(rt; "it is read where {wanted} is wanted"),
-        Err(fault) => assert_eq!(rt; fault.to_string(rt.alloc())?.as_str(), wanted),
+        Err(fault) => same(rt, fault.to_string(rt.alloc())?.as_str(), wanted),
     }
     match simulated(rt, script) {
         Ok(_) => panic!(rt; "it is run where {wanted} is wanted"),
-        Err(fault) => assert_eq!(rt; fault.to_string(rt.alloc())?.as_str(), wanted),
+        Err(fault) => same(rt, fault.to_string(rt.alloc())?.as_str(), wanted),
     }
     Ok(())
 }
@@ -93,10 +94,10 @@ fn a_long_comment_changes_nothing(rt: HostRuntime) -> Result<(), Fail> {
     let mut script = filled(&rt, b"#", (b' ', 199), b"\r\n")?;
     script.extend_from_slice(SCRIPT)?;
     let text = simulated(&rt, &script).ok().expect(&rt, "a script");
-    assert_eq!(rt; text.as_slice(), REPORT);
+    same(&rt, text.as_slice(), REPORT);
     let lines = filled(&rt, SCRIPT, (b'\n', 999_000), b"")?;
     let text = simulated(&rt, &lines).ok().expect(&rt, "a script");
-    assert_eq!(rt; text.as_slice(), REPORT);
+    same(&rt, text.as_slice(), REPORT);
     Ok(())
 }
 
@@ -113,7 +114,7 @@ fn steps(rt: &impl AllocGlobal, thousands: usize) -> Result<String, Fail> {
 fn a_million_events_and_no_more(rt: HostRuntime) -> Result<(), Fail> {
     let mut script = steps(&rt, 1000)?;
     let events = read_script(rt.alloc(), script.as_bytes())?.events;
-    assert_eq!(rt; events.len(), 1_000_000);
+    same(&rt, events.len(), 1_000_000);
     let mut wanted = Vec::new(rt.alloc());
     for _step in 0..1_000_000 {
         wanted.extend_from_slice(b"idle\n")?;
@@ -122,9 +123,9 @@ fn a_million_events_and_no_more(rt: HostRuntime) -> Result<(), Fail> {
     let text = simulated(&rt, script.as_bytes())
         .ok()
         .expect(&rt, "a script");
-    assert!(rt; text == wanted);
+    holds(&rt, text == wanted);
     let entries = run(rt.alloc(), config(&rt, 4, 16), Sweep, &events)?;
-    assert!(rt; report(rt.alloc(), &entries)? == wanted);
+    holds(&rt, report(rt.alloc(), &entries)? == wanted);
     script.push_str("take")?;
     refuses(&rt, script.as_bytes(), "line 1007: events")?;
     let mut other = steps(&rt, 1000)?;

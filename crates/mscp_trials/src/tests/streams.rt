@@ -3,6 +3,7 @@
 ghost use Rattle.std.specs.Prelude.{◌≡◌, false};
 
 use super::first::{REPORT, SCRIPT};
+use crate::tests::checks::{same, same_of};
 use mscp_script::{SimFault, Stream, simulate};
 use std::alloc::Global;
 use std::io;
@@ -97,7 +98,7 @@ pub(super) fn simulated(
     match answer {
         Ok(()) => Ok(bytes),
         Err(fault) => {
-            assert_eq!(rt; bytes.len(), 0);
+            same(rt, bytes.len(), 0);
             Err(fault)
         }
     }
@@ -123,8 +124,8 @@ fn a_script_may_come_and_go_by_any_steps(rt: HostRuntime) {
     for step in [1, 2, 7, 4096] {
         for taken in [1, 2, 7, 4096] {
             let (answer, bytes) = simulated_by(rt.alloc(), (step, NEVER), (taken, NEVER));
-            assert_eq!(rt; answer, Ok(()), "by {step} and {taken}");
-            assert_eq!(rt; bytes.as_slice(), REPORT, "by {step} and {taken}");
+            same_of(&rt, (step, taken), answer, Ok(()));
+            same_of(&rt, (step, taken), bytes.as_slice(), REPORT);
         }
     }
 }
@@ -135,8 +136,8 @@ fn a_reader_that_fails_at_any_call_is_told(rt: HostRuntime) {
     for step in [1, 2, 7, 4096] {
         for call in 1..=SCRIPT.len().div_ceil(step) + 1 {
             let (answer, bytes) = simulated_by(rt.alloc(), (step, call), (4096, NEVER));
-            assert_eq!(rt; answer, Err(SimFault::Read), "by {step}, at call {call}");
-            assert_eq!(rt; bytes.len(), 0, "by {step}, at call {call}");
+            same_of(&rt, (step, call), answer, Err(SimFault::Read));
+            same_of(&rt, (step, call), bytes.len(), 0);
         }
     }
 }
@@ -146,12 +147,13 @@ fn a_writer_that_fails_at_any_call_is_told(rt: HostRuntime) {
     for taken in [1, 2, 7, 4096] {
         for call in 1..=REPORT.len().div_ceil(taken) {
             let (answer, bytes) = simulated_by(rt.alloc(), (4096, NEVER), (taken, call));
-            assert_eq!(rt; answer, Err(SimFault::Write), "by {taken}, at call {call}");
+            same_of(&rt, (taken, call), answer, Err(SimFault::Write));
             let before = (call - 1) * taken;
-            assert_eq!(rt;
+            same_of(
+                &rt,
+                (taken, call),
                 Some(bytes.as_slice()),
                 REPORT.get(..before),
-                "by {taken}, at call {call}"
             );
         }
     }

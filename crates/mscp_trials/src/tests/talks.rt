@@ -4,6 +4,7 @@ mod paired;
 
 use super::moments::{Moments, event_of};
 use super::values::{FIRST, SECOND, limits, online_ended, read, read_ended, served, unit};
+use crate::tests::checks::{holds, same};
 use mscp_control::{Block, Connection, Entry, Report, Sent, Sweep};
 use mscp_host::{HostFault, News};
 use mscp_packet::{Command, End, Order};
@@ -94,14 +95,14 @@ impl Told {
     /// Just this is heard, where the second connection has so many credits. What came to the controller is given back.
     fn talk(&self, rt: &(impl Abort + AllocGlobal), second: u32) -> Talk {
         let talk = talk_of(rt, second, self.turns.as_slice());
-        assert_eq!(rt; talk.heard.as_slice(), self.heard.as_slice());
+        same(rt, talk.heard.as_slice(), self.heard.as_slice());
         talk
     }
 
     /// The same of one connection, where something comes to the controller in each turn.
     fn is_heard(&self, rt: &(impl Abort + AllocGlobal)) {
         let talk = self.talk(rt, 0);
-        assert_eq!(rt; talk.trace.len(), self.turns.len());
+        same(rt, talk.trace.len(), self.turns.len());
     }
 }
 
@@ -228,7 +229,7 @@ fn a_poll_names_the_unit_of_its_command(rt: HostRuntime) {
         Entry::Sent(FIRST, Ok(answered)),
     );
     let talk = told.talk(&rt, 0);
-    assert!(rt; talk.trace.as_slice().get(1) == Some(&poll));
+    holds(&rt, talk.trace.as_slice().get(1) == Some(&poll));
 }
 
 /// Command 1 is read, by both of its steps, and its end is taken.
@@ -248,5 +249,5 @@ fn a_long_talk_is_heard_to_its_end(rt: HostRuntime) {
         is_read(&rt, &mut told, 0);
     }
     told.is_heard(&rt);
-    assert_eq!(rt; told.heard.len(), 100_003);
+    same(&rt, told.heard.len(), 100_003);
 }

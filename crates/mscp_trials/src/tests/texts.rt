@@ -1,5 +1,6 @@
 // The text of each fault, for who uses the library: the program has lines of its own.
 
+use crate::tests::checks::same;
 use mscp_script::{Cause, LineFault, ReadFault, ScriptFault, ShowFault, SimFault};
 use std::fmt::Display;
 use std::process::Abort;
@@ -7,7 +8,7 @@ use std::process::Abort;
 /// A fault is told so.
 fn told(rt: &(impl Abort + AllocGlobal), fault: &impl Display, wanted: &str) {
     let text = fault.to_string(rt.alloc()).expect(rt, "memory");
-    assert_eq!(rt; text.as_str(), wanted);
+    same(rt, text.as_str(), wanted);
 }
 
 #[test]

@@ -4,6 +4,7 @@ use super::*;
 use crate::tests::calls::{
     aborts, begins, bring_online, finishes, has_free, queues, shows, steps, takes, takes_nothing,
 };
+use crate::tests::checks::{holds, same};
 use crate::tests::crowds::{full, one_of_many};
 use crate::tests::values::{FIRST, abort_ended, command, online_ended, read, read_ended, served};
 use mscp_packet::{Command, End};
@@ -66,7 +67,7 @@ fn an_abort_of_what_was_begun_is_stale(rt: HostRuntime) {
 fn a_stale_block_moves_no_head(rt: HostRuntime) {
     let mut controller = ready(&rt, Oldest);
     queues(&rt, &mut controller, FIRST, &read(1, 512, 40));
-    assert!(rt; controller.begin().is_some());
+    holds(&rt, controller.begin().is_some());
     aborts(&rt, &mut controller, FIRST, 2, 1);
     finishes(&rt, &mut controller, FIRST, 1, Err(Stale));
     queues(&rt, &mut controller, FIRST, &read(3, 512, 40));
@@ -82,7 +83,7 @@ fn is_stale_by(
     figures: &[(Connection, u32, u32)],
     balance: u32,
 ) {
-    assert_eq!(rt; controller.finish(FIRST, reference, block), Err(Stale));
+    same(rt, controller.finish(FIRST, reference, block), Err(Stale));
     shows(rt, controller, figures);
     has_free(rt, controller, FIRST, balance);
     takes_nothing(rt, controller, FIRST);
@@ -137,7 +138,7 @@ fn a_finish_of_what_ended_or_was_forgotten_is_stale(rt: HostRuntime) {
     finishes(&rt, &mut controller, FIRST, 1, Ok(report));
     takes(&rt, &mut controller, FIRST, read_ended(1, 0, 512));
     is_stale(&rt, &mut controller, 1, &[(FIRST, 2, 17)], 3);
-    assert!(rt; controller.begin().is_some());
+    holds(&rt, controller.begin().is_some());
     controller.reset();
     is_stale(&rt, &mut controller, 2, &[], 4);
 }
@@ -237,7 +238,7 @@ fn step_is_told<K: Picker>(rt: &impl Abort, begun: &mut Controller<K>, other: &m
     begins(rt, begun, Some(upcoming));
     let report = begun.step(Block::Good);
     steps(rt, other, Block::Good, report);
-    assert_eq!(rt; foretold(&upcoming), reported(rt, &report));
+    same(rt, foretold(&upcoming), reported(rt, &report));
 }
 
 /// Two controllers to which the same came serve the same, where each step of the first is begun, and reports what its
@@ -280,7 +281,7 @@ fn is_new(rt: &impl Abort, controller: &mut Controller<Sweep>) {
 
 /// The controller has four credits on its first connection.
 fn has_four_credits(rt: &impl Abort, controller: &Controller<Sweep>) {
-    assert_eq!(rt; controller.config().credits(), 4);
+    same(rt, controller.config().credits(), 4);
 }
 
 // At the reset one end wasn't taken, one command is in service and another waits, and the head is on cylinder 20.
@@ -293,7 +294,7 @@ fn a_reset_controller_is_new(rt: HostRuntime) {
     let started = served(FIRST, 2, Some(400), true, 29, None);
     steps(&rt, &mut used, Block::Good, started);
     queues(&rt, &mut used, FIRST, &read(3, 512, 0));
-    assert!(rt; used.begin().is_some());
+    holds(&rt, used.begin().is_some());
     has_free(&rt, &used, FIRST, 1);
     used.reset();
     has_four_credits(&rt, &used);

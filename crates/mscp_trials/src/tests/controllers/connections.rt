@@ -5,6 +5,7 @@ use crate::tests::calls::{
     aborts, answers, bring_online, finishes, has_figure, has_free, queues, refuses, shows, takes,
     takes_bytes, takes_nothing,
 };
+use crate::tests::checks::same;
 use crate::tests::values::{
     FIRST, SECOND, abort_ended, command, limits, read, read_ended, served, unit,
 };
@@ -57,13 +58,15 @@ fn each_host_polls_and_aborts_its_own(rt: HostRuntime) {
 
 /// So many commands of each connection wait, and so many ends of each weren't taken.
 fn holds(rt: &impl Abort, controller: &Controller<Oldest>, waiting: [u32; 2], untaken: [u32; 2]) {
-    assert_eq!(rt;
+    same(
+        rt,
         [controller.waiting(FIRST), controller.waiting(SECOND)],
-        waiting
+        waiting,
     );
-    assert_eq!(rt;
+    same(
+        rt,
         [controller.untaken(FIRST), controller.untaken(SECOND)],
-        untaken
+        untaken,
     );
 }
 
@@ -82,7 +85,11 @@ fn no_host_aborts_the_others_command(rt: HostRuntime) {
 fn a_step_is_finished_by_its_own_connection_and_ends_there(rt: HostRuntime) {
     let mut controller = with_one_number(&rt);
     let upcoming = controller.begin().expect(&rt, "something waits");
-    assert_eq!(rt; (upcoming.connection, upcoming.command), (FIRST, one(1)));
+    same(
+        &rt,
+        (upcoming.connection, upcoming.command),
+        (FIRST, one(1)),
+    );
     finishes(&rt, &mut controller, SECOND, 1, Err(Stale));
     let end = read_ended(1, 0, 512);
     let report = served(FIRST, 1, Some(0), true, 0, Some(end));
@@ -113,7 +120,7 @@ fn both_fill_their_credits(rt: HostRuntime) {
     is_full(&rt, &mut controller, SECOND);
     // What stands before it: 61 reads of one block, and its own, and the budget.
     has_figure(&rt, &controller, SECOND, 1, 61 + 1 + 16);
-    assert_eq!(rt; controller.look().len(), 62);
+    same(&rt, controller.look().len(), 62);
 }
 
 /// A message of these bytes on the second connection is refused.
@@ -123,7 +130,7 @@ fn refuses_bytes(
     bytes: &[u8],
     fault: SendFault,
 ) {
-    assert_eq!(rt; controller.send(SECOND, bytes), Err(fault));
+    same(rt, controller.send(SECOND, bytes), Err(fault));
 }
 
 #[test]

@@ -3,6 +3,7 @@
 mod moving;
 
 use super::*;
+use crate::tests::checks::{holds, same};
 use mscp_packet::{Command, EndBody, read_end, write_command};
 
 /// Where the host wants the data of a transfer: a place in its memory.
@@ -202,10 +203,10 @@ fn online_machine<K: Picker>(rt: &impl Abort, picker: K) -> Machine<K> {
         disk: [[0; 512]; 64],
     };
     let online = message(900, Order::Online);
-    assert_eq!(rt; machine.on_message(online.as_slice()), Ok(()));
-    assert!(rt; machine.on_turn().is_some());
-    assert!(rt; machine.controller.take(Connection::First).is_some());
-    assert!(rt; machine.on_turn().is_none());
+    same(rt, machine.on_message(online.as_slice()), Ok(()));
+    holds(rt, machine.on_turn().is_some());
+    holds(rt, machine.controller.take(Connection::First).is_some());
+    holds(rt, machine.on_turn().is_none());
     machine
 }
 
@@ -243,15 +244,15 @@ fn are_all(bytes: &[u8], byte: u8) -> bool {
 fn what_was_aborted_meanwhile_leaves_the_memory_alone(rt: HostRuntime) {
     let mut machine = online_machine(&rt, Oldest);
     let read = transfer(33, 1, 512, 40, 0);
-    assert_eq!(rt; machine.on_message(&read), Ok(()));
+    same(&rt, machine.on_message(&read), Ok(()));
     let mut job = machine.begin().expect(&rt, "the READ");
     let abort = message(2, Order::Abort(1));
-    assert_eq!(rt; machine.on_message(abort.as_slice()), Ok(()));
+    same(&rt, machine.on_message(abort.as_slice()), Ok(()));
     let block = machine.work(&mut job);
-    assert_eq!(rt; machine.finish(&job, block), Err(Stale));
-    assert!(rt; are_all(&machine.memory, 7));
-    assert_eq!(rt; end(&rt, &mut machine), (1, 0x0002, EndBody::Moved(0)));
-    assert_eq!(rt; end(&rt, &mut machine), (2, 0, EndBody::Abort(1)));
-    assert!(rt; machine.controller.take(Connection::First).is_none());
-    assert!(rt; machine.buffers.is_empty());
+    same(&rt, machine.finish(&job, block), Err(Stale));
+    holds(&rt, are_all(&machine.memory, 7));
+    same(&rt, end(&rt, &mut machine), (1, 0x0002, EndBody::Moved(0)));
+    same(&rt, end(&rt, &mut machine), (2, 0, EndBody::Abort(1)));
+    holds(&rt, machine.controller.take(Connection::First).is_none());
+    holds(&rt, machine.buffers.is_empty());
 }

@@ -1,5 +1,6 @@
 // Which limits a controller can keep.
 
+use crate::tests::checks::same;
 use crate::tests::values::unit;
 use mscp_control::{Config, ConfigFault};
 use mscp_drive::Units;
@@ -19,7 +20,7 @@ fn fault_of(
 #[test]
 fn each_connection_has_its_limits(rt: HostRuntime) {
     for credits in [(2, 0), (64, 0), (2, 2), (2, 62), (62, 2)] {
-        assert_eq!(rt; fault_of(&rt, credits, 16, 8), None);
+        same(&rt, fault_of(&rt, credits, 16, 8), None);
     }
     for credits in [
         (0, 0),
@@ -34,15 +35,15 @@ fn each_connection_has_its_limits(rt: HostRuntime) {
         (4_294_967_295, 2),
     ] {
         let fault = Some(ConfigFault::Credits);
-        assert_eq!(rt; fault_of(&rt, credits, 16, 8), fault);
+        same(&rt, fault_of(&rt, credits, 16, 8), fault);
     }
 }
 
 /// With these credits the budget is the largest, for transfers of 8,388,608 blocks.
 fn is_largest(rt: &impl Abort, credits: (u32, u32), budget: u64) {
-    assert_eq!(rt; fault_of(rt, credits, budget, 8_388_608), None);
+    same(rt, fault_of(rt, credits, budget, 8_388_608), None);
     let larger = fault_of(rt, credits, budget.saturating_add(1), 8_388_608);
-    assert_eq!(rt; larger, Some(ConfigFault::Figure));
+    same(rt, larger, Some(ConfigFault::Figure));
 }
 
 // Room for 61 + 1 commands: 62 * 8388608 + 3774873599 is the greatest figure of 32 bits. With room for 63 it is
@@ -53,6 +54,6 @@ fn the_largest_figures_fit(rt: HostRuntime) {
     is_largest(&rt, (64, 0), 3_766_484_991);
     for budget in [4_294_967_296, 18_446_744_073_709_551_615] {
         let fault = fault_of(&rt, (64, 0), budget, 8_388_608);
-        assert_eq!(rt; fault, Some(ConfigFault::Figure));
+        same(&rt, fault, Some(ConfigFault::Figure));
     }
 }

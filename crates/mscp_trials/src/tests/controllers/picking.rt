@@ -2,6 +2,7 @@
 
 use super::Newest;
 use crate::tests::calls::{bring_online, queues};
+use crate::tests::checks::{same, same_of};
 use crate::tests::values::{FIRST, command, limits, read, unit};
 use mscp_control::{Block, Controller, Oldest, Picker, Report, Sweep};
 use mscp_packet::{Command, Order};
@@ -54,7 +55,7 @@ fn serves_of<K: Picker + Drop>(
 /// Four steps serve these.
 fn are_next<K: Picker>(rt: &impl Abort, controller: &mut Controller<K>, wanted: [u32; 4]) {
     for reference in wanted {
-        assert_eq!(rt; next(controller), reference, "of {wanted:?}");
+        same_of(rt, wanted, next(controller), reference);
     }
 }
 
@@ -83,7 +84,7 @@ fn a_start_passes_every_earlier_command(rt: HostRuntime) {
         &mut newest,
         &[one(1, 0, 0), one(2, 0, 0), one(3, 0, 0)],
     );
-    assert_eq!(rt; next(&mut newest), 3);
+    same(&rt, next(&mut newest), 3);
     queues(&rt, &mut newest, FIRST, &one(4, 0, 0));
     are_next(&rt, &mut newest, [1, 2, 4, 0]);
 }
@@ -98,7 +99,7 @@ fn serves(rt: &impl Abort, controller: &mut Controller<Sweep>, wanted: u32, cyli
     else {
         panic!(rt; "a command waits");
     };
-    assert_eq!(rt; (reference, seek), (wanted, cylinders));
+    same(rt, (reference, seek), (wanted, cylinders));
 }
 
 /// A sweep whose head went up to cylinder 10.

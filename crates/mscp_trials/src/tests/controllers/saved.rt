@@ -5,6 +5,7 @@ mod flips;
 mod rounds;
 
 use crate::tests::calls::sent;
+use crate::tests::checks::holds;
 use crate::tests::values::{FIRST, SECOND, command, limits, unit};
 use arrayvec::ArrayVec;
 use mscp_control::{Block, Connection, Controller, Sweep};
@@ -47,7 +48,7 @@ const END: [u8; 48] = [
 fn joined(rt: &impl Abort, parts: &[&[u8]]) -> ArrayVec<u8, ROOM> {
     let mut all = ArrayVec::new();
     for part in parts {
-        assert!(rt; all.try_extend_from_slice(part).is_ok());
+        holds(rt, all.try_extend_from_slice(part).is_ok());
     }
     all
 }
@@ -72,7 +73,7 @@ fn send(
     order: Order,
 ) {
     let sent = sent(controller, connection, &command(reference, order));
-    assert!(rt; sent.is_ok());
+    holds(rt, sent.is_ok());
 }
 
 /// ONLINE 900 is served, and its end waits.
@@ -95,7 +96,7 @@ fn restored(rt: &impl Abort, bytes: &[u8]) -> Controller<Sweep> {
 
 /// The controller is saved as these bytes.
 fn is_saved_as(rt: &impl Abort, controller: &Controller<Sweep>, bytes: &[u8]) {
-    assert!(rt; save(controller, 7).as_slice() == bytes);
+    holds(rt, save(controller, 7).as_slice() == bytes);
 }
 
 #[test]
@@ -105,7 +106,7 @@ fn the_bytes_are_these(rt: HostRuntime) {
     send(&rt, &mut saved, FIRST, 1, transfer(MoveKind::Read, 2, 40));
     let _first = saved.step(Block::Good);
     send(&rt, &mut saved, SECOND, 1, transfer(MoveKind::Write, 1, 0));
-    assert!(rt; saved.begin().is_some());
+    holds(&rt, saved.begin().is_some());
     let bytes = small(&rt);
     is_saved_as(&rt, &saved, bytes.as_slice());
     is_saved_as(&rt, &restored(&rt, bytes.as_slice()), bytes.as_slice());

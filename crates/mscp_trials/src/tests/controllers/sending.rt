@@ -3,6 +3,7 @@
 use crate::tests::calls::{
     answers, bring_online, has_figure, has_free, queues, refuses, steps, takes_bytes,
 };
+use crate::tests::checks::same;
 use crate::tests::values::{FIRST, command, config, read, read_ended, served};
 use mscp_control::{Block, Controller, SendFault};
 use mscp_packet::{Command, Order};
@@ -17,9 +18,9 @@ fn poll(reference: u32, other: u32) -> Command {
 fn messages_of_a_wrong_length_change_nothing(rt: HostRuntime) {
     let mut controller = Controller::new(config(&rt, 4, 0), Oldest);
     let short = controller.send(FIRST, &[0; 11]);
-    assert_eq!(rt; short, Err(SendFault::Short));
+    same(&rt, short, Err(SendFault::Short));
     let long = controller.send(FIRST, &[0; 65]);
-    assert_eq!(rt; long, Err(SendFault::Long));
+    same(&rt, long, Err(SendFault::Long));
     has_free(&rt, &controller, FIRST, 4);
 }
 
@@ -52,9 +53,10 @@ fn is_serving(
     passed: u32,
 ) {
     let serving = reference.map(|reference| (FIRST, reference));
-    assert_eq!(rt;
+    same(
+        rt,
         (controller.serving(), controller.most_passed()),
-        (serving, passed)
+        (serving, passed),
     );
 }
 

@@ -1,5 +1,6 @@
 // The traces in which a command waits longest.
 
+use crate::tests::checks::same;
 use crate::tests::moments::Moments;
 use crate::tests::values::{FIRST, ended, read_ended};
 use linked_list_allocator::LocalHeap;
@@ -200,9 +201,9 @@ fn ended_by(moment: &(Event, Entry)) -> Option<u32> {
 fn is_run(rt: &(impl Abort + AllocGlobal), limits: Limits, room: u32, bound: usize) {
     let trace = trace_of(rt, &config(rt, limits));
     let last = trace.last().and_then(ended_by);
-    assert_eq!(rt; last, Some(room.saturating_sub(1)));
+    same(rt, last, Some(room.saturating_sub(1)));
     let came = (room as usize).saturating_add(3);
-    assert_eq!(rt; steps_behind(trace.as_slice(), came), bound);
+    same(rt, steps_behind(trace.as_slice(), came), bound);
     let picker = ByName {
         connection: FIRST,
         reference: room,
@@ -244,7 +245,7 @@ fn a_bound_over_100000_is_too_long(rt: HostRuntime) {
         ((3, 0, 0, 50_001), false),
         ((64, 0, 3_766_484_991, 8_388_608), false),
     ] {
-        assert_eq!(rt; is_given(&rt, limits, 3), given);
+        same(&rt, is_given(&rt, limits, 3), given);
     }
 }
 
@@ -261,7 +262,7 @@ fn there_is_none_where_nothing_can_pass_or_no_unit_has_the_blocks(rt: HostRuntim
         ((3, 0, 16, 8), 4, false),
         ((3, 0, 16, 8), 6, false),
     ] {
-        assert_eq!(rt; is_given(&rt, limits, unit), given);
+        same(&rt, is_given(&rt, limits, unit), given);
     }
 }
 
@@ -278,16 +279,16 @@ fn is_enough(rt: &(impl Abort + AllocGlobal), limits: Limits, moments: u16) {
         .ok()
         .expect(rt, "room for the moments")
         .expect(rt, "another command can pass");
-    assert_eq!(rt; trace.len(), usize::from(moments));
-    assert_eq!(rt; heap.used(), heap.size());
+    same(rt, trace.len(), usize::from(moments));
+    same(rt, heap.used(), heap.size());
 }
 
 /// With these bytes there is no answer.
 fn is_too_small(rt: &(impl Abort + AllocGlobal), limits: Limits, moments: u16) {
     let heap = heap_of(rt, moments);
     let refused = worst_in(&heap, &config(rt, limits), 3).err();
-    assert_eq!(rt; refused, Some(OutOfMemory));
-    assert_eq!(rt; heap.used(), 0);
+    same(rt, refused, Some(OutOfMemory));
+    same(rt, heap.used(), 0);
 }
 
 /// The trace asks for so many moments, and no less serve.

@@ -1,6 +1,7 @@
 // A driver's loop, as docs/HOST.md has it, and what it does.
 
 use super::{answer, read_end, status_bytes};
+use crate::tests::checks::{holds, same};
 use arrayvec::ArrayVec;
 use mscp_host::{Host, HostFault, News, Poll};
 use mscp_packet::{Command, End, MoveKind, Order, write_end};
@@ -85,7 +86,7 @@ fn new_driver(rt: &impl Abort) -> Driver {
 /// A driver whose READ 1 of blocks 40 and 41 was sent.
 fn reading(rt: &impl Abort) -> Driver {
     let mut driver = new_driver(rt);
-    assert!(rt; driver.read(1024, 40).is_some());
+    holds(rt, driver.read(1024, 40).is_some());
     driver
 }
 
@@ -93,18 +94,18 @@ fn reading(rt: &impl Abort) -> Driver {
 fn polls(rt: &impl Abort, driver: &mut Driver, number: u8) {
     let (poll, deed) = driver.on_timer();
     let poll = poll.expect(rt, "a poll");
-    assert_eq!(rt; poll.as_slice(), status_bytes(number, 1).as_slice());
-    assert_eq!(rt; deed, Deed::Wait);
+    same(rt, poll.as_slice(), status_bytes(number, 1).as_slice());
+    same(rt, deed, Deed::Wait);
 }
 
 /// The timer goes off: no poll is to be sent, and the driver does this.
 fn times_out(rt: &impl Abort, driver: &mut Driver, wanted: Deed) {
-    assert_eq!(rt; driver.on_timer(), (None, wanted));
+    same(rt, driver.on_timer(), (None, wanted));
 }
 
 /// This end comes, and the driver does this.
 fn gets(rt: &impl Abort, driver: &mut Driver, end: End, wanted: Deed) {
-    assert_eq!(rt; driver.on_end(write_end(&end).as_slice()), wanted);
+    same(rt, driver.on_end(write_end(&end).as_slice()), wanted);
 }
 
 #[test]

@@ -1,6 +1,7 @@
 // A host as bytes, and back.
 
 use super::*;
+use crate::tests::checks::{holds, same};
 use mscp_host::RestoreFault;
 
 /// A host of 4 credits: a READ of which 18 was told, and its second poll.
@@ -37,7 +38,7 @@ fn with(mut bytes: [u8; 50], place: usize, byte: u8) -> [u8; 50] {
 #[test]
 fn a_host_comes_back(rt: HostRuntime) {
     let saved = polled_twice(&rt).save();
-    assert!(rt; saved.as_slice() == POLLED_TWICE.as_slice());
+    holds(&rt, saved.as_slice() == POLLED_TWICE.as_slice());
     let mut host = Host::restore(saved.as_slice()).expect(&rt, "what was saved");
     has_free(&rt, &host, 2);
     polls(&rt, &mut host, 9, Ok(Poll::Busy));
@@ -48,7 +49,7 @@ fn a_host_comes_back(rt: HostRuntime) {
 
 /// These bytes have this fault.
 fn is_refused(rt: &impl Abort, bytes: &[u8], fault: RestoreFault) {
-    assert!(rt; Host::restore(bytes).err() == Some(fault));
+    holds(rt, Host::restore(bytes).err() == Some(fault));
 }
 
 /// The bytes of that host, with another one at a place, have this fault.
@@ -77,7 +78,7 @@ fn other_bytes_are_refused(rt: HostRuntime) {
 fn more_submissions_than_credits_are_refused(rt: HostRuntime) {
     let mut bytes = [0; 62];
     bytes[..50].copy_from_slice(&with(with(POLLED_TWICE, 8, 62), 16, 3));
-    assert!(rt; Host::restore(&bytes).is_ok());
+    holds(&rt, Host::restore(&bytes).is_ok());
     bytes[12] = 2;
     is_refused(&rt, &bytes, RestoreFault::Outstanding);
 }
@@ -87,7 +88,7 @@ fn goes_on(rt: &impl Abort, bytes: &[u8]) -> bool {
     let Ok(mut host) = Host::restore(bytes) else {
         return false;
     };
-    assert!(rt; host.save().as_slice() == bytes);
+    holds(rt, host.save().as_slice() == bytes);
     let _ = host.receive(write_end(&answer(8, 1, 17)).as_slice());
     let _ = host.submit(&read(2));
     let _ = host.poll(9);
@@ -107,5 +108,5 @@ fn what_a_flipped_bit_says_is_saved_as_it_stands(rt: HostRuntime) {
     }
     // Credits of 5, 6, 12, 20 and 36; each bit of the poll's two numbers; of a submission each bit of its number, its unit
     // and its opcode byte; of the READ each bit of its figure; and of the poll that 0 was told of it.
-    assert_eq!(rt; restored, 5 + 64 + 2 * 56 + 32 + 1);
+    same(&rt, restored, 5 + 64 + 2 * 56 + 32 + 1);
 }

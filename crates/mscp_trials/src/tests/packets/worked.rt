@@ -2,6 +2,7 @@
 // more for these rows, so the bytes are written out.
 
 use super::command;
+use crate::tests::checks::same;
 use crate::tests::values::ended;
 use mscp_packet::{
     Command, End, EndBody, MoveKind, Order, read_command, read_end, read_written_command,
@@ -11,22 +12,22 @@ use std::process::Abort;
 
 /// The command is written as these bytes.
 fn is_written(rt: &impl Abort, command: &Command, bytes: &[u8]) {
-    assert_eq!(rt; write_command(command).as_slice(), bytes);
+    same(rt, write_command(command).as_slice(), bytes);
 }
 
 /// The command is read from them.
 fn is_read(rt: &impl Abort, command: &Command, bytes: &[u8]) {
-    assert_eq!(rt; read_command(bytes), Ok(*command));
+    same(rt, read_command(bytes), Ok(*command));
 }
 
 /// The command is read as it was written.
 fn comes_back(rt: &impl Abort, command: &Command) {
-    assert_eq!(rt; read_written_command(command), Ok(*command));
+    same(rt, read_written_command(command), Ok(*command));
 }
 
 /// These bytes have the command's opcode.
 fn has_opcode(rt: &impl Abort, command: &Command, bytes: &[u8]) {
-    assert_eq!(rt; Some(&command.opcode()), bytes.get(8));
+    same(rt, Some(&command.opcode()), bytes.get(8));
 }
 
 /// The command is written as these bytes, and read from them, and they have its opcode.
@@ -127,17 +128,17 @@ fn each_other_command_is_written_and_read_back(rt: HostRuntime) {
 
 /// The end is written as these bytes.
 fn end_is_written(rt: &impl Abort, end: &End, bytes: &[u8]) {
-    assert_eq!(rt; write_end(end).as_slice(), bytes);
+    same(rt, write_end(end).as_slice(), bytes);
 }
 
 /// The end is read from them.
 fn end_is_read(rt: &impl Abort, end: &End, bytes: &[u8]) {
-    assert_eq!(rt; read_end(bytes), Ok(*end));
+    same(rt, read_end(bytes), Ok(*end));
 }
 
 /// The end is read as it was written.
 fn end_comes_back(rt: &impl Abort, end: &End) {
-    assert_eq!(rt; read_written_end(end), Ok(*end));
+    same(rt, read_written_end(end), Ok(*end));
 }
 
 /// The end is written as these bytes, and read from them.

@@ -1,5 +1,6 @@
 // A machine of a few bytes: a port, memory for the host, and a disk.
 
+use crate::tests::checks::{holds, same, same_of};
 use arrayvec::ArrayVec;
 use mscp_control::{Config, Controller, Sweep};
 use mscp_drive::{Unit, Units};
@@ -106,8 +107,8 @@ impl Machine {
         let mut port = Port::new(Hardware::RQDX3, 16, Controller::new(config, Sweep))
             .ok()
             .expect(rt, "a credit more than the host's");
-        assert!(rt; port.volume_came(0, false).is_ok());
-        assert!(rt; port.volume_came(2, false).is_ok());
+        holds(rt, port.volume_came(0, false).is_ok());
+        holds(rt, port.volume_came(2, false).is_ok());
         let mut disk = [[0; 512]; BLOCKS];
         for (n, block) in disk.iter_mut().enumerate() {
             for (k, byte) in block.iter_mut().enumerate() {
@@ -165,17 +166,17 @@ impl Machine {
 
     /// These bytes stand there.
     pub fn shows(&self, rt: &impl Abort, address: u32, wanted: &[u8]) {
-        assert!(rt; self.has(address, wanted), "at {address}");
+        same_of(rt, address, self.has(address, wanted), true);
     }
 
     /// SA shows this.
     pub fn has_sa(&self, rt: &impl Abort, shown: u16) {
-        assert_eq!(rt; self.port.read_sa(), shown);
+        same(rt, self.port.read_sa(), shown);
     }
 
     /// So many interrupts came.
     pub fn was_interrupted(&self, rt: &impl Abort, times: u32) {
-        assert_eq!(rt; self.interrupts, times);
+        same(rt, self.interrupts, times);
     }
 
     /// Puts bytes into memory, if there is room for them.
@@ -216,7 +217,7 @@ impl Machine {
         } else {
             self.port.went(Outcome::Missing)
         };
-        assert!(rt; told.is_ok());
+        holds(rt, told.is_ok());
     }
 
     /// Fetches so many bytes for the port.
@@ -258,7 +259,7 @@ impl Machine {
             Action::Transfer { kind, block, .. } => self.transfer(kind, block),
             Action::Store { address, count } => self.store(address, count),
         };
-        assert!(rt; self.port.went(outcome).is_ok());
+        holds(rt, self.port.went(outcome).is_ok());
         true
     }
 

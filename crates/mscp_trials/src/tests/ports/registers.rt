@@ -1,6 +1,7 @@
 // Registers, interrupts, and fatal errors.
 
 use super::machine::{Machine, SLOTS};
+use crate::tests::checks::{holds, same};
 use mscp_port::{Action, Outcome};
 
 /// A FLUSH of this number, which the port answers itself.
@@ -15,7 +16,7 @@ fn interrupts_come_where_they_are_wanted(rt: HostRuntime) {
     let mut machine = Machine::new(&rt);
     machine.answer(&rt, 0x0B40, 0x809B);
     machine.was_interrupted(&rt, 1);
-    assert_eq!(rt; machine.vector, 0x6C);
+    same(&rt, machine.vector, 0x6C);
     machine.answer(&rt, 0x1080, 0x0E84);
     machine.was_interrupted(&rt, 2);
     machine.answer(&rt, 0x209B, 0x0000);
@@ -67,9 +68,9 @@ fn dies_without_memory(rt: HostRuntime) {
     machine.has_sa(&rt, 0x8007);
     machine.port.read_ip();
     machine.port.write_sa(1);
-    assert_eq!(rt; machine.port.next(), Action::Rest);
-    assert!(rt; machine.port.went(Outcome::Done).is_err());
-    assert!(rt; machine.port.was_read(&[0; 4]).is_err());
+    same(&rt, machine.port.next(), Action::Rest);
+    holds(&rt, machine.port.went(Outcome::Done).is_err());
+    holds(&rt, machine.port.was_read(&[0; 4]).is_err());
     machine.port.write_ip();
     machine.has_sa(&rt, 0x0B40);
 }
@@ -92,10 +93,10 @@ fn waits_for_a_slot(rt: HostRuntime) {
     let mut machine = Machine::up(&rt);
     SLOTS.put(&mut machine, 12, &flush(1));
     machine.put(0x0E84, &[0; 4]);
-    assert!(rt; machine.run(&rt, 100) < 100);
+    holds(&rt, machine.run(&rt, 100) < 100);
     machine.shows(&rt, 0x0E0C, &[0, 0, 0, 0]);
     machine.put(0x0E84, &[4, 0x0E, 0, 0x80]);
-    assert_eq!(rt; machine.port.next(), Action::Rest);
+    same(&rt, machine.port.next(), Action::Rest);
     machine.port.look_again();
     machine.run(&rt, 100);
     machine.shows(&rt, 0x0E0C, &[0x93, 0, 0, 0]);

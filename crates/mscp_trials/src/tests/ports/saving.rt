@@ -1,6 +1,7 @@
 // A port as bytes, and back.
 
 use super::machine::{Machine, SLOTS};
+use crate::tests::checks::{holds, same};
 use arrayvec::ArrayVec;
 use mscp_control::Sweep;
 use mscp_port::{Action, Outcome, Port, ROOM, RestoreFault};
@@ -72,11 +73,11 @@ fn again(rt: &impl Abort, port: &Port<Sweep>) -> Port<Sweep> {
 #[test]
 fn the_bytes_are_these(rt: HostRuntime) {
     let saved = in_the_middle(&rt).port.save(7);
-    assert_eq!(rt; saved.len(), 525);
-    assert!(rt; saved[..72] == HEAD[..]);
-    assert!(rt; saved[72..98] == VOLUMES[..]);
-    assert!(rt; saved[280..300] == BUFFER[..]);
-    assert!(rt; saved[300..304] == b"MSCQ"[..]);
+    same(&rt, saved.len(), 525);
+    holds(&rt, saved[..72] == HEAD[..]);
+    holds(&rt, saved[72..98] == VOLUMES[..]);
+    holds(&rt, saved[280..300] == BUFFER[..]);
+    holds(&rt, saved[300..304] == b"MSCQ"[..]);
 }
 
 /// The host writes a word to SA of both.
@@ -116,9 +117,12 @@ fn a_port_goes_on_from_its_bytes(rt: HostRuntime) {
 fn act_alike(rt: &impl Abort, stays: &mut Machine, moves: &mut Machine) -> bool {
     moves.port = again(rt, &moves.port);
     let acted = stays.act(rt);
-    assert_eq!(rt; moves.act(rt), acted);
-    assert!(rt; moves.port.save(7).as_slice() == stays.port.save(7).as_slice());
-    assert!(rt; moves.memory[..] == stays.memory[..]);
+    same(rt, moves.act(rt), acted);
+    holds(
+        rt,
+        moves.port.save(7).as_slice() == stays.port.save(7).as_slice(),
+    );
+    holds(rt, moves.memory[..] == stays.memory[..]);
     moves.was_interrupted(rt, stays.interrupts);
     acted
 }
@@ -130,7 +134,7 @@ fn go_on_alike(rt: &impl Abort, stays: &mut Machine, moves: &mut Machine) {
             return;
         }
     }
-    assert!(rt; false, "it rests");
+    panic!(rt; "it rests");
 }
 
 /// These bytes with another one at a place.
@@ -146,7 +150,10 @@ fn with(bytes: &[u8], place: usize, byte: u8) -> ArrayVec<u8, ROOM> {
 /// These bytes with another one at a place have this fault.
 fn has_fault(rt: &impl Abort, saved: &[u8], place: usize, byte: u8, fault: RestoreFault) {
     let bytes = with(saved, place, byte);
-    assert!(rt; Port::restore(bytes.as_slice(), 7, Sweep).err() == Some(fault));
+    holds(
+        rt,
+        Port::restore(bytes.as_slice(), 7, Sweep).err() == Some(fault),
+    );
 }
 
 #[test]
@@ -194,9 +201,18 @@ fn fault_without_the_last(bytes: &[u8]) -> Option<RestoreFault> {
 fn another_picker_and_fewer_bytes_are_refused(rt: HostRuntime) {
     let saved = in_the_middle(&rt).port.save(7);
     let other_picker = RestoreFault::Controller(ControllerFault::Picker);
-    assert!(rt; Port::restore(&saved, 8, Sweep).err() == Some(other_picker));
-    assert!(rt; fault_without_the_last(&saved) == Some(RestoreFault::Length));
-    assert!(rt; Port::restore(&[], 7, Sweep).err() == Some(RestoreFault::Length));
+    holds(
+        &rt,
+        Port::restore(&saved, 8, Sweep).err() == Some(other_picker),
+    );
+    holds(
+        &rt,
+        fault_without_the_last(&saved) == Some(RestoreFault::Length),
+    );
+    holds(
+        &rt,
+        Port::restore(&[], 7, Sweep).err() == Some(RestoreFault::Length),
+    );
 }
 
 /// Whether these bytes are a port's. It is saved as they are, and what comes then does no harm.
@@ -204,7 +220,7 @@ fn goes_on(rt: &impl Abort, bytes: &[u8]) -> bool {
     let Ok(mut port) = Port::restore(bytes, 7, Sweep) else {
         return false;
     };
-    assert!(rt; port.save(7).as_slice() == bytes);
+    holds(rt, port.save(7).as_slice() == bytes);
     let _ = port.next();
     let _ = port.went(Outcome::Done);
     let _ = port.next();
@@ -227,5 +243,5 @@ fn a_flipped_bit_does_no_harm(rt: HostRuntime) {
     }
     // Any number may stand for model and versions, credits and slots, what the host has set, its words, what is kept of a
     // command, and the identifiers of the controller and its four units: of 8 bytes, and 16 each.
-    assert!(rt; restored >= 24 + 32 + 48 + 32 + 160 + 64 + 4 * 128);
+    holds(&rt, restored >= 24 + 32 + 48 + 32 + 160 + 64 + 4 * 128);
 }

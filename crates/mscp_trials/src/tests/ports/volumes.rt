@@ -1,6 +1,7 @@
 // Volumes that go and come, write protection, and buffers that aren't there.
 
 use super::machine::{Machine, SLOTS};
+use crate::tests::checks::holds;
 use mscp_port::Action;
 use std::process::Abort;
 
@@ -29,7 +30,7 @@ fn goes_amid_a_read(rt: &impl Abort, machine: &mut Machine) {
         }
         machine.act(rt);
     }
-    assert!(rt; machine.port.volume_went(0).is_ok());
+    holds(rt, machine.port.volume_went(0).is_ok());
     machine.run(rt, 100);
 }
 
@@ -42,7 +43,7 @@ fn no_read_goes_over_two_volumes(rt: HostRuntime) {
     machine.shows(&rt, 0, &[0, 1, 2, 3]);
     machine.shows(&rt, 512, &[0, 0, 0, 0]);
     reads(&rt, &mut machine, 0x23);
-    assert!(rt; machine.port.volume_came(0, true).is_ok());
+    holds(&rt, machine.port.volume_came(0, true).is_ok());
     reads(&rt, &mut machine, 4);
     bring_online(&rt, &mut machine, 0);
     machine.shows(&rt, 0x0E0C, &[0x89, 0, 0, 1]);
@@ -74,7 +75,7 @@ fn ends_with(
 #[test]
 fn refused_transfers_say_why(rt: HostRuntime) {
     let mut machine = Machine::up(&rt);
-    assert!(rt; machine.port.volume_came(2, true).is_ok());
+    holds(&rt, machine.port.volume_came(2, true).is_ok());
     bring_online(&rt, &mut machine, 0);
     bring_online(&rt, &mut machine, 2);
     ends_with(&rt, &mut machine, (0, 0x22), 2, 0, 0x0000);

@@ -1,4 +1,5 @@
-use Rattle.std.proofs.Common.{◌≡◌, ◌≤◌, false, subst, sym}
+use Rattle.std.proofs.lemmas.Grind.{common_steps}
+use Rattle.std.proofs.Common.{arith, ◌≡◌, ◌≤◌, false, subst, sym}
 use Rattle.mscp_control.specs.Arrival.{holds}
 use Rattle.mscp_control.specs.Holdings.{Holdings, balance_of, outstanding_of}
 use Rattle.mscp_control.proofs.Bridge.Judging.{none_waits}
@@ -18,3 +19,21 @@ push-requires-clause-apart g c =
     none_waits c.self.inside.queue.waiting c.args.connection _ c.args.command.now.reference
     (subst (λ (h : Holdings K). holds (outstanding_of c.args.connection h) c.args.command.now.reference ≡ false)
     (sym c.self.view_is) c.requires.new)
+
+pub push-requires-clause-weight : goal.push-requires-clause-weight
+push-requires-clause-weight g c = grind (arith, common_steps)
+
+pub push-requires-clause-waitable : goal.push-requires-clause-waitable
+push-requires-clause-waitable g c = grind (arith, common_steps)
+
+pub come-requires : goal.come-requires
+come-requires g c = grind (arith, common_steps)
+
+pub invariant_of-self : goal.invariant_of-self
+invariant_of-self g c = grind (arith, common_steps)
+
+pub returns-clause-after : goal.returns-clause-after
+returns-clause-after g c = grind (arith, common_steps)
+
+pub returns-clause-account : goal.returns-clause-account
+returns-clause-account g c = grind (arith, common_steps)

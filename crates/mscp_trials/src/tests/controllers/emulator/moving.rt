@@ -2,6 +2,7 @@
 
 use super::*;
 use crate::tests::calls::{has_figure, takes_nothing};
+use crate::tests::checks::{holds, same};
 
 /// This is said to a message.
 fn says<K: Picker>(
@@ -10,13 +11,13 @@ fn says<K: Picker>(
     message: &[u8],
     wanted: Result<(), SendFault>,
 ) {
-    assert_eq!(rt; machine.on_message(message), wanted);
+    same(rt, machine.on_message(message), wanted);
 }
 
 /// The next turn serves this block of a command.
 fn serves<K: Picker>(rt: &impl Abort, machine: &mut Machine<K>, reference: u32, block: u32) {
     let report = machine.on_turn().expect(rt, "a command waits");
-    assert_eq!(rt; served(&report), Some((reference, 0, Some(block))));
+    same(rt, served(&report), Some((reference, 0, Some(block))));
 }
 
 /// The oldest end that wasn't taken is that of a command that moved so many bytes.
@@ -27,15 +28,16 @@ fn ends<K: Picker>(
     status: u16,
     bytes: u32,
 ) {
-    assert_eq!(rt;
+    same(
+        rt,
         end(rt, machine),
-        (reference, status, EndBody::Moved(bytes))
+        (reference, status, EndBody::Moved(bytes)),
     );
 }
 
 /// These bytes of the memory, or of a block, are all this one.
 fn have(rt: &impl Abort, bytes: &[u8], byte: u8) {
-    assert!(rt; are_all(bytes, byte));
+    holds(rt, are_all(bytes, byte));
 }
 
 // 700 bytes are a block of 512 and 188 of the next: 188 + 324 = 512.
@@ -59,7 +61,7 @@ fn data_go_to_the_disk_and_come_back(rt: HostRuntime) {
     have(&rt, &machine.memory[2748..3072], 0);
     have(&rt, &machine.memory[3072..], 7);
     ends(&rt, &mut machine, 2, 0, 1024);
-    assert!(rt; machine.buffers.is_empty());
+    holds(&rt, machine.buffers.is_empty());
 }
 
 /// A transfer of no bytes names block 10.
@@ -89,7 +91,7 @@ fn a_block_that_the_file_has_not_is_bad(rt: HostRuntime) {
     serves(&rt, &mut machine, 1, 63);
     serves(&rt, &mut machine, 1, 64);
     ends(&rt, &mut machine, 1, 0x0008, 512);
-    assert!(rt; machine.on_turn().is_none());
+    holds(&rt, machine.on_turn().is_none());
     have(&rt, &machine.memory[..512], 0);
     have(&rt, &machine.memory[512..], 7);
 }
@@ -114,7 +116,7 @@ fn a_host_that_sends_too_many_is_told(rt: HostRuntime) {
         other: 1,
         figure: 17,
     };
-    assert_eq!(rt; end(&rt, &mut machine), (5, 0, told));
+    same(&rt, end(&rt, &mut machine), (5, 0, told));
 }
 
 // Block 60 is on cylinder 3, and the head on cylinder 0. The READ of block 0 would cost nothing, but it came too late.
@@ -127,7 +129,7 @@ fn arrivals_change_nothing_of_what_was_begun(rt: HostRuntime) {
     says(&rt, &mut machine, &transfer(33, 2, 512, 0, 1024), Ok(()));
     let block = machine.work(&mut job);
     let report = machine.finish(&job, block).ok().expect(&rt, "not stale");
-    assert_eq!(rt; served(&report), Some((1, 0, Some(60))));
+    same(&rt, served(&report), Some((1, 0, Some(60))));
     have(&rt, &machine.memory[..512], 60);
     serves(&rt, &mut machine, 2, 0);
 }
@@ -135,7 +137,7 @@ fn arrivals_change_nothing_of_what_was_begun(rt: HostRuntime) {
 /// The drive is through with what was begun: that is stale.
 fn is_stale(rt: &impl Abort, machine: &mut Machine<Oldest>, mut job: Job) {
     let block = machine.work(&mut job);
-    assert_eq!(rt; machine.finish(&job, block), Err(Stale));
+    same(rt, machine.finish(&job, block), Err(Stale));
 }
 
 #[test]
@@ -146,9 +148,9 @@ fn a_reset_forgets_what_the_machine_had(rt: HostRuntime) {
     let job = machine.begin().expect(&rt, "the second block");
     machine.on_reset();
     is_stale(&rt, &mut machine, job);
-    assert!(rt; machine.on_turn().is_none());
+    holds(&rt, machine.on_turn().is_none());
     takes_nothing(&rt, &mut machine.controller, Connection::First);
-    assert!(rt; machine.buffers.is_empty());
+    holds(&rt, machine.buffers.is_empty());
 }
 
 // Of two READs the newest starts, and then the other.

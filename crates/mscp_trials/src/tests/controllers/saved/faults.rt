@@ -1,6 +1,7 @@
 // Each fault, by bytes that have it.
 
 use super::*;
+use crate::tests::checks::{holds, same};
 
 /// Where the parts of the small controller begin.
 const D: usize = 48;
@@ -15,7 +16,7 @@ const E: usize = 164;
 fn fault_of(rt: &impl Abort, edits: &[(usize, u8)]) -> Option<RestoreFault> {
     let mut bytes = small(rt);
     for (place, byte) in edits {
-        assert!(rt; *place < bytes.len());
+        holds(rt, *place < bytes.len());
         bytes[*place] = *byte;
     }
     restore(bytes.as_slice(), 7, Sweep).err()
@@ -23,12 +24,12 @@ fn fault_of(rt: &impl Abort, edits: &[(usize, u8)]) -> Option<RestoreFault> {
 
 /// The small controller's bytes, once those at these places are others, have this fault.
 fn has_fault(rt: &impl Abort, edits: &[(usize, u8)], fault: RestoreFault) {
-    assert_eq!(rt; fault_of(rt, edits), Some(fault));
+    same(rt, fault_of(rt, edits), Some(fault));
 }
 
 #[test]
 fn an_edit_of_the_head_is_told(rt: HostRuntime) {
-    assert_eq!(rt; fault_of(&rt, &[]), None);
+    same(&rt, fault_of(&rt, &[]), None);
     // The length that the head tells, and how much there is of each part.
     has_fault(&rt, &[(8, 213)], RestoreFault::Length);
     has_fault(&rt, &[(11, 1)], RestoreFault::Length);
@@ -127,7 +128,7 @@ fn the_first_fault_is_told(rt: HostRuntime) {
 
 /// These bytes have this fault, or none.
 fn comes_to(rt: &impl Abort, bytes: &[u8], fault: Option<RestoreFault>) {
-    assert_eq!(rt; restore(bytes, 7, Sweep).err(), fault);
+    same(rt, restore(bytes, 7, Sweep).err(), fault);
 }
 
 #[test]
@@ -144,7 +145,7 @@ fn a_wrong_number_of_bytes_is_told(rt: HostRuntime) {
 #[test]
 fn the_number_of_another_picker_is_told(rt: HostRuntime) {
     let fault = restore(small(&rt).as_slice(), 6, Sweep).err();
-    assert_eq!(rt; fault, Some(RestoreFault::Picker));
+    same(&rt, fault, Some(RestoreFault::Picker));
 }
 
 /// A head of so many drives, up to 255 bytes in all, in which nothing waits and nothing was begun.
@@ -188,7 +189,7 @@ fn too_many_drives_are_told(rt: HostRuntime) {
     for number in 0..17 {
         let mut drive = DRIVE;
         drive[0] = number;
-        assert!(rt; bytes.try_extend_from_slice(&drive).is_ok());
+        holds(&rt, bytes.try_extend_from_slice(&drive).is_ok());
     }
     comes_to(&rt, bytes.as_slice(), Some(RestoreFault::Length));
 }

@@ -1,6 +1,7 @@
 // Each bit of saved controllers is flipped: whatever comes of it is no harm.
 
 use super::*;
+use crate::tests::checks::{holds, same};
 
 /// Some of both connections wait, ends weren't taken, and one was passed.
 fn mixed(rt: &impl Abort) -> Controller<Sweep> {
@@ -9,7 +10,7 @@ fn mixed(rt: &impl Abort) -> Controller<Sweep> {
     send(rt, &mut both, SECOND, 1, transfer(MoveKind::Read, 3, 100));
     send(rt, &mut both, FIRST, 1, transfer(MoveKind::Erase, 2, 7));
     let _passed = both.step(Block::Good);
-    assert_eq!(rt; both.most_passed(), 2);
+    same(rt, both.most_passed(), 2);
     send(rt, &mut both, FIRST, 2, Order::Available);
     send(rt, &mut both, SECOND, 8, Order::Status(1));
     both
@@ -29,8 +30,8 @@ fn run_on(rt: &impl Abort, controller: &mut Controller<Sweep>) {
             let _end = controller.take(connection);
         }
     }
-    assert_eq!(rt; controller.waiting(FIRST), 0);
-    assert_eq!(rt; controller.waiting(SECOND), 0);
+    same(rt, controller.waiting(FIRST), 0);
+    same(rt, controller.waiting(SECOND), 0);
     controller.reset();
 }
 
@@ -56,7 +57,7 @@ fn are_taken(rt: &impl Abort, saved: &[u8], least: usize) {
             }
         }
     }
-    assert!(rt; count >= least);
+    holds(rt, count >= least);
 }
 
 #[test]

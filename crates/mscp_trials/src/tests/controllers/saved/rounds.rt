@@ -1,12 +1,13 @@
 // Controllers that are saved in the middle of a run, and go on.
 
 use super::*;
+use crate::tests::checks::{holds, same};
 
 /// 63 commands wait, one of them in service, which passed all before it.
 fn crowded(rt: &impl Abort) -> Controller<Sweep> {
     let mut full = controller(rt, 64, 0, 100);
     come_online(rt, &mut full);
-    assert!(rt; full.take(FIRST).is_some());
+    holds(rt, full.take(FIRST).is_some());
     for reference in 0..62 {
         let blocks = (reference % 7) as u8 + 2;
         let order = transfer(MoveKind::Read, blocks, 900 - 14 * reference);
@@ -14,7 +15,7 @@ fn crowded(rt: &impl Abort) -> Controller<Sweep> {
     }
     send(rt, &mut full, FIRST, 62, Order::SetUnit);
     let _step = full.step(Block::Good);
-    assert!(rt; full.most_passed() > 0);
+    holds(rt, full.most_passed() > 0);
     full
 }
 
@@ -30,7 +31,7 @@ fn shared(rt: &impl Abort) -> Controller<Sweep> {
     }
     send(rt, &mut both, SECOND, 9, Order::Abort(2));
     send(rt, &mut both, FIRST, 8, Order::Status(3));
-    assert!(rt; both.begin().is_some());
+    holds(rt, both.begin().is_some());
     both
 }
 
@@ -41,15 +42,15 @@ fn take_alike(
     other: &mut Controller<Sweep>,
     connection: Connection,
 ) {
-    assert_eq!(rt; one.balance(connection), other.balance(connection));
-    assert!(rt; one.take(connection) == other.take(connection));
+    same(rt, one.balance(connection), other.balance(connection));
+    holds(rt, one.take(connection) == other.take(connection));
 }
 
 /// Both answer the same to whatever comes.
 fn step_alike(rt: &impl Abort, one: &mut Controller<Sweep>, other: &mut Controller<Sweep>) {
-    assert_eq!(rt; one.begin(), other.begin());
-    assert!(rt; one.look().as_slice() == other.look().as_slice());
-    assert_eq!(rt; one.step(Block::Good), other.step(Block::Good));
+    same(rt, one.begin(), other.begin());
+    holds(rt, one.look().as_slice() == other.look().as_slice());
+    same(rt, one.step(Block::Good), other.step(Block::Good));
     take_alike(rt, one, other, FIRST);
     take_alike(rt, one, other, SECOND);
 }
@@ -62,8 +63,8 @@ fn goes_on(rt: &impl Abort, mut one: Controller<Sweep>) {
     for _ in 0..400 {
         step_alike(rt, &mut one, &mut other);
     }
-    assert_eq!(rt; one.waiting(FIRST), 0);
-    assert_eq!(rt; one.waiting(SECOND), 0);
+    same(rt, one.waiting(FIRST), 0);
+    same(rt, one.waiting(SECOND), 0);
     is_saved_as(rt, &one, save(&other, 7).as_slice());
 }
 
@@ -77,7 +78,7 @@ fn what_is_saved_goes_on(rt: HostRuntime) {
 #[test]
 fn each_part_takes_its_bytes(rt: HostRuntime) {
     // A head and a drive; 63 waiting commands; 5 waiting commands and 4 ends.
-    assert_eq!(rt; save(&controller(&rt, 2, 0, 0), 7).len(), 48 + 34);
-    assert_eq!(rt; save(&crowded(&rt), 7).len(), 48 + 34 + 63 * 41);
-    assert_eq!(rt; save(&shared(&rt), 7).len(), 48 + 34 + 5 * 41 + 4 * 48);
+    same(&rt, save(&controller(&rt, 2, 0, 0), 7).len(), 48 + 34);
+    same(&rt, save(&crowded(&rt), 7).len(), 48 + 34 + 63 * 41);
+    same(&rt, save(&shared(&rt), 7).len(), 48 + 34 + 5 * 41 + 4 * 48);
 }

@@ -1,0 +1,29 @@
+// What a test asserts. Each assertion stands here once: it costs the prover a second or two wherever it stands, and a call of
+// these next to nothing.
+
+ghost use Rattle.std.specs.Prelude.{IsTrue};
+
+use std::fmt::Debug;
+use std::process::Abort;
+
+/// What was made is what is wanted.
+pub fn same<T: PartialEq + Debug + Drop>(rt: &impl Abort, made: T, wanted: T) {
+    assert_eq!(rt; made, wanted);
+}
+
+/// The same, where one call stands for many rows: this is the row.
+pub fn same_of<R: Debug + Drop, T: PartialEq + Debug + Drop>(
+    rt: &impl Abort,
+    row: R,
+    made: T,
+    wanted: T,
+) {
+    assert_eq!(rt; made, wanted, "of {row:?}");
+}
+
+/// It is so.
+pub fn holds(rt: &impl Abort, it: bool)
+    ensures { IsTrue it }
+{
+    assert!(rt; it);
+}
