@@ -194,10 +194,27 @@ build_library() {
     cp -a -- "$top/crates/$1" "$at/crates" && (cd -- "$at/crates/$1" && become_rt lib </dev/null) && : >"$at/built"
 }
 
+# Prints how much each of these libraries, lowest first, is to give way to the others: from 0, for the one with the longest
+# chain of lines above it, to 9.
+manners() {
+    local low
+    for low in "$@"; do
+        echo "$low $(find "$top/crates/$low" -path '*/out' -prune -o -type f -exec cat -- {} + | wc -l)" $(below "$low")
+    done | tac | awk '
+        {
+            above[$1] += $2
+            for (i = 3; i <= NF; i++) if (above[$i] < above[$1]) above[$i] = above[$1]
+            if (most < above[$1]) most = above[$1]
+        }
+        END { for (low in above) print low, int(10 - 10 * above[low] / most) }'
+}
+
 # Has these libraries built, each by a process that ends where this one does.
 build_libraries() {
-    local low
-    for low in "$@"; do tied "$BASH" "$top/building.bash" build_library "$top" "$name" "$nothing" "$room" "$low" & done
+    local low manner
+    while read -r low manner; do
+        tied nice -n "$manner" "$BASH" "$top/building.bash" build_library "$top" "$name" "$nothing" "$room" "$low" &
+    done <<<"$(manners "$@")"
     for low in "$@"; do wait -n || return; done
     for low in "$@"; do
         mv -- "$room/apart/$low/crates/$low/out" "$top/crates/$low" || refuse "crates/$low/out can't be written"

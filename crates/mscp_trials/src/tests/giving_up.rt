@@ -3,10 +3,11 @@
 
 use super::HEADER;
 use super::messages::{TABLE, message};
+use super::moments::event_of;
+use super::scripts::is_told_by_both;
 use super::streams::simulated;
 use super::values::config;
 use crate::tests::checks::{holds, same, same_of};
-use arrayvec::ArrayVec;
 use mscp_control::{Block, Connection, Event, Sweep, run};
 use mscp_script::{ShowFault, read_script, report, show_packet};
 use mscp_sim::{Heard, Turn, converse};
@@ -16,16 +17,20 @@ use std::test::Fail;
 const NOTHING: &[u8] = b"steps 0 seeks 0 pending 0\n";
 
 #[test]
-fn nothing_to_do_wants_no_memory(rt: HostRuntime) -> Result<(), Fail> {
+fn no_events_want_no_memory(rt: HostRuntime) -> Result<(), Fail> {
     let entries = run(rt.alloc(), config(&rt, 4, 16), Sweep, &[])?;
     same(&rt, entries.len(), 0);
     same(&rt, report(rt.alloc(), &entries)?.as_slice(), NOTHING);
-    let script = read_script(rt.alloc(), HEADER.as_bytes())?;
-    same(&rt, script.events.len(), 0);
-    let text = simulated(&rt, HEADER.as_bytes())
-        .ok()
-        .expect(&rt, "a script");
-    same(&rt, text.as_slice(), NOTHING);
+    Ok(())
+}
+
+#[test]
+fn a_header_alone_wants_no_memory(rt: HostRuntime) -> Result<(), Fail> {
+    is_told_by_both(&rt, HEADER.as_bytes(), 0, NOTHING)
+}
+
+#[test]
+fn a_talk_of_no_turns_wants_no_memory(rt: HostRuntime) -> Result<(), Fail> {
     let talk = converse(rt.alloc(), config(&rt, 4, 16), Sweep, &[])?;
     same(&rt, talk.heard.len(), 0);
     same(&rt, talk.trace.len(), 0);
@@ -66,35 +71,50 @@ fn begins(opcode: u8, length: usize) -> Result<&'static str, ShowFault> {
     Err(ShowFault::Code)
 }
 
+/// These bytes are shown, as digits, as a line that begins like this, or have this fault.
+fn is_shown(
+    rt: &(impl Abort + AllocGlobal),
+    bytes: &[u8],
+    wanted: Result<&str, ShowFault>,
+) -> Result<(), Fail> {
+    let mut word = String::new(rt.alloc());
+    put_digits(&mut word, bytes)?;
+    match (show_packet(rt.alloc(), word.as_str()), wanted) {
+        (Ok(line), Ok(wanted)) => holds(rt, line.starts_with(wanted.as_bytes())),
+        (Err(fault), Err(wanted)) => same_of(rt, word.as_str(), fault, wanted),
+        _ => panic!(rt; "of {word}"),
+    }
+    Ok(())
+}
+
 #[test]
 fn every_packet_is_shown_or_has_its_fault(rt: HostRuntime) -> Result<(), Fail> {
     for opcode in 0..=255 {
         let bytes = message(opcode, 0xFF);
         for length in 0..65 {
-            let mut word = String::new(rt.alloc());
-            put_digits(&mut word, &bytes[..length])?;
-            match (
-                show_packet(rt.alloc(), word.as_str()),
-                begins(opcode, length),
-            ) {
-                (Ok(line), Ok(wanted)) => {
-                    same_of(
-                        &rt,
-                        word.as_str(),
-                        line.starts_with(wanted.as_bytes()),
-                        true,
-                    )
-                }
-                (Err(fault), Err(wanted)) => same_of(&rt, word.as_str(), fault, wanted),
-                _ => panic!(rt; "of {word}"),
-            }
+            is_shown(&rt, &bytes[..length], begins(opcode, length))?;
         }
     }
     Ok(())
 }
 
-/// Each message of 1 to 64 bytes, of each opcode and filled with zeros and with ones, with a step and a take after it: as
-/// events, and as a script.
+/// Appends a message, with a step and a take after it: as events, and as a script.
+fn add_message(
+    rt: &impl Abort,
+    events: &mut Vec<Event>,
+    script: &mut String,
+    bytes: &[u8],
+) -> Result<(), Fail> {
+    events.push(event_of(rt, Connection::First, bytes))?;
+    events.push(Event::Step(Block::Good))?;
+    events.push(Event::Take(Connection::First))?;
+    script.push_str("packet ")?;
+    put_digits(script, bytes)?;
+    script.push_str("\nstep 1\ntake\n")?;
+    Ok(())
+}
+
+/// Each message of 1 to 64 bytes, of each opcode and filled with zeros and with ones.
 fn all_messages(rt: &(impl Abort + AllocGlobal)) -> Result<(Vec<Event>, String), Fail> {
     let mut events = Vec::new(rt.alloc());
     let mut script = String::from_str(rt.alloc(), HEADER)?;
@@ -102,15 +122,7 @@ fn all_messages(rt: &(impl Abort + AllocGlobal)) -> Result<(Vec<Event>, String),
         for fill in [0x00, 0xFF] {
             let bytes = message(opcode, fill);
             for length in 1..65 {
-                let mut sent = ArrayVec::new();
-                sent.try_extend_from_slice(&bytes[..length])
-                    .expect(rt, "room");
-                events.push(Event::Send(Connection::First, sent))?;
-                events.push(Event::Step(Block::Good))?;
-                events.push(Event::Take(Connection::First))?;
-                script.push_str("packet ")?;
-                put_digits(&mut script, &bytes[..length])?;
-                script.push_str("\nstep 1\ntake\n")?;
+                add_message(rt, &mut events, &mut script, &bytes[..length])?;
             }
         }
     }
@@ -142,28 +154,32 @@ fn a_talk_of_many_turns_is_heard(rt: HostRuntime) -> Result<(), Fail> {
     Ok(())
 }
 
+/// A header of two credits, a READ, and so many polls of it, with a look before the end of each is taken.
+fn polls(rt: &impl AllocGlobal, count: u32) -> Result<String, Fail> {
+    let header = "credits 2\npassing 2\nlongest 8\ntimeout 60\nunit 0 10 2 1 1000\ngo\n";
+    let mut script = String::from_str(rt.alloc(), header)?;
+    script.push_str("read 1 0 512 0\n")?;
+    for _poll in 0..count {
+        script.push_str("status 3 1\nlook\ntake\n")?;
+    }
+    Ok(script)
+}
+
+/// What is told then.
+fn answers(rt: &impl AllocGlobal, count: u32) -> Result<String, Fail> {
+    let mut report = String::from_str(rt.alloc(), "queued 1\n")?;
+    for _poll in 0..count {
+        report.push_str("answered 3\nfigure 1 17\n")?;
+        report.push_str("end 0300000000000000820000000100000011000000\n")?;
+    }
+    report.push_str("steps 0 seeks 0 pending 1\n")?;
+    Ok(report)
+}
+
 // A READ waits, and takes one of two credits. It is polled so often that both are taken at each look.
 #[test]
 fn a_long_run_without_credits_is_run(rt: HostRuntime) -> Result<(), Fail> {
-    let header = "credits 2\npassing 2\nlongest 8\ntimeout 60\nunit 0 10 2 1 1000\ngo\n";
-    let mut script = String::from_str(rt.alloc(), header)?;
-    let mut wanted = String::from_str(rt.alloc(), "queued 1\n")?;
-    script.push_str("read 1 0 512 0\n")?;
-    for _poll in 0..10_000 {
-        script.push_str("status 3 1\nlook\ntake\n")?;
-        wanted.push_str("answered 3\nfigure 1 17\n")?;
-        wanted.push_str("end 0300000000000000820000000100000011000000\n")?;
-    }
-    wanted.push_str("steps 0 seeks 0 pending 1\n")?;
-    let read = read_script(rt.alloc(), script.as_bytes())?;
-    let entries = run(rt.alloc(), read.config, Sweep, &read.events)?;
-    holds(
-        &rt,
-        report(rt.alloc(), &entries)?.as_slice() == wanted.as_bytes(),
-    );
-    let text = simulated(&rt, script.as_bytes())
-        .ok()
-        .expect(&rt, "a script");
-    holds(&rt, text.as_slice() == wanted.as_bytes());
-    Ok(())
+    let script = polls(&rt, 10_000)?;
+    let wanted = answers(&rt, 10_000)?;
+    is_told_by_both(&rt, script.as_bytes(), 30_001, wanted.as_bytes())
 }

@@ -8,7 +8,7 @@ use super::values::{FIRST, command, config};
 use crate::Scarce;
 use crate::tests::checks::{holds, same, same_of};
 use linked_list_allocator::LocalHeap;
-use mscp_control::{Block, Entry, Event, OutOfMemory, Sweep, run, run_in};
+use mscp_control::{Block, Config, Entry, Event, OutOfMemory, Sweep, run, run_in};
 use mscp_host::News;
 use mscp_packet::{MoveKind, Order, write_command};
 use mscp_script::{
@@ -86,27 +86,37 @@ fn run_is_refused_memory(rt: HostRuntime) -> Result<(), Fail> {
     panic!(rt; "a run never found memory");
 }
 
-/// A heap that has just the entries' bytes is enough, also for many entries, and all of it is used. With an entry's bytes
-/// less there is no answer.
-#[test]
-fn run_asks_for_the_entries_alone(rt: HostRuntime) {
+/// A thousand takes of nothing.
+fn takes(rt: &(impl Abort + AllocGlobal)) -> Vec<Event> {
     let mut events = Vec::new(rt.alloc());
     for _take in 0..1000 {
-        events.push(Event::Take(FIRST)).ok().expect(&rt, "memory");
+        events.push(Event::Take(FIRST)).ok().expect(rt, "memory");
     }
-    let bytes = 1000 * size_of::<Entry>();
-    let heap = LocalHeap::new(rt.alloc(), bytes).ok().expect(&rt, "memory");
-    let entries = run_in(&heap, config(&rt, 4, 16), Sweep, &events)
+    events
+}
+
+/// A heap of so many bytes.
+fn heap_of(rt: &(impl Abort + AllocGlobal), bytes: usize) -> LocalHeap {
+    LocalHeap::new(rt.alloc(), bytes).ok().expect(rt, "memory")
+}
+
+// All of it is used.
+#[test]
+fn the_bytes_of_the_entries_are_enough_for_a_run(rt: HostRuntime) {
+    let heap = heap_of(&rt, 1000 * size_of::<Entry>());
+    let entries = run_in(&heap, config(&rt, 4, 16), Sweep, &takes(&rt))
         .ok()
         .expect(&rt, "room for the entries");
     same(&rt, entries.len(), 1000);
     same(&rt, heap.used(), heap.size());
-    let small = LocalHeap::new(rt.alloc(), bytes - size_of::<Entry>())
-        .ok()
-        .expect(&rt, "memory");
-    let refused = run_in(&small, config(&rt, 4, 16), Sweep, &events).err();
+}
+
+#[test]
+fn an_entry_less_is_too_little_for_a_run(rt: HostRuntime) {
+    let heap = heap_of(&rt, 999 * size_of::<Entry>());
+    let refused = run_in(&heap, config(&rt, 4, 16), Sweep, &takes(&rt)).err();
     same(&rt, refused, Some(OutOfMemory));
-    same(&rt, small.used(), 0);
+    same(&rt, heap.used(), 0);
 }
 
 #[test]
@@ -133,6 +143,13 @@ fn report_is_refused_memory(rt: HostRuntime) -> Result<(), Fail> {
     panic!(rt; "a report never found memory");
 }
 
+/// The script is read whole, with these ten events.
+fn is_the_script(rt: &impl Abort, read: &Config, made: &[Event], events: &[Event]) {
+    same(rt, read, &config(rt, 4, 16));
+    same(rt, made, events);
+    same(rt, made.len(), 10);
+}
+
 #[test]
 fn read_script_is_refused_memory(rt: HostRuntime) -> Result<(), Fail> {
     let whole = read_script(rt.alloc(), SCRIPT)?;
@@ -142,9 +159,12 @@ fn read_script_is_refused_memory(rt: HostRuntime) -> Result<(), Fail> {
             Err(ReadFault::OutOfMemory) => nothing_is_kept(&rt, &heap, true),
             Err(ReadFault::Script(_)) => panic!(rt; "it has no fault"),
             Ok(script) => {
-                same(&rt, &script.config, &config(&rt, 4, 16));
-                same(&rt, script.events.as_slice(), whole.events.as_slice());
-                same(&rt, script.events.len(), 10);
+                is_the_script(
+                    &rt,
+                    &script.config,
+                    script.events.as_slice(),
+                    whole.events.as_slice(),
+                );
                 drop(script);
                 nothing_is_kept(&rt, &heap, false);
                 holds(&rt, number > 1);
@@ -254,6 +274,19 @@ fn polled_twice() -> [Turn; 8] {
     ]
 }
 
+/// This is heard of the talk, in which so much came to the controller.
+fn is_the_talk(rt: &impl Abort, heard: &[Heard], came: usize) {
+    let wanted = [
+        Heard::Asked,
+        Heard::News(News::First(18)),
+        Heard::Asked,
+        Heard::News(News::Reset),
+    ];
+    same(rt, heard.len(), 8);
+    same(rt, came, 8);
+    same(rt, heard.get(4..), Some(wanted.as_slice()));
+}
+
 #[test]
 fn converse_is_refused_memory(rt: HostRuntime) {
     for number in 1..MANY {
@@ -261,15 +294,7 @@ fn converse_is_refused_memory(rt: HostRuntime) {
         match converse_in(&heap, config(&rt, 4, 16), Sweep, &polled_twice()) {
             Err(OutOfMemory) => nothing_is_kept(&rt, &heap, true),
             Ok(talk) => {
-                let wanted = [
-                    Heard::Asked,
-                    Heard::News(News::First(18)),
-                    Heard::Asked,
-                    Heard::News(News::Reset),
-                ];
-                same(&rt, talk.heard.len(), 8);
-                same(&rt, talk.trace.len(), 8);
-                same(&rt, talk.heard.get(4..), Some(wanted.as_slice()));
+                is_the_talk(&rt, talk.heard.as_slice(), talk.trace.len());
                 drop(talk);
                 nothing_is_kept(&rt, &heap, false);
                 same(&rt, number, 3);

@@ -3,8 +3,7 @@
 
 use super::HEADER;
 use super::first::{REPORT, SCRIPT};
-use super::streams::simulated;
-use super::values::config;
+use super::streams::{is_told, simulated};
 use crate::tests::checks::{holds, same};
 use mscp_control::{Sweep, run};
 use mscp_script::{read_script, report};
@@ -93,11 +92,9 @@ fn a_seventeenth_unit_is_refused(rt: HostRuntime) -> Result<(), Fail> {
 fn a_long_comment_changes_nothing(rt: HostRuntime) -> Result<(), Fail> {
     let mut script = filled(&rt, b"#", (b' ', 199), b"\r\n")?;
     script.extend_from_slice(SCRIPT)?;
-    let text = simulated(&rt, &script).ok().expect(&rt, "a script");
-    same(&rt, text.as_slice(), REPORT);
+    is_told(&rt, &script, REPORT);
     let lines = filled(&rt, SCRIPT, (b'\n', 999_000), b"")?;
-    let text = simulated(&rt, &lines).ok().expect(&rt, "a script");
-    same(&rt, text.as_slice(), REPORT);
+    is_told(&rt, &lines, REPORT);
     Ok(())
 }
 
@@ -110,22 +107,35 @@ fn steps(rt: &impl AllocGlobal, thousands: usize) -> Result<String, Fail> {
     Ok(script)
 }
 
+/// A million steps in which nothing waits.
+fn idle(rt: &impl AllocGlobal) -> Result<Vec<u8>, Fail> {
+    let mut text = Vec::new(rt.alloc());
+    for _step in 0..1_000_000 {
+        text.extend_from_slice(b"idle\n")?;
+    }
+    text.extend_from_slice(b"steps 1000000 seeks 0 pending 0\n")?;
+    Ok(text)
+}
+
+/// The script has so many events. What is written of it is this, whether they are listed or run as they are read.
+pub(super) fn is_told_by_both(
+    rt: &(impl Abort + AllocGlobal),
+    script: &[u8],
+    events: usize,
+    wanted: &[u8],
+) -> Result<(), Fail> {
+    let read = read_script(rt.alloc(), script)?;
+    same(rt, read.events.len(), events);
+    let entries = run(rt.alloc(), read.config, Sweep, &read.events)?;
+    holds(rt, report(rt.alloc(), &entries)?.as_slice() == wanted);
+    is_told(rt, script, wanted);
+    Ok(())
+}
+
 #[test]
 fn a_million_events_and_no_more(rt: HostRuntime) -> Result<(), Fail> {
     let mut script = steps(&rt, 1000)?;
-    let events = read_script(rt.alloc(), script.as_bytes())?.events;
-    same(&rt, events.len(), 1_000_000);
-    let mut wanted = Vec::new(rt.alloc());
-    for _step in 0..1_000_000 {
-        wanted.extend_from_slice(b"idle\n")?;
-    }
-    wanted.extend_from_slice(b"steps 1000000 seeks 0 pending 0\n")?;
-    let text = simulated(&rt, script.as_bytes())
-        .ok()
-        .expect(&rt, "a script");
-    holds(&rt, text == wanted);
-    let entries = run(rt.alloc(), config(&rt, 4, 16), Sweep, &events)?;
-    holds(&rt, report(rt.alloc(), &entries)? == wanted);
+    is_told_by_both(&rt, script.as_bytes(), 1_000_000, &idle(&rt)?)?;
     script.push_str("take")?;
     refuses(&rt, script.as_bytes(), "line 1007: events")?;
     let mut other = steps(&rt, 1000)?;

@@ -3,7 +3,7 @@
 ghost use Rattle.std.specs.Prelude.{◌≡◌, false};
 
 use super::first::{REPORT, SCRIPT};
-use crate::tests::checks::{same, same_of};
+use crate::tests::checks::{holds, same, same_of};
 use mscp_script::{SimFault, Stream, simulate};
 use std::alloc::Global;
 use std::io;
@@ -102,6 +102,12 @@ pub(super) fn simulated(
             Err(fault)
         }
     }
+}
+
+/// This is what is written of a script.
+pub(super) fn is_told(rt: &(impl Abort + AllocGlobal), script: &[u8], wanted: &[u8]) {
+    let text = simulated(rt, script).ok().expect(rt, "a script");
+    holds(rt, text.as_slice() == wanted);
 }
 
 /// How the first script is simulated by a reader and a writer of so many bytes a call, which fail at these calls; and what

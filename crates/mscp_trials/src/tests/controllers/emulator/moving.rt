@@ -40,27 +40,40 @@ fn have(rt: &impl Abort, bytes: &[u8], byte: u8) {
     holds(rt, are_all(bytes, byte));
 }
 
+/// Those from a place to another are.
+fn part_has(rt: &impl Abort, bytes: &[u8], (from, to): (usize, usize), byte: u8) {
+    have(rt, bytes.get(from..to).expect(rt, "a part of them"), byte);
+}
+
+/// A WRITE of 700 bytes comes, a second time too, and then a READ of 1024 bytes of there.
+fn both_come(rt: &impl Abort, machine: &mut Machine<Oldest>) {
+    let write = transfer(34, 1, 700, 10, 100);
+    says(rt, machine, &write, Ok(()));
+    says(rt, machine, &write, Err(SendFault::Doubled));
+    says(rt, machine, &transfer(33, 2, 1024, 10, 2048), Ok(()));
+    has_figure(rt, &machine.controller, Connection::First, 1, 18);
+}
+
+/// The next command to be served moves both blocks, and this many bytes.
+fn moves_both(rt: &impl Abort, machine: &mut Machine<Oldest>, reference: u32, bytes: u32) {
+    serves(rt, machine, reference, 10);
+    serves(rt, machine, reference, 11);
+    ends(rt, machine, reference, 0, bytes);
+}
+
 // 700 bytes are a block of 512 and 188 of the next: 188 + 324 = 512.
 #[test]
 fn data_go_to_the_disk_and_come_back(rt: HostRuntime) {
     let mut machine = online_machine(&rt, Oldest);
-    let write = transfer(34, 1, 700, 10, 100);
-    says(&rt, &mut machine, &write, Ok(()));
-    says(&rt, &mut machine, &write, Err(SendFault::Doubled));
-    says(&rt, &mut machine, &transfer(33, 2, 1024, 10, 2048), Ok(()));
-    has_figure(&rt, &machine.controller, Connection::First, 1, 18);
-    serves(&rt, &mut machine, 1, 10);
-    serves(&rt, &mut machine, 1, 11);
+    both_come(&rt, &mut machine);
+    moves_both(&rt, &mut machine, 1, 700);
     have(&rt, &machine.disk[10], 7);
-    have(&rt, &machine.disk[11][..188], 7);
-    have(&rt, &machine.disk[11][188..], 0);
-    ends(&rt, &mut machine, 1, 0, 700);
-    serves(&rt, &mut machine, 2, 10);
-    serves(&rt, &mut machine, 2, 11);
-    have(&rt, &machine.memory[..2748], 7);
-    have(&rt, &machine.memory[2748..3072], 0);
-    have(&rt, &machine.memory[3072..], 7);
-    ends(&rt, &mut machine, 2, 0, 1024);
+    part_has(&rt, &machine.disk[11], (0, 188), 7);
+    part_has(&rt, &machine.disk[11], (188, 512), 0);
+    moves_both(&rt, &mut machine, 2, 1024);
+    part_has(&rt, &machine.memory, (0, 2748), 7);
+    part_has(&rt, &machine.memory, (2748, 3072), 0);
+    part_has(&rt, &machine.memory, (3072, 4096), 7);
     holds(&rt, machine.buffers.is_empty());
 }
 
@@ -92,8 +105,8 @@ fn a_block_that_the_file_has_not_is_bad(rt: HostRuntime) {
     serves(&rt, &mut machine, 1, 64);
     ends(&rt, &mut machine, 1, 0x0008, 512);
     holds(&rt, machine.on_turn().is_none());
-    have(&rt, &machine.memory[..512], 0);
-    have(&rt, &machine.memory[512..], 7);
+    part_has(&rt, &machine.memory, (0, 512), 0);
+    part_has(&rt, &machine.memory, (512, 4096), 7);
 }
 
 /// A READ of block 0.
@@ -130,7 +143,7 @@ fn arrivals_change_nothing_of_what_was_begun(rt: HostRuntime) {
     let block = machine.work(&mut job);
     let report = machine.finish(&job, block).ok().expect(&rt, "not stale");
     same(&rt, served(&report), Some((1, 0, Some(60))));
-    have(&rt, &machine.memory[..512], 60);
+    part_has(&rt, &machine.memory, (0, 512), 60);
     serves(&rt, &mut machine, 2, 0);
 }
 

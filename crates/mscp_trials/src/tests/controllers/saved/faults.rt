@@ -1,7 +1,7 @@
 // Each fault, by bytes that have it.
 
 use super::*;
-use crate::tests::checks::{holds, same};
+use crate::tests::checks::{holds, same, same_of};
 
 /// Where the parts of the small controller begin.
 const D: usize = 48;
@@ -22,108 +22,115 @@ fn fault_of(rt: &impl Abort, edits: &[(usize, u8)]) -> Option<RestoreFault> {
     restore(bytes.as_slice(), 7, Sweep).err()
 }
 
-/// The small controller's bytes, once those at these places are others, have this fault.
-fn has_fault(rt: &impl Abort, edits: &[(usize, u8)], fault: RestoreFault) {
-    same(rt, fault_of(rt, edits), Some(fault));
+/// Edits, and the fault that the bytes have then.
+type Row = (&'static [(usize, u8)], RestoreFault);
+
+/// Each of these edits has its fault.
+fn have_faults(rt: &impl Abort, rows: &[Row]) {
+    for (edits, fault) in rows {
+        same_of(rt, *edits, fault_of(rt, edits), Some(*fault));
+    }
 }
+
+const HEAD_EDITS: [Row; 17] = [
+    // The length that the head tells, and how much there is of each part.
+    (&[(8, 213)], RestoreFault::Length),
+    (&[(11, 1)], RestoreFault::Length),
+    (&[(31, 2)], RestoreFault::Length),
+    (&[(40, 1)], RestoreFault::Length),
+    (&[(41, 2)], RestoreFault::Length),
+    (&[(42, 1)], RestoreFault::Length),
+    (&[(0, 0x4E)], RestoreFault::Magic),
+    (&[(3, 0)], RestoreFault::Magic),
+    (&[(4, 0)], RestoreFault::Version),
+    (&[(4, 2)], RestoreFault::Version),
+    // One credit, 64 + 2 credits, no blocks, 2^23 + 8 blocks, no seconds, 316 seconds, a budget of 2^32 - 1.
+    (&[(12, 1)], RestoreFault::Limits),
+    (&[(12, 64)], RestoreFault::Limits),
+    (&[(24, 0)], RestoreFault::Limits),
+    (&[(26, 128)], RestoreFault::Limits),
+    (&[(28, 0)], RestoreFault::Limits),
+    (&[(29, 1)], RestoreFault::Limits),
+    (
+        &[(20, 255), (21, 255), (22, 255), (23, 255)],
+        RestoreFault::Limits,
+    ),
+];
 
 #[test]
 fn an_edit_of_the_head_is_told(rt: HostRuntime) {
     same(&rt, fault_of(&rt, &[]), None);
-    // The length that the head tells, and how much there is of each part.
-    has_fault(&rt, &[(8, 213)], RestoreFault::Length);
-    has_fault(&rt, &[(11, 1)], RestoreFault::Length);
-    has_fault(&rt, &[(31, 2)], RestoreFault::Length);
-    has_fault(&rt, &[(40, 1)], RestoreFault::Length);
-    has_fault(&rt, &[(41, 2)], RestoreFault::Length);
-    has_fault(&rt, &[(42, 1)], RestoreFault::Length);
-    has_fault(&rt, &[(0, 0x4E)], RestoreFault::Magic);
-    has_fault(&rt, &[(3, 0)], RestoreFault::Magic);
-    has_fault(&rt, &[(4, 0)], RestoreFault::Version);
-    has_fault(&rt, &[(4, 2)], RestoreFault::Version);
-    // One credit, 64 + 2 credits, no blocks, 2^23 + 8 blocks, no seconds, 316 seconds, a budget of 2^32 - 1.
-    has_fault(&rt, &[(12, 1)], RestoreFault::Limits);
-    has_fault(&rt, &[(12, 64)], RestoreFault::Limits);
-    has_fault(&rt, &[(24, 0)], RestoreFault::Limits);
-    has_fault(&rt, &[(26, 128)], RestoreFault::Limits);
-    has_fault(&rt, &[(28, 0)], RestoreFault::Limits);
-    has_fault(&rt, &[(29, 1)], RestoreFault::Limits);
-    has_fault(
-        &rt,
-        &[(20, 255), (21, 255), (22, 255), (23, 255)],
-        RestoreFault::Limits,
-    );
+    have_faults(&rt, &HEAD_EDITS);
 }
+
+const PART_EDITS: [Row; 21] = [
+    // The last cylinder is 49.
+    (&[(D + 30, 50)], RestoreFault::Heads),
+    (&[(D + 33, 1)], RestoreFault::Heads),
+    // No second connection, and two commands of one that has room for one.
+    (&[(16, 0)], RestoreFault::Credits),
+    (&[(R + 40, 2)], RestoreFault::Credits),
+    // GET COMMAND STATUS, an unknown opcode, unit 5, block 999 of two, 10 blocks.
+    (&[(R + 8, 0x02)], RestoreFault::Command),
+    (&[(W + 8, 0x7F)], RestoreFault::Command),
+    (&[(W + 4, 5)], RestoreFault::Command),
+    (&[(R + 28, 0xE7), (R + 29, 3)], RestoreFault::Command),
+    (&[(W + 13, 0x14)], RestoreFault::Command),
+    (&[(W + 40, 1)], RestoreFault::Doubled),
+    // Both steps were done, the only one was, and both commands are in service.
+    (&[(R + 32, 2)], RestoreFault::Steps),
+    (&[(W + 32, 1)], RestoreFault::Steps),
+    (&[(W + 13, 4), (W + 32, 1)], RestoreFault::Steps),
+    (&[(R + 36, 17)], RestoreFault::Passed),
+    (&[(W + 36, 1)], RestoreFault::Passed),
+    (&[(E + 8, 0x42)], RestoreFault::Ends),
+    // No command 2, and one that waits for that in service.
+    (&[(44, 2)], RestoreFault::Begun),
+    (&[(43, 2)], RestoreFault::Begun),
+    // Neither online nor not, a connection that is none, and something where nothing is written.
+    (&[(D + 28, 2)], RestoreFault::Form),
+    (&[(W + 40, 3)], RestoreFault::Form),
+    (&[(E + 47, 1)], RestoreFault::Form),
+];
 
 #[test]
 fn an_edit_of_a_part_is_told(rt: HostRuntime) {
-    // The last cylinder is 49.
-    has_fault(&rt, &[(D + 30, 50)], RestoreFault::Heads);
-    has_fault(&rt, &[(D + 33, 1)], RestoreFault::Heads);
-    // No second connection, and two commands of one that has room for one.
-    has_fault(&rt, &[(16, 0)], RestoreFault::Credits);
-    has_fault(&rt, &[(R + 40, 2)], RestoreFault::Credits);
-    // GET COMMAND STATUS, an unknown opcode, unit 5, block 999 of two, 10 blocks.
-    has_fault(&rt, &[(R + 8, 0x02)], RestoreFault::Command);
-    has_fault(&rt, &[(W + 8, 0x7F)], RestoreFault::Command);
-    has_fault(&rt, &[(W + 4, 5)], RestoreFault::Command);
-    has_fault(&rt, &[(R + 28, 0xE7), (R + 29, 3)], RestoreFault::Command);
-    has_fault(&rt, &[(W + 13, 0x14)], RestoreFault::Command);
-    has_fault(&rt, &[(W + 40, 1)], RestoreFault::Doubled);
-    // Both steps were done, the only one was, and both commands are in service.
-    has_fault(&rt, &[(R + 32, 2)], RestoreFault::Steps);
-    has_fault(&rt, &[(W + 32, 1)], RestoreFault::Steps);
-    has_fault(&rt, &[(W + 13, 4), (W + 32, 1)], RestoreFault::Steps);
-    has_fault(&rt, &[(R + 36, 17)], RestoreFault::Passed);
-    has_fault(&rt, &[(W + 36, 1)], RestoreFault::Passed);
-    has_fault(&rt, &[(E + 8, 0x42)], RestoreFault::Ends);
-    // No command 2, and one that waits for that in service.
-    has_fault(&rt, &[(44, 2)], RestoreFault::Begun);
-    has_fault(&rt, &[(43, 2)], RestoreFault::Begun);
-    // Neither online nor not, a connection that is none, and something where nothing is written.
-    has_fault(&rt, &[(D + 28, 2)], RestoreFault::Form);
-    has_fault(&rt, &[(W + 40, 3)], RestoreFault::Form);
-    has_fault(&rt, &[(E + 47, 1)], RestoreFault::Form);
+    have_faults(&rt, &PART_EDITS);
 }
 
-/// An edit for each fault, which is told where it is alone, or before all that follow.
-const EDITS: [(usize, u8); 13] = [
-    (9, 1),
-    (0, 0),
-    (4, 2),
-    (28, 0),
-    (D + 30, 50),
-    (12, 2),
-    (W + 4, 5),
-    (W + 40, 1),
-    (R + 32, 2),
-    (R + 36, 17),
-    (E + 8, 0x42),
-    (44, 2),
-    (E + 47, 1),
+/// Edits, and the fault that is told where one of them is alone, or before all that follow.
+const EDITS: [((usize, u8), RestoreFault); 13] = [
+    ((9, 1), RestoreFault::Length),
+    ((0, 0), RestoreFault::Magic),
+    ((4, 2), RestoreFault::Version),
+    ((28, 0), RestoreFault::Limits),
+    ((D + 30, 50), RestoreFault::Heads),
+    ((12, 2), RestoreFault::Credits),
+    ((W + 4, 5), RestoreFault::Command),
+    ((W + 40, 1), RestoreFault::Doubled),
+    ((R + 32, 2), RestoreFault::Steps),
+    ((R + 36, 17), RestoreFault::Passed),
+    ((E + 8, 0x42), RestoreFault::Ends),
+    ((44, 2), RestoreFault::Begun),
+    ((E + 47, 1), RestoreFault::Form),
 ];
 
 /// With the edits from this one on there is this fault.
 fn is_first(rt: &impl Abort, place: usize, fault: RestoreFault) {
-    let edits = EDITS.get(place..).expect(rt, "13 edits");
-    has_fault(rt, edits, fault);
+    let mut bytes = small(rt);
+    for ((at, byte), _) in EDITS.iter().skip(place) {
+        holds(rt, *at < bytes.len());
+        bytes[*at] = *byte;
+    }
+    let told = restore(bytes.as_slice(), 7, Sweep).err();
+    same_of(rt, place, told, Some(fault));
 }
 
 #[test]
 fn the_first_fault_is_told(rt: HostRuntime) {
-    is_first(&rt, 0, RestoreFault::Length);
-    is_first(&rt, 1, RestoreFault::Magic);
-    is_first(&rt, 2, RestoreFault::Version);
-    is_first(&rt, 3, RestoreFault::Limits);
-    is_first(&rt, 4, RestoreFault::Heads);
-    is_first(&rt, 5, RestoreFault::Credits);
-    is_first(&rt, 6, RestoreFault::Command);
-    is_first(&rt, 7, RestoreFault::Doubled);
-    is_first(&rt, 8, RestoreFault::Steps);
-    is_first(&rt, 9, RestoreFault::Passed);
-    is_first(&rt, 10, RestoreFault::Ends);
-    is_first(&rt, 11, RestoreFault::Begun);
-    is_first(&rt, 12, RestoreFault::Form);
+    for (place, (_, fault)) in EDITS.iter().enumerate() {
+        is_first(&rt, place, *fault);
+    }
 }
 
 /// These bytes have this fault, or none.
