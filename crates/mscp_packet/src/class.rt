@@ -29,7 +29,7 @@ impl Class {
 }
 
 /// The twelve opcodes that are known.
-#[derive(Clone, Copy, Debug, PartialEq, Eq)]
+#[derive(Clone, Copy)]
 pub enum Opcode {
     Abort,
     Status,
@@ -42,7 +42,7 @@ pub enum Opcode {
 }
 
 /// What is told of an opcode.
-#[derive(Clone, Copy, Debug, PartialEq, Eq)]
+#[derive(Clone, Copy)]
 pub struct Line {
     /// Its byte in a command. With the top bit set it is the endcode.
     pub byte: u8,

@@ -57,7 +57,7 @@ pub struct End {
 }
 
 /// The shapes of bodies.
-#[derive(Clone, Copy, Debug, PartialEq, Eq)]
+#[derive(Clone, Copy)]
 pub enum BodyKind {
     Bare,
     Abort,

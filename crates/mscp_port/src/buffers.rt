@@ -12,7 +12,7 @@ use mscp_packet::fields::{four_at, two_at};
 use mscp_queue::Connection;
 
 /// What is kept of a command that waits: what its message says that the controller doesn't read.
-#[derive(Clone, Copy, Debug, Default, PartialEq, Eq)]
+#[derive(Clone, Copy, Default)]
 pub(crate) struct Buffer {
     pub reference: u32,
     /// Where a transfer's data are in host memory, and how many bytes they have.
@@ -26,7 +26,7 @@ pub(crate) struct Buffer {
 }
 
 /// One step of a transfer.
-#[derive(Clone, Copy, Debug, PartialEq, Eq)]
+#[derive(Clone, Copy)]
 pub(crate) struct Job {
     pub connection: Connection,
     pub reference: u32,

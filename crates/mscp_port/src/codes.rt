@@ -15,7 +15,7 @@ use mscp_queue::{Block, Connection, FaultStatus};
 use mscp_saved::{connection_byte, connection_in};
 
 /// A task as numbers: which it is, and what is known for it. What it lacks is 0.
-#[derive(Clone, Copy, Debug, PartialEq, Eq)]
+#[derive(Clone, Copy)]
 pub(crate) struct Coded {
     pub task: u8,
     /// The ring, the connection, or whether a text is for another connection than the disk's.

@@ -43,14 +43,14 @@ pub enum PortFault {
 }
 
 /// What goes out to the host: the end of a command, or an attention message.
-#[derive(Debug, PartialEq, Drop)]
+#[derive(Drop)]
 pub(crate) struct Outgoing {
     bytes: ArrayVec<u8, 48>,
     is_end: bool,
 }
 
 /// What the host wrote in the first two steps.
-#[derive(Clone, Copy, Debug, Default, PartialEq, Eq)]
+#[derive(Clone, Copy, Default)]
 pub(crate) struct Words {
     first: u16,
     second: u16,

@@ -6,7 +6,7 @@ ghost use Rattle.mscp_port.specs.Areas.{AreRings, IsInArea, end_of, rings_named,
 use std::marker::Model;
 
 /// One of the two rings.
-#[derive(Clone, Copy, Debug, PartialEq, Eq)]
+#[derive(Clone, Copy)]
 pub(crate) enum Side {
     /// What the port answers.
     Responses,
@@ -16,7 +16,7 @@ pub(crate) enum Side {
 
 /// The area that the host has named: the ring of responses at its base, that of commands behind it, four bytes a slot, and
 /// two words for interrupts in front.
-#[derive(Clone, Copy, Debug, PartialEq, Eq)]
+#[derive(Clone, Copy)]
 pub(crate) struct Rings {
     base: u32,
     responses: u32,

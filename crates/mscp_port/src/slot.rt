@@ -4,7 +4,7 @@ ghost use Rattle.std.specs.Prelude.{◌≡◌, ◌^◌, ◌<◌};
 ghost use Rattle.mscp_port.specs.Slots.{given_back, is_flagged, is_owned, text_of};
 
 /// What stands in a slot of a ring: whose it is, and where a packet lies.
-#[derive(Clone, Copy, Debug, PartialEq, Eq)]
+#[derive(Clone, Copy)]
 pub(crate) struct Descriptor {
     pub word: u32,
 }

@@ -1,7 +1,7 @@
 // How far a port has come.
 
 /// How far a port has come since its host wrote register IP.
-#[derive(Clone, Copy, Debug, PartialEq, Eq)]
+#[derive(Clone, Copy, PartialEq, Eq)]
 pub(crate) enum Stage {
     /// The first step of the initialisation: the host is to write its first word, with the lengths of the rings and the
     /// vector.

@@ -6,7 +6,7 @@ use crate::slot::Descriptor;
 use mscp_queue::{Block, Connection};
 
 /// What the port has in hand: the next action, with what is known for it.
-#[derive(Clone, Copy, Debug, PartialEq, Eq)]
+#[derive(Clone, Copy)]
 pub(crate) enum Task {
     /// Nothing.
     Free,

@@ -5,7 +5,7 @@ ghost use Rattle.mscp_port.specs.Blocks.{is_mounted};
 ghost use Rattle.mscp_port.specs.Volumes.{volume_at, volume_changed, volume_reset};
 
 /// A unit's volume. All is counted: a unit that was brought online with another volume than the one in it isn't online.
-#[derive(Clone, Copy, Debug, Default, PartialEq, Eq)]
+#[derive(Clone, Copy, Default)]
 pub(crate) struct Volume {
     pub is_there: bool,
     /// Nothing may be written on it.

@@ -25,7 +25,7 @@ pub const MOST_EVENTS: usize = 1_000_000;
 pub const MOST_STEPS: u32 = 1000;
 
 /// What the first word of a line says that its fields are.
-#[derive(Clone, Copy, Debug)]
+#[derive(Clone, Copy)]
 pub enum Form {
     /// REF UNIT BYTES LBN of a transfer.
     Transfer(MoveKind),
@@ -59,7 +59,7 @@ impl Form {
 }
 
 /// What a line asks for.
-#[derive(Debug, Drop)]
+#[derive(Drop)]
 pub enum Request {
     /// The connection's host sends this command.
     Send(Connection, Command),

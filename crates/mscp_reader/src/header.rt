@@ -26,7 +26,7 @@ const IDENTIFIER: u64 = 1;
 const MOST_UNITS: usize = 16;
 
 /// How far a command may be passed.
-#[derive(Clone, Copy, Debug)]
+#[derive(Clone, Copy)]
 enum Limit {
     /// By so many blocks.
     Budget(u32),
@@ -35,14 +35,14 @@ enum Limit {
 }
 
 /// The credits of each connection. The second has none where there is none.
-#[derive(Clone, Copy, Debug)]
+#[derive(Clone, Copy)]
 struct Credits {
     first: u32,
     second: u32,
 }
 
 /// The limits of a header.
-#[derive(Clone, Copy, Debug)]
+#[derive(Clone, Copy)]
 struct Limits {
     credits: Credits,
     limit: Limit,

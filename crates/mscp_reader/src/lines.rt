@@ -25,7 +25,7 @@ pub const MOST_LINES: u32 = 1_000_000;
 pub const LONGEST_LINE: usize = 200;
 
 /// A line that has a word: its number, and its words.
-#[derive(Clone, Copy, Debug)]
+#[derive(Clone, Copy)]
 pub struct Line<'a> {
     pub number: u32,
     pub words: Words<'a>,
@@ -33,7 +33,7 @@ pub struct Line<'a> {
 }
 
 /// A plain line, and what it asks for.
-#[derive(Clone, Copy, Debug)]
+#[derive(Clone, Copy)]
 pub struct PlainLine<'a> {
     pub line: Line<'a>,
     pub plain: Plain,
@@ -41,7 +41,7 @@ pub struct PlainLine<'a> {
 }
 
 /// The lines of a script that are left, and how many were cut off.
-#[derive(Debug, Drop)]
+#[derive(Drop)]
 pub struct Lines<'a> {
     pub rest: &'a [u8],
     pub number: u32,

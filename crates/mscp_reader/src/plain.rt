@@ -14,7 +14,7 @@ use mscp_events::Connection;
 use mscp_packet::{Command, MoveKind, Order};
 
 /// What a plain line asks for. It doesn't name the second connection.
-#[derive(Clone, Copy, Debug)]
+#[derive(Clone, Copy)]
 pub enum Plain {
     /// The first connection's host sends this command.
     Send(Command),
@@ -81,7 +81,7 @@ fn first_other(bytes: &[u8]) -> Option<usize>
 }
 
 /// The digits that bytes begin with, at most 10, and their value.
-#[derive(Clone, Copy, Debug)]
+#[derive(Clone, Copy)]
 struct Numeral {
     value: u64,
     digits: usize,
@@ -102,7 +102,7 @@ fn numeral_of(bytes: &[u8]) -> Numeral
 }
 
 /// The fields of a plain line that are left, and what stands behind the line.
-#[derive(Debug, Drop)]
+#[derive(Drop)]
 struct Fields<'a> {
     rest: &'a [u8],
 }

@@ -9,7 +9,7 @@ use crate::fault::Cause;
 use crate::pieces::index_of;
 
 /// The words of a line that are left.
-#[derive(Clone, Copy, Debug)]
+#[derive(Clone, Copy)]
 pub struct Words<'a> {
     pub rest: &'a [u8],
 }

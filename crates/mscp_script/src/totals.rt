@@ -5,7 +5,7 @@ ghost use Rattle.std.specs.Prelude.{◌≡◌, ◌+◌, ◌≤◌, ◌-◌, ◌*
 use mscp_control::{Report, SendFault, Sent};
 
 /// What the last line of a report tells, and of how many entries.
-#[derive(Clone, Copy, Debug, PartialEq, Eq)]
+#[derive(Clone, Copy)]
 pub struct Totals {
     /// How many entries were counted.
     pub count: u64,

@@ -7,7 +7,7 @@ use mscp_script::{Failed, LineFault, ShowFault, SimFault};
 use std::alloc::AllocError;
 
 /// Why the program ends with another status than 0.
-#[derive(Clone, Copy, Debug, PartialEq, Eq)]
+#[derive(Clone, Copy)]
 pub enum Fault {
     /// The words of the command line aren't those of a call.
     Usage,
