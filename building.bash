@@ -122,13 +122,13 @@ stamp() (
     } | sha256sum | cut -d ' ' -f 1
 )
 
-# Prints what tells what rt built from the next one. A program stays as it was where rt has nothing to do, also as a
-# file; a library is written anew, of the same bytes.
-identity() {
-    case $built in
-        *.a) sha256sum -- "$built" ;;
-        *) stat -c '%i %s %z' -- "$built" ;;
-    esac
+# Tells whether a source was touched since this file was made, also where it has its old text again: nobody can set the time
+# that tells it.
+is_touched_since() {
+    local found
+    found=$(cd -- "$top" && find crates.txt HANDLES crates -regex 'crates/[^/]*/out' -prune -o \
+        '(' -type f -o -type l ! -xtype l ')' -cnewer "$1" -print -quit) || refuse "what stands here can't be read"
+    [ -n "$found" ]
 }
 
 # Minutes and seconds since the build began.
@@ -245,10 +245,11 @@ prove() {
     ended_well
 }
 
-# Keeps what rt built, if that and the sources are still the same after it was copied.
+# Keeps what rt built, if no source was touched since the build began: then it was built of what stands here.
 keep() {
+    [ -e "$built" ] || refuse 'rt built nothing'
     cp -- "$built" "$room/copy" && sync -- "$room/copy" || refuse "what was built can't be copied"
-    [ "$(stamp)" = "$wanted" ] && [ "$(identity)" = "$1" ] || return 0
+    [ "$(stamp)" = "$wanted" ] && ! is_touched_since "$room/began" || return 0
     mv -T -- "$room/copy" "$kept-$wanted" || refuse "$kept-$wanted can't be written"
 }
 
@@ -258,25 +259,21 @@ is_kept() {
     [ -e "$kept-$wanted" ]
 }
 
-# Runs rt until it leaves what it built as it was. That last run, of a few seconds, proved nothing, so it was built of
-# what stands here: also where a source was changed in the meantime, or changed and changed back. What was kept of
-# other sources goes then.
+# Runs rt until no source is touched meanwhile. What was kept of other sources goes then.
 build() {
-    local before='' now round=0
+    local round=0
     SECONDS=0
-    say "proving and building $what: from nothing, allow 15 minutes on four processors"
+    say "proving and building $what: from nothing, allow 10 minutes on four processors"
     mkdir -p -- "$top/out" && exec {lock}>>"$top/out/lock" || refuse "$top/out can't be written"
     flock -n "$lock" || { say 'waiting for another build' && flock "$lock"; } || refuse "$top/out/lock can't be locked"
     # Nobody else builds now, so a room that is there was left by a build that was killed.
     remove "$top"/out/building.* && mkdir -- "$room" || refuse "$top/out can't be written"
-    until is_kept; do
+    until : >"$room/began" && is_kept; do
         round=$((round + 1))
         [ "$round" -le 9 ] || refuse 'something changed during each of 9 builds'
-        [ "$round" -le 2 ] || say "something changed in the meantime: once more, after $(elapsed)"
+        [ "$round" -eq 1 ] || say "something changed in the meantime: once more, after $(elapsed)"
         prove
-        now=$(identity) || refuse 'rt built nothing'
-        [ "$now" != "$before" ] || keep "$now"
-        before=$now
+        keep
     done
     find "$top/out" -maxdepth 1 -name "${kept##*/}-*" ! -name "${kept##*/}-$wanted" -delete
     say "proved and built, after $(elapsed)"
