@@ -182,8 +182,8 @@ below() {
     done | awk '!seen[$0]++'
 }
 
-# Proves and builds a library in a folder of its own, once those that it stands on are there, since runs of rt that share a
-# crate wait for each other.
+# Proves and builds a library in a folder of its own, with these words of rt more, once those that it stands on are there,
+# since runs of rt that share a crate wait for each other.
 build_library() {
     local at=$room/apart/$1 low
     mkdir -p -- "$at/crates" && cp -- "$top/HANDLES" "$at" && grep -E "^$1( staticlib)?:" "$top/crates.txt" >"$at/crates.txt" || return
@@ -191,30 +191,43 @@ build_library() {
         until [ -e "$room/apart/$low/built" ]; do sleep 0.1; done
         cp -al -- "$room/apart/$low/crates/$low" "$at/crates" && grep "^$low:" "$top/crates.txt" >>"$at/crates.txt" || return
     done
-    cp -a -- "$top/crates/$1" "$at/crates" && (cd -- "$at/crates/$1" && become_rt lib </dev/null) && : >"$at/built"
+    # rt says so itself where it chooses.
+    [ $# -eq 1 ] || echo "rt: chose $2 $3 for $1"
+    cp -a -- "$top/crates/$1" "$at/crates" && (cd -- "$at/crates/$1" && become_rt lib "${@:2}" </dev/null) && : >"$at/built"
 }
 
-# Prints how much each of these libraries, lowest first, is to give way to the others: from 0, for the one with the longest
-# chain of lines above it, to 9.
-manners() {
+# Prints those of these libraries, lowest first, that have time: the longest chain of lines through one of them is well short
+# of the longest of all.
+unhurried() {
     local low
     for low in "$@"; do
         echo "$low $(find "$top/crates/$low" -path '*/out' -prune -o -type f -exec cat -- {} + | wc -l)" $(below "$low")
-    done | tac | awk '
+    done | awk '
         {
-            above[$1] += $2
-            for (i = 3; i <= NF; i++) if (above[$i] < above[$1]) above[$i] = above[$1]
-            if (most < above[$1]) most = above[$1]
+            for (i = 3; i <= NF; i++) if (upto[$1] < upto[$i]) upto[$1] = upto[$i]
+            upto[$1] += $2
+            line[NR] = $0
         }
-        END { for (low in above) print low, int(10 - 10 * above[low] / most) }'
+        END {
+            for (n = NR; n; n--) {
+                count = split(line[n], low)
+                for (i = 3; i <= count; i++) if (above[low[i]] < above[low[1]] + low[2]) above[low[i]] = above[low[1]] + low[2]
+                through[low[1]] = upto[low[1]] + above[low[1]]
+                if (most < through[low[1]]) most = through[low[1]]
+            }
+            for (it in through) if (through[it] < most * 0.9) print it
+        }'
 }
 
-# Has these libraries built, each by a process that ends where this one does.
+# Has these libraries built, each by a process that ends where this one does. For one that has time rt takes one processor, which
+# is less in all.
 build_libraries() {
-    local low manner
-    while read -r low manner; do
-        tied nice -n "$manner" "$BASH" "$top/building.bash" build_library "$top" "$name" "$nothing" "$room" "$low" &
-    done <<<"$(manners "$@")"
+    local low slow words
+    slow=" $(unhurried "$@" | tr '\n' ' ')"
+    for low in "$@"; do
+        [[ $slow == *" $low "* ]] && words=(--jobs 1) || words=()
+        tied "$BASH" "$top/building.bash" build_library "$top" "$name" "$nothing" "$room" "$low" "${words[@]}" &
+    done
     for low in "$@"; do wait -n || return; done
     for low in "$@"; do
         mv -- "$room/apart/$low/crates/$low/out" "$top/crates/$low" || refuse "crates/$low/out can't be written"
@@ -231,7 +244,7 @@ ended_well() {
 
 # Proves and builds by rt: the libraries side by side if nothing of them is there, and then what is wanted, which takes them.
 prove() {
-    local libraries
+    local libraries few=()
     said='' doing='reading the sources' checked=''
     mapfile -t libraries < <(below "${crate##*/}")
     if [ "${#libraries[@]}" -gt 0 ] && ! (cd -- "$top/crates" && find "${libraries[@]/%//out}" -maxdepth 0 2>/dev/null) | grep -q .; then
@@ -239,8 +252,10 @@ prove() {
             2>&1 {lock}>&-)
         wait "$!"
         ended_well
+        # What is left of a program is small, and rt says what it is at only where it chooses itself.
+        [ "${words[0]}" != run ] || { few=(--jobs 1) && begin "proving ${crate##*/}$(place "${crate##*/}")"; }
     fi
-    follow < <(cd -- "$crate" && become_rt "${words[@]}" <"$input" 2>&1 {lock}>&-)
+    follow < <(cd -- "$crate" && become_rt "${words[@]}" "${few[@]}" <"$input" 2>&1 {lock}>&-)
     wait "$!"
     ended_well
 }

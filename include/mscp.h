@@ -107,7 +107,7 @@ enum mscp_status {
     MSCP_UNKNOWN_UNIT = -37,     /* no unit has this number */
 
     MSCP_SAVED_LENGTH = -40,  /* a restore: the bytes aren't as many as they say */
-    MSCP_SAVED_MAGIC = -41,   /* they don't begin with "MSCQ", or "MSCH" for a host */
+    MSCP_SAVED_MAGIC = -41,   /* they don't begin with "MSCQ", "MSCH" for a host, or "MSCP" for a port */
     MSCP_SAVED_VERSION = -42, /* they are of a version of the format that isn't known */
     MSCP_SAVED_UNITS = -43,   /* they say units that no controller has */
     MSCP_SAVED_LIMITS = -44,  /* limits that no controller has, or credits that no host has */
@@ -513,7 +513,7 @@ MSCP_INLINE int32_t mscp_look(const struct mscp *mscp, struct mscp_waiting *list
 
 /* Who keeps the connection's waiting command of this reference number back, oldest first, as many as there is room for.
  * How many do: 0 to 62; 0 too where none waits of it. While no other command is in service, one of which nobody does may
- * start. */
+ * start. Of the command in service: who would keep it back if it had still to start. */
 MSCP_INLINE int32_t mscp_why(const struct mscp *mscp, uint32_t connection, uint32_t reference,
                              struct mscp_holder *list, size_t room)
 {
@@ -540,7 +540,7 @@ int32_t mscp_is_online(const struct mscp *mscp, uint16_t unit);
 size_t mscp_save_size(void);
 
 /* All that the calls tell of the controller, and its limits, units and picker, as bytes: at the front of those that
- * there is room for, and how many they are. docs/FORMATS.md has their layout. MSCP_DONE, or MSCP_SMALL where there is
+ * there is room for, and how many they are. docs/SAVED.md has their layout. MSCP_DONE, or MSCP_SMALL where there is
  * less room. The same state has the same bytes, on every machine. */
 MSCP_MUST_USE
 MSCP_INLINE int32_t mscp_save(const struct mscp *mscp, uint8_t *bytes, size_t room, size_t *length)
