@@ -219,13 +219,13 @@ unhurried() {
         }'
 }
 
-# Has these libraries built, each by a process that ends where this one does. For one that has time rt takes one processor, which
+# Has these libraries built, each by a process that ends where this one does. For one that has time rt takes two processors, which
 # is less in all.
 build_libraries() {
     local low slow words
     slow=" $(unhurried "$@" | tr '\n' ' ')"
     for low in "$@"; do
-        [[ $slow == *" $low "* ]] && words=(--jobs 1) || words=()
+        [[ $slow == *" $low "* ]] && words=(--jobs 2) || words=()
         tied "$BASH" "$top/building.bash" build_library "$top" "$name" "$nothing" "$room" "$low" "${words[@]}" &
     done
     for low in "$@"; do wait -n || return; done
