@@ -220,13 +220,14 @@ unhurried() {
 }
 
 # Has these libraries built, each by a process that ends where this one does. For one that has time rt takes two processors, which
-# is less in all.
+# is less in all, and gives way to the others.
 build_libraries() {
-    local low slow words
+    local low slow manner words
     slow=" $(unhurried "$@" | tr '\n' ' ')"
     for low in "$@"; do
-        [[ $slow == *" $low "* ]] && words=(--jobs 2) || words=()
-        tied "$BASH" "$top/building.bash" build_library "$top" "$name" "$nothing" "$room" "$low" "${words[@]}" &
+        manner=() words=()
+        [[ $slow != *" $low "* ]] || { manner=(nice) && words=(--jobs 2); }
+        tied "${manner[@]}" "$BASH" "$top/building.bash" build_library "$top" "$name" "$nothing" "$room" "$low" "${words[@]}" &
     done
     for low in "$@"; do wait -n || return; done
     for low in "$@"; do
