@@ -219,14 +219,17 @@ unhurried() {
         }'
 }
 
-# Has these libraries built, each by a process that ends where this one does. For one that has time rt takes two processors, which
-# is less in all, and gives way to the others.
+# Has these libraries built, each by a process that ends where this one does. One that has time gives way to the others, and is
+# proved by one process, or by two if it isn't small, which takes less in all than as many as rt would choose.
 build_libraries() {
     local low slow manner words
     slow=" $(unhurried "$@" | tr '\n' ' ')"
     for low in "$@"; do
         manner=() words=()
-        [[ $slow != *" $low "* ]] || { manner=(nice) && words=(--jobs 2); }
+        if [[ $slow == *" $low "* ]]; then
+            manner=(nice) words=(--jobs 2)
+            [ "$(find "$top/crates/$low/src" -type f -exec cat -- {} + | wc -l)" -ge 1000 ] || words=(--jobs 1)
+        fi
         tied "${manner[@]}" "$BASH" "$top/building.bash" build_library "$top" "$name" "$nothing" "$room" "$low" "${words[@]}" &
     done
     for low in "$@"; do wait -n || return; done

@@ -327,9 +327,9 @@ size_t mscp_port_align(void);
 
 /* At least those sizes, for memory that is there from the start, as
  * static uint64_t memory[(MSCP_HEAD + MSCP_SIZE) / sizeof(uint64_t)]; */
-#define MSCP_SIZE 14224u
+#define MSCP_SIZE 15248u
 #define MSCP_HOST_SIZE 1056u
-#define MSCP_PORT_SIZE 15992u
+#define MSCP_PORT_SIZE 17016u
 
 /* The bytes of a handle, at the head of the memory. */
 #define MSCP_HEAD sizeof(struct mscp)
@@ -457,9 +457,9 @@ int32_t mscp_port_restore_at(struct mscp_port *port, const uint8_t *bytes, size_
 /* Makes a controller in the handle's memory: of these limits, of so many units in rising order of their numbers, served
  * by a picker of enum mscp_picker. MSCP_DONE, or the first fault in this order: those of the memory (-11 to -15),
  * MSCP_BAD_PICKER, MSCP_MANY_UNITS, those of the first unit that has one (-21 to -24), MSCP_UNITS_FALL, MSCP_NO_UNITS,
- * those of the limits (-28 to -31). The controller is made on the stack, of which this takes up to 46 KiB, and is moved
- * into the memory. No other call takes over 2 KiB of the stack, but for those that save and restore. The memory may go
- * at any time, without a call. */
+ * those of the limits (-28 to -31). The controller is made on the stack, of which this takes up to 40 KiB, and is moved
+ * into the memory. No call takes more, and no other one over 2 KiB, but for those that save and restore. The memory may
+ * go at any time, without a call. */
 MSCP_MUST_USE
 MSCP_INLINE int32_t mscp_init(struct mscp *mscp, const struct mscp_limits *limits, const struct mscp_unit *units,
                               size_t count, uint32_t picker)
@@ -552,7 +552,7 @@ MSCP_INLINE int32_t mscp_save(const struct mscp *mscp, uint8_t *bytes, size_t ro
 /* Makes the controller that was saved, in the handle's memory: whatever is called then answers as if it had been called
  * there. MSCP_DONE, or the first fault of those of the memory (-11 to -15) and those of the bytes (-40 to -54). Bytes of
  * a stranger make a controller with which every call is safe, or none; what came to it before, only who saved it knows.
- * This takes up to 144 KiB of the stack, and mscp_save up to 12. */
+ * This takes up to 40 KiB of the stack, and mscp_save up to 12. */
 MSCP_MUST_USE
 MSCP_INLINE int32_t mscp_restore(struct mscp *mscp, const uint8_t *bytes, size_t length)
 {
@@ -606,8 +606,8 @@ MSCP_INLINE int32_t mscp_host_save(const struct mscp_host *host, uint8_t *bytes,
 }
 
 /* Makes the host that was saved, in the handle's memory. MSCP_DONE, or the first fault of those of the memory (-11 to
- * -15) and MSCP_SAVED_LENGTH, _MAGIC, _VERSION, _LIMITS, _CREDITS and _FORM. This takes up to 6 KiB of the stack, and
- * mscp_host_save up to 3. */
+ * -15) and MSCP_SAVED_LENGTH, _MAGIC, _VERSION, _LIMITS, _CREDITS, _DOUBLED and _FORM. This takes up to 6 KiB of the
+ * stack, and mscp_host_save up to 3. */
 MSCP_MUST_USE
 MSCP_INLINE int32_t mscp_host_restore(struct mscp_host *host, const uint8_t *bytes, size_t length)
 {
@@ -621,7 +621,7 @@ MSCP_INLINE int32_t mscp_host_restore(struct mscp_host *host, const uint8_t *byt
 /* Makes a port in the handle's memory, over a controller as mscp_init makes one. Its host may have so many commands
  * outstanding: 1 to one fewer than the first connection has credits. Its units have no volumes yet. MSCP_DONE, or the
  * first fault of those of mscp_init (-11 to -15 and -20 to -31), MSCP_BAD_BUS and MSCP_BAD_HOST_CREDITS. This takes up
- * to 48 KiB of the stack, and no other call of a port over 2, but for those that save and restore. */
+ * to 40 KiB of the stack, and no other call of a port over 2, but for those that save and restore. */
 MSCP_MUST_USE
 MSCP_INLINE int32_t mscp_port_init(struct mscp_port *port, const struct mscp_limits *limits,
                                    const struct mscp_unit *units, size_t count, uint32_t picker,
@@ -690,7 +690,7 @@ MSCP_INLINE int32_t mscp_port_save(const struct mscp_port *port, uint8_t *bytes,
 
 /* Makes the port that was saved, in the handle's memory: it goes on as it would have there. MSCP_DONE, or the first fault
  * of those of the memory (-11 to -15) and those of the bytes (-40 to -54), which may be those of its controller's. Bytes
- * of a stranger make a port with which every call is safe, or none. This takes up to 220 KiB of the stack, and
+ * of a stranger make a port with which every call is safe, or none. This takes up to 40 KiB of the stack, and
  * mscp_port_save up to 28. */
 MSCP_MUST_USE
 MSCP_INLINE int32_t mscp_port_restore(struct mscp_port *port, const uint8_t *bytes, size_t length)

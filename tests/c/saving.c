@@ -197,6 +197,25 @@ static void nothing_is_there(void)
     is("most of a host", (int64_t)mscp_host_save_size(), MSCP_HOST_SAVED_MAX);
 }
 
+/* Two outstanding submissions of one number, which no host has. */
+static void doubled_submissions(void)
+{
+    uint8_t bytes[MSCP_HOST_SAVED_MAX];
+    size_t size = MSCP_HEAD + mscp_host_size(), length = 0;
+    void *memory = memory_of(size), *to = memory_of(size);
+    struct mscp_host *host = mscp_host_in_memory(memory, size), *there = mscp_host_in_memory(to, size);
+    is("init", mscp_host_init(host, 4), MSCP_DONE);
+    is("submit", mscp_host_submit(host, command(1, MSCP_READ, 1024, 40), 32), MSCP_DONE);
+    is("submit", mscp_host_submit(host, command(2, MSCP_READ, 1024, 40), 32), MSCP_DONE);
+    is("save", mscp_host_save(host, bytes, sizeof bytes, &length), MSCP_DONE);
+    bytes[26 + 12] = 1;
+    is("two of one number", mscp_host_restore(there, bytes, length), MSCP_SAVED_DOUBLED);
+    bytes[26 + 12] = 2;
+    is("of two", mscp_host_restore(there, bytes, length), MSCP_DONE);
+    free(memory);
+    free(to);
+}
+
 /* Bytes that aren't the controller's. Each place is one of the format, and each change the least that is refused so. */
 static void other_bytes(void)
 {
@@ -286,6 +305,7 @@ int main(void)
     run(MSCP_SWEEP);
     polls();
     nothing_is_there();
+    doubled_submissions();
     other_bytes();
     flipped_bits();
     return wrong;

@@ -207,12 +207,9 @@ static size_t most(int call)
     switch (call) {
     case SAVE: return 12 * 1024;
     case HOST_SAVE: return 3 * 1024;
-    case INIT: return 46 * 1024;
-    case PORT_INIT: return 48 * 1024;
-    case RESTORE: return 144 * 1024;
+    case INIT: case PORT_INIT: case RESTORE: case PORT_RESTORE: return 40 * 1024;
     case HOST_RESTORE: return 6 * 1024;
     case PORT_SAVE: return 28 * 1024;
-    case PORT_RESTORE: return 220 * 1024;
     default: return 2 * 1024;
     }
 }

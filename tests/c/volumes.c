@@ -212,6 +212,40 @@ static void silent_hosts(void)
     }
 }
 
+/* What a program says of an action is what the command ends with: of a fetch, of a store and of a block. The status counts
+ * for a block that couldn't be moved, and is told as it is. */
+static void outcomes(void)
+{
+    static const struct {
+        uint8_t opcode, kind;
+        uint32_t outcome;
+        uint16_t status, ends_with;
+    } cases[] = {
+        {MSCP_WRITE, MSCP_ACTION_FETCH, MSCP_OUTCOME_MISSING, 0, 0x0069},
+        {MSCP_WRITE, MSCP_ACTION_FETCH, MSCP_OUTCOME_PARITY, 0, 0x0089},
+        {MSCP_WRITE, MSCP_ACTION_FETCH, MSCP_OUTCOME_UNMAPPED, 0, 0x00A9},
+        {MSCP_READ, MSCP_ACTION_STORE, MSCP_OUTCOME_MISSING, 0, 0x0069},
+        {MSCP_READ, MSCP_ACTION_STORE, MSCP_OUTCOME_PARITY, 0, 0x0089},
+        {MSCP_READ, MSCP_ACTION_STORE, MSCP_OUTCOME_UNMAPPED, 0, 0x00A9},
+        {MSCP_COMPARE_HOST_DATA, MSCP_ACTION_TRANSFER, MSCP_OUTCOME_DIFFERENT, 0, 0x0007},
+        {MSCP_READ, MSCP_ACTION_TRANSFER, MSCP_OUTCOME_FAILED, 0x00E8, 0x00E8},
+        {MSCP_WRITE, MSCP_ACTION_TRANSFER, MSCP_OUTCOME_FAILED, 0x012B, 0x012B},
+    };
+    build(&RQDX3);
+    initialise(0x1000, 0, 0, 0);
+    send_command(0, 1, MSCP_ONLINE, 0, 0, 0);
+    expect(1, 0x89, 0);
+    for (uint32_t i = 0; i < COUNT(cases); i++) {
+        struct mscp_action action = {0};
+        send_command(0, 10 + i, cases[i].opcode, MSCP_BLOCK, 1, 0x4000);
+        while (mscp_port_next(machine.port, &action) == MSCP_DONE && action.kind != cases[i].kind)
+            tell(&action, perform(&action));
+        is("the action", action.kind, cases[i].kind);
+        is("it went", mscp_port_went(machine.port, cases[i].outcome, cases[i].status), MSCP_DONE);
+        expect(10 + i, 0x80 | cases[i].opcode, cases[i].ends_with);
+    }
+}
+
 int main(void)
 {
     polls(false);
@@ -219,6 +253,7 @@ int main(void)
     aborts();
     own_answers();
     refused_transfers();
+    outcomes();
     volumes_change(1);
     volumes_change(2);
     volume_changes_amid_a_block(false);

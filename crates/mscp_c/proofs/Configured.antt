@@ -4,7 +4,7 @@ use native.Mathlib.Omega.{arith}
 use Rattle.std.specs.Prelude.{Option, Some, None, IsSome, OnErr}
 use Rattle.std.proofs.lemmas.Bool.{false≢true}
 use Rattle.mscp_events.specs.declared.connection.Connection.TheVariants.{First}
-use Rattle.mscp_control.specs.Holdings.{balance_of, fresh}
+use Rattle.mscp_controller.specs.Holdings.{balance_of, fresh}
 use Rattle.mscp_events.specs.Settings.{Settings}
 use Rattle.mscp_c.specs.declared.port_given.PortInitFault.{PortInitFault}
 use Rattle.mscp_c.specs.declared.units.InitFault.{InitFault}

@@ -17,19 +17,19 @@ use Rattle.mscp_queue.specs.Lines.{Line}
 use Rattle.mscp_queue.specs.Records.{Record, name_of}
 use Rattle.mscp_queue.proofs.Placed.{filter_map_of}
 use Rattle.mscp_events.specs.declared.event.Event.TheVariants as events
-use Rattle.mscp_control.specs.declared.entry.Entry.TheVariants as entries
+use Rattle.mscp_controller.specs.declared.entry.Entry.TheVariants as entries
 use Rattle.mscp_events.specs.Settings.{Settings, IsValid}
-use Rattle.mscp_control.specs.Account.{balance, untaken}
+use Rattle.mscp_controller.specs.Account.{balance, untaken}
 use Rattle.mscp_events.specs.Both.{of}
-use Rattle.mscp_control.specs.Figures.{figure_of}
-use Rattle.mscp_control.specs.Holders.{holders_of}
-use Rattle.mscp_control.specs.History.{Trace}
-use Rattle.mscp_control.specs.Holdings.{Holdings, answer_to_message, balance_of, end_taken, fresh, waiting_on}
-use Rattle.mscp_control.specs.Commands.{connection, name, waiting, waiting_by}
-use Rattle.mscp_control.specs.Calls as calls
-use Rattle.mscp_control.specs.Calls.{AnsweredCalls, AnswersCall, Call, history}
-use Rattle.mscp_control.specs.Controllers.{ControllersKeepThePromise}
-use Rattle.mscp_control.proofs.Bridge.Owning.{owner_kept}
+use Rattle.mscp_controller.specs.Figures.{figure_of}
+use Rattle.mscp_controller.specs.Holders.{holders_of}
+use Rattle.mscp_controller.specs.History.{Trace}
+use Rattle.mscp_controller.specs.Holdings.{Holdings, answer_to_message, balance_of, end_taken, fresh, waiting_on}
+use Rattle.mscp_controller.specs.Commands.{connection, name, waiting, waiting_by}
+use Rattle.mscp_controller.specs.Calls as calls
+use Rattle.mscp_controller.specs.Calls.{AnsweredCalls, AnswersCall, Call, history}
+use Rattle.mscp_controller.specs.Controllers.{ControllersKeepThePromise}
+use Rattle.mscp_controller.proofs.Bridge.Owning.{owner_kept}
 use Rattle.mscp_memory.specs.declared.controller.handle.Handle.{Handle}
 use Rattle.mscp_memory.specs.declared.policy.Policy.{Policy}
 use Rattle.mscp_memory.specs.ControllerRoom.{Held}

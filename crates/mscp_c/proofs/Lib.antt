@@ -3,3 +3,4 @@ pub mod Ascending
 pub mod Configured
 pub mod Handled
 pub mod Reading
+pub mod Resumed

@@ -6,7 +6,7 @@ use Rattle.mscp_packet.specs.declared.command.Command.{Command}
 use Rattle.mscp_packet.specs.declared.reading.PacketFault.{PacketFault}
 use Rattle.mscp_packet.specs.declared.reading.PacketFault.TheVariants as sizes
 use Rattle.mscp_packet.specs.Commands.{IsCommand, command_of}
-use Rattle.mscp_control.proofs.Bridge.Judging.{command_is}
+use Rattle.mscp_controller.proofs.Bridge.Judging.{command_is}
 use Rattle.mscp_c.specs.Hosted.{message_read}
 
 short : (b : List ℕ) → length b < 12 → Err sizes.Short ≡ message_read b

@@ -8,20 +8,20 @@ use Rattle.mscp_queue.specs.declared.report.Report.{Report}
 use Rattle.mscp_queue.specs.declared.upcoming.Upcoming.{Upcoming}
 use Rattle.mscp_queue.specs.Drives.{is_online_in}
 use Rattle.mscp_events.specs.declared.event.Event.TheVariants as events
-use Rattle.mscp_control.specs.declared.entry.Entry.TheVariants as entries
-use Rattle.mscp_control.specs.declared.entry.SendFault.{SendFault}
-use Rattle.mscp_control.specs.declared.entry.Sent.{Sent}
-use Rattle.mscp_control.specs.declared.entry.Stale.{Stale}
+use Rattle.mscp_controller.specs.declared.entry.Entry.TheVariants as entries
+use Rattle.mscp_controller.specs.declared.entry.SendFault.{SendFault}
+use Rattle.mscp_controller.specs.declared.entry.Sent.{Sent}
+use Rattle.mscp_controller.specs.declared.entry.Stale.{Stale}
 use Rattle.mscp_events.specs.Settings.{Settings, IsValid}
 use Rattle.mscp_events.specs.Both.{of}
-use Rattle.mscp_control.specs.Holdings.{after_message, after_take, answer_to_message, balance_of, end_taken, fresh, waiting_on}
-use Rattle.mscp_control.specs.Commands.{waiting_by}
-use Rattle.mscp_control.specs.Account.{untaken, balance}
-use Rattle.mscp_control.specs.Figures.{figure_of}
-use Rattle.mscp_control.specs.Holders.{holders_of}
-use Rattle.mscp_control.specs.Calls as calls
-use Rattle.mscp_control.specs.Calls.{Call, history}
-use Rattle.mscp_control.specs.Controllers.{KeepsPromise, drive_now}
+use Rattle.mscp_controller.specs.Holdings.{after_message, after_take, answer_to_message, balance_of, end_taken, fresh, waiting_on}
+use Rattle.mscp_controller.specs.Commands.{waiting_by}
+use Rattle.mscp_controller.specs.Account.{untaken, balance}
+use Rattle.mscp_controller.specs.Figures.{figure_of}
+use Rattle.mscp_controller.specs.Holders.{holders_of}
+use Rattle.mscp_controller.specs.Calls as calls
+use Rattle.mscp_controller.specs.Calls.{Call, history}
+use Rattle.mscp_controller.specs.Controllers.{KeepsPromise, drive_now}
 use Rattle.mscp_memory.specs.declared.controller.handle.Handle.{Handle}
 use Rattle.mscp_memory.specs.declared.policy.Policy.{Policy}
 use Rattle.mscp_memory.specs.ControllerHandles.{with_held}

@@ -1,6 +1,6 @@
 -- What comes of an init.
 use Rattle.std.specs.Prelude.{ℕ, ℤ, List, Option, Some, None, is_none, option_map, unwrap_or, Result, Ok, Err}
-use Rattle.mscp_control.specs.Holdings.{fresh}
+use Rattle.mscp_controller.specs.Holdings.{fresh}
 use Rattle.mscp_events.specs.Settings.{Settings, limit_fault}
 use Rattle.mscp_memory.specs.declared.controller.handle.Handle.{Handle}
 use Rattle.mscp_memory.specs.declared.policy.Policy.TheVariants.{Oldest}

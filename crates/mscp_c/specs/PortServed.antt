@@ -1,15 +1,19 @@
 -- What comes of calls on a port's handle. Much of a port is its own, so each is a relation.
-use Rattle.std.specs.Prelude.{◌≡◌, ℕ, ℤ, Bool, List, unwrap_or, Result, Ok, Err, IfSome}
-use Rattle.mscp_control.specs.Holdings.{fresh}
+use Rattle.std.specs.Prelude.{◌≡◌, ℕ, ℤ, Bool, List, unwrap_or, Result, Ok, Err, IfSome, IsOk}
+use Rattle.mscp_controller.specs.Holdings.{fresh}
 use Rattle.mscp_port.specs.declared.action.Action.{Action}
 use Rattle.mscp_port.specs.declared.action.Outcome.{Outcome}
 use Rattle.mscp_port.specs.declared.action.Unasked.{Unasked}
 use Rattle.mscp_port.specs.declared.port.watching.NoUnit.{NoUnit}
+use Rattle.mscp_port.specs.declared.task.Task.TheVariants as tasks
 use Rattle.mscp_port.specs.Calls as ports
 use Rattle.mscp_memory.specs.declared.port.handle.Handle.{Handle}
 use Rattle.mscp_memory.specs.declared.policy.Policy.TheVariants.{Oldest}
 use Rattle.mscp_memory.specs.PortHandles.{placed, with_held}
 use Rattle.mscp_memory.specs.PortRoom.{Held}
+use Rattle.mscp_memory.specs.Policies.{PolicyPicks}
+use Rattle.mscp_port.specs.Moved.{BeginsBlock, Moves}
+use Rattle.mscp_port.specs.Ports.{IsAlive, IsOfBlock}
 use Rattle.mscp_c.specs.declared.outs.ActionOut.{ActionOut}
 use Rattle.mscp_c.specs.declared.port_given.HardwareIn.{HardwareIn}
 use Rattle.mscp_c.specs.declared.status.TheConstants.{DONE, UNKNOWN_UNIT, UNASKED}
@@ -41,6 +45,9 @@ pub record TellsWanted (old : Handle) (before : ActionOut) (status : ℤ) (new :
     : Type 0 where
   pub action : Action
   pub wants : ports.Wants old.held action new.held
+  -- what it takes in hand of a block is what its controller has begun, by the word of its policy
+  pub begins : IsAlive old.held → old.held.task ≡ tasks.Free → IsOfBlock new.held.task
+      → BeginsBlock (PolicyPicks old.held.controller.picker) new.held.task old.held new.held
   pub rest : new ≡ with_held old new.held
   pub code : status ≡ next_code action
   pub told : after ≡ action_told action before
@@ -57,10 +64,11 @@ pub record TellsHeard (bytes : List ℕ) (old : Handle) (status : ℤ) (new : Ha
   pub rest : new ≡ with_held old new.held
   pub code : status ≡ told_code answer
 
--- it tells what came of an action that went so
+-- it tells what came of an action that went so. Of each action just what follows this outcome of it
 pub record TellsWent (outcome : Outcome) (old : Handle) (status : ℤ) (new : Handle) : Type 0 where
   pub answer : Result (Unit {0}) Unasked
   pub goes : ports.Goes outcome old.held answer new.held
+  pub moves : IsOk answer → Moves (PolicyPicks old.held.controller.picker) outcome old.held new.held
   pub rest : new ≡ with_held old new.held
   pub code : status ≡ told_code answer
 

@@ -5,7 +5,6 @@ use Rattle.mscp_packet.specs.declared.command.MoveKind.{MoveKind}
 use Rattle.mscp_port.specs.declared.action.Action.{Action}
 use Rattle.mscp_port.specs.declared.action.Action.TheVariants as actions
 use Rattle.mscp_c.specs.declared.outs.ActionOut.{ActionOut}
-use Rattle.mscp_c.specs.declared.port_telling.TheConstants as kinds
 use Rattle.mscp_c.specs.declared.status.TheConstants as status
 
 -- the status: whether there is something to do
@@ -32,7 +31,7 @@ of_memory kind address count out = record (of_kind kind out) { address = address
 
 -- of a transfer, with its opcode
 abbrev pub of_transfer : MoveKind → ℕ → ℕ → ℕ → ActionOut → ActionOut
-of_transfer kind unit block count out = record (of_kind kinds.TRANSFER out) {
+of_transfer kind unit block count out = record (of_kind 6 out) {
   count = count;
   block = block;
   unit = unit;
@@ -43,14 +42,15 @@ of_transfer kind unit block count out = record (of_kind kinds.TRANSFER out) {
 abbrev pub with_bytes : List ℕ → ActionOut → ActionOut
 with_bytes b out = record out { bytes = b ++ drop (length b) out.bytes }
 
--- what is told of an action. Where there is nothing to do nothing is
+-- what is told of an action, whose kind is the number that the header has under its name. Where there is nothing to do
+-- nothing is
 abbrev pub action_told : Action → ActionOut → ActionOut
 action_told actions.Rest out = out
-action_told actions.Pause out = of_kind kinds.PAUSE out
-action_told (actions.Read address count) out = of_memory kinds.READ address count out
+action_told actions.Pause out = of_kind 1 out
+action_told (actions.Read address count) out = of_memory 2 address count out
 action_told (actions.Write address bytes) out =
-    with_bytes bytes.items (of_memory kinds.WRITE address (length bytes.items) out)
-action_told (actions.Interrupt vector) out = record (of_kind kinds.INTERRUPT out) { vector = vector }
-action_told (actions.Fetch address count) out = of_memory kinds.FETCH address count out
+    with_bytes bytes.items (of_memory 3 address (length bytes.items) out)
+action_told (actions.Interrupt vector) out = record (of_kind 4 out) { vector = vector }
+action_told (actions.Fetch address count) out = of_memory 5 address count out
 action_told (actions.Transfer kind unit block count) out = of_transfer kind unit block count out
-action_told (actions.Store address count) out = of_memory kinds.STORE address count out
+action_told (actions.Store address count) out = of_memory 7 address count out

@@ -5,8 +5,8 @@ use Rattle.mscp_events.specs.declared.connection.Connection.{Connection}
 use Rattle.mscp_queue.specs.declared.report.Report.{Report}
 use Rattle.mscp_queue.specs.declared.upcoming.Upcoming.{Upcoming}
 use Rattle.mscp_queue.specs.Names.{name_on}
-use Rattle.mscp_control.specs.declared.entry.Stale.{Stale}
-use Rattle.mscp_control.specs.Holdings as controllers
+use Rattle.mscp_controller.specs.declared.entry.Stale.{Stale}
+use Rattle.mscp_controller.specs.Holdings as controllers
 use Rattle.mscp_memory.specs.declared.controller.handle.Handle.{Handle}
 use Rattle.mscp_memory.specs.Policies.{PolicyPicks}
 use Rattle.mscp_memory.specs.ControllerHandles.{with_held}

@@ -6,8 +6,8 @@ use Rattle.mscp_drive.specs.declared.units.UnitsFault.{UnitsFault}
 use Rattle.mscp_drive.specs.declared.units.UnitsFault.TheVariants as units
 use Rattle.mscp_events.specs.declared.config.ConfigFault.{ConfigFault}
 use Rattle.mscp_events.specs.declared.config.ConfigFault.TheVariants as limits
-use Rattle.mscp_control.specs.declared.entry.SendFault.{SendFault}
-use Rattle.mscp_control.specs.declared.entry.SendFault.TheVariants as sends
+use Rattle.mscp_controller.specs.declared.entry.SendFault.{SendFault}
+use Rattle.mscp_controller.specs.declared.entry.SendFault.TheVariants as sends
 use Rattle.mscp_host.specs.declared.news.HostFault.{HostFault}
 use Rattle.mscp_host.specs.declared.news.HostFault.TheVariants as hosts
 use Rattle.mscp_host.specs.declared.restoring.RestoreFault as hosted
@@ -94,6 +94,7 @@ host_restore_code host_bytes.Magic = status.SAVED_MAGIC
 host_restore_code host_bytes.Version = status.SAVED_VERSION
 host_restore_code host_bytes.Credits = status.SAVED_LIMITS
 host_restore_code host_bytes.Outstanding = status.SAVED_CREDITS
+host_restore_code host_bytes.Doubled = status.SAVED_DOUBLED
 host_restore_code host_bytes.Form = status.SAVED_FORM
 
 -- of bytes that are no saved port: those of its controller have their own

@@ -16,9 +16,9 @@ use Rattle.mscp_queue.specs.declared.upcoming.Upcoming.{Upcoming}
 use Rattle.mscp_queue.specs.Figures.{figure_of_name, figures}
 use Rattle.mscp_queue.specs.declared.why.Holder.{Holder}
 use Rattle.mscp_queue.specs.Why.{holders_of_name}
-use Rattle.mscp_control.specs.declared.entry.SendFault.{SendFault}
-use Rattle.mscp_control.specs.declared.entry.Sent.{Sent}
-use Rattle.mscp_control.specs.declared.entry.Sent.TheVariants.{Queued, Answered}
+use Rattle.mscp_controller.specs.declared.entry.SendFault.{SendFault}
+use Rattle.mscp_controller.specs.declared.entry.Sent.{Sent}
+use Rattle.mscp_controller.specs.declared.entry.Sent.TheVariants.{Queued, Answered}
 use Rattle.mscp_memory.specs.ControllerRoom.{Held}
 use Rattle.mscp_c.specs.declared.status.TheConstants as status
 use Rattle.mscp_c.specs.declared.outs.SentOut.{SentOut}

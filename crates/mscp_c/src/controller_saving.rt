@@ -1,7 +1,8 @@
 // A controller as bytes, and back.
 
 ghost use Rattle.std.specs.Prelude.{◌≡◌, true, false, Ok};
-ghost use Rattle.mscp_memory.specs.ControllerHandles.{is_made, is_room};
+ghost use Rattle.mscp_controller.specs.Holdings.{fresh};
+ghost use Rattle.mscp_memory.specs.ControllerHandles.{is_made, is_room, placed};
 ghost use Rattle.mscp_memory.specs.declared.controller.handle.Handle.{Handle};
 ghost use Rattle.mscp_c.specs.HandleCalls as calls;
 ghost use Rattle.mscp_c.specs.HandleCalls.{AnswersHandle};
@@ -10,10 +11,10 @@ ghost use Rattle.mscp_c.specs.Saving.{length_after, restores, room_after, save_c
 
 use crate::saving::tell_saved;
 use crate::status::{DONE, NOT_MADE, restore_code, room_code};
-use mscp_control::Controller;
+use mscp_controller::{Config, Controller};
 use mscp_memory::Policy;
 use mscp_memory::controller::{Handle, is_made, lend, place, room_fault};
-use mscp_saved::{ROOM, RestoreFault, restore, save};
+use mscp_saved::{ROOM, restore_fault, resume, save, saved_settings};
 
 /// The most bytes that a controller is saved as.
 #[unsafe(no_mangle)]
@@ -65,15 +66,17 @@ fn policy_named(bytes: &[u8]) -> Policy
     }
 }
 
-/// The controller that bytes say, with the policy that they name, or why there is none.
-fn restored_by(bytes: &[u8]) -> Result<Controller<Policy>, RestoreFault>
-    ensures { result ≡ restored_by bytes.now }
+/// Makes a new controller in the room that the handle has.
+#[inline(never)]
+fn make_new(handle: &mut Handle, settings: Config, policy: Policy)
+    requires { is_room handle.old ≡ true }
+    ensures { handle.new ≡ placed handle.old (fresh settings policy) }
 {
-    let policy = policy_named(bytes);
-    restore(bytes, policy_number(policy), policy)
+    place(handle, Controller::new(settings, policy));
 }
 
-/// The controller that bytes say is in the room that the handle has.
+/// The controller that bytes say is in the room that the handle has. A new one is put there, and resumed where it lies, so
+/// that the stack has no room for a whole one.
 #[unsafe(no_mangle)]
 pub extern "C" fn mscp_restore_at(handle: &mut Handle, bytes: &[u8]) -> i32
     ensures value { (result, handle.new) ≡ restores handle.old bytes.now }
@@ -83,11 +86,11 @@ pub extern "C" fn mscp_restore_at(handle: &mut Handle, bytes: &[u8]) -> i32
     if let Some(fault) = room_fault(handle) {
         return room_code(fault);
     }
-    match restored_by(bytes) {
-        Ok(controller) => {
-            place(handle, controller);
-            DONE
-        }
-        Err(fault) => restore_code(fault),
+    let policy = policy_named(bytes);
+    if let Some(fault) = restore_fault(bytes, policy_number(policy), &policy) {
+        return restore_code(fault);
     }
+    make_new(handle, saved_settings(bytes, &policy), policy);
+    resume(lend(handle), bytes);
+    DONE
 }

@@ -16,7 +16,7 @@ use crate::status::{
     STALE, UNASKED, UNITS_FALL, UNKNOWN, UNKNOWN_UNIT, UNREADABLE, ZERO_CYLINDER, ZERO_GROUP,
     ZERO_SIZE, ZERO_TRACK,
 };
-use mscp_control::controllers_keep_the_promise;
+use mscp_controller::controllers_keep_the_promise;
 use mscp_memory::Policy;
 use mscp_memory::controller::{Handle, lend};
 

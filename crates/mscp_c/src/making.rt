@@ -1,14 +1,14 @@
 // The calls before a controller is there.
 
 ghost use Rattle.std.specs.Prelude.{◌≡◌, true, false};
-ghost use Rattle.mscp_control.specs.Holdings.{fresh};
+ghost use Rattle.mscp_controller.specs.Holdings.{fresh};
 ghost use Rattle.mscp_memory.specs.ControllerRoom.{row_alignment, row_size};
 ghost use Rattle.mscp_memory.specs.ControllerHandles.{is_made, with_held};
 ghost use Rattle.mscp_c.specs.Made.{config_answer, init_answer, init_fault, inits, made_unless};
 
 use crate::status::{DONE, NOT_MADE, init_code};
 use crate::units::{InitFault, Limits, UnitIn, policy_of, units_of};
-use mscp_control::{Config, Controller};
+use mscp_controller::{Config, Controller};
 use mscp_memory::controller::{ALIGN, Handle, SIZE, is_made, lend, place, room_fault};
 
 /// The version of the library, 0.5.0: a byte for each of the three numbers.

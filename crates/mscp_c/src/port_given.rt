@@ -4,7 +4,7 @@ ghost use Rattle.std.specs.Prelude.{◌≡◌};
 ghost use Rattle.mscp_c.specs.PortGiven.{bus_given, fault_given, hardware_given, outcome_given};
 
 use crate::units::InitFault;
-use mscp_control::FaultStatus;
+use mscp_controller::FaultStatus;
 use mscp_port::{Bus, Hardware, Outcome};
 
 /// What kind of port it is.

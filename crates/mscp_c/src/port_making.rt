@@ -9,7 +9,7 @@ use crate::making::config_of;
 use crate::port_given::{HardwareIn, PortInitFault, hardware_of};
 use crate::status::port_init_code;
 use crate::units::{InitFault, Limits, UnitIn, policy_of};
-use mscp_control::Controller;
+use mscp_controller::Controller;
 use mscp_memory::port::{ALIGN, Handle, SIZE, place, room_fault};
 use mscp_port::Port;
 

@@ -1,16 +1,18 @@
 // A port as bytes, and back.
 
 ghost use Rattle.std.specs.Prelude.{◌≡◌, true, false, slice_index, Ok};
-ghost use Rattle.mscp_memory.specs.PortHandles.{is_made};
+ghost use Rattle.mscp_controller.specs.Holdings.{fresh};
+ghost use Rattle.mscp_memory.specs.PortHandles.{is_made, is_room, placed};
 ghost use Rattle.mscp_c.specs.PortSaving.{policy_named, restored_by, restores, saved_by};
 ghost use Rattle.mscp_c.specs.Saving.{length_after, room_after, save_code};
 
 use crate::controller_saving::policy_number;
 use crate::saving::tell_saved;
 use crate::status::{DONE, NOT_MADE, port_restore_code, room_code};
+use mscp_controller::{Config, Controller};
 use mscp_memory::Policy;
 use mscp_memory::port::{Handle, is_made, lend, place, room_fault};
-use mscp_port::{Port, ROOM, RestoreFault};
+use mscp_port::{Bus, Hardware, Port, ROOM, restore_fault, saved_settings};
 
 /// The most bytes that a port is saved as.
 #[unsafe(no_mangle)]
@@ -60,15 +62,29 @@ fn policy_named(bytes: &[u8]) -> Policy
     }
 }
 
-/// The port that bytes say, with the policy that they name, or why there is none.
-fn restored_by(bytes: &[u8]) -> Result<Port<Policy>, RestoreFault>
-    ensures { result ≡ restored_by bytes.now }
+/// What kind of port one is that is to be resumed, until it is.
+const HARDWARE: Hardware = Hardware {
+    bus: Bus::Q,
+    model: 0,
+    software: 0,
+    version: 0,
+};
+
+/// Makes a port that is to be resumed in the room that the handle has.
+#[inline(never)]
+fn make_unresumed(handle: &mut Handle, settings: Config, policy: Policy)
+    requires { is_room handle.old ≡ true }
+    ensures controller { handle.new.held.controller ≡ fresh settings policy }
+    ensures placed { handle.new ≡ placed handle.old handle.new.held }
 {
-    let policy = policy_named(bytes);
-    Port::restore(bytes, policy_number(policy), policy)
+    match Port::new(HARDWARE, 1, Controller::new(settings, policy)) {
+        Ok(port) => place(handle, port),
+        Err(_) => unreachable!(),
+    }
 }
 
-/// The port that bytes say is in the room that the handle has.
+/// The port that bytes say is in the room that the handle has. A new one is put there, and resumed where it lies, so that
+/// the stack has no room for a whole one.
 #[unsafe(no_mangle)]
 pub extern "C" fn mscp_port_restore_at(handle: &mut Handle, bytes: &[u8]) -> i32
     ensures { (result, handle.new) ≡ restores handle.old bytes.now }
@@ -76,11 +92,11 @@ pub extern "C" fn mscp_port_restore_at(handle: &mut Handle, bytes: &[u8]) -> i32
     if let Some(fault) = room_fault(handle) {
         return room_code(fault);
     }
-    match restored_by(bytes) {
-        Ok(port) => {
-            place(handle, port);
-            DONE
-        }
-        Err(fault) => port_restore_code(fault),
+    let policy = policy_named(bytes);
+    if let Some(fault) = restore_fault(bytes, policy_number(policy), &policy) {
+        return port_restore_code(fault);
     }
+    make_unresumed(handle, saved_settings(bytes, &policy), policy);
+    lend(handle).resume(bytes);
+    DONE
 }

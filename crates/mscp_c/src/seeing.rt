@@ -3,7 +3,7 @@
 ghost use Rattle.std.specs.Prelude.{◌≡◌, true, false, pos, length, IfSome, None};
 ghost use Rattle.mscp_queue.specs.Drives.{is_online_in};
 ghost use Rattle.mscp_events.specs.Both.{of};
-ghost use Rattle.mscp_control.specs.Holdings.{balance_of, waiting_on};
+ghost use Rattle.mscp_controller.specs.Holdings.{balance_of, waiting_on};
 ghost use Rattle.mscp_memory.specs.ControllerHandles.{is_made};
 ghost use Rattle.mscp_c.specs.Given.{connection_given};
 ghost use Rattle.mscp_c.specs.HandleCalls as calls;

@@ -1,7 +1,7 @@
 // Messages in, ends out.
 
 ghost use Rattle.std.specs.Prelude.{◌≡◌, true, false, IfSome, None};
-ghost use Rattle.mscp_control.specs.Holdings.{after_message, after_take, answer_to_message, end_taken};
+ghost use Rattle.mscp_controller.specs.Holdings.{after_message, after_take, answer_to_message, end_taken};
 ghost use Rattle.mscp_memory.specs.ControllerHandles.{is_made, with_held};
 ghost use Rattle.mscp_c.specs.Given.{connection_given};
 ghost use Rattle.mscp_c.specs.HandleCalls as calls;

@@ -12,7 +12,7 @@ use crate::outs::{ReportOut, UpcomingOut};
 use crate::status::{BAD_CONNECTION, BAD_STATUS, NOT_MADE, STALE};
 use crate::telling::{block_of, tell_report, tell_upcoming};
 use crate::units::connection_of;
-use mscp_control::Block;
+use mscp_controller::Block;
 use mscp_memory::controller::{Handle, is_made, lend};
 
 /// What the next step serves.

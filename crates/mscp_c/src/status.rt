@@ -7,7 +7,7 @@ ghost use Rattle.mscp_c.specs.PortMade.{port_init_code};
 
 use crate::port_given::PortInitFault;
 use crate::units::InitFault;
-use mscp_control::{ConfigFault, SendFault};
+use mscp_controller::{ConfigFault, SendFault};
 use mscp_drive::{UnitFault, UnitsFault};
 use mscp_host::{HostFault, RestoreFault as HostRestoreFault};
 use mscp_memory::RoomFault;
@@ -272,6 +272,7 @@ pub(crate) fn host_restore_code(fault: HostRestoreFault) -> i32
         HostRestoreFault::Version => SAVED_VERSION,
         HostRestoreFault::Credits => SAVED_LIMITS,
         HostRestoreFault::Outstanding => SAVED_CREDITS,
+        HostRestoreFault::Doubled => SAVED_DOUBLED,
         HostRestoreFault::Form => SAVED_FORM,
     }
 }

@@ -6,7 +6,7 @@ ghost use Rattle.mscp_c.specs.Told.{PacketTold, begin_code, block_told, bytes_of
 use crate::outs::{FigureOut, HolderOut, PacketOut, ReportOut, SentOut, UpcomingOut};
 use crate::status::{ANSWERED, DONE, NOTHING, QUEUED, send_fault_code};
 use arrayvec::ArrayVec;
-use mscp_control::{Block, Connection, FaultStatus, Holder, Report, SendFault, Sent, Upcoming};
+use mscp_controller::{Block, Connection, FaultStatus, Holder, Report, SendFault, Sent, Upcoming};
 use mscp_packet::Order;
 
 /// A flag as a number.

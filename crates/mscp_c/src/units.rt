@@ -4,7 +4,7 @@ ghost use Rattle.std.specs.Prelude.{◌≡◌};
 ghost use Rattle.mscp_c.specs.Given.{UnitAnswers, connection_given, policy_given, units_answer};
 
 use arrayvec::ArrayVec;
-use mscp_control::{ConfigFault, Connection};
+use mscp_controller::{ConfigFault, Connection};
 use mscp_drive::{Unit, UnitFault, Units, UnitsFault};
 use mscp_memory::{Policy, RoomFault};
 

@@ -1,4 +1,1 @@
-pub mod Promise
-pub mod Bridge
 pub mod Longest
-pub mod Worked

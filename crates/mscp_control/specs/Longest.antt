@@ -2,10 +2,10 @@
 use Rattle.std.specs.Prelude.{◌≡◌, ℕ, ◌+◌, ◌<◌, ◌≤◌, ◌^◌, Bool, true, false, ◌&&◌, nat_le, [], ◌∷◌, ◌++◌, length, take, Option, Some, None, Contains}
 use Rattle.mscp_drive.specs.Shape.{Shape}
 use Rattle.mscp_events.specs.Settings.{Settings, IsValid, bound, room, unit_found}
-use Rattle.mscp_control.specs.History.{Moment, Trace, is_step}
-use Rattle.mscp_control.specs.Commands.{steps_after, unit, waiting}
-use Rattle.mscp_control.specs.Figures.{figure}
-use Rattle.mscp_control.specs.Legal.{IsLegal}
+use Rattle.mscp_controller.specs.History.{Moment, Trace, is_step}
+use Rattle.mscp_controller.specs.Commands.{steps_after, unit, waiting}
+use Rattle.mscp_controller.specs.Figures.{figure}
+use Rattle.mscp_controller.specs.Legal.{IsLegal}
 
 -- the run ends with the step that ends a command of the unit of this number, which waited as long as the bound
 -- (profile)

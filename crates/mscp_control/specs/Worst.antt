@@ -21,11 +21,11 @@ use Rattle.mscp_queue.specs.declared.report.Report.{Report}
 use Rattle.mscp_queue.specs.declared.report.Report.TheVariants.{Served}
 use Rattle.mscp_queue.specs.Outcomes.{end_with}
 use Rattle.mscp_events.specs.declared.event.Event.TheVariants as events
-use Rattle.mscp_control.specs.declared.entry.Entry.TheVariants as entries
-use Rattle.mscp_control.specs.declared.entry.Sent.TheVariants as sents
+use Rattle.mscp_controller.specs.declared.entry.Entry.TheVariants as entries
+use Rattle.mscp_controller.specs.declared.entry.Sent.TheVariants as sents
 use Rattle.mscp_control.specs.declared.worst_case.Transfer.{Transfer}
 use Rattle.mscp_events.specs.Settings.{Settings, room, room_of}
-use Rattle.mscp_control.specs.History.{Moment, Trace}
+use Rattle.mscp_controller.specs.History.{Moment, Trace}
 
 -- ---- moments
 

@@ -1,24 +1,14 @@
-//! A disk controller: its credits, its ends, and whole runs of it, over a queue that any picker may pick from.
+//! A disk controller, and how long a command of it may have to wait at most. What `mscp_controller` has is passed on.
 #![tactic(auto)]
 
-mod account;
-mod answer;
-mod arrival;
-mod controller;
-mod entry;
 mod law;
-mod running;
 mod worst_case;
 
-pub use crate::controller::Controller;
-pub use crate::entry::{Entry, SendFault, Sent, Stale};
-pub use crate::law::{
-    controllers_keep_the_promise, legal_traces_make_progress, runs_keep_the_promise,
-    the_bound_is_the_least,
-};
-pub use crate::running::{run, run_in, run_into};
+pub use crate::law::the_bound_is_the_least;
 pub use crate::worst_case::{worst, worst_in};
-pub use mscp_events::{Block, Config, ConfigFault, Connection, Event, FaultStatus, OutOfMemory};
-pub use mscp_queue::{
-    Choice, Drive, Holder, Name, Oldest, Picker, Record, Report, Sweep, Upcoming, View,
+pub use mscp_controller::{
+    Block, Choice, Config, ConfigFault, Connection, Controller, Drive, Entry, Event, FaultStatus,
+    Holder, Name, Oldest, OutOfMemory, Picker, Record, Report, SendFault, Sent, Stale, Sweep,
+    Upcoming, View, controllers_keep_the_promise, legal_traces_make_progress,
+    replaced_pickers_keep_the_promise, run, run_in, run_into, runs_keep_the_promise,
 };

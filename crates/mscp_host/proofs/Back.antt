@@ -3,7 +3,7 @@ use Rattle.std.proofs.Common.{All, ◌≡◌, ℕ, ◌+◌, ◌*◌, ◌<◌, �
 use Rattle.std.proofs.lemmas.Bool.{le-leb, le-ltb, eq-eqb}
 use Rattle.std.proofs.lemmas.List.{length-append}
 use Rattle.std.proofs.lemmas.Slice.Eq.{bytes_eq-Decides}
-use Rattle.std.specs.Prelude.{flat_map, Option, Some, None, IfSome, Ok, Err, slice_index, if◌then◌else◌}
+use Rattle.std.specs.Prelude.{not, flat_map, Option, Some, None, IfSome, Ok, Err, slice_index, if◌then◌else◌}
 use Rattle.std.specs.Str.{bytes_eq}
 use Rattle.byteorder.specs.Endian.{little_bytes}
 use Rattle.mscp_packet.specs.Number.{num}
@@ -15,7 +15,8 @@ use Rattle.mscp_host.specs.declared.watch.Watch.{Watch}
 use Rattle.mscp_host.specs.declared.restoring.RestoreFault.{RestoreFault}
 use Rattle.mscp_host.specs.declared.restoring.RestoreFault.TheVariants as faults
 use Rattle.mscp_host.specs.Accounts.{Account}
-use Rattle.mscp_host.specs.Restored.{account_in, head_fault, restored, restored_unless, submission_in, told_in, watch_in, whose}
+use Rattle.mscp_host.specs.Apart.{are_apart}
+use Rattle.mscp_host.specs.Restored.{account_in, apart_whose, head_fault, restored, restored_unless, submission_in, told_in, watch_in, whose}
 use Rattle.mscp_host.specs.Saved.{HasRange, HasSubmissionRange, frame_bytes, saved_bytes, submission_bytes, told_bytes, watch_byte, watch_bytes}
 
 -- ---- a submission
@@ -117,10 +118,11 @@ head_back a some few covered =
 same_bytes : (b : List ℕ) → bytes_eq b b ≡ true
 same_bytes b = (bytes_eq-Decides b b).1 refl
 
-pub restored_back : (a : Account) → 2 ≤ a.credits → a.credits ≤ 64 → length a.outstanding ≤ a.credits → HasRange a
-    → restored (saved_bytes a) ≡ Ok a
-restored_back a some few covered range =
+pub restored_back : (a : Account) → 2 ≤ a.credits → a.credits ≤ 64 → length a.outstanding ≤ a.credits
+    → are_apart a.outstanding ≡ true → HasRange a → restored (saved_bytes a) ≡ Ok a
+restored_back a some few covered apart range =
     let b = saved_bytes a in
     ap (λ (f : Option RestoreFault). restored_unless f b) (head_back a some few covered)
-    ∙ (ap (whose b) (account_back a.credits a.outstanding a.watch few range)
-    ∙ ap (λ (yes : Bool). if yes then Ok a else Err faults.Form) (same_bytes b))
+    ∙ (ap (apart_whose b) (account_back a.credits a.outstanding a.watch few range)
+    ∙ (ap (λ (yes : Bool). if not yes then Err faults.Doubled else whose b a) apart
+    ∙ ap (λ (yes : Bool). if yes then Ok a else Err faults.Form) (same_bytes b)))

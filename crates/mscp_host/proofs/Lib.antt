@@ -2,3 +2,4 @@ pub mod Places
 pub mod Hearing
 pub mod Back
 pub mod Heads
+pub mod Apart

@@ -1,3 +1,4 @@
 pub mod Accounts
 pub mod Restored
 pub mod Saved
+pub mod Apart

@@ -8,6 +8,7 @@ use Rattle.mscp_host.specs.declared.watch.Watch.{Watch}
 use Rattle.mscp_host.specs.declared.restoring.RestoreFault.{RestoreFault}
 use Rattle.mscp_host.specs.declared.restoring.RestoreFault.TheVariants as faults
 use Rattle.mscp_host.specs.Accounts.{Account}
+use Rattle.mscp_host.specs.Apart.{are_apart}
 use Rattle.mscp_host.specs.Saved.{head_size, magic, saved_bytes, saved_length, submission_size, version}
 
 -- ---- what bytes say. Of bytes that are nobody's something is said, too
@@ -35,11 +36,15 @@ watch_in kind reference polled =
 abbrev pub count_in : List ℕ → ℕ
 count_in b = slice_index b 16
 
+-- the outstanding submissions
+abbrev pub outstanding_in : List ℕ → List Submission
+outstanding_in b = parts_in submission_in submission_size (count_in b) (drop head_size b)
+
 -- all that is said of a host
 abbrev pub account_in : List ℕ → Account
 account_in b = record {
   credits = num b 12 4;
-  outstanding = parts_in submission_in submission_size (count_in b) (drop head_size b);
+  outstanding = outstanding_in b;
   watch = watch_in (slice_index b 17) (num b 18 4) (num b 22 4);
 }
 
@@ -64,9 +69,13 @@ head_fault b =
 abbrev pub whose : List ℕ → Account → Result Account RestoreFault
 whose b a = if bytes_eq (saved_bytes a) b then Ok a else Err faults.Form
 
+-- this host, where no two of its submissions have one number
+abbrev pub apart_whose : List ℕ → Account → Result Account RestoreFault
+apart_whose b a = if not (are_apart a.outstanding) then Err faults.Doubled else whose b a
+
 abbrev pub restored_unless : Option RestoreFault → List ℕ → Result Account RestoreFault
 restored_unless (Some fault) b = Err fault
-restored_unless None b = whose b (account_in b)
+restored_unless None b = apart_whose b (account_in b)
 
 -- the host that bytes say, whose bytes they are, or why they are none's
 abbrev pub restored : List ℕ → Result Account RestoreFault

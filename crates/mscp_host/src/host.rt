@@ -1,6 +1,6 @@
 // A host: what it sent and hasn't heard of.
 
-ghost use Rattle.std.specs.Prelude.{◌≡◌, ◌↔◌, ◌≤◌, length, find, IsOk, IfErr, IfOk};
+ghost use Rattle.std.specs.Prelude.{◌≡◌, ◌↔◌, ◌≤◌, false, length, find, IsOk, IfErr, IfOk};
 ghost use Rattle.std.specs.List.{list_any};
 ghost use Rattle.mscp_packet.specs.Commands.{command_bytes};
 ghost use Rattle.mscp_host.specs.Accounts.{answered, balance, end_in, fresh, has_reference, heard, news_with, oldest, or_unreadable, outstanding_with, polls_oldest, received, refusal, submits, submitted};
@@ -24,14 +24,16 @@ pub struct Host {
 
 // A clause sees the credits, the outstanding submissions, oldest first, and the poll in flight.
 impl Model for Host {
-    ghost use Rattle.std.specs.Prelude.{◌≤◌, length};
+    ghost use Rattle.std.specs.Prelude.{◌≡◌, ◌≤◌, true, length};
     ghost use Rattle.mscp_host.specs.Accounts.{Account};
+    ghost use Rattle.mscp_host.specs.Apart.{are_apart};
 
     ghost Value = { Account };
 
     ghost view = { λ h. record { credits = h.credits; outstanding = h.outstanding.items; watch = h.watch } };
 
-    ghost invariant = { λ h. (2 ≤ h.credits) × (h.credits ≤ 64) × (length h.outstanding.items ≤ h.credits) };
+    ghost invariant = { λ h. (2 ≤ h.credits) × (h.credits ≤ 64) × (length h.outstanding.items ≤ h.credits)
+        × (are_apart h.outstanding.items ≡ true) };
 }
 
 impl Host {
@@ -90,7 +92,8 @@ impl Host {
 
     /// Makes a command outstanding, and gives its message.
     fn send(&mut self, command: &Command) -> ArrayVec<u8, 48>
-        requires { 1 ≤ balance self.old }
+        requires free { 1 ≤ balance self.old }
+        requires new { list_any (has_reference command.now.reference) self.old.outstanding ≡ false }
         ensures bytes { result.items ≡ command_bytes command.now }
         ensures after { self.new ≡ submitted self.old command.now }
     {

@@ -2,6 +2,7 @@
 
 ghost use Rattle.std.specs.Prelude.{◌≡◌, ◌≤◌, length, find, not, option_copied};
 ghost use Rattle.std.specs.List.{list_any, position};
+ghost use Rattle.mscp_host.specs.Apart.{are_apart};
 ghost use Rattle.mscp_host.specs.Accounts.{has_reference, is_immediate, last_told, with_told, without};
 
 use crate::submission::{Submission, is_immediate};
@@ -14,6 +15,18 @@ pub fn has_any(submissions: &[Submission], reference: u32) -> bool
     submissions
         .iter()
         .any(|submission| submission.reference == reference)
+}
+
+/// Whether no two of the submissions have one reference number.
+pub fn are_apart(submissions: &[Submission]) -> bool
+    ensures { result ≡ are_apart submissions.now }
+{
+    for place in 0..submissions.len() {
+        if has_any(&submissions[place + 1..], submissions[place].reference) {
+            return false;
+        }
+    }
+    true
 }
 
 /// The submission of this reference number, if there is one.

@@ -1,11 +1,13 @@
 // Bytes to a host.
 
-ghost use Rattle.std.specs.Prelude.{◌≡◌, ◌+◌, ◌*◌, ◌≤◌, length, IfOk, None};
+ghost use Rattle.std.specs.Prelude.{◌≡◌, ◌+◌, ◌*◌, ◌≤◌, true, length, IfOk, None};
 ghost use Rattle.mscp_packet.specs.Parts.{parts_in};
-ghost use Rattle.mscp_host.specs.Restored.{account_in, is_framed, head_fault, restored, submission_in, told_in, watch_in};
+ghost use Rattle.mscp_host.specs.Apart.{are_apart};
+ghost use Rattle.mscp_host.specs.Restored.{account_in, count_in, is_framed, head_fault, outstanding_in, restored, submission_in, told_in, watch_in};
 ghost use Rattle.mscp_host.specs.Saved.{saved_bytes};
 
 use crate::host::Host;
+use crate::outstanding::are_apart;
 use crate::saving::{MAGIC, VERSION};
 use crate::submission::Submission;
 use crate::watch::Watch;
@@ -31,6 +33,9 @@ pub enum RestoreFault {
     /// More outstanding submissions than credits.
     #[error("outstanding")]
     Outstanding,
+    /// Two outstanding submissions of one reference number.
+    #[error("doubled")]
+    Doubled,
     /// The bytes say a host, and aren't those that it is saved as.
     #[error("form")]
     Form,
@@ -114,14 +119,26 @@ fn head_fault(b: &[u8]) -> Option<RestoreFault>
     None
 }
 
-/// The host that bytes with the head of one say.
-fn host_in(b: &[u8]) -> Host
+/// The outstanding submissions that bytes with the head of a host say.
+fn outstanding_in(b: &[u8]) -> ArrayVec<Submission, 64>
     requires { head_fault b.now ≡ None }
+    ensures value { result.items ≡ outstanding_in b.now }
+    ensures len { length result.items ≡ count_in b.now }
+{
+    submissions_in(usize::from(b[16]), &b[26..])
+}
+
+/// The host that bytes with the head of one say, with these outstanding submissions.
+fn host_in(b: &[u8], outstanding: ArrayVec<Submission, 64>) -> Host
+    requires head { head_fault b.now ≡ None }
+    requires said { outstanding.items ≡ outstanding_in b.now }
+    requires len { length outstanding.items ≡ count_in b.now }
+    requires apart { are_apart outstanding.items ≡ true }
     ensures { result ≡ account_in b.now }
 {
     Host {
         credits: four_at(b, 12),
-        outstanding: submissions_in(usize::from(b[16]), &b[26..]),
+        outstanding,
         watch: watch_in(b[17], four_at(b, 18), four_at(b, 22)),
     }
 }
@@ -136,7 +153,11 @@ impl Host {
         if let Some(fault) = head_fault(b) {
             return Err(fault);
         }
-        let host = host_in(b);
+        let outstanding = outstanding_in(b);
+        if !are_apart(outstanding.as_slice()) {
+            return Err(RestoreFault::Doubled);
+        }
+        let host = host_in(b, outstanding);
         if host.save().as_slice() == b {
             Ok(host)
         } else {

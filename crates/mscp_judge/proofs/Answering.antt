@@ -13,11 +13,11 @@ use Rattle.mscp_events.specs.declared.connection.Connection.TheVariants.{First, 
 use Rattle.mscp_queue.specs.declared.report.Report.{Report}
 use Rattle.mscp_queue.specs.declared.report.Report.TheVariants.{Idle, Served}
 use Rattle.mscp_packet.specs.declared.end.End.{End}
-use Rattle.mscp_control.specs.declared.entry.Entry.TheVariants as entries
-use Rattle.mscp_control.specs.declared.entry.SendFault.{SendFault}
-use Rattle.mscp_control.specs.declared.entry.SendFault.TheVariants.{Short, Long, NoCredit, LastCredit, Doubled}
-use Rattle.mscp_control.specs.declared.entry.Sent.{Sent}
-use Rattle.mscp_control.specs.declared.entry.Sent.TheVariants as sents
+use Rattle.mscp_controller.specs.declared.entry.Entry.TheVariants as entries
+use Rattle.mscp_controller.specs.declared.entry.SendFault.{SendFault}
+use Rattle.mscp_controller.specs.declared.entry.SendFault.TheVariants.{Short, Long, NoCredit, LastCredit, Doubled}
+use Rattle.mscp_controller.specs.declared.entry.Sent.{Sent}
+use Rattle.mscp_controller.specs.declared.entry.Sent.TheVariants as sents
 use Rattle.mscp_text.specs.Lines.{line, status_text}
 use Rattle.mscp_reader.specs.Lexical.{is_comment, words}
 use Rattle.mscp_reader.specs.Plain.{IsApart}
@@ -240,9 +240,6 @@ look_answers shown count e = record {
 }
 
 -- ---- nothing
-
-pub none_answers : (bytes : List ℕ) → bytes ≡ [] → AreAnswers bytes 0
-none_answers bytes e = record { all = []; whole = e; many = refl; each = tt }
 
 -- ---- a step
 

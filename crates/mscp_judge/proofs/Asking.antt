@@ -1,13 +1,15 @@
 -- How a judge stands after a line that asks.
 use Rattle.std.proofs.Common.{◌≡◌, inl, false, List, [], ◌∷◌, ◌++◌, refl, ap, sym, ◌∙◌, subst, append_assoc, append-nil}
+use Rattle.std.specs.Prelude.{Option}
 use Rattle.mscp_events.specs.declared.event.Event.{Event}
-use Rattle.mscp_control.specs.declared.entry.Entry.{Entry}
+use Rattle.mscp_controller.specs.declared.entry.Entry.{Entry}
 use Rattle.mscp_events.specs.Settings.{Settings}
-use Rattle.mscp_control.specs.History.{Moment, Trace, is_step}
-use Rattle.mscp_control.specs.Holdings.{Answers, Holdings, fresh}
-use Rattle.mscp_control.specs.Legal.{IsLegal, IsRight}
+use Rattle.mscp_controller.specs.History.{Moment, Trace, is_step}
+use Rattle.mscp_controller.specs.Holdings.{Answers, Holdings, fresh}
+use Rattle.mscp_controller.specs.Legal.{IsLegal, IsRight}
 use Rattle.mscp_script.specs.Text.{entry_lines}
 use Rattle.mscp_judge.specs.declared.naming.Named.{Named}
+use Rattle.mscp_judge.specs.declared.naming.Wanted.{Wanted}
 use Rattle.mscp_judge.specs.Logs.{Asked, Mark, answers_in, events_in, told, transcript, whole, written}
 use Rattle.mscp_judge.specs.Naming.{IsNamed}
 use Rattle.mscp_judge.specs.Standing.{Led, Stood, with_picker}
@@ -36,7 +38,7 @@ transcript_more marks parts now e =
     ∙ sym (transcript_append parts (now ∷ [])))))
 
 -- a legal log that begins so, and then asks for events
-pub asks_next : (c : Settings) (marks : List Mark) (h : Holdings Named) (es : List Event)
+pub asks_next : (c : Settings) (marks : List Mark) (h : Holdings Wanted) (es : List Event)
     (s : Stood c marks h [] [] []) (others : List Trace) (more : List Mark) → IsLegal c (whole others)
     → (marks ++ Asked es ∷ []) ++ more ≡ transcript others
     → (p : Trace) × (rest : List Trace) × (events_in p ≡ es) × (others ≡ (s.parts ++ s.now ∷ []) ++ p ∷ rest)
@@ -61,7 +63,7 @@ said_asked marks parts now es e = append-nil (marks ++ Asked es ∷ []) ∙ ap (
     (transcript_more marks parts now e)
 
 -- steps are asked for
-unfoldable pub steps_on : (c : Settings) (marks : List Mark) (h : Holdings Named) (es : List Event)
+unfoldable pub steps_on : (c : Settings) (marks : List Mark) (h : Holdings Wanted) (es : List Event)
     → Stood c marks h [] [] []
     → Stood c (marks ++ Asked es ∷ []) h [] es []
 steps_on c marks h es s = record {
@@ -77,8 +79,8 @@ steps_on c marks h es s = record {
 }
 
 -- another event is asked for, which is answered at once
-unfoldable pub event_on : (c : Settings) (marks : List Mark) (h h' : Holdings Named) (name : Named) (event : Event)
-    (entry : Entry) → is_step event ≡ false → Stood c marks h [] [] []
+unfoldable pub event_on : (c : Settings) (marks : List Mark) (h h' : Holdings Wanted) (name : Option Named)
+    (event : Event) (entry : Entry) → is_step event ≡ false → Stood c marks h [] [] []
     → Answers (IsNamed name) (with_picker h name) event entry h'
     → Stood c (marks ++ Asked (event ∷ []) ∷ []) h' (entry_lines entry) [] []
 event_on c marks h h' name event entry o s a =

@@ -2,17 +2,18 @@
 use Rattle.std.proofs.Common.{◌≡◌, ◌≢◌, ℕ, true, false, List, [], refl, sym, ◌∙◌}
 use Rattle.std.proofs.lemmas.Bool.{true≢false}
 use Rattle.mscp_events.specs.Settings.{IsValid, Settings}
-use Rattle.mscp_control.specs.History.{Trace}
-use Rattle.mscp_control.specs.Holdings.{fresh}
+use Rattle.mscp_controller.specs.History.{Trace}
+use Rattle.mscp_controller.specs.Holdings.{fresh}
 use Rattle.mscp_reader.specs.Lexical.{words}
 use Rattle.mscp_judge.specs.declared.judge.Judge.{Judge}
 use Rattle.mscp_judge.specs.declared.naming.Named.{Named}
+use Rattle.mscp_judge.specs.declared.naming.Wanted.{Wanted}
 use Rattle.mscp_judge.specs.declared.rules.Rule.{Rule}
 use Rattle.mscp_judge.specs.declared.rules.Rule.TheVariants as rules
 use Rattle.mscp_judge.specs.Judged.{IsBroken}
 use Rattle.mscp_judge.specs.Logs.{Log, is_answer}
-use Rattle.mscp_judge.specs.Naming.{name_in, name_of}
-use Rattle.mscp_judge.specs.Rules.{IsRule, IsStepRule, due_rule, is_service}
+use Rattle.mscp_judge.specs.Naming.{name_in, wanted_name}
+use Rattle.mscp_judge.specs.Rules.{IsRule, IsStepRule, is_service}
 use Rattle.mscp_judge.specs.Starts.{starts_in}
 use Rattle.mscp_judge.specs.Standing.{Led, Stands, due, owed, run_of}
 
@@ -41,18 +42,6 @@ broken_early c log line judge starts s n = broken c log line judge rules.Missing
   step = λ e. absurd (true≢false (sym e ∙ n));
 }) (λ e. absurd (true≢false (sym e ∙ n)))
 
--- one that tells where something is due
-pub broken_due : {A : Type 0} (c : Settings) (log : Log) (line : List ℕ) (judge : Judge A) (rule : Rule)
-    (starts : List Named) → Stands c log judge → due judge ≢ [] → is_answer (words line) ≡ true
-    → rule ≡ due_rule (due judge) line → IsBroken c log line rule starts
-broken_due c log line judge rule starts s some a e = broken c log line judge rule starts s (record {
-  asks = λ n. absurd (true≢false (sym a ∙ n));
-  told = λ b d. e;
-  unasked = λ b none. absurd (some none);
-  idle = λ b none. absurd (some none);
-  step = λ b none. absurd (some none);
-}) (λ b none. absurd (some none))
-
 -- one that tells where nothing is asked
 pub broken_unasked : {A : Type 0} (c : Settings) (log : Log) (line : List ℕ) (judge : Judge A) (starts : List Named)
     → Stands c log judge → due judge ≡ [] → owed judge ≡ [] → is_answer (words line) ≡ true
@@ -69,9 +58,9 @@ broken_unasked c log line judge starts s none all a = broken c log line judge ru
 pub broken_step : {A : Type 0} (c : Settings) (log : Log) (line : List ℕ) (judge : Judge A) (rule : Rule)
     (starts : List Named) → Stands c log judge → due judge ≡ [] → is_answer (words line) ≡ true → owed judge ≢ []
     → (is_service (words line) ≡ false → rule ≡ rules.Idle)
-    → (is_service (words line) ≡ true → (t : Trace) (begun : Named) → IsValid c → Led (fresh c begun) t judge.controller
-    → IsStepRule c t (name_of (name_in (words line))) rule)
-    → (rule ≢ rules.Service → rule ≢ rules.Idle → (t : Trace) (begun : Named) → IsValid c
+    → (is_service (words line) ≡ true → (t : Trace) (begun : Wanted) → IsValid c
+    → Led (fresh c begun) t judge.controller → IsStepRule c t (wanted_name (name_in (words line))) rule)
+    → (rule ≢ rules.Service → rule ≢ rules.Idle → (t : Trace) (begun : Wanted) → IsValid c
     → Led (fresh c begun) t judge.controller
     → starts ≡ starts_in c t) → IsBroken c log line rule starts
 broken_step c log line judge rule starts s none a some idle step may = broken c log line judge rule starts s (record {

@@ -1,6 +1,6 @@
 -- What a call leaves, as a judge stands then.
-use Rattle.std.proofs.Common.{◌≡◌, ◌≢◌, inl, inr, ℕ, zero, suc, ◌+◌, ◌-◌, ◌<◌, true, false, List, [], ◌∷◌, ◌++◌, drop, length, replicate, refl, ap, sym, ◌∙◌, subst, arith, length-append, length-drop, drop-drop, append_assoc, append-nil}
-use Rattle.std.specs.Prelude.{All, OnOk, Result, Ok, Err, None, ◌≤◌}
+use Rattle.std.proofs.Common.{◌≡◌, ◌≢◌, inl, ℕ, zero, suc, ◌+◌, ◌-◌, ◌<◌, true, false, List, [], ◌∷◌, ◌++◌, drop, length, replicate, refl, ap, sym, ◌∙◌, subst, arith, length-append, length-drop, drop-drop, append_assoc, append-nil}
+use Rattle.std.specs.Prelude.{All, OnOk, Result, Ok, Err, None, ◌≤◌, Option}
 use Rattle.std.specs.List.{list_all}
 use Rattle.std.proofs.Math.Seq.{drop-append_seam}
 use Rattle.std.proofs.lemmas.List.{length-replicate}
@@ -8,39 +8,40 @@ use Rattle.std.proofs.lemmas.Bool.{and_parts, false≢true}
 use Rattle.mscp_events.specs.declared.block.Block.{Block}
 use Rattle.mscp_events.specs.declared.event.Event.{Event}
 use Rattle.mscp_events.specs.declared.event.Event.TheVariants as events
-use Rattle.mscp_control.specs.declared.entry.Entry.{Entry}
-use Rattle.mscp_control.specs.declared.entry.Entry.TheVariants as entries
+use Rattle.mscp_controller.specs.declared.entry.Entry.{Entry}
+use Rattle.mscp_controller.specs.declared.entry.Entry.TheVariants as entries
 use Rattle.mscp_events.specs.declared.memory.OutOfMemory.{OutOfMemory}
 use Rattle.mscp_queue.specs.declared.report.Report.{Report}
 use Rattle.mscp_queue.specs.Records.{Record, record_at}
 use Rattle.mscp_events.specs.Settings.{IsValid, Settings, bound}
-use Rattle.mscp_control.specs.History.{Trace, is_step}
-use Rattle.mscp_control.specs.Holdings.{Answers, Holdings, Steps, fresh}
+use Rattle.mscp_controller.specs.History.{Trace, is_step}
+use Rattle.mscp_controller.specs.Holdings.{Answers, Holdings, Steps, fresh}
 use Rattle.mscp_queue.specs.declared.report.Report.TheVariants.{Idle}
-use Rattle.mscp_control.specs.Legal.{IsLegal}
+use Rattle.mscp_controller.specs.Legal.{IsLegal}
 use Rattle.mscp_reader.specs.Lexical.{is_printed, words}
 use Rattle.mscp_script.specs.Text.{Reported, entry_lines, reported, step_count, step_line, with_entry}
 use Rattle.mscp_judge.specs.declared.judge.Judge.{Judge}
 use Rattle.mscp_judge.specs.declared.naming.Named.{Named}
+use Rattle.mscp_judge.specs.declared.naming.Wanted.{Wanted}
 use Rattle.mscp_judge.specs.declared.totals.Totals.{Totals}
 use Rattle.mscp_judge.specs.Judged.{IsAhead}
-use Rattle.mscp_judge.specs.Logs.{Asked, IsRightThere, Log, Mark, MayGoOn, IsLegalLog, asking, events_in, nothing, telling, told, transcript, whole}
-use Rattle.mscp_judge.specs.Naming.{IsNamed, name_in, nobody}
-use Rattle.mscp_judge.specs.Standing.{BeginsWith, Came, Counted, HasShortLine, Held, IsFirstLine, IsHeld, IsOpen, IsSettled, Stands, Stood, due, marked, owed, run_of, totals_of, with_picker}
+use Rattle.mscp_judge.specs.Logs.{Asked, Log, Mark, MayGoOn, IsLegalLog, asking, events_in, nothing, telling, told, transcript, whole}
+use Rattle.mscp_judge.specs.Naming.{IsNamed, name_in, wanting}
+use Rattle.mscp_judge.specs.Standing.{BeginsWith, Came, Counted, HasShortLine, Held, IsHeld, IsSettled, Stands, Stood, due, marked, owed, run_of, totals_of, with_picker}
 use Rattle.mscp_judge.specs.Totals.{AreTotals, IsLarger, figure_queued}
 use Rattle.mscp_judge.proofs.Feeds.{NoFeed, some_none, step_ends}
 use Rattle.mscp_judge.proofs.Leading.{follow}
 use Rattle.mscp_judge.proofs.Marks.{asked_parts, goes_on, is_legal_log, is_whole, lead, may_go_on}
 use Rattle.mscp_judge.proofs.Standing.{held_of, refused, unasked}
 use Rattle.mscp_judge.proofs.Stepping.{step_held}
-use Rattle.mscp_judge.proofs.Ending.{all_told, finished, no_step, opens, opens_with}
+use Rattle.mscp_judge.proofs.Ending.{all_told, finished, no_step, opens}
 use Rattle.mscp_judge.proofs.Counted.{ahead_counted, event_counted, finished_run, step_counted, steps_counted, told_counted}
 use Rattle.mscp_judge.proofs.Tallies.{totals_none}
 
 -- ---- an event
 
 -- an answer that is reported, where memory may have been wanted
-pub came_on : {A : Type 0} (r : Result (Unit {0}) OutOfMemory) (old new : Judge A) (name : Named) (event : Event)
+pub came_on : {A : Type 0} (r : Result (Unit {0}) OutOfMemory) (old new : Judge A) (name : Option Named) (event : Event)
     (entry : Entry) (mid : Reported) → Answers (IsNamed name)
     (with_picker old.controller name) event entry new.controller
     → mid ≡ record old.reporter { lines = [] } → OnOk r (new.reporter ≡ with_entry mid entry) → new.told ≡ 0
@@ -67,10 +68,10 @@ came_on (Ok x) old new name event entry mid a m e z figure passed f p lf lp o =
 came_on (Err x) old new name event entry mid a m e z figure passed f p lf lp o = tt
 
 -- a step at which nothing waits and nothing was begun is idle, and leaves what is held
-pub idle_steps : (name : Named) (k : Block) (h h' : Holdings Named) → h' ≡ h → h.waiting ≡ [] → h.begun ≡ None
+pub idle_steps : (name : Option Named) (k : Block) (h h' : Holdings Wanted) → h' ≡ h → h.waiting ≡ [] → h.begun ≡ None
     → Steps (IsNamed name) k h Idle h'
 idle_steps name k h h' e waits begun =
-    subst (λ (x : Holdings Named). Steps (IsNamed name) k h Idle x) (sym e) (record {
+    subst (λ (x : Holdings Wanted). Steps (IsNamed name) k h Idle x) (sym e) (record {
       serves = (waits, begun, refl);
       ends = λ i. record {
         first = sym (append-nil h.untaken.first) i;
@@ -81,21 +82,21 @@ idle_steps name k h h' e waits begun =
 
 -- and so it comes
 pub idle_came : {A : Type 0} (r : Result (Unit {0}) OutOfMemory) (old new : Judge A) (mid : Reported)
-    → old.controller.waiting ≡ [] → old.controller.begun ≡ None → new.controller ≡ with_picker old.controller nobody
+    → old.controller.waiting ≡ [] → old.controller.begun ≡ None → new.controller ≡ with_picker old.controller None
     → mid ≡ record old.reporter { lines = [] } → OnOk r (new.reporter ≡ with_entry mid (entries.Stepped Idle))
     → new.told ≡ 0 → IsLarger old.peaks.figure 0 new.peaks.figure → IsLarger old.peaks.passed 0 new.peaks.passed
-    → OnOk r (Came nobody old new (events.Step old.block))
+    → OnOk r (Came None old new (events.Step old.block))
 idle_came r old new mid waits begun held m e z f p =
-    let none : new.controller.waiting ≡ [] = ap (λ (h : Holdings Named). h.waiting) held ∙ waits in
-    came_on r old new nobody (events.Step old.block) (entries.Stepped Idle) mid
-    (idle_steps nobody old.block (with_picker old.controller nobody) new.controller held waits begun)
+    let none : new.controller.waiting ≡ [] = ap (λ (h : Holdings Wanted). h.waiting) held ∙ waits in
+    came_on r old new None (events.Step old.block) (entries.Stepped Idle) mid
+    (idle_steps None old.block (with_picker old.controller None) new.controller held waits begun)
     m e z 0 0 refl (sym (ap (λ (rs : List Record). (record_at rs 0).passed) none)) f p
     (subst (λ rs. All (λ (r : Record). r.passed ≤ 0) rs) (sym none)
     (λ k d inside. absurd (omega (arith, inside))))
 
 -- ---- a new judge
 
-pub stands_new : {A : Type 0} (c : Settings) (judge : Judge A) → IsValid c → judge.controller ≡ fresh c nobody
+pub stands_new : {A : Type 0} (c : Settings) (judge : Judge A) → IsValid c → judge.controller ≡ fresh c (wanting None)
     → due judge ≡ [] → judge.reporter ≡ reported [] → judge.owed ≡ 0 → judge.peaks.figure ≡ 0
     → judge.peaks.passed ≡ 0 → Stands c nothing judge
 stands_new {A} c judge v e d r o f p =
@@ -105,11 +106,11 @@ stands_new {A} c judge v e d r o f p =
     → (next : Trace) × (rest : List Trace) × (events_in next ≡ []) × (others ≡ next ∷ rest) =
     λ others more l f. let p = asked_parts [] more others f in (p.0, p.1, p.3, p.2) in
     let totals = totals_of c judge in
-    let counted : Counted c (marked nothing) (fresh c nobody) [] [] [] totals = record {
+    let counted : Counted c (marked nothing) (fresh c (wanting None)) [] [] [] totals = record {
       stood = record {
         parts = [];
         now = [];
-        begun = nobody;
+        begun = wanting None;
         valid = v;
         led = refl;
         said = refl;
@@ -119,9 +120,9 @@ stands_new {A} c judge v e d r o f p =
       are = totals_none c totals n (ap (λ (q : Reported). q.steps) r) f refl p;
     } in
     record {
-      counted = subst (λ (h : Holdings Named). Counted c (marked nothing) h (due judge) (owed judge) [] totals) (sym e)
-          (subst (λ bs. Counted c (marked nothing) (fresh c nobody) bs (owed judge) [] totals) (sym d)
-          (subst (λ es. Counted c (marked nothing) (fresh c nobody) [] es [] totals)
+      counted = subst (λ (h : Holdings Wanted). Counted c (marked nothing) h (due judge) (owed judge) [] totals) (sym e)
+          (subst (λ bs. Counted c (marked nothing) (fresh c (wanting None)) bs (owed judge) [] totals) (sym d)
+          (subst (λ es. Counted c (marked nothing) (fresh c (wanting None)) [] es [] totals)
           (ap (λ k. replicate k (events.Step judge.block)) (sym o)) counted));
       count = omega (arith, n, o);
     }
@@ -137,7 +138,7 @@ settled c log judge s q =
     (ap (λ k. replicate k (events.Step judge.block)) q.answered)
     (subst (λ bs. Counted c (marked log) judge.controller bs (owed judge) [] totals) q.told s.counted)
 
-pub asked_one : {A B : Type 0} (r : Result B OutOfMemory) (old new : Judge A) (name : Named) (event : Event)
+pub asked_one : {A B : Type 0} (r : Result B OutOfMemory) (old new : Judge A) (name : Option Named) (event : Event)
     → is_step event ≡ false → IsSettled old → OnOk r (Came name old new event) → new.owed ≡ old.owed
     → OnOk r ((c : Settings) (log : Log) → Stands c log old
     → Stands c (asking log (event ∷ []) (log.events ++ event ∷ [])) new)
@@ -183,7 +184,7 @@ asked_steps {A} old new n k q h r p t w b c log s =
     subst (λ (x : Totals). Counted c marks old.controller [] es [] x) (same_totals c old new r p)
     (steps_counted c (marked log) old.controller es (totals_of c old) (settled c log old s q)) in
     record {
-      counted = subst (λ (g : Holdings Named). Counted c marks g (due new) (owed new) [] totals) (sym h)
+      counted = subst (λ (g : Holdings Wanted). Counted c marks g (due new) (owed new) [] totals) (sym h)
           (subst (λ bs. Counted c marks old.controller bs (owed new) [] totals) (sym none)
           (subst (λ xs. Counted c marks old.controller [] xs [] totals) same counted));
       count = omega (
@@ -217,7 +218,7 @@ too_early {A} c log judge es all s not_it g =
 
 -- ---- a line that tells
 
-printed_fed : (bytes : List ℕ) → list_all is_printed bytes ≡ true → NoFeed bytes
+pub printed_fed : (bytes : List ℕ) → list_all is_printed bytes ≡ true → NoFeed bytes
 printed_fed [] h = tt
 printed_fed (b ∷ bytes) h =
     let p = and_parts (is_printed b) (list_all is_printed bytes) h in
@@ -233,7 +234,7 @@ ready_due c log line judge s some = record {
   count = s.count;
 }
 
-step_lined : (name : Named) (h h' : Holdings Named) (k : Block) (entry : Entry)
+step_lined : (name : Option Named) (h h' : Holdings Wanted) (k : Block) (entry : Entry)
     → Answers (IsNamed name) h (events.Step k) entry h' → entry_lines entry ≢ []
 step_lined name h h' k (entries.Stepped report) a e = let f = step_ends report in some_none f.0 10 [] (sym f.1 ∙ e)
 step_lined name h h' k (entries.Sent x y) a e = absurd a
@@ -294,7 +295,7 @@ told_so {A} c log line old new s begins h r p w b d =
     begins.1) in
     let same : owed old ≡ owed new = λ i. replicate (sym w i) (events.Step (sym b i)) in
     record {
-      counted = subst (λ (g : Holdings Named). Counted c marks g (due new) (owed new) [] totals) (sym h)
+      counted = subst (λ (g : Holdings Wanted). Counted c marks g (due new) (owed new) [] totals) (sym h)
           (subst (λ bs. Counted c marks old.controller bs (owed new) [] totals) (sym d)
           (subst (λ es. Counted c marks old.controller begins.0 es [] totals) same counted));
       count = omega (arith, s.count, ap (λ (p : Reported). p.count) r, w);
@@ -318,7 +319,7 @@ pub stands_with : {A : Type 0} (c : Settings) (log : Log) (old new : Judge A)
     → new ≡ record old { starts = new.starts } → Stands c log old → Stands c log new
 stands_with c log old new e s = subst (Stands c log) (sym e) (record { counted = s.counted; count = s.count })
 
--- ---- what would have been right
+-- ---- what is held
 
 pub stands_held : {A : Type 0} (c : Settings) (log : Log) (judge : Judge A) → Stands c log judge → IsHeld c log judge
 stands_held c log judge s = held_of c (marked log) judge.controller (due judge) (owed judge) [] s.counted.stood
@@ -347,31 +348,7 @@ stepped_short (Ok x) old mid new report value short m =
     short_whole new.lines f.0 (e ∙ f.1) (subst (λ bs. length bs ≤ 108) (sym e) short)
 stepped_short (Err x) old mid new report value short m = tt
 
-pub stands_open_held : {A : Type 0} (c : Settings) (log : Log) (judge : Judge A) → Stands c log judge
-    → IsOpen c log judge
-stands_open_held c log judge s = (stands_held c log judge s, inl s)
-
-pub right_due : {A : Type 0} (c : Settings) (log : Log) (judge : Judge A) (text : List ℕ) → IsOpen c log judge
-    → due judge ≢ [] → IsFirstLine (due judge) text → IsRightThere c log text
-right_due {A} c log judge text (held, inl stands) some (inl e) =
-    inl (
-      e.0,
-      λ other printed short. told_not c log other judge (ready_due c log other judge stands some) printed
-          (λ begins. let no : ⊥ = omega (arith, e.1 other begins, short) in no),
-    )
-right_due c log judge text (held, inr h) some (inl e) =
-    absurd (omega (arith, e.1 h.0 h.1, h.2))
-right_due c log judge text o some (inr b) = inr (may_go_on c (telling log (text ++ 10 ∷ [])).marks
-    (opens_with c (marked log) judge.controller (due judge) judge.block judge.owed text o.0 b))
-
--- where all is answered and told
-pub right_none : {A : Type 0} (c : Settings) (log : Log) (judge : Judge A) (text : List ℕ) → text ≡ []
-    → IsOpen c log judge → IsSettled judge → IsRightThere c log text
-right_none c log judge text e (held, inl stands) q =
-    inl (e, λ other printed short. ready_not c log other judge stands q)
-right_none c log judge text e (held, inr h) q = absurd (short_some (due judge) h q.told)
-
-pub right_step : {A : Type 0} (c : Settings) (log : Log) (name : Named) (old new : Judge A) → IsHeld c log old
+pub right_step : {A : Type 0} (c : Settings) (log : Log) (name : Option Named) (old new : Judge A) → IsHeld c log old
     → due old ≡ [] → 0 < old.owed → Came name old new (events.Step old.block) → new.owed ≡ old.owed - 1
     → new.block ≡ old.block → IsHeld c log new
 right_step {A} c log name old new s none some came w b =

@@ -1,15 +1,17 @@
 -- How a judge stands after one more line, with the totals so far.
 use Rattle.std.proofs.Common.{◌≡◌, ℕ, false, List, [], ◌∷◌, ◌++◌, sym, ◌∙◌, subst, append_assoc, append-nil}
+use Rattle.std.specs.Prelude.{Option}
 use Rattle.mscp_events.specs.declared.block.Block.{Block}
 use Rattle.mscp_events.specs.declared.event.Event.{Event}
 use Rattle.mscp_events.specs.declared.event.Event.TheVariants as events
-use Rattle.mscp_control.specs.declared.entry.Entry.{Entry}
+use Rattle.mscp_controller.specs.declared.entry.Entry.{Entry}
 use Rattle.mscp_events.specs.Settings.{Settings}
-use Rattle.mscp_control.specs.History.{is_step}
-use Rattle.mscp_control.specs.Holdings.{Answers, Holdings}
+use Rattle.mscp_controller.specs.History.{is_step}
+use Rattle.mscp_controller.specs.Holdings.{Answers, Holdings}
 use Rattle.mscp_reader.specs.Lexical.{words}
 use Rattle.mscp_script.specs.Text.{entry_lines}
 use Rattle.mscp_judge.specs.declared.naming.Named.{Named}
+use Rattle.mscp_judge.specs.declared.naming.Wanted.{Wanted}
 use Rattle.mscp_judge.specs.declared.totals.Totals.{Totals}
 use Rattle.mscp_judge.specs.Logs.{Asked, Log, Mark, told, whole}
 use Rattle.mscp_judge.specs.Naming.{IsNamed, name_in}
@@ -23,36 +25,36 @@ use Rattle.mscp_judge.proofs.Asking.{event_on, steps_on, whole_more}
 use Rattle.mscp_judge.proofs.Ending.{finished}
 use Rattle.mscp_judge.proofs.Tallies.{totals_more}
 
-pub ahead_counted : (c : Settings) (marks : List Mark) (h : Holdings Named) (due : List ℕ) (owed : List Event)
+pub ahead_counted : (c : Settings) (marks : List Mark) (h : Holdings Wanted) (due : List ℕ) (owed : List Event)
     (ahead : List Mark) (totals : Totals) → Counted c marks h due owed [] totals
     → Counted c marks h due owed ahead totals
 unfolding ahead_of
 ahead_counted c marks h due owed ahead totals s =
     record { stood = ahead_of c marks h due owed ahead s.stood; are = s.are }
 
-pub told_counted : (c : Settings) (marks : List Mark) (h : Holdings Named) (due : List ℕ) (owed : List Event)
+pub told_counted : (c : Settings) (marks : List Mark) (h : Holdings Wanted) (due : List ℕ) (owed : List Event)
     (line rest : List ℕ) (totals : Totals) → Counted c marks h due owed (told_line line) totals
     → due ≡ line ++ 10 ∷ rest → Counted c (marks ++ told_line line) h rest owed [] totals
 unfolding told_on
 told_counted c marks h due owed line rest totals s e =
     record { stood = told_on c marks h due owed line rest s.stood e; are = s.are }
 
-pub told_all_counted : (c : Settings) (marks : List Mark) (h : Holdings Named) (due : List ℕ) (owed : List Event)
+pub told_all_counted : (c : Settings) (marks : List Mark) (h : Holdings Wanted) (due : List ℕ) (owed : List Event)
     (totals : Totals) → Counted c marks h due owed [] totals → Counted c (marks ++ told due) h [] owed [] totals
 unfolding told_all_on
 told_all_counted c marks h due owed totals s =
     record { stood = told_all_on c marks h due owed s.stood; are = s.are }
 
 -- the totals of a trace with a moment more
-more : (c : Settings) (marks : List Mark) (h h' : Holdings Named) (name : Named) (owed : List Event) (event : Event)
-    (entry : Entry) (old new : Totals) → Answers (IsNamed name) (with_picker h name) event entry h'
+more : (c : Settings) (marks : List Mark) (h h' : Holdings Wanted) (name : Option Named) (owed : List Event)
+    (event : Event) (entry : Entry) (old new : Totals) → Answers (IsNamed name) (with_picker h name) event entry h'
     → Adds h' entry old new → (k : Counted c marks h [] owed [] old)
     → AreTotals c (run_of k.stood ++ (event, entry) ∷ []) new
 more c marks h h' name owed event entry old new a adds k =
     totals_more c (run_of k.stood) h h' name event entry old new k.stood.valid
     (follow c k.stood.begun (run_of k.stood) h k.stood.valid k.stood.led) a k.are adds
 
-pub step_counted : (c : Settings) (marks : List Mark) (h h' : Holdings Named) (k : Block) (owed : List Event)
+pub step_counted : (c : Settings) (marks : List Mark) (h h' : Holdings Wanted) (k : Block) (owed : List Event)
     (line : List ℕ) (entry : Entry) (old new : Totals) → Counted c marks h [] (events.Step k ∷ owed) [] old
     → Answers (IsNamed (name_in (words line))) (with_picker h (name_in (words line))) (events.Step k) entry h'
     → Adds h' entry old new → Counted c marks h' (entry_lines entry) owed (told_line line) new
@@ -63,7 +65,7 @@ step_counted c marks h h' k owed line entry old new s a adds = record {
       (more c marks h h' (name_in (words line)) (events.Step k ∷ owed) (events.Step k) entry old new a adds s);
 }
 
-pub steps_counted : (c : Settings) (marks : List Mark) (h : Holdings Named) (es : List Event) (totals : Totals)
+pub steps_counted : (c : Settings) (marks : List Mark) (h : Holdings Wanted) (es : List Event) (totals : Totals)
     → Counted c marks h [] [] [] totals → Counted c (marks ++ Asked es ∷ []) h [] es [] totals
 unfolding steps_on
 steps_counted c marks h es totals s = record {
@@ -72,7 +74,7 @@ steps_counted c marks h es totals s = record {
       ∙ whole_more s.stood.parts s.stood.now)) s.are;
 }
 
-pub event_counted : (c : Settings) (marks : List Mark) (h h' : Holdings Named) (name : Named) (event : Event)
+pub event_counted : (c : Settings) (marks : List Mark) (h h' : Holdings Wanted) (name : Option Named) (event : Event)
     (entry : Entry) (old new : Totals) → is_step event ≡ false → Counted c marks h [] [] [] old
     → Answers (IsNamed name) (with_picker h name) event entry h' → Adds h' entry old new
     → Counted c (marks ++ Asked (event ∷ []) ∷ []) h' (entry_lines entry) [] [] new
@@ -84,7 +86,7 @@ event_counted c marks h h' name event entry old new o s a adds = record {
 }
 
 -- the trace of a log of which all is told
-pub finished_run : (c : Settings) (log : Log) (h : Holdings Named) (s : Stood c (marked log) h [] [] [])
+pub finished_run : (c : Settings) (log : Log) (h : Holdings Wanted) (s : Stood c (marked log) h [] [] [])
     → run_of s ≡ whole (is_legal_log c log.marks (finished c (marked log) h s)).0
 unfolding finished
 finished_run c log h s =

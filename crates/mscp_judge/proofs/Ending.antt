@@ -4,14 +4,14 @@ use Rattle.std.specs.Prelude.{replicate}
 use Rattle.mscp_events.specs.declared.block.Block.{Block}
 use Rattle.mscp_events.specs.declared.event.Event.{Event}
 use Rattle.mscp_events.specs.declared.event.Event.TheVariants as events
-use Rattle.mscp_control.specs.declared.entry.Entry.{Entry}
-use Rattle.mscp_control.specs.declared.entry.Entry.TheVariants as entries
+use Rattle.mscp_controller.specs.declared.entry.Entry.{Entry}
+use Rattle.mscp_controller.specs.declared.entry.Entry.TheVariants as entries
 use Rattle.mscp_events.specs.Settings.{Settings}
-use Rattle.mscp_control.specs.History.{Trace}
-use Rattle.mscp_control.specs.Holdings.{Holdings}
-use Rattle.mscp_control.specs.Legal.{IsLegal, IsRight}
+use Rattle.mscp_controller.specs.History.{Trace}
+use Rattle.mscp_controller.specs.Holdings.{Holdings}
+use Rattle.mscp_controller.specs.Legal.{IsLegal, IsRight}
 use Rattle.mscp_script.specs.Text.{entry_lines}
-use Rattle.mscp_judge.specs.declared.naming.Named.{Named}
+use Rattle.mscp_judge.specs.declared.naming.Wanted.{Wanted}
 use Rattle.mscp_judge.specs.Logs.{Mark, answers_in, told, transcript, whole}
 use Rattle.mscp_judge.specs.Standing.{BeginsWith, Held, Stood}
 use Rattle.mscp_judge.proofs.Existing.{steps_exist}
@@ -39,7 +39,7 @@ second_none [] ys e = e
 second_none (x ∷ xs) ys e = absurd (omega (arith, ap length e))
 
 -- where no answer follows what is known of a legal log, nothing is due and no step is missing
-pub all_told : (c : Settings) (marks : List Mark) (h : Holdings Named) (due : List ℕ) (owed : List Event)
+pub all_told : (c : Settings) (marks : List Mark) (h : Holdings Wanted) (due : List ℕ) (owed : List Event)
     (s : Stood c marks h due owed []) (others : List Trace) (more : List Mark)
     → IsLegal c (whole others) → marks ++ more ≡ transcript others → lead more ≡ [] → due ≡ []
 all_told c marks h due owed s others more l e none =
@@ -47,7 +47,7 @@ all_told c marks h due owed s others more l e none =
     first_none due (lead (told (answers_in g.next) ++ transcript g.rest))
     (sym (lead_told due (told (answers_in g.next) ++ transcript g.rest)) ∙ (ap lead (sym g.left_is) ∙ none))
 
-pub no_step : (c : Settings) (marks : List Mark) (h : Holdings Named) (due : List ℕ) (k : Block)
+pub no_step : (c : Settings) (marks : List Mark) (h : Holdings Wanted) (due : List ℕ) (k : Block)
     (owed : List Event) (s : Stood c marks h due (events.Step k ∷ owed) []) (others : List Trace) (more : List Mark)
     → IsLegal c (whole others) → marks ++ more ≡ transcript others → lead more ≡ [] → ⊥
 no_step c marks h due k owed s others more l e none =
@@ -66,7 +66,7 @@ no_step c marks h due k owed s others more l e none =
     (first_none (entry_lines n.1) (answers_in q.1) told_none)
 
 -- all is answered and told
-unfoldable pub finished : (c : Settings) (marks : List Mark) (h : Holdings Named) → Stood c marks h [] [] []
+unfoldable pub finished : (c : Settings) (marks : List Mark) (h : Holdings Wanted) → Stood c marks h [] [] []
     → IsWhole c marks
 finished c marks h s =
     let f = follow c s.begun (whole s.parts ++ s.now) h s.valid s.led in (
@@ -76,7 +76,7 @@ finished c marks h s =
     )
 
 -- a legal log goes on from here: the steps that are missing have right answers
-goes_from : (c : Settings) (marks : List Mark) (h : Holdings Named) (due : List ℕ) (k : Block) (n : ℕ)
+goes_from : (c : Settings) (marks : List Mark) (h : Holdings Wanted) (due : List ℕ) (k : Block) (n : ℕ)
     → Held c marks h due (replicate n (events.Step k))
     → (X : List Mark) × (others : List Trace) × IsLegal c (whole others) × (marks ++ (told due ++ X)
     ≡ transcript others)
@@ -95,14 +95,14 @@ goes_from c marks h due k n s =
       sym (known_marks c marks h due owed s u.0 [] u.1),
     )
 
-pub opens : (c : Settings) (marks : List Mark) (h : Holdings Named) (due : List ℕ) (k : Block) (n : ℕ)
+pub opens : (c : Settings) (marks : List Mark) (h : Holdings Wanted) (due : List ℕ) (k : Block) (n : ℕ)
     → Held c marks h due (replicate n (events.Step k)) → GoesOn c marks
 opens c marks h due k n s =
     let g = goes_from c marks h due k n s in
     (told due ++ g.0, g.1, g.2, g.3)
 
 -- and it goes on with a line that is due
-pub opens_with : (c : Settings) (marks : List Mark) (h : Holdings Named) (due : List ℕ) (k : Block) (n : ℕ)
+pub opens_with : (c : Settings) (marks : List Mark) (h : Holdings Wanted) (due : List ℕ) (k : Block) (n : ℕ)
     (line : List ℕ) → Held c marks h due (replicate n (events.Step k)) → BeginsWith due line
     → GoesOn c (marks ++ told_line line)
 opens_with c marks h due k n line s b =

@@ -6,16 +6,16 @@ use Rattle.std.proofs.lemmas.Bool.{false≢true, lt-ltb}
 use Rattle.mscp_events.specs.declared.block.Block.{Block}
 use Rattle.mscp_queue.specs.declared.report.Report.TheVariants.{Idle, Served}
 use Rattle.mscp_events.specs.declared.event.Event.TheVariants as events
-use Rattle.mscp_control.specs.declared.entry.Entry.{Entry}
-use Rattle.mscp_control.specs.declared.entry.Entry.TheVariants as entries
+use Rattle.mscp_controller.specs.declared.entry.Entry.{Entry}
+use Rattle.mscp_controller.specs.declared.entry.Entry.TheVariants as entries
 use Rattle.mscp_events.specs.Settings.{IsValid, Settings}
-use Rattle.mscp_control.specs.History.{Moment, Trace}
-use Rattle.mscp_control.specs.Commands.{connection, done, in_service, is_idle, is_waiting, reference, unit, waiting}
-use Rattle.mscp_control.specs.Passing.{is_startable}
-use Rattle.mscp_control.specs.Legal.{IsLegal, IsRight, block_of, end_of, seek_to}
-use Rattle.mscp_control.proofs.Promise.Alone.{oldest_starts}
-use Rattle.mscp_control.proofs.Promise.Waits.{waiting_waits}
-use Rattle.mscp_control.proofs.Bridge.Legals.{by_serving, legal_more}
+use Rattle.mscp_controller.specs.History.{Moment, Trace}
+use Rattle.mscp_controller.specs.Commands.{connection, done, in_service, is_idle, is_waiting, reference, unit, waiting}
+use Rattle.mscp_controller.specs.Passing.{is_startable}
+use Rattle.mscp_controller.specs.Legal.{IsLegal, IsRight, block_of, end_of, seek_to}
+use Rattle.mscp_controller.proofs.Promise.Alone.{oldest_starts}
+use Rattle.mscp_controller.proofs.Promise.Waits.{waiting_waits}
+use Rattle.mscp_controller.proofs.Bridge.Legals.{by_serving, legal_more}
 use Rattle.mscp_judge.specs.Logs.{events_in}
 
 -- a step may serve y

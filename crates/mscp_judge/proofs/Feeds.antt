@@ -10,11 +10,11 @@ use Rattle.arrayvec.specs.ArrayVec.{ArrayVec}
 use Rattle.mscp_events.specs.declared.connection.Connection.{Connection}
 use Rattle.mscp_queue.specs.declared.report.Report.{Report}
 use Rattle.mscp_queue.specs.declared.report.Report.TheVariants.{Idle, Served}
-use Rattle.mscp_control.specs.declared.entry.Entry.{Entry}
-use Rattle.mscp_control.specs.declared.entry.Entry.TheVariants as entries
-use Rattle.mscp_control.specs.declared.entry.SendFault.{SendFault}
-use Rattle.mscp_control.specs.declared.entry.Sent.{Sent}
-use Rattle.mscp_control.specs.declared.entry.Sent.TheVariants as sents
+use Rattle.mscp_controller.specs.declared.entry.Entry.{Entry}
+use Rattle.mscp_controller.specs.declared.entry.Entry.TheVariants as entries
+use Rattle.mscp_controller.specs.declared.entry.SendFault.{SendFault}
+use Rattle.mscp_controller.specs.declared.entry.Sent.{Sent}
+use Rattle.mscp_controller.specs.declared.entry.Sent.TheVariants as sents
 use Rattle.mscp_text.specs.Lines.{line}
 use Rattle.mscp_script.specs.Text.{aborted_part, block_word, connection_word, ended_part, entry_lines, figure_line, message_line, refusal_word, step_line, take_line}
 use Rattle.mscp_judge.specs.Standing.{BeginsWith, EndsLine}

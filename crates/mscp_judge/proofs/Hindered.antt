@@ -1,6 +1,6 @@
 -- What keeps a step from serving a command, as a controller and as the history have it.
 use Rattle.std.proofs.Common.{◌≡◌, ◌≢◌, inl, inr, ⊎_elim, ℕ, ◌<◌, ◌≤◌, Bool, true, false, List, [], ◌∷◌, map, take, length, refl, ap, sym, ◌∙◌, subst, arith}
-use Rattle.std.specs.Prelude.{All, Contains, filter, find, nat_eq, nat_lt, slice_index_or, Some}
+use Rattle.std.specs.Prelude.{All, Contains, filter, find, nat_eq, nat_lt, slice_index_or, Option, Some, None}
 use Rattle.std.specs.List.{AllByRecursion}
 use Rattle.std.proofs.lemmas.Bool.{cases_Bool, eq-eqb, true≢false}
 use Rattle.std.proofs.lemmas.List.{length-map, take_all}
@@ -16,29 +16,31 @@ use Rattle.mscp_queue.proofs.Lists.{every_from, every_mapped, every_parts, every
 use Rattle.mscp_queue.proofs.Named.{is_differ, is_same, same_is}
 use Rattle.mscp_queue.proofs.Placed.{filter_map_of, find_cases, find_first, find_none, map_map}
 use Rattle.mscp_events.specs.Settings.{IsValid, Settings}
-use Rattle.mscp_control.specs.History.{Trace}
-use Rattle.mscp_control.specs.Commands.{done, in_service, is_idle, is_waiting, name, waiting}
-use Rattle.mscp_control.specs.Figures.{figure_found, figure_of}
-use Rattle.mscp_control.specs.Headline.{EachWaiting}
-use Rattle.mscp_control.specs.Holders.{holders, holders_found, holders_of}
-use Rattle.mscp_control.specs.Holdings.{Holdings}
-use Rattle.mscp_control.specs.Legal.{shown}
-use Rattle.mscp_control.specs.Passing.{is_startable, startable}
-use Rattle.mscp_control.proofs.Bridge.Held.{figure_of_held, figures_held, held_of}
-use Rattle.mscp_control.proofs.Bridge.Holders.{holders_of_held, startable_unheld}
-use Rattle.mscp_control.proofs.Bridge.Servable.{all_of, waits_at}
-use Rattle.mscp_control.proofs.Bridge.Viewed.{record_held, waiting_at}
-use Rattle.mscp_control.proofs.Promise.Among.{alone}
-use Rattle.mscp_control.proofs.Promise.Falls.{every_split}
-use Rattle.mscp_control.proofs.Promise.Progress.{progress, waits_in}
-use Rattle.mscp_control.proofs.Promise.Starts.{startable_parts}
-use Rattle.mscp_control.proofs.Promise.Waits.{cut_of, waiting_waits}
+use Rattle.mscp_controller.specs.History.{Trace}
+use Rattle.mscp_controller.specs.Commands.{done, in_service, is_idle, is_waiting, name, waiting}
+use Rattle.mscp_controller.specs.Figures.{figure_found, figure_of}
+use Rattle.mscp_controller.specs.Headline.{EachWaiting}
+use Rattle.mscp_controller.specs.Holders.{holders, holders_found, holders_of}
+use Rattle.mscp_controller.specs.Holdings.{Holdings}
+use Rattle.mscp_controller.specs.Legal.{shown}
+use Rattle.mscp_controller.specs.Passing.{is_startable, startable}
+use Rattle.mscp_controller.proofs.Bridge.Held.{figure_of_held, figures_held, held_of}
+use Rattle.mscp_controller.proofs.Bridge.Holders.{holders_of_held, startable_unheld}
+use Rattle.mscp_controller.proofs.Bridge.Servable.{all_of, waits_at}
+use Rattle.mscp_controller.proofs.Bridge.Viewed.{record_held, waiting_at}
+use Rattle.mscp_controller.proofs.Promise.Among.{alone}
+use Rattle.mscp_controller.proofs.Promise.Falls.{every_split}
+use Rattle.mscp_controller.proofs.Promise.Progress.{progress, waits_in}
+use Rattle.mscp_controller.proofs.Promise.Starts.{startable_parts}
+use Rattle.mscp_controller.proofs.Promise.Waits.{cut_of, waiting_waits}
 use Rattle.mscp_judge.specs.declared.naming.Named.{Named}
+use Rattle.mscp_judge.specs.declared.naming.Wanted.{Wanted}
 use Rattle.mscp_judge.specs.declared.rules.Rule.TheVariants as rules
-use Rattle.mscp_judge.specs.Naming.{name_of}
+use Rattle.mscp_judge.specs.Naming.{name_of, wanted_name}
 use Rattle.mscp_judge.specs.Rules.{IsStepRule}
 use Rattle.mscp_judge.specs.Starts.{is_open, named, named_in, names, starts_in}
 use Rattle.mscp_judge.proofs.Leading.{Follow}
+use Rattle.mscp_judge.proofs.Unique.{some_same}
 
 -- ---- a command in service
 
@@ -54,22 +56,30 @@ served_at t n rs e s =
       ap record_name (sym own) ∙ r.3,
     )
 
-pub is_own : (c : Settings) (t : Trace) (h : Holdings Named) (n : Name) → Follow c t h → IsServing n h.waiting
-    → IsStepRule c t n rules.Service
+pub is_own : (c : Settings) (t : Trace) (h : Holdings Wanted) (n : Name) → Follow c t h → IsServing n h.waiting
+    → IsStepRule c t (Some n) rules.Service
 is_own c t h n k s =
     let x = served_at t n h.waiting k.agrees.follows.waits s in
-    (x.0, x.1, inl x.2, x.3)
+    (x.0, x.1, inl x.2, ap Some (sym x.3))
 
-pub is_another : (c : Settings) (t : Trace) (h : Holdings Named) (named served : Named) → Follow c t h
-    → IsServing (name_of served) h.waiting → served ≢ named → IsStepRule c t (name_of named) (rules.InService served)
-is_another c t h named served k s differ =
+names_same : (wanted : Option Named) (served : Named) → wanted_name wanted ≡ Some (name_of served)
+    → wanted ≡ Some served
+names_same None served e = cc
+names_same (Some named) served e =
+    let same = some_same (name_of named) (name_of served) e in
+    λ i. Some (record { connection = (same i).connection; reference = (same i).reference })
+
+pub is_another : (c : Settings) (t : Trace) (h : Holdings Wanted) (wanted : Option Named) (served : Named)
+    → Follow c t h → IsServing (name_of served) h.waiting → wanted ≢ Some served
+    → IsStepRule c t (wanted_name wanted) (rules.InService served)
+is_another c t h wanted served k s differ =
     let x = served_at t (name_of served) h.waiting k.agrees.follows.waits s in
-    (x.0, x.1, x.2, x.3, λ e. differ (λ i. record { connection = (e i).connection; reference = (e i).reference }))
+    (x.0, x.1, x.2, x.3, λ e. differ (names_same wanted served e))
 
 -- ---- no command of the name
 
 -- the figure of a name that waits isn't 0
-figured : (c : Settings) (t : Trace) (h : Holdings Named) → IsValid c → Follow c t h
+figured : (c : Settings) (t : Trace) (h : Holdings Wanted) → IsValid c → Follow c t h
     → EachWaiting t (λ x. 1 ≤ figure_of c t (name t x))
 figured c t h v k x w =
     let p = progress c t v k.legal in
@@ -78,14 +88,6 @@ figured c t h v k x w =
     subst (λ u. 1 ≤ figure_of c u (name u x)) whole
     (let own = p.own (length t) (omega arith) x there in
     let some = (p.positive (length t) (omega arith) x).0 there in omega (arith, own, some))
-
-pub is_nowhere : (c : Settings) (t : Trace) (h : Holdings Named) (n : Name) → IsValid c → Follow c t h
-    → figure_of_name h.settings.budget h.waiting n ≡ 0 → IsStepRule c t n rules.NotWaiting
-is_nowhere c t h n v k e x w named =
-    let same : figure_of_name h.settings.budget h.waiting n ≡ figure_of c t n =
-    (λ i. figure_of_name (k.settings i).budget (k.agrees.follows.waits i) n) ∙ figure_of_held c t n in
-    let some = figured c t h v k x w in
-    omega (arith, some, ap (figure_of c t) named, same, e)
 
 -- ---- a command that is kept back, or may start
 
@@ -97,20 +99,38 @@ idle_held t rs e h =
     (every_mapped (held_of t) (λ (r : Record). r.done ≡ 0) (waiting t)
     (subst (AllByRecursion (λ (r : Record). r.done ≡ 0)) e (recursion_from_All (λ (r : Record). r.done ≡ 0) rs h))))
 
-same_holders : (c : Settings) (t : Trace) (h : Holdings Named) (n : Name) → Follow c t h
+same_holders : (c : Settings) (t : Trace) (h : Holdings Wanted) (n : Name) → Follow c t h
     → holders_of_name h.settings.budget h.waiting n ≡ holders_of c t n
 same_holders c t h n k =
     (λ i. holders_of_name (k.settings i).budget (k.agrees.follows.waits i) n) ∙ holders_of_held c t n
 
-pub is_kept_back : (c : Settings) (t : Trace) (h : Holdings Named) (n : Name) (holder : Holder) (rest : List Holder)
-    → Follow c t h → All (λ r. r.done ≡ 0) h.waiting
-    → holders_of_name h.settings.budget h.waiting n ≡ holder ∷ rest → IsStepRule c t n (rules.KeptBack holder)
-is_kept_back c t h n holder rest k idle e =
-    (idle_held t h.waiting k.agrees.follows.waits idle, rest, sym (same_holders c t h n k) ∙ e)
+-- no command of the name waits
+pub is_nowhere : (c : Settings) (t : Trace) (h : Holdings Wanted) (n : Name) → IsValid c → Follow c t h
+    → All (λ r. r.done ≡ 0) h.waiting → figure_of_name h.settings.budget h.waiting n ≡ 0
+    → IsStepRule c t (Some n) rules.NotWaiting
+is_nowhere c t h n v k idle e = (
+  idle_held t h.waiting k.agrees.follows.waits idle,
+  λ x w named.
+      let same : figure_of_name h.settings.budget h.waiting n ≡ figure_of c t n =
+      (λ i. figure_of_name (k.settings i).budget (k.agrees.follows.waits i) n) ∙ figure_of_held c t n in
+      let some = figured c t h v k x w in
+      omega (arith, some, ap (figure_of c t) (some_same n (name t x) named), same, e),
+)
 
-pub is_free_to : (c : Settings) (t : Trace) (h : Holdings Named) (n : Name) → Follow c t h
+-- or none is named
+pub is_unnamed : (c : Settings) (t : Trace) (h : Holdings Wanted) → Follow c t h
+    → All (λ r. r.done ≡ 0) h.waiting → IsStepRule c t None rules.NotWaiting
+is_unnamed c t h k idle = (idle_held t h.waiting k.agrees.follows.waits idle, λ x w named. cc)
+
+pub is_kept_back : (c : Settings) (t : Trace) (h : Holdings Wanted) (n : Name) (holder : Holder) (rest : List Holder)
+    → Follow c t h → All (λ r. r.done ≡ 0) h.waiting
+    → holders_of_name h.settings.budget h.waiting n ≡ holder ∷ rest → IsStepRule c t (Some n) (rules.KeptBack holder)
+is_kept_back c t h n holder rest k idle e =
+    (idle_held t h.waiting k.agrees.follows.waits idle, n, refl, rest, sym (same_holders c t h n k) ∙ e)
+
+pub is_free_to : (c : Settings) (t : Trace) (h : Holdings Wanted) (n : Name) → Follow c t h
     → All (λ r. r.done ≡ 0) h.waiting → figure_of_name h.settings.budget h.waiting n ≢ 0
-    → holders_of_name h.settings.budget h.waiting n ≡ [] → IsStepRule c t n rules.Service
+    → holders_of_name h.settings.budget h.waiting n ≡ [] → IsStepRule c t (Some n) rules.Service
 unfolding figure_of holders_of
 is_free_to c t h n k idle some none =
     let q : ℕ → Bool = λ x. same_name (name t x) n in
@@ -129,7 +149,7 @@ is_free_to c t h n k idle some none =
       y,
       (every_parts W found.0 (y ∷ found.2) (subst (AllByRecursion W) f.is (waiting_waits t))).1.0,
       inr (startable_unheld c t y (idle_held t h.waiting k.agrees.follows.waits idle) ∙ ap is_nobody nobody),
-      same_is (name t y) n f.passed,
+      ap Some (sym (same_is (name t y) n f.passed)),
     ))
     (find_cases q (waiting t))
 
@@ -144,7 +164,7 @@ some_first (holder ∷ rest) some = (rest, refl)
 -- ---- all that may start
 
 -- of the name of a waiting command nobody is told exactly if nobody keeps it back
-own_holders : (c : Settings) (t : Trace) (h : Holdings Named) → Follow c t h
+own_holders : (c : Settings) (t : Trace) (h : Holdings Wanted) → Follow c t h
     → AllByRecursion (λ y. holders_of c t (name t y) ≡ holders c t y) (waiting t)
 unfolding holders_of
 own_holders c t h k =
@@ -156,7 +176,7 @@ own_holders c t h k =
     (every_weaker (λ x. name t x ≢ name t y) (λ x. q x ≡ false) (λ x n. is_differ (name t x) (name t y) n) A a.before)
     (is_same (name t y) (name t y) refl)))
 
-pub all_open : (c : Settings) (t : Trace) (h : Holdings Named) → Follow c t h → All (λ r. r.done ≡ 0) h.waiting
+pub all_open : (c : Settings) (t : Trace) (h : Holdings Wanted) → Follow c t h → All (λ r. r.done ≡ 0) h.waiting
     → filter (is_open h.settings.budget h.waiting) (names h.settings.budget h.waiting) ≡ starts_in c t
 unfolding startable
 all_open c t h k idle =
@@ -175,7 +195,7 @@ all_open c t h k idle =
     ∙ (ap (filter p) named_all ∙ (filter_map_of (named_in t) p W
     ∙ ap (map (named_in t)) (filter_on (λ y. p (named_in t y)) (is_startable c t) W each)))
 
-pub none_open : (c : Settings) (t : Trace) (h : Holdings Named) (n : Name) → Follow c t h → IsServing n h.waiting
+pub none_open : (c : Settings) (t : Trace) (h : Holdings Wanted) (n : Name) → Follow c t h → IsServing n h.waiting
     → [] ≡ starts_in c t
 unfolding startable
 none_open c t h n k s =

@@ -1,53 +1,54 @@
 -- What is held after moments that came one after the other, each with a picker of its own, is that of a legal trace.
 use Rattle.std.proofs.Common.{◌≡◌, [], ◌∷◌, ◌++◌, refl, sym, ◌∙◌, subst, arith, append-nil}
-use Rattle.std.specs.Prelude.{None}
+use Rattle.std.specs.Prelude.{None, Option}
 use Rattle.std.proofs.lemmas.List.{append_assoc}
 use Rattle.mscp_events.specs.declared.event.Event.{Event}
-use Rattle.mscp_control.specs.declared.entry.Entry.{Entry}
+use Rattle.mscp_controller.specs.declared.entry.Entry.{Entry}
 use Rattle.mscp_events.specs.Settings.{IsValid, Settings}
-use Rattle.mscp_control.specs.History.{Moment, Trace}
-use Rattle.mscp_control.specs.Holdings.{Answers, Holdings, fresh}
-use Rattle.mscp_control.specs.Legal.{IsLegal}
-use Rattle.mscp_control.proofs.Bridge.Following.{none_held, turns}
-use Rattle.mscp_control.proofs.Bridge.Legals.{legal_more}
-use Rattle.mscp_control.proofs.Bridge.Owning.{owner_kept, unbegun_kept}
-use Rattle.mscp_control.proofs.Bridge.Sending.{Agrees}
-use Rattle.mscp_control.proofs.Bridge.Stepped.{Turns}
+use Rattle.mscp_controller.specs.History.{Moment, Trace}
+use Rattle.mscp_controller.specs.Holdings.{Answers, Holdings, fresh}
+use Rattle.mscp_controller.specs.Legal.{IsLegal}
+use Rattle.mscp_controller.proofs.Bridge.Following.{none_held, turns}
+use Rattle.mscp_controller.proofs.Bridge.Legals.{legal_more}
+use Rattle.mscp_controller.proofs.Bridge.Owning.{owner_kept, unbegun_kept}
+use Rattle.mscp_controller.proofs.Bridge.Sending.{Agrees}
+use Rattle.mscp_controller.proofs.Bridge.Stepped.{Turns}
 use Rattle.mscp_judge.specs.declared.naming.Named.{Named}
+use Rattle.mscp_judge.specs.declared.naming.Wanted.{Wanted}
 use Rattle.mscp_judge.specs.Naming.{IsNamed}
 use Rattle.mscp_judge.specs.Standing.{Led, with_picker}
 
 -- one more moment
-pub led_more : (old mid new : Holdings Named) (ms : Trace) (name : Named) (e : Event) (n : Entry) → Led old ms mid
-    → Answers (IsNamed name) (with_picker mid name) e n new → Led old (ms ++ (e, n) ∷ []) new
+pub led_more : (old mid new : Holdings Wanted) (ms : Trace) (name : Option Named) (e : Event) (n : Entry)
+    → Led old ms mid → Answers (IsNamed name) (with_picker mid name) e n new → Led old (ms ++ (e, n) ∷ []) new
 led_more old mid new [] name e n l a =
-    (name, new, subst (λ (h : Holdings Named). Answers (IsNamed name) (with_picker h name) e n new) l a, refl)
+    (name, new, subst (λ (h : Holdings Wanted). Answers (IsNamed name) (with_picker h name) e n new) l a, refl)
 led_more old mid new (m ∷ ms) name e n l a = (l.0, l.1, l.2, led_more l.1 mid new ms name e n l.3 a)
 
 -- what is known after a legal trace
-pub record Follow (c : Settings) (t : Trace) (h : Holdings Named) : Type 0 where
+pub record Follow (c : Settings) (t : Trace) (h : Holdings Wanted) : Type 0 where
   pub settings : h.settings ≡ c
   pub legal : IsLegal c t
   pub agrees : Agrees c t h
   pub unbegun : h.begun ≡ None
 
-pub turn_of : (c : Settings) (t : Trace) (h h' : Holdings Named) (name : Named) (event : Event) (entry : Entry)
+pub turn_of : (c : Settings) (t : Trace) (h h' : Holdings Wanted) (name : Option Named) (event : Event) (entry : Entry)
     → IsValid c → Follow c t h → Answers (IsNamed name) (with_picker h name) event entry h'
     → Turns c (IsNamed name) t (event, entry) h.begun h'
 turn_of c t h h' name event entry v k r =
     let picks = IsNamed name in
     let m : Moment = (event, entry) in
-    let g : Holdings Named = with_picker h name in
+    let g : Holdings Wanted = with_picker h name in
     let a : Agrees c t g = record { follows = k.agrees.follows; driven = k.agrees.driven } in
     subst (λ s. Turns s picks t m h.begun h') k.settings
     (turns picks g h' t event entry (subst IsValid (sym k.settings) v) (subst (λ s. Agrees s t g) (sym k.settings) a) r)
 
-pub follow_more : (c : Settings) (t : Trace) (h h' : Holdings Named) (name : Named) (event : Event) (entry : Entry)
-    → IsValid c → Follow c t h → Answers (IsNamed name) (with_picker h name) event entry h'
+pub follow_more : (c : Settings) (t : Trace) (h h' : Holdings Wanted) (name : Option Named) (event : Event)
+    (entry : Entry) → IsValid c → Follow c t h → Answers (IsNamed name) (with_picker h name) event entry h'
     → Follow c (t ++ (event, entry) ∷ []) h'
 follow_more c t h h' name event entry v k r =
     let turn = turn_of c t h h' name event entry v k r in
-    let g : Holdings Named = with_picker h name in
+    let g : Holdings Wanted = with_picker h name in
     record {
       settings = (owner_kept (IsNamed name) g h' event entry r).0 ∙ k.settings;
       legal = legal_more c t (event, entry) k.legal turn.sends.right;
@@ -55,15 +56,15 @@ follow_more c t h h' name event entry v k r =
       unbegun = unbegun_kept (IsNamed name) g h' event entry k.unbegun r;
     }
 
-follow_on : (c : Settings) (t : Trace) (h h' : Holdings Named) (ms : Trace) → IsValid c → Follow c t h → Led h ms h'
+follow_on : (c : Settings) (t : Trace) (h h' : Holdings Wanted) (ms : Trace) → IsValid c → Follow c t h → Led h ms h'
     → Follow c (t ++ ms) h'
-follow_on c t h h' [] v k l = subst (λ (x : Holdings Named). Follow c (t ++ []) x) (sym l)
+follow_on c t h h' [] v k l = subst (λ (x : Holdings Wanted). Follow c (t ++ []) x) (sym l)
     (subst (λ u. Follow c u h) (sym (append-nil t)) k)
 follow_on c t h h' (m ∷ ms) v k l =
     subst (λ u. Follow c u h') (append_assoc t (m ∷ []) ms)
     (follow_on c (t ++ m ∷ []) l.1 h' ms v (follow_more c t h l.1 l.0 m.0 m.1 v k l.2) l.3)
 
-pub follow : (c : Settings) (begun : Named) (t : Trace) (h : Holdings Named) → IsValid c → Led (fresh c begun) t h
+pub follow : (c : Settings) (begun : Wanted) (t : Trace) (h : Holdings Wanted) → IsValid c → Led (fresh c begun) t h
     → Follow c t h
 follow c begun t h v l =
     follow_on c [] (fresh c begun) h t v

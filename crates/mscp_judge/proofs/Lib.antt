@@ -20,5 +20,6 @@ mod Ahead
 mod Printed
 mod Answering
 mod Telling
+mod Righting
 mod Passing
 pub mod Exactly

@@ -11,9 +11,9 @@ use Rattle.mscp_events.specs.Settings.{Settings}
 use Rattle.mscp_events.specs.Both.{Both}
 use Rattle.mscp_events.specs.declared.event.Event.{Event}
 use Rattle.mscp_events.specs.declared.event.Event.TheVariants as events
-use Rattle.mscp_control.proofs.Bridge.Judging.{command_is}
+use Rattle.mscp_controller.proofs.Bridge.Judging.{command_is}
 use Rattle.mscp_host.specs.Accounts.{Account}
-use Rattle.mscp_text.specs.Steps.{◌>>=◌}
+use Rattle.mscp_packet.specs.Steps.{◌>>=◌}
 use Rattle.mscp_events.specs.declared.block.Block.{Block}
 use Rattle.mscp_reader.specs.Lexical.{lines}
 use Rattle.mscp_reader.specs.Requests.{events_of, request}

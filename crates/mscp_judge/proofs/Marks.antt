@@ -7,10 +7,10 @@ use Rattle.std.proofs.Math.Seq.{get_or-append_seam, take-append_seam}
 use Rattle.mscp_events.specs.declared.connection.Connection.TheVariants.{First}
 use Rattle.mscp_events.specs.declared.event.Event.{Event}
 use Rattle.mscp_events.specs.declared.event.Event.TheVariants as events
-use Rattle.mscp_control.specs.declared.entry.Entry.TheVariants as entries
+use Rattle.mscp_controller.specs.declared.entry.Entry.TheVariants as entries
 use Rattle.mscp_events.specs.Settings.{Settings}
-use Rattle.mscp_control.specs.History.{Moment, Trace, moment}
-use Rattle.mscp_control.specs.Legal.{IsLegal, IsRight}
+use Rattle.mscp_controller.specs.History.{Moment, Trace, moment}
+use Rattle.mscp_controller.specs.Legal.{IsLegal, IsRight}
 use Rattle.mscp_script.specs.Text.{entry_lines}
 use Rattle.mscp_judge.specs.Logs.{Asked, IsLegalLog, Mark, MayGoOn, Told, answers_in, events_in, told, transcript, whole, written}
 

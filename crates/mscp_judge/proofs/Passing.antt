@@ -8,7 +8,7 @@ use Rattle.std.proofs.lemmas.Bool.Decides.{nat_tests}
 use Rattle.mscp_events.specs.Settings.{Settings}
 use Rattle.mscp_events.specs.declared.memory.OutOfMemory.{OutOfMemory}
 use Rattle.mscp_text.specs.Lines.{line}
-use Rattle.mscp_text.specs.Steps.{◌>>=◌}
+use Rattle.mscp_packet.specs.Steps.{◌>>=◌}
 use Rattle.mscp_reader.specs.Grammar.{said_at}
 use Rattle.mscp_reader.specs.Outcome.{in_line}
 use Rattle.mscp_reader.proofs.PlainLines.{plain_lines}

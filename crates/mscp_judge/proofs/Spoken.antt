@@ -1,6 +1,6 @@
 -- The line of a step says which command was served.
 use Rattle.std.proofs.Common.{◌≡◌, ◌≢◌, ◌==◌, ℕ, ◌<◌, ◌≤◌, ◌^◌, true, not, List, [], ◌∷◌, ◌++◌, length, refl, ap, sym, ◌∙◌, arith, append_assoc}
-use Rattle.std.specs.Prelude.{codes, nat_le, Ok, Option}
+use Rattle.std.specs.Prelude.{codes, nat_le, Ok, Option, Some}
 use Rattle.std.specs.Fmt.{decimal}
 use Rattle.std.specs.List.{list_all}
 use Rattle.std.specs.Str.Parse.{AllDigits}
@@ -20,7 +20,7 @@ use Rattle.mscp_reader.specs.Lexical.{is_digit, number, wide, words}
 use Rattle.mscp_reader.proofs.Digits.{few_digits}
 use Rattle.mscp_reader.proofs.PlainLines.{AllSolid, solid_digits, word_front}
 use Rattle.mscp_script.specs.Text.{block_word, connection_word, ended_part, step_line}
-use Rattle.mscp_judge.specs.Naming.{name_in, name_of, numbered, served}
+use Rattle.mscp_judge.specs.Naming.{name_in, numbered, served, wanted_name}
 use Rattle.mscp_judge.proofs.Feeds.{NoFeed, front_of}
 use Rattle.mscp_judge.proofs.Unique.{Says}
 
@@ -82,14 +82,14 @@ two_words word bytes n h some solid =
     ∙ word_front (decimal n) (32 ∷ bytes) (some_digits n h) (solid_digits (decimal n) (decimal_digits n h)) refl)
 
 first_name : (n : ℕ) (rest : List (List ℕ)) → n < 2 ^ 32
-    → name_of (name_in (codes "serve" ∷ decimal n ∷ rest)) ≡ name_on First n
+    → wanted_name (name_in (codes "serve" ∷ decimal n ∷ rest)) ≡ Some (name_on First n)
 unfolding name_in served
-first_name n rest h = ap (λ r. name_of (numbered First r)) (wide_decimal n h)
+first_name n rest h = ap (λ r. wanted_name (numbered First r)) (wide_decimal n h)
 
 second_name : (n : ℕ) (rest : List (List ℕ)) → n < 2 ^ 32
-    → name_of (name_in (codes "second" ∷ codes "serve" ∷ decimal n ∷ rest)) ≡ name_on Second n
+    → wanted_name (name_in (codes "second" ∷ codes "serve" ∷ decimal n ∷ rest)) ≡ Some (name_on Second n)
 unfolding name_in served
-second_name n rest h = ap (λ r. name_of (numbered Second r)) (wide_decimal n h)
+second_name n rest h = ap (λ r. wanted_name (numbered Second r)) (wide_decimal n h)
 
 -- ---- the line of a step
 
@@ -122,14 +122,14 @@ head_fed Second n h =
 
 -- the words of a line that begins so
 says_front : (via : Connection) (n : ℕ) (more : List ℕ) → n < 2 ^ 32
-    → name_of (name_in (words (head via n ++ more))) ≡ name_on via n
+    → wanted_name (name_in (words (head via n ++ more))) ≡ Some (name_on via n)
 says_front First n more h =
-    ap (λ xs. name_of (name_in (words (codes "serve " ++ xs)))) (append_assoc (decimal n) (32 ∷ []) more)
-    ∙ (ap (λ ws. name_of (name_in ws)) (two_words (codes "serve") more n h (omega arith) refl)
+    ap (λ xs. wanted_name (name_in (words (codes "serve " ++ xs)))) (append_assoc (decimal n) (32 ∷ []) more)
+    ∙ (ap (λ ws. wanted_name (name_in ws)) (two_words (codes "serve") more n h (omega arith) refl)
     ∙ first_name n (words (32 ∷ more)) h)
 says_front Second n more h =
-    ap (λ xs. name_of (name_in (words (codes "second serve " ++ xs)))) (append_assoc (decimal n) (32 ∷ []) more)
-    ∙ (ap (λ ws. name_of (name_in ws)) (word_front (codes "second")
+    ap (λ xs. wanted_name (name_in (words (codes "second serve " ++ xs)))) (append_assoc (decimal n) (32 ∷ []) more)
+    ∙ (ap (λ ws. wanted_name (name_in ws)) (word_front (codes "second")
     (32 ∷ (codes "serve" ++ (32 ∷ (decimal n ++ (32 ∷ more))))) (omega arith) refl refl
     ∙ ap (λ ws. codes "second" ∷ ws) (after_space (codes "serve" ++ (32 ∷ (decimal n ++ (32 ∷ more))))
     ∙ two_words (codes "serve") more n h (omega arith) refl))
@@ -146,4 +146,4 @@ line_says line X Y (Served via n unit lbn started seek ended) e = λ h.
     (tail unit lbn seek ended)) in
     let f = front_of line X (head via n) (tail unit lbn seek ended ++ Y) (head_fed via n h)
     (e ∙ (ap (λ xs. xs ++ Y) whole ∙ append_assoc (head via n) (tail unit lbn seek ended) Y)) in
-    ap (λ xs. name_of (name_in (words xs))) f.1 ∙ says_front via n f.0 h
+    ap (λ xs. wanted_name (name_in (words xs))) f.1 ∙ says_front via n f.0 h

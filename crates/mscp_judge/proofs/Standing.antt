@@ -3,10 +3,10 @@ use Rattle.std.proofs.Common.{◌≡◌, ◌≢◌, inl, ⊎_elim, ℕ, List, []
 use Rattle.std.proofs.lemmas.List.{append_cancel_left}
 use Rattle.mscp_events.specs.declared.event.Event.{Event}
 use Rattle.mscp_events.specs.Settings.{Settings}
-use Rattle.mscp_control.specs.History.{Trace}
-use Rattle.mscp_control.specs.Holdings.{Holdings}
-use Rattle.mscp_control.specs.Legal.{IsLegal}
-use Rattle.mscp_judge.specs.declared.naming.Named.{Named}
+use Rattle.mscp_controller.specs.History.{Trace}
+use Rattle.mscp_controller.specs.Holdings.{Holdings}
+use Rattle.mscp_controller.specs.Legal.{IsLegal}
+use Rattle.mscp_judge.specs.declared.naming.Wanted.{Wanted}
 use Rattle.mscp_judge.specs.Logs.{Asked, Mark, answers_in, events_in, told, transcript, whole, written}
 use Rattle.mscp_judge.specs.Standing.{BeginsWith, Held, Stood}
 use Rattle.mscp_judge.proofs.Feeds.{NoFeed, ends_behind, first_line, some_none}
@@ -27,13 +27,13 @@ pub record Goes (c : Settings) (parts : List Trace) (now : Trace) (due : List �
   pub are : others ≡ parts ++ (now ++ next) ∷ rest
   pub left_is : left ≡ told due ++ (told (answers_in next) ++ transcript rest)
 
-pub held_of : (c : Settings) (marks : List Mark) (h : Holdings Named) (due : List ℕ) (owed : List Event)
+pub held_of : (c : Settings) (marks : List Mark) (h : Holdings Wanted) (due : List ℕ) (owed : List Event)
     (ahead : List Mark) → Stood c marks h due owed ahead → Held c marks h due owed
 held_of c marks h due owed ahead s =
     record { parts = s.parts; now = s.now; begun = s.begun; valid = s.valid; led = s.led; said = s.said }
 
 -- the marks of a trace that goes on so
-pub known_marks : (c : Settings) (marks : List Mark) (h : Holdings Named) (due : List ℕ) (owed : List Event)
+pub known_marks : (c : Settings) (marks : List Mark) (h : Holdings Wanted) (due : List ℕ) (owed : List Event)
     (s : Held c marks h due owed) (next : Trace) (rest : List Trace) → events_in next ≡ owed
     → transcript (s.parts ++ (s.now ++ next) ∷ rest)
     ≡ marks ++ (told due ++ (told (answers_in next) ++ transcript rest))
@@ -52,7 +52,7 @@ known_marks c marks h due owed s next rest asks =
     ∙ (ap (λ ms. P ++ ms) part ∙ (sym (append_assoc P (Asked (events_in s.now ++ owed) ∷ N) X)
     ∙ (ap (λ ms. ms ++ X) (sym s.said) ∙ append_assoc marks (told due) X)))
 
-pub goes : (c : Settings) (marks : List Mark) (h : Holdings Named) (due : List ℕ) (owed : List Event)
+pub goes : (c : Settings) (marks : List Mark) (h : Holdings Wanted) (due : List ℕ) (owed : List Event)
     (ahead : List Mark) (s : Stood c marks h due owed ahead) (others : List Trace) (more : List Mark)
     → IsLegal c (whole others) → marks ++ (ahead ++ more) ≡ transcript others
     → Goes c s.parts s.now due owed others (ahead ++ more)
@@ -78,7 +78,7 @@ leads line due more X e =
 -- ---- a line that tells
 
 -- with the line ahead
-unfoldable pub ahead_of : (c : Settings) (marks : List Mark) (h : Holdings Named) (due : List ℕ) (owed : List Event)
+unfoldable pub ahead_of : (c : Settings) (marks : List Mark) (h : Holdings Wanted) (due : List ℕ) (owed : List Event)
     (ahead : List Mark) → Stood c marks h due owed [] → Stood c marks h due owed ahead
 ahead_of c marks h due owed ahead s = record {
   parts = s.parts;
@@ -92,7 +92,7 @@ ahead_of c marks h due owed ahead s = record {
 }
 
 -- the line was due
-unfoldable pub told_on : (c : Settings) (marks : List Mark) (h : Holdings Named) (due : List ℕ) (owed : List Event)
+unfoldable pub told_on : (c : Settings) (marks : List Mark) (h : Holdings Wanted) (due : List ℕ) (owed : List Event)
     (line rest : List ℕ) → Stood c marks h due owed (told_line line) → due ≡ line ++ 10 ∷ rest
     → Stood c (marks ++ told_line line) h rest owed []
 told_on c marks h due owed line rest s e =
@@ -110,7 +110,7 @@ told_on c marks h due owed line rest s e =
     }
 
 -- all that was due was told
-unfoldable pub told_all_on : (c : Settings) (marks : List Mark) (h : Holdings Named) (due : List ℕ) (owed : List Event)
+unfoldable pub told_all_on : (c : Settings) (marks : List Mark) (h : Holdings Wanted) (due : List ℕ) (owed : List Event)
     → Stood c marks h due owed [] → Stood c (marks ++ told due) h [] owed []
 told_all_on c marks h due owed s = record {
   parts = s.parts;
@@ -124,7 +124,7 @@ told_all_on c marks h due owed s = record {
 }
 
 -- another line was due
-pub refused : (c : Settings) (marks : List Mark) (h : Holdings Named) (due : List ℕ) (owed : List Event)
+pub refused : (c : Settings) (marks : List Mark) (h : Holdings Wanted) (due : List ℕ) (owed : List Event)
     (line : List ℕ) → Stood c marks h due owed (told_line line) → due ≢ [] → NoFeed line → ¬ (BeginsWith due line)
     → ¬ (GoesOn c (marks ++ told_line line))
 refused c marks h due owed line s some fed not_it g =
@@ -137,7 +137,7 @@ refused c marks h due owed line s some fed not_it g =
     not_it (it.0, f.1 ∙ it.1)) s.ends
 
 -- nothing was due, and no step is missing
-pub unasked : (c : Settings) (marks : List Mark) (h : Holdings Named) (line : List ℕ) → Stood c marks h [] [] []
+pub unasked : (c : Settings) (marks : List Mark) (h : Holdings Wanted) (line : List ℕ) → Stood c marks h [] [] []
     → ¬ (GoesOn c (marks ++ told_line line))
 unasked c marks h line s g =
     let e = sym (append_assoc marks (told_line line) g.0) ∙ g.3 in

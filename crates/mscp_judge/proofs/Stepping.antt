@@ -1,17 +1,19 @@
 -- How a judge stands after a step was answered.
 use Rattle.std.proofs.Common.{◌≡◌, ℕ, List, [], ◌∷◌, ◌++◌, ap, sym, ◌∙◌, subst, append_assoc, append-nil}
+use Rattle.std.specs.Prelude.{Option}
 use Rattle.mscp_events.specs.declared.block.Block.{Block}
 use Rattle.mscp_events.specs.declared.event.Event.{Event}
 use Rattle.mscp_events.specs.declared.event.Event.TheVariants as events
-use Rattle.mscp_control.specs.declared.entry.Entry.{Entry}
-use Rattle.mscp_control.specs.declared.entry.Entry.TheVariants as entries
+use Rattle.mscp_controller.specs.declared.entry.Entry.{Entry}
+use Rattle.mscp_controller.specs.declared.entry.Entry.TheVariants as entries
 use Rattle.mscp_events.specs.Settings.{Settings}
-use Rattle.mscp_control.specs.History.{Moment, Trace}
-use Rattle.mscp_control.specs.Holdings.{Answers, Holdings, fresh}
-use Rattle.mscp_control.specs.Legal.{IsRight}
+use Rattle.mscp_controller.specs.History.{Moment, Trace}
+use Rattle.mscp_controller.specs.Holdings.{Answers, Holdings, fresh}
+use Rattle.mscp_controller.specs.Legal.{IsRight}
 use Rattle.mscp_reader.specs.Lexical.{words}
 use Rattle.mscp_script.specs.Text.{entry_lines}
 use Rattle.mscp_judge.specs.declared.naming.Named.{Named}
+use Rattle.mscp_judge.specs.declared.naming.Wanted.{Wanted}
 use Rattle.mscp_judge.specs.Logs.{Asked, Mark, answers_in, events_in, told, transcript, whole}
 use Rattle.mscp_judge.specs.Naming.{IsNamed, name_in}
 use Rattle.mscp_judge.specs.Standing.{Held, Led, Stood, with_picker}
@@ -23,8 +25,8 @@ use Rattle.mscp_judge.proofs.Unique.{one_report}
 use Rattle.mscp_judge.proofs.Standing.{goes, leads, told_line}
 
 -- the moment of a step is right, and no other is, if it is the line's command that starts
-pub step_is : (c : Settings) (marks : List Mark) (h h' : Holdings Named) (k : Block) (owed : List Event) (line : List ℕ)
-    (entry : Entry) (s : Stood c marks h [] (events.Step k ∷ owed) [])
+pub step_is : (c : Settings) (marks : List Mark) (h h' : Holdings Wanted) (k : Block) (owed : List Event)
+    (line : List ℕ) (entry : Entry) (s : Stood c marks h [] (events.Step k ∷ owed) [])
     → Answers (IsNamed (name_in (words line))) (with_picker h (name_in (words line))) (events.Step k) entry h'
     → (other : Entry) (X Y : List ℕ) → IsRight c (whole s.parts ++ s.now) (events.Step k) other
     → line ++ 10 ∷ X ≡ entry_lines other ++ Y → entry ≡ other
@@ -60,7 +62,7 @@ said_more marks P now m owed e =
     ∙ ap (λ xs. P ++ Asked xs ∷ told (answers_in (now ++ m ∷ []))) es))
 
 -- a step is answered, at which the command starts that the line names, if it may
-unfoldable pub step_on : (c : Settings) (marks : List Mark) (h h' : Holdings Named) (k : Block) (owed : List Event)
+unfoldable pub step_on : (c : Settings) (marks : List Mark) (h h' : Holdings Wanted) (k : Block) (owed : List Event)
     (line : List ℕ) (entry : Entry) → Stood c marks h [] (events.Step k ∷ owed) []
     → Answers (IsNamed (name_in (words line))) (with_picker h (name_in (words line))) (events.Step k) entry h'
     → Stood c marks h' (entry_lines entry) owed (told_line line)
@@ -101,8 +103,8 @@ step_on c marks h h' k owed line entry s a =
     }
 
 -- a step that is missing is answered
-pub step_held : (c : Settings) (marks : List Mark) (h h' : Holdings Named) (k : Block) (owed : List Event)
-    (name : Named) (entry : Entry) → Held c marks h [] (events.Step k ∷ owed)
+pub step_held : (c : Settings) (marks : List Mark) (h h' : Holdings Wanted) (k : Block) (owed : List Event)
+    (name : Option Named) (entry : Entry) → Held c marks h [] (events.Step k ∷ owed)
     → Answers (IsNamed name) (with_picker h name) (events.Step k) entry h' → Held c marks h' (entry_lines entry) owed
 step_held c marks h h' k owed name entry s a =
     let m : Moment = (events.Step k, entry) in

@@ -1,6 +1,6 @@
 -- What one moment more adds to the totals of a run.
 use Rattle.std.proofs.Common.{◌≡◌, ◌≢◌, ◌⊎◌, inl, inr, ⊎_elim, ℕ, zero, suc, ◌+◌, ◌≤◌, Bool, true, false, cond, List, [], ◌∷◌, ◌++◌, map, take, get_or, length, refl, ap, sym, ◌∙◌, subst, arith, length-append}
-use Rattle.std.specs.Prelude.{Contains, filter, not, Ok, Err}
+use Rattle.std.specs.Prelude.{Contains, filter, not, Ok, Err, Option}
 use Rattle.std.specs.List.{AllByRecursion}
 use Rattle.std.proofs.lemmas.List.{take-append-le, take_all}
 use Rattle.std.proofs.lemmas.List.Elements.{All-contains, All-contains_itself, recursion_from_All, All-from_recursion}
@@ -14,28 +14,29 @@ use Rattle.mscp_queue.specs.Records.{Record, record_at}
 use Rattle.mscp_queue.proofs.Lists.{every_append, every_mapped, every_kept}
 use Rattle.mscp_events.specs.declared.event.Event.{Event}
 use Rattle.mscp_events.specs.declared.event.Event.TheVariants as events
-use Rattle.mscp_control.specs.declared.entry.Entry.{Entry}
-use Rattle.mscp_control.specs.declared.entry.Entry.TheVariants as entries
-use Rattle.mscp_control.specs.declared.entry.Sent.{Sent}
-use Rattle.mscp_control.specs.declared.entry.Sent.TheVariants as sents
-use Rattle.mscp_control.specs.Arrival.{is_queued}
-use Rattle.mscp_control.specs.Credits.{arrival}
+use Rattle.mscp_controller.specs.declared.entry.Entry.{Entry}
+use Rattle.mscp_controller.specs.declared.entry.Entry.TheVariants as entries
+use Rattle.mscp_controller.specs.declared.entry.Sent.{Sent}
+use Rattle.mscp_controller.specs.declared.entry.Sent.TheVariants as sents
+use Rattle.mscp_controller.specs.Arrival.{is_queued}
+use Rattle.mscp_controller.specs.Credits.{arrival}
 use Rattle.mscp_events.specs.Settings.{IsValid, Settings, bound}
-use Rattle.mscp_control.specs.History.{Moment, Trace, is_step, queues}
-use Rattle.mscp_control.specs.Commands.{ends_in, name, waiting}
-use Rattle.mscp_control.specs.Passing.{passed}
-use Rattle.mscp_control.specs.Figures.{figure, figure_of}
-use Rattle.mscp_control.specs.Headline.{EachWaiting}
-use Rattle.mscp_control.specs.Holdings.{Answers, Holdings}
-use Rattle.mscp_control.specs.Legal.{IsRight}
-use Rattle.mscp_control.proofs.Promise.Apart.{name_last}
-use Rattle.mscp_control.proofs.Promise.Arrivals.{arrives, queued_right, taken_when}
-use Rattle.mscp_control.proofs.Promise.Falling.{falling}
-use Rattle.mscp_control.proofs.Promise.Grows.{is_waiting_last, waiting_more}
-use Rattle.mscp_control.proofs.Promise.Progress.{progress, waits_in}
-use Rattle.mscp_control.proofs.Bridge.Held.{figure_of_held, held_of}
+use Rattle.mscp_controller.specs.History.{Moment, Trace, is_step, queues}
+use Rattle.mscp_controller.specs.Commands.{ends_in, name, waiting}
+use Rattle.mscp_controller.specs.Passing.{passed}
+use Rattle.mscp_controller.specs.Figures.{figure, figure_of}
+use Rattle.mscp_controller.specs.Headline.{EachWaiting}
+use Rattle.mscp_controller.specs.Holdings.{Answers, Holdings}
+use Rattle.mscp_controller.specs.Legal.{IsRight}
+use Rattle.mscp_controller.proofs.Promise.Apart.{name_last}
+use Rattle.mscp_controller.proofs.Promise.Arrivals.{arrives, queued_right, taken_when}
+use Rattle.mscp_controller.proofs.Promise.Falling.{falling}
+use Rattle.mscp_controller.proofs.Promise.Grows.{is_waiting_last, waiting_more}
+use Rattle.mscp_controller.proofs.Promise.Progress.{progress, waits_in}
+use Rattle.mscp_controller.proofs.Bridge.Held.{figure_of_held, held_of}
 use Rattle.mscp_script.specs.Text.{step_count}
 use Rattle.mscp_judge.specs.declared.naming.Named.{Named}
+use Rattle.mscp_judge.specs.declared.naming.Wanted.{Wanted}
 use Rattle.mscp_judge.specs.declared.totals.Totals.{Totals}
 use Rattle.mscp_judge.specs.Naming.{IsNamed}
 use Rattle.mscp_judge.specs.Standing.{with_picker}
@@ -117,7 +118,7 @@ unfolding number_in
 own_name c via t b reference h q =
     ap number_in ((arrives c via t b (sents.Queued reference) h).is ∙ ap (taken_when c via t (command_of b)) q)
 
-queued_figure : (c : Settings) (t : Trace) (h : Holdings Named) (event : Event) (entry : Entry)
+queued_figure : (c : Settings) (t : Trace) (h : Holdings Wanted) (event : Event) (entry : Entry)
     → IsRight c t event entry → h.settings ≡ c
     → h.waiting ≡ map (held_of (t ++ (event, entry) ∷ [])) (waiting (t ++ (event, entry) ∷ []))
     → queues entry ≡ true → figure_queued h entry ≡ figure_of c (t ++ (event, entry) ∷ [])
@@ -140,7 +141,7 @@ queued_figure c t h event (entries.Stepped report) r s w q = absurd (false≢tru
 queued_figure c t h event (entries.Looked list) r s w q = absurd (false≢true q)
 
 -- of no other is one told
-none_queued : (h : Holdings Named) (entry : Entry) → figure_queued h entry ≢ 0 → queues entry ≡ true
+none_queued : (h : Holdings Wanted) (entry : Entry) → figure_queued h entry ≢ 0 → queues entry ≡ true
 none_queued h (entries.Sent via (Ok (sents.Queued reference))) some = refl
 none_queued h (entries.Sent via (Ok (sents.Answered reference aborted))) some = absurd (some refl)
 none_queued h (entries.Sent via (Err fault)) some = absurd (some refl)
@@ -198,8 +199,9 @@ totals_none c totals m s f b p =
     nobody zero x w = let l = w.1 in omega (arith, l)
     nobody (suc i) x w = let l = w.1 in omega (arith, l)
 
-pub totals_more : (c : Settings) (t : Trace) (h h' : Holdings Named) (name : Named) (event : Event) (entry : Entry)
-    (old new : Totals) → IsValid c → Follow c t h → Answers (IsNamed name) (with_picker h name) event entry h'
+pub totals_more : (c : Settings) (t : Trace) (h h' : Holdings Wanted) (name : Option Named) (event : Event)
+    (entry : Entry) (old new : Totals) → IsValid c → Follow c t h
+    → Answers (IsNamed name) (with_picker h name) event entry h'
     → AreTotals c t old → Adds h' entry old new → AreTotals c (t ++ (event, entry) ∷ []) new
 totals_more c t h h' picker event entry old new v k r a adds =
     let m : Moment = (event, entry) in

@@ -1,23 +1,24 @@
 -- How a judge stands after all that was due was told.
 use Rattle.std.proofs.Common.{◌≡◌, ◌-◌, ◌<◌, [], ◌++◌, length, refl, ap, sym, ◌∙◌, subst, arith, append_assoc, append-nil, ◌≤◌, List, ℕ, ◌∷◌}
-use Rattle.std.specs.Prelude.{codes, OnOk, Result, Ok, Err}
+use Rattle.std.specs.Prelude.{codes, OnOk, Result, Ok, Err, Option, Some, None}
 use Rattle.std.specs.List.{flat_map}
 use Rattle.mscp_events.specs.declared.block.Block.{Block}
 use Rattle.mscp_queue.specs.declared.report.Report.{Report}
 use Rattle.mscp_queue.specs.declared.report.Report.TheVariants.{Idle, Served}
 use Rattle.mscp_events.specs.declared.event.Event.TheVariants as events
-use Rattle.mscp_control.specs.declared.entry.Entry.{Entry}
-use Rattle.mscp_control.specs.declared.entry.Entry.TheVariants as entries
+use Rattle.mscp_controller.specs.declared.entry.Entry.{Entry}
+use Rattle.mscp_controller.specs.declared.entry.Entry.TheVariants as entries
 use Rattle.mscp_events.specs.declared.memory.OutOfMemory.{OutOfMemory}
 use Rattle.mscp_events.specs.Settings.{IsValid, Settings}
-use Rattle.mscp_control.specs.Holdings.{Answers, Holdings}
+use Rattle.mscp_controller.specs.Holdings.{Answers, Holdings}
 use Rattle.mscp_text.specs.Lines.{line}
 use Rattle.mscp_reader.specs.Lexical.{words}
 use Rattle.mscp_script.specs.Text.{Reported, entry_lines, step_line, with_entry}
 use Rattle.mscp_judge.specs.declared.judge.Judge.{Judge}
 use Rattle.mscp_judge.specs.declared.naming.Named.{Named}
+use Rattle.mscp_judge.specs.declared.naming.Wanted.{Wanted}
 use Rattle.mscp_judge.specs.Logs.{AreAnswers, Log, telling}
-use Rattle.mscp_judge.specs.Naming.{IsNamed, name_in, nobody, served}
+use Rattle.mscp_judge.specs.Naming.{IsNamed, name_in, served}
 use Rattle.mscp_judge.specs.Standing.{BeginsWith, Came, Counted, IsNamedAhead, Stands, due, marked, owed, totals_of, with_picker}
 use Rattle.mscp_judge.proofs.Answering.{step_answers}
 use Rattle.mscp_judge.proofs.Coming.{held_settings, ready_step, right_step, stands_held, told_so}
@@ -54,7 +55,7 @@ stepped_answers (Ok x) old mid new report value short none =
 stepped_answers (Err x) old mid new report value short none = tt
 
 -- one line
-one_of : (all : List (List ℕ)) → length all ≡ 1 → (text : List ℕ) × (all ≡ text ∷ [])
+pub one_of : (all : List (List ℕ)) → length all ≡ 1 → (text : List ℕ) × (all ≡ text ∷ [])
 one_of [] e = absurd (omega (arith, e))
 one_of (text ∷ []) e = (text, refl)
 one_of (text ∷ other ∷ all) e = absurd (omega (arith, e))
@@ -63,7 +64,7 @@ one_of (text ∷ other ∷ all) e = absurd (omega (arith, e))
 -- that it was served
 pub told_step : {A : Type 0} (c : Settings) (log : Log) (named : Named) (rest left : List ℕ) (old mid new : Judge A)
     → IsNamedAhead rest named → Stands c log old → due old ≡ [] → 0 < old.owed
-    → Came named old mid (events.Step old.block) → mid.owed ≡ old.owed - 1 → mid.block ≡ old.block
+    → Came (Some named) old mid (events.Step old.block) → mid.owed ≡ old.owed - 1 → mid.block ≡ old.block
     → AreAnswers (due mid) 1 → rest ≡ due mid ++ left → new ≡ record mid { told = new.told } → due new ≡ []
     → Stands c (telling log (due mid)) new
 told_step {A} c log named rest left old mid new ahead s told some came w b a is kept none =
@@ -81,15 +82,15 @@ told_step {A} c log named rest left old mid new ahead s told some came w b a is 
 
 -- whatever its line is, the settings stay
 pub step_settings : {A : Type 0} (c : Settings) (log : Log) (named : Named) (old mid : Judge A) → Stands c log old
-    → due old ≡ [] → 0 < old.owed → Came named old mid (events.Step old.block) → mid.owed ≡ old.owed - 1
+    → due old ≡ [] → 0 < old.owed → Came (Some named) old mid (events.Step old.block) → mid.owed ≡ old.owed - 1
     → mid.block ≡ old.block → IsValid c × (mid.controller.settings ≡ c)
 step_settings c log named old mid s told some came w b =
-    held_settings c log mid (right_step c log named old mid (stands_held c log old s) told some came w b)
+    held_settings c log mid (right_step c log (Some named) old mid (stands_held c log old s) told some came w b)
 
 -- ---- an idle step
 
 -- where nothing waits a step is idle
-idle_entry : (name : Named) (h h' : Holdings Named) (k : Block) (entry : Entry) → h.waiting ≡ []
+idle_entry : (name : Option Named) (h h' : Holdings Wanted) (k : Block) (entry : Entry) → h.waiting ≡ []
     → Answers (IsNamed name) h (events.Step k) entry h' → entry ≡ entries.Stepped Idle
 idle_entry name h h' k (entries.Stepped Idle) none a = refl
 idle_entry name h h' k (entries.Stepped (Served via n unit lbn started seek ended)) none a =
@@ -98,12 +99,12 @@ idle_entry name h h' k (entries.Sent x y) none a = absurd a
 idle_entry name h h' k (entries.Taken x y) none a = absurd a
 idle_entry name h h' k (entries.Looked x) none a = absurd a
 
-idle_names : nobody ≡ name_in (words (codes "idle"))
+idle_names : None ≡ name_in (words (codes "idle"))
 unfolding words name_in served
 idle_names = refl
 
 -- its line was told
-pub told_idle : {A : Type 0} (c : Settings) (log : Log) (name : Named) (old mid new : Judge A) → name ≡ nobody
+pub told_idle : {A : Type 0} (c : Settings) (log : Log) (name : Option Named) (old mid new : Judge A) → name ≡ None
     → Stands c log old → old.controller.waiting ≡ [] → due old ≡ [] → 0 < old.owed
     → Came name old mid (events.Step old.block) → mid.owed ≡ old.owed - 1 → mid.block ≡ old.block
     → new ≡ record mid { told = new.told } → due new ≡ [] → Stands c (telling log (codes "idle\n")) new

@@ -1,8 +1,8 @@
 -- After a legal trace an event has one right answer, if at a step it is known which command it serves.
-use Rattle.std.proofs.Common.{◌≡◌, ◌⊎◌, inl, inr, ⊎_elim, ℕ, ◌<◌, ◌^◌, Bool, true, false, cond, ◌||◌, [], ◌∷◌, ◌++◌, map, get_or, length, refl, ap, sym, ◌∙◌, subst, arith, length-append}
-use Rattle.std.specs.Prelude.{filter}
+use Rattle.std.proofs.Common.{◌≡◌, ◌≢◌, ◌⊎◌, inl, inr, ⊎_elim, ℕ, ◌<◌, ◌^◌, Bool, true, false, cond, ◌||◌, [], ◌∷◌, ◌++◌, get_or, length, refl, ap, sym, ◌∙◌, subst, arith, length-append}
+use Rattle.std.specs.Prelude.{filter, Option, Some, None}
 use Rattle.std.specs.List.{AllByRecursion}
-use Rattle.std.proofs.lemmas.Bool.{eq-eqb, ltb-true, false≢true}
+use Rattle.std.proofs.lemmas.Bool.{cases_Bool, eq-eqb, ltb-true, false≢true}
 use Rattle.std.proofs.lemmas.List.{get_or-map, length-map}
 use Rattle.std.proofs.lemmas.List.Elements.{filter-append}
 use Rattle.std.proofs.Math.Seq.{get_or-append_seam}
@@ -14,28 +14,30 @@ use Rattle.mscp_queue.specs.declared.name.Name.{Name}
 use Rattle.mscp_queue.specs.declared.report.Report.{Report}
 use Rattle.mscp_queue.specs.declared.report.Report.TheVariants.{Idle, Served}
 use Rattle.mscp_queue.specs.Names.{name_on}
+use Rattle.mscp_queue.specs.Views.{choice_name}
 use Rattle.mscp_queue.proofs.Lists.{every_append, every_parts, every_weaker}
+use Rattle.mscp_queue.proofs.Named.{is_same, same_is}
 use Rattle.mscp_events.specs.declared.event.Event.{Event}
 use Rattle.mscp_events.specs.declared.event.Event.TheVariants as events
-use Rattle.mscp_control.specs.declared.entry.Entry.{Entry}
-use Rattle.mscp_control.specs.declared.entry.Entry.TheVariants as entries
+use Rattle.mscp_controller.specs.declared.entry.Entry.{Entry}
+use Rattle.mscp_controller.specs.declared.entry.Entry.TheVariants as entries
 use Rattle.mscp_events.specs.Settings.{Settings}
-use Rattle.mscp_control.specs.History.{Service, Trace, WhenStarted, is_step, service_in}
-use Rattle.mscp_control.specs.Commands.{done, in_service, is_waiting, name, reference, service_name, waiting}
-use Rattle.mscp_control.specs.Passing.{is_startable, startable}
-use Rattle.mscp_control.specs.Legal.{IsPick, IsRight, IsServed, choice}
-use Rattle.mscp_control.proofs.Promise.Among.{one_waits}
-use Rattle.mscp_control.proofs.Promise.Known.{Known}
-use Rattle.mscp_control.proofs.Promise.Starts.{startable_parts}
-use Rattle.mscp_control.proofs.Promise.Steady.{Single, idle_others}
-use Rattle.mscp_control.proofs.Promise.Waits.{cut, waits_below}
+use Rattle.mscp_controller.specs.History.{Service, Trace, WhenStarted, is_step, service_in}
+use Rattle.mscp_controller.specs.Commands.{done, in_service, is_waiting, name, reference, service_name, waiting}
+use Rattle.mscp_controller.specs.Passing.{is_startable, startable}
+use Rattle.mscp_controller.specs.Legal.{IsPick, IsRight, IsServed, choice, view}
+use Rattle.mscp_controller.proofs.Promise.Among.{one_waits}
+use Rattle.mscp_controller.proofs.Promise.Known.{Known}
+use Rattle.mscp_controller.proofs.Promise.Starts.{startable_parts}
+use Rattle.mscp_controller.proofs.Promise.Steady.{Single, idle_others}
+use Rattle.mscp_controller.proofs.Promise.Waits.{cut, waits_below}
 use Rattle.mscp_judge.specs.declared.naming.Named.{Named}
-use Rattle.mscp_judge.specs.Naming.{IsNamed, name_of}
+use Rattle.mscp_judge.specs.Naming.{IsNamed, choice_at, is_wanted, name_of, wanted_name}
 
 -- ---- who is served
 
 -- beside a command that is served no other is in service
-served_once : (c : Settings) (t : Trace) (y z : ℕ) → Single t (waiting t) → is_waiting t y ≡ true
+pub served_once : (c : Settings) (t : Trace) (y z : ℕ) → Single t (waiting t) → is_waiting t y ≡ true
     → is_waiting t z ≡ true → (in_service t y || is_startable c t y) ≡ true → 0 < done t z → z ≡ y
 served_once c t y z s w v n d =
     let at = cut t y (waits_below t y w) w in
@@ -49,7 +51,7 @@ served_once c t y z s w v n d =
     ⊎_elim (λ k. absurd (omega (arith, d, k))) (λ k. k) own
 
 -- where something may start, nothing is in service
-idle_where : (c : Settings) (t : Trace) (y z : ℕ) → is_waiting t y ≡ true → is_startable c t z ≡ true → done t y ≡ 0
+pub idle_where : (c : Settings) (t : Trace) (y z : ℕ) → is_waiting t y ≡ true → is_startable c t z ≡ true → done t y ≡ 0
 idle_where c t y z w s =
     let at = cut t y (waits_below t y w) w in
     (every_parts (λ x. done t x ≡ 0) at.0 (y ∷ at.1)
@@ -72,73 +74,103 @@ startable_place c t y w s =
       ap (λ xs. get_or xs (length F) 0) e ∙ get_or-append_seam F y B 0,
     )
 
--- a picker of a name picks the command of it, if that may start; and its number has 32 bits
-picked_one : (c : Settings) (t : Trace) (named : Named) (n : Name) (z : ℕ) → IsPick c (IsNamed named) t n
-    → is_waiting t z ≡ true → is_startable c t z ≡ true
-    → (reference t z < 2 ^ 32) × (name t z ≡ name_of named → n ≡ name_of named)
-picked_one c t named n z p w s =
+pub some_same : (a b : Name) → Some a ≡ Some b → a ≡ b
+some_same a b e = cc
+
+-- a choice that is named has the name
+named_is : (wanted : Option Named) (o : Choice) → is_wanted wanted o ≡ true → wanted_name wanted ≡ Some (choice_name o)
+named_is None o e = absurd (false≢true e)
+named_is (Some named) o e = ap Some (sym (same_is (choice_name o) (name_of named) e))
+
+is_named : (wanted : Option Named) (o : Choice) → wanted_name wanted ≡ Some (choice_name o) → is_wanted wanted o ≡ true
+is_named None o e = cc
+is_named (Some named) o e =
+    is_same (choice_name o) (name_of named) (sym (some_same (name_of named) (choice_name o) e))
+
+-- what is seen at a place is the command there
+seen_at : (c : Settings) (t : Trace) (i : ℕ) → i < length (startable c t)
+    → choice_at (view c t) i ≡ choice c t (get_or (startable c t) i 0)
+seen_at c t i l =
+    let none : Choice = record { connection = First; reference = 0; unit = 0; class = Unknown; cost = 0 } in
+    get_or-map (choice c t) (startable c t) i 0 none l
+
+-- the command that is named is picked, if it may start; and its number has 32 bits
+pub picked_one : (c : Settings) (t : Trace) (wanted : Option Named) (n : Name) (z : ℕ)
+    → IsPick c (IsNamed wanted) t n → is_waiting t z ≡ true → is_startable c t z ≡ true
+    → (reference t z < 2 ^ 32) × (wanted_name wanted ≡ Some (name t z) → n ≡ name t z)
+picked_one c t wanted n z p w s =
     let S = startable c t in
     let at = startable_place c t z w s in
-    let f = choice c t in
-    let none : Choice = record { connection = First; reference = 0; unit = 0; class = Unknown; cost = 0 } in
-    let l : at.0 < length (map f S) = subst (λ k. at.0 < k) (sym (length-map S f)) at.1 in
-    let own : get_or (map f S) at.0 none ≡ f z = get_or-map f S at.0 0 none at.1 ∙ ap f at.2 in
-    let picked : get_or (map f S) p.0 none ≡ f (get_or S p.0 0) = get_or-map f S p.0 0 none p.1 in
-    let q = p.3 at.0 l in (
-      subst (λ (o : Choice). o.reference < 2 ^ 32) own q.0,
-      λ e. sym p.2 ∙ (ap (λ (o : Choice). name_on o.connection o.reference) (sym picked)
-          ∙ q.1 (ap (λ (o : Choice). name_on o.connection o.reference) own ∙ e)),
+    let l : at.0 < length (view c t) = subst (λ k. at.0 < k) (sym (length-map S (choice c t))) at.1 in
+    let own : choice_at (view c t) at.0 ≡ choice c t z = seen_at c t at.0 at.1 ∙ ap (choice c t) at.2 in
+    let picked = seen_at c t p.0 p.1 in (
+      subst (λ (o : Choice). o.reference < 2 ^ 32) own (p.3.small at.0 l),
+      λ e. let there = p.3.named at.0 l (is_named wanted (choice_at (view c t) at.0)
+          (e ∙ ap (λ o. Some (choice_name o)) (sym own))) in
+          let same = sym (named_is wanted (choice_at (view c t) p.0) there) ∙ e in
+          sym p.2 ∙ (ap choice_name (sym picked) ∙ some_same (choice_name (choice_at (view c t) p.0)) (name t z) same),
     )
 
+-- and the oldest that may start, if none that may is named
+pub picked_first : (c : Settings) (t : Trace) (wanted : Option Named) (n : Name) → IsPick c (IsNamed wanted) t n
+    → wanted_name wanted ≢ Some n → n ≡ name t (get_or (startable c t) 0 0)
+picked_first c t wanted n p differ =
+    let there = choice_at (view c t) p.0 in
+    let own : choice_name there ≡ n = ap choice_name (seen_at c t p.0 p.1) ∙ p.2 in
+    let other : is_wanted wanted there ≡ false =
+    ⊎_elim (λ e. absurd (differ (named_is wanted there e ∙ ap Some own))) (λ e. e)
+    (cases_Bool (is_wanted wanted there)) in
+    sym p.2 ∙ ap (λ i. name t (get_or (startable c t) i 0)) (p.3.oldest other)
+
 -- the same name is known of two services of one step
-one_served : (c : Settings) (t : Trace) (k : Block) (named : Named) (s r : Service) (y z : ℕ) → Known c t
-    → IsServed c t k s y → (s.started ≡ true → IsPick c (IsNamed named) t (service_name s)) → IsServed c t k r z
-    → (r.reference < 2 ^ 32 → name_of named ≡ service_name r) → y ≡ z
-one_served c t k named s r y z known v picked u said =
+one_served : (c : Settings) (t : Trace) (k : Block) (wanted : Option Named) (s r : Service) (y z : ℕ) → Known c t
+    → IsServed c t k s y → (s.started ≡ true → IsPick c (IsNamed wanted) t (service_name s)) → IsServed c t k r z
+    → (r.reference < 2 ^ 32 → wanted_name wanted ≡ Some (service_name r)) → y ≡ z
+one_served c t k wanted s r y z known v picked u said =
     let both : (b : Bool) → in_service t z ≡ b → y ≡ z =
     λ b. elim b as (λ b. in_service t z ≡ b → y ≡ z) [
       | true ↦ λ e. sym (served_once c t y z known.steady.single v.waits u.waits v.next (ltb-true 0 (done t z) e))
       | false ↦ λ e. let starts : is_startable c t z ≡ true = ap (λ b. b || is_startable c t z) (sym e) ∙ u.next in
           let zero_done = idle_where c t y z v.waits starts in
           let p = picked (v.started ∙ eq-eqb (done t y) 0 zero_done) in
-          let q = picked_one c t named (service_name s) z p u.waits starts in
+          let q = picked_one c t wanted (service_name s) z p u.waits starts in
           let own : name t z ≡ service_name r = λ i. name_on (sym u.connection i) (sym u.reference i) in
           let mine : name t y ≡ service_name s = λ i. name_on (sym v.connection i) (sym v.reference i) in
           let same = said (subst (λ n. n < 2 ^ 32) (sym u.reference) q.0) in
-          one_waits t y z known.steady.apart v.waits u.waits (mine ∙ (q.1 (own ∙ sym same) ∙ (same ∙ sym own)))
+          one_waits t y z known.steady.apart v.waits u.waits (mine ∙ q.1 (same ∙ ap Some (sym own)))
     ] in
     both (in_service t z) refl
 
 -- ---- a step
 
 -- the name is that of the command that a report tells of
-abbrev pub Says : Named → Report → Type 0
-Says named Idle = Unit {0}
-Says named (Served connection reference unit lbn started seek ended) =
-    reference < 2 ^ 32 → name_of named ≡ name_on connection reference
+abbrev pub Says : Option Named → Report → Type 0
+Says wanted Idle = Unit {0}
+Says wanted (Served connection reference unit lbn started seek ended) =
+    reference < 2 ^ 32 → wanted_name wanted ≡ Some (name_on connection reference)
 
-nobody_waits : (t : Trace) (y : ℕ) → waiting t ≡ [] → is_waiting t y ≡ true → ⊥
+pub nobody_waits : (t : Trace) (y : ℕ) → waiting t ≡ [] → is_waiting t y ≡ true → ⊥
 nobody_waits t y e w =
     let at = cut t y (waits_below t y w) w in
     omega (arith, length-append at.0 (y ∷ at.1), ap length (sym at.2.is ∙ e))
 
-pub one_report : (c : Settings) (t : Trace) (k : Block) (named : Named) (p q : Report) → Known c t
+pub one_report : (c : Settings) (t : Trace) (k : Block) (wanted : Option Named) (p q : Report) → Known c t
     → IsRight c t (events.Step k) (entries.Stepped p)
-    → WhenStarted (λ s. IsPick c (IsNamed named) t (service_name s)) (service_in (entries.Stepped p))
-    → IsRight c t (events.Step k) (entries.Stepped q) → Says named q → p ≡ q
-one_report c t k named Idle Idle known right picked other said = refl
-one_report c t k named Idle (Served connection reference unit lbn started seek ended) known right picked other said =
+    → WhenStarted (λ s. IsPick c (IsNamed wanted) t (service_name s)) (service_in (entries.Stepped p))
+    → IsRight c t (events.Step k) (entries.Stepped q) → Says wanted q → p ≡ q
+one_report c t k wanted Idle Idle known right picked other said = refl
+one_report c t k wanted Idle (Served connection reference unit lbn started seek ended) known right picked other said =
     absurd (nobody_waits t other.0 right other.1.waits)
-one_report c t k named (Served connection reference unit lbn started seek ended) Idle known right picked other said =
+one_report c t k wanted (Served connection reference unit lbn started seek ended) Idle known right picked other said =
     absurd (nobody_waits t right.0 other right.1.waits)
-one_report c t k named (Served a b d e f g h) (Served a' b' d' e' f' g' h') known right picked other said =
+one_report c t k wanted (Served a b d e f g h) (Served a' b' d' e' f' g' h') known right picked other said =
     let y = right.0 in
     let z = other.0 in
     let v = right.1 in
     let s : Service = record { connection = a; reference = b; unit = d; lbn = e; started = f; seek = g; ended = h } in
     let r : Service =
     record { connection = a'; reference = b'; unit = d'; lbn = e'; started = f'; seek = g'; ended = h' } in
-    let same = one_served c t k named s r y z known v picked other.1 said in
+    let same = one_served c t k wanted s r y z known v picked other.1 said in
     let u = subst (λ x. IsServed c t k r x) (sym same) other.1 in
     λ i. Served ((v.connection ∙ sym u.connection) i) ((v.reference ∙ sym u.reference) i) ((v.unit ∙ sym u.unit) i)
     ((v.lbn ∙ sym u.lbn) i) ((v.started ∙ sym u.started) i) ((v.seek ∙ sym u.seek) i) ((v.ended ∙ sym u.ended) i)

@@ -2,7 +2,10 @@
 use Rattle.std.proofs.Common.{◌≡◌, ◌≢◌, ◌||◌, ℕ, Bool, true, false, List, [], ◌∷◌, ◌++◌, ◌+◌, ◌≤◌, length, refl, ap, sym, ◌∙◌, subst}
 use Rattle.std.specs.Prelude.{codes, None, Ok}
 use Rattle.std.specs.Str.{bytes_eq}
+use Rattle.std.proofs.lemmas.Bool.{false≢true}
 use Rattle.std.proofs.lemmas.Slice.Eq.{bytes_eq-Decides}
+use Rattle.mscp_events.specs.declared.connection.Connection.{Connection}
+use Rattle.mscp_events.specs.declared.connection.Connection.TheVariants.{First, Second}
 use Rattle.mscp_events.specs.Settings.{Settings}
 use Rattle.mscp_reader.specs.Lexical.{words}
 use Rattle.mscp_reader.specs.Grammar.{said_at}
@@ -13,6 +16,7 @@ use Rattle.mscp_reader.specs.declared.events.Request.{Request}
 use Rattle.mscp_reader.specs.declared.plain.Plain.{Plain}
 use Rattle.mscp_reader.proofs.PlainLines.{plain_next}
 use Rattle.mscp_judge.specs.Logs.{Log, after_line, asking, is_answer, is_answer_word, is_second_answer}
+use Rattle.mscp_judge.specs.Naming.{name_in, served}
 use Rattle.mscp_judge.proofs.Reading.{asks}
 
 -- a word of no line that asks
@@ -101,3 +105,32 @@ plain_asks n log bytes plain s said are few =
     asks n log bytes (words bytes) s (events_of (plain_request plain)) (ap (in_line n) said)
     (no_words (words bytes) (plain_request plain) are) (no_answer (words bytes) (plain_request plain) are)
     (plain_next s log.events (words bytes) plain n are few)
+
+-- ---- a line that is no answer names no command
+
+unserved : (word : List ℕ) (rest : List (List ℕ)) (via : Connection) (b : Bool) → bytes_eq word (codes "serve") ≡ b
+    → is_answer_word word ≡ false → served via (word ∷ rest) ≡ None
+unfolding served
+unserved word [] via b e h = refl
+unserved word (number ∷ rest) via false e h = rw e refl
+unserved word (number ∷ rest) via true e h =
+    absurd (false≢true (sym h ∙ ap is_answer_word ((bytes_eq-Decides word (codes "serve")).0 e)))
+
+second_unserved : (rest : List (List ℕ)) → is_second_answer rest ≡ false → served Second rest ≡ None
+unfolding served
+second_unserved [] h = refl
+second_unserved (word ∷ rest) h = unserved word rest Second (bytes_eq word (codes "serve")) refl h
+
+unnamed_words : (word : List ℕ) (rest : List (List ℕ)) (b : Bool) → bytes_eq word (codes "second") ≡ b
+    → is_answer (word ∷ rest) ≡ false → name_in (word ∷ rest) ≡ None
+unfolding name_in
+unnamed_words word rest true e h =
+    let none : is_second_answer rest ≡ false = rw e at h in rw e (second_unserved rest none)
+unnamed_words word rest false e h =
+    let none : is_answer_word word ≡ false = rw e at h in
+    rw e (unserved word rest First (bytes_eq word (codes "serve")) refl none)
+
+pub unnamed : (ws : List (List ℕ)) → is_answer ws ≡ false → name_in ws ≡ None
+unfolding name_in
+unnamed [] h = refl
+unnamed (word ∷ rest) h = unnamed_words word rest (bytes_eq word (codes "second")) refl h

@@ -1,7 +1,7 @@
 -- What a judge says of the lines of a log.
 use Rattle.std.specs.Prelude.{◌≡◌, ◌≢◌, ℕ, ◌+◌, ◌<◌, ◌≤◌, List, [], ◌∷◌, ◌++◌, length, Bool, true, false, Option, Some, None, Result, Ok, Err}
-use Rattle.mscp_control.specs.Headline.{Promise}
-use Rattle.mscp_control.specs.Holdings.{Holdings}
+use Rattle.mscp_controller.specs.Headline.{Promise}
+use Rattle.mscp_controller.specs.Holdings.{Holdings}
 use Rattle.mscp_events.specs.Settings.{IsValid, Settings}
 use Rattle.mscp_events.specs.declared.event.Event.{Event}
 use Rattle.mscp_reader.specs.Lexical.{lines, words}
@@ -13,15 +13,18 @@ use Rattle.mscp_reader.specs.declared.fault.ReadFault.TheVariants as faults
 use Rattle.mscp_reader.specs.declared.fault.ScriptFault.{ScriptFault}
 use Rattle.mscp_judge.specs.declared.judge.Judge.{Judge}
 use Rattle.mscp_judge.specs.declared.naming.Named.{Named}
+use Rattle.mscp_judge.specs.declared.naming.Wanted.{Wanted}
 use Rattle.mscp_judge.specs.declared.rules.Rule.{Rule}
 use Rattle.mscp_judge.specs.declared.rules.Rule.TheVariants as rules
 use Rattle.mscp_judge.specs.declared.totals.Totals.{Totals}
 use Rattle.mscp_judge.specs.declared.judging.Verdict.{Verdict}
 use Rattle.mscp_judge.specs.declared.judging.Verdict.TheVariants as verdicts
-use Rattle.mscp_judge.specs.Logs.{IsLegalLog, IsRightThere, Log, MayGoOn, after_line, after_lines, is_answer, nothing, told, whole}
+use Rattle.mscp_judge.specs.Logs.{IsLegalLog, Log, MayGoOn, after_line, after_lines, is_answer, nothing, told, whole}
+use Rattle.mscp_judge.specs.Naming.{name_in}
+use Rattle.mscp_judge.specs.Rights.{IsOpen, IsRightNext}
 use Rattle.mscp_judge.specs.Rules.{IsRule}
 use Rattle.mscp_judge.specs.Starts.{starts_in}
-use Rattle.mscp_judge.specs.Standing.{Counted, IsHeld, IsOpen, Stands, Stood, due, marked, owed, run_of, totals_of}
+use Rattle.mscp_judge.specs.Standing.{Counted, IsHeld, Stands, Stood, due, marked, owed, run_of, totals_of}
 use Rattle.mscp_judge.specs.Totals.{AreTotals}
 
 -- ---- the verdict
@@ -39,7 +42,7 @@ pub record AreLegal (c : Settings) (before : ℕ) (all : List (List ℕ)) (total
 -- a line breaks this rule where these lines stand before it: each legal log that begins so begins with one run, after
 -- which it does
 pub record IsBroken (c : Settings) (log : Log) (line : List ℕ) (rule : Rule) (starts : List Named) : Type 0 where
-  pub h : Holdings Named
+  pub h : Holdings Wanted
   pub due : List ℕ
   pub owed : List Event
   pub stood : Stood c (marked log) h due owed []
@@ -65,7 +68,7 @@ pub record IsFirstWrong (c : Settings) (before : ℕ) (all : List (List ℕ)) (p
   -- this is the rule that it breaks
   pub broken : IsBroken c log line rule starts
   -- and this would have been right there, if any line would
-  pub right_there : IsRightThere c log right
+  pub right_is : IsRightNext c log (name_in (words line)) right
 
 -- a legal log begins with all lines, and they aren't one: some answer is missing
 pub record AreUnanswered (c : Settings) (before : ℕ) (all : List (List ℕ)) (right : List ℕ) : Type 0 where
@@ -74,7 +77,7 @@ pub record AreUnanswered (c : Settings) (before : ℕ) (all : List (List ℕ)) (
   pub opens : MayGoOn c log.marks
   pub wrong : ¬ (IsLegalLog c log.marks)
   -- and with this line it goes on, if it does with any
-  pub right_there : IsRightThere c log right
+  pub right_is : IsRightNext c log None right
 
 -- the line of the fault's number is no line of a log, for this cause, and what stands before it is the beginning of a
 -- legal log
@@ -105,10 +108,10 @@ abbrev pub IsTold : {A : Type 0} → Settings → Log → Log → Judge A → Bo
 IsTold c log next new true = Stands c next new
 IsTold c log next new false = (¬ (MayGoOn c next.marks)) × IsHeld c log new
 
--- the same, where it breaks a rule or breaks none
-abbrev pub Tells : {A : Type 0} → Settings → Log → Log → Judge A → Option Rule → Type 0
-Tells c log next new None = IsTold c log next new true
-Tells c log next new (Some rule) = (¬ (MayGoOn c next.marks)) × IsOpen c log new
+-- the same of a line that names this, where it breaks a rule or breaks none
+abbrev pub Tells : {A : Type 0} → Settings → Log → Log → Option Named → Judge A → Option Rule → Type 0
+Tells c log next wanted new None = IsTold c log next new true
+Tells c log next wanted new (Some rule) = (¬ (MayGoOn c next.marks)) × IsOpen c log wanted new
 
 -- the rule that a line breaks which comes to a judge, if it breaks one, and what may start there
 abbrev pub Breaks : {A : Type 0} → Judge A → List ℕ → Option Rule → List Named → Type 0
@@ -127,7 +130,7 @@ pub record IsAhead {A : Type 0} (c : Settings) (log : Log) (line : List ℕ) (ju
 abbrev pub Hears : {A : Type 0}
     → Settings → ℕ → Log → List ℕ → Result (Option Rule) ReadFault → Judge A → Type 0
 Hears c number log line (Ok broken) new =
-    (next : Log) × (after_line number log line ≡ Ok next) × Tells c log next new broken
+    (next : Log) × (after_line number log line ≡ Ok next) × Tells c log next (name_in (words line)) new broken
 Hears c number log line (Err (faults.Script fault)) new =
     (fault.line ≡ number) × (after_line number log line ≡ Err fault.cause)
 Hears c number log line (Err faults.OutOfMemory) new = Unit {0}

@@ -4,5 +4,6 @@ pub mod Totals
 pub mod Starts
 pub mod Rules
 pub mod Standing
+pub mod Rights
 pub mod Judged
 pub mod Heard

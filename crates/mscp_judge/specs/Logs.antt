@@ -5,9 +5,9 @@ use Rattle.std.specs.List.{AllByRecursion, flat_map, list_all}
 use Rattle.std.specs.Str.{bytes_eq}
 use Rattle.mscp_events.specs.declared.event.Event.{Event}
 use Rattle.mscp_events.specs.Settings.{Settings}
-use Rattle.mscp_control.specs.History.{Trace}
-use Rattle.mscp_control.specs.Legal.{IsLegal}
-use Rattle.mscp_text.specs.Steps.{◌>>=◌}
+use Rattle.mscp_controller.specs.History.{Trace}
+use Rattle.mscp_controller.specs.Legal.{IsLegal}
+use Rattle.mscp_packet.specs.Steps.{◌>>=◌}
 use Rattle.mscp_text.specs.Lines.{line}
 use Rattle.mscp_reader.specs.Lexical.{is_printed, said, words}
 use Rattle.mscp_reader.specs.Requests.{events_of, request}

@@ -1,20 +1,20 @@
 -- Which rule a line of a log breaks.
-use Rattle.std.specs.Prelude.{◌≡◌, ◌≢◌, ◌⊎◌, ℕ, Bool, true, false, ◌&&◌, ◌||◌, nat_le, nat_lt, drop, length, slice_range, take, if◌then◌else◌, List, [], ◌∷◌, codes}
+use Rattle.std.specs.Prelude.{◌≡◌, ◌≢◌, ◌⊎◌, ℕ, Bool, true, false, ◌&&◌, ◌||◌, nat_le, nat_lt, drop, length, slice_range, take, if◌then◌else◌, List, [], ◌∷◌, codes, Option, Some}
 use Rattle.std.specs.Str.{bytes_eq}
 use Rattle.mscp_queue.specs.declared.name.Name.{Name}
 use Rattle.mscp_queue.specs.declared.why.Holder.{Holder}
 use Rattle.mscp_events.specs.declared.event.Event.{Event}
 use Rattle.mscp_events.specs.Settings.{Settings}
-use Rattle.mscp_control.specs.History.{Trace}
-use Rattle.mscp_control.specs.Commands.{in_service, is_idle, is_waiting, name}
-use Rattle.mscp_control.specs.Headline.{EachWaiting}
-use Rattle.mscp_control.specs.Holders.{holders_of}
-use Rattle.mscp_control.specs.Passing.{is_startable}
+use Rattle.mscp_controller.specs.History.{Trace}
+use Rattle.mscp_controller.specs.Commands.{in_service, is_idle, is_waiting, name}
+use Rattle.mscp_controller.specs.Headline.{EachWaiting}
+use Rattle.mscp_controller.specs.Holders.{holders_of}
+use Rattle.mscp_controller.specs.Passing.{is_startable}
 use Rattle.mscp_reader.specs.Lexical.{words}
 use Rattle.mscp_judge.specs.declared.rules.Rule.{Rule}
 use Rattle.mscp_judge.specs.declared.rules.Rule.TheVariants as rules
 use Rattle.mscp_judge.specs.Logs.{is_answer}
-use Rattle.mscp_judge.specs.Naming.{name_in, name_of}
+use Rattle.mscp_judge.specs.Naming.{name_in, name_of, wanted_name}
 
 -- ---- a line where another one is due
 
@@ -66,17 +66,19 @@ is_service [] = false
 is_service (word ∷ rest) =
     if bytes_eq word (codes "second") then is_first_service rest else is_first_service (word ∷ rest)
 
--- after t no step serves the command of this name, for this reason; or it may be served, and the line says something
--- else of it
-abbrev pub IsStepRule : Settings → Trace → Name → Rule → Type 0
-IsStepRule c t n (rules.InService other) =
-    (x : ℕ) × (is_waiting t x ≡ true) × (in_service t x ≡ true) × (name t x ≡ name_of other) × (name_of other ≢ n)
-IsStepRule c t n (rules.KeptBack holder) =
-    (is_idle t ≡ true) × (rest : List Holder) × (holders_of c t n ≡ holder ∷ rest)
-IsStepRule c t n rules.NotWaiting = EachWaiting t (λ x. name t x ≢ n)
-IsStepRule c t n rules.Service =
-    (y : ℕ) × (is_waiting t y ≡ true) × ((in_service t y ≡ true) ⊎ (is_startable c t y ≡ true)) × (name t y ≡ n)
-IsStepRule c t n rule = ⊥
+-- after t no step serves the command of this name, for this reason, or none is named; or it may be served, and the line
+-- says something else of it
+abbrev pub IsStepRule : Settings → Trace → Option Name → Rule → Type 0
+IsStepRule c t wanted (rules.InService other) =
+    (x : ℕ) × (is_waiting t x ≡ true) × (in_service t x ≡ true) × (name t x ≡ name_of other)
+    × (wanted ≢ Some (name_of other))
+IsStepRule c t wanted (rules.KeptBack holder) =
+    (is_idle t ≡ true) × (n : Name) × (wanted ≡ Some n) × (rest : List Holder) × (holders_of c t n ≡ holder ∷ rest)
+IsStepRule c t wanted rules.NotWaiting = (is_idle t ≡ true) × EachWaiting t (λ x. wanted ≢ Some (name t x))
+IsStepRule c t wanted rules.Service =
+    (y : ℕ) × (is_waiting t y ≡ true) × ((in_service t y ≡ true) ⊎ (is_startable c t y ≡ true))
+    × (wanted ≡ Some (name t y))
+IsStepRule c t wanted rule = ⊥
 
 -- ---- any line
 
@@ -89,4 +91,4 @@ pub record IsRule (c : Settings) (t : Trace) (due : List ℕ) (owed : List Event
   pub idle : is_answer (words line) ≡ true → due ≡ [] → owed ≢ [] → is_service (words line) ≡ false
       → rule ≡ rules.Idle
   pub step : is_answer (words line) ≡ true → due ≡ [] → owed ≢ [] → is_service (words line) ≡ true
-      → IsStepRule c t (name_of (name_in (words line))) rule
+      → IsStepRule c t (wanted_name (name_in (words line))) rule

@@ -1,26 +1,27 @@
 -- Where a judge stands after some lines of a log that a legal log begins with.
-use Rattle.std.specs.Prelude.{◌≡◌, ◌⊎◌, ℕ, ◌+◌, ◌<◌, ◌≤◌, List, [], ◌∷◌, ◌++◌, length, drop, replicate}
+use Rattle.std.specs.Prelude.{◌≡◌, ◌⊎◌, ℕ, ◌+◌, ◌<◌, ◌≤◌, List, [], ◌∷◌, ◌++◌, length, drop, replicate, Option, Some}
 use Rattle.mscp_events.specs.declared.event.Event.{Event}
 use Rattle.mscp_events.specs.declared.event.Event.TheVariants as events
-use Rattle.mscp_control.specs.declared.entry.Entry.{Entry}
+use Rattle.mscp_controller.specs.declared.entry.Entry.{Entry}
 use Rattle.mscp_events.specs.Settings.{IsValid, Settings, bound}
-use Rattle.mscp_control.specs.History.{Trace}
-use Rattle.mscp_control.specs.Holdings.{Answers, Holdings, fresh}
-use Rattle.mscp_control.specs.Legal.{IsLegal}
+use Rattle.mscp_controller.specs.History.{Trace}
+use Rattle.mscp_controller.specs.Holdings.{Answers, Holdings, fresh}
+use Rattle.mscp_controller.specs.Legal.{IsLegal}
 use Rattle.mscp_reader.specs.Lexical.{words}
 use Rattle.mscp_script.specs.Text.{entry_lines}
 use Rattle.mscp_judge.specs.declared.judge.Judge.{Judge}
 use Rattle.mscp_judge.specs.declared.naming.Named.{Named}
+use Rattle.mscp_judge.specs.declared.naming.Wanted.{Wanted}
 use Rattle.mscp_judge.specs.declared.totals.Totals.{Totals}
 use Rattle.mscp_judge.specs.Logs.{Asked, Log, Mark, answers_in, events_in, told, transcript, whole}
-use Rattle.mscp_judge.specs.Naming.{IsNamed, name_in}
+use Rattle.mscp_judge.specs.Naming.{IsNamed, name_in, wanting}
 use Rattle.mscp_judge.specs.Totals.{Adds, AreTotals}
 
 -- ---- one event
 
--- what is held, with this picker
-abbrev pub with_picker : {K : Type 0} → Holdings K → K → Holdings K
-with_picker h picker = record h { picker = picker }
+-- what is held, where the command that is named is picked
+abbrev pub with_picker : Holdings Wanted → Option Named → Holdings Wanted
+with_picker h wanted = record h { picker = wanting wanted }
 
 -- bytes that begin with a line
 abbrev pub BeginsWith : List ℕ → List ℕ → Type 0
@@ -28,7 +29,7 @@ BeginsWith bytes line = (rest : List ℕ) × (bytes ≡ line ++ 10 ∷ rest)
 
 -- each line that bytes begin with says that the command of this name was served
 abbrev pub IsNamedAhead : List ℕ → Named → Type 0
-IsNamedAhead bytes named = (line : List ℕ) → BeginsWith bytes line → named ≡ name_in (words line)
+IsNamedAhead bytes named = (line : List ℕ) → BeginsWith bytes line → Some named ≡ name_in (words line)
 
 -- bytes that begin with a line of at most 128 bytes
 abbrev pub HasShortLine : List ℕ → Type 0
@@ -66,11 +67,11 @@ totals_of c judge = record {
   passed = judge.peaks.passed;
 }
 
--- an event came, at which the command of this name was to start: what was answered is due, and nothing else, and it is
--- added to the totals
-pub record Came {A : Type 0} (name : Named) (old new : Judge A) (event : Event) : Type 0 where
+-- an event came, at which the command that is named was to start, if one is: what was answered is due, and nothing
+-- else, and it is added to the totals
+pub record Came {A : Type 0} (wanted : Option Named) (old new : Judge A) (event : Event) : Type 0 where
   pub entry : Entry
-  pub answers : Answers (IsNamed name) (with_picker old.controller name) event entry new.controller
+  pub answers : Answers (IsNamed wanted) (with_picker old.controller wanted) event entry new.controller
   pub due : due new ≡ entry_lines entry
   pub count : new.reporter.count ≡ old.reporter.count + 1
   pub adds : (c : Settings) → Adds new.controller entry (totals_of c old) (totals_of c new)
@@ -78,10 +79,10 @@ pub record Came {A : Type 0} (name : Named) (old new : Judge A) (event : Event) 
 -- ---- a trace
 
 -- these moments came to a controller, one after the other, each with a picker of its own
-abbrev pub Led : Holdings Named → Trace → Holdings Named → Type 0
+abbrev pub Led : Holdings Wanted → Trace → Holdings Wanted → Type 0
 Led old [] new = new ≡ old
 Led old (m ∷ ms) new =
-    (name : Named) × (next : Holdings Named) × Answers (IsNamed name) (with_picker old name) m.0 m.1 next
+    (wanted : Option Named) × (next : Holdings Wanted) × Answers (IsNamed wanted) (with_picker old wanted) m.0 m.1 next
     × Led next ms new
 
 -- ---- the whole
@@ -94,11 +95,11 @@ marked log = Asked [] ∷ log.marks
 -- What is due of its answers wasn't told, and these events aren't answered. Each legal log that begins with the marks,
 -- and then
 -- with those ahead, has this trace, and goes on with these events
-pub record Stood (c : Settings) (marks : List Mark) (h : Holdings Named) (due : List ℕ) (owed : List Event)
+pub record Stood (c : Settings) (marks : List Mark) (h : Holdings Wanted) (due : List ℕ) (owed : List Event)
     (ahead : List Mark) : Type 0 where
   pub parts : List Trace
   pub now : Trace
-  pub begun : Named
+  pub begun : Wanted
   pub valid : IsValid c
   pub led : Led (fresh c begun) (whole parts ++ now) h
   pub said : marks ++ told due ≡ transcript parts ++ Asked (events_in now ++ owed) ∷ told (answers_in now)
@@ -108,22 +109,22 @@ pub record Stood (c : Settings) (marks : List Mark) (h : Holdings Named) (due : 
       → (next : Trace) × (rest : List Trace) × (events_in next ≡ owed) × (others ≡ parts ++ (now ++ next) ∷ rest)
 
 -- its trace so far
-abbrev pub run_of : {c : Settings} {marks : List Mark} {h : Holdings Named} {due : List ℕ} {owed : List Event}
+abbrev pub run_of : {c : Settings} {marks : List Mark} {h : Holdings Wanted} {due : List ℕ} {owed : List Event}
     {ahead : List Mark} → Stood c marks h due owed ahead → Trace
 run_of stood = whole stood.parts ++ stood.now
 
 -- and these are the totals of that trace
-pub record Counted (c : Settings) (marks : List Mark) (h : Holdings Named) (due : List ℕ) (owed : List Event)
+pub record Counted (c : Settings) (marks : List Mark) (h : Holdings Wanted) (due : List ℕ) (owed : List Event)
     (ahead : List Mark) (totals : Totals) : Type 0 where
   pub stood : Stood c marks h due owed ahead
   pub are : AreTotals c (run_of stood) totals
 
 -- the same, whatever other traces may be
-pub record Held (c : Settings) (marks : List Mark) (h : Holdings Named) (due : List ℕ) (owed : List Event) :
+pub record Held (c : Settings) (marks : List Mark) (h : Holdings Wanted) (due : List ℕ) (owed : List Event) :
     Type 0 where
   pub parts : List Trace
   pub now : Trace
-  pub begun : Named
+  pub begun : Wanted
   pub valid : IsValid c
   pub led : Led (fresh c begun) (whole parts ++ now) h
   pub said : marks ++ told due ≡ transcript parts ++ Asked (events_in now ++ owed) ∷ told (answers_in now)
@@ -136,7 +137,3 @@ IsHeld c log judge = Held c (marked log) judge.controller (due judge) (owed judg
 pub record Stands {A : Type 0} (c : Settings) (log : Log) (judge : Judge A) : Type 0 where
   pub counted : Counted c (marked log) judge.controller (due judge) (owed judge) [] (totals_of c judge)
   pub count : length log.events ≡ judge.reporter.count + judge.owed
-
--- a judge holds so after these lines of a log, and it stands so, or what is due begins with a short line
-abbrev pub IsOpen : {A : Type 0} → Settings → Log → Judge A → Type 0
-IsOpen c log judge = IsHeld c log judge × (Stands c log judge ⊎ HasShortLine (due judge))

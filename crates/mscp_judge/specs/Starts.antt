@@ -5,9 +5,9 @@ use Rattle.mscp_queue.specs.Records.{Record}
 use Rattle.mscp_queue.specs.Figures.{figures}
 use Rattle.mscp_queue.specs.Why.{holders_of_name, is_nobody}
 use Rattle.mscp_events.specs.Settings.{Settings}
-use Rattle.mscp_control.specs.History.{Trace}
-use Rattle.mscp_control.specs.Commands.{connection, reference}
-use Rattle.mscp_control.specs.Passing.{startable}
+use Rattle.mscp_controller.specs.History.{Trace}
+use Rattle.mscp_controller.specs.Commands.{connection, reference}
+use Rattle.mscp_controller.specs.Passing.{startable}
 use Rattle.mscp_judge.specs.declared.naming.Named.{Named}
 use Rattle.mscp_judge.specs.Naming.{name_of}
 

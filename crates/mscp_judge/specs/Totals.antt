@@ -3,18 +3,18 @@ use Rattle.std.specs.Prelude.{All, Contains, ◌≡◌, ◌≢◌, ◌⊎◌, �
 use Rattle.mscp_queue.specs.Figures.{figure_of_name}
 use Rattle.mscp_queue.specs.Names.{name_on}
 use Rattle.mscp_queue.specs.Records.{record_at}
-use Rattle.mscp_control.specs.declared.entry.Entry.{Entry}
-use Rattle.mscp_control.specs.declared.entry.Entry.TheVariants as entries
-use Rattle.mscp_control.specs.declared.entry.Sent.TheVariants as sents
+use Rattle.mscp_controller.specs.declared.entry.Entry.{Entry}
+use Rattle.mscp_controller.specs.declared.entry.Entry.TheVariants as entries
+use Rattle.mscp_controller.specs.declared.entry.Sent.TheVariants as sents
 use Rattle.mscp_events.specs.Settings.{Settings, bound}
-use Rattle.mscp_control.specs.History.{Trace, is_step}
-use Rattle.mscp_control.specs.Commands.{waiting}
-use Rattle.mscp_control.specs.Passing.{passed}
-use Rattle.mscp_control.specs.Figures.{figure}
-use Rattle.mscp_control.specs.Headline.{Always, EachWaiting}
-use Rattle.mscp_control.specs.Holdings.{Holdings}
+use Rattle.mscp_controller.specs.History.{Trace, is_step}
+use Rattle.mscp_controller.specs.Commands.{waiting}
+use Rattle.mscp_controller.specs.Passing.{passed}
+use Rattle.mscp_controller.specs.Figures.{figure}
+use Rattle.mscp_controller.specs.Headline.{Always, EachWaiting}
+use Rattle.mscp_controller.specs.Holdings.{Holdings}
 use Rattle.mscp_script.specs.Text.{step_count}
-use Rattle.mscp_judge.specs.declared.naming.Named.{Named}
+use Rattle.mscp_judge.specs.declared.naming.Wanted.{Wanted}
 use Rattle.mscp_judge.specs.declared.totals.Totals.{Totals}
 
 -- the largest that `of` is of a waiting command, at any time of a run: 0 if no command ever waits
@@ -39,13 +39,13 @@ pub record IsLarger (a b n : ℕ) : Type 0 where
   pub one : (n ≡ a) ⊎ (n ≡ b)
 
 -- the figure of the command that an entry says was queued, 0 if none was
-abbrev pub figure_queued : Holdings Named → Entry → ℕ
+abbrev pub figure_queued : Holdings Wanted → Entry → ℕ
 figure_queued h (entries.Sent via (Ok (sents.Queued reference))) =
     figure_of_name h.settings.budget h.waiting (name_on via reference)
 figure_queued h entry = 0
 
 -- what an entry adds to totals, after which this is held: no figure rises, so only a new one may be the largest
-pub record Adds (h : Holdings Named) (entry : Entry) (old new : Totals) : Type 0 where
+pub record Adds (h : Holdings Wanted) (entry : Entry) (old new : Totals) : Type 0 where
   pub moments : new.moments ≡ old.moments + 1
   pub steps : new.steps ≡ old.steps + step_count entry
   pub figure : IsLarger old.figure (figure_queued h entry) new.figure

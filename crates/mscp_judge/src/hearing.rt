@@ -10,7 +10,7 @@ ghost use Rattle.mscp_judge.specs.Heard.{Gives, Heard, Hears, IsHeard, after_ans
 use crate::answers::{is, is_answer};
 use crate::hosts::{hear, host_of, is_reset, put_line, send_message};
 use crate::told::end_bytes;
-use mscp_control::{Config, Connection, OutOfMemory};
+use mscp_controller::{Config, Connection, OutOfMemory};
 use mscp_host::{Host, HostFault, News};
 use mscp_packet::write_command;
 use mscp_reader::{

@@ -4,7 +4,7 @@ ghost use Rattle.std.specs.Prelude.{◌≡◌, ◌++◌, OnOk};
 ghost use Rattle.mscp_events.specs.Both.{of, put};
 ghost use Rattle.mscp_judge.specs.Heard.{command_in, hears, host_of, is_about, is_reset, news_line, news_text, sends, sends_message};
 
-use mscp_control::Connection;
+use mscp_controller::Connection;
 use mscp_host::{Host, HostFault, News, Poll, Submission};
 use mscp_packet::{Command, Order, read_command};
 use mscp_text::{put, put_field};

@@ -6,16 +6,15 @@ ghost use Rattle.mscp_events.specs.declared.event.Event.TheVariants as events;
 ghost use Rattle.mscp_reader.specs.Plain.{plain_request};
 ghost use Rattle.mscp_reader.specs.Requests.{events_of};
 ghost use Rattle.mscp_judge.specs.Logs.{AreAnswers, Log, asking, nothing, telling};
-ghost use Rattle.mscp_judge.specs.Naming.{nobody as none_named};
 ghost use Rattle.mscp_judge.specs.Standing.{Came, HasShortLine, IsSettled, Stands, due, totals_of};
 
 mod telling;
 
 pub use crate::judge::telling::Right;
-use crate::naming::{Named, nobody};
+use crate::naming::{Named, Wanted};
 use crate::starting::Starts;
 use crate::totals::{Peaks, Totals, bound_of, figure_queued};
-use mscp_control::{Block, Config, Connection, Controller, OutOfMemory};
+use mscp_controller::{Block, Config, Connection, Controller, OutOfMemory};
 use mscp_packet::write_command;
 use mscp_reader::{Plain, Request};
 use mscp_script::Reporter;
@@ -24,7 +23,7 @@ use std::alloc::Allocator;
 /// A controller, what it answered to the last events, and how many steps aren't answered yet.
 #[derive(Drop)]
 pub struct Judge<A: Allocator> {
-    controller: Controller<Named>,
+    controller: Controller<Wanted>,
     reporter: Reporter<A>,
     peaks: Peaks,
     // How many bytes of the reporter's lines the log has told.
@@ -44,7 +43,7 @@ impl<A: Allocator> Judge<A> {
         ensures count { result.reporter.count + result.owed ≡ 0 }
     {
         Judge {
-            controller: Controller::new(config, nobody()),
+            controller: Controller::new(config, Wanted { named: None }),
             reporter: Reporter::new(alloc),
             peaks: Peaks::none(),
             told: 0,
@@ -59,7 +58,7 @@ impl<A: Allocator> Judge<A> {
         ensures stands { (c : Settings) → IsValid c → self.old.controller.settings ≡ c → Stands c nothing self.new }
         ensures count { self.new.reporter.count + self.new.owed ≡ 0 }
     {
-        self.controller.replace_picker(nobody());
+        self.controller.replace_picker(Wanted { named: None });
         self.controller.reset();
         self.reporter.restart();
         self.peaks = Peaks::none();
@@ -107,7 +106,7 @@ impl<A: Allocator> Judge<A> {
     /// The connection's host sends this message. Told is how many lines are due then.
     fn send(&mut self, connection: Connection, message: &[u8]) -> Result<u32, OutOfMemory>
         requires { self.old.reporter.count + 1 < 2 ^ 64 }
-        ensures came { OnOk result (Came self.old.controller.picker self.old self.new
+        ensures came { OnOk result (Came self.old.controller.picker.named self.old self.new
             (events.Send connection (record { items = message.now }))) }
         ensures answers { IfOk result (λ count. AreAnswers (due self.new) count) }
         ensures owed { self.new.owed ≡ self.old.owed }
@@ -125,7 +124,7 @@ impl<A: Allocator> Judge<A> {
     /// The connection's host takes an end. Told is how many lines are due then.
     fn take(&mut self, connection: Connection) -> Result<u32, OutOfMemory>
         requires { self.old.reporter.count + 1 < 2 ^ 64 }
-        ensures came { OnOk result (Came self.old.controller.picker self.old self.new (events.Take connection)) }
+        ensures came { OnOk result (Came self.old.controller.picker.named self.old self.new (events.Take connection)) }
         ensures answers { IfOk result (λ count. AreAnswers (due self.new) count) }
         ensures owed { self.new.owed ≡ self.old.owed }
         ensures block { self.new.block ≡ self.old.block }
@@ -141,7 +140,7 @@ impl<A: Allocator> Judge<A> {
     /// The figures of all waiting commands are asked for. Told is how many lines are due then.
     fn look(&mut self) -> Result<u32, OutOfMemory>
         requires { self.old.reporter.count + 1 < 2 ^ 64 }
-        ensures came { OnOk result (Came self.old.controller.picker self.old self.new events.Look) }
+        ensures came { OnOk result (Came self.old.controller.picker.named self.old self.new events.Look) }
         ensures answers { IfOk result (λ count. AreAnswers (due self.new) count) }
         ensures owed { self.new.owed ≡ self.old.owed }
         ensures block { self.new.block ≡ self.old.block }
@@ -162,11 +161,11 @@ impl<A: Allocator> Judge<A> {
         self.owed != 0 && self.due().is_empty()
     }
 
-    /// A step is answered, at which the command of this name starts, if it may.
-    pub fn step(&mut self, name: Named) -> Result<(), OutOfMemory>
+    /// A step is answered, at which the command that is named starts, if it may, and else the oldest that may.
+    pub fn step(&mut self, wanted: Option<Named>) -> Result<(), OutOfMemory>
         requires count { self.old.reporter.count + 1 < 2 ^ 64 }
         requires owed { 0 < self.old.owed }
-        ensures came { OnOk result (Came name self.old self.new (events.Step self.old.block)) }
+        ensures came { OnOk result (Came wanted self.old self.new (events.Step self.old.block)) }
         ensures answers { OnOk result (AreAnswers (due self.new) 1) }
         ensures short { OnOk result (HasShortLine (due self.new)) }
         ensures starts { self.new.starts ≡ self.old.starts }
@@ -178,7 +177,7 @@ impl<A: Allocator> Judge<A> {
         self.owed -= 1;
         self.reporter.forget_lines();
         self.told = 0;
-        self.controller.replace_picker(name);
+        self.controller.replace_picker(Wanted { named: wanted });
         let report = self.controller.step(self.block);
         self.peaks.rise(0, self.controller.most_passed());
         self.reporter.stepped(&report)
@@ -218,7 +217,7 @@ impl<A: Allocator> Judge<A> {
         requires owed { 0 < self.old.owed }
         requires nothing { self.old.controller.waiting ≡ [] }
         requires begun { self.old.controller.begun ≡ None }
-        ensures came { OnOk result (Came none_named self.old self.new (events.Step self.old.block)) }
+        ensures came { OnOk result (Came None self.old self.new (events.Step self.old.block)) }
         ensures owed { self.new.owed ≡ self.old.owed - 1 }
         ensures block { self.new.block ≡ self.old.block }
         ensures count { OnOk result (self.new.reporter.count + self.new.owed
@@ -227,7 +226,7 @@ impl<A: Allocator> Judge<A> {
         self.owed -= 1;
         self.reporter.forget_lines();
         self.told = 0;
-        let _before = self.controller.replace_picker(nobody());
+        let _before = self.controller.replace_picker(Wanted { named: None });
         self.peaks.rise(0, 0);
         self.reporter.idled()
     }

@@ -14,7 +14,7 @@ use crate::naming::{Named, named_ahead};
 use crate::rules::Rule;
 use crate::starting::Starts;
 use crate::totals::Totals;
-use mscp_control::{Config, OutOfMemory};
+use mscp_controller::{Config, OutOfMemory};
 use mscp_reader::{Line, Lines, MOST_EVENTS, MOST_LINES, ReadFault, request_after, words_of};
 use std::alloc::Allocator;
 
@@ -130,7 +130,7 @@ fn pass_steps<A: Allocator>(
         return Ok(true);
     }
     while let Some(named) = served_next(judge, lines.rest) {
-        judge.step(named)?;
+        judge.step(Some(named))?;
         if !cut_due(judge, lines, 1) {
             return Ok(false);
         }

@@ -1,39 +1,48 @@
 // The command that a line says was served, and the picker that starts it.
 
 ghost use Rattle.std.specs.Prelude.{◌≡◌, ◌==◌, ◌<◌, ◌^◌, ◌++◌, codes, position, IfSome};
-ghost use Rattle.mscp_queue.specs.Names.{same_name};
-ghost use Rattle.mscp_queue.specs.Views.{choice_name};
 ghost use Rattle.mscp_reader.specs.Lexical as lexical;
 ghost use Rattle.mscp_judge.specs.Naming as naming;
-ghost use Rattle.mscp_judge.specs.Naming.{IsNamed};
+ghost use Rattle.mscp_judge.specs.Naming.{IsNamed, is_wanted};
 ghost use Rattle.mscp_judge.specs.Standing.{IsNamedAhead};
 
 use crate::answers::is;
-use mscp_control::{Choice, Connection, Picker, View};
+use mscp_controller::{Choice, Connection, Picker, View};
 use mscp_reader::{Words, wide};
 
 /// More than the longest line of a step has.
 const FEW_BYTES: usize = 128;
 
-/// Picks the command of this name, if it may start.
+/// The name of a command.
 #[derive(Clone, Copy, Debug, Default, PartialEq, Eq)]
 pub struct Named {
     pub connection: Connection,
     pub reference: u32,
 }
 
-impl Named {
-    /// Whether a choice has this name.
+/// Picks the command that is named, if one is and it may start, and else the oldest that may.
+#[derive(Clone, Copy)]
+pub struct Wanted {
+    pub named: Option<Named>,
+}
+
+impl Wanted {
+    /// Whether a choice is the command that is named.
     fn is_of(self, choice: Choice) -> bool
-        ensures same { result ≡ same_name (choice_name choice) (naming.name_of self) }
+        ensures same { result ≡ is_wanted self.named choice }
         ensures small { choice.reference < 2 ^ 32 }
     {
-        choice.connection == self.connection && choice.reference == self.reference
+        match self.named {
+            Some(named) => {
+                choice.connection == named.connection && choice.reference == named.reference
+            }
+            None => false,
+        }
     }
 }
 
-impl Picker for Named {
-    ghost picks = { λ named view place. IsNamed named view place };
+impl Picker for Wanted {
+    ghost picks = { λ wanted view place. IsNamed wanted.named view place };
 
     fn pick(&self, view: &View) -> usize {
         let choices = view.choices();
@@ -47,49 +56,35 @@ impl Picker for Named {
     }
 }
 
-/// A name for where none is said.
-pub fn nobody() -> Named
-    ensures { result ≡ naming.nobody }
-{
-    Named {
-        connection: Connection::First,
-        reference: 0,
-    }
-}
-
-/// The name of the command of the connection that these words say was served.
+/// The name of the command of the connection that these words say was served, if they name one.
 #[tactic(auto, unfolding(crate::specs::Naming::served))]
-fn served(connection: Connection, mut words: Words<'_>) -> Named
+fn served(connection: Connection, mut words: Words<'_>) -> Option<Named>
     ensures { result ≡ naming.served connection (lexical.words words.entry.rest.now) }
 {
-    let Some(word) = words.next_word() else {
-        return nobody();
-    };
-    let Some(number) = words.next_word() else {
-        return nobody();
-    };
+    let word = words.next_word()?;
+    let number = words.next_word()?;
     if !is(word, "serve") {
-        return nobody();
+        return None;
     }
     match wide(number) {
-        Ok(reference) => Named {
+        Ok(reference) => Some(Named {
             connection,
             reference,
-        },
-        Err(_) => nobody(),
+        }),
+        Err(_) => None,
     }
 }
 
-/// The name of the command that the line of these words says was served.
+/// The name of the command that the line of these words says was served, if it names one.
 #[tactic(auto, unfolding(crate::specs::Naming::name_in))]
-pub fn name_in(words: Words<'_>) -> Named
+pub fn name_in(words: Words<'_>) -> Option<Named>
     ensures { result ≡ naming.name_in (lexical.words words.entry.rest.now) }
 {
     let mut rest = words;
     match rest.next_word() {
         Some(word) if is(word, "second") => served(Connection::Second, rest),
         Some(_) => served(Connection::First, words),
-        None => nobody(),
+        None => None,
     }
 }
 

@@ -2,16 +2,16 @@
 
 ghost use Rattle.std.specs.Prelude.{◌≡◌, ◌≤◌, IfSome, IfNone};
 ghost use Rattle.mscp_events.specs.Settings.{IsValid, Settings};
-ghost use Rattle.mscp_control.specs.History.{Trace};
-ghost use Rattle.mscp_control.specs.Holdings.{fresh};
-ghost use Rattle.mscp_judge.specs.Naming.{name_of};
+ghost use Rattle.mscp_controller.specs.History.{Trace};
+ghost use Rattle.mscp_controller.specs.Holdings.{fresh};
+ghost use Rattle.mscp_judge.specs.Naming.{wanted_name};
 ghost use Rattle.mscp_judge.specs.Rules as rules;
 ghost use Rattle.mscp_judge.specs.Rules.{IsStepRule};
 ghost use Rattle.mscp_judge.specs.Standing.{Led};
-ghost use Rattle.mscp_judge.specs.declared.naming.Named.{Named};
+ghost use Rattle.mscp_judge.specs.declared.naming.Wanted.{Wanted};
 
-use crate::naming::Named;
-use mscp_control::{Controller, Holder};
+use crate::naming::{Named, Wanted};
+use mscp_controller::{Controller, Holder};
 
 /// The rule that a line of a log breaks.
 #[derive(Clone, Copy, Debug, PartialEq, Eq)]
@@ -30,7 +30,7 @@ pub enum Rule {
     End,
     /// A step is idle only if nothing waits.
     Idle,
-    /// No command of this name waits.
+    /// No command of this name waits, or the line names none.
     NotWaiting,
     /// Another command is in service.
     InService(Named),
@@ -114,22 +114,25 @@ pub fn due_rule(right: &[u8], told: &[u8]) -> Rule
     answer_rule(unnamed(right), unnamed(told))
 }
 
-/// The rule that keeps a step from serving the command of this name: that of another service, if none does.
-pub fn step_rule(controller: &Controller<Named>, named: Named) -> Rule
-    ensures { (c : Settings) (t : Trace) (begun : Named) → IsValid c → Led (fresh c begun) t controller.now
-        → IsStepRule c t (name_of named) result }
+/// The rule that keeps a step from serving the command that is named: that of another service, if none does.
+pub fn step_rule(controller: &Controller<Wanted>, wanted: Option<Named>) -> Rule
+    ensures { (c : Settings) (t : Trace) (begun : Wanted) → IsValid c → Led (fresh c begun) t controller.now
+        → IsStepRule c t (wanted_name wanted) result }
 {
     if let Some((connection, reference)) = controller.serving() {
         let served = Named {
             connection,
             reference,
         };
-        return if served == named {
+        return if wanted == Some(served) {
             Rule::Service
         } else {
             Rule::InService(served)
         };
     }
+    let Some(named) = wanted else {
+        return Rule::NotWaiting;
+    };
     if controller.figure(named.connection, named.reference) == 0 {
         return Rule::NotWaiting;
     }

@@ -2,22 +2,22 @@
 
 ghost use Rattle.std.specs.Prelude.{◌≡◌, ◌<◌, ◌++◌, ◌∷◌, [], cond, filter, length};
 ghost use Rattle.mscp_events.specs.Settings.{IsValid, Settings};
-ghost use Rattle.mscp_control.specs.History.{Trace};
-ghost use Rattle.mscp_control.specs.Holdings.{fresh};
-ghost use Rattle.mscp_judge.specs.declared.naming.Named.{Named};
+ghost use Rattle.mscp_controller.specs.History.{Trace};
+ghost use Rattle.mscp_controller.specs.Holdings.{fresh};
+ghost use Rattle.mscp_judge.specs.declared.naming.Wanted.{Wanted};
 ghost use Rattle.mscp_judge.specs.Standing.{Led};
 ghost use Rattle.mscp_judge.specs.Starts as starts;
 ghost use Rattle.mscp_judge.specs.Starts.{starts_in};
 
-use crate::naming::Named;
+use crate::naming::{Named, Wanted};
 use arrayvec::ArrayVec;
-use mscp_control::Controller;
+use mscp_controller::Controller;
 
 /// Names of commands, in order of arrival.
 pub type Starts = ArrayVec<Named, 64>;
 
 /// The names of all that wait.
-fn names(controller: &Controller<Named>) -> Starts
+fn names(controller: &Controller<Wanted>) -> Starts
     ensures { result.items ≡ starts.names controller.now.settings.budget controller.now.waiting }
 {
     let shown = controller.look();
@@ -33,7 +33,7 @@ fn names(controller: &Controller<Named>) -> Starts
 }
 
 /// Whether nobody keeps the waiting command of this name back.
-fn is_open(controller: &Controller<Named>, named: Named) -> bool
+fn is_open(controller: &Controller<Wanted>, named: Named) -> bool
     ensures { result ≡ starts.is_open controller.now.settings.budget controller.now.waiting named }
 {
     controller
@@ -52,7 +52,7 @@ fn append_if(is_open: bool, open: &mut Starts, named: Named)
 }
 
 /// Of these names those of commands that nobody keeps back.
-fn open(controller: &Controller<Named>, names: &Starts) -> Starts
+fn open(controller: &Controller<Wanted>, names: &Starts) -> Starts
     ensures { result.items
         ≡ filter (starts.is_open controller.now.settings.budget controller.now.waiting) names.now.items }
 {
@@ -65,8 +65,8 @@ fn open(controller: &Controller<Named>, names: &Starts) -> Starts
 }
 
 /// The commands that may start: none while one is in service.
-pub fn starts(controller: &Controller<Named>) -> Starts
-    ensures { (c : Settings) (t : Trace) (begun : Named) → IsValid c → Led (fresh c begun) t controller.now
+pub fn starts(controller: &Controller<Wanted>) -> Starts
+    ensures { (c : Settings) (t : Trace) (begun : Wanted) → IsValid c → Led (fresh c begun) t controller.now
         → result.items ≡ starts_in c t }
 {
     match controller.serving() {

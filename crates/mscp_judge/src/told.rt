@@ -6,8 +6,8 @@ ghost use Rattle.mscp_judge.specs.Heard.{bytes_in, end_bytes, first_bytes, items
 
 use crate::answers::is;
 use arrayvec::ArrayVec;
+use mscp_packet::{MOST_MESSAGE_BYTES, decode};
 use mscp_reader::Words;
-use mscp_text::{MOST_MESSAGE_BYTES, decode};
 
 /// The bytes of a word, if it is hexadecimal digits of at most 64; else none.
 fn bytes_in(word: &[u8]) -> ArrayVec<u8, 64>

@@ -1,12 +1,12 @@
 // The totals of a log.
 
 ghost use Rattle.std.specs.Prelude.{◌≡◌};
-ghost use Rattle.mscp_control.specs.declared.entry.Entry.TheVariants as entries;
+ghost use Rattle.mscp_controller.specs.declared.entry.Entry.TheVariants as entries;
 ghost use Rattle.mscp_events.specs.Settings.{bound};
 ghost use Rattle.mscp_judge.specs.Totals.{IsLarger, figure_queued};
 
-use crate::naming::Named;
-use mscp_control::{Config, Connection, Controller, SendFault, Sent};
+use crate::naming::Wanted;
+use mscp_controller::{Config, Connection, Controller, SendFault, Sent};
 
 /// The totals of a legal log.
 #[derive(Clone, Copy, Debug, PartialEq, Eq)]
@@ -61,7 +61,7 @@ impl Peaks {
 
 /// The figure of the command that was queued, if one was, and else 0.
 pub fn figure_queued(
-    controller: &Controller<Named>,
+    controller: &Controller<Wanted>,
     connection: Connection,
     sent: &Result<Sent, SendFault>,
 ) -> u32

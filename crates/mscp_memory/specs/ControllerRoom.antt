@@ -1,8 +1,8 @@
 -- What the words of a handle on a controller's memory say.
 use Rattle.std.specs.Prelude.{ℕ, Bool, nat_eq, Option}
 use Rattle.std.specs.Borrow.{RattleType}
-use Rattle.mscp_control.specs.Holdings.{Holdings}
-use Rattle.mscp_control.specs.contracts.controller.Controller as controllers
+use Rattle.mscp_controller.specs.Holdings.{Holdings}
+use Rattle.mscp_controller.specs.contracts.controller.Controller as controllers
 use Rattle.mscp_memory.specs.contracts.policy.Policy as policies
 use Rattle.mscp_memory.specs.declared.fault.RoomFault.{RoomFault}
 use Rattle.mscp_memory.specs.declared.policy.Policy.{Policy}

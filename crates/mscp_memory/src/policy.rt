@@ -2,7 +2,7 @@
 
 ghost use Rattle.std.specs.Prelude.{◌≡◌};
 
-use mscp_control::{Oldest, Picker, Sweep, View};
+use mscp_controller::{Oldest, Picker, Sweep, View};
 
 /// Which picker says what starts.
 #[derive(Clone, Copy, Debug, PartialEq, Eq)]

@@ -3,6 +3,7 @@
 
 mod class;
 mod command;
+mod decoding;
 mod end;
 pub mod fields;
 mod law;
@@ -12,6 +13,7 @@ mod writing;
 
 pub use crate::class::{Class, class_of};
 pub use crate::command::{Command, MoveKind, Order};
+pub use crate::decoding::{MOST_MESSAGE_BYTES, decode};
 pub use crate::end::{End, EndBody};
 pub use crate::law::{
     command_bytes_are_messages, end_bytes_are_messages, read_written_command, read_written_end,

@@ -1,16 +1,17 @@
 -- What comes of bytes whose head has no fault.
-use Rattle.std.proofs.Common.{◌≡◌, ℕ, ◌+◌, Bool, List, drop, refl, ap, sym, ◌∙◌}
+use Rattle.std.proofs.Common.{◌≡◌, ℕ, ◌+◌, Bool, true, false, List, drop, refl, ap, sym, ◌∙◌}
 use Rattle.std.specs.Prelude.{Option, Some, None, Result, Ok, Err, if◌then◌else◌, slice_index}
 use Rattle.std.specs.Str.{bytes_eq}
 use Rattle.std.proofs.lemmas.List.{get_or-drop}
-use Rattle.mscp_control.specs.Holdings.{Holdings}
+use Rattle.std.proofs.lemmas.Slice.Eq.{bytes_eq-Decides}
+use Rattle.mscp_controller.specs.Holdings.{Holdings}
 use Rattle.mscp_saved.specs.declared.fault.RestoreFault.{RestoreFault as ControllerFault}
 use Rattle.mscp_saved.specs.Restored.{restored as controller_restored}
 use Rattle.mscp_saved.proofs.Faithful.{same_of}
 use Rattle.mscp_port.specs.declared.port.Port.{Port}
 use Rattle.mscp_port.specs.declared.port.restoring.RestoreFault.{RestoreFault}
 use Rattle.mscp_port.specs.declared.port.restoring.RestoreFault.TheVariants as faults
-use Rattle.mscp_port.specs.Restored.{controller_place, frame_fault, over, restored, restored_unless, whose}
+use Rattle.mscp_port.specs.Restored.{controller_place, frame_fault, over, port_in, restored, restored_unless, whose}
 use Rattle.mscp_port.specs.Saved.{saved_bytes}
 
 -- the bytes of a controller say this
@@ -45,3 +46,22 @@ module _ {K : Type 0} (number : ℕ) (picker : K) (b : List ℕ) (p : Port K) wh
   -- its bytes tell the number of its picker
   pub number_told : restored number picker b ≡ Ok p → slice_index b (controller_place b + 30) ≡ number
   number_told e = by_fault (frame_fault b) e
+
+  by_bytes : (same : Bool) (q : Port K) → bytes_eq (saved_bytes number q) b ≡ same
+      → (if same then Ok q else Err faults.Form) ≡ Ok p → saved_bytes number p ≡ b
+  by_bytes true q is e =
+      let one : q ≡ p = cc in
+      ap (saved_bytes number) (sym one) ∙ (bytes_eq-Decides (saved_bytes number q) b).0 is
+  by_bytes false q is e = cc
+
+  by_over : (r : Result (Holdings K) ControllerFault) → over number b r ≡ Ok p → saved_bytes number p ≡ b
+  by_over (Err fault) e = cc
+  by_over (Ok h) e = by_bytes (bytes_eq (saved_bytes number (port_in b h)) b) (port_in b h) refl e
+
+  by_any : (f : Option RestoreFault) → restored_unless f number picker b ≡ Ok p → saved_bytes number p ≡ b
+  by_any (Some fault) e = cc
+  by_any None e = by_over (controller_restored number picker (drop (controller_place b) b)) e
+
+  -- it is saved as them
+  pub bytes_told : restored number picker b ≡ Ok p → saved_bytes number p ≡ b
+  bytes_told e = by_any (frame_fault b) e

@@ -11,11 +11,11 @@ use Rattle.mscp_packet.specs.Opcodes.{class, is_immediate_class}
 use Rattle.mscp_queue.proofs.Masked.{eq_false}
 use Rattle.mscp_events.specs.declared.connection.Connection.{Connection}
 use Rattle.mscp_events.specs.declared.connection.Connection.TheVariants.{First}
-use Rattle.mscp_control.specs.declared.entry.SendFault.{SendFault}
-use Rattle.mscp_control.specs.declared.entry.SendFault.TheVariants as faults
-use Rattle.mscp_control.specs.declared.entry.Sent.{Sent}
-use Rattle.mscp_control.specs.Arrival.{credit_fault, holds, refusal}
-use Rattle.mscp_control.specs.Holdings.{Holdings, answer_to_message, balance_of, outstanding_of, sent_unless, waiting_on, numbers, numbers_ended}
+use Rattle.mscp_controller.specs.declared.entry.SendFault.{SendFault}
+use Rattle.mscp_controller.specs.declared.entry.SendFault.TheVariants as faults
+use Rattle.mscp_controller.specs.declared.entry.Sent.{Sent}
+use Rattle.mscp_controller.specs.Arrival.{credit_fault, holds, refusal}
+use Rattle.mscp_controller.specs.Holdings.{Holdings, answer_to_message, balance_of, outstanding_of, sent_unless, waiting_on, numbers, numbers_ended}
 use Rattle.mscp_events.specs.Both.{of}
 use Rattle.mscp_events.specs.Settings.{credits_of}
 use Rattle.mscp_port.specs.declared.hardware.Hardware.{Hardware}
@@ -31,7 +31,7 @@ ticked old new r = elim r.either [
   | inr dead ↦ ap (λ h. h.settings) dead.controller
 ]
 
-settings_stay : {K : Type 0} (call : Call) (old new : Port K) → Becomes call old new
+pub settings_stay : {K : Type 0} (call : Call) (old new : Port K) → Becomes call old new
     → new.controller.settings ≡ old.controller.settings
 settings_stay WriteIp old new r = ap (λ h. h.settings) r.controller
 settings_stay ReadIp old new r = r.settings

@@ -10,7 +10,7 @@ use Rattle.mscp_port.specs.declared.rings.Side.{Side}
 use Rattle.mscp_port.specs.declared.slot.Descriptor.{Descriptor}
 use Rattle.mscp_port.specs.declared.task.Task.{Task}
 use Rattle.mscp_port.specs.declared.task.Task.TheVariants as tasks
-use Rattle.mscp_port.specs.Outgoings.{Says}
+use Rattle.mscp_port.specs.Outgoings.{KeepsSaying, Says, TakesEnd, TellsNews}
 use Rattle.mscp_port.specs.Ports.{in_hand}
 use Rattle.mscp_port.specs.Calls.{ChangesByActing, StaysInStage}
 use Rattle.mscp_port.specs.Buffers.{has_reference}
@@ -28,18 +28,39 @@ unsettled old new e =
     subst (λ (p : Port _). ChangesByActing old p × StaysInStage old p) (sym e) (inl refl, inl refl)
 
 -- what goes out doesn't depend on what is in hand
-pub said_on : {K : Type 0} (old new : Port K) (t : Task) → Says old new → Says old (record new { task = t })
-said_on old new t says = elim says [
-  | inl k ↦ inl (record { outgoing = k.outgoing; untaken = k.untaken })
-  | inr more ↦ elim more [
-    | inl e ↦ inr (inl (record { nothing = e.nothing; some = e.some; untaken = e.untaken; out = e.out }))
-    | inr n ↦ inr (inr (record { nothing = n.nothing; none = n.none; untaken = n.untaken; out = n.out }))
-  ]
+keeps_on : {K : Type 0} (old new : Port K) (t : Task) → KeepsSaying old new → KeepsSaying old (record new { task = t })
+keeps_on old new t k =
+    record { outgoing = k.outgoing; controller = k.controller; stalled = k.stalled; volumes = k.volumes }
+
+looks_on : {K : Type 0} (old new : Port K) (t : Task) → TakesEnd old new ⊎ TellsNews old new
+    → TakesEnd old (record new { task = t }) ⊎ TellsNews old (record new { task = t })
+looks_on old new t either = elim either [
+  | inl e ↦ inl (record {
+    nothing = e.nothing;
+    out = e.out;
+    controller = e.controller;
+    stalled = e.stalled;
+    volumes = e.volumes;
+  })
+  | inr n ↦ inr (record {
+    nothing = n.nothing;
+    none = n.none;
+    out = n.out;
+    controller = n.controller;
+    stalled = n.stalled;
+  })
 ]
 
+pub said_on : {K : Type 0} (old new : Port K) (t : Task) → Says old new → Says old (record new { task = t })
+said_on old new t says = record {
+  looks = λ is. looks_on old new t (says.looks is);
+  keeps = λ no. keeps_on old new t (says.keeps no);
+}
+
 -- a port that changes nothing says what it said
-pub says_the_same : {K : Type 0} (old new : Port K) → new ≡ old → Says old new
-says_the_same old new e = subst (λ (p : Port _). Says old p) (sym e) (inl (record { outgoing = refl; untaken = refl }))
+pub keeps_the_same : {K : Type 0} (old new : Port K) → new ≡ old → KeepsSaying old new
+keeps_the_same old new e = subst (λ (p : Port _). KeepsSaying old p) (sym e)
+    (record { outgoing = refl; controller = refl; stalled = refl; volumes = refl })
 
 -- no slot is to be given back where none is in hand
 pub none_returned : (t : Task) (side : Side) (slot : Descriptor) → in_hand t ≡ None → t ≡ tasks.Return side slot → ⊥

@@ -3,7 +3,11 @@ pub mod Comes
 pub mod Coded
 pub mod Among
 pub mod Begun
+pub mod Credited
 pub mod Credits
+pub mod Departing
 pub mod Known
+pub mod Loads
 pub mod Naming
 pub mod Settings
+pub mod Formed

@@ -4,9 +4,9 @@ use Rattle.std.specs.Prelude.{if◌then◌else◌}
 use Rattle.mscp_packet.specs.declared.command.Command.{Command}
 use Rattle.mscp_events.specs.declared.connection.Connection.{Connection}
 use Rattle.mscp_packet.specs.Commands.{command_of}
-use Rattle.mscp_control.specs.declared.entry.SendFault.{SendFault}
-use Rattle.mscp_control.specs.Arrival.{is_queued, refusal}
-use Rattle.mscp_control.specs.Holdings.{Holdings, aborting, after_message, answered_end, balance_of, held_unless, outstanding_of, queued, with_end}
+use Rattle.mscp_controller.specs.declared.entry.SendFault.{SendFault}
+use Rattle.mscp_controller.specs.Arrival.{is_queued, refusal}
+use Rattle.mscp_controller.specs.Holdings.{Holdings, aborting, after_message, answered_end, balance_of, held_unless, outstanding_of, queued, with_end}
 
 settings_unless : {K : Type 0} (via : Connection) (h : Holdings K) (command : Command) (o : Option SendFault)
     → (held_unless via h command o).settings ≡ h.settings

@@ -83,3 +83,5 @@ pub record Acts {K : Type 0} (outcome : Outcome) (old new : Port K) : Type 0 whe
     task = if vector_in old.words.first == 0 then tasks.Free else tasks.Interrupt;
   }
   pub interrupt : old.task ≡ tasks.Interrupt → new ≡ record old { task = tasks.Free }
+  -- and a step of the initialisation that the host hasn't answered
+  pub unanswered : old.task ≡ tasks.Settle → old.written ≡ None → new ≡ record old { task = tasks.Free }

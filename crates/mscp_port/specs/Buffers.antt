@@ -1,5 +1,5 @@
 -- Where the data of a transfer are in host memory (port).
-use Rattle.std.specs.Prelude.{ℕ, ◌+◌, ◌-◌, ◌*◌, ◌≤◌, ◌||◌, min, nat_eq, nat_lt, Bool, List, length, remove, if◌then◌else◌, Option, None, Some}
+use Rattle.std.specs.Prelude.{ℕ, ◌+◌, ◌-◌, ◌*◌, ◌≤◌, ◌||◌, ◌++◌, ◌∷◌, [], min, nat_eq, nat_lt, Bool, List, length, remove, if◌then◌else◌, Option, None, Some}
 use Rattle.std.specs.List.{position}
 use Rattle.mscp_packet.specs.Number.{num}
 use Rattle.mscp_port.specs.declared.buffers.Buffer.{Buffer}
@@ -38,6 +38,15 @@ without_place (Some place) bs = remove bs place
 -- all but the first of this command, if there is one
 abbrev pub without : ℕ → List Buffer → List Buffer
 without reference bs = without_place (position (has_reference reference) bs) bs
+
+-- all but the one of a command that was aborted, if one was
+abbrev pub without_aborted : Option ℕ → List Buffer → List Buffer
+without_aborted None bs = bs
+without_aborted (Some reference) bs = without reference bs
+
+-- one more is kept, behind the others. There is room for 64 commands
+abbrev pub kept_beside : Buffer → List Buffer → List Buffer
+kept_beside b bs = if nat_lt (length bs) 64 then bs ++ b ∷ [] else bs
 
 -- the bytes of the step that comes after so many others
 abbrev pub left_of : Buffer → ℕ → ℕ

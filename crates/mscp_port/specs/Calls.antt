@@ -2,8 +2,8 @@
 use Rattle.std.specs.Prelude.{◌≡◌, ◌≢◌, ◌≤◌, ◌<◌, ◌==◌, ◌+◌, ◌-◌, ◌%◌, ◌/◌, ◌⊎◌, ◌↔◌, ℕ, Bool, true, false, nat_lt, if◌then◌else◌, List, [], length, Contains, IfSome, IsErr, IsOk, OnErr, Result, Option, None, Some, Err}
 use Rattle.mscp_events.specs.declared.connection.Connection.TheVariants.{First}
 use Rattle.mscp_events.specs.Both.{of}
-use Rattle.mscp_control.specs.Holdings.{after_message, answer_to_message, Holdings, waiting_on}
-use Rattle.mscp_control.specs.declared.entry.SendFault.TheVariants as faults
+use Rattle.mscp_controller.specs.Holdings.{after_message, answer_to_message, Holdings, waiting_on}
+use Rattle.mscp_controller.specs.declared.entry.SendFault.TheVariants as faults
 use Rattle.mscp_port.specs.declared.action.Action.{Action}
 use Rattle.mscp_port.specs.declared.action.Action.TheVariants as actions
 use Rattle.mscp_port.specs.declared.action.Outcome.{Outcome}
@@ -22,10 +22,12 @@ use Rattle.mscp_port.specs.declared.task.Task.TheVariants as tasks
 use Rattle.mscp_port.specs.Acted.{Acts, step_task}
 use Rattle.mscp_port.specs.Areas.{rings_named}
 use Rattle.mscp_port.specs.Messages.{handed, own_end}
+use Rattle.mscp_port.specs.Moved.{GoesOnWithBlock, IsStepping, MayMoveOn}
 use Rattle.mscp_port.specs.Outgoings.{AnswersItself, HasSaid, Says}
 use Rattle.mscp_port.specs.Slots.{is_owned}
 use Rattle.mscp_packet.specs.Number.{num}
-use Rattle.mscp_port.specs.Ports.{Drops, IsAlive, IsAsNew, IsDue, IsIdle, IsOutcomeOf, IsReadingText, IsWithin, Learns, Leaves, in_hand, read_size}
+use Rattle.mscp_packet.specs.declared.command.MoveKind.{MoveKind}
+use Rattle.mscp_port.specs.Ports.{Drops, IsAlive, IsAsNew, IsDue, IsIdle, IsOfBlock, IsOutcomeOf, IsReadingText, IsWithin, Learns, Leaves, in_hand, read_size}
 use Rattle.mscp_port.specs.Registers.{shown}
 use Rattle.mscp_port.specs.Seen.{Sees}
 use Rattle.mscp_port.specs.Wanted.{IsWanted}
@@ -79,6 +81,12 @@ pub record ReadsIp {K : Type 0} (old new : Port K) : Type 0 where
       → new ≡ record old { stage = stages.Clearing; task = tasks.Clear 0 }
   pub nowhere : old.stage ≡ stages.Probing → old.rings ≡ None → IsAsNew (stages.Dead 7) old new
   pub elsewhere : old.stage ≢ stages.Up → old.stage ≢ stages.Probing → new ≡ old
+  pub frame : (new ≡ record old {
+    stage = new.stage;
+    task = new.task;
+    is_polled = new.is_polled;
+    is_full = new.is_full;
+  }) ⊎ Dies old new
   pub settings : new.controller.settings ≡ old.controller.settings
   pub hand : Leaves old new ⊎ Drops old new
 
@@ -98,6 +106,7 @@ pub record WritesSa {K : Type 0} (word : ℕ) (old new : Port K) : Type 0 where
   pub clearing : old.stage ≡ stages.Clearing → new ≡ old
   pub up : old.stage ≡ stages.Up → new ≡ old
   pub dead : (code : ℕ) → old.stage ≡ stages.Dead code → new ≡ old
+  pub frame : (new ≡ record old { stage = new.stage; written = new.written }) ⊎ Dies old new
   pub settings : new.controller.settings ≡ old.controller.settings
   pub hand : Leaves old new ⊎ Drops old new
 
@@ -123,9 +132,14 @@ pub record Wants {K : Type 0} (old : Port K) (action : Action) (new : Port K) : 
   pub wanted : IsAlive old → IsWanted new new.task action
   -- which is what is due, where there was nothing
   pub due : IsAlive old → old.task ≡ tasks.Free → IsDue new new.task
-  -- and what goes out next: ends leave in the order in which the controller has them
+  -- and what goes out next: ends leave in the order in which the controller has them. Of the controller nothing else
+  -- changes but what it has begun, and that only for a block
   pub says : Says old new
+  pub begun : (IsOfBlock new.task → ⊥) → new.controller.begun ≡ old.controller.begun
   pub settings : new.controller.settings ≡ old.controller.settings
+  -- a block is moved only on a volume that is there, with which its unit is online, and that may be written on if it is
+  pub moves : (kind : MoveKind) (unit block count : ℕ) → action ≡ actions.Transfer kind unit block count
+      → MayMoveOn kind unit new
   -- what is in hand stays so until it is told how that went
   pub goes_on : old.task ≢ tasks.Free → new ≡ old
 
@@ -220,10 +234,9 @@ pub record TakesStep {K : Type 0} (word : ℕ) (old new : Port K) : Type 0 where
   pub elsewhere : old.stage ≢ stages.First → old.stage ≢ stages.Second → old.stage ≢ stages.Third
       → new ≡ record old { written = None; task = tasks.Free }
 
--- what may change as an action went, but for a step that is taken, and for a fatal error
+-- what may change as an action went, but for a step that is taken: of a block only what follows it
 abbrev pub ChangesByActing : {K : Type 0} → Port K → Port K → Type 0
 ChangesByActing old new = (new ≡ record old {
-  controller = new.controller;
   untold = new.untold;
   stage = new.stage;
   responses = new.responses;
@@ -231,13 +244,16 @@ ChangesByActing old new = (new ≡ record old {
   task = new.task;
   outgoing = new.outgoing;
   is_stalled = new.is_stalled;
-  buffers = new.buffers;
-  volumes = new.volumes;
-}) ⊎ Dies old new
+}) ⊎ GoesOnWithBlock old new ⊎ Dies old new
 
 -- the stage stays, or is the last step of the initialisation, once the communication area is clear
 abbrev pub StaysInStage : {K : Type 0} → Port K → Port K → Type 0
 StaysInStage old new = (new.stage ≡ old.stage) ⊎ (new.stage ≡ stages.Last) ⊎ Dies old new
+
+-- a packet is in hand
+abbrev pub HoldsPacket : Task → Type 0
+HoldsPacket (tasks.Packet slot) = Unit {0}
+HoldsPacket task = ⊥
 
 -- an action that isn't a read went so, or a read failed so
 pub record Goes {K : Type 0} (outcome : Outcome) (old : Port K) (result : Result Unit Unasked) (new : Port K)
@@ -247,9 +263,14 @@ pub record Goes {K : Type 0} (outcome : Outcome) (old : Port K) (result : Result
   pub only : IsOk result → IsOutcomeOf old.task outcome
   pub unasked : OnErr result (new ≡ old)
   pub acts : IsOk result → Acts outcome old new
+  -- of a block it follows what is next, or what the controller's step has left
+  pub blocks : IsOk result → IsStepping old.task → GoesOnWithBlock old new
   pub steps : IsOk result → IfSome (step_answered old.task old.written) (λ word. TakesStep word old new)
   pub settings : new.controller.settings ≡ old.controller.settings
   pub still : step_answered old.task old.written ≡ None → ChangesByActing old new × StaysInStage old new
+  pub volumes : (new.volumes ≡ old.volumes) ⊎ GoesOnWithBlock old new ⊎ Dies old new
+  -- its credits are told by a packet alone
+  pub credits : HoldsPacket old.task ⊎ ((new.untold ≡ old.untold) × (new.more ≡ old.more)) ⊎ Dies old new
   -- of its host's memory the port learns nothing but the area
   pub buffers : (b : Buffer) → Contains new.buffers.items b → Contains old.buffers.items b
   pub packet : IfSome (in_hand new.task) (λ word. in_hand old.task ≡ Some word)

@@ -4,7 +4,10 @@ pub mod Blocks
 pub mod Buffers
 pub mod Calls
 pub mod Codes
+pub mod Departures
 pub mod Histories
+pub mod Leaving
+pub mod Loaded
 pub mod Messages
 pub mod Moved
 pub mod Outgoings

@@ -1,18 +1,20 @@
 -- What is wanted for a block in hand, and what follows once that was done.
-use Rattle.std.specs.Prelude.{◌≡◌, ◌⊎◌, ℕ, ◌||◌, Bool, true, false, is_none, if◌then◌else◌, List, MatchOption, Result, Option, None, Some}
+use Rattle.std.specs.Prelude.{◌≡◌, ◌<◌, ◌⊎◌, ℕ, ◌%◌, ◌==◌, ◌||◌, Bool, true, false, is_none, if◌then◌else◌, List, MatchOption, Result, Option, None, Some, Ok}
 use Rattle.mscp_drive.specs.Shape.{Shape}
 use Rattle.mscp_packet.specs.declared.command.MoveKind.{MoveKind}
 use Rattle.mscp_packet.specs.declared.command.MoveKind.TheVariants as moves
 use Rattle.mscp_events.specs.declared.block.Block.{Block}
 use Rattle.mscp_events.specs.declared.block.Block.TheVariants as blocks
+use Rattle.mscp_packet.specs.declared.end.End.{End}
 use Rattle.mscp_queue.specs.declared.report.Report.{Report}
+use Rattle.mscp_queue.specs.declared.report.Report.TheVariants as reports
 use Rattle.mscp_events.specs.declared.connection.Connection.{Connection}
 use Rattle.mscp_queue.specs.declared.view.Choice.{Choice}
 use Rattle.mscp_queue.specs.Names.{name_on}
 use Rattle.mscp_queue.specs.declared.upcoming.Upcoming.{Upcoming}
 use Rattle.mscp_events.specs.declared.connection.Connection.TheVariants.{First}
-use Rattle.mscp_control.specs.Holdings.{Finishes, Foretells, Holdings, after_take}
-use Rattle.mscp_control.specs.declared.entry.Stale.{Stale}
+use Rattle.mscp_controller.specs.Holdings.{Finishes, Foretells, Holdings, after_take}
+use Rattle.mscp_controller.specs.declared.entry.Stale.{Stale}
 use Rattle.mscp_port.specs.declared.action.Action.{Action}
 use Rattle.mscp_port.specs.declared.action.Action.TheVariants as actions
 use Rattle.mscp_port.specs.declared.action.Outcome.{Outcome}
@@ -24,8 +26,8 @@ use Rattle.mscp_port.specs.declared.task.Task.{Task}
 use Rattle.mscp_port.specs.declared.task.Task.TheVariants as tasks
 use Rattle.mscp_port.specs.declared.volumes.Volume.{Volume}
 use Rattle.mscp_port.specs.Blocks.{block_of, fault_with, kept_of, step_with, task_of}
-use Rattle.mscp_port.specs.Buffers.{part_of}
-use Rattle.mscp_port.specs.Volumes.{place_in, volume_at}
+use Rattle.mscp_port.specs.Buffers.{part_of, without}
+use Rattle.mscp_port.specs.Volumes.{MayMove, place_in, volume_at, volumes_heeded}
 
 -- ---- which step is taken
 
@@ -75,6 +77,11 @@ part_now p job =
     if is_storing p.task || is_none (fault_now p job) then part_kept (kept_of job.reference p.buffers.items) job.done
     else None
 
+-- a block of this unit may be moved so: on the volume that is in it
+abbrev pub MayMoveOn : {K : Type 0} → MoveKind → ℕ → Port K → Type 0
+MayMoveOn kind unit p = (place : ℕ) × (place_in p.controller.settings.units unit ≡ Some place) × (place < 16)
+    × MayMove kind (volume_at p.volumes place)
+
 -- ---- what is wanted
 
 -- the part is fetched, or stored, or the block is moved. Nothing of a step that may not go on
@@ -97,12 +104,42 @@ next_part (tasks.Fetch other) outcomes.Done job = Some (tasks.Transfer job)
 next_part (tasks.Transfer other) outcomes.Done job = behind_block job.kind job
 next_part task outcome job = None
 
+-- the end that a step brought, if it brought one
+abbrev pub end_brought : Result Report Stale → Option End
+end_brought (Ok (reports.Served via reference unit lbn started seek ended)) = ended
+end_brought result = None
+
+-- what is kept of the commands that wait, once a step brought this end
+abbrev pub kept_after : Option End → List Buffer → List Buffer
+kept_after None buffers = buffers
+kept_after (Some e) buffers = without e.reference buffers
+
+-- only Success is heeded
+abbrev pub place_heeded : List Shape → End → Option ℕ
+place_heeded units e = if e.status % 32 == 0 then place_in units e.unit else None
+
+-- and the volumes
+abbrev pub volumes_after : List Shape → List Buffer → Option End → List Volume → List Volume
+volumes_after units buffers None volumes = volumes
+volumes_after units buffers (Some e) volumes =
+    volumes_heeded e.code (kept_of e.reference buffers) (place_heeded units e) volumes
+
+-- the controller has taken a step, which brought this end, if it brought one: nothing is in hand, and the end is heeded
+pub record HeedsStep {K : Type 0} (ended : Option End) (old new : Port K) : Type 0 where
+  pub frame : new ≡ record old {
+    controller = new.controller;
+    task = tasks.Free;
+    buffers = new.buffers;
+    volumes = volumes_after old.controller.settings.units old.buffers.items ended old.volumes;
+  }
+  pub buffers : new.buffers.items ≡ kept_after ended old.buffers.items
+
 -- the controller is told of a step whose block had this outcome, and nothing is in hand
 pub record TakesBlock {K : Type 0} (picks : List Choice → ℕ → Type 0) (via : Connection) (reference : ℕ) (block : Block)
     (old new : Port K) : Type 0 where
-  pub free : new.task ≡ tasks.Free
   pub finished : (result : Result Report Stale)
       × Finishes picks (name_on via reference) block old.controller result new.controller
+      × HeedsStep (end_brought result) old new
 
 abbrev pub lost_with : Option ℕ → Block
 lost_with None = blocks.Bad 0x000B
@@ -123,3 +160,17 @@ pub record Moves {K : Type 0} (picks : List Choice → ℕ → Type 0) (outcome 
   pub fetch : (job : Job) → old.task ≡ tasks.Fetch job → MovesOn picks outcome job old new
   pub transfer : (job : Job) → old.task ≡ tasks.Transfer job → MovesOn picks outcome job old new
   pub store : (job : Job) → old.task ≡ tasks.Store job → MovesOn picks outcome job old new
+
+-- ---- without the picker
+
+-- a block, or a step without one, is in hand
+abbrev pub IsStepping : Task → Type 0
+IsStepping (tasks.Step via reference block) = Unit {0}
+IsStepping (tasks.Fetch job) = Unit {0}
+IsStepping (tasks.Transfer job) = Unit {0}
+IsStepping (tasks.Store job) = Unit {0}
+IsStepping task = ⊥
+
+-- the next part of the step is taken in hand, or the controller has taken the step
+abbrev pub GoesOnWithBlock : {K : Type 0} → Port K → Port K → Type 0
+GoesOnWithBlock old new = (new ≡ record old { task = new.task }) ⊎ ((ended : Option End) × HeedsStep ended old new)

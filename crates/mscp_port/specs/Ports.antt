@@ -1,6 +1,6 @@
 -- What a port knows of its host's memory, and what it may touch there.
 use Rattle.std.specs.Prelude.{◌≡◌, ◌≢◌, ℕ, ◌+◌, ◌-◌, ◌≤◌, ◌<◌, ◌⊎◌, ◌&&◌, true, false, nat_le, if◌then◌else◌, List, [], length, Contains, IfSome, IsSomeAnd, Option, None, Some}
-use Rattle.mscp_control.specs.Holdings.{fresh}
+use Rattle.mscp_controller.specs.Holdings.{fresh}
 use Rattle.mscp_packet.specs.Number.{num}
 use Rattle.mscp_port.specs.declared.action.Action.{Action}
 use Rattle.mscp_port.specs.declared.action.Action.TheVariants as actions

@@ -1,11 +1,11 @@
 -- What comes of bytes that a port is to be made of: the port that they say, or why there is none.
-use Rattle.std.specs.Prelude.{ℕ, ◌+◌, ◌*◌, ◌≤◌, Bool, not, ◌&&◌, nat_eq, nat_le, if◌then◌else◌, List, length, take, drop, slice_index, Option, Some, None, Result, Ok, Err}
+use Rattle.std.specs.Prelude.{ℕ, ◌+◌, ◌-◌, ◌*◌, ◌^◌, ◌≤◌, ◌<◌, Bool, not, ◌&&◌, nat_eq, nat_le, if◌then◌else◌, List, [], length, take, drop, slice_index, Option, Some, None, Result, Ok, Err}
 use Rattle.std.specs.Str.{bytes_eq}
 use Rattle.mscp_packet.specs.Number.{num}
-use Rattle.mscp_control.specs.Holdings.{Holdings}
+use Rattle.mscp_controller.specs.Holdings.{Holdings}
 use Rattle.mscp_saved.specs.declared.fault.RestoreFault.{RestoreFault as ControllerFault}
-use Rattle.mscp_saved.specs.Read.{parts_in}
-use Rattle.mscp_saved.specs.Restored.{restored as controller_restored}
+use Rattle.mscp_saved.specs.Read.{held_in as controller_said, parts_in}
+use Rattle.mscp_saved.specs.Restored.{IsSaved as IsSavedController, restored as controller_restored}
 use Rattle.mscp_port.specs.declared.buffers.Buffer.{Buffer}
 use Rattle.mscp_port.specs.declared.codes.Coded.{Coded}
 use Rattle.mscp_port.specs.declared.hardware.Hardware.{Hardware}
@@ -17,7 +17,7 @@ use Rattle.mscp_port.specs.declared.port.restoring.RestoreFault.TheVariants as f
 use Rattle.mscp_port.specs.declared.volumes.Volume.{Volume}
 use Rattle.mscp_port.specs.Areas.{Rings, rings_of}
 use Rattle.mscp_port.specs.Codes.{bus_in, optional, stage_in, task_in}
-use Rattle.mscp_port.specs.Saved.{buffer_size, front_size, head_size, magic, saved_bytes, version, volume_size}
+use Rattle.mscp_port.specs.Saved.{buffer_size, front_bytes, front_size, head_size, length_before, magic, saved_bytes, version, volume_size}
 
 -- ---- what bytes say. Of bytes that are nobody's something is said, too
 
@@ -126,6 +126,22 @@ port_in b h = record {
   left = num b 27 2;
 }
 
+-- the controller that its bytes say, with this picker
+abbrev pub controller_in : {K : Type 0} → K → List ℕ → Holdings K
+controller_in picker b = controller_said picker (drop (controller_place b) b)
+
+-- the port over that
+abbrev pub held_in : {K : Type 0} → K → List ℕ → Port K
+held_in picker b = port_in b (controller_in picker b)
+
+-- all that is said of a port but for its controller, in whose place any other stands
+abbrev pub front_in : List ℕ → Port (Unit {0})
+front_in b = port_in b (controller_said (tt {0}) [])
+
+-- the bytes in front of the controller's that it is saved as, before as many bytes of a controller as there are
+abbrev pub told_front : List ℕ → List ℕ
+told_front b = front_bytes (length_before (length b - controller_place b) (front_in b)) (front_in b)
+
 -- ---- why not
 
 -- there is a head with volumes, and as many bytes as it tells, which are not too few for its parts; and no more of each
@@ -139,6 +155,7 @@ is_framed b =
 -- the same, as facts
 pub record IsFramed (b : List ℕ) : Type 0 where
   pub front : 280 ≤ length b
+  pub told : length b < 2 ^ 32
   pub text : text_count b ≤ 48
   pub buffers : buffer_count b ≤ 64
   pub parts : controller_place b ≤ length b
@@ -167,3 +184,13 @@ restored_unless None number picker b =
 -- what comes of bytes for a picker of this number: the port that they say, whose bytes they are, or why they are none's
 abbrev pub restored : {K : Type 0} → ℕ → K → List ℕ → Result (Port K) RestoreFault
 restored number picker b = restored_unless (frame_fault b) number picker b
+
+-- something, unless there is a fault
+abbrev pub unless : {X : Type 0} → X → Option RestoreFault → Result X RestoreFault
+unless x (Some fault) = Err fault
+unless x None = Ok x
+
+-- bytes are a saved port's: there is a head, and its controller's bytes are a saved one's
+pub record IsSaved {K : Type 0} (picker : K) (b : List ℕ) : Type 0 where
+  pub framed : IsFramed b
+  pub controller : IsSavedController picker (drop (controller_place b) b)

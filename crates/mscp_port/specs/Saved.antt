@@ -122,11 +122,14 @@ buffer_bytes b =
 abbrev pub saved_length : ℕ → ℕ → ℕ → ℕ
 saved_length text buffers controller = front_size + text + buffer_size * buffers + controller
 
+-- how long all is of a port before so many bytes of a controller
+abbrev pub length_before : {K : Type 0} → ℕ → Port K → ℕ
+length_before controller p =
+    saved_length (length (outgoing_text p.outgoing)) (length p.buffers.items) controller
+
 -- how long all is of a port whose picker has this number
 abbrev pub length_of : {K : Type 0} → ℕ → Port K → ℕ
-length_of picker p =
-    saved_length (length (outgoing_text p.outgoing)) (length p.buffers.items)
-    (length (controller_bytes picker p.controller))
+length_of picker p = length_before (length (controller_bytes picker p.controller)) p
 
 abbrev pub state_bytes : {K : Type 0} → Port K → List ℕ
 state_bytes p = hardware_bytes p.hardware ++ counts_bytes p ++ host_bytes p ++ words_bytes p.words
@@ -141,6 +144,15 @@ hand_bytes p =
 
 abbrev pub head_bytes : {K : Type 0} → ℕ → Port K → List ℕ
 head_bytes total p = frame_bytes total ++ state_bytes p ++ hand_bytes p
+
+-- what is in front of the controller, where all is so long: the volumes in the order of the units, what goes out, and
+-- what is kept of commands
+abbrev pub front_bytes : {K : Type 0} → ℕ → Port K → List ℕ
+front_bytes total p =
+    head_bytes total p
+    ++ flat_map volume_bytes p.volumes
+    ++ outgoing_text p.outgoing
+    ++ flat_map buffer_bytes p.buffers.items
 
 -- all of a port: the volumes in the order of the units, what goes out, what is kept of commands, and the controller
 abbrev pub saved_bytes : {K : Type 0} → ℕ → Port K → List ℕ

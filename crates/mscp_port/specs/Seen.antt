@@ -1,12 +1,12 @@
 -- What follows what was read in host memory (port: UQSSP, "Ring Entries", "Envelope Header").
-use Rattle.std.specs.Prelude.{◌≡◌, ◌≢◌, ◌<◌, ℕ, ◌/◌, ◌%◌, ◌==◌, ◌||◌, ◌++◌, ◌∷◌, [], not, Bool, true, false, nat_lt, if◌then◌else◌, List, length, MatchOption, Result, Option, None, Some, Ok, Err}
+use Rattle.std.specs.Prelude.{◌≡◌, ◌≢◌, ℕ, ◌/◌, ◌%◌, ◌==◌, ◌&&◌, ◌||◌, not, Bool, true, false, nat_lt, slice_index, if◌then◌else◌, List, length, MatchOption, Result, Option, None, Some, Ok, Err}
 use Rattle.mscp_packet.specs.Number.{num}
 use Rattle.mscp_events.specs.declared.connection.Connection.TheVariants.{First}
-use Rattle.mscp_control.specs.Holdings.{answer_to_message}
-use Rattle.mscp_control.specs.declared.entry.SendFault.{SendFault}
-use Rattle.mscp_control.specs.declared.entry.SendFault.TheVariants as faults
-use Rattle.mscp_control.specs.declared.entry.Sent.{Sent}
-use Rattle.mscp_control.specs.declared.entry.Sent.TheVariants as sents
+use Rattle.mscp_controller.specs.Holdings.{answer_to_message}
+use Rattle.mscp_controller.specs.declared.entry.SendFault.{SendFault}
+use Rattle.mscp_controller.specs.declared.entry.SendFault.TheVariants as faults
+use Rattle.mscp_controller.specs.declared.entry.Sent.{Sent}
+use Rattle.mscp_controller.specs.declared.entry.Sent.TheVariants as sents
 use Rattle.mscp_port.specs.declared.port.Port.{Port}
 use Rattle.mscp_port.specs.declared.rings.Side.{Side}
 use Rattle.mscp_port.specs.declared.rings.Side.TheVariants.{Responses, Commands}
@@ -15,7 +15,8 @@ use Rattle.mscp_port.specs.declared.stage.Stage.TheVariants as stages
 use Rattle.mscp_port.specs.declared.task.Task.{Task}
 use Rattle.mscp_port.specs.declared.task.Task.TheVariants as tasks
 use Rattle.mscp_port.specs.declared.volumes.Volume.{Volume}
-use Rattle.mscp_port.specs.Buffers.{buffer_in}
+use Rattle.mscp_port.specs.declared.buffers.Buffer.{Buffer}
+use Rattle.mscp_port.specs.Buffers.{buffer_in, kept_beside, without_aborted}
 use Rattle.mscp_port.specs.Messages.{handed, own_end}
 use Rattle.mscp_port.specs.Outgoings.{AnswersItself}
 use Rattle.mscp_port.specs.Ports.{IsAsNew}
@@ -84,20 +85,48 @@ stays old new = new ≡ record old {
   left = old.timeout;
 }
 
+-- the host has set its controller's flags, and its own timeout: by a SET CONTROLLER CHARACTERISTICS (opcode 4) that has
+-- them, of version 0
+abbrev pub sets_controller : List ℕ → Bool
+sets_controller b = slice_index b 8 == 4 && not (nat_lt (length b) 18) && num b 12 2 == 0
+
+abbrev pub settings_heeded : {K : Type 0} → List ℕ → Port K → Port K
+settings_heeded b p = record p {
+  flags = if sets_controller b then num b 14 2 else p.flags;
+  timeout = if sets_controller b then num b 16 2 else p.timeout;
+  left = if sets_controller b then num b 16 2 else p.left;
+}
+
+-- a message that the controller answered at once is heeded
+abbrev pub heeded : {K : Type 0} → Sent → List ℕ → Port K → Port K
+heeded (sents.Queued reference) b p = p
+heeded (sents.Answered reference aborted) b p = settings_heeded b p
+
+-- of a command that is queued it is kept where its data are, and of one that was aborted it is forgotten
+abbrev pub kept_of_sent : Sent → Buffer → List Buffer → List Buffer
+kept_of_sent (sents.Queued reference) b buffers = kept_beside b buffers
+kept_of_sent (sents.Answered reference aborted) b buffers = without_aborted aborted buffers
+
+-- the controller has got a message: its slot is given back, and the host was heard
+pub record Sends {K : Type 0} (slot : Descriptor) (s : Sent) (bytes : List ℕ) (old new : Port K) : Type 0 where
+  pub frame : new ≡ record (heeded s bytes (record old { left = old.timeout })) {
+    controller = new.controller;
+    task = tasks.Return Commands slot;
+    buffers = new.buffers;
+  }
+  pub kept : new.buffers.items ≡ kept_of_sent s
+      (buffer_in bytes (changes_at old.volumes (place_in old.controller.settings.units (num bytes 4 2))))
+      old.buffers.items
+
 -- the text of a command was read
 pub record SeesText {K : Type 0} (slot : Descriptor) (foreign : Bool) (bytes : List ℕ) (old new : Port K) : Type 0 where
   -- the port answers it itself, if nothing goes out yet: else it stays in its slot
   pub own : own_end foreign bytes ≢ None → old.outgoing ≡ None
-      → (new.task ≡ tasks.Return Commands slot) × AnswersItself foreign bytes old new
+      → (new ≡ record old { outgoing = new.outgoing; task = tasks.Return Commands slot; left = old.timeout })
+      × AnswersItself foreign bytes old new
   pub own_waits : own_end foreign bytes ≢ None → old.outgoing ≢ None → stays old new
   -- or the controller gets it, and its slot is given back
-  pub sent : (s : Sent) → own_end foreign bytes ≡ None → answered_to old bytes ≡ Ok s
-      → (new.task ≡ tasks.Return Commands slot) × (new.is_stalled ≡ old.is_stalled) × (new.outgoing ≡ old.outgoing)
-  -- of a command that is queued it is kept where its data are
-  pub kept : (reference : ℕ) → own_end foreign bytes ≡ None → answered_to old bytes ≡ Ok (sents.Queued reference)
-      → length old.buffers.items < 64
-      → new.buffers.items ≡ old.buffers.items
-      ++ buffer_in bytes (changes_at old.volumes (place_in old.controller.settings.units (num bytes 4 2))) ∷ []
+  pub sent : (s : Sent) → own_end foreign bytes ≡ None → answered_to old bytes ≡ Ok s → Sends slot s bytes old new
   -- a number in use is a fatal error, and for want of a credit the command stays in its slot
   pub doubled : own_end foreign bytes ≡ None → answered_to old bytes ≡ Err faults.Doubled
       → IsAsNew (stages.Dead 1) old new

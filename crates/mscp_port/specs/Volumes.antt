@@ -1,9 +1,11 @@
 -- How the volume of a unit changes.
-use Rattle.std.specs.Prelude.{◌≡◌, ℕ, ◌+◌, ◌%◌, Bool, true, false, List, nat_eq, slice_index_or, slice_set, Option, None, Some}
+use Rattle.std.specs.Prelude.{◌≡◌, ℕ, ◌+◌, ◌%◌, ◌/◌, ◌==◌, if◌then◌else◌, Bool, true, false, List, nat_eq, slice_index_or, slice_set, Option, None, Some}
 use Rattle.std.specs.List.{position}
 use Rattle.mscp_drive.specs.Shape.{Shape}
 use Rattle.mscp_port.specs.declared.buffers.Buffer.{Buffer}
 use Rattle.mscp_port.specs.declared.volumes.Volume.{Volume}
+use Rattle.mscp_packet.specs.declared.command.MoveKind.{MoveKind}
+use Rattle.mscp_port.specs.Blocks.{writes}
 
 abbrev pub no_volume : Volume
 no_volume = record {
@@ -34,6 +36,26 @@ volume_changed there protected v = record v {
 abbrev pub volume_reset : Volume → Volume
 volume_reset v = record v { mounted = None; is_protected_by_host = false; is_news = false }
 
+-- ---- what the Success of a command does
+
+-- the host protects what is on the volume, or does so no more, if the modifier 4 says that it sets that: by its unit
+-- flag 0x1000
+abbrev pub protected_by : Buffer → Volume → Volume
+protected_by b v =
+    if b.modifiers / 4 % 2 == 1 then record v { is_protected_by_host = b.flags / 0x1000 % 2 == 1 } else v
+
+-- by its endcode: AVAILABLE (0x88) takes the unit offline, ONLINE (0x89) brings it online with the volume that was
+-- there when the command came, and sets the host's protection, as SET UNIT CHARACTERISTICS (0x8A) does
+abbrev pub volume_heeded : ℕ → Option Buffer → Volume → Volume
+volume_heeded code None v = if code == 0x88 then record v { mounted = None; is_protected_by_host = false } else v
+volume_heeded code (Some b) v =
+    if code == 0x88 then record v { mounted = None; is_protected_by_host = false }
+    else if code == 0x89 then protected_by b (record v { mounted = Some b.changes })
+    else if code == 0x8A then protected_by b v
+    else v
+
+-- ---- the volumes of all units
+
 -- the place of the unit of a number, if there is one
 abbrev pub place_in : List Shape → ℕ → Option ℕ
 place_in units number = position (λ unit. nat_eq unit.number number) units
@@ -44,9 +66,22 @@ volumes_changed there protected None volumes = volumes
 volumes_changed there protected (Some place) volumes =
     slice_set volumes place (volume_changed there protected (volume_at volumes place))
 
+-- the volumes, once the command ended of whose message this is kept, to the unit at a place
+abbrev pub volumes_heeded : ℕ → Option Buffer → Option ℕ → List Volume → List Volume
+volumes_heeded code kept None volumes = volumes
+volumes_heeded code kept (Some place) volumes =
+    slice_set volumes place (volume_heeded code kept (volume_at volumes place))
+
 -- the volume in the unit is the one that was there when this command came, and that the unit was brought online
 -- with
 pub record IsOnVolume (b : Buffer) (v : Volume) : Type 0 where
   pub there : v.is_there ≡ true
   pub same : b.changes ≡ v.changes
   pub mounted : v.mounted ≡ Some v.changes
+
+-- a block may be moved on this volume: it is there, the unit is online with it, and what is written isn't protected
+pub record MayMove (kind : MoveKind) (v : Volume) : Type 0 where
+  pub there : v.is_there ≡ true
+  pub mounted : v.mounted ≡ Some v.changes
+  pub hardware : writes kind ≡ true → v.is_protected ≡ false
+  pub host : writes kind ≡ true → v.is_protected_by_host ≡ false

@@ -4,7 +4,7 @@ ghost use Rattle.std.specs.Prelude.{◌≡◌, ◌<◌, ◌⊎◌, ◌++◌, ◌
 ghost use Rattle.mscp_port.specs.declared.buffers.Buffer.{Buffer as Kept};
 ghost use Rattle.std.specs.List.{position};
 ghost use Rattle.mscp_port.specs.Blocks.{kept_of};
-ghost use Rattle.mscp_port.specs.Buffers.{IsInBuffer, buffer_in, four_or_zero as four_of, has_reference, part_of, two_or_zero as two_of, without};
+ghost use Rattle.mscp_port.specs.Buffers.{IsInBuffer, buffer_in, four_or_zero as four_of, has_reference, kept_beside, part_of, two_or_zero as two_of, without, without_aborted};
 
 use arrayvec::ArrayVec;
 use mscp_packet::MoveKind;
@@ -122,7 +122,7 @@ pub(crate) fn forget(buffers: &mut ArrayVec<Buffer, 64>, reference: u32)
 
 /// Keeps what a message says. There is room for 64 commands.
 pub(crate) fn keep(buffers: &mut ArrayVec<Buffer, 64>, buffer: Buffer)
-    ensures room { length buffers.old.items < 64 → buffers.new.items ≡ buffers.old.items ++ buffer ∷ [] }
+    ensures room { buffers.new.items ≡ kept_beside buffer buffers.old.items }
     ensures more { (b : Kept) → Contains buffers.new.items b → Contains buffers.old.items b ⊎ (b ≡ buffer) }
 {
     if !buffers.is_full() {
@@ -132,7 +132,8 @@ pub(crate) fn keep(buffers: &mut ArrayVec<Buffer, 64>, buffer: Buffer)
 
 /// Forgets the command that was aborted, if one was.
 pub(crate) fn forget_aborted(buffers: &mut ArrayVec<Buffer, 64>, aborted: Option<u32>)
-    ensures { (b : Kept) → Contains buffers.new.items b → Contains buffers.old.items b }
+    ensures after { buffers.new.items ≡ without_aborted aborted buffers.old.items }
+    ensures left { (b : Kept) → Contains buffers.new.items b → Contains buffers.old.items b }
 {
     if let Some(reference) = aborted {
         forget(buffers, reference);

@@ -1,7 +1,7 @@
 // What goes out to the host: ends, with the fields that are the port's to tell, and attention messages.
 
-ghost use Rattle.std.specs.Prelude.{◌≡◌, ◌+◌, ◌≤◌, length};
-ghost use Rattle.arrayvec.specs.ArrayVec.{array_vec_len};
+ghost use Rattle.std.specs.Prelude.{◌≡◌, ◌≤◌, Some};
+ghost use Rattle.mscp_port.specs.Leaving as leaving;
 
 use crate::hardware::Hardware;
 use crate::volumes::Volume;
@@ -34,7 +34,9 @@ pub(crate) const PROTECTED_BY_HOST: u16 = 0x1000;
 const UNIT_CAME: u8 = 0x40;
 
 /// What is told of a status that an end came with, whose endcode and unit are these.
-pub(crate) fn status_told(code: u8, status: u16, volume: &Volume) -> u16 {
+pub(crate) fn status_told(code: u8, status: u16, volume: &Volume) -> u16
+    ensures { result ≡ leaving.status_told code status volume.now }
+{
     match status {
         STEP_WITHOUT_VOLUME => NO_VOLUME,
         STEP_WITHOUT_ONLINE => UNIT_AVAILABLE,
@@ -46,7 +48,9 @@ pub(crate) fn status_told(code: u8, status: u16, volume: &Volume) -> u16 {
 }
 
 /// What is told of a unit by an ONLINE that found no volume: the same as by one that found one.
-pub(crate) fn body_told(status: u16, body: EndBody, unit: &Unit) -> EndBody {
+pub(crate) fn unit_told(status: u16, body: EndBody, unit: &Unit) -> EndBody
+    ensures { result ≡ leaving.unit_told status body (Some unit.now) }
+{
     match body {
         EndBody::Online { .. } if status == NO_VOLUME => EndBody::Online {
             id: unit.id(),
@@ -59,7 +63,9 @@ pub(crate) fn body_told(status: u16, body: EndBody, unit: &Unit) -> EndBody {
 }
 
 /// The flags of a unit with this volume.
-pub(crate) fn unit_flags(volume: &Volume) -> u16 {
+fn unit_flags(volume: &Volume) -> u16
+    ensures { result ≡ leaving.unit_flags volume.now }
+{
     let hardware = if volume.is_protected { PROTECTED } else { 0 };
     let host = if volume.is_protected_by_host {
         PROTECTED_BY_HOST
@@ -72,7 +78,7 @@ pub(crate) fn unit_flags(volume: &Volume) -> u16 {
 /// Writes a number of two bytes over those from a place on, if they are there.
 fn overwrite(bytes: &mut ArrayVec<u8, 48>, at: usize, value: u16)
     requires { at ≤ 46 }
-    ensures { array_vec_len bytes.new ≡ array_vec_len bytes.old }
+    ensures { bytes.new.items ≡ leaving.with_two at value bytes.old.items }
 {
     if bytes.len() < at + 2 {
         return;
@@ -83,16 +89,36 @@ fn overwrite(bytes: &mut ArrayVec<u8, 48>, at: usize, value: u16)
 
 /// Fills in what a unit's end tells beside what the controller says: the unit's number as that of its multi-unit and of its
 /// shadow unit, and its flags.
-pub(crate) fn fill_unit(bytes: &mut ArrayVec<u8, 48>, unit: u16, flags: u16)
-    ensures { array_vec_len bytes.new ≡ array_vec_len bytes.old }
+fn fill_unit(bytes: &mut ArrayVec<u8, 48>, unit: u16, flags: u16)
+    ensures { bytes.new.items ≡ leaving.unit_filled unit flags bytes.old.items }
 {
     overwrite(bytes, 12, unit);
     overwrite(bytes, 14, flags);
     overwrite(bytes, 32, unit);
 }
 
+/// Whether an end with this code and status tells its unit.
+fn has_unit(code: u8, status: u16) -> bool
+    ensures { result ≡ leaving.has_unit code status }
+{
+    matches!(code, 0x83 | 0x89 | 0x8A) && matches!(status % 32, 0 | 3 | 4)
+}
+
+/// The bytes of the end of a command to a unit with this volume.
+pub(crate) fn filled(end: &End, volume: &Volume) -> ArrayVec<u8, 48>
+    ensures { result.items ≡ leaving.filled_for volume.now end.now }
+{
+    let mut bytes = write_end(end);
+    if has_unit(end.code, end.status) {
+        fill_unit(&mut bytes, end.unit, unit_flags(volume));
+    }
+    bytes
+}
+
 /// Fills in what the end of a SET CONTROLLER CHARACTERISTICS tells beside: the flags, and the versions. It has 32 bytes.
-pub(crate) fn fill_controller(bytes: &mut ArrayVec<u8, 48>, flags: u16, hardware: &Hardware) {
+pub(crate) fn fill_controller(bytes: &mut ArrayVec<u8, 48>, flags: u16, hardware: &Hardware)
+    ensures { bytes.new.items ≡ leaving.controller_filled hardware.now flags bytes.old.items }
+{
     overwrite(bytes, 14, REPLACES + flags % REPLACES);
     overwrite(
         bytes,
@@ -105,7 +131,9 @@ pub(crate) fn fill_controller(bytes: &mut ArrayVec<u8, 48>, flags: u16, hardware
 }
 
 /// An attention message: a volume came into this unit.
-pub(crate) fn attention(unit: &Unit, volume: &Volume) -> ArrayVec<u8, 48> {
+pub(crate) fn attention(unit: &Unit, volume: &Volume) -> ArrayVec<u8, 48>
+    ensures { result.items ≡ leaving.attention unit.now volume.now }
+{
     let mut bytes = ArrayVec::new();
     put_four(&mut bytes, 0);
     put_two(&mut bytes, unit.number());

@@ -1,6 +1,8 @@
 // What is true of every port.
 
+ghost use Rattle.mscp_port.specs.Departures.{PortsFillTheirSlots, PortsSpeakInOrder, PortsTellTheirCredits};
 ghost use Rattle.mscp_port.specs.Histories.{PortsHaveCredit, PortsTouchWhatIsNamed};
+ghost use Rattle.mscp_port.specs.Loaded.{PortsMoveOnVolumes};
 ghost use Rattle.mscp_port.specs.Places.{PortsTouchWhatWasPut};
 
 use mscp_queue::Picker;
@@ -29,6 +31,25 @@ pub fn ports_touch_what_was_put<K: Picker>(picker: &K)
 /// keeps to its credits stays in its slot.
 pub fn ports_have_credit<K: Picker>(picker: &K)
     ensures { PortsHaveCredit K }
+{
+    let _ = picker;
+}
+
+/// Whoever calls a port that was made over a controller: a block is moved only where a volume is in its unit, and one that is
+/// written or erased only where that volume isn't protected, as was told last of it. So say the calls alone.
+pub fn ports_move_on_volumes<K: Picker>(picker: &K)
+    ensures { PortsMoveOnVolumes K }
+{
+    let _ = picker;
+}
+
+/// Whoever calls such a port: each message that began to go out is gone in its turn, once, or still goes out. It is gone once its
+/// slot was given back, which its host had made the port's since it wrote IP; or the host wrote IP again, or a fatal error came.
+/// The credits that its host was told since are all that it may have but those that it wasn't told yet.
+pub fn ports_speak_in_order<K: Picker>(picker: &K)
+    ensures order { PortsSpeakInOrder K }
+    ensures slots { PortsFillTheirSlots K }
+    ensures credits { PortsTellTheirCredits K }
 {
     let _ = picker;
 }

@@ -19,4 +19,4 @@ mod volumes;
 pub use crate::action::{Action, Outcome, Unasked};
 pub use crate::hardware::{Bus, Hardware};
 pub use crate::law::{ports_have_credit, ports_touch_what_is_named, ports_touch_what_was_put};
-pub use crate::port::{NoUnit, Port, PortFault, ROOM, RestoreFault};
+pub use crate::port::{NoUnit, Port, PortFault, ROOM, RestoreFault, restore_fault, saved_settings};

@@ -2,7 +2,7 @@
 
 ghost use Rattle.std.specs.Prelude.{◌≡◌, ◌≢◌, ◌⊎◌, ◌↔◌, ◌≤◌, ◌<◌, ◌+◌, ◌%◌, ◌==◌, [], ℕ, true, Contains, IfErr, IfOk, IfSome, IsOk, None, Some};
 ghost use Rattle.mscp_events.specs.declared.connection.Connection.TheVariants.{First};
-ghost use Rattle.mscp_control.specs.Holdings.{balance_of};
+ghost use Rattle.mscp_controller.specs.Holdings.{balance_of};
 ghost use Rattle.mscp_port.specs.declared.stage.Stage.TheVariants as stages;
 ghost use Rattle.mscp_port.specs.declared.task.Task.TheVariants as tasks;
 ghost use Rattle.mscp_port.specs.Acted.{step_task};
@@ -24,7 +24,7 @@ mod watching;
 
 use crate::buffers::Buffer;
 use crate::hardware::Hardware;
-pub use crate::port::restoring::RestoreFault;
+pub use crate::port::restoring::{RestoreFault, restore_fault, saved_settings};
 pub use crate::port::saving::ROOM;
 pub use crate::port::watching::NoUnit;
 use crate::rings::Rings;
@@ -32,7 +32,7 @@ use crate::stage::Stage;
 use crate::task::Task;
 use crate::volumes::{Volume, reset_all};
 use arrayvec::ArrayVec;
-use mscp_control::Controller;
+use mscp_controller::Controller;
 use mscp_queue::{Connection, Picker};
 
 /// Why there is no such port.
@@ -237,7 +237,13 @@ impl<K: Picker> Port<K> {
         requires free { self.old.task ≡ tasks.Free }
         requires taken { self.old.written ≡ None }
         ensures steps { TakesStep word self.old self.new }
-        ensures out { (self.new.outgoing ≡ self.old.outgoing) ⊎ Dies self.old self.new }
+        ensures frame { (self.new ≡ record self.old {
+          stage = self.new.stage;
+          words = self.new.words;
+          written = self.new.written;
+          rings = self.new.rings;
+          task = self.new.task;
+        }) ⊎ Dies self.old self.new }
         ensures settings { self.new.controller.settings ≡ self.old.controller.settings }
         ensures buffers { (b : Kept) → Contains self.new.buffers.items b → Contains self.old.buffers.items b }
         ensures packet { in_hand self.new.task ≡ None }
@@ -288,7 +294,13 @@ impl<K: Picker> Port<K> {
             } }
         ensures nowhere { third < 0x8000 → rings_named self.old.words.first self.old.words.second third ≡ None
             → IsAsNew (stages.Dead 7) self.old self.new }
-        ensures out { (self.new.outgoing ≡ self.old.outgoing) ⊎ Dies self.old self.new }
+        ensures frame { (self.new ≡ record self.old {
+          stage = self.new.stage;
+          words = self.new.words;
+          written = self.new.written;
+          rings = self.new.rings;
+          task = self.new.task;
+        }) ⊎ Dies self.old self.new }
         ensures settings { self.new.controller.settings ≡ self.old.controller.settings }
         ensures buffers { (b : Kept) → Contains self.new.buffers.items b → Contains self.old.buffers.items b }
         ensures packet { in_hand self.old.task ≡ None → in_hand self.new.task ≡ None }

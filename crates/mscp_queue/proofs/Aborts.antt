@@ -6,7 +6,7 @@ use Rattle.std.proofs.lemmas.Bool.{false≢true, true≢false}
 use Rattle.std.proofs.lemmas.List.{get_or_at, length-append, map-append}
 use Rattle.std.proofs.lemmas.List.Elements.{All-from_recursion, filter-append, recursion_from_All}
 use Rattle.mscp_queue.specs.declared.drive.Drive.{Drive}
-use Rattle.mscp_queue.specs.Kept.{AreApart, IsHeld, IsKept, IsStillServable, names, sequential_count, units_of}
+use Rattle.mscp_queue.specs.Kept.{AreApart, IsHeld, IsKept, IsStillServable, names, units_of}
 use Rattle.mscp_queue.specs.declared.name.Name.{Name}
 use Rattle.mscp_queue.specs.Names.{same_name}
 use Rattle.mscp_queue.specs.Serving.{begun_without, is_begun}
@@ -15,7 +15,6 @@ use Rattle.mscp_queue.specs.Records.{Record, has_name, is_in_service, name_of, n
 use Rattle.mscp_queue.proofs.Lists.{every_kept, every_weaker, fewer, filter_all, filter_none, filter_one}
 use Rattle.mscp_queue.proofs.Named.{is_differ, same_is}
 use Rattle.mscp_queue.proofs.Mapped.{removed_at}
-use Rattle.mscp_queue.proofs.Ordered.{IsCountedOut, count_out, one_if}
 use Rattle.mscp_queue.proofs.Placed.{Found, find_cases, find_first, find_none, position_first, position_none}
 
 -- ---- names that stand once
@@ -135,32 +134,6 @@ found_once gone rs apart =
     let k = cut_by gone rs A r B apart some.3 in
     ap (filter p) k.is ∙ (filter_one p A r B k.before k.own k.behind
     ∙ ap option_to_list (sym (ap (find p) k.is ∙ find_first p A r B k.before k.own))))
-    (find_cases p rs)
-
--- and it is counted out
-pub counted_without : (gone : Name) (rs new : List Record) (r : Record) (n k : ℕ) → AreApart (names rs)
-    → Some r ≡ find (has_name gone) rs → new ≡ without gone rs
-    → n ≡ sequential_count rs → k ≡ one_if r → IsCountedOut n k new
-counted_without gone rs new r n k apart h is counted e =
-    let p = has_name gone in
-    ⊎_elim
-    (λ none. absurd (true≢false (ap is_some (h ∙ find_none p rs none))))
-    (λ some.
-    let A = some.0 in
-    let B = some.2 in
-    let f = some.3 in
-    let own : some.1 ≡ r = ap (λ o. unwrap_or o r)
-    (sym (find_first p A some.1 B f.before f.passed) ∙ (ap (find p) (sym f.is) ∙ sym h)) in
-    let out = count_out A some.1 B in
-    let all = ap sequential_count f.is in
-    let left = ap sequential_count (is ∙ without_cut gone rs A some.1 B
-    (cut_by gone rs A some.1 B apart f)) in
-    let one = ap one_if own in
-    record {
-      below = omega (arith, out, all, one, counted, e);
-      counted =
-          omega (arith, out, all, left, one, counted, e);
-    })
     (find_cases p rs)
 
 -- none passes a test where none is found

@@ -97,12 +97,6 @@ leave_enough {budget} {clock} {total} {ss} {ss'} {place} {n} t l serving front b
     ++ B) (subst (λ k. AllByRecursion (λ (s : Slot). k ≤ s.due) (F ++ B)) (sym e)
     (end_enough budget clock y B back serving 0 F (subst (AreDue budget clock 0) (cut ss place l) t.dues) front)))
 
--- there is as much left as the total says
-pub leave_fits : {budget clock total : ℕ} {ss : List Slot} {place n : ℕ} → AreTimed budget clock total ss
-    → place < length ss
-    → n ≡ left_of (slot_at ss place).item → n ≤ total
-leave_fits {budget} {clock} {total} {ss} {place} {n} t l e = omega (arith, left_at ss place l, t.left, e)
-
 pub seen_left : {X : Type 0} (f : Slot → X) (n : ℕ) (ss ss' new : List Slot) (place : ℕ) (xs : List X)
     → ((s : Slot) → f (lowered_by n s) ≡ f s) → map f ss ≡ xs → ss' ≡ take place ss ++ drop (place + 1) ss
     → new ≡ map (lowered_by n) ss' → map f new ≡ take place xs ++ drop (place + 1) xs

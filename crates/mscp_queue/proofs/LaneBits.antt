@@ -104,13 +104,6 @@ module _ (v : List ℕ) (bits rest : ℕ) (len : length v ≡ 8) where
         ∙ (λ i. cond (bit_of_lane bits k l i) (get_or v k 0) (get_or-replicate 8 k rest 0 l i));
   }
 
-pub of_two : (f : ℕ → ℕ → ℕ) (a b : List ℕ) → length a ≡ 8 → length b ≡ 8
-    → HasLanes (zip2 f a b) (λ k. f (get_or a k 0) (get_or b k 0))
-of_two f a b p q = record {
-  long = length-zip2 f a b (p ∙ sym q) ∙ p;
-  each = λ k l. get_or-zip2 f a b k 0 0 0 (omega arith) (omega arith);
-}
-
 lesser : (x y : ℕ) → cond (ltb x y) x y ≡ min x y
 lesser x y = grind (arith, nat_tests)
 

@@ -12,7 +12,6 @@ pub mod Aims
 pub mod Passable
 pub mod Ordered
 pub mod Nexts
-pub mod Least
 pub mod Aborts
 pub mod Untolled
 pub mod Whys
@@ -24,6 +23,7 @@ pub mod Freed
 pub mod Shown
 pub mod Fallen
 pub mod Counted
+pub mod Row
 pub mod Rolls
 pub mod Recosted
 pub mod Dues

@@ -45,12 +45,6 @@ removed_at A x B i l =
     ∙ ap (λ ys. A ++ ys) (ap (drop (suc i)) (sym (append_assoc A (x ∷ []) B))
     ∙ drop_at (A ++ x ∷ []) B (suc i) (omega (arith, length-append A (x ∷ []))))
 
--- and it is taken out
-pub behind_removed : {X : Type 0} (f : X → X) (i : ℕ) (xs ys : List X) (x : X) → i < length xs
-    → ys ≡ map f (take i xs) ++ (x ∷ drop (i + 1) xs) → remove ys i ≡ map f (take i xs) ++ drop (i + 1) xs
-behind_removed f i xs ys x l e = ap (λ zs. remove zs i) e
-    ∙ removed_at (map f (take i xs)) x (drop (i + 1) xs) i (front_length f i xs (omega arith))
-
 -- a slice that was lent and has as many elements is what is there then
 pub refilled : {X : Type 0} (xs ws : List X) → length ws ≡ length xs → refill (length xs) xs ws ≡ ws
 refilled xs ws h = take_at ws (drop (length ws) xs) (length xs) h

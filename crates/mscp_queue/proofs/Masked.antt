@@ -2,7 +2,7 @@
 use Rattle.std.proofs.Common.{◌≡◌, ◌≢◌, ◌<◌, ◌≤◌, ◌+◌, zero, suc, length, get_or, ◌⊎◌, inl, inr, ℕ, Bool, true, false, cond, ◌&&◌, ◌||◌, nat_eq, List, [], ◌∷◌, ◌++◌, sym, subst, ap, ◌∙◌, refl, arith}
 use Rattle.std.specs.Prelude.{slice_index_or}
 use Rattle.std.specs.Int.{bit_at}
-use Rattle.std.proofs.lemmas.Nat.Bits.{bit_at-zero, bit_at_ones}
+use Rattle.std.proofs.lemmas.Nat.Bits.{bit_at_ones}
 use Rattle.std.proofs.lemmas.Bool.{eq-eqb, eqb-false, eqb-true, ne_eqb}
 use Rattle.std.proofs.lemmas.List.{append_assoc, append-nil}
 use Rattle.mscp_queue.specs.declared.masks.Masks.{Masks}
@@ -25,10 +25,6 @@ eq_true a b e = eq-eqb a b e
 
 pub eq_false : (a b : ℕ) → a ≢ b → nat_eq a b ≡ false
 eq_false a b n = ne_eqb a b n
-
-or_false : (b : Bool) → (b || false) ≡ b
-or_false true = refl
-or_false false = refl
 
 -- ---- which slots are in a list
 
@@ -205,18 +201,6 @@ masks_served kinds kinds' order m v n masks in_order same drive ordered served =
 pub masks_same : (kinds kinds' : ℕ → Kind) (order : List ℕ) (m : Masks) → ((k : ℕ) → kinds' k ≡ kinds k)
     → AreMasks kinds order m → AreMasks kinds' order m
 masks_same kinds kinds' order m same masks = subst (λ f. AreMasks f order m) (λ i k. sym (same k) i) masks
-
--- no slot is taken
-pub masks_none : (kinds : ℕ → Kind) (m : Masks) → m.waiting ≡ 0 → m.sequential ≡ 0 → m.serving ≡ 0
-    → ((u : ℕ) → slice_index_or m.units u 0 ≡ 0) → AreMasks kinds [] m
-masks_none kinds m w q v us = record {
-  apart = tt;
-  of_waiting = λ k l. ap (λ m. bit_at m k) w ∙ bit_at-zero k;
-  of_sequential = λ k l. ap (λ m. bit_at m k) q ∙ bit_at-zero k;
-  of_serving = λ k l. ap (λ m. bit_at m k) v ∙ bit_at-zero k;
-  of_units = λ u k l. ap (λ m. bit_at m k) (us u) ∙ bit_at-zero k;
-  of_earlier = tt;
-}
 
 -- a slot of the order is below 64, and the order is cut at it
 pub slot_low : (order : List ℕ) (place : ℕ) → AreSlots order → place < length order → get_or order place 0 < 64

@@ -1,21 +1,19 @@
 -- Where all are transfers that the longest may still pass, each may start.
-use Rattle.std.proofs.Common.{◌≡◌, ℕ, ◌+◌, ◌<◌, ◌≤◌, Bool, true, false, cond, not, ◌&&◌, ◌||◌, List, [], ◌∷◌, ◌++◌, take, get_or, length, refl, ap, sym, ◌∙◌, arith}
+use Rattle.std.proofs.Common.{◌≡◌, ℕ, ◌+◌, ◌<◌, ◌≤◌, Bool, true, false, cond, not, ◌&&◌, ◌||◌, List, [], ◌∷◌, take, get_or, length, refl, ap, sym, ◌∙◌, arith}
 use Rattle.std.specs.Prelude.{All, nat_eq, nat_le}
 use Rattle.std.specs.List.{AllByRecursion, list_all, range_with_len}
 use Rattle.std.proofs.lemmas.Bool.{and_parts, false≢true, le-leb, leb-true}
-use Rattle.std.proofs.lemmas.List.{get_or_default, map-append}
+use Rattle.std.proofs.lemmas.List.{get_or_default}
 use Rattle.std.proofs.lemmas.List.Sums.{sum_by-cons}
 use Rattle.std.proofs.lemmas.List.Elements.{All-from_recursion, All-take, recursion_from_All}
 use Rattle.mscp_packet.specs.declared.command.Order.{Order}
 use Rattle.mscp_packet.specs.declared.command.Order.TheVariants as orders
-use Rattle.mscp_queue.specs.declared.drive.Drive.{Drive}
-use Rattle.mscp_queue.specs.declared.view.Choice.{Choice}
 use Rattle.mscp_queue.specs.Kept.{ArePassedInOrder, sequential_count}
 use Rattle.mscp_queue.specs.Orders.{is_move, is_sequential}
-use Rattle.mscp_queue.specs.Records.{Record, drive_at, no_record, record_at}
-use Rattle.mscp_queue.specs.Views.{AllMayStart, choice_of, choices_at, is_affordable, is_free, is_open_at, is_passable, open_places}
+use Rattle.mscp_queue.specs.Records.{Record, no_record, record_at}
+use Rattle.mscp_queue.specs.Views.{AllMayStart, is_affordable, is_free, is_open_at, is_passable, open_places}
 use Rattle.mscp_queue.proofs.Ordered.{one_if}
-use Rattle.mscp_queue.proofs.Lists.{every_of, every_weaker, filter_all, range_below, range_more}
+use Rattle.mscp_queue.proofs.Lists.{every_of, every_weaker, filter_all, range_below}
 
 -- ---- all may start
 
@@ -95,31 +93,6 @@ all_may_start budget longest rs short h =
 
 -- ---- the oldest tells it for all
 
--- of a sequential command one is no transfer
-sequential_not_passable : (budget longest : ℕ) (r : Record) → is_sequential r.command.order ≡ true
-    → is_passable budget longest r ≡ false
-sequential_not_passable budget longest r s =
-    let both : (b : Bool) → is_move r.command.order ≡ b → (b && nat_le (r.passed + longest) budget) ≡ false =
-    λ b. elim b as (λ b. is_move r.command.order ≡ b → (b && nat_le (r.passed + longest) budget) ≡ false)
-    [ true ↦ λ m. absurd (false≢true (sym (not_sequential r.command.order m) ∙ s)) | false ↦ λ m. refl ] in
-    both (is_move r.command.order) refl
-
-pub some_sequential : (budget longest : ℕ) (rs : List Record) → 0 < sequential_count rs
-    → list_all (is_passable budget longest) rs ≡ false
-some_sequential budget longest [] h = absurd (omega (arith, h))
-some_sequential budget longest (r ∷ rs) h =
-    let Goal : Bool → Type 0 = λ b. is_sequential r.command.order ≡ b
-    → (is_passable budget longest r && list_all (is_passable budget longest) rs) ≡ false in
-    let both : (b : Bool) → Goal b =
-    λ b. elim b as Goal [
-      | true ↦ λ e. ap (λ b. b && list_all (is_passable budget longest) rs) (sequential_not_passable budget longest r e)
-      | false ↦ λ e. ap (λ b. is_passable budget longest r && b)
-          (some_sequential budget longest rs (omega
-          (arith, h, sum_by-cons one_if r rs, ap {B = ℕ} (λ b. cond b 1 0) e)))
-          ∙ unfenced (is_passable budget longest r)
-    ] in
-    both (is_sequential r.command.order) refl
-
 no_sequential : (budget longest top : ℕ) (rs : List Record) → sequential_count rs ≡ 0
     → AllByRecursion (λ z. (is_sequential z.command.order || is_move z.command.order) ≡ true) rs
     → AllByRecursion (λ z. z.passed ≤ top) rs → top + longest ≤ budget
@@ -183,24 +156,4 @@ none_counted (r ∷ rs) h =
     one_off true e = absurd (false≢true e)
     one_off false e = refl
 
-pub some_counted : (rs : List Record) → list_all (λ r. not (is_sequential r.command.order)) rs ≡ false
-    → 0 < sequential_count rs
-some_counted [] h = absurd (false≢true (sym h))
-some_counted (r ∷ rs) h = by (is_sequential r.command.order) refl (some_counted rs) h
-  where
-    by : (b : Bool) → is_sequential r.command.order ≡ b
-        → (list_all (λ r. not (is_sequential r.command.order)) rs ≡ false → 0 < sequential_count rs)
-        → (not b && list_all (λ r. not (is_sequential r.command.order)) rs) ≡ false → 0 < sequential_count (r ∷ rs)
-    by true e rest h = omega (arith, sum_by-cons one_if r rs, ap {B = ℕ} (λ b. cond b 1 0) e)
-    by false e rest h = omega (arith, sum_by-cons one_if r rs, rest h)
-
 -- ---- all are shown
-
-pub shown_next : (ds : List Drive) (rs : List Record) (place : ℕ) (choices choices' : List Choice) (choice : Choice)
-    → choice ≡ choice_of (drive_at ds rs place) (record_at rs place)
-    → choices ≡ choices_at ds rs (range_with_len 0 place) → choices' ≡ choices ++ choice ∷ []
-    → choices' ≡ choices_at ds rs (range_with_len 0 (place + 1))
-shown_next ds rs place choices choices' choice is shown more =
-    let of : ℕ → Choice = λ i. choice_of (drive_at ds rs i) (record_at rs i) in
-    more ∙ ((λ i. shown i ++ is i ∷ []) ∙ (sym (map-append of (range_with_len 0 place) (place ∷ []))
-    ∙ ap (choices_at ds rs) (sym (range_more place))))

@@ -1,5 +1,5 @@
 -- What a queue knows stays true: where each command aims, in which order they were passed, and which places are known.
-use Rattle.std.proofs.Common.{◌≡◌, ℕ, suc, ◌+◌, ◌<◌, ◌≤◌, Bool, true, false, cond, not, List, [], ◌∷◌, ◌++◌, map, take, drop, get_or, length, refl, ap, sym, ◌∙◌, subst, arith}
+use Rattle.std.proofs.Common.{◌≡◌, ℕ, suc, ◌+◌, ◌<◌, ◌≤◌, Bool, true, false, cond, List, [], ◌∷◌, ◌++◌, map, take, drop, get_or, length, refl, ap, sym, ◌∙◌, subst, arith}
 use Rattle.std.specs.Prelude.{All, filter, is_some, unwrap_or, Option, Some, None}
 use Rattle.std.specs.List.{AllByRecursion, list_any}
 use Rattle.std.proofs.lemmas.Bool.{false≢true, lt-ltb, ltb-true}
@@ -159,10 +159,6 @@ can_serve {room} {budget} {longest} {place} {rs} {ds} {begun} {serving} k h n =
           (ap (λ b. cond b r.weight 0) e) turn.affordable);
     }
 
-is_serving : (ends : Bool) (place : ℕ) → is_some (place_served ends place) ≡ not ends
-is_serving true place = refl
-is_serving false place = refl
-
 aims_served : (us : List Shape) (rs new : List Record) (place toll : ℕ) (ends : Bool) → place < length rs
     → new ≡ map (passed_by toll) (take place rs)
     ++ (cond ends [] (advanced (record_at rs place) ∷ []) ++ drop (place + 1) rs)
@@ -210,10 +206,6 @@ ready_step {room} {longest} {place} {w} {new} {ds} {ds'} {begun} {serving} {serv
           (sym s) (serving_served rs new.waiting place t.toll t.ends n.inside t.records);
       waits = λ k e. absurd (false≢true (ap is_some e));
     }
-
-pub serves_if : (serving : Option ℕ) (ends : Bool) (place : ℕ) → serving ≡ place_served ends place
-    → is_some serving ≡ not ends
-serves_if serving ends place e = ap is_some e ∙ is_serving ends place
 
 remains_if : (r : Record) (o : Option End) → cond (is_some o) [] (advanced r ∷ []) ≡ remains r o
 remains_if r None = refl

@@ -4,12 +4,11 @@ use Rattle.std.specs.Prelude.{sum_by, is_some, unwrap_or, Option, Some, None, If
 use Rattle.std.specs.List.{list_any, position}
 use Rattle.std.proofs.lemmas.Bool.{false≢true, ltb-false, true≢false}
 use Rattle.std.proofs.lemmas.List.{drop_all}
-use Rattle.std.proofs.lemmas.List.Elements.{All-from_get_or, All-weaker}
+use Rattle.std.proofs.lemmas.List.Elements.{All-from_get_or}
 use Rattle.std.proofs.lemmas.List.Quantifiers.{position-Some}
 use Rattle.mscp_queue.specs.declared.drive.Drive.{Drive}
 use Rattle.mscp_queue.specs.declared.name.Name.{Name}
-use Rattle.mscp_queue.specs.Kept.{ArePassedInOrder, HasBlocks, IsHeld, IsKept, IsReady, IsStillServable, begun_name, is_known, units_of}
-use Rattle.mscp_queue.specs.Orders.{is_move, is_sequential}
+use Rattle.mscp_queue.specs.Kept.{ArePassedInOrder, IsHeld, IsReady, IsStillServable, begun_name, units_of}
 use Rattle.mscp_queue.specs.Waiters.{Waiters}
 use Rattle.mscp_queue.proofs.Named.{same_is}
 use Rattle.mscp_queue.proofs.Placed.{position_any}
@@ -110,27 +109,6 @@ module _ (budget : ℕ) (us : List Shape) where
   }
 
 -- ---- what a queue knows
-
--- the records have blocks, and each is of a unit that is known
-pub known_of : {room budget longest : ℕ} {rs : List Record} {ds : List Drive} {begun : Option Name} {serving : Bool}
-    → IsHeld room budget longest rs ds begun serving → All (λ r. is_known (units_of ds) r.command.unit ≡ true) rs
-known_of {budget = budget} {longest} {rs} {ds} h =
-    All-weaker (IsKept budget longest (units_of ds)) (λ (r : Record). is_known (units_of ds) r.command.unit ≡ true)
-    (λ r k. k.waitable.known) rs h.each
-
-pub blocks_of : {room budget longest : ℕ} {rs : List Record} {ds : List Drive} {begun : Option Name} {serving : Bool}
-    → IsHeld room budget longest rs ds begun serving → All (λ r. HasBlocks (units_of ds) r.command) rs
-blocks_of {budget = budget} {longest} {rs} {ds} h =
-    All-weaker (IsKept budget longest (units_of ds)) (λ (r : Record). HasBlocks (units_of ds) r.command)
-    (λ r k. (k.waitable.known, k.waitable.inside)) rs h.each
-
-pub waitable_of : {room budget longest : ℕ} {rs : List Record} {ds : List Drive} {begun : Option Name} {serving : Bool}
-    → IsHeld room budget longest rs ds begun serving
-    → All (λ r. (is_sequential r.command.order || is_move r.command.order) ≡ true) rs
-waitable_of {budget = budget} {longest} {rs} {ds} h =
-    All-weaker (IsKept budget longest (units_of ds))
-    (λ (r : Record). (is_sequential r.command.order || is_move r.command.order) ≡ true)
-    (λ r k. k.waitable.order) rs h.each
 
 -- the place of the command of a name that is known
 begun_some : (budget : ℕ) (rs : List Record) (name : Name) (place : Option ℕ) → IsStillServable budget rs name

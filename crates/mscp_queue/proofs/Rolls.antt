@@ -4,9 +4,9 @@ use Rattle.std.specs.Prelude.{nat_lt, count_by}
 use Rattle.std.specs.List.{list_any}
 use Rattle.std.proofs.lemmas.Bool.{eq-eqb, ne_eqb}
 use Rattle.std.proofs.lemmas.List.{get_or-set_other, get_or-set_same}
-use Rattle.std.proofs.lemmas.List.Sums.{count_by-le-length, sum_by-append, sum_by-cons}
+use Rattle.std.proofs.lemmas.List.Sums.{sum_by-append, sum_by-cons}
 use Rattle.mscp_queue.specs.declared.view.Choice.{Choice}
-use Rattle.mscp_queue.specs.Lineups.{costing, no_choice}
+use Rattle.mscp_queue.specs.Lineups.{no_choice}
 use Rattle.mscp_queue.specs.Masks.{bit}
 use Rattle.mscp_queue.specs.Rolls.{IsCounted, has_byte, low_byte}
 use Rattle.mscp_queue.proofs.Masked.{same_or}
@@ -72,13 +72,6 @@ module _ {X : Type 0} (p : X → Bool) where
 pub counted_none : (counts : List ℕ) → ((byte : ℕ) → byte < 256 → get_or counts byte 0 ≡ 0) → IsCounted counts []
 counted_none counts h = record { each = h }
 
-pub few_counted : {counts : List ℕ} {choices : List Choice} (byte : ℕ) → IsCounted counts choices → byte < 256
-    → length choices ≤ 64 → get_or counts byte 0 ≤ 64
-few_counted {counts} {choices} byte h l few =
-    let is = h.each byte l in
-    let le = count_by-le-length (has_byte byte) choices in
-    omega (arith, is, le, few)
-
 -- what a count becomes is what the test says of one choice more, or one less
 module _ {counts : List ℕ} {choices : List Choice} (h : IsCounted counts choices) (own n : ℕ)
     (long : 256 ≤ length counts)
@@ -96,22 +89,6 @@ module _ {counts : List ℕ} {choices : List Choice} (h : IsCounted counts choic
           ∙ (get_or-set_same counts own n 0 (omega (arith, low, long))
           ∙ (here ∙ ap (λ k. count_by (has_byte k) new) (sym e)))
       by byte l (inr d) = get_or-set_other counts own byte n 0 d ∙ (h.each byte l ∙ sym (other byte d))
-
-pub counted_pushed : {counts : List ℕ} {choices new : List Choice} (c : Choice) (own n : ℕ) → IsCounted counts choices
-    → 256 ≤ length counts → own < 256 → own ≡ low_byte c.reference → n ≡ get_or counts own 0 + 1
-    → new ≡ choices ++ c ∷ [] → IsCounted (set counts own n) new
-counted_pushed {counts} {choices} {new} c own n h long low is more e =
-    subst (IsCounted (set counts own n)) (sym e)
-    (counted_set h own n long low
-    (more ∙ (ap (λ k. k + 1) (h.each own low)
-    ∙ (ap (λ b. count_by (has_byte own) choices + cond b 1 0) (sym (eq-eqb (low_byte c.reference) own (sym is)))
-    ∙ sym (count_pushed (has_byte own) choices c))))
-    (λ byte d. count_pushed (has_byte byte) choices c
-    ∙ (ap (λ b. count_by (has_byte byte) choices + cond b 1 0)
-    (ne_eqb (low_byte c.reference) byte (λ f. d (sym f ∙ sym is))) ∙ none (count_by (has_byte byte) choices))))
-  where
-    none : (n : ℕ) → n + 0 ≡ n
-    none n = omega arith
 
 pub counted_left : {counts : List ℕ} {choices new : List Choice} (place own n : ℕ) → IsCounted counts choices
     → 256 ≤ length counts → own < 256 → place < length choices
@@ -141,15 +118,3 @@ some_counted {counts} {choices} place own h low l is =
     let on : bit (has_byte own x) ≡ 1 = ap bit (eq-eqb (low_byte x.reference) own (sym is)) in
     let was = h.each own low in
     omega (arith, left, on, was)
-
--- a cost changes no number
-pub counted_costing : {counts : List ℕ} {choices new : List Choice} (place cost : ℕ) → IsCounted counts choices
-    → place < length choices → new ≡ set choices place (costing cost (get_or choices place no_choice))
-    → IsCounted counts new
-counted_costing {counts} {choices} {new} place cost h l e =
-    let x = costing cost (get_or choices place no_choice) in
-    record {
-      each = λ byte b.
-          h.each byte b
-          ∙ (sym (count_set (has_byte byte) no_choice choices place x l refl) ∙ ap (count_by (has_byte byte)) (sym e));
-    }

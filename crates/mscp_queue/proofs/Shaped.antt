@@ -1,9 +1,7 @@
 -- The ends of commands have the bodies of their endcodes.
-use Rattle.std.proofs.Common.{◌≡◌, ℕ, Bool, true, false, List, [], ◌∷◌, refl}
-use Rattle.std.specs.Prelude.{◌||◌, find, if◌then◌else◌, All, Option, Some, None, IfSome, is_some, option_map}
-use Rattle.std.specs.List.{AllByRecursion}
+use Rattle.std.proofs.Common.{◌≡◌, ℕ, Bool, true, false, refl}
+use Rattle.std.specs.Prelude.{◌||◌, if◌then◌else◌, Option, Some, None, IfSome, is_some}
 use Rattle.std.proofs.lemmas.Bool.{false≢true}
-use Rattle.std.proofs.lemmas.List.Elements.{recursion_from_All}
 use Rattle.mscp_packet.specs.declared.command.Command.{Command}
 use Rattle.mscp_packet.specs.declared.command.MoveKind.TheVariants as moves
 use Rattle.mscp_packet.specs.declared.command.Order.{Order}
@@ -15,13 +13,10 @@ use Rattle.mscp_packet.specs.Ends.{IsOfKind, kind_of_body, kind_of_code, refused
 use Rattle.mscp_drive.specs.Shape.{Shape}
 use Rattle.mscp_events.specs.declared.block.Block.{Block}
 use Rattle.mscp_queue.specs.declared.drive.Drive.{Drive}
-use Rattle.mscp_queue.specs.Kept.{IsKept}
 use Rattle.mscp_queue.specs.Orders.{endcode, is_move, is_sequential}
 use Rattle.mscp_queue.specs.Outcomes.{IsCoded, aborted_end, goes_on, is_success, moved_body, online_body, outcome_at, outcome_body}
-use Rattle.mscp_queue.specs.Records.{Record, aborted_record, has_name, left_of}
+use Rattle.mscp_queue.specs.Records.{Record, left_of}
 use Rattle.mscp_queue.specs.Serving.{end_given}
-use Rattle.mscp_queue.specs.declared.name.Name.{Name}
-use Rattle.mscp_queue.proofs.Lists.{every_weaker}
 
 -- what is sequential or a transfer has an endcode
 pub waitable_coded : (o : Order) → (is_sequential o || is_move o) ≡ true → IsCoded o
@@ -91,23 +86,3 @@ given_kind k d r h =
       | true ↦ tt
       | false ↦ ended_kind d.unit d.online r.command r.good k (waitable_coded r.command.order h)
     ]
-
-found_kind : (gone : Name) (rs : List Record) → AllByRecursion
-    (λ r. (is_sequential r.command.order || is_move r.command.order) ≡ true) rs
-    → IfSome (option_map aborted_record (find (has_name gone) rs)) IsOfKind
-found_kind gone [] h = tt
-found_kind gone (r ∷ rs) h =
-    elim (has_name gone r) as (λ b. IfSome
-    (option_map aborted_record (if b then Some r else find (has_name gone) rs)) IsOfKind) [
-      | true ↦ aborted_kind r.command r.good (waitable_coded r.command.order h.0)
-      | false ↦ found_kind gone rs h.1
-    ]
-
--- an abort of what waits gives it an end of its kind
-pub aborts_kind : (budget longest : ℕ) (gone : Name) (units : List Shape) (rs : List Record)
-    → All (IsKept budget longest units) rs → IfSome (option_map aborted_record (find (has_name gone) rs))
-    IsOfKind
-aborts_kind budget longest gone units rs h =
-    found_kind gone rs
-    (every_weaker (IsKept budget longest units) (λ r. (is_sequential r.command.order || is_move r.command.order)
-    ≡ true) (λ r k. k.waitable.order) rs (recursion_from_All (IsKept budget longest units) rs h))

@@ -1,19 +1,18 @@
 -- What is left of records, and that no figure is over the bound.
-use Rattle.std.proofs.Common.{◌≡◌, ℕ, ◌+◌, ◌-◌, ◌*◌, ◌^◌, ◌<◌, ◌≤◌, Bool, true, false, cond, List, [], ◌∷◌, ◌++◌, take, drop, length, ap, sym, ◌∙◌, arith}
+use Rattle.std.proofs.Common.{◌≡◌, ℕ, ◌+◌, ◌-◌, ◌*◌, ◌^◌, ◌<◌, ◌≤◌, Bool, true, false, cond, List, [], ◌∷◌, ◌++◌, take, drop, length, ap, arith}
 use Rattle.std.specs.Prelude.{filter, sum_by, All, Option}
 use Rattle.std.specs.List.{AllByRecursion, range_with_len}
 use Rattle.std.proofs.Math.Nat.{mul-le-mul_right}
-use Rattle.std.proofs.lemmas.List.{drop_more, take_more, take_rest}
 use Rattle.std.proofs.lemmas.List.Elements.{recursion_from_All}
 use Rattle.std.proofs.lemmas.List.FromFn.{map-range_with_len_more}
-use Rattle.std.proofs.lemmas.List.Sums.{sum_by-append, sum_by-cons, sum_by_push}
+use Rattle.std.proofs.lemmas.List.Sums.{sum_by-append, sum_by-cons}
 use Rattle.mscp_queue.specs.declared.drive.Drive.{Drive}
 use Rattle.mscp_events.specs.declared.connection.Connection.{Connection}
 use Rattle.mscp_queue.specs.declared.name.Name.{Name}
 use Rattle.mscp_queue.specs.Kept.{IsHeld}
 use Rattle.mscp_queue.specs.Figures.{figure_at, figures_from, looked_at}
 use Rattle.mscp_queue.proofs.Placed.{cut_at}
-use Rattle.mscp_queue.specs.Records.{Record, is_in_service, left_if_serving, left_of, no_record, record_at}
+use Rattle.mscp_queue.specs.Records.{Record, is_in_service, left_of, no_record, record_at}
 
 -- no more is left than the longest
 abbrev pub IsShort : ℕ → Record → Type 0
@@ -68,15 +67,6 @@ sum_bounded rs place l =
       serving_less (drop (place + 1) rs),
     )
 
--- so it fits 32 bits
-pub figure_fits : (budget : ℕ) (rs : List Record) (place before serving unspent left : ℕ)
-    → sum_by left_of rs + budget < 2 ^ 32 → place < length rs
-    → before ≡ sum_by left_of (take place rs)
-    → serving ≡ sum_by left_of (filter is_in_service (drop (place + 1) rs))
-    → unspent ≡ budget - (record_at rs place).passed → left ≡ left_of (record_at rs place)
-    → before + serving + unspent + left < 2 ^ 32
-figure_fits budget rs place before serving unspent left small l e f p r = omega (arith, sum_bounded rs place l)
-
 -- whether it is in service or not
 pub figure_small : (budget : ℕ) (rs : List Record) (place : ℕ) → sum_by left_of rs + budget < 2 ^ 32 → place < length rs
     → figure_at budget rs place < 2 ^ 32
@@ -92,12 +82,6 @@ figure_small budget rs place small l =
     [ true ↦ omega (arith, whole, small) | false ↦ omega (arith, whole, small) ] in
     both (is_in_service r)
 
--- the records after a place, as a slice
-pub serving_after : (rs : List Record) (place serving : ℕ)
-    → serving ≡ sum_by left_of (filter is_in_service (take (length rs - (place + 1)) (drop (place + 1) rs)))
-    → serving ≡ sum_by left_of (filter is_in_service (drop (place + 1) rs))
-serving_after rs place serving f = f ∙ ap (λ xs. sum_by left_of (filter is_in_service xs)) (take_rest rs (place + 1))
-
 -- ---- a look
 
 entry_at : ℕ → List Record → ℕ → (Connection × ℕ × ℕ)
@@ -109,37 +93,3 @@ pub figures_more : (budget : ℕ) (rs : List Record) (n : ℕ)
     ++ looked_at (record_at rs n) (figure_at budget rs n) ∷ []
 unfolding entry_at
 figures_more budget rs n = map-range_with_len_more {X = Connection × ℕ × ℕ} (entry_at budget rs) 0 n n (omega arith)
-
--- what is left before the next place
-pub before_more : (rs : List Record) (place before left : ℕ) → place < length rs
-    → before ≡ sum_by left_of (take place rs) → left ≡ left_of (record_at rs place)
-    → before + left ≡ sum_by left_of (take (place + 1) rs)
-before_more rs place before left h f g =
-    let push = sum_by_push left_of (take place rs) (record_at rs place) in
-    let more : take (place + 1) rs ≡ take place rs ++ record_at rs place ∷ [] = take_more rs place no_record h in
-    cc
-
-front_when : (r : Record) (rs : List Record) (b : Bool)
-    → sum_by left_of (cond b (r ∷ filter is_in_service rs) (filter is_in_service rs)) ≡ cond b (left_of r) 0
-    + sum_by left_of (filter is_in_service rs)
-front_when r rs true = sum_by-cons left_of r (filter is_in_service rs)
-front_when r rs false = omega arith
-
--- what is left of those in service from a place on is that of the record there and of those after it
-pub serving_here : (rs : List Record) (place serving own : ℕ) → place < length rs
-    → serving ≡ sum_by left_of (filter is_in_service (drop place rs))
-    → own ≡ left_if_serving (record_at rs place) → serving ≡ own
-    + sum_by left_of (filter is_in_service (drop (place + 1) rs))
-serving_here rs place serving own h f g =
-    let here : drop place rs ≡ record_at rs place ∷ drop (place + 1) rs = drop_more rs place no_record h in
-    let all : serving ≡ sum_by left_of (filter is_in_service (record_at rs place ∷ drop (place + 1) rs)) =
-    f ∙ ap (λ xs. sum_by left_of (filter is_in_service xs)) here in
-    all ∙ front_when (record_at rs place) (drop (place + 1) rs) (is_in_service (record_at rs place))
-    ∙ ap (λ (k : ℕ). k + sum_by left_of (filter is_in_service (drop (place + 1) rs))) (sym g)
-
--- so without that record's there is left what there is after it
-pub serving_more : (rs : List Record) (place serving own : ℕ) → place < length rs
-    → serving ≡ sum_by left_of (filter is_in_service (drop place rs))
-    → own ≡ left_if_serving (record_at rs place) → serving - own
-    ≡ sum_by left_of (filter is_in_service (drop (place + 1) rs))
-serving_more rs place serving own h f g = omega (arith, serving_here rs place serving own h f g)

@@ -37,10 +37,6 @@ front_affordable budget rs place h =
 
 -- ---- the turn
 
-cut_off : (a b : Bool) → (a && false && b) ≡ false
-cut_off true b = refl
-cut_off false b = refl
-
 last_of : (a b c : Bool) → (a && b && c) ≡ true → c ≡ true
 last_of true true true h = refl
 last_of true true false h = absurd (false≢true h)

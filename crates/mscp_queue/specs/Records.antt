@@ -58,10 +58,6 @@ name_of r = name_on r.connection r.command.reference
 abbrev pub has_name : Name → Record → Bool
 has_name name r = same_name (name_of r) name
 
--- the record is of a command of this reference number, by whichever connection it came
-abbrev pub has_number : ℕ → Record → Bool
-has_number reference r = nat_eq r.command.reference reference
-
 -- the drive of the record at a place
 abbrev pub drive_at : List Drive → List Record → ℕ → Drive
 drive_at ds rs place = drive_of ds (record_at rs place).command.unit

@@ -5,7 +5,7 @@ ghost use Rattle.mscp_queue.specs.Dues.{clock_end, started};
 ghost use Rattle.std.specs.List.{list_all, list_any, position};
 ghost use Rattle.mscp_queue.specs.Figures.{figure_at, figures};
 ghost use Rattle.mscp_queue.specs.Orders.{is_sequential};
-ghost use Rattle.mscp_queue.specs.Records.{advanced, has_name, has_number, is_in_service, is_unstarted, left_of, passed_by, record_at, step_toll};
+ghost use Rattle.mscp_queue.specs.Records.{advanced, has_name, is_in_service, is_unstarted, left_of, passed_by, record_at, step_toll};
 ghost use Rattle.mscp_queue.specs.Aims.{no_aim};
 ghost use Rattle.mscp_queue.specs.Drives.{IsOnUnit};
 ghost use Rattle.mscp_queue.specs.Lineups.{AreOnDrive, IsRecosted};

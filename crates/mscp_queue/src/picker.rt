@@ -1,10 +1,10 @@
 // Who picks the command that starts.
 
-ghost use Rattle.std.specs.Prelude.{◌≡◌, ◌<◌, ◌≤◌, [], ℕ, cond, length, nat_lt, slice_index_or};
-ghost use Rattle.std.specs.Int.{bit_at};
-ghost use Rattle.mscp_queue.specs.Pickers.{IsSweep, costs};
+ghost use Rattle.std.specs.Prelude.{◌≡◌, ◌<◌, ◌≤◌, ◌-◌, ◌^◌, [], length};
+ghost use Rattle.mscp_queue.specs.Pickers.{IsSweep};
 
-use crate::view::{Choice, View};
+use crate::lanes::least;
+use crate::view::View;
 
 /// Picks the command that starts, of those that may. Any choice is lawful: what a queue shows may start, and the
 /// budget of each waiting command is kept, whoever picks.
@@ -39,26 +39,16 @@ impl Picker for Oldest {
     }
 }
 
-/// The first place that has the least cost, and 0 where there is none. It looks at one cost after the other: for eight lanes
-/// at a time they would have to be copied first, and that takes longer than it saves.
-fn cheapest(choices: &[Choice]) -> usize
-    requires { length choices.now ≤ 64 }
-    ensures empty { choices.now ≡ [] → result ≡ 0 }
-    ensures sweep { 0 < length choices.now → IsSweep choices.now result }
+/// The bits of so many places, from the first on.
+fn bits_of(places: usize) -> u64
+    requires { places ≤ 64 }
+    ensures { result ≡ 2 ^ places - 1 }
 {
-    let Some(first) = choices.first() else {
-        return 0;
-    };
-    let mut best = 0;
-    let mut least = first.cost;
-    for place in 1..choices.len() {
-        let cost = choices[place].cost;
-        if cost < least {
-            best = place;
-            least = cost;
-        }
+    if places < 64 {
+        (1 << places) - 1
+    } else {
+        u64::MAX
     }
-    best
 }
 
 /// Picks the command whose start costs the least, and of those the oldest: an elevator over all units (profile).
@@ -72,6 +62,6 @@ impl Picker for Sweep {
         ensures empty { view.now ≡ [] → result ≡ 0 }
         ensures sweep { 0 < length view.now → IsSweep view.now result }
     {
-        cheapest(view.choices())
+        least(view.costs(), bits_of(view.choices().len())).unwrap_or(0)
     }
 }

@@ -9,7 +9,7 @@ ghost use Rattle.mscp_queue.specs.Kept.{IsWaitable, place_without, units_of};
 ghost use Rattle.mscp_queue.specs.Lines.{Line, aborting, fresh, pushed};
 ghost use Rattle.mscp_queue.specs.Names.{name_on};
 ghost use Rattle.mscp_queue.specs.Orders.{order_weight};
-ghost use Rattle.mscp_queue.specs.Records.{IsServing, aborted_record, has_name, record_at};
+ghost use Rattle.mscp_queue.specs.Records.{IsServing, aborted_record, has_name, name_of, record_at};
 ghost use Rattle.mscp_queue.specs.Serving.{is_begun};
 ghost use Rattle.mscp_queue.specs.Views.{is_open_at};
 ghost use Rattle.mscp_queue.specs.Why.{holders_of_name, is_nobody};
@@ -104,7 +104,9 @@ fn without_place(known: Option<usize>, gone: usize) -> Option<usize>
 
 impl<K: Picker> Queue<K> {
     /// A queue to which nothing came so far: `room` commands may wait, each may be passed by `budget` blocks, and no
-    /// transfer is longer than `longest` blocks.
+    /// transfer is longer than `longest` blocks. It is built into its caller: each call on the way would have room for a
+    /// queue of its own on the stack.
+    #[inline(always)]
     pub fn new(units: Units, room: u32, budget: u32, longest: u32, picker: K) -> Queue<K>
         requires some_room { 1 ≤ room }
         requires few { room ≤ 63 }
@@ -271,12 +273,23 @@ impl<K: Picker> Queue<K> {
             reference,
         };
         let place = self.lineup.place_of(name)?;
+        Some(self.abort_at(place))
+    }
+
+    /// Takes the command at the place out, and ends it. If it was begun, it is begun no more.
+    fn abort_at(&mut self, place: usize) -> End
+        requires { place < length self.old.waiting }
+        ensures end { result ≡ aborted_record (record_at self.old.waiting place) }
+        ensures shaped { IsOfKind result }
+        ensures after { self.new ≡ aborting (name_of (record_at self.old.waiting place)) self.old }
+        ensures count { length self.new.waiting + 1 ≡ length self.old.waiting }
+    {
         let record = *self.backlog.record(place);
         self.backlog.take_out(place);
         self.lineup.remove(place);
         self.begun = without_place(self.begun, place);
         self.serving = without_place(self.serving, place);
-        Some(aborted_end(&record.command(), record.done()))
+        aborted_end(&record.command(), record.done())
     }
 
     /// Whether the command of the connection with the reference number was begun, and neither served nor aborted since, nor

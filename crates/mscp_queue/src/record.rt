@@ -125,13 +125,6 @@ impl Record {
         matches!(order, Order::Available | Order::Online | Order::SetUnit)
     }
 
-    /// How many sequential commands it is of: one, or none.
-    pub fn count_sequential(&self) -> u32
-        ensures { result ≡ cond (is_sequential self.now.command.order) 1 0 }
-    {
-        u32::from(self.is_sequential())
-    }
-
     /// How many steps the command had.
     pub fn done(&self) -> u32
         ensures done { result ≡ self.now.done }

@@ -9,7 +9,7 @@ ghost use Rattle.mscp_queue.specs.Kept.{ArePassedInOrder, CanBeShown, HasBlocks,
 ghost use Rattle.mscp_queue.specs.Lineups.{IsLineup, choice_in};
 ghost use Rattle.mscp_queue.specs.Orders.{is_move, is_sequential};
 ghost use Rattle.mscp_queue.specs.Records.{drive_at, record_at};
-ghost use Rattle.mscp_queue.specs.Views.{AllMayStart, IsPick, choice_of, choices_at, is_open_at, is_passable, open_places, view_of};
+ghost use Rattle.mscp_queue.specs.Views.{AllMayStart, IsPick, choice_of, choices_at, is_open_at, open_places, view_of};
 
 use crate::aim::Aim;
 use crate::backlog::Backlog;

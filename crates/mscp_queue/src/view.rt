@@ -2,6 +2,7 @@
 
 ghost use Rattle.std.specs.Prelude.{◌≡◌, ◌↔◌, ◌<◌, ◌≤◌, ◌+◌, [], ◌∷◌, ◌++◌, length, take, drop, slice_index_or, slice_set, IsSome, IfSome};
 ghost use Rattle.mscp_queue.specs.Lineups.{costing, no_choice};
+ghost use Rattle.mscp_queue.specs.Pickers.{IsRow};
 ghost use Rattle.mscp_queue.specs.Views.{choice_name};
 
 use crate::name::Name;
@@ -58,10 +59,21 @@ impl Default for Choice {
     }
 }
 
+/// Sets what the choice at a place costs.
+fn set_cost(choices: &mut ArrayVec<Choice, 64>, place: usize, cost: u64)
+    requires { place < length choices.old.items }
+    ensures { choices.new.items
+        ≡ slice_set choices.old.items place (costing cost (slice_index_or choices.old.items place no_choice)) }
+{
+    choices[place].cost = cost;
+}
+
 /// The commands that may start, at most 64 of them. A queue shows them in order of arrival.
 #[derive(Drop)]
 pub struct View {
     choices: ArrayVec<Choice, 64>,
+    // What each choice costs, at its place: in a row of their own lanes can read them where they lie.
+    costs: [u64; 64],
 }
 
 // A clause sees the list of the choices.
@@ -71,9 +83,11 @@ impl Model for View {
 
     ghost Value = { List Shown };
 
+    ghost use Rattle.mscp_queue.specs.Pickers.{IsRow};
+
     ghost view = { λ v. v.choices.items };
 
-    ghost invariant = { λ v. Unit {0} };
+    ghost invariant = { λ v. IsRow v.costs v.choices.items };
 }
 
 impl View {
@@ -98,6 +112,7 @@ impl View {
     {
         View {
             choices: ArrayVec::new(),
+            costs: [0; 64],
         }
     }
 
@@ -113,6 +128,7 @@ impl View {
         requires { length self.old < 64 }
         ensures { self.new ≡ self.old ++ choice ∷ [] }
     {
+        self.costs[self.choices.len()] = choice.cost;
         self.choices.push(choice);
     }
 
@@ -121,6 +137,7 @@ impl View {
         requires { place < length self.old }
         ensures { self.new ≡ take place self.old ++ drop (place + 1) self.old }
     {
+        self.costs.copy_within(place + 1.., place);
         self.choices.remove(place);
     }
 
@@ -129,7 +146,8 @@ impl View {
         requires { place < length self.old }
         ensures { self.new ≡ slice_set self.old place (costing cost (slice_index_or self.old place no_choice)) }
     {
-        self.choices[place].cost = cost;
+        set_cost(&mut self.choices, place, cost);
+        self.costs[place] = cost;
     }
 
     /// The choices, in their order.
@@ -138,6 +156,13 @@ impl View {
         ensures few { length result.now ≤ 64 }
     {
         self.choices.as_slice()
+    }
+
+    /// What the choices cost, each at its place.
+    pub(crate) fn costs(&self) -> &[u64; 64]
+        ensures { IsRow result.now self.now }
+    {
+        &self.costs
     }
 }
 

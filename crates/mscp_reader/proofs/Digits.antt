@@ -1,7 +1,5 @@
 -- Decimal digits.
-use Rattle.std.proofs.Common.{◌≡◌, ◌<◌, ◌≤◌, ◌+◌, ◌-◌, ◌*◌, ◌^◌, ◌++◌, ℕ, true, List, take, length, get_or, arith}
-use Rattle.std.specs.Prelude.{OnOk, if◌then◌else◌, Result, Ok, Err}
-use Rattle.std.specs.Result.{is_ok}
+use Rattle.std.proofs.Common.{◌≡◌, ◌<◌, ◌≤◌, ◌+◌, ◌-◌, ◌*◌, ◌^◌, ℕ, true, List, take, length, get_or, arith}
 use Rattle.std.specs.Fmt.{decimal}
 use Rattle.std.proofs.lemmas.Fmt.{length-decimal-le}
 use Rattle.std.specs.List.{list_all}
@@ -33,8 +31,3 @@ small_more i v d h e = grind (arith, common_steps)
 
 pub few_digits : (n : ℕ) → n < 2 ^ 32 → length (decimal n) ≤ 10
 few_digits n h = length-decimal-le 10 n (omega arith) (omega (arith, h)) (omega (arith, h))
-
-pub on_ok : {T E : Type 0} (r : Result T E) (new old more : List ℕ) → new ≡ (if is_ok r then old ++ more else old)
-    → OnOk r (new ≡ old ++ more)
-on_ok (Ok v) new old more h = h
-on_ok (Err e) new old more h = tt

@@ -4,6 +4,6 @@ pub mod Digits
 pub mod Headers
 pub mod Outcomes
 pub mod Rising
+pub mod Fields
 pub mod Sound
 pub mod Whole
-mod RunsScripts

@@ -1,8 +1,7 @@
 -- What a line does to the outcome.
 use Rattle.std.proofs.Common.{◌≡◌, ◌+◌, ℕ, List, [], ◌∷◌, refl, ap, ◌∙◌}
 use Rattle.std.specs.Prelude.{codes, Result, Ok, Err}
-use Rattle.mscp_text.specs.Steps.{◌>>=◌, Gives}
-use Rattle.mscp_reader.specs.Lexical.{lines}
+use Rattle.mscp_packet.specs.Steps.{◌>>=◌, Gives}
 use Rattle.mscp_reader.specs.declared.fault.Cause.{Cause}
 use Rattle.mscp_reader.specs.declared.fault.Cause.TheVariants as causes
 use Rattle.mscp_reader.specs.declared.fault.ScriptFault.{ScriptFault}
@@ -12,7 +11,7 @@ use Rattle.mscp_events.specs.Both.{Both}
 use Rattle.mscp_events.specs.Settings.{Settings}
 use Rattle.mscp_events.specs.declared.event.Event.{Event}
 use Rattle.mscp_reader.specs.Grammar.{Place, next_unless_skipped, Begins, HasBudget, HasCredits, HasPassing, HasLongest, HasTimeout, HasUnits, HasGone, IsInHeader, said_at, next, after_line, credits, limit, limits, first_units, unit_or_go}
-use Rattle.mscp_reader.specs.Outcome.{Fails, Sets, Leads, budget_of, in_line, limited, lines_outcome, onward, all_read}
+use Rattle.mscp_reader.specs.Outcome.{Fails, Sets, budget_of, in_line, limited, lines_outcome, onward, all_read}
 use Rattle.mscp_reader.specs.declared.header.Limit.{Limit}
 use Rattle.mscp_reader.specs.declared.header.Limit.TheVariants as ways
 

@@ -215,6 +215,11 @@ pub poll_asks : (xs ys zs : List ℕ) (r o : ℕ) → CutsWord wide r xs ys → 
 unfolding asked
 poll_asks xs ys zs r o p q = (p.0 ∷ q.0 ∷ [], rw (p.1, q.1) refl, λ more behind e. p.2 _ behind (q.2 more behind e))
 
+pub abort_asks : (xs ys zs : List ℕ) (r o : ℕ) → CutsWord wide r xs ys → CutsWord wide o ys zs
+    → Asks forms.Abort (sent First r 0 (orders.Abort o)) xs zs
+unfolding asked
+abort_asks xs ys zs r o p q = (p.0 ∷ q.0 ∷ [], rw (p.1, q.1) refl, λ more behind e. p.2 _ behind (q.2 more behind e))
+
 pub steps_asks : (xs ys : List ℕ) (n : ℕ) → CutsWord wide n xs ys → 1 ≤ n → n ≤ 1000
     → Asks forms.Step (requests.Steps n) xs ys
 unfolding asked

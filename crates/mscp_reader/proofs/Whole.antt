@@ -4,15 +4,14 @@ use Rattle.std.specs.Prelude.{nat_lt, Result, Ok, Err}
 use Rattle.std.proofs.lemmas.Bool.Decides.{nat_tests}
 use Rattle.mscp_events.specs.Settings.{Settings}
 use Rattle.mscp_events.specs.declared.event.Event.{Event}
-use Rattle.mscp_text.specs.Steps.{◌>>=◌}
+use Rattle.mscp_packet.specs.Steps.{◌>>=◌}
 use Rattle.mscp_reader.specs.Lexical.{lines}
 use Rattle.mscp_reader.specs.declared.fault.Cause.{Cause}
 use Rattle.mscp_reader.specs.declared.fault.Cause.TheVariants as causes
 use Rattle.mscp_reader.specs.declared.fault.ScriptFault.{ScriptFault}
-use Rattle.mscp_reader.specs.declared.script.Script.{Script}
 use Rattle.mscp_reader.specs.declared.fault.ReadFault.{ReadFault}
 use Rattle.mscp_reader.specs.Grammar.{Place, Begins, HasGone, IsInHeader, after_line, after_lines, Reads, IsAtFault, HasNoGo, IsFault}
-use Rattle.mscp_reader.specs.Outcome.{in_line, lines_outcome, script_outcome, meaning_of, Tells}
+use Rattle.mscp_reader.specs.Outcome.{in_line, lines_outcome, script_outcome, Tells}
 use Rattle.mscp_reader.proofs.Outcomes.{ended_early}
 use Rattle.mscp_reader.proofs.Sound.{is_read, is_fault}
 
@@ -109,8 +108,8 @@ pub fault_of_outcome : (bytes : List ℕ) (fault : ScriptFault) → script_outco
 fault_of_outcome bytes fault e = fault_cases bytes fault (nat_lt 16777216 (length bytes)) refl e
 
 -- what was told of the lines was told of the script
-pub told_of : {A : Type 0} (r : Result (Script A) ReadFault) (bytes : List ℕ)
+pub told_of : {X : Type 0} (view : X → Settings × List Event) (r : Result X ReadFault) (bytes : List ℕ)
     (o : Result (Settings × List Event) ScriptFault) → length bytes ≤ 16777216 → script_outcome bytes ≡ o
-    → Tells meaning_of r (lines_outcome 0 Begins (lines bytes)) → Tells meaning_of r o
-told_of r bytes o small e t = subst (λ (x : Result (Settings × List Event) ScriptFault). Tells meaning_of r x)
+    → Tells view r (lines_outcome 0 Begins (lines bytes)) → Tells view r o
+told_of view r bytes o small e t = subst (λ (x : Result (Settings × List Event) ScriptFault). Tells view r x)
     (sym (small_outcome bytes small) ∙ e) t

@@ -7,7 +7,7 @@ use Rattle.mscp_events.specs.Both.{Both}
 use Rattle.mscp_events.specs.Settings.{Settings, configured}
 use Rattle.mscp_events.specs.declared.config.ConfigFault.{ConfigFault}
 use Rattle.mscp_events.specs.declared.event.Event.{Event}
-use Rattle.mscp_text.specs.Steps.{◌>>=◌}
+use Rattle.mscp_packet.specs.Steps.{◌>>=◌}
 use Rattle.mscp_reader.specs.Lexical.{lines, said, number, wide, narrow}
 use Rattle.mscp_reader.specs.Requests.{none, one, five, request, events_of}
 use Rattle.mscp_reader.specs.declared.fault.Cause.{Cause}
@@ -50,6 +50,10 @@ unit_with n track group cylinder size = record {
   serial = n + 1;
 }
 
+-- a unit, if it has all sizes (profile)
+abbrev pub unit_if : Shape → Result Shape Cause
+unit_if unit = if has_sizes unit then Ok unit else Err causes.Unit
+
 -- the unit of these fields (profile)
 unfoldable pub unit_of : List (List ℕ) → Result Shape Cause
 unit_of fields = do
@@ -59,8 +63,7 @@ unit_of fields = do
   group ← narrow f.2
   cylinder ← narrow f.3
   size ← wide f.4
-  if has_sizes (unit_with n track group cylinder size) then Ok (unit_with n track group cylinder size)
-      else Err causes.Unit
+  unit_if (unit_with n track group cylinder size)
 
 -- whether units may have one more of this number: there are fewer than 16, each of a lower number (profile)
 abbrev pub has_room : List Shape → ℕ → Bool
@@ -136,11 +139,14 @@ unit_or_go settings (word ∷ fields) =
 abbrev pub more_events : List Event → List Event → Result (List Event) Cause
 more_events before new = if nat_le (length before + length new) 1000000 then Ok (before ++ new) else Err causes.Events
 
--- where the one number of these fields, of 32 bits, leads
+-- the number that these fields are, of 32 bits
+abbrev pub only_number : List (List ℕ) → Result ℕ Cause
+only_number fields = one fields >>= wide
+
+-- where it leads
 abbrev pub by_number : (ℕ → Place) → List (List ℕ) → Result Place Cause
 by_number made fields = do
-  text ← one fields
-  value ← number 4294967295 text
+  value ← only_number fields
   Ok (made value)
 
 -- the line of the credits (profile)

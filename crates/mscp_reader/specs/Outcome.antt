@@ -4,10 +4,9 @@ use Rattle.mscp_drive.specs.Shape.{Shape}
 use Rattle.mscp_events.specs.Both.{Both}
 use Rattle.mscp_events.specs.Settings.{Settings}
 use Rattle.mscp_events.specs.declared.event.Event.{Event}
-use Rattle.mscp_text.specs.Steps.{◌>>=◌}
+use Rattle.mscp_packet.specs.Steps.{◌>>=◌}
 use Rattle.mscp_reader.specs.Lexical.{lines}
 use Rattle.mscp_reader.specs.Grammar.{Place, Begins, HasBudget, HasPassing, HasUnits, HasGone, IsInHeader, setting, next, after_line}
-use Rattle.mscp_reader.specs.declared.script.Script.{Script}
 use Rattle.mscp_reader.specs.declared.header.Credits.{Credits}
 use Rattle.mscp_reader.specs.declared.header.Limits.{Limits}
 use Rattle.mscp_reader.specs.declared.header.Limit.{Limit}
@@ -132,7 +131,3 @@ abbrev pub script_outcome : List ℕ → Result (Settings × List Event) ScriptF
 script_outcome bytes =
     if nat_lt 16777216 (length bytes) then Err (record { line = 0; cause = causes.Size })
     else rest_outcome 0 Begins bytes
-
--- what is read of it
-abbrev pub meaning_of : {A : Type 0} → Script A → Settings × List Event
-meaning_of script = (script.config, script.events.items)

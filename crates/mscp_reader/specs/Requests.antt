@@ -10,7 +10,7 @@ use Rattle.mscp_events.specs.declared.connection.Connection.{Connection}
 use Rattle.mscp_events.specs.declared.connection.Connection.TheVariants.{First, Second}
 use Rattle.mscp_events.specs.declared.event.Event.{Event}
 use Rattle.mscp_events.specs.declared.event.Event.TheVariants as events
-use Rattle.mscp_text.specs.Steps.{◌>>=◌}
+use Rattle.mscp_packet.specs.Steps.{◌>>=◌}
 use Rattle.mscp_reader.specs.Lexical.{wide, narrow, steps_in, message, status, bad_in}
 use Rattle.mscp_reader.specs.declared.fault.Cause.{Cause}
 use Rattle.mscp_reader.specs.declared.fault.Cause.TheVariants as causes
@@ -43,29 +43,29 @@ five fields = Err causes.Count
 
 -- ---- the first word
 
--- the form of a line with this first word, if it takes an end or is of the drive (profile)
-unfoldable pub event_form : List ℕ → Option Form
-event_form word =
-    if bytes_eq word (codes "step") then Some forms.Step else (
-    if bytes_eq word (codes "bad") then Some forms.Bad else (
-    if bytes_eq word (codes "take") then Some forms.Take else (
-    if bytes_eq word (codes "look") then Some forms.Look else None)))
-
--- or if it is a message that names no unit (profile)
-unfoldable pub message_form : List ℕ → Option Form
-message_form word =
-    if bytes_eq word (codes "setcontroller") then Some forms.SetController else (
-    if bytes_eq word (codes "abort") then Some forms.Abort else (
-    if bytes_eq word (codes "status") then Some forms.Status else (
-    if bytes_eq word (codes "packet") then Some forms.Packet else event_form word)))
-
--- or if it is a command to a unit (profile)
+-- the form of a line with this first word, if it is another command to a unit than a transfer (profile)
 unfoldable pub plain_form : List ℕ → Option Form
 plain_form word =
     if bytes_eq word (codes "online") then Some (forms.Plain orders.Online) else (
     if bytes_eq word (codes "available") then Some (forms.Plain orders.Available) else (
     if bytes_eq word (codes "setunit") then Some (forms.Plain orders.SetUnit) else (
-    if bytes_eq word (codes "unitstatus") then Some (forms.Plain orders.UnitStatus) else message_form word)))
+    if bytes_eq word (codes "unitstatus") then Some (forms.Plain orders.UnitStatus) else None)))
+
+-- or if it is a message that names no unit (profile)
+unfoldable pub message_form : List ℕ → Option Form
+message_form word =
+    if bytes_eq word (codes "status") then Some forms.Status else (
+    if bytes_eq word (codes "abort") then Some forms.Abort else (
+    if bytes_eq word (codes "packet") then Some forms.Packet else (
+    if bytes_eq word (codes "setcontroller") then Some forms.SetController else plain_form word)))
+
+-- or if it takes an end or is of the drive (profile)
+unfoldable pub event_form : List ℕ → Option Form
+event_form word =
+    if bytes_eq word (codes "step") then Some forms.Step else (
+    if bytes_eq word (codes "take") then Some forms.Take else (
+    if bytes_eq word (codes "look") then Some forms.Look else (
+    if bytes_eq word (codes "bad") then Some forms.Bad else message_form word)))
 
 -- or of any form, one line for each (profile)
 unfoldable pub form_of : List ℕ → Option Form
@@ -74,7 +74,7 @@ form_of word =
     if bytes_eq word (codes "write") then Some (forms.Transfer moves.Write) else (
     if bytes_eq word (codes "access") then Some (forms.Transfer moves.Access) else (
     if bytes_eq word (codes "erase") then Some (forms.Transfer moves.Erase) else (
-    if bytes_eq word (codes "compare") then Some (forms.Transfer moves.Compare) else plain_form word))))
+    if bytes_eq word (codes "compare") then Some (forms.Transfer moves.Compare) else event_form word))))
 
 -- ---- the fields
 

@@ -1,22 +1,21 @@
-// The lines after the header: what comes to the controller.
+// The lines after the header: what each asks for.
 
-ghost use Rattle.std.specs.Prelude.{◌≡◌, ◌+◌, ◌++◌, ◌≤◌, [], List, length, vec_len, IfOk, IfErr, OnOk};
-ghost use Rattle.mscp_packet.specs.Commands.{command_bytes};
+ghost use Rattle.std.specs.Prelude.{◌≡◌, ◌+◌, ◌++◌, ◌≤◌, List, length, IfOk, IfErr};
+ghost use Rattle.mscp_events.specs.declared.event.Event.{Event};
 ghost use Rattle.mscp_events.specs.Settings.{Settings};
-ghost use Rattle.mscp_text.specs.Steps.{Gives};
+ghost use Rattle.mscp_packet.specs.Steps.{Gives};
 ghost use Rattle.mscp_reader.specs.Lexical as lexical;
 ghost use Rattle.mscp_reader.specs.Requests as requests;
 ghost use Rattle.mscp_reader.specs.Grammar.{HasGone, next};
-ghost use Rattle.mscp_reader.specs.Outcome.{Tells, in_line, rest_outcome};
+ghost use Rattle.mscp_reader.specs.Outcome.{in_line};
 
-use crate::fault::{Cause, ReadFault, ScriptFault};
-use crate::lines::{Line, Lines};
+use crate::fault::{Cause, ScriptFault};
+use crate::lines::Line;
 use crate::numbers::{message, narrow, status, wide};
 use crate::words::Words;
 use arrayvec::ArrayVec;
-use mscp_events::{Block, Connection, Event, FaultStatus, OutOfMemory};
-use mscp_packet::{Command, MoveKind, Order, write_command};
-use std::alloc::Allocator;
+use mscp_events::{Connection, FaultStatus};
+use mscp_packet::{Command, MoveKind, Order};
 
 /// The most events of a script.
 pub const MOST_EVENTS: usize = 1_000_000;
@@ -75,37 +74,6 @@ pub enum Request {
     Look,
 }
 
-/// Reads all lines that are left.
-pub fn read_events<A: Allocator>(
-    alloc: A,
-    lines: &mut Lines<'_>,
-) -> Result<Vec<Event, A>, ReadFault>
-    ensures events { IfOk result (λ events. vec_len events ≤ MOST_EVENTS) }
-    ensures fault { (fault : ScriptFault) → result ≡ Err (ReadFault.Script fault) → 1 ≤ fault.line }
-    ensures outcome { (s : Settings) → Tells (λ events. (s, events.items)) result (rest_outcome lines.old.number
-        (HasGone s []) lines.old.rest.now) }
-{
-    let mut events = Vec::new(alloc);
-    while let Some(line) = lines.next_line()? {
-        read_line(&mut events, line)?;
-    }
-    Ok(events)
-}
-
-/// Reads a line, and appends its events.
-#[tactic(auto, unfolding(crate::specs::Grammar::next))]
-fn read_line<A: Allocator>(events: &mut Vec<Event, A>, line: Line<'_>) -> Result<(), ReadFault>
-    requires { vec_len events.old ≤ MOST_EVENTS }
-    ensures few { OnOk result (vec_len events.new ≤ MOST_EVENTS) }
-    ensures fault { (fault : ScriptFault) → result ≡ Err (ReadFault.Script fault) → 1 ≤ fault.line }
-    ensures next { (s : Settings) → Tells (λ done. HasGone s events.new.items) result
-        (in_line line.entry.number (next (HasGone s events.old.items) (lexical.words line.entry.words.rest.now))) }
-{
-    let request = request_after(line, events.len())?;
-    add_events(events, request)?;
-    Ok(())
-}
-
 /// What a line asks for, after so many events.
 #[tactic(auto, unfolding(crate::specs::Grammar::next))]
 pub fn request_after(line: Line<'_>, count: usize) -> Result<Request, ScriptFault>
@@ -144,10 +112,10 @@ fn read_request(mut words: Words<'_>) -> Result<Request, Cause>
     let Some(word) = words.next_word() else {
         return Err(Cause::Word);
     };
-    match (form_of(word), word) {
-        (Some(form), _) => read_fields(Connection::First, form, words),
-        (None, b"second") => read_second(words),
-        (None, _) => Err(Cause::Word),
+    match form_of(word) {
+        Some(form) => read_fields(Connection::First, form, words),
+        None if word == b"second".as_slice() => read_second(words),
+        None => Err(Cause::Word),
     }
 }
 
@@ -180,11 +148,49 @@ pub fn form_of(word: &[u8]) -> Option<Form>
     } else if word == b"compare".as_slice() {
         Some(Form::Transfer(MoveKind::Compare))
     } else {
-        plain_form(word)
+        event_form(word)
     }
 }
 
 /// The form of the line of this first word, which is no transfer.
+#[inline(always)]
+#[tactic(auto, unfolding(crate::specs::Requests::event_form))]
+fn event_form(word: &[u8]) -> Option<Form>
+    ensures { result ≡ requests.event_form word.now }
+{
+    if word == b"step".as_slice() {
+        Some(Form::Step)
+    } else if word == b"take".as_slice() {
+        Some(Form::Take)
+    } else if word == b"look".as_slice() {
+        Some(Form::Look)
+    } else if word == b"bad".as_slice() {
+        Some(Form::Bad)
+    } else {
+        message_form(word)
+    }
+}
+
+/// The form of the line of this first word, which is neither a transfer, nor of the drive, nor `take`.
+#[inline(always)]
+#[tactic(auto, unfolding(crate::specs::Requests::message_form))]
+fn message_form(word: &[u8]) -> Option<Form>
+    ensures { result ≡ requests.message_form word.now }
+{
+    if word == b"status".as_slice() {
+        Some(Form::Status)
+    } else if word == b"abort".as_slice() {
+        Some(Form::Abort)
+    } else if word == b"packet".as_slice() {
+        Some(Form::Packet)
+    } else if word == b"setcontroller".as_slice() {
+        Some(Form::SetController)
+    } else {
+        plain_form(word)
+    }
+}
+
+/// The form of the line of this first word, if it is another command to a unit.
 #[inline(always)]
 #[tactic(auto, unfolding(crate::specs::Requests::plain_form))]
 fn plain_form(word: &[u8]) -> Option<Form>
@@ -198,44 +204,6 @@ fn plain_form(word: &[u8]) -> Option<Form>
         Some(Form::Plain(Order::SetUnit))
     } else if word == b"unitstatus".as_slice() {
         Some(Form::Plain(Order::UnitStatus))
-    } else {
-        message_form(word)
-    }
-}
-
-/// The form of the line of this first word, which is no command to a unit.
-#[inline(always)]
-#[tactic(auto, unfolding(crate::specs::Requests::message_form))]
-fn message_form(word: &[u8]) -> Option<Form>
-    ensures { result ≡ requests.message_form word.now }
-{
-    if word == b"setcontroller".as_slice() {
-        Some(Form::SetController)
-    } else if word == b"abort".as_slice() {
-        Some(Form::Abort)
-    } else if word == b"status".as_slice() {
-        Some(Form::Status)
-    } else if word == b"packet".as_slice() {
-        Some(Form::Packet)
-    } else {
-        event_form(word)
-    }
-}
-
-/// The form of the line of this first word, which is no message.
-#[inline(always)]
-#[tactic(auto, unfolding(crate::specs::Requests::event_form))]
-fn event_form(word: &[u8]) -> Option<Form>
-    ensures { result ≡ requests.event_form word.now }
-{
-    if word == b"step".as_slice() {
-        Some(Form::Step)
-    } else if word == b"bad".as_slice() {
-        Some(Form::Bad)
-    } else if word == b"take".as_slice() {
-        Some(Form::Take)
-    } else if word == b"look".as_slice() {
-        Some(Form::Look)
     } else {
         None
     }
@@ -370,17 +338,6 @@ fn read_bad(words: Words<'_>) -> Result<Request, Cause>
     }
 }
 
-/// The message of a command.
-fn command_message(command: &Command) -> ArrayVec<u8, 64>
-    ensures { result.items ≡ command_bytes command.now }
-{
-    let mut bytes = ArrayVec::new();
-    bytes
-        .try_extend_from_slice(write_command(command).as_slice())
-        .unwrap();
-    bytes
-}
-
 /// How many events a request is.
 fn event_count(request: &Request) -> usize
     ensures { result ≡ length (requests.events_of request.now) }
@@ -393,25 +350,4 @@ fn event_count(request: &Request) -> usize
         | Request::Bad(_) => 1,
         Request::Steps(count) => *count as usize,
     }
-}
-
-/// Appends the events of a request.
-fn add_events<A: Allocator>(events: &mut Vec<Event, A>, request: Request) -> Result<(), OutOfMemory>
-    ensures { OnOk result (events.new.items ≡ events.old.items ++ requests.events_of request) }
-{
-    match request {
-        Request::Send(connection, command) => {
-            events.push(Event::Send(connection, command_message(&command)))?;
-        }
-        Request::Packet(connection, bytes) => events.push(Event::Send(connection, bytes))?,
-        Request::Take(connection) => events.push(Event::Take(connection))?,
-        Request::Look => events.push(Event::Look)?,
-        Request::Bad(code) => events.push(Event::Step(Block::Bad(code)))?,
-        Request::Steps(count) => {
-            for _step in 0..count {
-                events.push(Event::Step(Block::Good))?;
-            }
-        }
-    }
-    Ok(())
 }

@@ -4,7 +4,7 @@ ghost use Rattle.std.specs.Prelude.{◌≡◌, ◌<◌, ◌≤◌, [], ℕ, nat_
 ghost use Rattle.std.specs.List.{list_all};
 ghost use Rattle.mscp_events.specs.Settings as settings;
 ghost use Rattle.mscp_drive.specs.UnitList.{IsUnitList, NumbersRise};
-ghost use Rattle.mscp_text.specs.Steps.{Gives};
+ghost use Rattle.mscp_packet.specs.Steps.{Gives};
 ghost use Rattle.mscp_reader.specs.Lexical as lexical;
 ghost use Rattle.mscp_reader.specs.Grammar as grammar;
 ghost use Rattle.mscp_reader.specs.Grammar.{Place, Begins, HasCredits, HasTimeout, HasUnits, HasGone};
@@ -172,10 +172,13 @@ fn setting(mut words: Words<'_>, name: &[u8], most: u32) -> Result<u32, Cause>
 fn credits_of(mut words: Words<'_>) -> Result<Credits, Cause>
     ensures { Gives (λ all. HasCredits (both_of all)) result (grammar.credits (lexical.words words.entry.rest.now)) }
 {
-    match words.next_word() {
-        Some(b"credits") => credit_fields(words),
-        _ => Err(Cause::Word),
+    let Some(word) = words.next_word() else {
+        return Err(Cause::Word);
+    };
+    if word != b"credits".as_slice() {
+        return Err(Cause::Word);
     }
+    credit_fields(words)
 }
 
 /// The credits of these fields: of the first connection, and of the second, if it is named.
@@ -202,11 +205,23 @@ fn credit_fields(mut words: Words<'_>) -> Result<Credits, Cause>
 fn limit_of(mut words: Words<'_>) -> Result<Limit, Cause>
     ensures { (all : Both ℕ) → Gives (limited all) result (grammar.limit all (lexical.words words.entry.rest.now)) }
 {
-    match words.next_word() {
-        Some(b"budget") => Ok(Limit::Budget(number(4_294_967_295, words.one()?)?)),
-        Some(b"passing") => Ok(Limit::Passing(number(4_294_967_295, words.one()?)?)),
-        _ => Err(Cause::Word),
+    let Some(word) = words.next_word() else {
+        return Err(Cause::Word);
+    };
+    if word == b"budget".as_slice() {
+        return Ok(Limit::Budget(only_number(words)?));
     }
+    if word == b"passing".as_slice() {
+        return Ok(Limit::Passing(only_number(words)?));
+    }
+    Err(Cause::Word)
+}
+
+/// The number that is the only field left.
+fn only_number(words: Words<'_>) -> Result<u32, Cause>
+    ensures { result ≡ grammar.only_number (lexical.words words.entry.rest.now) }
+{
+    wide(words.one()?)
 }
 
 /// The unit of a line, whose first word is `unit`.
@@ -216,10 +231,13 @@ fn first_unit(mut words: Words<'_>, units: &mut ArrayVec<Unit, 16>) -> Result<()
     ensures list { OnOk result (IsUnitList units.new.items) }
     ensures units { Gives (λ done. units.new.items) result (grammar.first_units (lexical.words words.entry.rest.now)) }
 {
-    match words.next_word() {
-        Some(b"unit") => add_unit(units, words),
-        _ => Err(Cause::Word),
+    let Some(word) = words.next_word() else {
+        return Err(Cause::Word);
+    };
+    if word != b"unit".as_slice() {
+        return Err(Cause::Word);
     }
+    add_unit(units, words)
 }
 
 /// What a line after a unit brings: one more unit, or the configuration.
@@ -234,17 +252,18 @@ fn unit_or_go(
     ensures place { Gives (place_after (settled limits units.new.items)) result (grammar.unit_or_go (settled limits
         units.old.items) (lexical.words words.entry.rest.now)) }
 {
-    match words.next_word() {
-        Some(b"unit") => {
-            add_unit(units, words)?;
-            Ok(None)
-        }
-        Some(b"go") => {
-            words.none()?;
-            Ok(Some(configured(limits, units)?))
-        }
-        _ => Err(Cause::Word),
+    let Some(word) = words.next_word() else {
+        return Err(Cause::Word);
+    };
+    if word == b"unit".as_slice() {
+        add_unit(units, words)?;
+        return Ok(None);
     }
+    if word == b"go".as_slice() {
+        words.none()?;
+        return Ok(Some(configured(limits, units)?));
+    }
+    Err(Cause::Word)
 }
 
 /// One more unit, of these fields. There are at most 16, each of a higher number than those before.
@@ -277,17 +296,25 @@ fn is_above(units: &[Unit], number: u16) -> bool
     units.iter().all(|other| other.number() < number)
 }
 
-/// The unit of these fields. Its identifier and its serial number are one more than its number.
+/// The unit of these fields.
 #[tactic(auto, unfolding(crate::specs::Grammar::unit_of))]
 fn unit_of(words: Words<'_>) -> Result<Unit, Cause>
     ensures { result ≡ grammar.unit_of (lexical.words words.entry.rest.now) }
 {
     let (number, track, group, cylinder, size) = words.five()?;
-    let number = narrow(number)?;
-    let track = narrow(track)?;
-    let group = narrow(group)?;
-    let cylinder = narrow(cylinder)?;
-    let size = wide(size)?;
+    unit_with(
+        narrow(number)?,
+        narrow(track)?,
+        narrow(group)?,
+        narrow(cylinder)?,
+        wide(size)?,
+    )
+}
+
+/// The unit of these numbers. Its identifier and its serial number are one more than its number.
+fn unit_with(number: u16, track: u16, group: u16, cylinder: u16, size: u32) -> Result<Unit, Cause>
+    ensures { result ≡ grammar.unit_if (grammar.unit_with number track group cylinder size) }
+{
     let id = u64::from(number) + 1;
     let serial = u32::from(number) + 1;
     match Unit::new(number, track, group, cylinder, size, id, 0, serial) {

@@ -19,5 +19,5 @@ pub use crate::law::scripts_have_one_meaning;
 pub use crate::lines::{LONGEST_LINE, Line, Lines, MOST_LINES, PlainLine, words_of};
 pub use crate::numbers::wide;
 pub use crate::plain::Plain;
-pub use crate::script::{MOST_BYTES, Script, lines_of, read_script, read_script_in};
+pub use crate::script::{MOST_BYTES, lines_of};
 pub use crate::words::Words;

@@ -1,13 +1,13 @@
 // The numbers and the hexadecimal digits of a line.
 
 ghost use Rattle.std.specs.Prelude.{◌≡◌, ◌≤◌, IfOk};
-ghost use Rattle.mscp_text.specs.Steps.{Gives};
+ghost use Rattle.mscp_packet.specs.Steps.{Gives};
 ghost use Rattle.mscp_reader.specs.Lexical as lexical;
 
 use crate::fault::Cause;
 use arrayvec::ArrayVec;
 use hex::decode_to_slice;
-use mscp_text::{MOST_MESSAGE_BYTES, decode};
+use mscp_packet::{MOST_MESSAGE_BYTES, decode};
 
 /// The most digits of a number, leading zeros too.
 pub const MOST_DIGITS: usize = 10;

@@ -116,6 +116,7 @@ impl<'a> Fields<'a> {
             Form::Transfer(kind) => Some(Plain::Send(self.transfer(kind)?)),
             Form::Plain(order) => Some(Plain::Send(self.other(order)?)),
             Form::Status => Some(Plain::Send(self.poll()?)),
+            Form::Abort => Some(Plain::Send(self.abort()?)),
             Form::Step => Some(Plain::Steps(self.steps()?)),
             Form::Take => Some(Plain::Take),
             Form::Look => Some(Plain::Look),
@@ -164,6 +165,20 @@ impl<'a> Fields<'a> {
             reference,
             unit: 0,
             order: Order::Status(other),
+        })
+    }
+
+    /// Cuts off the fields of an abort.
+    fn abort(&mut self) -> Option<Command>
+        ensures { IfSome result (λ command. Asks Form.Abort (Request.Send First command) self.old.rest.now
+            self.new.rest.now) }
+    {
+        let reference = self.wide()?;
+        let other = self.wide()?;
+        Some(Command {
+            reference,
+            unit: 0,
+            order: Order::Abort(other),
         })
     }
 

@@ -1,7 +1,7 @@
 // The words of a line.
 
 ghost use Rattle.std.specs.Prelude.{◌≡◌, ◌↔◌, IsTrue, [], ◌∷◌, MatchOption, MatchResult};
-ghost use Rattle.mscp_text.specs.Steps.{Gives};
+ghost use Rattle.mscp_packet.specs.Steps.{Gives};
 ghost use Rattle.mscp_reader.specs.Lexical as lexical;
 ghost use Rattle.mscp_reader.specs.Requests as requests;
 
@@ -78,29 +78,25 @@ impl<'a> Words<'a> {
     }
 
     /// The four words that are left.
+    #[tactic(auto, using(crate::proofs::Fields::four_by_two))]
     pub fn four(mut self) -> Result<(&'a [u8], &'a [u8], &'a [u8], &'a [u8]), Cause>
         ensures { Gives (λ f. (f.0.now, f.1.now, f.2.now, f.3.now)) result (requests.four (lexical.words
             self.entry.rest.now)) }
     {
         let first = self.next_field()?;
         let second = self.next_field()?;
-        let third = self.next_field()?;
-        let fourth = self.next_field()?;
-        self.none()?;
+        let (third, fourth) = self.two()?;
         Ok((first, second, third, fourth))
     }
 
     /// The five words that are left.
+    #[tactic(auto, using(crate::proofs::Fields::five_by_four))]
     pub fn five(mut self) -> Result<(&'a [u8], &'a [u8], &'a [u8], &'a [u8], &'a [u8]), Cause>
         ensures { Gives (λ f. (f.0.now, f.1.now, f.2.now, f.3.now, f.4.now)) result (requests.five (lexical.words
             self.entry.rest.now)) }
     {
         let first = self.next_field()?;
-        let second = self.next_field()?;
-        let third = self.next_field()?;
-        let fourth = self.next_field()?;
-        let fifth = self.next_field()?;
-        self.none()?;
+        let (second, third, fourth, fifth) = self.four()?;
         Ok((first, second, third, fourth, fifth))
     }
 

@@ -21,9 +21,9 @@ use Rattle.mscp_queue.specs.Serving.{IsServable}
 use Rattle.mscp_queue.specs.Views.{is_open_at}
 use Rattle.mscp_queue.proofs.Named.{is_differ, same_is}
 use Rattle.mscp_queue.proofs.Nexts.{name_found}
-use Rattle.mscp_control.specs.Arrival.{is_queued, move_fault, unit_fault}
-use Rattle.mscp_control.specs.Holdings.{Holdings, waiting_on}
-use Rattle.mscp_control.specs.Restored.{IsCovered, IsSound}
+use Rattle.mscp_controller.specs.Arrival.{is_queued, move_fault, unit_fault}
+use Rattle.mscp_controller.specs.Holdings.{Holdings, waiting_on}
+use Rattle.mscp_controller.specs.Restored.{IsCovered, IsSound}
 use Rattle.mscp_events.specs.Settings.{IsValid, Settings, bound, credits_of, limit_fault, room_of, unit_found}
 use Rattle.mscp_events.specs.declared.config.ConfigFault.TheVariants.{Credits, Longest, Timeout, Figure}
 use Rattle.mscp_saved.specs.declared.fault.RestoreFault.TheVariants as faults

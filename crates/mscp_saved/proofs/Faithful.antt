@@ -9,8 +9,8 @@ use Rattle.mscp_packet.specs.declared.end.End.{End}
 use Rattle.mscp_packet.specs.Ends.{HasEndRange, IsOfKind}
 use Rattle.mscp_packet.specs.Number.{num}
 use Rattle.mscp_packet.proofs.Numbers.{four}
-use Rattle.mscp_control.specs.Holdings.{Holdings}
-use Rattle.mscp_control.specs.Restored.{IsSound}
+use Rattle.mscp_controller.specs.Holdings.{Holdings}
+use Rattle.mscp_controller.specs.Restored.{IsSound}
 use Rattle.mscp_saved.specs.declared.fault.RestoreFault.{RestoreFault}
 use Rattle.mscp_saved.specs.declared.fault.RestoreFault.TheVariants as faults
 use Rattle.mscp_saved.specs.Faithful.{RestoringIsFaithful}

@@ -6,8 +6,8 @@ use Rattle.std.proofs.lemmas.List.{drop-drop, length-append}
 use Rattle.mscp_packet.proofs.Numbers.{eight, four, two}
 use Rattle.mscp_queue.specs.declared.name.Name.{Name}
 use Rattle.mscp_queue.specs.Kept.{units_of}
-use Rattle.mscp_control.specs.Holdings.{Holdings}
-use Rattle.mscp_control.specs.Restored.{made_of}
+use Rattle.mscp_controller.specs.Holdings.{Holdings}
+use Rattle.mscp_controller.specs.Restored.{made_of}
 use Rattle.mscp_saved.specs.Ranges.{HasRange}
 use Rattle.mscp_saved.specs.Read.{all_waiting_in, begun_in, drive_in, drives_in, end_in, first_in, held_in, name_in, parts_in, second_in, settings_in, waiting_in}
 use Rattle.mscp_saved.specs.Saved.{begun_connection, begun_reference, drive_bytes, end_cell, saved_bytes, saved_length, waiting_bytes}

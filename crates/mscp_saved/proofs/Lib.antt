@@ -11,3 +11,4 @@ pub mod Back
 pub mod HeldBack
 pub mod Complete
 pub mod Faithful
+pub mod Parted

@@ -10,7 +10,7 @@ use Rattle.mscp_queue.specs.declared.drive.Drive.{Drive}
 use Rattle.mscp_queue.specs.declared.name.Name.{Name}
 use Rattle.mscp_queue.specs.Kept.{IsWaitable}
 use Rattle.mscp_queue.specs.Records.{Record}
-use Rattle.mscp_control.specs.Restored.{IsSound, made_of}
+use Rattle.mscp_controller.specs.Restored.{IsSound, made_of}
 use Rattle.mscp_events.specs.Settings.{IsValid, Settings}
 use Rattle.mscp_saved.specs.declared.fault.RestoreFault.{RestoreFault}
 use Rattle.mscp_saved.specs.declared.fault.RestoreFault.TheVariants as faults

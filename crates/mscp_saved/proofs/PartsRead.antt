@@ -1,6 +1,5 @@
 -- Parts that are read one after the other.
-use Rattle.std.proofs.Common.{◌≡◌, ℕ, zero, suc, ◌+◌, List, [], ◌∷◌, ◌++◌, length, add-one, refl, ap, ◌∙◌, arith}
-use Rattle.std.proofs.lemmas.List.{length-append}
+use Rattle.std.proofs.Common.{◌≡◌, ℕ, ◌+◌, List, [], ◌∷◌, ◌++◌, add-one, ap, ◌∙◌}
 use Rattle.mscp_saved.specs.Read.{part, parts_in}
 
 -- one more is read
@@ -8,10 +7,3 @@ pub part_more : {X : Type 0} (f : List ℕ → X) (size n : ℕ) (b : List ℕ) 
     → xs ≡ parts_in f size n b → p ≡ part size n b → x ≡ f p → ys ≡ xs ++ x ∷ [] → ys ≡ parts_in f size (n + 1) b
 part_more f size n b {x = x} e is read more =
     rw (add-one) (more ∙ (ap (λ l. l ++ x ∷ []) e ∙ ap (λ y. parts_in f size n b ++ y ∷ []) (read ∙ ap f is)))
-
--- so many are read
-pub parts_length : {X : Type 0} (f : List ℕ → X) (size n : ℕ) (b : List ℕ) → length (parts_in f size n b) ≡ n
-parts_length f size zero b = refl
-parts_length f size (suc n) b =
-    let rest = parts_length f size n b in
-    omega (arith, rest, length-append (parts_in f size n b) (f (part size n b) ∷ []))

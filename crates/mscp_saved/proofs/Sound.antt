@@ -21,10 +21,10 @@ use Rattle.mscp_queue.specs.Serving.{IsServable}
 use Rattle.mscp_queue.specs.Views.{is_open_at}
 use Rattle.mscp_queue.proofs.Lists.{every_of, every_weaker}
 use Rattle.mscp_queue.proofs.Named.{differ_is}
-use Rattle.mscp_control.specs.Holdings.{waiting_on}
-use Rattle.mscp_control.specs.Restored.{IsCovered, IsSound, made_of}
+use Rattle.mscp_controller.specs.Holdings.{waiting_on}
+use Rattle.mscp_controller.specs.Restored.{IsCovered, IsSound, made_of}
 use Rattle.mscp_events.specs.Settings.{IsValid, Settings, credits_of, room_of}
-use Rattle.mscp_control.proofs.Promise.Sides.{sides_length}
+use Rattle.mscp_controller.proofs.Promise.Sides.{sides_length}
 use Rattle.mscp_saved.specs.declared.fault.RestoreFault.{RestoreFault}
 use Rattle.mscp_saved.specs.declared.fault.RestoreFault.TheVariants as faults
 use Rattle.mscp_saved.specs.Restored.{are_apart, are_ends, are_on_units, are_passed, are_queued, are_unfinished, is_covered, may_be_begun, may_serve, may_serve_at, parts_fault}

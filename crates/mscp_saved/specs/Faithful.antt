@@ -1,7 +1,7 @@
 -- What is promised of saving and restoring.
 use Rattle.std.specs.Prelude.{◌≡◌, ℕ, List, Ok}
-use Rattle.mscp_control.specs.Holdings.{Holdings}
-use Rattle.mscp_control.specs.Restored.{IsSound}
+use Rattle.mscp_controller.specs.Holdings.{Holdings}
+use Rattle.mscp_controller.specs.Restored.{IsSound}
 use Rattle.mscp_saved.specs.Ranges.{HasRange}
 use Rattle.mscp_saved.specs.Restored.{restored}
 use Rattle.mscp_saved.specs.Saved.{saved_bytes}

@@ -5,7 +5,7 @@ use Rattle.mscp_packet.specs.Ends.{HasEndRange}
 use Rattle.mscp_queue.specs.declared.drive.Drive.{Drive}
 use Rattle.mscp_queue.specs.Records.{Record}
 use Rattle.mscp_drive.specs.Shape.{Shape}
-use Rattle.mscp_control.specs.Holdings.{Holdings}
+use Rattle.mscp_controller.specs.Holdings.{Holdings}
 use Rattle.mscp_events.specs.Settings.{Settings}
 
 -- those of a unit, no size of which is zero

@@ -16,8 +16,8 @@ use Rattle.mscp_queue.specs.Kept.{units_of}
 use Rattle.mscp_queue.specs.Names.{name_on}
 use Rattle.mscp_queue.specs.Orders.{order_weight}
 use Rattle.mscp_queue.specs.Records.{Record}
-use Rattle.mscp_control.specs.Holdings.{Holdings}
-use Rattle.mscp_control.specs.Restored.{made_of}
+use Rattle.mscp_controller.specs.Holdings.{Holdings}
+use Rattle.mscp_controller.specs.Restored.{made_of}
 use Rattle.mscp_events.specs.Settings.{Settings}
 use Rattle.mscp_saved.specs.Saved.{drive_size, end_size, head_size, waiting_size}
 

@@ -1,5 +1,5 @@
 -- What comes of bytes that a controller is to be made of: the controller that they say, or why there is none.
-use Rattle.std.specs.Prelude.{ℕ, ◌+◌, Bool, true, false, not, ◌&&◌, ◌||◌, nat_eq, nat_lt, nat_le, if◌then◌else◌, List, [], ◌∷◌, length, filter, slice_index, Option, Some, None, is_some, Result, Ok, Err}
+use Rattle.std.specs.Prelude.{◌≡◌, ℕ, ◌+◌, Bool, true, false, not, ◌&&◌, ◌||◌, nat_eq, nat_lt, nat_le, if◌then◌else◌, List, [], ◌∷◌, length, filter, slice_index, Option, Some, None, is_some, Result, Ok, Err}
 use Rattle.std.specs.List.{list_all, position}
 use Rattle.std.specs.Str.{bytes_eq}
 use Rattle.mscp_packet.specs.declared.end.End.{End}
@@ -11,8 +11,9 @@ use Rattle.mscp_events.specs.declared.connection.Connection.TheVariants.{First, 
 use Rattle.mscp_queue.specs.declared.name.Name.{Name}
 use Rattle.mscp_queue.specs.Records.{Record, has_name, is_in_service, is_unstarted, name_of, record_at}
 use Rattle.mscp_queue.specs.Views.{is_open_at}
-use Rattle.mscp_control.specs.Arrival.{is_queued}
-use Rattle.mscp_control.specs.Holdings.{Holdings, waiting_on}
+use Rattle.mscp_controller.specs.Arrival.{is_queued}
+use Rattle.mscp_controller.specs.Holdings.{Holdings, waiting_on}
+use Rattle.mscp_controller.specs.Restored.{IsSound}
 use Rattle.mscp_events.specs.Settings.{Settings, credits_of, limit_fault, room_of}
 use Rattle.mscp_saved.specs.declared.fault.RestoreFault.{RestoreFault}
 use Rattle.mscp_saved.specs.declared.fault.RestoreFault.TheVariants as faults
@@ -118,11 +119,15 @@ parts_fault c ds rs first second begun =
     if not (are_ends first && are_ends second) then Some faults.Ends else (
     if not (may_be_begun c.budget rs begun) then Some faults.Begun else None)))))))
 
+-- why bytes aren't those that were saved with a picker of this number, the first that holds
+abbrev pub form_unless : ℕ → List ℕ → List ℕ → Option RestoreFault
+form_unless number b saved =
+    if not (nat_eq (slice_index b 30) number) then Some faults.Picker else (
+    if not (bytes_eq saved b) then Some faults.Form else None)
+
 -- why a controller that bytes say isn't saved as they are, with a picker of this number, the first that holds
 abbrev pub form_fault : {K : Type 0} → ℕ → List ℕ → Holdings K → Option RestoreFault
-form_fault number b h =
-    if not (nat_eq (slice_index b 30) number) then Some faults.Picker else (
-    if not (bytes_eq (saved_bytes number h) b) then Some faults.Form else None)
+form_fault number b h = form_unless number b (saved_bytes number h)
 
 -- the first fault, if there is one
 abbrev pub first_of : Option RestoreFault → Option RestoreFault → Option RestoreFault
@@ -147,3 +152,9 @@ unless x None = Ok x
 -- there is none
 abbrev pub restored : {K : Type 0} → ℕ → K → List ℕ → Result (Holdings K) RestoreFault
 restored number picker b = unless (held_in picker b) (bytes_fault number b (held_in picker b))
+
+-- bytes are a saved controller's: there is a head, and all that they say can be
+pub record IsSaved {K : Type 0} (picker : K) (b : List ℕ) : Type 0 where
+  pub framed : is_framed b ≡ true
+  pub sound : IsSound (held_in picker b)
+  pub settings : settings_fault (held_in picker b).settings ≡ None

@@ -11,8 +11,9 @@ use Rattle.mscp_events.specs.declared.connection.Connection.{Connection}
 use Rattle.mscp_events.specs.declared.connection.Connection.TheVariants.{First, Second}
 use Rattle.mscp_queue.specs.declared.name.Name.{Name}
 use Rattle.mscp_queue.specs.Records.{Record}
-use Rattle.mscp_control.specs.Holdings.{Holdings}
+use Rattle.mscp_controller.specs.Holdings.{Holdings}
 use Rattle.mscp_events.specs.Settings.{Settings}
+use Rattle.mscp_saved.specs.declared.writing.Counts.{Counts}
 
 -- ---- sizes
 
@@ -103,12 +104,11 @@ end_cell e = padded end_size (end_bytes e)
 -- ---- all
 
 -- what tells that it is a saved controller, of this version of the format, and of so many bytes
-abbrev pub frame_bytes : {K : Type 0} → Holdings K → List ℕ
-frame_bytes h =
+abbrev pub frame_bytes : Counts → List ℕ
+frame_bytes n =
     little_bytes 4 magic
     ++ little_bytes 4 version
-    ++ little_bytes 4 (saved_length (length h.drives) (length h.waiting)
-    (length h.untaken.first + length h.untaken.second))
+    ++ little_bytes 4 (saved_length n.drives n.waiting (n.first + n.second))
 
 -- the settings but for the units; between them the picker's number, which is its caller's, and how many drives
 -- there are
@@ -116,24 +116,33 @@ abbrev pub limits_bytes : Settings → List ℕ
 limits_bytes c =
     little_bytes 4 c.credits ++ little_bytes 4 c.second ++ little_bytes 4 c.budget ++ little_bytes 4 c.longest
 
-abbrev pub settings_bytes : {K : Type 0} → ℕ → Holdings K → List ℕ
-settings_bytes picker h =
-    limits_bytes h.settings
-    ++ little_bytes 2 h.settings.timeout
+abbrev pub settings_bytes : ℕ → ℕ → Settings → List ℕ
+settings_bytes picker drives c =
+    limits_bytes c
+    ++ little_bytes 2 c.timeout
     ++ (picker ∷ [])
-    ++ (length h.drives ∷ [])
-    ++ little_bytes 8 h.settings.id
+    ++ (drives ∷ [])
+    ++ little_bytes 8 c.id
 
 -- how many commands wait, how many ends of each connection weren't taken, and what was begun
-abbrev pub counts_bytes : {K : Type 0} → Holdings K → List ℕ
-counts_bytes h =
-    (length h.waiting ∷ [])
-    ++ (length h.untaken.first ∷ [])
-    ++ (length h.untaken.second ∷ [])
-    ++ begun_bytes h.begun
+abbrev pub counts_bytes : Counts → Option Name → List ℕ
+counts_bytes n begun = (n.waiting ∷ []) ++ (n.first ∷ []) ++ (n.second ∷ []) ++ begun_bytes begun
+
+-- the head, of so many parts
+abbrev pub head_with : ℕ → Settings → Counts → Option Name → List ℕ
+head_with picker c n begun = frame_bytes n ++ settings_bytes picker n.drives c ++ counts_bytes n begun
+
+-- how many there are of each part
+abbrev pub counts_of : {K : Type 0} → Holdings K → Counts
+counts_of h = record {
+  drives = length h.drives;
+  waiting = length h.waiting;
+  first = length h.untaken.first;
+  second = length h.untaken.second;
+}
 
 abbrev pub head_bytes : {K : Type 0} → ℕ → Holdings K → List ℕ
-head_bytes picker h = frame_bytes h ++ settings_bytes picker h ++ counts_bytes h
+head_bytes picker h = head_with picker h.settings (counts_of h) h.begun
 
 -- all that callers see of a controller: the drives in the order of their units, the waiting commands and the ends of
 -- each connection oldest first

@@ -6,13 +6,13 @@ ghost use Rattle.mscp_events.specs.declared.connection.Connection.TheVariants.{F
 ghost use Rattle.mscp_queue.specs.Kept.{IsWaitable};
 ghost use Rattle.mscp_queue.specs.Records.{has_name, is_in_service, is_unstarted, name_of};
 ghost use Rattle.mscp_queue.specs.Views.{fences, is_affordable, is_free, is_open};
-ghost use Rattle.mscp_control.specs.Arrival.{is_queued};
-ghost use Rattle.mscp_control.specs.Holdings.{waiting_on};
+ghost use Rattle.mscp_controller.specs.Arrival.{is_queued};
+ghost use Rattle.mscp_controller.specs.Holdings.{waiting_on};
 ghost use Rattle.mscp_events.specs.Settings.{IsValid};
 ghost use Rattle.mscp_saved.specs.Restored.{are_apart, are_ends, are_on_units, are_passed, are_queued, are_unfinished, is_covered, may_be_begun, may_serve, parts_fault};
 
 use crate::fault::RestoreFault;
-use mscp_control::{Config, Connection, Drive, Name, Record};
+use mscp_controller::{Config, Connection, Drive, Name, Record};
 use mscp_packet::{Command, End, Order};
 
 /// Whether each head is on a cylinder of its unit.

@@ -8,7 +8,7 @@ use crate::fault::RestoreFault;
 use crate::reading::{read_drives, read_ends, read_waiting};
 use crate::writing::{MAGIC, VERSION};
 use arrayvec::ArrayVec;
-use mscp_control::{Drive, Record};
+use mscp_controller::{Drive, Record};
 use mscp_packet::End;
 use mscp_packet::fields::four_at;
 

@@ -2,7 +2,7 @@
 
 ghost use Rattle.mscp_saved.specs.Faithful.{RestoringIsFaithful};
 
-use mscp_control::Picker;
+use mscp_controller::Picker;
 
 /// A controller over this picker is restored from the bytes that it is saved as: all that callers see of it is as it was.
 /// And what is restored from bytes is saved as those bytes. So whatever is promised of a controller, as by

@@ -13,5 +13,5 @@ mod writing;
 pub use crate::fault::RestoreFault;
 pub use crate::law::restoring_is_faithful;
 pub use crate::reading::{connection_in, part};
-pub use crate::restoring::restore;
+pub use crate::restoring::{restore, restore_fault, resume, saved_settings};
 pub use crate::writing::{ROOM, connection_byte, save};

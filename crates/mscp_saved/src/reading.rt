@@ -7,7 +7,7 @@ ghost use Rattle.mscp_saved.specs.Read.{begun_in, connection_in, drive_in, end_i
 ghost use Rattle.mscp_drive.specs.Shape.{shape};
 
 use arrayvec::ArrayVec;
-use mscp_control::{Connection, Drive, Name, Record};
+use mscp_controller::{Connection, Drive, Name, Record};
 use mscp_drive::{Head, Unit};
 use mscp_packet::fields::{eight_at, four_at, two_at};
 use mscp_packet::{Command, End, EndBody, Order, read_command, read_end};

@@ -1,20 +1,22 @@
 // A controller from bytes.
 
-ghost use Rattle.std.specs.Prelude.{◌≡◌, ◌≤◌, IfOk, length};
-ghost use Rattle.mscp_queue.specs.Kept.{units_of};
-ghost use Rattle.mscp_control.specs.Restored.{IsSound};
-ghost use Rattle.mscp_saved.specs.Read.{settings_in};
-ghost use Rattle.mscp_saved.specs.Restored.{form_fault, restored, settings_fault, unless};
+ghost use Rattle.std.specs.Prelude.{◌≡◌, ◌+◌, ◌≤◌, All, IfNone, IfOk, length};
+ghost use Rattle.mscp_queue.specs.Kept.{IsWaitable, units_of};
+ghost use Rattle.mscp_controller.specs.Restored.{IsSound, made_of};
+ghost use Rattle.mscp_events.specs.Settings.{IsValid};
+ghost use Rattle.mscp_saved.specs.Read.{begun_in, held_in, settings_in};
+ghost use Rattle.mscp_saved.specs.Restored.{IsSaved, first_of, form_fault, form_unless, parts_fault, restored, settings_fault, unless};
 ghost use Rattle.mscp_saved.specs.Saved.{saved_bytes};
 
 use crate::checking::parts_fault;
 use crate::fault::RestoreFault;
 use crate::framing::{all_waiting_in, drives_in, first_in, frame_fault, second_in};
 use crate::reading::begun_in;
-use crate::writing::save;
+use crate::writing::save_parts;
 use arrayvec::ArrayVec;
-use mscp_control::{Config, Controller, Drive, Picker};
+use mscp_controller::{Config, Controller, Drive, Picker, Record};
 use mscp_drive::{Unit, Units};
+use mscp_packet::End;
 use mscp_packet::fields::{eight_at, four_at, two_at};
 
 /// The units of drives.
@@ -48,25 +50,112 @@ fn settings_in(b: &[u8], drives: &[Drive]) -> Result<Config, RestoreFault>
     }
 }
 
-/// Why the controller isn't saved as these bytes, with a picker of this number: the first fault, if there is one.
-fn form_fault<K: Picker>(number: u8, b: &[u8], controller: &Controller<K>) -> Option<RestoreFault>
+/// Why these bytes aren't those that were saved, with a picker of this number: the first fault, if there is one.
+fn form_fault(number: u8, b: &[u8], saved: &[u8]) -> Option<RestoreFault>
     requires { 48 ≤ length b.now }
-    ensures fault { result ≡ form_fault number b.now controller.now }
-    ensures sound { IsSound controller.now }
+    ensures { result ≡ form_unless number b.now saved.now }
 {
-    let saved = save(controller, number);
     if b[30] != number {
         return Some(RestoreFault::Picker);
     }
-    if saved.as_slice() != b {
+    if saved != b {
         return Some(RestoreFault::Form);
     }
     None
 }
 
+/// Why a controller with these settings can't hold these drives, waiting commands and ends, or isn't saved as these bytes,
+/// with a picker of this number: the first fault, if there is one.
+fn parts_or_form_fault(
+    number: u8,
+    b: &[u8],
+    config: &Config,
+    drives: &[Drive],
+    waiting: &[Record],
+    first: &[End],
+    second: &[End],
+) -> Option<RestoreFault>
+    requires long { 48 ≤ length b.now }
+    requires drives { length drives.now ≤ 16 }
+    requires parts { length waiting.now + length first.now + length second.now ≤ 64 }
+    ensures fault { result
+        ≡ first_of (parts_fault config.now drives.now waiting.now first.now second.now (begun_in b.now))
+        (form_fault number b.now (made_of config.now waiting.now first.now second.now drives.now (begun_in b.now) (tt {0}))) }
+    ensures valid { IsValid config.now }
+    ensures waitable { IfNone result
+        (All (λ r. IsWaitable config.now.longest config.now.units r.command) waiting.now) }
+{
+    let begun = begun_in(b);
+    if let Some(fault) = parts_fault(config, drives, waiting, first, second, begun) {
+        return Some(fault);
+    }
+    form_fault(
+        number,
+        b,
+        save_parts(config, drives, waiting, first, second, begun, number).as_slice(),
+    )
+}
+
+/// Why these bytes are no saved controller, with a picker of this number: the first fault, if there is one.
+#[inline(never)]
+pub fn restore_fault<K: Picker>(bytes: &[u8], number: u8, picker: &K) -> Option<RestoreFault>
+    ensures value { restored number picker.now bytes.now ≡ unless (held_in picker.now bytes.now) result }
+    ensures saved { IfNone result (IsSaved picker.now bytes.now) }
+{
+    let _ = picker;
+    if let Some(fault) = frame_fault(bytes) {
+        return Some(fault);
+    }
+    let drives = drives_in(bytes);
+    match settings_in(bytes, drives.as_slice()) {
+        Ok(config) => parts_or_form_fault(
+            number,
+            bytes,
+            &config,
+            drives.as_slice(),
+            all_waiting_in(bytes).as_slice(),
+            first_in(bytes).as_slice(),
+            second_in(bytes).as_slice(),
+        ),
+        Err(fault) => Some(fault),
+    }
+}
+
+/// The settings that a saved controller has.
+#[inline(never)]
+pub fn saved_settings<K: Picker>(bytes: &[u8], picker: &K) -> Config
+    requires { IsSaved picker.now bytes.now }
+    ensures { result ≡ (held_in picker.now bytes.now).settings }
+{
+    let _ = picker;
+    let Ok(config) = settings_in(bytes, drives_in(bytes).as_slice()) else {
+        unreachable!();
+    };
+    config
+}
+
+/// Lets a controller that has the settings of a saved one be that one.
+#[inline(never)]
+pub fn resume<K: Picker>(controller: &mut Controller<K>, bytes: &[u8])
+    requires saved { IsSaved controller.old.picker bytes.now }
+    requires settings { controller.old.settings ≡ (held_in controller.old.picker bytes.now).settings }
+    ensures { controller.new ≡ held_in controller.old.picker bytes.now }
+{
+    controller.restore(
+        all_waiting_in(bytes).as_slice(),
+        first_in(bytes),
+        second_in(bytes),
+        drives_in(bytes),
+        begun_in(bytes),
+    );
+}
+
 /// The controller that was saved as these bytes, with this picker, whose number has to be that which it was saved with; or
 /// why they are no saved controller. So whatever bytes come: what is restored keeps each promise of a controller, and is
 /// saved as these bytes. What history it has only who saved it knows.
+///
+/// Where the stack is small: `restore_fault` says why not, `resume` makes of a new controller with the `saved_settings` the one
+/// that was saved, and neither has room for a controller of its own.
 pub fn restore<K: Picker + Drop>(
     bytes: &[u8],
     number: u8,
@@ -76,35 +165,11 @@ pub fn restore<K: Picker + Drop>(
     ensures sound { IfOk result (λ h. IsSound h) }
     ensures same { IfOk result (λ h. saved_bytes number h ≡ bytes.now) }
 {
-    if let Some(fault) = frame_fault(bytes) {
+    if let Some(fault) = restore_fault(bytes, number, &picker) {
         return Err(fault);
     }
-    let drives = drives_in(bytes);
-    let waiting = all_waiting_in(bytes);
-    let (first, second) = (first_in(bytes), second_in(bytes));
-    let begun = begun_in(bytes);
-    let config = settings_in(bytes, drives.as_slice())?;
-    if let Some(fault) = parts_fault(
-        &config,
-        drives.as_slice(),
-        waiting.as_slice(),
-        first.as_slice(),
-        second.as_slice(),
-        begun,
-    ) {
-        return Err(fault);
-    }
-    let controller = Controller::restored(
-        config,
-        waiting.as_slice(),
-        first,
-        second,
-        drives,
-        begun,
-        picker,
-    );
-    if let Some(fault) = form_fault(number, bytes, &controller) {
-        return Err(fault);
-    }
+    let config = saved_settings(bytes, &picker);
+    let mut controller = Controller::new(config, picker);
+    resume(&mut controller, bytes);
     Ok(controller)
 }

@@ -5,15 +5,15 @@ ghost use Rattle.arrayvec.specs.ArrayVec.{array_vec_len};
 ghost use Rattle.mscp_packet.specs.Ends.{HasBodyRange, HasEndRange};
 ghost use Rattle.mscp_events.specs.declared.connection.Connection.TheVariants.{First, Second};
 ghost use Rattle.mscp_events.specs.Both.{of};
-ghost use Rattle.mscp_control.specs.Restored.{IsSound};
+ghost use Rattle.mscp_controller.specs.Restored.{IsSound, made_of};
 ghost use Rattle.mscp_saved.specs.Ranges.{HasDriveRange, HasLimitRange, HasRange, HasUnitRange, HasWaitingRange};
 ghost use Rattle.mscp_saved.specs.Restored.{restored};
-ghost use Rattle.mscp_saved.specs.Saved.{begun_bytes, connection_byte, counts_bytes, drive_bytes, end_cell, flag_byte, frame_bytes, head_bytes, identifiers_bytes, limits_bytes, saved_bytes, settings_bytes, sizes_bytes, waiting_bytes};
+ghost use Rattle.mscp_saved.specs.Saved.{begun_bytes, connection_byte, counts_bytes, counts_of, drive_bytes, end_cell, flag_byte, frame_bytes, head_with, identifiers_bytes, limits_bytes, saved_bytes, settings_bytes, sizes_bytes, waiting_bytes};
 
 pub use crate::fields::ROOM;
 use crate::fields::{put_one, put_padded};
 use arrayvec::ArrayVec;
-use mscp_control::{Config, Connection, Controller, Drive, Name, Picker, Record};
+use mscp_controller::{Config, Connection, Controller, Drive, Name, Picker, Record};
 use mscp_drive::Unit;
 use mscp_packet::fields::{put_eight, put_four, put_two};
 use mscp_packet::{End, EndBody, write_command, write_end};
@@ -183,18 +183,26 @@ fn put_begun(out: &mut ArrayVec<u8, ROOM>, begun: Option<Name>)
     }
 }
 
+/// How many there are of each part.
+#[derive(Clone, Copy)]
+pub(crate) struct Counts {
+    pub drives: u8,
+    pub waiting: u8,
+    pub first: u8,
+    pub second: u8,
+}
+
 /// Appends what tells how long all is.
-fn put_frame<K: Picker>(out: &mut ArrayVec<u8, ROOM>, controller: &Controller<K>)
-    requires sound { IsSound controller.now }
+fn put_frame(out: &mut ArrayVec<u8, ROOM>, counts: Counts)
     requires start { out.old.items ≡ [] }
-    ensures items { out.new.items ≡ frame_bytes controller.now }
+    ensures items { out.new.items ≡ frame_bytes counts }
     ensures len { array_vec_len out.new ≡ 12 }
 {
-    let ends = controller.ends(Connection::First).len() + controller.ends(Connection::Second).len();
-    let length = 48 + 34 * controller.drives().len() + 41 * controller.len() + 48 * ends;
+    let ends = u32::from(counts.first) + u32::from(counts.second);
+    let length = 48 + 34 * u32::from(counts.drives) + 41 * u32::from(counts.waiting) + 48 * ends;
     put_four(out, MAGIC);
     put_four(out, VERSION);
-    put_four(out, length as u32);
+    put_four(out, length);
 }
 
 /// Appends the limits.
@@ -211,48 +219,50 @@ fn put_limits(out: &mut ArrayVec<u8, ROOM>, config: &Config)
     put_four(out, config.longest());
 }
 
-/// Appends the settings, but for the units.
-fn put_settings<K: Picker>(out: &mut ArrayVec<u8, ROOM>, controller: &Controller<K>, picker: u8)
-    requires sound { IsSound controller.now }
-    requires start { array_vec_len out.old ≡ 12 }
-    ensures items { out.new.items ≡ out.old.items ++ settings_bytes picker controller.now }
+/// Appends the settings, but for the units; between them the picker's number, and how many drives there are.
+fn put_settings(out: &mut ArrayVec<u8, ROOM>, config: &Config, drives: u8, picker: u8)
+    requires { array_vec_len out.old ≡ 12 }
+    ensures items { out.new.items ≡ out.old.items ++ settings_bytes picker drives config.now }
     ensures len { array_vec_len out.new ≡ 40 }
-    ensures range { HasLimitRange controller.now.settings }
+    ensures range { HasLimitRange config.now }
 {
-    let config = controller.config();
     put_limits(out, config);
     put_two(out, config.timeout());
     put_one(out, picker);
-    put_one(out, controller.drives().len() as u8);
+    put_one(out, drives);
     put_eight(out, config.id());
 }
 
 /// Appends how much there is of each part, and what was begun.
-fn put_counts<K: Picker>(out: &mut ArrayVec<u8, ROOM>, controller: &Controller<K>)
-    requires sound { IsSound controller.now }
-    requires start { array_vec_len out.old ≡ 40 }
-    ensures items { out.new.items ≡ out.old.items ++ counts_bytes controller.now }
+fn put_counts(out: &mut ArrayVec<u8, ROOM>, counts: Counts, begun: Option<Name>)
+    requires { array_vec_len out.old ≡ 40 }
+    ensures items { out.new.items ≡ out.old.items ++ counts_bytes counts begun }
     ensures len { array_vec_len out.new ≡ 48 }
-    ensures range { IfSome controller.now.begun (λ name. name.reference < 2 ^ 32) }
+    ensures range { IfSome begun (λ name. name.reference < 2 ^ 32) }
 {
-    put_one(out, controller.len() as u8);
-    put_one(out, controller.ends(Connection::First).len() as u8);
-    put_one(out, controller.ends(Connection::Second).len() as u8);
-    put_begun(out, controller.begun());
+    put_one(out, counts.waiting);
+    put_one(out, counts.first);
+    put_one(out, counts.second);
+    put_begun(out, begun);
 }
 
 /// Appends the head.
-fn put_head<K: Picker>(out: &mut ArrayVec<u8, ROOM>, controller: &Controller<K>, picker: u8)
-    requires sound { IsSound controller.now }
-    requires start { out.old.items ≡ [] }
-    ensures items { out.new.items ≡ head_bytes picker controller.now }
+fn put_head(
+    out: &mut ArrayVec<u8, ROOM>,
+    config: &Config,
+    counts: Counts,
+    begun: Option<Name>,
+    picker: u8,
+)
+    requires { out.old.items ≡ [] }
+    ensures items { out.new.items ≡ head_with picker config.now counts begun }
     ensures len { array_vec_len out.new ≡ 48 }
-    ensures limits { HasLimitRange controller.now.settings }
-    ensures begun { IfSome controller.now.begun (λ name. name.reference < 2 ^ 32) }
+    ensures limits { HasLimitRange config.now }
+    ensures begun { IfSome begun (λ name. name.reference < 2 ^ 32) }
 {
-    put_frame(out, controller);
-    put_settings(out, controller, picker);
-    put_counts(out, controller);
+    put_frame(out, counts);
+    put_settings(out, config, counts.drives, picker);
+    put_counts(out, counts, begun);
 }
 
 /// Appends drives.
@@ -279,6 +289,25 @@ fn put_all_waiting<K: Picker>(out: &mut ArrayVec<u8, ROOM>, controller: &Control
     }
 }
 
+/// The record at a place.
+fn record_at(records: &[Record], place: usize) -> Record
+    requires { place < length records.now }
+    ensures { result ≡ slice_index_or records.now place result }
+{
+    records[place]
+}
+
+/// Appends waiting commands.
+fn put_records(out: &mut ArrayVec<u8, ROOM>, records: &[Record])
+    requires { array_vec_len out.old + 41 * length records.now ≤ 3664 }
+    ensures items { out.new.items ≡ out.old.items ++ flat_map waiting_bytes records.now }
+    ensures len { array_vec_len out.new ≡ array_vec_len out.old + 41 * length records.now }
+{
+    for place in 0..records.len() {
+        put_waiting(out, &record_at(records, place));
+    }
+}
+
 /// The end at a place.
 fn end_at(ends: &[End], place: usize) -> End
     requires { place < length ends.now }
@@ -299,6 +328,50 @@ fn put_ends(out: &mut ArrayVec<u8, ROOM>, ends: &[End])
     }
 }
 
+/// How many there are of each part of a controller.
+fn counts_of<K: Picker>(controller: &Controller<K>) -> Counts
+    requires { IsSound controller.now }
+    ensures { result ≡ counts_of controller.now }
+{
+    Counts {
+        drives: controller.drives().len() as u8,
+        waiting: controller.len() as u8,
+        first: controller.ends(Connection::First).len() as u8,
+        second: controller.ends(Connection::Second).len() as u8,
+    }
+}
+
+/// The bytes that a controller of these parts is saved as.
+#[inline(never)]
+pub(crate) fn save_parts(
+    config: &Config,
+    drives: &[Drive],
+    waiting: &[Record],
+    first: &[End],
+    second: &[End],
+    begun: Option<Name>,
+    picker: u8,
+) -> ArrayVec<u8, ROOM>
+    requires drives { length drives.now ≤ 16 }
+    requires parts { length waiting.now + length first.now + length second.now ≤ 64 }
+    ensures { result.items
+        ≡ saved_bytes picker (made_of config.now waiting.now first.now second.now drives.now begun (tt {0})) }
+{
+    let counts = Counts {
+        drives: drives.len() as u8,
+        waiting: waiting.len() as u8,
+        first: first.len() as u8,
+        second: second.len() as u8,
+    };
+    let mut out = ArrayVec::new();
+    put_head(&mut out, config, counts, begun, picker);
+    put_drives(&mut out, drives);
+    put_records(&mut out, waiting);
+    put_ends(&mut out, first);
+    put_ends(&mut out, second);
+    out
+}
+
 /// All that callers see of a controller, as bytes, at most `ROOM`. The picker is told by a number, which is the caller's.
 /// What is the same to callers has the same bytes, and `restore` makes the same of them again.
 pub fn save<K: Picker>(controller: &Controller<K>, picker: u8) -> ArrayVec<u8, ROOM>
@@ -308,7 +381,13 @@ pub fn save<K: Picker>(controller: &Controller<K>, picker: u8) -> ArrayVec<u8, R
 {
     let drives = controller.drives();
     let mut out = ArrayVec::new();
-    put_head(&mut out, controller, picker);
+    put_head(
+        &mut out,
+        controller.config(),
+        counts_of(controller),
+        controller.begun(),
+        picker,
+    );
     put_drives(&mut out, drives);
     put_all_waiting(&mut out, controller);
     put_ends(&mut out, controller.ends(Connection::First));

@@ -7,9 +7,9 @@ use Rattle.mscp_queue.specs.declared.view.Choice.{Choice}
 use Rattle.mscp_queue.specs.Pickers.{IsSweep}
 use Rattle.mscp_events.specs.declared.memory.OutOfMemory.{OutOfMemory}
 use Rattle.mscp_events.specs.declared.event.Event.{Event}
-use Rattle.mscp_control.specs.declared.entry.Entry.{Entry}
+use Rattle.mscp_controller.specs.declared.entry.Entry.{Entry}
 use Rattle.mscp_events.specs.Settings.{Settings}
-use Rattle.mscp_control.specs.Holdings.{Answered, Answers, Holdings, fresh}
+use Rattle.mscp_controller.specs.Holdings.{Answered, Answers, Holdings, fresh}
 use Rattle.mscp_reader.specs.Grammar.{HasGone}
 use Rattle.mscp_reader.specs.Outcome.{rest_outcome}
 use Rattle.mscp_script.specs.Running.{Meets, Ran, Runs}

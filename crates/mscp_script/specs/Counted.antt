@@ -1,6 +1,6 @@
 -- What counting an entry does to totals.
 use Rattle.std.specs.Prelude.{◌≡◌, ◌+◌}
-use Rattle.mscp_control.specs.declared.entry.Entry.{Entry}
+use Rattle.mscp_controller.specs.declared.entry.Entry.{Entry}
 use Rattle.mscp_script.specs.declared.totals.Totals.{Totals}
 use Rattle.mscp_script.specs.Text.{ended_count, queued_count, seek_of, step_count}
 

@@ -1,3 +1,5 @@
+pub mod Endings
+pub mod Printed
 pub mod Whole
 pub mod Text
 pub mod Counted

@@ -2,7 +2,7 @@
 use Rattle.std.specs.Prelude.{◌≡◌, ℕ, ◌+◌, List, zip, Option, option_map, Result, Ok, Err}
 use Rattle.std.specs.Io.KnownBytes.{Appends}
 use Rattle.mscp_events.specs.declared.event.Event.{Event}
-use Rattle.mscp_control.specs.declared.entry.Entry.{Entry}
+use Rattle.mscp_controller.specs.declared.entry.Entry.{Entry}
 use Rattle.mscp_script.specs.declared.reading.ReadAllFault.{ReadAllFault}
 use Rattle.mscp_script.specs.declared.reading.ReadAllFault.TheVariants as readings
 use Rattle.mscp_reader.specs.declared.fault.ReadFault.{ReadFault}
@@ -10,8 +10,8 @@ use Rattle.mscp_reader.specs.declared.fault.ReadFault.TheVariants as scripts
 use Rattle.mscp_script.specs.declared.simulation.SimFault.{SimFault}
 use Rattle.mscp_script.specs.declared.simulation.SimFault.TheVariants as faults
 use Rattle.mscp_events.specs.Settings.{IsValid, Settings}
-use Rattle.mscp_control.specs.Headline.{Headline}
-use Rattle.mscp_control.specs.Sweeping.{IsSweeping}
+use Rattle.mscp_controller.specs.Headline.{Headline}
+use Rattle.mscp_controller.specs.Sweeping.{IsSweeping}
 use Rattle.mscp_script.specs.Text.{text}
 use Rattle.mscp_reader.specs.Grammar.{Reads}
 use Rattle.mscp_script.specs.Whole.{IsFront, IsRest, most_read}

@@ -3,6 +3,9 @@
 #![tactic(auto)]
 
 mod choosing;
+mod ending;
+mod fault;
+mod printing;
 mod reading;
 mod reported;
 mod reporting;
@@ -12,11 +15,12 @@ mod stream;
 mod totals;
 
 pub use crate::choosing::{Deed, LineFault, choose};
+pub use crate::ending::Ending;
+pub use crate::fault::{Fault, words_fault};
+pub use crate::printing::print_packet;
 pub use crate::reading::{ReadAllFault, read_all};
-pub use crate::reporting::{Reporter, report, report_in};
+pub use crate::reporting::Reporter;
 pub use crate::simulation::{SimFault, simulate, simulate_in};
 pub use crate::stream::{Failed, Sink, Source, Stream};
-pub use mscp_reader::{
-    Cause, ReadFault, Script, ScriptFault, read_script, read_script_in, scripts_have_one_meaning,
-};
+pub use mscp_reader::{Cause, ReadFault, ScriptFault, scripts_have_one_meaning};
 pub use mscp_text::{ShowFault, show_packet, show_packet_in};

@@ -11,7 +11,7 @@ ghost use Rattle.mscp_script.specs.Simulated.{IsReport};
 ghost use Rattle.mscp_reader.specs.declared.events.TheConstants.{MOST_EVENTS};
 
 use crate::running::Run;
-use mscp_control::runs_keep_the_promise;
+use mscp_controller::runs_keep_the_promise;
 use mscp_queue::Sweep;
 use mscp_reader::{
     Line, Lines, MOST_EVENTS, PlainLine, ReadFault, ScriptFault, lines_of, read_header,

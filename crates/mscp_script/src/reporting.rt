@@ -1,9 +1,9 @@
 // A report, which grows by the lines of each entry, and ends with the totals.
 
 ghost use Rattle.std.specs.Prelude.{◌≡◌, ◌+◌, ◌<◌, ◌≤◌, ◌^◌, [], IfOk, OnOk, length};
-ghost use Rattle.mscp_control.specs.declared.entry.Entry.TheVariants as entries;
+ghost use Rattle.mscp_controller.specs.declared.entry.Entry.TheVariants as entries;
 ghost use Rattle.mscp_queue.specs.declared.report.Report.TheVariants as reports;
-ghost use Rattle.mscp_script.specs.Text.{finished, reported, step_line, text, with_entry};
+ghost use Rattle.mscp_script.specs.Text.{finished, reported, step_line, with_entry};
 
 mod lines;
 mod tail;
@@ -12,9 +12,9 @@ use crate::reporting::lines::{put_figures, put_sent, put_step, put_taken, put_to
 use crate::reporting::tail::Tail;
 use crate::totals::Totals;
 use arrayvec::ArrayVec;
-use mscp_control::{Connection, Entry, OutOfMemory, Report, SendFault, Sent};
+use mscp_controller::{Connection, OutOfMemory, Report, SendFault, Sent};
 use mscp_text::put;
-use std::alloc::{Allocator, Global};
+use std::alloc::Allocator;
 use std::marker::Model;
 
 /// The lines of the entries so far, and their totals.
@@ -154,19 +154,6 @@ impl<A: Allocator> Reporter<A> {
         Ok(())
     }
 
-    /// Reports an entry.
-    fn put(&mut self, entry: &Entry) -> Result<(), OutOfMemory>
-        requires { self.old.count + 1 < 2 ^ 64 }
-        ensures { OnOk result (self.new ≡ with_entry self.old entry.now) }
-    {
-        match entry {
-            Entry::Sent(connection, sent) => self.sent(*connection, sent),
-            Entry::Taken(connection, end) => self.taken(*connection, end),
-            Entry::Stepped(report) => self.stepped(report),
-            Entry::Looked(shown) => self.looked(shown),
-        }
-    }
-
     /// The text, with the line of the totals.
     pub fn finish(mut self) -> Result<Vec<u8, A>, OutOfMemory>
         ensures { IfOk result (λ bytes. bytes.items ≡ finished self) }
@@ -174,23 +161,4 @@ impl<A: Allocator> Reporter<A> {
         put_totals(&mut self.out, &self.totals)?;
         Ok(self.out)
     }
-}
-
-/// `report` over any allocator.
-pub fn report_in<A: Allocator>(alloc: A, entries: &[Entry]) -> Result<Vec<u8, A>, OutOfMemory>
-    ensures { IfOk result (λ bytes. bytes.items ≡ text entries.now) }
-{
-    let mut reporter = Reporter::new(alloc);
-    for entry in entries {
-        reporter.put(entry)?;
-    }
-    reporter.finish()
-}
-
-/// The text of a list of entries: the lines of each entry in order, then the line of the totals. It takes memory for
-/// the text alone.
-pub fn report(alloc: Global, entries: &[Entry]) -> Result<Vec<u8>, OutOfMemory>
-    ensures { IfOk result (λ bytes. bytes.items ≡ text entries.now) }
-{
-    report_in(alloc, entries)
 }

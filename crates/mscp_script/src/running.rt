@@ -1,7 +1,7 @@
 // A controller that is driven event by event, and the report of what it answers.
 
 ghost use Rattle.std.specs.Prelude.{◌≡◌, ◌+◌, ◌<◌, ◌^◌, [], length, replicate, OnOk, IfOk};
-ghost use Rattle.mscp_control.specs.Holdings.{fresh};
+ghost use Rattle.mscp_controller.specs.Holdings.{fresh};
 ghost use Rattle.mscp_events.specs.Settings.{IsValid};
 ghost use Rattle.mscp_events.specs.declared.event.Event.TheVariants as events;
 ghost use Rattle.mscp_events.specs.declared.block.Block.TheVariants.{Good};
@@ -11,7 +11,7 @@ ghost use Rattle.mscp_script.specs.Running.{Meets, Ran};
 ghost use Rattle.mscp_script.specs.Text.{finished, reported};
 
 use crate::reporting::Reporter;
-use mscp_control::{Block, Config, Connection, Controller, OutOfMemory, Sweep};
+use mscp_controller::{Block, Config, Connection, Controller, OutOfMemory, Sweep};
 use mscp_packet::write_command;
 use mscp_reader::{Plain, Request};
 use std::alloc::Allocator;

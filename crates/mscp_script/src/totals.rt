@@ -2,7 +2,7 @@
 
 ghost use Rattle.std.specs.Prelude.{◌≡◌, ◌+◌, ◌≤◌, ◌-◌, ◌*◌, ◌<◌, ◌^◌};
 
-use mscp_control::{Report, SendFault, Sent};
+use mscp_controller::{Report, SendFault, Sent};
 
 /// What the last line of a report tells, and of how many entries.
 #[derive(Clone, Copy)]
@@ -26,7 +26,7 @@ pub struct Totals {
 
 impl Totals {
     ghost use Rattle.mscp_events.specs.declared.connection.Connection.{Connection};
-    ghost use Rattle.mscp_control.specs.declared.entry.Entry.TheVariants as entries;
+    ghost use Rattle.mscp_controller.specs.declared.entry.Entry.TheVariants as entries;
     ghost use Rattle.mscp_script.specs.Counted.{IsCounted};
 
     /// The totals of no entry.

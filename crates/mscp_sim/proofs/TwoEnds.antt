@@ -28,5 +28,3 @@ pub mod Taken
 pub mod Figured
 pub mod Between
 pub mod Talked
-mod Worked
-mod Paired

@@ -1,3 +1,4 @@
+pub mod Scripts
 pub mod Talks
 pub mod Matches
 pub mod TwoEnds

@@ -12,7 +12,7 @@ use Rattle.mscp_queue.specs.Records.{Record}
 use Rattle.mscp_events.specs.declared.connection.Connection.{Connection}
 use Rattle.mscp_events.specs.Both.{Both, of}
 use Rattle.mscp_events.specs.Settings.{credits_of}
-use Rattle.mscp_control.specs.Holdings.{Holdings, outstanding_of, waiting_on}
+use Rattle.mscp_controller.specs.Holdings.{Holdings, outstanding_of, waiting_on}
 use Rattle.mscp_host.specs.declared.submission.Submission.{Submission}
 use Rattle.mscp_host.specs.declared.watch.Watch.{Watch}
 use Rattle.mscp_host.specs.Accounts.{Account, has_reference, is_code_of, status_end}

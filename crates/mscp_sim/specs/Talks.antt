@@ -9,11 +9,11 @@ use Rattle.mscp_queue.specs.Names.{name_on, same_connection}
 use Rattle.mscp_packet.specs.declared.command.Order.TheVariants as orders
 use Rattle.mscp_packet.specs.Commands.{opcode_byte}
 use Rattle.mscp_packet.specs.Number.{num}
-use Rattle.mscp_control.specs.declared.entry.Entry.TheVariants as entries
+use Rattle.mscp_controller.specs.declared.entry.Entry.TheVariants as entries
 use Rattle.mscp_events.specs.Settings.{Settings, credits_of}
 use Rattle.mscp_events.specs.Both.{Both}
-use Rattle.mscp_control.specs.History.{Moment, Trace, last_or}
-use Rattle.mscp_control.specs.Figures.{figure_of}
+use Rattle.mscp_controller.specs.History.{Moment, Trace, last_or}
+use Rattle.mscp_controller.specs.Figures.{figure_of}
 use Rattle.mscp_host.specs.declared.submission.Submission.{Submission}
 use Rattle.mscp_host.specs.declared.watch.Watch.{Watch}
 use Rattle.mscp_host.specs.Accounts.{Account, is_immediate}

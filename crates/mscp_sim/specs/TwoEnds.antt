@@ -4,15 +4,15 @@ use Rattle.arrayvec.specs.ArrayVec.{ArrayVec}
 use Rattle.mscp_events.specs.declared.connection.Connection.{Connection}
 use Rattle.mscp_queue.specs.declared.report.Report.{Report}
 use Rattle.mscp_queue.specs.declared.view.Choice.{Choice}
-use Rattle.mscp_control.specs.declared.entry.Sent.{Sent}
+use Rattle.mscp_controller.specs.declared.entry.Sent.{Sent}
 use Rattle.mscp_events.specs.declared.event.Event.TheVariants as events
-use Rattle.mscp_control.specs.declared.entry.Entry.TheVariants as entries
+use Rattle.mscp_controller.specs.declared.entry.Entry.TheVariants as entries
 use Rattle.mscp_events.specs.Settings.{Settings}
 use Rattle.mscp_events.specs.Both.{Both, of, put}
-use Rattle.mscp_control.specs.History.{Trace}
-use Rattle.mscp_control.specs.Headline.{Promise}
-use Rattle.mscp_control.specs.Legal.{IsLegal, IsPicked}
-use Rattle.mscp_control.specs.Sweeping.{IsSweeping, Sweeps}
+use Rattle.mscp_controller.specs.History.{Trace}
+use Rattle.mscp_controller.specs.Headline.{Promise}
+use Rattle.mscp_controller.specs.Legal.{IsLegal, IsPicked}
+use Rattle.mscp_controller.specs.Sweeping.{IsSweeping, Sweeps}
 use Rattle.mscp_host.specs.declared.news.HostFault.{HostFault}
 use Rattle.mscp_host.specs.declared.news.News.{News}
 use Rattle.mscp_host.specs.declared.news.News.TheVariants as news

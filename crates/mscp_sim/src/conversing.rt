@@ -11,7 +11,7 @@ ghost use Rattle.mscp_sim.specs.Rooms.{HasRoom};
 
 use crate::hosts::Hosts;
 use arrayvec::ArrayVec;
-use mscp_control::{
+use mscp_controller::{
     Block, Config, Connection, Controller, Entry, Event, OutOfMemory, Picker, Report, Sent,
     controllers_keep_the_promise, runs_keep_the_promise,
 };

@@ -5,7 +5,7 @@ ghost use Rattle.mscp_events.specs.Both.{of, put};
 ghost use Rattle.mscp_host.specs.Accounts.{fresh, heard, polls_oldest, submits};
 
 use arrayvec::ArrayVec;
-use mscp_control::{Config, Connection};
+use mscp_controller::{Config, Connection};
 use mscp_host::{Host, HostFault, News, Poll};
 use mscp_packet::Command;
 use std::marker::Model;

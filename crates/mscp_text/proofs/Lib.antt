@@ -1,3 +1,2 @@
 pub mod Hexadecimal
 pub mod Packets
-mod ShowsPackets

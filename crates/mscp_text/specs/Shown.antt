@@ -18,7 +18,7 @@ use Rattle.mscp_packet.specs.declared.reading.EndFault.{EndFault}
 use Rattle.mscp_packet.specs.declared.reading.EndFault.TheVariants as ends
 use Rattle.mscp_packet.specs.declared.reading.PacketFault.{PacketFault}
 use Rattle.mscp_packet.specs.declared.reading.PacketFault.TheVariants as messages
-use Rattle.mscp_text.specs.Steps.{◌>>=◌}
+use Rattle.mscp_packet.specs.Steps.{◌>>=◌}
 use Rattle.mscp_text.specs.Lines.{line, status_text}
 use Rattle.mscp_text.specs.declared.packet.Packet.{Packet}
 use Rattle.mscp_text.specs.declared.packet.Packet.TheVariants as packets

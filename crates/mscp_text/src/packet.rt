@@ -3,16 +3,17 @@
 ghost use Rattle.std.specs.Prelude.{◌≡◌, ◌≤◌, ◌%◌, ◌==◌, ◌&&◌, length, IfOk};
 ghost use Rattle.std.specs.Char.{is_ascii_hexdigit};
 ghost use Rattle.std.specs.List.{list_all};
-ghost use Rattle.mscp_text.specs.Steps.{Gives};
+ghost use Rattle.mscp_packet.specs.Steps.{Gives};
 ghost use Rattle.mscp_text.specs.Shown.{message_of, of_end, of_message, packet_of, shown, Shows};
 ghost use Rattle.mscp_text.specs.declared.packet.ShowFault.TheVariants as faults;
 
 mod text;
 
-use crate::decoding::{MOST_MESSAGE_BYTES, decode};
 use crate::packet::text::put_packet;
 use arrayvec::ArrayVec;
-use mscp_packet::{Command, End, EndFault, PacketFault, read_command, read_end};
+use mscp_packet::{
+    Command, End, EndFault, MOST_MESSAGE_BYTES, PacketFault, decode, read_command, read_end,
+};
 use std::alloc::{AllocError, Allocator, Global};
 use thiserror::Error;
 

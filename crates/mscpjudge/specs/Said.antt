@@ -1,5 +1,5 @@
 -- What is written of a log.
-use Rattle.std.specs.Prelude.{◌≡◌, ℕ, Bool, true, false, List, [], ◌++◌, codes, if◌then◌else◌, Option, Result, Ok, Err}
+use Rattle.std.specs.Prelude.{◌≡◌, ℕ, ◌+◌, Bool, true, false, List, [], ◌++◌, codes, if◌then◌else◌, Option, option_map, Result, Ok, Err}
 use Rattle.std.specs.List.{flat_map}
 use Rattle.std.specs.Fmt.{decimal}
 use Rattle.std.specs.Io.KnownBytes.{Appends}
@@ -114,6 +114,12 @@ verdict_text (verdicts.Legal totals) = legal_text totals
 verdict_text (verdicts.Wrong line rule starts right) =
     wrong_text line rule ++ starts_text rule starts.items ++ right_text right.items
 verdict_text (verdicts.Unanswered right) = unanswered_text ++ right_text right.items
+
+-- where there is no fault it was written to once, and on a fault never. Nothing is said where the write failed
+abbrev pub WritesOnce : Result Outcome Fault → Option ℕ → Option ℕ → Type 0
+WritesOnce (Ok outcome) old new = new ≡ option_map (λ n. n + 1) old
+WritesOnce (Err faults.Write) old new = Unit {0}
+WritesOnce (Err fault) old new = new ≡ old
 
 -- what is written is the verdict of the log that the reader gave. Nothing is written on a fault, and a fault of the log
 -- is that of what the reader gave; nothing is said where the write failed

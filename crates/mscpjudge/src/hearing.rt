@@ -2,6 +2,7 @@
 
 ghost use Rattle.std.specs.Prelude.{◌≡◌, ◌++◌, false, OnOk};
 ghost use Rattle.mscpjudge.specs.Heard.{TellsHeard, counts_text, heard_outcome};
+ghost use Rattle.mscpjudge.specs.Said.{WritesOnce};
 
 use crate::fault::Fault;
 use crate::judging::Outcome;
@@ -38,7 +39,8 @@ pub fn hear<R: Source, W: Sink>(
 ) -> Result<Outcome, Fault>
     requires reader { R.has_failed reader.old ≡ false }
     requires writer { W.has_failed writer.old ≡ false }
-    ensures { TellsHeard result (R.remaining reader.old) (W.contents writer.old) (W.contents writer.new) }
+    ensures told { TellsHeard result (R.remaining reader.old) (W.contents writer.old) (W.contents writer.new) }
+    ensures once { WritesOnce result (W.writes writer.old) (W.writes writer.new) }
 {
     let log = read_all(alloc, reader)?;
     let hearing = hear_log(alloc, &log)?;

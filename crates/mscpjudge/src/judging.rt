@@ -2,10 +2,10 @@
 
 ghost use Rattle.std.specs.Prelude.{◌≡◌, ◌++◌, false, OnOk, IfOk};
 ghost use Rattle.std.specs.List.{flat_map};
-ghost use Rattle.mscpjudge.specs.Said.{Says, has_starts, holder_text, legal_text, name_text, outcome_of, peaks_text, right_text, rule_text, served_text, spaced_name, starts_text, unanswered_text, verdict_text, wrong_text};
+ghost use Rattle.mscpjudge.specs.Said.{Says, WritesOnce, has_starts, holder_text, legal_text, name_text, outcome_of, peaks_text, right_text, rule_text, served_text, spaced_name, starts_text, unanswered_text, verdict_text, wrong_text};
 
 use crate::fault::Fault;
-use mscp_control::{Connection, Holder};
+use mscp_controller::{Connection, Holder};
 use mscp_judge::{Named, Right, Rule, Totals, Verdict, judge_log};
 use mscp_script::{Sink, Source, read_all};
 use mscp_text::{put, put_field};
@@ -210,7 +210,8 @@ pub fn judge<R: Source, W: Sink>(
 ) -> Result<Outcome, Fault>
     requires reader { R.has_failed reader.old ≡ false }
     requires writer { W.has_failed writer.old ≡ false }
-    ensures { Says result (R.remaining reader.old) (W.contents writer.old) (W.contents writer.new) }
+    ensures said { Says result (R.remaining reader.old) (W.contents writer.old) (W.contents writer.new) }
+    ensures once { WritesOnce result (W.writes writer.old) (W.writes writer.new) }
 {
     let log = read_all(alloc, reader)?;
     let verdict = judge_log(alloc, &log)?;

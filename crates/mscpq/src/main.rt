@@ -1,16 +1,7 @@
 //! Runs a script of commands through a disk controller and prints what the controller did, or shows a packet.
 #![tactic(auto)]
 
-mod ending;
-mod fault;
-mod printing;
-mod words;
-
-use crate::ending::Ending;
-use crate::fault::Fault;
-use crate::printing::print_packet;
-use crate::words::words_fault;
-use mscp_script::{Deed, Stream, choose, simulate};
+use mscp_script::{Deed, Ending, Fault, Stream, choose, print_packet, simulate, words_fault};
 use std::fs::File;
 use std::io;
 use std::io::Read;

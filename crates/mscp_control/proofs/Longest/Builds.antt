@@ -4,7 +4,7 @@ use Rattle.mscp_drive.specs.Shape.{Shape}
 use Rattle.mscp_events.specs.declared.connection.Connection.TheVariants.{First}
 use Rattle.mscp_control.specs.declared.worst_case.Transfer.{Transfer}
 use Rattle.mscp_events.specs.Settings.{Settings}
-use Rattle.mscp_control.specs.History.{Trace}
+use Rattle.mscp_controller.specs.History.{Trace}
 use Rattle.mscp_control.specs.Worst.{come_on, connection_at, long_read, pass_on, queueing, read_command, rest_on, runs_on, short_read, stepping, steps_on}
 
 pub steps_next : (s : Shape) (x : Transfer) (from : ℕ) (t : Trace) (j : ℕ)

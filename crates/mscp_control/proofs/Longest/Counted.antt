@@ -3,14 +3,14 @@ use Rattle.std.proofs.Common.{◌≡◌, ℕ, zero, suc, ◌+◌, ◌-◌, ◌<�
 use Rattle.std.proofs.lemmas.Bool.{and_parts}
 use Rattle.std.proofs.lemmas.List.{length-take-le, take_all}
 use Rattle.mscp_events.specs.Settings.{Settings, IsValid, bound}
-use Rattle.mscp_control.specs.History.{Trace, is_step, moment}
-use Rattle.mscp_control.specs.Commands.{ends_in, is_waiting, name, steps_after}
-use Rattle.mscp_control.specs.Figures.{figure}
-use Rattle.mscp_control.specs.Legal.{IsLegal}
-use Rattle.mscp_control.specs.Headline.{Promise}
-use Rattle.mscp_control.proofs.Promise.Grows.{is_waiting_before, steps_last, steps_more}
-use Rattle.mscp_control.proofs.Promise.Known.{more_at}
-use Rattle.mscp_control.proofs.Promise.Progress.{progress, waits_in}
+use Rattle.mscp_controller.specs.History.{Trace, is_step, moment}
+use Rattle.mscp_controller.specs.Commands.{ends_in, is_waiting, name, steps_after}
+use Rattle.mscp_controller.specs.Figures.{figure}
+use Rattle.mscp_controller.specs.Legal.{IsLegal}
+use Rattle.mscp_controller.specs.Headline.{Promise}
+use Rattle.mscp_controller.proofs.Promise.Grows.{is_waiting_before, steps_last, steps_more}
+use Rattle.mscp_controller.proofs.Promise.Known.{more_at}
+use Rattle.mscp_controller.proofs.Promise.Progress.{progress, waits_in}
 
 -- what its figure and its steps so far come to, after so many moments
 abbrev total : Settings → Trace → ℕ → ℕ → ℕ

@@ -12,15 +12,15 @@ use Rattle.mscp_queue.specs.declared.name.Name.{Name}
 use Rattle.mscp_queue.specs.Names.{name_on}
 use Rattle.mscp_queue.proofs.Named.{is_same}
 use Rattle.mscp_events.specs.Settings.{Settings, IsValid, bound, room, unit_found}
-use Rattle.mscp_control.specs.History.{Trace}
-use Rattle.mscp_control.specs.Commands.{ends_in, is_waiting, steps_after, waiting}
-use Rattle.mscp_control.specs.Legal.{IsLegal}
+use Rattle.mscp_controller.specs.History.{Trace}
+use Rattle.mscp_controller.specs.Commands.{ends_in, is_waiting, steps_after, waiting}
+use Rattle.mscp_controller.specs.Legal.{IsLegal}
 use Rattle.mscp_control.specs.Longest.{WaitsTheBound, can_wait_the_bound, has_longest}
 use Rattle.mscp_control.specs.Worst.{come_on, connection_at, long_read, opened, pass_on, read_command, read_end, rest_on, runs_on, stepping, steps_on, worst_of}
-use Rattle.mscp_control.proofs.Promise.Grows.{command_before, is_waiting_before, steps_more}
-use Rattle.mscp_control.proofs.Promise.Progress.{waits_in}
-use Rattle.mscp_control.proofs.Promise.Waits.{waiting_waits}
-use Rattle.mscp_control.proofs.Bridge.Drives.{found_number}
+use Rattle.mscp_controller.proofs.Promise.Grows.{command_before, is_waiting_before, steps_more}
+use Rattle.mscp_controller.proofs.Promise.Progress.{waits_in}
+use Rattle.mscp_controller.proofs.Promise.Waits.{waiting_waits}
+use Rattle.mscp_controller.proofs.Bridge.Drives.{found_number}
 use Rattle.mscp_control.proofs.Longest.Counted.{counted}
 use Rattle.mscp_control.proofs.Longest.Moments.{IsUnit, message_sent, nothing}
 use Rattle.mscp_control.proofs.Longest.Reads.{long_is, long_sent, longs, longs_idle, record_of}

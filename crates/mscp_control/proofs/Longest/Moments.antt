@@ -23,24 +23,24 @@ use Rattle.mscp_queue.specs.Serving.{IsServable, drive_after, drives_after, end_
 use Rattle.mscp_queue.proofs.Named.{is_same}
 use Rattle.mscp_queue.proofs.Placed.{at_place}
 use Rattle.mscp_events.specs.declared.event.Event.TheVariants as events
-use Rattle.mscp_control.specs.declared.entry.Entry.TheVariants as entries
-use Rattle.mscp_control.specs.declared.entry.Sent.TheVariants as sents
+use Rattle.mscp_controller.specs.declared.entry.Entry.TheVariants as entries
+use Rattle.mscp_controller.specs.declared.entry.Sent.TheVariants as sents
 use Rattle.mscp_events.specs.Settings.{Settings, IsValid, credits_of, unit_found}
 use Rattle.mscp_events.specs.Both.{Both, of, put}
-use Rattle.mscp_control.specs.Controllers.{drive_now}
-use Rattle.mscp_control.specs.Arrival.{holds, is_queued, refusal}
-use Rattle.mscp_control.specs.declared.entry.SendFault.TheVariants.{Short, Long, NoCredit, LastCredit, Doubled}
-use Rattle.mscp_control.specs.History.{Moment, Trace}
-use Rattle.mscp_control.specs.Holdings.{Holdings, aborting, after_message, after_take, answer_to_message, answered_end, balance_of, ends_after, fresh, held_unless, line_of, numbers, numbers_ended, outstanding_of, queued, reference_aborted, sent_unless, waiting_on, with_end}
-use Rattle.mscp_control.specs.Legal.{IsLegal}
+use Rattle.mscp_controller.specs.Controllers.{drive_now}
+use Rattle.mscp_controller.specs.Arrival.{holds, is_queued, refusal}
+use Rattle.mscp_controller.specs.declared.entry.SendFault.TheVariants.{Short, Long, NoCredit, LastCredit, Doubled}
+use Rattle.mscp_controller.specs.History.{Moment, Trace}
+use Rattle.mscp_controller.specs.Holdings.{Holdings, aborting, after_message, after_take, answer_to_message, answered_end, balance_of, ends_after, fresh, held_unless, line_of, numbers, numbers_ended, outstanding_of, queued, reference_aborted, sent_unless, waiting_on, with_end}
+use Rattle.mscp_controller.specs.Legal.{IsLegal}
 use Rattle.mscp_control.specs.Worst.{handing, queueing}
-use Rattle.mscp_control.proofs.Promise.Served.{some_same}
-use Rattle.mscp_control.proofs.Bridge.Drives.{Driven, find_map}
-use Rattle.mscp_control.proofs.Bridge.Following.{none_held, turns}
-use Rattle.mscp_control.proofs.Bridge.Held.{Follows}
-use Rattle.mscp_control.proofs.Bridge.Legals.{legal_more}
-use Rattle.mscp_control.proofs.Bridge.Sending.{Agrees, Sends, sending, sends}
-use Rattle.mscp_control.proofs.Bridge.Stepped.{turns_at}
+use Rattle.mscp_controller.proofs.Promise.Served.{some_same}
+use Rattle.mscp_controller.proofs.Bridge.Drives.{Driven, find_map}
+use Rattle.mscp_controller.proofs.Bridge.Following.{none_held, turns}
+use Rattle.mscp_controller.proofs.Bridge.Held.{Follows}
+use Rattle.mscp_controller.proofs.Bridge.Legals.{legal_more}
+use Rattle.mscp_controller.proofs.Bridge.Sending.{Agrees, Sends, sending, sends}
+use Rattle.mscp_controller.proofs.Bridge.Stepped.{turns_at}
 
 -- no end is untaken
 abbrev pub nothing : Both (List End)

@@ -16,10 +16,10 @@ use Rattle.mscp_queue.proofs.Placed.{map_map}
 use Rattle.mscp_control.specs.declared.worst_case.Transfer.{Transfer}
 use Rattle.mscp_events.specs.Settings.{Settings, IsValid, credits_of, room, room_of}
 use Rattle.mscp_events.specs.Both.{of}
-use Rattle.mscp_control.specs.Arrival.{holds, is_queued, move_fault}
-use Rattle.mscp_control.specs.Holdings.{numbers, numbers_ended, waiting_on}
+use Rattle.mscp_controller.specs.Arrival.{holds, is_queued, move_fault}
+use Rattle.mscp_controller.specs.Holdings.{numbers, numbers_ended, waiting_on}
 use Rattle.mscp_control.specs.Worst.{connection_at, long_read, read_command, short_read}
-use Rattle.mscp_control.proofs.Promise.Sides.{sides_length}
+use Rattle.mscp_controller.proofs.Promise.Sides.{sides_length}
 use Rattle.mscp_control.proofs.Longest.Moments.{IsUnit, MaySend, nothing}
 
 -- ---- one READ

@@ -29,13 +29,13 @@ use Rattle.mscp_queue.proofs.Lists.{every_append}
 use Rattle.mscp_queue.proofs.Placed.{at_place}
 use Rattle.mscp_queue.specs.Drives.{fresh_drive}
 use Rattle.mscp_events.specs.declared.event.Event.TheVariants as events
-use Rattle.mscp_control.specs.declared.entry.Entry.TheVariants as entries
+use Rattle.mscp_controller.specs.declared.entry.Entry.TheVariants as entries
 use Rattle.mscp_control.specs.declared.worst_case.Transfer.{Transfer}
 use Rattle.mscp_events.specs.Settings.{Settings, room}
-use Rattle.mscp_control.specs.Arrival.{unit_fault}
+use Rattle.mscp_controller.specs.Arrival.{unit_fault}
 use Rattle.mscp_events.specs.Both.{Both, of, put}
-use Rattle.mscp_control.specs.History.{Trace}
-use Rattle.mscp_control.specs.Holdings.{ends_after}
+use Rattle.mscp_controller.specs.History.{Trace}
+use Rattle.mscp_controller.specs.Holdings.{ends_after}
 use Rattle.mscp_control.specs.Worst.{block_before, come_on, connection_at, long_read, online_command, online_end, opened, pass_on, queueing, read_command, read_end, read_report, rest_on, runs_on, short_read, stepping, steps_on}
 use Rattle.mscp_control.proofs.Longest.Moments.{Holds, IsUnit, MaySend, holds_none, holds_queued, holds_stepped, holds_taken, nothing}
 use Rattle.mscp_control.proofs.Longest.Reads.{IsRead, long_is, long_sent, longs, longs_idle, longs_more, longs_passed, record_fresh, record_of, short_is, short_sent}

@@ -14,10 +14,10 @@ use Rattle.mscp_queue.specs.Names.{name_on, same_name}
 use Rattle.mscp_queue.proofs.Named.{is_differ}
 use Rattle.mscp_control.specs.declared.worst_case.Transfer.{Transfer}
 use Rattle.mscp_events.specs.Settings.{Settings, room}
-use Rattle.mscp_control.specs.History.{Moment, Trace, is_step}
-use Rattle.mscp_control.specs.Commands.{ends_in, is_waiting, name, steps_after, unit}
+use Rattle.mscp_controller.specs.History.{Moment, Trace, is_step}
+use Rattle.mscp_controller.specs.Commands.{ends_in, is_waiting, name, steps_after, unit}
 use Rattle.mscp_control.specs.Worst.{connection_at, handing, long_read, pass_on, queueing, read_command, read_end, rest_on, runs_on, short_read, stepping, steps_on}
-use Rattle.mscp_control.proofs.Promise.Grows.{command_before, command_last, connection_last, is_waiting_before, is_waiting_last, name_before, steps_last, steps_more}
+use Rattle.mscp_controller.proofs.Promise.Grows.{command_before, command_last, connection_last, is_waiting_before, is_waiting_last, name_before, steps_last, steps_more}
 
 -- the command of this name, which came at y and is of this unit, still waits, and has seen so many steps
 pub record Sees (t : Trace) (y : ℕ) (n : Name) (number k : ℕ) : Type 0 where

@@ -1,27 +1,29 @@
 // What a log tells of answers, line by line, and what would have been right.
 
-ghost use Rattle.std.specs.Prelude.{◌≡◌, ◌≢◌, IfSome, ◌+◌, ◌<◌, ◌^◌, ◌∷◌, ◌++◌, [], true, false, OnOk, IfOk};
+ghost use Rattle.std.specs.Prelude.{◌≡◌, ◌≢◌, IfSome, Option, ◌+◌, ◌<◌, ◌^◌, ◌∷◌, ◌++◌, [], true, false, OnOk, IfOk};
 ghost use Rattle.std.specs.List.{list_all};
-ghost use Rattle.mscp_control.specs.History.{Trace};
-ghost use Rattle.mscp_control.specs.Holdings.{fresh};
+ghost use Rattle.mscp_controller.specs.History.{Trace};
+ghost use Rattle.mscp_controller.specs.Holdings.{fresh};
 ghost use Rattle.mscp_events.specs.Settings.{IsValid, Settings};
 ghost use Rattle.mscp_reader.specs.Lexical as lexical;
 ghost use Rattle.mscp_judge.specs.declared.naming.Named as named;
+ghost use Rattle.mscp_judge.specs.declared.naming.Wanted.{Wanted};
 ghost use Rattle.mscp_judge.specs.Judged.{Breaks, IsAhead, IsTold, Tells};
-ghost use Rattle.mscp_judge.specs.Logs.{IsRightThere, Log, is_answer, telling};
+ghost use Rattle.mscp_judge.specs.Logs.{Log, is_answer, telling};
 ghost use Rattle.mscp_judge.specs.Naming as naming;
-ghost use Rattle.mscp_judge.specs.Naming.{name_of};
+ghost use Rattle.mscp_judge.specs.Naming.{wanted_name};
+ghost use Rattle.mscp_judge.specs.Rights.{IsOpen, IsRightNext};
 ghost use Rattle.mscp_judge.specs.Rules.{IsStepRule, due_rule, is_service};
 ghost use Rattle.mscp_judge.specs.Starts.{starts_in};
-ghost use Rattle.mscp_judge.specs.Standing.{BeginsWith, IsFirstLine, IsOpen, Led, Stands, due};
+ghost use Rattle.mscp_judge.specs.Standing.{BeginsWith, IsFirstLine, Led, Stands, due};
 
 use crate::answers::is_service;
 use crate::judge::Judge;
-use crate::naming::{Named, name_in, nobody};
+use crate::naming::{Named, name_in};
 use crate::rules::{Rule, due_rule, step_rule};
 use crate::starting::{Starts, starts};
 use arrayvec::ArrayVec;
-use mscp_control::OutOfMemory;
+use mscp_controller::OutOfMemory;
 use mscp_reader::Words;
 use std::alloc::Allocator;
 use std::mem::replace;
@@ -62,8 +64,8 @@ impl<A: Allocator> Judge<A> {
     /// command starts that may. It is empty where no answer is right.
     pub fn right(&mut self) -> Result<Right, OutOfMemory>
         requires { self.old.reporter.count + 1 < 2 ^ 64 }
-        ensures { IfOk result (λ right. (c : Settings) (log : Log) → IsOpen c log self.old
-            → IsRightThere c log right.items) }
+        ensures { IfOk result (λ right. (c : Settings) (log : Log) (wanted : Option named.Named)
+            → IsOpen c log wanted self.old → IsRightNext c log wanted right.items) }
     {
         if !self.due().is_empty() {
             return Ok(first_line(self.due()));
@@ -71,7 +73,7 @@ impl<A: Allocator> Judge<A> {
         if self.owed == 0 {
             return Ok(Right::new());
         }
-        self.step(nobody())?;
+        self.step(None)?;
         Ok(first_line(self.due()))
     }
 
@@ -96,8 +98,8 @@ impl<A: Allocator> Judge<A> {
     fn tell_due(&mut self, line: &[u8]) -> Option<Rule>
         requires due { due self.old ≢ [] }
         requires printed { list_all lexical.is_printed line.now ≡ true }
-        ensures tells { (c : Settings) (log : Log) → Stands c log self.old
-            → Tells c log (telling log (line.now ++ 10 ∷ [])) self.new result }
+        ensures tells { (c : Settings) (log : Log) (wanted : Option named.Named) → Stands c log self.old
+            → Tells c log (telling log (line.now ++ 10 ∷ [])) wanted self.new result }
         ensures rule { IfSome result (λ rule. rule ≡ due_rule (due self.old) line.now) }
         ensures count { self.new.reporter.count + self.new.owed ≡ self.old.reporter.count + self.old.owed }
     {
@@ -108,16 +110,16 @@ impl<A: Allocator> Judge<A> {
     }
 
     /// The rule that the line of these words breaks, if it isn't what the next step answers. This is the name in it.
-    fn next_rule(&self, words: Words<'_>, name: Named) -> Rule
-        requires { name ≡ naming.name_in (lexical.words words.rest.now) }
+    fn next_rule(&self, words: Words<'_>, wanted: Option<Named>) -> Rule
+        requires { wanted ≡ naming.name_in (lexical.words words.rest.now) }
         ensures idle { is_service (lexical.words words.entry.rest.now) ≡ false → result ≡ Rule.Idle }
         ensures step { is_service (lexical.words words.entry.rest.now) ≡ true
-            → (c : Settings) (t : Trace) (begun : named.Named) → IsValid c
+            → (c : Settings) (t : Trace) (begun : Wanted) → IsValid c
             → Led (fresh c begun) t self.now.controller
-            → IsStepRule c t (name_of (naming.name_in (lexical.words words.entry.rest.now))) result }
+            → IsStepRule c t (wanted_name (naming.name_in (lexical.words words.entry.rest.now))) result }
     {
         if is_service(words) {
-            step_rule(&self.controller, name)
+            step_rule(&self.controller, wanted)
         } else {
             Rule::Idle
         }
@@ -126,7 +128,7 @@ impl<A: Allocator> Judge<A> {
     /// Keeps what may start, if the line of the next step breaks this rule and names a command that may not.
     fn keep_starts(&mut self, rule: &Rule)
         ensures kept { self.new ≡ record self.old { starts = self.new.starts } }
-        ensures starts { rule.now ≢ Rule.Service → rule.now ≢ Rule.Idle → (c : Settings) (t : Trace) (begun : named.Named) → IsValid c
+        ensures starts { rule.now ≢ Rule.Service → rule.now ≢ Rule.Idle → (c : Settings) (t : Trace) (begun : Wanted) → IsValid c
             → Led (fresh c begun) t self.old.controller → self.new.starts.items ≡ starts_in c t }
         ensures count { self.new.reporter.count ≡ self.old.reporter.count }
         ensures owed { self.new.owed ≡ self.old.owed }
@@ -140,7 +142,8 @@ impl<A: Allocator> Judge<A> {
     /// Gives away what was kept so.
     pub fn take_starts(&mut self) -> Starts
         ensures starts { result ≡ self.old.starts }
-        ensures held { (c : Settings) (log : Log) → IsOpen c log self.old → IsOpen c log self.new }
+        ensures held { (c : Settings) (log : Log) (wanted : Option named.Named) → IsOpen c log wanted self.old
+            → IsOpen c log wanted self.new }
         ensures count { self.new.reporter.count + self.new.owed ≡ self.old.reporter.count + self.old.owed }
     {
         replace(&mut self.starts, Starts::new())
@@ -148,16 +151,16 @@ impl<A: Allocator> Judge<A> {
 
     /// The rule that the line of these words breaks, if it isn't what the next step answers, and what may start is kept. If
     /// the rule isn't wanted it is any, which is quicker.
-    fn rule_ahead(&mut self, words: Words<'_>, name: Named, is_rule_wanted: bool) -> Rule
-        requires { name ≡ naming.name_in (lexical.words words.rest.now) }
+    fn rule_ahead(&mut self, words: Words<'_>, wanted: Option<Named>, is_rule_wanted: bool) -> Rule
+        requires { wanted ≡ naming.name_in (lexical.words words.rest.now) }
         ensures idle { is_rule_wanted ≡ true → is_service (lexical.words words.entry.rest.now) ≡ false
             → result ≡ Rule.Idle }
         ensures step { is_rule_wanted ≡ true → is_service (lexical.words words.entry.rest.now) ≡ true
-            → (c : Settings) (t : Trace) (begun : named.Named) → IsValid c
+            → (c : Settings) (t : Trace) (begun : Wanted) → IsValid c
             → Led (fresh c begun) t self.old.controller
-            → IsStepRule c t (name_of (naming.name_in (lexical.words words.entry.rest.now))) result }
+            → IsStepRule c t (wanted_name (naming.name_in (lexical.words words.entry.rest.now))) result }
         ensures starts { is_rule_wanted ≡ true → result ≢ Rule.Service → result ≢ Rule.Idle
-            → (c : Settings) (t : Trace) (begun : named.Named) → IsValid c
+            → (c : Settings) (t : Trace) (begun : Wanted) → IsValid c
             → Led (fresh c begun) t self.old.controller → self.new.starts.items ≡ starts_in c t }
         ensures kept { self.new ≡ record self.old { starts = self.new.starts } }
         ensures count { self.new.reporter.count ≡ self.old.reporter.count }
@@ -166,7 +169,7 @@ impl<A: Allocator> Judge<A> {
         if !is_rule_wanted {
             return Rule::Service;
         }
-        let rule = self.next_rule(words, name);
+        let rule = self.next_rule(words, wanted);
         self.keep_starts(&rule);
         rule
     }
@@ -185,15 +188,15 @@ impl<A: Allocator> Judge<A> {
         requires answer { is_answer (lexical.words line.now) ≡ true }
         requires printed { list_all lexical.is_printed line.now ≡ true }
         ensures tells { IfOk result (λ broken. (c : Settings) (log : Log) → Stands c log self.old
-            → Tells c log (telling log (line.now ++ 10 ∷ [])) self.new broken) }
+            → Tells c log (telling log (line.now ++ 10 ∷ [])) (naming.name_in (lexical.words line.now)) self.new broken) }
         ensures breaks { is_rule_wanted ≡ true
             → IfOk result (λ broken. Breaks self.old line.now broken self.new.starts.items) }
         ensures count { OnOk result (self.new.reporter.count + self.new.owed
             ≡ self.old.reporter.count + self.old.owed) }
     {
-        let name = name_in(words);
-        let rule = self.rule_ahead(words, name, is_rule_wanted);
-        self.step(name)?;
+        let wanted = name_in(words);
+        let rule = self.rule_ahead(words, wanted, is_rule_wanted);
+        self.step(wanted)?;
         if self.tell(line) {
             return Ok(None);
         }
@@ -213,7 +216,7 @@ impl<A: Allocator> Judge<A> {
         requires answer { is_answer (lexical.words line.now) ≡ true }
         requires printed { list_all lexical.is_printed line.now ≡ true }
         ensures tells { IfOk result (λ broken. (c : Settings) (log : Log) → Stands c log self.old
-            → Tells c log (telling log (line.now ++ 10 ∷ [])) self.new broken) }
+            → Tells c log (telling log (line.now ++ 10 ∷ [])) (naming.name_in (lexical.words line.now)) self.new broken) }
         ensures breaks { is_rule_wanted ≡ true
             → IfOk result (λ broken. Breaks self.old line.now broken self.new.starts.items) }
         ensures count { OnOk result (self.new.reporter.count + self.new.owed

@@ -8,7 +8,7 @@ ghost use Rattle.mscp_memory.specs.ControllerHandles.{is_made, with_held};
 
 use crate::controller::handle::Handle;
 use crate::policy::Policy;
-use mscp_control::Controller;
+use mscp_controller::Controller;
 
 /// The controller.
 pub fn lend(handle: &mut Handle) -> &mut Controller<Policy>

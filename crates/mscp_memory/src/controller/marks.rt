@@ -2,7 +2,7 @@
 
 use crate::head::Kind;
 use crate::policy::Policy;
-use mscp_control::Controller;
+use mscp_controller::Controller;
 use std::mem::{align_of, size_of};
 
 /// How many bytes a controller takes.

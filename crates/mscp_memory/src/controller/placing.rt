@@ -6,7 +6,7 @@ ghost use Rattle.mscp_memory.specs.ControllerHandles.{is_room, placed};
 use crate::controller::handle::Handle;
 use crate::controller::marks::MADE;
 use crate::policy::Policy;
-use mscp_control::Controller;
+use mscp_controller::Controller;
 
 /// Moves a controller into the memory.
 pub fn place(handle: &mut Handle, held: Controller<Policy>)

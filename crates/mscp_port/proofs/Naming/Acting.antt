@@ -94,7 +94,15 @@ no_step ws bs old new outcome result k r none =
     elim still.0 [
       | inl e ↦ acted ws bs old new outcome result k r (ap (λ p. p.words) e) (ap (λ p. p.written) e)
           (ap (λ p. p.rings) e) still.1
-      | inr dead ↦ dead_knows ws bs old new dead
+      | inr more ↦ elim more [
+        | inl block ↦ elim block [
+          | inl e ↦ acted ws bs old new outcome result k r (ap (λ p. p.words) e) (ap (λ p. p.written) e)
+              (ap (λ p. p.rings) e) still.1
+          | inr heeds ↦ acted ws bs old new outcome result k r (ap (λ p. p.words) heeds.1.frame)
+              (ap (λ p. p.written) heeds.1.frame) (ap (λ p. p.rings) heeds.1.frame) still.1
+        ]
+        | inr dead ↦ dead_knows ws bs old new dead
+      ]
     ]
 
 -- the word of the step that is taken is the one that the host wrote

@@ -1,7 +1,7 @@
 -- What a port touches after a whole history was put into its host's memory.
 use Rattle.std.proofs.Common.{◌≢◌, ◌⊎◌, ℕ, List, [], ◌∷◌, length, Option, None, Some, IfSome, inl, inr, refl, ap, sym, subst}
 use Rattle.std.specs.Prelude.{Ok, Err}
-use Rattle.mscp_control.specs.Holdings.{Holdings}
+use Rattle.mscp_controller.specs.Holdings.{Holdings}
 use Rattle.mscp_port.specs.declared.action.Action.{Action}
 use Rattle.mscp_port.specs.declared.action.Action.TheVariants as actions
 use Rattle.mscp_port.specs.declared.hardware.Hardware.{Hardware}

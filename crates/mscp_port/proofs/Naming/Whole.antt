@@ -5,7 +5,7 @@ use Rattle.mscp_port.specs.declared.action.Action.{Action}
 use Rattle.mscp_port.specs.declared.action.Action.TheVariants as actions
 use Rattle.mscp_port.specs.declared.action.Unasked.{Unasked}
 use Rattle.mscp_port.specs.declared.buffers.Buffer.{Buffer}
-use Rattle.mscp_control.specs.Holdings.{Holdings}
+use Rattle.mscp_controller.specs.Holdings.{Holdings}
 use Rattle.mscp_port.specs.declared.hardware.Hardware.{Hardware}
 use Rattle.mscp_port.specs.declared.port.Port.{Port}
 use Rattle.mscp_port.specs.declared.stage.Stage.TheVariants as stages

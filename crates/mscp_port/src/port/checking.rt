@@ -2,8 +2,8 @@
 
 ghost use Rattle.std.specs.Prelude.{◌≡◌, ◌≤◌, ◌%◌, IfSome, None};
 ghost use Rattle.mscp_port.specs.Blocks.{fault_with as fault_of};
-ghost use Rattle.mscp_port.specs.Moved.{fault_now};
-ghost use Rattle.mscp_port.specs.Volumes.{IsOnVolume};
+ghost use Rattle.mscp_port.specs.Moved.{MayMoveOn, fault_now};
+ghost use Rattle.mscp_port.specs.Volumes.{IsOnVolume, MayMove};
 
 use crate::buffers::{Buffer, Job, find_buffer};
 use crate::filling::STEP_WITHOUT_VOLUME;
@@ -18,6 +18,7 @@ fn fault_with(job: &Job, buffer: &Buffer, volume: &Volume) -> Option<u16>
     ensures status { IfSome result (λ status. 5 ≤ status % 32) }
     // It goes on only on the volume that was there when its command came, and that its unit was brought online with.
     ensures safe { result ≡ None → IsOnVolume buffer.now volume.now }
+    ensures moves { result ≡ None → MayMove job.now.kind volume.now }
 {
     if !volume.is_there || buffer.changes != volume.changes {
         return Some(STEP_WITHOUT_VOLUME);
@@ -30,6 +31,7 @@ impl<K: Picker> Port<K> {
     pub(crate) fn fault_of(&self, job: &Job) -> Option<u16>
         ensures value { result ≡ fault_now self.now job.now }
         ensures status { IfSome result (λ status. 5 ≤ status % 32) }
+        ensures moves { result ≡ None → MayMoveOn job.now.kind job.now.unit self.now }
     {
         let buffer = find_buffer(self.buffers.as_slice(), job.reference);
         match (self.place_of(job.unit), buffer) {

@@ -1,6 +1,7 @@
 // What goes out to the host, and how.
 
-ghost use Rattle.std.specs.Prelude.{◌≡◌, ◌≢◌, ◌≤◌, ◌<◌, ◌+◌, ◌-◌, ◌⊎◌, false, Contains, IfSome, None};
+ghost use Rattle.std.specs.Prelude.{◌≡◌, ◌≢◌, ◌≤◌, ◌<◌, ◌+◌, ◌-◌, ◌⊎◌, length, Contains, IfSome, None, Some};
+ghost use Rattle.std.specs.List.{position};
 ghost use Rattle.mscp_port.specs.declared.buffers.Buffer.{Buffer as Kept};
 ghost use Rattle.mscp_port.specs.declared.action.Outcome.TheVariants as outcomes;
 ghost use Rattle.mscp_port.specs.declared.rings.Side.{Side};
@@ -9,18 +10,23 @@ ghost use Rattle.mscp_port.specs.declared.slot.Descriptor.{Descriptor};
 ghost use Rattle.mscp_port.specs.declared.stage.Stage.TheVariants as stages;
 ghost use Rattle.mscp_port.specs.declared.task.Task.TheVariants as tasks;
 ghost use Rattle.mscp_events.specs.declared.connection.Connection.TheVariants.{First};
-ghost use Rattle.mscp_control.specs.Holdings.{after_take};
+ghost use Rattle.mscp_controller.specs.Holdings.{after_take};
 ghost use Rattle.mscp_port.specs.Acted.{WritesOut};
-ghost use Rattle.mscp_port.specs.Outgoings.{TakesEnd, TellsNews};
+ghost use Rattle.mscp_port.specs.Buffers.{without};
+ghost use Rattle.mscp_drive.specs.UnitList.{unit_found};
+ghost use Rattle.mscp_port.specs.Leaving.{news_at, status_told as leaving_status, told_end, unit_end, with_status};
+ghost use Rattle.mscp_port.specs.Moved.{volumes_after};
+ghost use Rattle.mscp_port.specs.Outgoings.{IsNews, TakesEnd, TellsNews, news_place};
 ghost use Rattle.mscp_port.specs.Packets.{credits_told, packet_of};
 ghost use Rattle.mscp_port.specs.Calls.{Dies};
 ghost use Rattle.mscp_port.specs.Ports.{IsAsNew, in_hand};
+ghost use Rattle.mscp_port.specs.Volumes.{volume_at, volume_heeded};
 ghost use Rattle.arrayvec.specs.ArrayVec.{array_vec_len};
 
 use crate::action::Outcome;
 use crate::buffers::{Buffer, find_buffer, forget};
 use crate::filling::{
-    PROTECTED_BY_HOST, attention, body_told, fill_controller, fill_unit, status_told, unit_flags,
+    PROTECTED_BY_HOST, attention, fill_controller, filled, status_told, unit_told,
 };
 use crate::port::{Outgoing, Port};
 use crate::rings::Side;
@@ -60,13 +66,15 @@ impl<K: Picker> Port<K> {
                 bytes: self.told(end),
                 is_end: true,
             });
-        } else if self.flags / WANTS_ATTENTION % 2 == 1 {
-            self.outgoing = self.news();
+        } else {
+            self.tell_news();
         }
     }
 
     /// An end as the host gets it: with the statuses of volumes, and the fields that are the port's.
-    fn told(&self, end: End) -> ArrayVec<u8, 48> {
+    fn told(&self, end: End) -> ArrayVec<u8, 48>
+        ensures { result.items ≡ told_end self.now end }
+    {
         if end.code == 0x84 {
             let mut bytes = write_end(&end);
             if end.status == 0 {
@@ -83,31 +91,59 @@ impl<K: Picker> Port<K> {
     /// The end of a command to the unit at a place.
     fn unit_end_told(&self, end: End, place: usize) -> ArrayVec<u8, 48>
         requires { place < 16 }
+        ensures { result.items
+            ≡ unit_end self.now.controller.settings.units (volume_at self.now.volumes place) end }
     {
         let volume = &self.volumes[place];
+        filled(&self.with_status(end, volume), volume)
+    }
+
+    /// An end with the status that is told where the unit has this volume.
+    fn with_status(&self, end: End, volume: &Volume) -> End
+        ensures { result ≡ with_status (leaving_status end.code end.status volume.now)
+            (unit_found self.now.controller.settings.units end.unit) end }
+    {
         let status = status_told(end.code, end.status, volume);
         let body = match self.controller.config().units().find(end.unit) {
-            Some(unit) => body_told(status, end.body, unit),
+            Some(unit) => unit_told(status, end.body, unit),
             None => end.body,
         };
-        let mut bytes = write_end(&End {
+        End {
             status,
             body,
             ..end
-        });
-        if matches!(end.code, 0x83 | 0x89 | 0x8A) && matches!(status % 32, 0 | 3 | 4) {
-            fill_unit(&mut bytes, end.unit, unit_flags(volume));
         }
-        bytes
     }
 
-    /// The next attention message, if a volume came. It isn't news any more.
-    fn news(&mut self) -> Option<Outgoing>
-        ensures frame { self.new ≡ record self.old { volumes = self.new.volumes } }
-        ensures news { IfSome result (λ o. o.is_end ≡ false) }
+    /// News of the first volume that came goes out, if its host wants attention messages. It isn't news any more.
+    fn tell_news(&mut self)
+        requires { self.old.outgoing ≡ None }
+        ensures frame { self.new ≡ record self.old { outgoing = self.new.outgoing; volumes = self.new.volumes } }
+        ensures out { IsNews self.old.controller.settings.units self.old.volumes (news_place self.old)
+            self.new.outgoing self.new.volumes }
     {
-        let place = self.volumes.iter().position(|volume| volume.is_news)?;
-        self.volumes[place].is_news = false;
+        if let Some(place) = self.news_place() {
+            self.outgoing = self.news_at(place);
+            self.volumes[place].is_news = false;
+        }
+    }
+
+    /// The place of the first volume that came, if its host wants attention messages.
+    fn news_place(&self) -> Option<usize>
+        ensures value { result ≡ news_place self.now }
+        ensures low { IfSome result (λ place. place < 16) }
+    {
+        if self.flags / WANTS_ATTENTION % 2 == 0 {
+            return None;
+        }
+        news_in(&self.volumes)
+    }
+
+    /// News of the volume at a place.
+    fn news_at(&self, place: usize) -> Option<Outgoing>
+        requires { place < 16 }
+        ensures { result ≡ news_at self.now.controller.settings.units self.now.volumes place }
+    {
         let unit = self.controller.config().units().list().get(place)?;
         Some(Outgoing {
             bytes: attention(unit, &self.volumes[place]),
@@ -166,8 +202,13 @@ impl<K: Picker> Port<K> {
 
     /// A step brought the end of a command: what is kept of it is heeded if it had Success, and forgotten.
     pub(crate) fn command_ended(&mut self, end: &End)
-        ensures frame { self.new ≡ record self.old { buffers = self.new.buffers; volumes = self.new.volumes } }
-        ensures buffers { (b : Kept) → Contains self.new.buffers.items b → Contains self.old.buffers.items b }
+        ensures frame { self.new ≡ record self.old {
+          buffers = self.new.buffers;
+          volumes = volumes_after self.old.controller.settings.units self.old.buffers.items (Some end.now)
+              self.old.volumes;
+        } }
+        ensures buffers { self.new.buffers.items ≡ without end.now.reference self.old.buffers.items }
+        ensures among { (b : Kept) → Contains self.new.buffers.items b → Contains self.old.buffers.items b }
     {
         self.heed_end(end);
         forget(&mut self.buffers, end.reference);
@@ -175,7 +216,10 @@ impl<K: Picker> Port<K> {
 
     /// Heeds what is kept of a command that ended, if it had Success.
     fn heed_end(&mut self, end: &End)
-        ensures { self.new ≡ record self.old { volumes = self.new.volumes } }
+        ensures { self.new ≡ record self.old {
+          volumes = volumes_after self.old.controller.settings.units self.old.buffers.items (Some end.now)
+              self.old.volumes;
+        } }
     {
         if let (Some(place), 0) = (self.place_of(end.unit), end.status % 32) {
             let buffer = find_buffer(self.buffers.as_slice(), end.reference);
@@ -184,12 +228,22 @@ impl<K: Picker> Port<K> {
     }
 }
 
+/// The place of the first volume that came, and of which no host has heard.
+fn news_in(volumes: &[Volume]) -> Option<usize>
+    ensures value { result ≡ position (λ v. v.is_news) volumes.now }
+    ensures low { IfSome result (λ place. place < length volumes.now) }
+{
+    volumes.iter().position(|volume| volume.is_news)
+}
+
 /// The modifier by which a host sets or clears its write protection.
 const SETS_PROTECTION: u16 = 0x0004;
 
 /// What the Success of a command to a unit means for its volume: ONLINE brings the unit online with it, and AVAILABLE takes
 /// it offline; ONLINE and SET UNIT CHARACTERISTICS set its write protection, if their modifier says so.
-fn heed_unit(volume: &mut Volume, code: u8, buffer: Option<Buffer>) {
+fn heed_unit(volume: &mut Volume, code: u8, buffer: Option<Buffer>)
+    ensures { volume.new ≡ volume_heeded code buffer volume.old }
+{
     match (code, buffer) {
         (0x88, _) => {
             volume.mounted = None;

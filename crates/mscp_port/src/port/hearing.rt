@@ -1,23 +1,23 @@
 // What the port reads in host memory.
 
-ghost use Rattle.std.specs.Prelude.{◌≡◌, ◌≢◌, ◌≤◌, ◌<◌, ◌⊎◌, ◌++◌, ◌∷◌, [], ℕ, true, false, length, Bool, Contains, IfSome, IsErr, IsOk, OnErr, None, Some, Ok, Err};
+ghost use Rattle.std.specs.Prelude.{◌≡◌, ◌≢◌, ◌≤◌, ◌<◌, ◌⊎◌, ◌++◌, ◌∷◌, [], ℕ, true, false, length, Bool, Contains, IfSome, IsErr, IsOk, OnErr, Option, None, Some, Ok, Err};
 ghost use Rattle.mscp_events.specs.declared.connection.Connection.TheVariants.{First};
-ghost use Rattle.mscp_control.specs.Holdings.{after_message, answer_to_message};
-ghost use Rattle.mscp_control.specs.declared.entry.SendFault.{SendFault as Refused};
-ghost use Rattle.mscp_control.specs.declared.entry.SendFault.TheVariants as faults;
-ghost use Rattle.mscp_control.specs.declared.entry.Sent.{Sent as Told};
-ghost use Rattle.mscp_control.specs.declared.entry.Sent.TheVariants as sents;
+ghost use Rattle.mscp_controller.specs.Holdings.{after_message, answer_to_message};
+ghost use Rattle.mscp_controller.specs.declared.entry.SendFault.{SendFault as Refused};
+ghost use Rattle.mscp_controller.specs.declared.entry.SendFault.TheVariants as faults;
+ghost use Rattle.mscp_controller.specs.declared.entry.Sent.{Sent as Told};
+ghost use Rattle.mscp_controller.specs.declared.entry.Sent.TheVariants as sents;
 ghost use Rattle.mscp_packet.specs.Number.{num};
 ghost use Rattle.mscp_port.specs.declared.buffers.Buffer.{Buffer as Kept};
 ghost use Rattle.mscp_port.specs.declared.rings.Side.TheVariants.{Responses, Commands};
 ghost use Rattle.mscp_port.specs.declared.stage.Stage.TheVariants as stages;
 ghost use Rattle.mscp_port.specs.declared.task.Task.TheVariants as tasks;
-ghost use Rattle.mscp_port.specs.Buffers.{buffer_in, without};
+ghost use Rattle.mscp_port.specs.Buffers.{buffer_in, kept_beside, without_aborted};
 ghost use Rattle.mscp_port.specs.Messages.{handed, own_end as end_of_own};
 ghost use Rattle.mscp_port.specs.Calls.{ChangesByReading, Dies, Hears};
 ghost use Rattle.mscp_port.specs.Outgoings.{AnswersItself};
 ghost use Rattle.mscp_port.specs.Ports.{IsAsNew, in_hand};
-ghost use Rattle.mscp_port.specs.Seen.{SeesHeader, SeesText, answered_to, changes_at, neighbour_seen, slot_seen};
+ghost use Rattle.mscp_port.specs.Seen.{SeesHeader, SeesText, answered_to, changes_at, heeded, neighbour_seen, settings_heeded, slot_seen};
 ghost use Rattle.mscp_port.specs.Slots.{is_owned};
 ghost use Rattle.mscp_port.specs.Volumes.{place_in};
 
@@ -29,7 +29,7 @@ use crate::rings::Side;
 use crate::slot::Descriptor;
 use crate::task::Task;
 use arrayvec::ArrayVec;
-use mscp_control::{SendFault, Sent};
+use mscp_controller::{SendFault, Sent};
 use mscp_packet::fields::{four_at, two_at};
 use mscp_packet::write_end;
 use mscp_queue::{Connection, Picker};
@@ -208,12 +208,16 @@ impl<K: Picker> Port<K> {
         }) ⊎ Dies self.old self.new }
         ensures task { (self.new.task ≡ self.old.task) ⊎ (self.new.task ≡ tasks.Free) }
         ensures sent { (s : Told) → answered_to self.old message.now ≡ Ok s
-            → (self.new.task ≡ self.old.task) × (self.new.is_stalled ≡ self.old.is_stalled) }
-        ensures kept { (reference : ℕ) → answered_to self.old message.now ≡ Ok (sents.Queued reference)
-            → length self.old.buffers.items < 64
-            → self.new.buffers.items ≡ self.old.buffers.items
-            ++ buffer_in message.now (changes_at self.old.volumes
-            (place_in self.old.controller.settings.units (num message.now 4 2))) ∷ [] }
+            → self.new ≡ record (heeded s message.now self.old) {
+              controller = self.new.controller;
+              buffers = self.new.buffers;
+            } }
+        ensures queued { (reference : ℕ) → answered_to self.old message.now ≡ Ok (sents.Queued reference)
+            → self.new.buffers.items ≡ kept_beside (buffer_in message.now (changes_at self.old.volumes
+            (place_in self.old.controller.settings.units (num message.now 4 2)))) self.old.buffers.items }
+        ensures answered { (reference : ℕ) (aborted : Option ℕ)
+            → answered_to self.old message.now ≡ Ok (sents.Answered reference aborted)
+            → self.new.buffers.items ≡ without_aborted aborted self.old.buffers.items }
         ensures waits { (fault : Refused) → answered_to self.old message.now ≡ Err fault → fault ≢ faults.Doubled
             → self.new ≡ record self.old { controller = self.new.controller; is_stalled = true; task = tasks.Free } }
         ensures among { (b : Kept) → Contains self.new.buffers.items b → Contains self.old.buffers.items b
@@ -237,10 +241,8 @@ impl<K: Picker> Port<K> {
     fn keep(&mut self, message: &[u8])
         requires short { 12 ≤ length message.now }
         ensures frame { self.new ≡ record self.old { buffers = self.new.buffers } }
-        ensures value { length self.old.buffers.items < 64
-            → self.new.buffers.items ≡ self.old.buffers.items
-            ++ buffer_in message.now (changes_at self.old.volumes
-            (place_in self.old.controller.settings.units (num message.now 4 2))) ∷ [] }
+        ensures value { self.new.buffers.items ≡ kept_beside (buffer_in message.now (changes_at self.old.volumes
+            (place_in self.old.controller.settings.units (num message.now 4 2)))) self.old.buffers.items }
         ensures kept { (b : Kept) → Contains self.new.buffers.items b → Contains self.old.buffers.items b
             ⊎ ((changes : ℕ) × (b ≡ buffer_in message.now changes)) }
     {
@@ -254,7 +256,8 @@ impl<K: Picker> Port<K> {
     /// Heeds what the host sets of its controller: flags, and its own timeout.
     fn heed(&mut self, message: &[u8])
         requires short { 12 ≤ length message.now }
-        ensures { self.new ≡ record self.old {
+        ensures value { self.new ≡ settings_heeded message.now self.old }
+        ensures frame { self.new ≡ record self.old {
           flags = self.new.flags;
           timeout = self.new.timeout;
           left = self.new.left;

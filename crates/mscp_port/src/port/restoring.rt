@@ -1,26 +1,30 @@
 // Bytes to a port.
 
-ghost use Rattle.std.specs.Prelude.{◌≡◌, ◌*◌, ◌≤◌, ◌<◌, true, nat_eq, length, drop, slice_index, IfOk, None};
+ghost use Rattle.std.specs.Prelude.{◌≡◌, ◌*◌, ◌≤◌, ◌<◌, true, nat_eq, length, take, drop, slice_index, IfNone, IfOk, None};
+ghost use Rattle.std.specs.Str.{bytes_eq};
 ghost use Rattle.mscp_packet.specs.Number.{num};
-ghost use Rattle.mscp_control.specs.Restored.{IsSound};
+ghost use Rattle.mscp_controller.specs.Restored.{IsSound};
 ghost use Rattle.mscp_saved.specs.Read.{parts_in};
 ghost use Rattle.mscp_port.specs.Codes.{optional, stage_in};
-ghost use Rattle.mscp_port.specs.Restored.{IsFramed, area_in, buffer_in, buffers_in, coded_in, controller_place, frame_fault, hardware_in, is_framed, outgoing_in, port_in, restored, rings_if, text_in, volume_in, volumes_in, words_in};
+ghost use Rattle.mscp_port.specs.Restored.{IsFramed, IsSaved, area_in, buffer_in, buffers_in, coded_in, controller_in, controller_place, frame_fault, held_in, hardware_in, is_framed, outgoing_in, port_in, restored, rings_if, text_in, told_front, unless, volume_in, volumes_in, words_in};
 ghost use Rattle.mscp_port.specs.Saved.{saved_bytes};
+
+mod front;
 
 use crate::buffers::Buffer;
 use crate::codes::{Coded, bus_in, stage_in, task_in};
 use crate::hardware::Hardware;
+use crate::port::restoring::front::saved_front;
 use crate::port::saving::{MAGIC, VERSION};
 use crate::port::{Outgoing, Port, Words};
 use crate::rings::Rings;
 use crate::stage::Stage;
 use crate::volumes::Volume;
 use arrayvec::ArrayVec;
-use mscp_control::Controller;
+use mscp_controller::{Config, Controller};
 use mscp_packet::fields::{four_at, put, two_at};
 use mscp_queue::Picker;
-use mscp_saved::part;
+use mscp_saved::{part, resume};
 
 /// Why bytes are no saved port: the first that holds, in this order.
 #[derive(Clone, Copy, Debug, PartialEq, Eq)]
@@ -251,35 +255,6 @@ fn buffers_of(b: &[u8]) -> ArrayVec<Buffer, 64>
     buffers_in(&b[280 + usize::from(b[70])..], usize::from(b[71]))
 }
 
-/// The port over this controller that bytes say.
-fn port_in<K>(b: &[u8], controller: Controller<K>) -> Port<K>
-    requires { IsFramed b.now }
-    ensures { result ≡ port_in b.now controller }
-{
-    Port {
-        hardware: hardware_in(b),
-        controller,
-        more: b[16],
-        untold: b[17],
-        stage: stage_of(b),
-        words: words_in(b),
-        written: written_in(b),
-        rings: rings_in(b),
-        responses: b[18],
-        commands: b[19],
-        task: task_in(coded_in(b)),
-        outgoing: outgoing_of(b),
-        is_polled: flag_at(b, 20),
-        is_stalled: flag_at(b, 21),
-        is_full: flag_at(b, 22),
-        buffers: buffers_of(b),
-        volumes: volumes_of(b),
-        flags: two_at(b, 23),
-        timeout: two_at(b, 25),
-        left: two_at(b, 27),
-    }
-}
-
 /// The bytes of the controller.
 fn controller_bytes(b: &[u8]) -> &[u8]
     requires { IsFramed b.now }
@@ -288,7 +263,82 @@ fn controller_bytes(b: &[u8]) -> &[u8]
     &b[280 + usize::from(b[70]) + 20 * usize::from(b[71])..]
 }
 
+/// Whether the bytes in front of the controller's are those that the port is saved as that they say.
+#[inline(never)]
+fn is_front(b: &[u8]) -> bool
+    requires { IsFramed b.now }
+    ensures { result ≡ bytes_eq (told_front b.now) (take (controller_place b.now) b.now) }
+{
+    saved_front(b).as_slice() == &b[..b.len() - controller_bytes(b).len()]
+}
+
+/// Why these bytes are no saved port, with a picker of this number: the first fault, if there is one.
+#[inline(never)]
+pub fn restore_fault<K: Picker>(bytes: &[u8], number: u8, picker: &K) -> Option<RestoreFault>
+    ensures value { restored number picker.now bytes.now ≡ unless (held_in picker.now bytes.now) result }
+    ensures saved { IfNone result (IsSaved picker.now bytes.now) }
+{
+    if let Some(fault) = frame_fault(bytes) {
+        return Some(fault);
+    }
+    let controller = controller_bytes(bytes);
+    if let Some(fault) = mscp_saved::restore_fault(controller, number, picker) {
+        return Some(RestoreFault::Controller(fault));
+    }
+    if is_front(bytes) {
+        None
+    } else {
+        Some(RestoreFault::Form)
+    }
+}
+
+/// The settings of the controller of a saved port.
+pub fn saved_settings<K: Picker>(bytes: &[u8], picker: &K) -> Config
+    requires { IsSaved picker.now bytes.now }
+    ensures { result ≡ (controller_in picker.now bytes.now).settings }
+{
+    mscp_saved::saved_settings(controller_bytes(bytes), picker)
+}
+
 impl<K: Picker> Port<K> {
+    /// All that bytes say of a port is so from now on, but for its controller.
+    fn fill(&mut self, b: &[u8])
+        requires { IsFramed b.now }
+        ensures { self.new ≡ port_in b.now self.old.controller }
+    {
+        self.hardware = hardware_in(b);
+        self.more = b[16];
+        self.untold = b[17];
+        self.stage = stage_of(b);
+        self.words = words_in(b);
+        self.written = written_in(b);
+        self.rings = rings_in(b);
+        self.responses = b[18];
+        self.commands = b[19];
+        self.task = task_in(coded_in(b));
+        self.outgoing = outgoing_of(b);
+        self.is_polled = flag_at(b, 20);
+        self.is_stalled = flag_at(b, 21);
+        self.is_full = flag_at(b, 22);
+        self.buffers = buffers_of(b);
+        self.volumes = volumes_of(b);
+        self.flags = two_at(b, 23);
+        self.timeout = two_at(b, 25);
+        self.left = two_at(b, 27);
+    }
+
+    /// Lets a port over a controller that has the settings of a saved one be the port that was saved.
+    #[inline(never)]
+    pub fn resume(&mut self, bytes: &[u8])
+        requires saved { IsSaved self.old.controller.picker bytes.now }
+        requires settings { self.old.controller.settings
+            ≡ (controller_in self.old.controller.picker bytes.now).settings }
+        ensures { self.new ≡ held_in self.old.controller.picker bytes.now }
+    {
+        self.fill(bytes);
+        resume(&mut self.controller, controller_bytes(bytes));
+    }
+
     /// The port that bytes say, with this picker, whose number has to be that which it was saved with, if they are the bytes
     /// that the port is saved as; or why they aren't. So whatever bytes come: what is restored is a port over a controller
     /// that keeps each promise of one. What it heard before only who saved it knows.
@@ -299,18 +349,14 @@ impl<K: Picker> Port<K> {
         ensures same { IfOk result (λ p. saved_bytes number p ≡ bytes.now) }
         ensures sound { IfOk result (λ p. IsSound p.controller) }
     {
-        if let Some(fault) = frame_fault(bytes) {
+        if let Some(fault) = restore_fault(bytes, number, &picker) {
             return Err(fault);
         }
-        let controller = match mscp_saved::restore(controller_bytes(bytes), number, picker) {
-            Ok(controller) => controller,
-            Err(fault) => return Err(RestoreFault::Controller(fault)),
+        let controller = Controller::new(saved_settings(bytes, &picker), picker);
+        let Ok(mut port) = Port::new(hardware_in(bytes), 1, controller) else {
+            unreachable!();
         };
-        let port = port_in(bytes, controller);
-        if port.save(number).as_slice() == bytes {
-            Ok(port)
-        } else {
-            Err(RestoreFault::Form)
-        }
+        port.resume(bytes);
+        Ok(port)
     }
 }

@@ -30,7 +30,7 @@ pub(super) const MAGIC: u32 = 0x5043_534D;
 pub(super) const VERSION: u32 = 1;
 
 /// Appends whether something is so.
-fn put_flag(out: &mut ArrayVec<u8, ROOM>, so: bool)
+pub(super) fn put_flag(out: &mut ArrayVec<u8, ROOM>, so: bool)
     requires { array_vec_len out.old + 1 ≤ 5272 }
     ensures items { out.new.items ≡ out.old.items ++ (flag_byte so ∷ []) }
     ensures len { array_vec_len out.new ≡ array_vec_len out.old + 1 }
@@ -39,7 +39,7 @@ fn put_flag(out: &mut ArrayVec<u8, ROOM>, so: bool)
 }
 
 /// Appends what tells how long all is.
-fn put_frame(out: &mut ArrayVec<u8, ROOM>, total: u32)
+pub(super) fn put_frame(out: &mut ArrayVec<u8, ROOM>, total: u32)
     requires { out.old.items ≡ [] }
     ensures items { out.new.items ≡ frame_bytes total }
     ensures len { array_vec_len out.new ≡ 12 }
@@ -51,7 +51,7 @@ fn put_frame(out: &mut ArrayVec<u8, ROOM>, total: u32)
 }
 
 /// Appends what kind of port it is.
-fn put_hardware(out: &mut ArrayVec<u8, ROOM>, hardware: Hardware)
+pub(super) fn put_hardware(out: &mut ArrayVec<u8, ROOM>, hardware: Hardware)
     requires { array_vec_len out.old + 4 ≤ 5272 }
     ensures items { out.new.items ≡ out.old.items ++ hardware_bytes hardware }
     ensures len { array_vec_len out.new ≡ array_vec_len out.old + 4 }
@@ -63,7 +63,7 @@ fn put_hardware(out: &mut ArrayVec<u8, ROOM>, hardware: Hardware)
 }
 
 /// Appends what the host wrote in the first two steps.
-fn put_words(out: &mut ArrayVec<u8, ROOM>, words: Words)
+pub(super) fn put_words(out: &mut ArrayVec<u8, ROOM>, words: Words)
     requires { array_vec_len out.old + 4 ≤ 5272 }
     ensures items { out.new.items ≡ out.old.items ++ words_bytes words }
     ensures len { array_vec_len out.new ≡ array_vec_len out.old + 4 }
@@ -75,7 +75,7 @@ fn put_words(out: &mut ArrayVec<u8, ROOM>, words: Words)
 }
 
 /// Appends how far the port has come.
-fn put_stage(out: &mut ArrayVec<u8, ROOM>, stage: Stage)
+pub(super) fn put_stage(out: &mut ArrayVec<u8, ROOM>, stage: Stage)
     requires { array_vec_len out.old + 3 ≤ 5272 }
     ensures items { out.new.items ≡ out.old.items ++ stage_bytes stage }
     ensures len { array_vec_len out.new ≡ array_vec_len out.old + 3 }
@@ -86,7 +86,7 @@ fn put_stage(out: &mut ArrayVec<u8, ROOM>, stage: Stage)
 }
 
 /// Appends what the host wrote to SA.
-fn put_written(out: &mut ArrayVec<u8, ROOM>, written: Option<u16>)
+pub(super) fn put_written(out: &mut ArrayVec<u8, ROOM>, written: Option<u16>)
     requires { array_vec_len out.old + 3 ≤ 5272 }
     ensures items { out.new.items ≡ out.old.items ++ written_bytes written }
     ensures len { array_vec_len out.new ≡ array_vec_len out.old + 3 }
@@ -117,7 +117,7 @@ fn put_area(out: &mut ArrayVec<u8, ROOM>, rings: Rings)
 }
 
 /// Appends the communication area, if there is one.
-fn put_rings(out: &mut ArrayVec<u8, ROOM>, rings: Option<Rings>)
+pub(super) fn put_rings(out: &mut ArrayVec<u8, ROOM>, rings: Option<Rings>)
     requires { array_vec_len out.old + 13 ≤ 5272 }
     ensures items { out.new.items ≡ out.old.items ++ rings_bytes rings }
     ensures len { array_vec_len out.new ≡ array_vec_len out.old + 13 }
@@ -136,7 +136,7 @@ fn put_rings(out: &mut ArrayVec<u8, ROOM>, rings: Option<Rings>)
 }
 
 /// Appends a task.
-fn put_coded(out: &mut ArrayVec<u8, ROOM>, coded: Coded)
+pub(super) fn put_coded(out: &mut ArrayVec<u8, ROOM>, coded: Coded)
     requires { array_vec_len out.old + 17 ≤ 5272 }
     ensures items { out.new.items ≡ out.old.items ++ coded_bytes coded }
     ensures len { array_vec_len out.new ≡ array_vec_len out.old + 17 }
@@ -186,7 +186,7 @@ fn put_volume(out: &mut ArrayVec<u8, ROOM>, volume: Volume)
 }
 
 /// Appends volumes.
-fn put_volumes(out: &mut ArrayVec<u8, ROOM>, volumes: &[Volume])
+pub(super) fn put_volumes(out: &mut ArrayVec<u8, ROOM>, volumes: &[Volume])
     requires { array_vec_len out.old + 13 * length volumes.now ≤ 5272 }
     ensures items { out.new.items ≡ out.old.items ++ flat_map volume_bytes volumes.now }
     ensures len { array_vec_len out.new ≡ array_vec_len out.old + 13 * length volumes.now }
@@ -213,7 +213,7 @@ fn put_buffer(out: &mut ArrayVec<u8, ROOM>, buffer: Buffer)
 }
 
 /// Appends what is kept of commands.
-fn put_buffers(out: &mut ArrayVec<u8, ROOM>, buffers: &[Buffer])
+pub(super) fn put_buffers(out: &mut ArrayVec<u8, ROOM>, buffers: &[Buffer])
     requires { array_vec_len out.old + 20 * length buffers.now ≤ 5272 }
     ensures items { out.new.items ≡ out.old.items ++ flat_map buffer_bytes buffers.now }
     ensures len { array_vec_len out.new ≡ array_vec_len out.old + 20 * length buffers.now }
@@ -225,7 +225,7 @@ fn put_buffers(out: &mut ArrayVec<u8, ROOM>, buffers: &[Buffer])
 }
 
 /// The text of what goes out, which is empty if nothing does.
-fn text_of(outgoing: &Option<Outgoing>) -> &[u8]
+pub(super) fn text_of(outgoing: &Option<Outgoing>) -> &[u8]
     ensures value { result.now ≡ outgoing_text outgoing.now }
     ensures short { length result.now ≤ 48 }
 {
@@ -236,7 +236,7 @@ fn text_of(outgoing: &Option<Outgoing>) -> &[u8]
 }
 
 /// Whether something goes out, and whether that is an end.
-fn outgoing_byte(outgoing: &Option<Outgoing>) -> u8
+pub(super) fn outgoing_byte(outgoing: &Option<Outgoing>) -> u8
     ensures { result ≡ outgoing_byte outgoing.now }
 {
     match outgoing {

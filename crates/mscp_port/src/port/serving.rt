@@ -4,10 +4,12 @@ ghost use Rattle.std.specs.Prelude.{◌≡◌, ◌≤◌, ◌%◌, ◌⊎◌, []
 ghost use Rattle.mscp_port.specs.declared.buffers.Buffer.{Buffer as Kept};
 ghost use Rattle.mscp_port.specs.Blocks.{block_of as block_after, first_of, has_host_bytes as has_bytes, refusal_of, task_of, writes as writes_to};
 ghost use Rattle.mscp_queue.specs.declared.upcoming.Upcoming.{Upcoming as Foretold};
-ghost use Rattle.mscp_control.specs.Holdings.{Foretells};
-ghost use Rattle.mscp_port.specs.Moved.{TakesBlock, begun_task, fault_now, lost_with, next_part};
+ghost use Rattle.mscp_controller.specs.Holdings.{Foretells};
+ghost use Rattle.mscp_packet.specs.declared.end.End.{End as Ended};
+ghost use Rattle.mscp_port.specs.Moved.{GoesOnWithBlock, HeedsStep, TakesBlock, begun_task, fault_now, lost_with, next_part};
+ghost use Rattle.mscp_port.specs.Outgoings.{MayBegin};
 ghost use Rattle.mscp_port.specs.Ports.{IsMoving, IsOfBlock, in_hand};
-ghost use Rattle.mscp_port.specs.Volumes.{IsOnVolume};
+ghost use Rattle.mscp_port.specs.Volumes.{IsOnVolume, MayMove};
 ghost use Rattle.mscp_port.specs.declared.task.Task.TheVariants as tasks;
 
 use crate::action::Outcome;
@@ -85,7 +87,7 @@ fn writes(kind: MoveKind) -> bool
 pub(crate) fn refusal(kind: MoveKind, buffer: &Buffer, volume: &Volume) -> Option<u16>
     ensures value { result ≡ refusal_of kind buffer.now volume.now }
     ensures status { IfSome result (λ status. 5 ≤ status % 32) }
-    ensures mounted { result ≡ None → (volume.now.is_there ≡ true) × (volume.now.mounted ≡ Some volume.now.changes) }
+    ensures moves { result ≡ None → MayMove kind volume.now }
     ensures even { result ≡ None → buffer.now.count % 2 ≡ 0 }
 {
     if !volume.is_mounted() {
@@ -163,7 +165,8 @@ impl<K: Picker> Port<K> {
         ensures packet { in_hand result ≡ None }
         ensures block { (result ≡ tasks.Free) ⊎ IsOfBlock result }
         ensures idle { result ≡ tasks.Free → self.new.controller.waiting ≡ [] }
-        ensures untaken { self.new.controller.untaken ≡ self.old.controller.untaken }
+        ensures controller { MayBegin self.old.controller self.new.controller }
+        ensures begun { (IsOfBlock result → ⊥) → self.new.controller ≡ self.old.controller }
         ensures settings { self.new.controller.settings ≡ self.old.controller.settings }
     {
         let Some(upcoming) = self.controller.begin() else {
@@ -180,6 +183,7 @@ impl<K: Picker> Port<K> {
     /// The step of a command is taken, whose block had this outcome.
     pub(crate) fn finish(&mut self, connection: Connection, reference: u32, block: Block)
         ensures takes { TakesBlock (K.picks self.old.controller.picker) connection reference block self.old self.new }
+        ensures heeds { (ended : Option Ended) × HeedsStep ended self.old self.new }
         ensures frame { self.new ≡ record self.old {
           controller = self.new.controller;
           task = self.new.task;
@@ -206,6 +210,7 @@ impl<K: Picker> Port<K> {
     pub(crate) fn lost(&mut self, job: Job)
         ensures takes { TakesBlock (K.picks self.old.controller.picker) job.connection job.reference
             (lost_with (fault_now self.old job)) self.old self.new }
+        ensures heeds { (ended : Option Ended) × HeedsStep ended self.old self.new }
         ensures frame { self.new ≡ record self.old {
           controller = self.new.controller;
           task = self.new.task;
@@ -230,6 +235,7 @@ impl<K: Picker> Port<K> {
             (TakesBlock (K.picks self.old.controller.picker) job.connection job.reference (block_after outcome)
             self.old self.new)
             (λ task. self.new ≡ record self.old { task = task }) }
+        ensures blocks { GoesOnWithBlock self.old self.new }
         ensures frame { self.new ≡ record self.old {
           controller = self.new.controller;
           task = self.new.task;

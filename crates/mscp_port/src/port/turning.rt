@@ -1,8 +1,8 @@
 // What the port wants done.
 
-ghost use Rattle.std.specs.Prelude.{◌≡◌, ◌≢◌, ◌≤◌, ◌<◌, ◌⊎◌, ◌↔◌, ◌+◌, ◌-◌, ◌*◌, ◌^◌, ◌%◌, ℕ, true, false, length, Contains, IfSome, IsErr, IsOk, IsTrue, IsSomeAnd, MatchOption, min, replicate, OnErr, if◌then◌else◌, ◌==◌, None, Some};
+ghost use Rattle.std.specs.Prelude.{◌≡◌, ◌≢◌, ◌≤◌, ◌<◌, ◌⊎◌, ◌↔◌, ◌+◌, ◌-◌, ◌*◌, ◌^◌, ◌%◌, ℕ, true, false, length, Contains, IfSome, IsErr, IsOk, IsSome, IsTrue, IsSomeAnd, MatchOption, min, replicate, OnErr, if◌then◌else◌, ◌==◌, None, Some};
 ghost use Rattle.byteorder.specs.Endian.{little_bytes};
-ghost use Rattle.arrayvec.specs.ArrayVec.{array_vec_len};
+ghost use Rattle.arrayvec.specs.ArrayVec.{ArrayVec as Written, array_vec_len};
 ghost use Rattle.mscp_port.specs.declared.action.Action.TheVariants as actions;
 ghost use Rattle.mscp_port.specs.declared.action.Outcome.TheVariants as outcomes;
 ghost use Rattle.mscp_port.specs.declared.buffers.Buffer.{Buffer as Kept};
@@ -15,8 +15,9 @@ ghost use Rattle.mscp_port.specs.Blocks.{kept_of};
 ghost use Rattle.mscp_port.specs.Buffers.{IsInBuffer};
 ghost use Rattle.mscp_port.specs.Calls.{Dies, Goes, TakesStep, Wants};
 ghost use Rattle.mscp_port.specs.Ports.{HasNothingToHear, HasNothingToSay, IsAlive, IsAsNew, IsDue, IsIdleUp, IsOfBlock, IsOutcomeOf, IsInSomeBuffer, IsWithin, in_hand};
-ghost use Rattle.mscp_port.specs.Moved.{BeginsBlock, Moves, MovesOn, move_wanted, part_kept, part_now};
-ghost use Rattle.mscp_port.specs.Outgoings.{HasSaid, Says};
+ghost use Rattle.mscp_packet.specs.declared.command.MoveKind.{MoveKind as Kind};
+ghost use Rattle.mscp_port.specs.Moved.{BeginsBlock, GoesOnWithBlock, MayMoveOn, Moves, MovesOn, is_storing, move_wanted, part_kept, part_now};
+ghost use Rattle.mscp_port.specs.Outgoings.{HasSaid, KeepsSaying, Says, TakesEnd, TellsNews};
 ghost use Rattle.mscp_port.specs.Packets.{credits_told, packet_of};
 ghost use Rattle.mscp_port.specs.Slots.{given_back, text_of};
 ghost use Rattle.mscp_port.specs.Wanted.{IsWanted, Writes, clear_from, given_in};
@@ -122,6 +123,7 @@ impl<K: Picker> Port<K> {
 
     /// What it takes in hand.
     fn choose(&mut self) -> Task
+        requires { self.old.task ≡ tasks.Free }
         ensures frame { self.new ≡ record self.old {
           controller = self.new.controller;
           outgoing = self.new.outgoing;
@@ -131,6 +133,7 @@ impl<K: Picker> Port<K> {
         ensures packet { in_hand result ≡ None }
         ensures due { IsDue self.new result }
         ensures says { Says self.old self.new }
+        ensures begun { (IsOfBlock result → ⊥) → self.new.controller.begun ≡ self.old.controller.begun }
         ensures settings { self.new.controller.settings ≡ self.old.controller.settings }
         ensures step { result ≡ tasks.Free → self.new.written ≡ None }
         ensures begins { IsOfBlock result
@@ -163,7 +166,9 @@ impl<K: Picker> Port<K> {
         ensures idle { result ≡ tasks.Free → IsIdleUp self.new }
         ensures begins { IsOfBlock result
             → BeginsBlock (K.picks self.old.controller.picker) result self.old self.new }
-        ensures says { Says self.old self.new }
+        ensures looks { self.old.outgoing ≡ None → TakesEnd self.old self.new ⊎ TellsNews self.old self.new }
+        ensures keeps { self.old.outgoing ≢ None → KeepsSaying self.old self.new }
+        ensures begun { (IsOfBlock result → ⊥) → self.new.controller.begun ≡ self.old.controller.begun }
         ensures settings { self.new.controller.settings ≡ self.old.controller.settings }
     {
         if self.outgoing.is_none() {
@@ -182,6 +187,8 @@ impl<K: Picker> Port<K> {
     fn action(&self) -> Action
         ensures within { IsWithin self.now result }
         ensures wanted { IsWanted self.now self.now.task result }
+        ensures moves { (kind : Kind) (unit block count : ℕ) → result ≡ actions.Transfer kind unit block count
+            → MayMoveOn kind unit self.now }
         ensures rests { result ≡ actions.Rest → self.now.task ≡ tasks.Free }
     {
         match (self.task, self.rings) {
@@ -242,7 +249,7 @@ impl<K: Picker> Port<K> {
         ensures within { IsWithin self.now result }
         ensures value { IfSome self.now.outgoing (λ o.
             Writes result (text_of slot.word - 4) (packet_of (credits_told self.now) o.bytes.items)) }
-        ensures some { result ≢ actions.Rest }
+        ensures write { (address : ℕ) × (bytes : Written ℕ) × (result ≡ actions.Write address bytes) }
     {
         Action::Write {
             address: slot.text().saturating_sub(HEADER),
@@ -269,6 +276,8 @@ impl<K: Picker> Port<K> {
     fn moving(&self, job: &Job) -> Action
         ensures within { IsWithin self.now result }
         ensures value { result ≡ move_wanted self.now.task job.now (part_now self.now job.now) }
+        ensures moves { (kind : Kind) (unit block count : ℕ) → result ≡ actions.Transfer kind unit block count
+            → MayMoveOn kind unit self.now }
         ensures some { result ≢ actions.Rest }
     {
         match (self.task, self.part(job)) {
@@ -288,6 +297,8 @@ impl<K: Picker> Port<K> {
     fn part(&self, job: &Job) -> Option<(u32, u32)>
         ensures value { result ≡ part_now self.now job.now }
         ensures inside { IfSome result (λ part. IsInSomeBuffer self.now part.0 part.1) }
+        ensures moves { IsSome result → is_storing self.now.task ≡ false
+            → MayMoveOn job.now.kind job.now.unit self.now }
     {
         // What was read goes to the host, even if its volume has gone since.
         if !matches!(self.task, Task::Store(_)) && self.fault_of(job).is_some() {
@@ -342,6 +353,7 @@ impl<K: Picker> Port<K> {
     /// A part of a step was done, if what is kept of its command says what part.
     fn move_on(&mut self, job: Job, outcome: Outcome)
         ensures moves { MovesOn (K.picks self.old.controller.picker) outcome job self.old self.new }
+        ensures blocks { GoesOnWithBlock self.old self.new }
         ensures frame { self.new ≡ record self.old {
           controller = self.new.controller;
           task = self.new.task;
@@ -363,7 +375,13 @@ impl<K: Picker> Port<K> {
         ensures steps { IfSome self.old.written (λ word. TakesStep word self.old self.new) }
         ensures none { self.old.written ≡ None → self.new ≡ record self.old { task = tasks.Free } }
         ensures settings { self.new.controller.settings ≡ self.old.controller.settings }
-        ensures out { (self.new.outgoing ≡ self.old.outgoing) ⊎ Dies self.old self.new }
+        ensures frame { (self.new ≡ record self.old {
+          stage = self.new.stage;
+          words = self.new.words;
+          written = self.new.written;
+          rings = self.new.rings;
+          task = self.new.task;
+        }) ⊎ Dies self.old self.new }
         ensures buffers { (b : Kept) → Contains self.new.buffers.items b → Contains self.old.buffers.items b }
         ensures packet { in_hand self.new.task ≡ None }
     {

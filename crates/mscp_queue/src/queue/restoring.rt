@@ -17,7 +17,6 @@ use crate::picker::Picker;
 use crate::queue::Queue;
 use crate::record::Record;
 use crate::start::choice_in;
-use crate::view::View;
 use arrayvec::ArrayVec;
 
 /// What a picker would see of each of the records, if each might start.
@@ -54,43 +53,24 @@ fn place_begun(lineup: &Lineup, begun: Option<Name>) -> Option<usize>
 }
 
 impl<K: Picker> Queue<K> {
-    /// The queue with these limits, drives and picker in which these commands wait, and which has begun the one of this
-    /// name, if one is named.
-    pub fn restored(
-        room: u32,
-        budget: u32,
-        longest: u32,
-        records: &[Record],
-        drives: ArrayVec<Drive, 16>,
-        begun: Option<Name>,
-        picker: K,
-    ) -> Queue<K>
-        requires held { IsHeld room budget longest records.now drives.items begun true }
+    /// These commands wait from now on, on these drives, and the one of this name is begun, if one is named. What was there
+    /// before is forgotten, but for the limits and the picker.
+    #[inline(never)]
+    pub fn restore(&mut self, records: &[Record], drives: ArrayVec<Drive, 16>, begun: Option<Name>)
+        requires held { IsHeld self.old.room self.old.budget self.old.longest records.now drives.items begun true }
         requires order { ArePassedInOrder records.now }
-        ensures { result ≡ record {
-          room = room;
-          budget = budget;
-          longest = longest;
+        ensures { self.new ≡ record self.old {
           waiting = records.now;
           drives = drives.items;
           begun = begun;
-          picker = picker;
         } }
     {
-        let backlog = Backlog::restored(budget, records, drives.as_slice());
         let lineup = lineup_of(drives.as_slice(), records);
-        let begun = place_begun(&lineup, begun);
-        Queue {
-            room,
-            longest,
-            backlog,
-            drives,
-            begun,
-            serving: place_served(records),
-            picker,
-            lineup,
-            view: View::empty(),
-        }
+        self.begun = place_begun(&lineup, begun);
+        self.serving = place_served(records);
+        self.backlog = Backlog::restored(self.backlog.budget(), records, drives.as_slice());
+        self.lineup = lineup;
+        self.drives = drives;
     }
 
     /// The record of the waiting command at the place, in order of arrival.

@@ -13,7 +13,7 @@ use Rattle.mscp_queue.proofs.Lists.{every_from, filter_all}
 use Rattle.mscp_queue.proofs.Placed.{found_is, map_on}
 use Rattle.mscp_queue.proofs.Named.{own_side}
 use Rattle.mscp_events.specs.Settings.{Settings, credits_of}
-use Rattle.mscp_control.specs.declared.entry.Sent.{Sent}
+use Rattle.mscp_controller.specs.declared.entry.Sent.{Sent}
 use Rattle.mscp_host.specs.declared.submission.Submission.{Submission}
 use Rattle.mscp_host.specs.Accounts.{is_immediate, oldest, poll_of, submission_of, submitted, watching}
 use Rattle.mscp_sim.specs.declared.conversing.Turn.{Turn}

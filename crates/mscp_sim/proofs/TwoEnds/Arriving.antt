@@ -18,9 +18,9 @@ use Rattle.mscp_packet.specs.Commands.{opcode_byte}
 use Rattle.mscp_queue.specs.Records.{Record, aborted_record, fresh_record, has_name, name_of, without}
 use Rattle.mscp_queue.proofs.Lists.{every_append, every_from, filter_filter, filter_on}
 use Rattle.mscp_queue.proofs.Placed.{Found, find_cases, find_none, find_first}
-use Rattle.mscp_control.specs.Holdings.{Holdings, aborting, more_ends, numbers_ended, outstanding_of, queued, waiting_on, with_end}
+use Rattle.mscp_controller.specs.Holdings.{Holdings, aborting, more_ends, numbers_ended, outstanding_of, queued, waiting_on, with_end}
 use Rattle.mscp_events.specs.Both.{Both, of}
-use Rattle.mscp_control.proofs.Bridge.Accounts.{of_more}
+use Rattle.mscp_controller.proofs.Bridge.Accounts.{of_more}
 use Rattle.mscp_host.specs.declared.submission.Submission.{Submission}
 use Rattle.mscp_host.specs.Accounts.{Account, is_code_of}
 use Rattle.mscp_sim.specs.Matches.{Flight, HasOwnEndcode, IsAwaited, IsKnown, Matches, commands, opcode_found, references, times}

@@ -10,16 +10,16 @@ use Rattle.mscp_queue.specs.declared.view.Choice.{Choice}
 use Rattle.mscp_queue.specs.Figures.{figure_of_name}
 use Rattle.mscp_queue.specs.Kept.{names}
 use Rattle.mscp_events.specs.Settings.{Settings}
-use Rattle.mscp_control.specs.Commands.{name, waiting}
-use Rattle.mscp_control.specs.Controllers.{KeepsPromise}
-use Rattle.mscp_control.specs.Figures.{figure_of}
-use Rattle.mscp_control.specs.Headline.{Promise}
-use Rattle.mscp_control.specs.History.{Trace}
-use Rattle.mscp_control.specs.Holdings.{Holdings, after_message, numbers, waiting_on}
+use Rattle.mscp_controller.specs.Commands.{name, waiting}
+use Rattle.mscp_controller.specs.Controllers.{KeepsPromise}
+use Rattle.mscp_controller.specs.Figures.{figure_of}
+use Rattle.mscp_controller.specs.Headline.{Promise}
+use Rattle.mscp_controller.specs.History.{Trace}
+use Rattle.mscp_controller.specs.Holdings.{Holdings, after_message, numbers, waiting_on}
 use Rattle.mscp_events.specs.Both.{Both, of, put}
-use Rattle.mscp_control.specs.declared.entry.Sent.{Sent}
+use Rattle.mscp_controller.specs.declared.entry.Sent.{Sent}
 use Rattle.mscp_events.specs.declared.event.Event.TheVariants as events
-use Rattle.mscp_control.specs.declared.entry.Entry.TheVariants as entries
+use Rattle.mscp_controller.specs.declared.entry.Entry.TheVariants as entries
 use Rattle.arrayvec.specs.ArrayVec.{ArrayVec}
 use Rattle.mscp_host.specs.declared.news.HostFault.{HostFault}
 use Rattle.mscp_host.specs.declared.news.Poll.{Poll}

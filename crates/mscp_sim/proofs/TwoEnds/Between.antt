@@ -10,14 +10,14 @@ use Rattle.mscp_queue.specs.declared.name.Name.{Name}
 use Rattle.mscp_queue.specs.Names.{name_on, same_connection}
 use Rattle.mscp_queue.proofs.Named.{own_side}
 use Rattle.mscp_events.specs.Settings.{Settings}
-use Rattle.mscp_control.specs.History.{Moment, Trace, connection_of, is_step, queues}
+use Rattle.mscp_controller.specs.History.{Moment, Trace, connection_of, is_step, queues}
 use Rattle.mscp_events.specs.Both.{Both}
-use Rattle.mscp_control.proofs.Promise.Sides.{queues_by}
-use Rattle.mscp_control.specs.Commands.{sent_command}
-use Rattle.mscp_control.specs.Figures.{figure, figure_of}
-use Rattle.mscp_control.specs.Headline.{Promise}
+use Rattle.mscp_controller.proofs.Promise.Sides.{queues_by}
+use Rattle.mscp_controller.specs.Commands.{sent_command}
+use Rattle.mscp_controller.specs.Figures.{figure, figure_of}
+use Rattle.mscp_controller.specs.Headline.{Promise}
 use Rattle.mscp_events.specs.declared.event.Event.TheVariants as events
-use Rattle.mscp_control.specs.declared.entry.Entry.TheVariants as entries
+use Rattle.mscp_controller.specs.declared.entry.Entry.TheVariants as entries
 use Rattle.mscp_host.specs.Accounts.{Account}
 use Rattle.mscp_queue.proofs.Placed.{found_is}
 use Rattle.mscp_sim.specs.declared.conversing.Turn.{Turn}

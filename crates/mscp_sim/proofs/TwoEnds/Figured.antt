@@ -8,12 +8,12 @@ use Rattle.mscp_queue.specs.declared.name.Name.{Name}
 use Rattle.mscp_queue.specs.Names.{name_on, same_name}
 use Rattle.mscp_queue.proofs.Named.{same_is}
 use Rattle.mscp_events.specs.Settings.{Settings}
-use Rattle.mscp_control.specs.History.{Moment, Trace, connection_of, is_step, moment, queues}
-use Rattle.mscp_control.specs.Commands.{ends_in, is_waiting, name, sent_command, waiting}
-use Rattle.mscp_control.specs.Figures.{figure, figure_found, figure_of}
-use Rattle.mscp_control.specs.Headline.{Promise}
-use Rattle.mscp_control.proofs.Promise.Grows.{command_last, connection_last, name_before, is_waiting_before, is_waiting_last, moment_last}
-use Rattle.mscp_control.proofs.Promise.Waits.{cut, waiting_waits, waits_below}
+use Rattle.mscp_controller.specs.History.{Moment, Trace, connection_of, is_step, moment, queues}
+use Rattle.mscp_controller.specs.Commands.{ends_in, is_waiting, name, sent_command, waiting}
+use Rattle.mscp_controller.specs.Figures.{figure, figure_found, figure_of}
+use Rattle.mscp_controller.specs.Headline.{Promise}
+use Rattle.mscp_controller.proofs.Promise.Grows.{command_last, connection_last, name_before, is_waiting_before, is_waiting_last, moment_last}
+use Rattle.mscp_controller.proofs.Promise.Waits.{cut, waiting_waits, waits_below}
 use Rattle.mscp_queue.proofs.Placed.{found_is}
 use Rattle.mscp_sim.proofs.TwoEnds.Outstanding.{both_true}
 use Rattle.mscp_sim.proofs.TwoEnds.Receiving.{found_all}

@@ -14,9 +14,9 @@ use Rattle.mscp_queue.specs.Names.{name_on, same_connection}
 use Rattle.mscp_queue.specs.Records.{Record, fresh_record, has_name, without}
 use Rattle.mscp_queue.proofs.Lists.{every_from, filter_filter, filter_on}
 use Rattle.mscp_queue.proofs.Named.{one_side, other_side}
-use Rattle.mscp_control.specs.declared.entry.SendFault.{SendFault}
-use Rattle.mscp_control.specs.Arrival.{is_queued, refusal}
-use Rattle.mscp_control.specs.Holdings.{Holdings, aborting, after_message, after_take, answered_end, balance_of, held_unless, outstanding_of, queued, waiting_on, with_end}
+use Rattle.mscp_controller.specs.declared.entry.SendFault.{SendFault}
+use Rattle.mscp_controller.specs.Arrival.{is_queued, refusal}
+use Rattle.mscp_controller.specs.Holdings.{Holdings, aborting, after_message, after_take, answered_end, balance_of, held_unless, outstanding_of, queued, waiting_on, with_end}
 use Rattle.mscp_host.specs.Accounts.{Account}
 use Rattle.mscp_sim.specs.Matches.{Flight, Matches, commands}
 use Rattle.mscp_sim.proofs.TwoEnds.Matching.{stays}

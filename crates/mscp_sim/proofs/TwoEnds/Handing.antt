@@ -14,7 +14,7 @@ use Rattle.mscp_packet.specs.Ends.{HasBody, IsEnd, end_at, end_length, kind_of_c
 use Rattle.mscp_queue.proofs.Lists.{every_weaker, every_both}
 use Rattle.mscp_events.specs.declared.connection.Connection.{Connection}
 use Rattle.mscp_events.specs.Both.{of, put}
-use Rattle.mscp_control.specs.Holdings.{Holdings, numbers_ended, outstanding_of, waiting_on}
+use Rattle.mscp_controller.specs.Holdings.{Holdings, numbers_ended, outstanding_of, waiting_on}
 use Rattle.mscp_host.specs.declared.submission.Submission.{Submission}
 use Rattle.mscp_host.specs.declared.watch.Watch.{Watch}
 use Rattle.mscp_host.specs.Accounts.{Account, answered, end_in, has_reference, heard, is_about_polled, is_code_of, news_with, outstanding_with, received, polled_is_outstanding, told_in, watch_after, with_told, without}

@@ -3,7 +3,7 @@ use Rattle.std.proofs.Common.{◌≡◌, ℕ, false, List, sym, subst}
 use Rattle.mscp_events.specs.declared.connection.Connection.{Connection}
 use Rattle.mscp_queue.specs.Names.{same_connection}
 use Rattle.mscp_events.specs.Both.{Both, of, put}
-use Rattle.mscp_control.specs.Holdings.{Holdings, after_message, after_take}
+use Rattle.mscp_controller.specs.Holdings.{Holdings, after_message, after_take}
 use Rattle.mscp_host.specs.Accounts.{Account}
 use Rattle.mscp_sim.specs.Matches.{Flight, Match, MatchOn, Matches}
 use Rattle.mscp_sim.proofs.TwoEnds.Foreign.{foreign_message, foreign_take}

@@ -13,7 +13,7 @@ use Rattle.mscp_queue.proofs.Lists.{every_append, every_parts, every_weaker}
 use Rattle.mscp_events.specs.declared.connection.Connection.{Connection}
 use Rattle.mscp_events.specs.Both.{of}
 use Rattle.mscp_events.specs.Settings.{credits_of}
-use Rattle.mscp_control.specs.Holdings.{Holdings, numbers, numbers_ended, outstanding_of, waiting_on}
+use Rattle.mscp_controller.specs.Holdings.{Holdings, numbers, numbers_ended, outstanding_of, waiting_on}
 use Rattle.mscp_host.specs.declared.submission.Submission.{Submission}
 use Rattle.mscp_host.specs.declared.watch.Watch.{Watch}
 use Rattle.mscp_host.specs.Accounts.{Account, is_code_of}

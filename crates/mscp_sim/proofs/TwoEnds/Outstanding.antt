@@ -10,7 +10,7 @@ use Rattle.std.proofs.lemmas.List.Folds.{list_any-append}
 use Rattle.mscp_events.specs.declared.connection.Connection.{Connection}
 use Rattle.mscp_queue.proofs.Lists.{every_kept, every_weaker, filter_filter, filter_on, range_below, range_more}
 use Rattle.mscp_events.specs.Settings.{Settings}
-use Rattle.mscp_control.specs.History.{last_or}
+use Rattle.mscp_controller.specs.History.{last_or}
 use Rattle.mscp_sim.specs.Talks.{Talk, answers_about, answers_of, is_asked, before, handed_over, hands_over, is_ended, is_it, is_outstanding, last_answer, last_of, outstanding, asked_for, reference, said, sends, figure_told}
 
 -- ---- one more turn

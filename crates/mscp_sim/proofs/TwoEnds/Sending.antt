@@ -16,14 +16,14 @@ use Rattle.mscp_packet.proofs.Numbers.{four}
 use Rattle.mscp_events.specs.declared.connection.Connection.{Connection}
 use Rattle.mscp_queue.specs.Names.{name_on}
 use Rattle.mscp_queue.specs.Figures.{figure_of_name}
-use Rattle.mscp_control.specs.Arrival.{credit_fault, fault_of, holds, is_queued, refusal}
-use Rattle.mscp_control.proofs.Bridge.Accounts.{of_more}
-use Rattle.mscp_control.specs.Holdings.{Holdings, aborting, after_message, answer_to_message, answered_end, arrives, balance_of, more_ends, numbers, numbers_ended, with_end, outstanding_of, queued, taken_as, waiting_on}
+use Rattle.mscp_controller.specs.Arrival.{credit_fault, fault_of, holds, is_queued, refusal}
+use Rattle.mscp_controller.proofs.Bridge.Accounts.{of_more}
+use Rattle.mscp_controller.specs.Holdings.{Holdings, aborting, after_message, answer_to_message, answered_end, arrives, balance_of, more_ends, numbers, numbers_ended, with_end, outstanding_of, queued, taken_as, waiting_on}
 use Rattle.mscp_events.specs.Both.{of}
 use Rattle.mscp_host.specs.declared.news.HostFault.TheVariants as faults
 use Rattle.mscp_host.specs.declared.submission.Submission.{Submission}
 use Rattle.mscp_host.specs.declared.watch.Watch.{Watch}
-use Rattle.mscp_control.specs.Outcomes.{own_end_with}
+use Rattle.mscp_controller.specs.Outcomes.{own_end_with}
 use Rattle.mscp_events.specs.Settings.{Settings}
 use Rattle.mscp_queue.specs.Orders.{endcode}
 use Rattle.mscp_host.specs.Accounts as host

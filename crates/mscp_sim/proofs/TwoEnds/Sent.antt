@@ -10,10 +10,10 @@ use Rattle.mscp_events.specs.declared.connection.Connection.{Connection}
 use Rattle.mscp_queue.specs.declared.view.Choice.{Choice}
 use Rattle.mscp_events.specs.Settings.{Settings}
 use Rattle.mscp_events.specs.Both.{Both, of}
-use Rattle.mscp_control.specs.History.{Moment, queues}
-use Rattle.mscp_control.proofs.Promise.Sides.{queues_by}
-use Rattle.mscp_control.specs.Commands.{sent_command}
-use Rattle.mscp_control.specs.Holdings.{Holdings}
+use Rattle.mscp_controller.specs.History.{Moment, queues}
+use Rattle.mscp_controller.proofs.Promise.Sides.{queues_by}
+use Rattle.mscp_controller.specs.Commands.{sent_command}
+use Rattle.mscp_controller.specs.Holdings.{Holdings}
 use Rattle.mscp_host.specs.declared.news.HostFault.{HostFault}
 use Rattle.mscp_host.specs.Accounts.{Account, has_reference, submits, submitted}
 use Rattle.mscp_sim.specs.declared.conversing.Turn.TheVariants as turns
@@ -32,11 +32,11 @@ use Rattle.mscp_sim.proofs.TwoEnds.Sides.{each_side, of_other, of_put, put_own}
 use Rattle.mscp_sim.proofs.TwoEnds.Turning.{Comes, Side, Turns, TurnsOn, is_news, kept_back, named_in, never_idle, no_news, none_some, not_lost, queues_in, quiet, turns_of}
 use Rattle.mscp_queue.specs.Names.{same_connection}
 use Rattle.mscp_queue.proofs.Named.{own_side}
-use Rattle.mscp_control.specs.declared.entry.Sent.{Sent}
+use Rattle.mscp_controller.specs.declared.entry.Sent.{Sent}
 use Rattle.mscp_events.specs.declared.event.Event.TheVariants as events
-use Rattle.mscp_control.specs.declared.entry.Entry.TheVariants as entries
+use Rattle.mscp_controller.specs.declared.entry.Entry.TheVariants as entries
 use Rattle.mscp_events.specs.Both.{put}
-use Rattle.mscp_control.specs.Holdings.{after_message}
+use Rattle.mscp_controller.specs.Holdings.{after_message}
 
 -- ---- a new number
 

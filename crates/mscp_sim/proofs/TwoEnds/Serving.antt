@@ -18,7 +18,7 @@ use Rattle.mscp_queue.specs.Outcomes.{goes_on, outcome_at}
 use Rattle.mscp_queue.specs.Records.{Record, advanced, drive_at, left_of, no_record, passed_by, record_at, remains, step_toll}
 use Rattle.mscp_queue.specs.Serving.{end_given, waiting_after}
 use Rattle.mscp_queue.proofs.Placed.{cut_at}
-use Rattle.mscp_control.specs.Holdings.{Holdings, Steps, ends_after, ends_reported, waiting_on}
+use Rattle.mscp_controller.specs.Holdings.{Holdings, Steps, ends_after, ends_reported, waiting_on}
 use Rattle.mscp_events.specs.Both.{Both, of}
 use Rattle.mscp_host.specs.Accounts.{Account}
 use Rattle.mscp_sim.specs.Matches.{Flight, Matches, commands}

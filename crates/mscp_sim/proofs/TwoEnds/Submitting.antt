@@ -7,9 +7,9 @@ use Rattle.arrayvec.specs.ArrayVec.{ArrayVec}
 use Rattle.mscp_packet.specs.declared.command.Command.{Command}
 use Rattle.mscp_packet.specs.Commands.{command_bytes, command_of, opcode_byte}
 use Rattle.mscp_events.specs.declared.connection.Connection.{Connection}
-use Rattle.mscp_control.specs.declared.entry.Sent.{Sent}
-use Rattle.mscp_control.specs.declared.entry.SendFault.{SendFault}
-use Rattle.mscp_control.specs.Holdings.{Holdings, after_message, answer_to_message, taken_as}
+use Rattle.mscp_controller.specs.declared.entry.Sent.{Sent}
+use Rattle.mscp_controller.specs.declared.entry.SendFault.{SendFault}
+use Rattle.mscp_controller.specs.Holdings.{Holdings, after_message, answer_to_message, taken_as}
 use Rattle.mscp_host.specs.declared.news.HostFault.{HostFault}
 use Rattle.mscp_host.specs.declared.news.Poll.{Poll}
 use Rattle.mscp_host.specs.declared.news.Poll.TheVariants as polls

@@ -8,10 +8,10 @@ use Rattle.mscp_packet.specs.Ends.{IsEnd}
 use Rattle.mscp_events.specs.declared.connection.Connection.{Connection}
 use Rattle.mscp_queue.specs.declared.view.Choice.{Choice}
 use Rattle.mscp_events.specs.declared.event.Event.TheVariants as events
-use Rattle.mscp_control.specs.declared.entry.Entry.TheVariants as entries
+use Rattle.mscp_controller.specs.declared.entry.Entry.TheVariants as entries
 use Rattle.mscp_events.specs.Settings.{Settings}
 use Rattle.mscp_events.specs.Both.{Both, of, put}
-use Rattle.mscp_control.specs.Holdings.{Holdings, after_take, end_taken}
+use Rattle.mscp_controller.specs.Holdings.{Holdings, after_take, end_taken}
 use Rattle.mscp_packet.specs.Number.{num}
 use Rattle.mscp_queue.specs.Names.{same_connection}
 use Rattle.mscp_queue.proofs.Named.{one_side, own_side}

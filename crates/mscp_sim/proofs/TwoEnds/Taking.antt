@@ -6,11 +6,11 @@ use Rattle.arrayvec.specs.ArrayVec.{ArrayVec}
 use Rattle.mscp_packet.specs.declared.end.End.{End}
 use Rattle.mscp_packet.specs.Ends.{end_bytes, IsEnd}
 use Rattle.mscp_events.specs.declared.event.Event.TheVariants as events
-use Rattle.mscp_control.specs.declared.entry.Entry.TheVariants as entries
-use Rattle.mscp_control.specs.History.{Moment}
+use Rattle.mscp_controller.specs.declared.entry.Entry.TheVariants as entries
+use Rattle.mscp_controller.specs.History.{Moment}
 use Rattle.mscp_events.specs.declared.connection.Connection.{Connection}
 use Rattle.mscp_events.specs.Both.{of, put}
-use Rattle.mscp_control.specs.Holdings.{Holdings, after_take, end_taken}
+use Rattle.mscp_controller.specs.Holdings.{Holdings, after_take, end_taken}
 use Rattle.mscp_host.specs.declared.news.News.{News}
 use Rattle.mscp_host.specs.declared.news.HostFault.{HostFault}
 use Rattle.mscp_host.specs.Accounts.{Account, answered, heard, news_with, received}

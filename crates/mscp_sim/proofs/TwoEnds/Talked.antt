@@ -10,18 +10,18 @@ use Rattle.mscp_queue.specs.Names.{same_connection}
 use Rattle.mscp_queue.proofs.Named.{one_side}
 use Rattle.mscp_queue.proofs.Placed.{found_is}
 use Rattle.mscp_queue.specs.declared.view.Choice.{Choice}
-use Rattle.mscp_control.specs.declared.entry.Entry.TheVariants as entries
+use Rattle.mscp_controller.specs.declared.entry.Entry.TheVariants as entries
 use Rattle.mscp_events.specs.Both.{Both, of}
-use Rattle.mscp_control.specs.Legal.{IsLegal, IsPicked}
-use Rattle.mscp_control.specs.Sweeping.{IsSweeping}
+use Rattle.mscp_controller.specs.Legal.{IsLegal, IsPicked}
+use Rattle.mscp_controller.specs.Sweeping.{IsSweeping}
 use Rattle.mscp_events.specs.Settings.{Settings, IsValid}
-use Rattle.mscp_control.specs.Calls.{AnsweredCalls}
-use Rattle.mscp_control.specs.Controllers.{ControllersKeepThePromise, KeepsPromise}
-use Rattle.mscp_control.specs.Headline.{Promise}
-use Rattle.mscp_control.specs.History.{Moment, Trace}
-use Rattle.mscp_control.specs.Holdings.{Holdings}
-use Rattle.mscp_control.specs.Holdings as holdings
-use Rattle.mscp_control.specs.Runs.{RunsKeepThePromise}
+use Rattle.mscp_controller.specs.Calls.{AnsweredCalls}
+use Rattle.mscp_controller.specs.Controllers.{ControllersKeepThePromise, KeepsPromise}
+use Rattle.mscp_controller.specs.Headline.{Promise}
+use Rattle.mscp_controller.specs.History.{Moment, Trace}
+use Rattle.mscp_controller.specs.Holdings.{Holdings}
+use Rattle.mscp_controller.specs.Holdings as holdings
+use Rattle.mscp_controller.specs.Runs.{RunsKeepThePromise}
 use Rattle.mscp_host.specs.Accounts.{Account, fresh, polls_oldest, submits}
 use Rattle.mscp_sim.specs.declared.conversing.Turn.{Turn}
 use Rattle.mscp_sim.specs.declared.conversing.Turn.TheVariants as turns

@@ -5,9 +5,9 @@ use Rattle.std.proofs.lemmas.Grind.{flat_map-append}
 use Rattle.std.proofs.lemmas.List.{map-append, take_more}
 use Rattle.mscp_queue.specs.declared.view.Choice.{Choice}
 use Rattle.mscp_events.specs.Both.{Both}
-use Rattle.mscp_control.specs.History.{Moment, Trace}
-use Rattle.mscp_control.specs.Holdings.{Holdings}
-use Rattle.mscp_control.proofs.Bridge.Owning.{owner_kept}
+use Rattle.mscp_controller.specs.History.{Moment, Trace}
+use Rattle.mscp_controller.specs.Holdings.{Holdings}
+use Rattle.mscp_controller.proofs.Bridge.Owning.{owner_kept}
 use Rattle.mscp_host.specs.Accounts.{Account}
 use Rattle.mscp_sim.specs.declared.conversing.Talk.{Talk as Lists}
 use Rattle.mscp_sim.specs.declared.conversing.Turn.{Turn}

@@ -9,14 +9,14 @@ use Rattle.mscp_queue.specs.declared.name.Name.{Name}
 use Rattle.mscp_queue.specs.Names.{same_name}
 use Rattle.mscp_queue.specs.declared.view.Choice.{Choice}
 use Rattle.mscp_events.specs.declared.event.Event.{Event}
-use Rattle.mscp_control.specs.declared.entry.Entry.{Entry}
+use Rattle.mscp_controller.specs.declared.entry.Entry.{Entry}
 use Rattle.mscp_events.specs.Settings.{Settings}
-use Rattle.mscp_control.specs.History.{Moment, Trace}
-use Rattle.mscp_control.specs.Commands.{name, waiting}
-use Rattle.mscp_control.specs.Figures.{figure, figure_found, figure_of}
-use Rattle.mscp_control.specs.Headline.{Promise}
-use Rattle.mscp_control.specs.Holdings.{Answered, Holdings}
-use Rattle.mscp_control.specs.Calls.{AnsweredCalls, AnswersCall, Call, Plain, history}
+use Rattle.mscp_controller.specs.History.{Moment, Trace}
+use Rattle.mscp_controller.specs.Commands.{name, waiting}
+use Rattle.mscp_controller.specs.Figures.{figure, figure_found, figure_of}
+use Rattle.mscp_controller.specs.Headline.{Promise}
+use Rattle.mscp_controller.specs.Holdings.{Answered, Holdings}
+use Rattle.mscp_controller.specs.Calls.{AnsweredCalls, AnswersCall, Call, Plain, history}
 use Rattle.mscp_sim.specs.Talks.{Said, Talk, said, trace_of}
 use Rattle.mscp_sim.specs.Conversing.{AnswersTurn}
 

@@ -10,12 +10,12 @@ use Rattle.mscp_events.specs.declared.block.Block.{Block}
 use Rattle.mscp_queue.specs.declared.view.Choice.{Choice}
 use Rattle.mscp_events.specs.Settings.{Settings}
 use Rattle.mscp_events.specs.Both.{Both, of}
-use Rattle.mscp_control.specs.History.{Moment}
-use Rattle.mscp_control.proofs.Promise.Sides.{queues_by}
-use Rattle.mscp_control.specs.Commands.{sent_command}
-use Rattle.mscp_control.specs.Calls.{AnsweredCalls}
-use Rattle.mscp_control.specs.Controllers.{KeepsPromise}
-use Rattle.mscp_control.specs.Holdings.{Holdings, fresh}
+use Rattle.mscp_controller.specs.History.{Moment}
+use Rattle.mscp_controller.proofs.Promise.Sides.{queues_by}
+use Rattle.mscp_controller.specs.Commands.{sent_command}
+use Rattle.mscp_controller.specs.Calls.{AnsweredCalls}
+use Rattle.mscp_controller.specs.Controllers.{KeepsPromise}
+use Rattle.mscp_controller.specs.Holdings.{Holdings, fresh}
 use Rattle.mscp_host.specs.declared.news.News.TheVariants as news
 use Rattle.mscp_host.specs.Accounts.{Account}
 use Rattle.mscp_sim.specs.declared.conversing.Turn.TheVariants as turns

@@ -5,7 +5,7 @@ use super::controllers::Newest;
 use super::crowds::full;
 use super::values::FIRST;
 use crate::tests::checks::{same, same_of};
-use mscp_control::{Block, Controller};
+use mscp_controller::{Block, Controller};
 use std::process::Abort;
 
 /// The figure of a command isn't greater after the ABORT of this one than before, and only its own is 0.

@@ -4,7 +4,7 @@ ghost use Rattle.std.specs.Prelude.{◌≤◌};
 
 use super::calls::{aborts, bring_online, has_free, queues, takes_bytes};
 use super::values::{FIRST, config, read};
-use mscp_control::{Block, Controller, FaultStatus, Oldest};
+use mscp_controller::{Block, Controller, FaultStatus, Oldest};
 use std::process::Abort;
 
 /// A controller whose unit is online, where READ 1 of so many blocks waits and was served so many.

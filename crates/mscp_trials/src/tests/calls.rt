@@ -2,7 +2,7 @@
 
 use super::values::{FIRST, command};
 use crate::tests::checks::{holds, same};
-use mscp_control::{
+use mscp_controller::{
     Block, Connection, Controller, Picker, Report, SendFault, Sent, Stale, Upcoming,
 };
 use mscp_packet::{Command, End, Order, read_end, write_command};

@@ -11,7 +11,7 @@ mod sending;
 mod worst;
 
 use arrayvec::ArrayVec;
-use mscp_control::{
+use mscp_controller::{
     Block, Config, Connection, Controller, FaultStatus, Oldest, Picker, Report, SendFault, Sent,
     Stale, Sweep, Upcoming, View,
 };

@@ -2,7 +2,7 @@
 
 use super::calls::{bring_online, has_free, queues};
 use super::values::{FIRST, limits, unit};
-use mscp_control::{Controller, Picker};
+use mscp_controller::{Controller, Picker};
 use mscp_packet::{Command, MoveKind, Order};
 use std::process::Abort;
 

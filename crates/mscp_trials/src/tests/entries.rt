@@ -2,9 +2,9 @@
 
 use crate::tests::checks::{holds, same};
 use arrayvec::ArrayVec;
-use mscp_control::{Connection, Entry, Report, SendFault, Sent};
+use mscp_controller::{Connection, Entry, Report, SendFault, Sent};
 use mscp_packet::{End, EndBody};
-use mscp_script::report;
+use mscp_sim::report;
 use std::process::Abort;
 use std::test::Fail;
 

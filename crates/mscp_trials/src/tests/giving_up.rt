@@ -8,9 +8,8 @@ use super::scripts::is_told_by_both;
 use super::streams::simulated;
 use super::values::config;
 use crate::tests::checks::{holds, same, same_of};
-use mscp_control::{Block, Connection, Event, Sweep, run};
-use mscp_script::{ShowFault, read_script, report, show_packet};
-use mscp_sim::{Heard, Turn, converse};
+use mscp_controller::{Block, Connection, Event, Sweep, run};
+use mscp_sim::{Heard, ShowFault, Turn, converse, read_script, report, show_packet};
 use std::process::Abort;
 use std::test::Fail;
 

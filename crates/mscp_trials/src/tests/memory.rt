@@ -8,14 +8,13 @@ use super::values::{FIRST, command, config};
 use crate::Scarce;
 use crate::tests::checks::{holds, same, same_of};
 use linked_list_allocator::LocalHeap;
-use mscp_control::{Block, Config, Entry, Event, OutOfMemory, Sweep, run, run_in};
+use mscp_controller::{Block, Config, Entry, Event, OutOfMemory, Sweep, run, run_in};
 use mscp_host::News;
 use mscp_packet::{MoveKind, Order, write_command};
-use mscp_script::{
-    ReadFault, ShowFault, SimFault, read_script, read_script_in, report, report_in, show_packet_in,
-    simulate_in,
+use mscp_sim::{
+    Heard, ReadFault, ShowFault, SimFault, Turn, converse_in, read_script, read_script_in, report,
+    report_in, show_packet_in, simulate_in,
 };
-use mscp_sim::{Heard, Turn, converse_in};
 use std::alloc::Global;
 use std::mem::size_of;
 use std::process::Abort;

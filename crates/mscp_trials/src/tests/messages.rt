@@ -5,7 +5,7 @@ use super::calls::has_free;
 use super::values::{FIRST, config};
 use crate::tests::checks::{holds, same, same_of};
 use arrayvec::ArrayVec;
-use mscp_control::{Controller, Oldest, SendFault, Sent};
+use mscp_controller::{Controller, Oldest, SendFault, Sent};
 use std::process::Abort;
 
 /// An opcode, the least bytes of its command, the bytes of its end, and whether it waits for steps.

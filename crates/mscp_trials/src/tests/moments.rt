@@ -3,7 +3,9 @@
 use super::values::FIRST;
 use crate::tests::checks::same;
 use arrayvec::ArrayVec;
-use mscp_control::{Block, Config, Connection, Entry, Event, Picker, Report, SendFault, Sent, run};
+use mscp_controller::{
+    Block, Config, Connection, Entry, Event, Picker, Report, SendFault, Sent, run,
+};
 use std::process::Abort;
 
 /// Bytes in the room of a message or an end.

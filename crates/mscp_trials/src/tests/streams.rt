@@ -4,7 +4,7 @@ ghost use Rattle.std.specs.Prelude.{◌≡◌, false};
 
 use super::first::{REPORT, SCRIPT};
 use crate::tests::checks::{holds, same, same_of};
-use mscp_script::{SimFault, Stream, simulate};
+use mscp_sim::{SimFault, Stream, simulate};
 use std::alloc::Global;
 use std::io;
 use std::io::{ErrorKind, Read, Write};

@@ -5,7 +5,7 @@ mod paired;
 use super::moments::{Moments, event_of};
 use super::values::{FIRST, SECOND, limits, online_ended, read, read_ended, served, unit};
 use crate::tests::checks::{holds, same};
-use mscp_control::{Block, Connection, Entry, Report, Sent, Sweep};
+use mscp_controller::{Block, Connection, Entry, Report, Sent, Sweep};
 use mscp_host::{HostFault, News};
 use mscp_packet::{Command, End, Order};
 use mscp_sim::{Heard, Talk, Turn, converse};

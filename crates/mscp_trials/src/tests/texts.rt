@@ -1,7 +1,7 @@
 // The text of each fault, for who uses the library: the program has lines of its own.
 
 use crate::tests::checks::same;
-use mscp_script::{Cause, LineFault, ReadFault, ScriptFault, ShowFault, SimFault};
+use mscp_sim::{Cause, LineFault, ReadFault, ScriptFault, ShowFault, SimFault};
 use std::fmt::Display;
 use std::process::Abort;
 

@@ -1,6 +1,6 @@
 // Units, configurations, commands, ends and reports that several tests are about.
 
-use mscp_control::{Config, Connection, Report};
+use mscp_controller::{Config, Connection, Report};
 use mscp_drive::{Unit, Units};
 use mscp_packet::{Command, End, EndBody, MoveKind, Order};
 use std::process::Abort;

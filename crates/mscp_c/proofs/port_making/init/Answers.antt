@@ -2,7 +2,7 @@ use Rattle.std.proofs.Common.{rules, ◌≡◌, ◌∙◌, ◌<◌, ap, sym, sub
 use Rattle.std.proofs.lemmas.Bool.{false≢true}
 use Rattle.std.specs.Prelude.{Some, IsOk}
 use Rattle.mscp_events.specs.declared.connection.Connection.TheVariants.{First}
-use Rattle.mscp_control.specs.Holdings.{balance_of}
+use Rattle.mscp_controller.specs.Holdings.{balance_of}
 use Rattle.mscp_events.specs.Settings.{Settings}
 use Rattle.mscp_c.specs.Made.{config_fault}
 use Rattle.mscp_c.proofs.Configured.{all_free, config_refused, config_taken, credits_refused}

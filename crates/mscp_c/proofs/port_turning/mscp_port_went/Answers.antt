@@ -1,6 +1,8 @@
 use Rattle.std.proofs.Common.{◌≡◌, ◌∙◌, ap, pos, refl, subst, sym, Some}
-use Rattle.std.specs.Prelude.{IfSome}
+use Rattle.std.specs.Prelude.{IfSome, IsOk}
 use Rattle.mscp_port.specs.Calls.{Goes}
+use Rattle.mscp_port.specs.Moved.{Moves}
+use Rattle.mscp_memory.specs.Policies.{PolicyPicks}
 use Rattle.mscp_memory.specs.PortHandles.{with_held}
 use Rattle.mscp_memory.specs.PortRoom.{Held}
 use Rattle.mscp_memory.specs.declared.port.handle.Handle.{Handle}
@@ -18,6 +20,10 @@ returns-in-Ok-clause-went c = λ made.
       answer = c.went.result;
       goes = subst (λ (p : Held). Goes c.in-Some.outcome p c.went.result c.went.new.self)
           (c.lend.ensures.value ∙ ap (λ (h : Handle). h.held) c.is_made.ensures.same) c.went.ensures.goes;
+      moves = subst
+          (λ (p : Held). IsOk c.went.result
+          → Moves (PolicyPicks p.controller.picker) c.in-Some.outcome p c.went.new.self)
+          (c.lend.ensures.value ∙ ap (λ (h : Handle). h.held) c.is_made.ensures.same) c.went.ensures.moves;
       rest = ap (λ (h : Handle). with_held h c.went.new.self) c.is_made.ensures.same;
       code = refl;
     } in
@@ -33,6 +39,10 @@ returns-in-Err-clause-went c = λ made.
       answer = c.went.result;
       goes = subst (λ (p : Held). Goes c.in-Some.outcome p c.went.result c.went.new.self)
           (c.lend.ensures.value ∙ ap (λ (h : Handle). h.held) c.is_made.ensures.same) c.went.ensures.goes;
+      moves = subst
+          (λ (p : Held). IsOk c.went.result
+          → Moves (PolicyPicks p.controller.picker) c.in-Some.outcome p c.went.new.self)
+          (c.lend.ensures.value ∙ ap (λ (h : Handle). h.held) c.is_made.ensures.same) c.went.ensures.moves;
       rest = ap (λ (h : Handle). with_held h c.went.new.self) c.is_made.ensures.same;
       code = refl;
     } in

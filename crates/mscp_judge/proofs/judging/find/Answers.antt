@@ -1,18 +1,21 @@
-use Rattle.std.proofs.Common.{◌≡◌, ℕ, ◌+◌, List, [], ◌∷◌, ◌++◌, length, Ok, Err, ap, sym, ◌∙◌, subst, arith, length-append, append_assoc, append-nil}
+use Rattle.std.proofs.Common.{◌≡◌, ℕ, ◌+◌, List, [], ◌∷◌, ◌++◌, length, Ok, Err, refl, ap, sym, ◌∙◌, subst, arith, length-append, append_assoc, append-nil}
+use Rattle.std.specs.Prelude.{None}
 use Rattle.std.proofs.lemmas.Result.{err_from_is_err_and}
 use Rattle.mscp_events.specs.Settings.{Settings}
-use Rattle.mscp_control.proofs.Promise.Progress.{progress}
-use Rattle.mscp_reader.specs.Lexical.{lines}
+use Rattle.mscp_controller.proofs.Promise.Progress.{progress}
+use Rattle.mscp_reader.specs.Lexical.{lines, words}
 use Rattle.mscp_reader.specs.declared.fault.ReadFault.{ReadFault}
 use Rattle.mscp_reader.specs.declared.fault.ReadFault.TheVariants as faults
 use Rattle.mscp_judge.specs.declared.judge.Judge.{Judge}
 use Rattle.mscp_judge.specs.Judged.{Breaks, Hears, IsBroken, Judges, Tells}
 use Rattle.mscp_judge.specs.Logs.{Log, MayGoOn, after_lines, nothing, whole}
 use Rattle.mscp_judge.specs.declared.totals.Totals.{Totals}
+use Rattle.mscp_judge.specs.Naming.{name_in}
 use Rattle.mscp_judge.specs.Standing.{totals_of}
 use Rattle.mscp_judge.specs.Totals.{AreTotals}
-use Rattle.mscp_judge.proofs.Coming.{held_settings, stands_legal, stands_not, stands_open, stands_open_held, stands_settings}
+use Rattle.mscp_judge.proofs.Coming.{held_settings, stands_legal, stands_not, stands_open, stands_settings}
 use Rattle.mscp_judge.proofs.Exactly.{lines_behind}
+use Rattle.mscp_judge.proofs.Righting.{stands_open_held}
 use Rattle.mscp_judge.proofs.Reading.{lines_more}
 use Rattle.mscp_judge.proofs.judging.find.Goals as goal
 
@@ -49,7 +52,8 @@ pub returns-then-not-branch-2 : goal.returns-then-not-branch-2
 returns-then-not-branch-2 g c = λ d s.
     let i = c.loop-bytes.invariant.passed d s in
     let k = c.in_ok-rule.ensures.hears d i.next i.stands in
-    let stands = subst (λ b. Tells d i.next k.0 c.judge_line.new.judge b) c.in_default-2.is k.2 in
+    let wanted = name_in (words c.in-Some.bytes.now) in
+    let stands = subst (λ b. Tells d i.next k.0 wanted c.judge_line.new.judge b) c.in_default-2.is k.2 in
     c.in_ok-pass_lines-2.ensures.wrong (ap Ok c.if-not-branch-2.true) d k.0 stands
 
 pub returns-in_err-rule : goal.returns-in_err-rule
@@ -69,7 +73,8 @@ pub returns-in-Some-2 : goal.returns-in-Some-2
 returns-in-Some-2 g c = λ d s.
     let i = c.loop-bytes.invariant.passed d s in
     let k = c.in_ok-rule.ensures.hears d i.next i.stands in
-    let told = subst (λ b. Tells d i.next k.0 c.judge_line.new.judge b) c.in-Some-2.is k.2 in
+    let wanted = name_in (words c.in-Some.bytes.now) in
+    let told = subst (λ b. Tells d i.next k.0 wanted c.judge_line.new.judge b) c.in-Some-2.is k.2 in
     let breaks = subst (λ b. Breaks c.loop-bytes.judge c.in-Some.bytes.now b c.judge_line.new.judge.starts.items)
     c.in-Some-2.is (c.in_ok-rule.ensures.breaks c.if-not-is_rule_wanted.false) in
     let starts = c.take_starts-starts in
@@ -87,14 +92,15 @@ returns-in-Some-2 g c = λ d s.
       wrong = told.0;
       broken = subst (λ ns. IsBroken d i.next c.in-Some.bytes.now c.in-Some-2.rule ns)
           (sym (ap (λ x. x.items) starts.ensures.starts)) (breaks d i.next i.stands);
-      right_there = c.in_ok-right.ensures d i.next (starts.ensures.held d i.next told.1);
+      right_is = c.in_ok-right.ensures d i.next wanted (starts.ensures.held d i.next wanted told.1);
     }
 
 pub returns-then-not-is_rule_wanted : goal.returns-then-not-is_rule_wanted
 returns-then-not-is_rule_wanted g c = λ d s.
     let i = c.loop-bytes.invariant.passed d s in
     let k = c.in_ok-rule.ensures.hears d i.next i.stands in
-    let told = subst (λ b. Tells d i.next k.0 c.judge_line.new.judge b) c.in-Some-2.is k.2 in
+    let wanted = name_in (words c.in-Some.bytes.now) in
+    let told = subst (λ b. Tells d i.next k.0 wanted c.judge_line.new.judge b) c.in-Some-2.is k.2 in
     let known = held_settings d i.next c.judge_line.new.judge told.1.0 in
     (c.if-not-is_rule_wanted.true, known.0, known.1)
 
@@ -106,7 +112,8 @@ loop-bytes-preserved g c = record {
       let bytes = c.in-Some.bytes.now in
       let number = c.cut.new.self.number in
       let k = c.in_ok-rule.ensures.hears d i.next i.stands in
-      let stands = subst (λ b. Tells d i.next k.0 c.judge_line.new.judge b) c.in_default-2.is k.2 in
+      let wanted = name_in (words bytes) in
+      let stands = subst (λ b. Tells d i.next k.0 wanted c.judge_line.new.judge b) c.in_default-2.is k.2 in
       let p = c.in_ok-pass_lines-2.ensures.passed (ap Ok c.if-not-branch-2.false) d k.0 stands in
       let front = i.front ++ bytes ∷ [] in
       let here : number ≡ before + length front =
@@ -154,6 +161,6 @@ returns-in_ok-right-2 g c = λ d s.
       opens = stands_open d i.next c.loop-bytes.judge i.stands;
       wrong = stands_not d i.next c.loop-bytes.judge i.stands
           (c.is_settled.ensures.no c.if-is_settled.false);
-      right_there = c.in_ok-right-2.ensures d i.next
-          (stands_open_held d i.next c.loop-bytes.judge i.stands);
+      right_is = c.in_ok-right-2.ensures d i.next None
+          (stands_open_held d i.next None c.loop-bytes.judge i.stands (λ none some. refl));
     }

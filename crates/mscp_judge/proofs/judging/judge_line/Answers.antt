@@ -1,11 +1,15 @@
 use Rattle.std.proofs.Common.{◌++◌, ap, sym, ◌∙◌}
 use Rattle.std.proofs.lemmas.Bool.{true≢false}
 use Rattle.std.proofs.lemmas.Result.{err_from_is_err_and}
+use Rattle.mscp_reader.specs.Lexical.{words}
 use Rattle.mscp_reader.specs.Requests.{events_of}
 use Rattle.mscp_text.specs.Lines.{line}
 use Rattle.mscp_judge.specs.Logs.{asking, is_answer, telling}
+use Rattle.mscp_judge.specs.Naming.{name_in}
 use Rattle.mscp_judge.proofs.Breaking.{broken_early}
-use Rattle.mscp_judge.proofs.Coming.{stands_open_held, too_early}
+use Rattle.mscp_judge.proofs.Coming.{too_early}
+use Rattle.mscp_judge.proofs.Righting.{stands_open_held}
+use Rattle.mscp_judge.proofs.Wording.{unnamed}
 use Rattle.mscp_judge.proofs.Reading.{asks, asks_wrong, says_words, skipped, tells, wrong_words}
 use Rattle.mscp_judge.proofs.judging.judge_line.Goals as goal
 
@@ -56,7 +60,11 @@ returns-in_err-request-clause-hears g c =
 
 pub returns-then-not-is_settled-clause-hears : goal.returns-then-not-is_settled-clause-hears
 returns-then-not-is_settled-clause-hears g c = λ d log s.
-    let new = events_of c.in_ok-request.request in (
+    let new = events_of c.in_ok-request.request in
+    let unasked = unnamed (words c.args.bytes.now) (ap is_answer
+    (sym (says_words c.args.number c.args.bytes.now _ c.in_ok-words.ensures.words
+    (λ e. true≢false (sym (c.is_empty.ensures.1 e) ∙ c.if-is_empty.false))).0)
+    ∙ (sym c.is_answer.ensures ∙ c.if-is_answer.false)) in (
       asking log new (log.events ++ new),
       asks c.args.number log c.args.bytes.now _ d new c.in_ok-words.ensures.words
           (λ e. true≢false (sym (c.is_empty.ensures.1 e) ∙ c.if-is_empty.false))
@@ -64,7 +72,7 @@ returns-then-not-is_settled-clause-hears g c = λ d log s.
           (c.in_ok-request.ensures.next d log.events (s.count ∙ sym c.count.ensures)),
       (
         too_early d log c.args.judge.now new (log.events ++ new) s (c.is_settled.ensures.no c.if-not-is_settled.true),
-        stands_open_held d log c.args.judge.now s,
+        stands_open_held d log (name_in (words c.args.bytes.now)) c.args.judge.now s (λ none some. unasked),
       ),
     )
 

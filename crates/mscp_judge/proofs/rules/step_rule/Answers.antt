@@ -1,42 +1,50 @@
 use Rattle.std.proofs.Common.{◌≡◌, ◌≢◌, [], sym, ◌∙◌, subst, arith}
+use Rattle.std.specs.Prelude.{Option, Some}
 use Rattle.std.proofs.lemmas.Grind.{common_steps}
 use Rattle.mscp_judge.specs.declared.naming.Named.{Named}
 use Rattle.mscp_judge.specs.declared.rules.Rule.TheVariants as rules
-use Rattle.mscp_judge.specs.Naming.{name_of}
+use Rattle.mscp_judge.specs.Naming.{wanted_name}
 use Rattle.mscp_judge.specs.Rules.{IsStepRule}
 use Rattle.mscp_judge.proofs.Leading.{follow}
-use Rattle.mscp_judge.proofs.Hindered.{is_another, is_free_to, is_kept_back, is_nowhere, is_own, some_first}
+use Rattle.mscp_judge.proofs.Hindered.{is_another, is_free_to, is_kept_back, is_nowhere, is_own, is_unnamed, some_first}
 use Rattle.mscp_judge.proofs.rules.step_rule.Goals as goal
 
 pub returns-then-eq : goal.returns-then-eq
 returns-then-eq c = λ d t begun v led.
     let served : Named = record { connection = c.in-Some.connection; reference = c.in-Some.reference } in
-    let same : served ≡ c.args.named = grind (arith, common_steps) in
-    subst (λ (n : Named). IsStepRule d t (name_of n) rules.Service) same
+    let same : Some served ≡ c.args.wanted = grind (arith, common_steps) in
+    subst (λ (n : Option Named). IsStepRule d t (wanted_name n) rules.Service) same
     (is_own d t c.args.controller.now _ (follow d begun t c.args.controller.now v led) c.in-Some.ensures.some)
 
 pub returns-else-eq : goal.returns-else-eq
 returns-else-eq c = λ d t begun v led.
     let served : Named = record { connection = c.in-Some.connection; reference = c.in-Some.reference } in
-    let differ : served ≢ c.args.named = λ e. let no : ⊥ = grind (arith, common_steps) in no in
-    is_another d t c.args.controller.now c.args.named served (follow d begun t c.args.controller.now v led)
+    let differ : c.args.wanted ≢ Some served = λ e. let no : ⊥ = grind (arith, common_steps) in no in
+    is_another d t c.args.controller.now c.args.wanted served (follow d begun t c.args.controller.now v led)
     c.in-Some.ensures.some differ
+
+pub returns-in_default-wanted : goal.returns-in_default-wanted
+returns-in_default-wanted c = λ d t begun v led.
+    subst (λ (n : Option Named). IsStepRule d t (wanted_name n) rules.NotWaiting) (sym c.in_default-wanted.is)
+    (is_unnamed d t c.args.controller.now (follow d begun t c.args.controller.now v led) c.in_default.ensures.none)
 
 pub returns-then-figure-eq0 : goal.returns-then-figure-eq0
 returns-then-figure-eq0 c = λ d t begun v led.
-    is_nowhere d t c.args.controller.now _ v (follow d begun t c.args.controller.now v led)
-    (sym c.figure.ensures.value ∙ c.if-figure-eq0.true)
+    subst (λ (n : Option Named). IsStepRule d t (wanted_name n) rules.NotWaiting) (sym c.in-Some-wanted.is)
+    (is_nowhere d t c.args.controller.now _ v (follow d begun t c.args.controller.now v led) c.in_default.ensures.none
+    (sym c.figure.ensures.value ∙ c.if-figure-eq0.true))
 
 pub returns-then-is_empty : goal.returns-then-is_empty
 returns-then-is_empty c = λ d t begun v led.
     let none : c.holders-holders.result.items ≡ [] = grind (arith, common_steps) in
-    is_free_to d t c.args.controller.now _ (follow d begun t c.args.controller.now v led) c.in_default.ensures.none
-    (λ e. c.if-figure-eq0.false (c.figure.ensures.value ∙ e)) (sym c.holders-holders.ensures.holders ∙ none)
+    subst (λ (n : Option Named). IsStepRule d t (wanted_name n) rules.Service) (sym c.in-Some-wanted.is)
+    (is_free_to d t c.args.controller.now _ (follow d begun t c.args.controller.now v led) c.in_default.ensures.none
+    (λ e. c.if-figure-eq0.false (c.figure.ensures.value ∙ e)) (sym c.holders-holders.ensures.holders ∙ none))
 
 pub returns-else-is_empty : goal.returns-else-is_empty
 returns-else-is_empty c = λ d t begun v led.
     let some : c.holders-holders.result.items ≢ [] = λ e. let no : ⊥ = grind (arith, common_steps) in no in
     let first = some_first c.holders-holders.result.items some in
-    rw c.deref.ensures.0 (is_kept_back d t c.args.controller.now _ _ first.0
+    rw (c.deref.ensures.0, c.in-Some-wanted.is) (is_kept_back d t c.args.controller.now _ _ first.0
     (follow d begun t c.args.controller.now v led) c.in_default.ensures.none
     (sym c.holders-holders.ensures.holders ∙ first.1))

@@ -3,7 +3,7 @@ use Rattle.std.proofs.lemmas.Bool.{and_from}
 use Rattle.std.proofs.lemmas.List.Folds.{list_all_more}
 use Rattle.mscp_queue.specs.Kept.{IsWaitable}
 use Rattle.mscp_queue.specs.Records.{Record}
-use Rattle.mscp_control.specs.Arrival.{is_queued}
+use Rattle.mscp_controller.specs.Arrival.{is_queued}
 use Rattle.mscp_packet.proofs.Parts.{each_more}
 use Rattle.mscp_saved.proofs.checking.are_queued.Goals as goal
 

@@ -1,8 +1,9 @@
-use Rattle.std.proofs.Common.{All, ◌≡◌, ◌∙◌, List, length, ap, subst, arith, rules}
+use Rattle.std.proofs.Common.{All, ◌≡◌, ◌∙◌, ◌<◌, ◌^◌, List, length, ap, subst, arith, rules}
+use Rattle.std.specs.Prelude.{IfSome}
 use Rattle.mscp_packet.specs.declared.end.End.{End}
 use Rattle.mscp_packet.specs.Ends.{HasEndRange}
 use Rattle.mscp_queue.specs.declared.drive.Drive.{Drive}
-use Rattle.mscp_saved.specs.Ranges.{HasDriveRange, HasRange}
+use Rattle.mscp_saved.specs.Ranges.{HasDriveRange, HasLimitRange, HasRange}
 use Rattle.mscp_saved.specs.Restored.{restored}
 use Rattle.mscp_saved.specs.Saved.{saved_bytes}
 use Rattle.mscp_saved.proofs.Faithful.{back_of}
@@ -43,12 +44,13 @@ pub returns-clause-back : goal.returns-clause-back
 returns-clause-back g c =
     let h = c.args.controller.now in
     let range : HasRange h = record {
-      limits = c.put_head.ensures.limits;
+      limits = subst HasLimitRange c.config.ensures.value c.put_head.ensures.limits;
       drives = subst (All HasDriveRange) c.drives-drives.ensures.value c.put_drives.ensures.range;
       waiting = c.put_all_waiting.ensures.range;
       first = subst (All HasEndRange) c.ends.ensures c.put_ends.ensures.range;
       second = subst (All HasEndRange) c.ends-2.ensures c.put_ends-2.ensures.range;
-      begun = c.put_head.ensures.begun;
+      begun = subst (λ begun. IfSome begun (λ name. name.reference < 2 ^ 32)) c.begun.ensures
+          c.put_head.ensures.begun;
     } in
     let bytes : c.put_ends-2.new.out.items ≡ saved_bytes c.args.picker h = search rules in
     ap (restored c.args.picker h.picker) bytes ∙ back_of c.args.picker h c.drives-drives.ensures.sound range

@@ -3,7 +3,7 @@ use Rattle.std.specs.Prelude.{is_ok, Ok, Err}
 use Rattle.std.proofs.lemmas.Bool.{false≢true}
 use Rattle.mscp_events.specs.declared.event.Event.TheVariants as events
 use Rattle.mscp_events.specs.Both.{Both, of, put}
-use Rattle.mscp_control.specs.Holdings.{after_message, answer_to_message}
+use Rattle.mscp_controller.specs.Holdings.{after_message, answer_to_message}
 use Rattle.mscp_host.specs.Accounts.{Account, submits}
 use Rattle.mscp_sim.specs.Matches.{Match}
 use Rattle.mscp_sim.proofs.TwoEnds.Matched.{message_match}

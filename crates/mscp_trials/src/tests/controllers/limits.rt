@@ -2,7 +2,7 @@
 
 use crate::tests::checks::same;
 use crate::tests::values::unit;
-use mscp_control::{Config, ConfigFault};
+use mscp_controller::{Config, ConfigFault};
 use mscp_drive::Units;
 use std::process::Abort;
 

@@ -4,7 +4,7 @@ use super::Newest;
 use crate::tests::calls::{bring_online, queues};
 use crate::tests::checks::{same, same_of};
 use crate::tests::values::{FIRST, command, limits, read, unit};
-use mscp_control::{Block, Controller, Oldest, Picker, Report, Sweep};
+use mscp_controller::{Block, Controller, Oldest, Picker, Report, Sweep};
 use mscp_packet::{Command, Order};
 use std::process::Abort;
 

@@ -3,7 +3,7 @@
 use crate::tests::moments::Moments;
 use crate::tests::values::{FIRST, config, ended, served};
 use arrayvec::ArrayVec;
-use mscp_control::{Entry, Event, SendFault};
+use mscp_controller::{Entry, Event, SendFault};
 use mscp_packet::EndBody;
 use mscp_queue::{Block, FaultStatus, Oldest, Report};
 use std::process::Abort;

@@ -8,7 +8,7 @@ use crate::tests::calls::sent;
 use crate::tests::checks::holds;
 use crate::tests::values::{FIRST, SECOND, command, limits, unit};
 use arrayvec::ArrayVec;
-use mscp_control::{Block, Connection, Controller, Sweep};
+use mscp_controller::{Block, Connection, Controller, Sweep};
 use mscp_packet::{MoveKind, Order};
 use mscp_saved::{ROOM, RestoreFault, restore, save};
 use std::process::Abort;

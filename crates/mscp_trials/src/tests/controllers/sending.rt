@@ -5,7 +5,7 @@ use crate::tests::calls::{
 };
 use crate::tests::checks::same;
 use crate::tests::values::{FIRST, command, config, read, read_ended, served};
-use mscp_control::{Block, Controller, SendFault};
+use mscp_controller::{Block, Controller, SendFault};
 use mscp_packet::{Command, Order};
 use mscp_queue::{FaultStatus, Oldest};
 use std::process::Abort;

@@ -4,9 +4,8 @@ use crate::tests::checks::same;
 use crate::tests::moments::Moments;
 use crate::tests::values::{FIRST, ended, read_ended};
 use linked_list_allocator::LocalHeap;
-use mscp_control::{
-    Block, Config, Connection, Entry, Event, OutOfMemory, Picker, Report, View, worst, worst_in,
-};
+use mscp_control::{worst, worst_in};
+use mscp_controller::{Block, Config, Connection, Entry, Event, OutOfMemory, Picker, Report, View};
 use mscp_drive::{Unit, Units};
 use mscp_packet::{End, EndBody};
 use std::mem::size_of;

@@ -65,6 +65,7 @@ fn other_bytes_are_refused(rt: HostRuntime) {
     has_fault(&rt, 4, 2, RestoreFault::Version);
     has_fault(&rt, 12, 1, RestoreFault::Credits);
     has_fault(&rt, 12, 65, RestoreFault::Credits);
+    has_fault(&rt, 38, 1, RestoreFault::Doubled);
     has_fault(&rt, 17, 0, RestoreFault::Form);
     has_fault(&rt, 17, 3, RestoreFault::Form);
     has_fault(&rt, 33, 0, RestoreFault::Form);

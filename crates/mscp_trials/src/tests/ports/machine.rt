@@ -2,7 +2,7 @@
 
 use crate::tests::checks::{holds, same, same_of};
 use arrayvec::ArrayVec;
-use mscp_control::{Config, Controller, Sweep};
+use mscp_controller::{Config, Controller, Sweep};
 use mscp_drive::{Unit, Units};
 use mscp_packet::MoveKind;
 use mscp_port::{Action, Hardware, Outcome, Port};

@@ -3,7 +3,7 @@
 use super::machine::{Machine, SLOTS};
 use crate::tests::checks::{holds, same};
 use arrayvec::ArrayVec;
-use mscp_control::Sweep;
+use mscp_controller::Sweep;
 use mscp_port::{Action, Outcome, Port, ROOM, RestoreFault};
 use mscp_saved::RestoreFault as ControllerFault;
 use std::process::Abort;

@@ -2,8 +2,8 @@ use Rattle.std.proofs.Common.{◌∙◌, ap}
 use Rattle.mscpjudge.specs.Heard.{heard_outcome}
 use Rattle.mscpjudge.proofs.hearing.hear.Goals as goal
 
-pub returns : goal.returns
-returns g c =
+pub returns-clause-told : goal.returns-clause-told
+returns-clause-told g c =
     let k = rw c.deref.ensures.value at (c.in_ok-hearing.ensures) in
     let s = k.2 in (
       c.in_ok-log.log.items,

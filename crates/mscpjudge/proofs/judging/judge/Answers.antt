@@ -1,7 +1,7 @@
 use Rattle.mscpjudge.proofs.judging.judge.Goals as goal
 
-pub returns : goal.returns
-returns g c = (
+pub returns-clause-said : goal.returns-clause-said
+returns-clause-said g c = (
   c.in_ok-log.log.items,
   c.in_ok-log.ensures.bytes,
   (

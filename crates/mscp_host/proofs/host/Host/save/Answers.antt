@@ -1,4 +1,5 @@
-use Rattle.std.proofs.Common.{◌≡◌, ◌≤◌, length, ap, ◌∙◌, rules}
+use Rattle.std.proofs.Common.{◌≡◌, ◌≤◌, true, length, ap, ◌∙◌, rules}
+use Rattle.mscp_host.specs.Apart.{are_apart}
 use Rattle.mscp_host.specs.Restored.{restored}
 use Rattle.mscp_host.specs.Saved.{HasRange, saved_bytes}
 use Rattle.mscp_host.proofs.Back.{restored_back}
@@ -11,5 +12,6 @@ returns-clause-back c =
     let some : 2 ≤ a.credits = search rules in
     let few : a.credits ≤ 64 = search rules in
     let covered : length a.outstanding ≤ a.credits = search rules in
+    let apart : are_apart a.outstanding ≡ true = search rules in
     let range : HasRange a = search rules in
-    ap restored bytes ∙ restored_back a some few covered range
+    ap restored bytes ∙ restored_back a some few covered apart range

@@ -2,8 +2,11 @@ use Rattle.std.proofs.Common.{◌≡◌, [], sym, ◌∙◌, ap, arith}
 use Rattle.std.proofs.lemmas.Grind.{common_steps}
 use Rattle.std.specs.Prelude.{replicate}
 use Rattle.mscp_events.specs.declared.event.Event.TheVariants as events
+use Rattle.mscp_reader.specs.Lexical.{words}
+use Rattle.mscp_judge.specs.Naming.{name_in}
 use Rattle.mscp_judge.proofs.Breaking.{broken_unasked}
-use Rattle.mscp_judge.proofs.Coming.{ready_not, stands_open_held}
+use Rattle.mscp_judge.proofs.Coming.{ready_not}
+use Rattle.mscp_judge.proofs.Righting.{stands_open_held}
 use Rattle.mscp_judge.proofs.judge.Judge.hear.Goals as goal
 
 pub tell_due-requires-clause-due : goal.tell_due-requires-clause-due
@@ -16,7 +19,8 @@ returns-then-self-eq0-clause-tells g c =
     λ d log s. (
       ready_not d log c.args.line.now c.args.self.now s
           (record { told = sym c.due.ensures ∙ none; answered = c.if-self-eq0.true }),
-      stands_open_held d log c.args.self.now s,
+      stands_open_held d log (name_in (words c.args.line.now)) c.args.self.now s
+          (λ e some. absurd (some (ap (λ n. replicate n (events.Step c.args.self.now.block)) c.if-self-eq0.true))),
     )
 
 pub returns-then-self-eq0-clause-breaks : goal.returns-then-self-eq0-clause-breaks
@@ -24,3 +28,7 @@ returns-then-self-eq0-clause-breaks g c =
     let none : c.due.result.now ≡ [] = grind (arith, common_steps) in
     λ wanted d log s. broken_unasked d log c.args.line.now c.args.self.now _ s (sym c.due.ensures ∙ none)
     (ap (λ n. replicate n (events.Step c.args.self.now.block)) c.if-self-eq0.true) c.requires.answer
+
+pub returns-then-not-is_empty-clause-tells : goal.returns-then-not-is_empty-clause-tells
+returns-then-not-is_empty-clause-tells g c = λ d log s.
+    c.tell_due.ensures.tells d log (name_in (words c.args.line.now)) s

@@ -1,6 +1,4 @@
-use Rattle.std.proofs.Common.{ap, refl, ◌∙◌}
-use Rattle.mscp_judge.specs.declared.naming.Named.{Named}
-use Rattle.mscp_judge.specs.Standing.{with_picker}
+use Rattle.std.proofs.Common.{refl}
 use Rattle.mscp_judge.proofs.Coming.{idle_came}
 use Rattle.mscp_judge.proofs.judge.Judge.idle_step.Goals as goal
 
@@ -8,5 +6,5 @@ pub returns-clause-came : goal.returns-clause-came
 returns-clause-came g c =
     let old = c.args.self.now in
     idle_came c.idled.result old _ c.forget_lines.new.self c.requires.nothing c.requires.begun
-    (c.replace_picker-before.ensures.after ∙ ap (λ (n : Named). with_picker old.controller n) c.nobody.ensures)
+    c.replace_picker-before.ensures.after
     c.forget_lines.ensures c.idled.ensures refl c.rise.ensures.figure c.rise.ensures.passed

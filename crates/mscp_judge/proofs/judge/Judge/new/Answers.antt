@@ -1,5 +1,4 @@
-use Rattle.std.proofs.Common.{refl, ap, ◌∙◌}
-use Rattle.mscp_control.specs.Holdings.{fresh}
+use Rattle.std.proofs.Common.{refl, ap}
 use Rattle.mscp_script.specs.Text.{Reported}
 use Rattle.mscp_judge.proofs.Coming.{stands_new}
 use Rattle.mscp_judge.proofs.judge.Judge.new.Goals as goal
@@ -7,6 +6,6 @@ use Rattle.mscp_judge.proofs.judge.Judge.new.Goals as goal
 pub returns-clause-stands : goal.returns-clause-stands
 returns-clause-stands g c =
     stands_new c.args.config _ c.new.ensures.valid
-    (c.new.ensures.fresh ∙ ap (λ p. fresh c.args.config p) c.nobody.ensures) (ap (λ
+    c.new.ensures.fresh (ap (λ
     (r : Reported). r.lines) c.new-2.ensures)
     c.new-2.ensures refl c.none.ensures.figure c.none.ensures.passed

@@ -1,15 +1,15 @@
 use Rattle.std.proofs.Common.{refl, ap, ◌∙◌}
-use Rattle.mscp_control.specs.Holdings.{Holdings, fresh}
+use Rattle.mscp_controller.specs.Holdings.{Holdings, fresh}
 use Rattle.mscp_script.specs.Text.{Reported}
-use Rattle.mscp_judge.specs.declared.naming.Named.{Named}
+use Rattle.mscp_judge.specs.declared.naming.Wanted.{Wanted}
 use Rattle.mscp_judge.proofs.Coming.{stands_new}
 use Rattle.mscp_judge.proofs.judge.Judge.restart.Goals as goal
 
 pub returns-clause-stands : goal.returns-clause-stands
 returns-clause-stands g c = λ d v e.
     let after = c.replace_picker.ensures.after in
-    let settings = ap (λ (h : Holdings Named). h.settings) after ∙ e in
-    let picker = ap (λ (h : Holdings Named). h.picker) after ∙ c.nobody.ensures in
+    let settings = ap (λ (h : Holdings Wanted). h.settings) after ∙ e in
+    let picker = ap (λ (h : Holdings Wanted). h.picker) after in
     stands_new d _ v (c.reset.ensures.fresh ∙ (λ i. fresh (settings i) (picker i)))
     (ap (λ (r : Reported). r.lines) c.restart.ensures) c.restart.ensures refl c.none-self.ensures.figure
     c.none-self.ensures.passed

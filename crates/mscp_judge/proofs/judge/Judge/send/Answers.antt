@@ -1,5 +1,5 @@
 use Rattle.std.proofs.Common.{refl, sym, subst, Ok}
-use Rattle.mscp_control.specs.declared.entry.Entry.TheVariants as entries
+use Rattle.mscp_controller.specs.declared.entry.Entry.TheVariants as entries
 use Rattle.mscp_events.specs.declared.event.Event.TheVariants as events
 use Rattle.mscp_judge.specs.Logs.{AreAnswers}
 use Rattle.mscp_judge.proofs.Answering.{sent_answers}
@@ -8,7 +8,7 @@ use Rattle.mscp_judge.proofs.Telling.{reported_lines}
 use Rattle.mscp_judge.proofs.judge.Judge.send.Goals as goal
 
 pub returns-clause-came : goal.returns-clause-came
-returns-clause-came g c = came_on (Ok tt) c.args.self.now _ c.args.self.now.controller.picker
+returns-clause-came g c = came_on (Ok tt) c.args.self.now _ c.args.self.now.controller.picker.named
     (events.Send c.args.connection (record { items = c.args.message.now }))
     (entries.Sent c.args.connection c.send-sent.result) c.forget_lines.new.self
     (refl, c.send-sent.ensures.answer, c.send-sent.ensures.after) c.forget_lines.ensures c.in_ok-sent.ensures refl

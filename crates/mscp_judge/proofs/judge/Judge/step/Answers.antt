@@ -1,9 +1,9 @@
 use Rattle.std.proofs.Common.{refl, subst}
-use Rattle.mscp_control.specs.declared.entry.Entry.TheVariants as entries
+use Rattle.mscp_controller.specs.declared.entry.Entry.TheVariants as entries
 use Rattle.mscp_events.specs.declared.event.Event.TheVariants as events
 use Rattle.mscp_judge.proofs.Coming.{came_on, stepped_short}
-use Rattle.mscp_control.specs.Holdings.{Holdings, Steps}
-use Rattle.mscp_judge.specs.declared.naming.Named.{Named}
+use Rattle.mscp_controller.specs.Holdings.{Holdings, Steps}
+use Rattle.mscp_judge.specs.declared.naming.Wanted.{Wanted}
 use Rattle.mscp_judge.specs.Naming.{IsNamed}
 use Rattle.mscp_judge.proofs.Telling.{stepped_answers}
 use Rattle.mscp_judge.proofs.judge.Judge.step.Goals as goal
@@ -11,10 +11,10 @@ use Rattle.mscp_judge.proofs.judge.Judge.step.Goals as goal
 pub returns-clause-came : goal.returns-clause-came
 returns-clause-came g c =
     let block = c.args.self.now.block in
-    let steps = subst (λ (h : Holdings Named). Steps
-    (IsNamed h.picker) block h c.step-report.result c.step-report.new.self)
+    let steps = subst (λ (h : Holdings Wanted). Steps
+    (IsNamed h.picker.named) block h c.step-report.result c.step-report.new.self)
     c.replace_picker.ensures.after c.step-report.ensures.step in
-    came_on c.stepped.result c.args.self.now _ c.args.name (events.Step block) (entries.Stepped c.step-report.result)
+    came_on c.stepped.result c.args.self.now _ c.args.wanted (events.Step block) (entries.Stepped c.step-report.result)
     c.forget_lines.new.self steps c.forget_lines.ensures c.stepped.ensures.value refl
     0 _ refl c.most_passed.ensures.oldest c.rise.ensures.figure
     c.rise.ensures.passed c.most_passed.ensures.most

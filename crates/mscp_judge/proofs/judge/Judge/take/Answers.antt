@@ -1,6 +1,6 @@
 use Rattle.std.proofs.Common.{refl, sym, subst, Ok}
 use Rattle.std.specs.Prelude.{slice_get}
-use Rattle.mscp_control.specs.declared.entry.Entry.TheVariants as entries
+use Rattle.mscp_controller.specs.declared.entry.Entry.TheVariants as entries
 use Rattle.mscp_events.specs.declared.event.Event.TheVariants as events
 use Rattle.mscp_events.specs.Both.{of}
 use Rattle.mscp_judge.specs.Logs.{AreAnswers}
@@ -11,7 +11,7 @@ use Rattle.mscp_judge.proofs.Telling.{reported_lines}
 use Rattle.mscp_judge.proofs.judge.Judge.take.Goals as goal
 
 pub returns-clause-came : goal.returns-clause-came
-returns-clause-came g c = came_on (Ok tt) c.args.self.now _ c.args.self.now.controller.picker
+returns-clause-came g c = came_on (Ok tt) c.args.self.now _ c.args.self.now.controller.picker.named
     (events.Take c.args.connection) (entries.Taken c.args.connection c.take-end.result) c.forget_lines.new.self
     (refl, c.take-end.ensures.answer, c.take-end.ensures.after) c.forget_lines.ensures c.in_ok-taken.ensures refl
     0 _ refl c.most_passed.ensures.oldest c.rise.ensures.figure

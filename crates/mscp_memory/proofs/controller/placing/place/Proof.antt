@@ -39,7 +39,7 @@ use Rattle.mscp_memory.specs.declared.controller.handle.Handle.{Handle}
 use Rattle.mscp_memory.specs.contracts.controller.handle.Handle.{the_type, the_row as R}
 use Rattle.std.specs.Prelude.{◌^◌, ◌<◌, nat_eq}
 use Rattle.mscp_memory.proofs.controller.handle.Handle.TheLaws.{lowers}
-use Rattle.mscp_control.proofs.controller.Controller.TheLaws as controllers
+use Rattle.mscp_controller.proofs.controller.Controller.TheLaws as controllers
 use Rattle.mscp_memory.specs.contracts.policy.Policy as policy
 use Rattle.mscp_memory.proofs.policy.Policy.TheLaws as policies
 use Rattle.mscp_memory.specs.contracts.controller.placing.place as f

@@ -1,6 +1,6 @@
 use Rattle.std.proofs.Common.{◌≡◌, ◌⊎◌, inl, ap, sym, subst}
 use Rattle.mscp_events.specs.declared.connection.Connection.TheVariants.{First}
-use Rattle.mscp_control.specs.Holdings.{after_take}
+use Rattle.mscp_controller.specs.Holdings.{after_take}
 use Rattle.mscp_port.specs.declared.port.Port.{Port}
 use Rattle.mscp_port.proofs.Begun.{begun_behind}
 use Rattle.mscp_port.proofs.port.Port.choose_work.Goals as goal

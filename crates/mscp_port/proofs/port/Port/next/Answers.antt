@@ -1,9 +1,9 @@
-use Rattle.std.proofs.Common.{rules, sym, subst}
+use Rattle.std.proofs.Common.{rules, ◌≡◌, ap, sym, subst}
 use Rattle.mscp_port.specs.declared.port.Port.{Port}
 use Rattle.mscp_port.specs.Outgoings.{Says}
 use Rattle.mscp_port.specs.Moved.{BeginsBlock}
 use Rattle.mscp_port.specs.Ports.{IsDue, IsOfBlock}
-use Rattle.mscp_port.proofs.Known.{said_on, says_the_same}
+use Rattle.mscp_port.proofs.Known.{keeps_the_same, said_on}
 use Rattle.mscp_port.proofs.port.Port.next.Goals as goal
 use Rattle.mscp_port.proofs.port.Port.next.Goals.{in-Free, in_default}
 
@@ -30,9 +30,19 @@ returns-clause-wants g c = record {
   says = elim c.match-self.branch [
     | in-Free w ↦ subst (λ (p : Port g.row.K.Denot). Says c.args.self.now p) (sym w.self-is)
         (said_on c.args.self.now w.choose-self.new.self w.choose-self.result w.choose-self.ensures.says)
-    | in_default w ↦ says_the_same c.args.self.now c.match-self.self w.self-is
+    | in_default w ↦ record {
+      looks = λ is. absurd (w.in_default.not-Free is.free);
+      keeps = λ no. keeps_the_same c.args.self.now c.match-self.self w.self-is;
+    }
+  ];
+  begun = elim c.match-self.branch [
+    | in-Free w ↦ subst
+        (λ (p : Port g.row.K.Denot). (IsOfBlock p.task → ⊥) → p.controller.begun ≡ c.args.self.now.controller.begun)
+        (sym w.self-is) w.choose-self.ensures.begun
+    | in_default w ↦ λ no. ap (λ p. p.controller.begun) w.self-is
   ];
   settings = search rules;
+  moves = c.action.ensures.moves;
   goes_on = search rules;
 }
 

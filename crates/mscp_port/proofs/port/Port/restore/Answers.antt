@@ -1,50 +1,40 @@
-use Rattle.std.proofs.Common.{◌≡◌, true, false, ap, sym, ◌∙◌}
-use Rattle.std.specs.Prelude.{Ok, Err}
-use Rattle.std.specs.Str.{bytes_eq}
-use Rattle.std.proofs.lemmas.Slice.Eq.{bytes_eq-Decides}
-use Rattle.mscp_saved.specs.Restored.{restored as controller_restored}
-use Rattle.mscp_port.specs.Restored.{whose}
-use Rattle.mscp_port.specs.Saved.{saved_bytes}
-use Rattle.mscp_port.proofs.Comes.{comes, is_whose}
+use Rattle.std.proofs.Common.{◌≡◌, ◌∙◌, ap, sym, subst, arith}
+use Rattle.std.specs.Prelude.{IsOk, Ok}
+use Rattle.std.proofs.lemmas.Bool.{false≢true}
+use Rattle.mscp_events.specs.declared.connection.Connection.TheVariants.{First}
+use Rattle.mscp_controller.specs.Holdings.{Holdings, balance_of, fresh}
+use Rattle.mscp_controller.specs.Restored.{IsSound}
+use Rattle.mscp_port.specs.Restored.{held_in, unless}
+use Rattle.mscp_port.proofs.Comes.{bytes_told}
 use Rattle.mscp_port.proofs.port.Port.restore.Goals as goal
 
-pub returns-in-Err-clause-value : goal.returns-in-Err-clause-value
-returns-in-Err-clause-value g c =
-    let none = sym c.frame_fault.ensures.value ∙ c.in_default.is in
-    let said = sym c.in-Err.is ∙ c.restore.ensures.value
-    ∙ ap (controller_restored c.args.number c.args.picker) c.controller_bytes.ensures in
-    comes c.args.number c.args.picker c.args.bytes.now (Err c.in-Err.fault) none said
+pub unreachable-requires : goal.unreachable-requires
+unreachable-requires g c =
+    let some = c.new-controller.ensures.valid.some_credits in
+    let all : balance_of First (fresh c.saved_settings.result c.args.picker) ≡ c.saved_settings.result.credits =
+    omega arith in
+    let free = ap (λ h. balance_of First h) c.new-controller.ensures.fresh ∙ all in
+    false≢true (subst (λ r. IsOk r) c.in_default-new.is
+    (c.new.ensures.taken.1 (omega arith, omega (arith, some, free))))
 
-pub returns-then-eq-clause-value : goal.returns-then-eq-clause-value
-returns-then-eq-clause-value g c =
+pub returns-clause-value : goal.returns-clause-value
+returns-clause-value g c =
+    let K = g.row.K.Denot in
     let b = c.args.bytes.now in
-    let none = sym c.frame_fault.ensures.value ∙ c.in_default.is in
-    let said = sym c.in-Ok.is ∙ c.restore.ensures.value
-    ∙ ap (controller_restored c.args.number c.args.picker) c.controller_bytes.ensures in
-    let saved = c.as_slice.ensures.value ∙ c.save.ensures.bytes in
-    let same : bytes_eq (saved_bytes c.args.number c.port_in-port.result) b ≡ true =
-    ap (λ l. bytes_eq l b) (sym saved) ∙ sym c.if-eq.ensures in
-    is_whose c.args.number b c.port_in-port.result true same
-    ∙ (ap (whose c.args.number b) c.port_in-port.ensures
-    ∙ comes c.args.number c.args.picker b (Ok c.in-Ok.controller) none said)
+    let picker = (λ i. (c.in-Ok.ensures.made.over i).picker)
+    ∙ ap (λ (h : Holdings K). h.picker) c.new-controller.ensures.fresh in
+    let held : c.resume.new.self ≡ held_in c.args.picker b = c.resume.ensures ∙ λ i. held_in (picker i) b in
+    ap Ok held ∙ sym (c.restore_fault.ensures.value ∙ ap (unless (held_in c.args.picker b)) c.in_default.is)
 
-pub returns-then-eq-clause-same : goal.returns-then-eq-clause-same
-returns-then-eq-clause-same g c =
-    let b = c.args.bytes.now in
-    let saved = c.as_slice.ensures.value ∙ c.save.ensures.bytes in
-    let same : bytes_eq (saved_bytes c.args.number c.port_in-port.result) b ≡ true =
-    ap (λ l. bytes_eq l b) (sym saved) ∙ sym c.if-eq.ensures in
-    (bytes_eq-Decides (saved_bytes c.args.number c.port_in-port.result) b).0 same
+pub returns-clause-same : goal.returns-clause-same
+returns-clause-same g c =
+    bytes_told c.args.number c.args.picker c.args.bytes.now c.resume.new.self (sym (returns-clause-value g c))
 
-pub returns-else-eq-clause-value : goal.returns-else-eq-clause-value
-returns-else-eq-clause-value g c =
+pub returns-clause-sound : goal.returns-clause-sound
+returns-clause-sound g c =
+    let K = g.row.K.Denot in
     let b = c.args.bytes.now in
-    let none = sym c.frame_fault.ensures.value ∙ c.in_default.is in
-    let said = sym c.in-Ok.is ∙ c.restore.ensures.value
-    ∙ ap (controller_restored c.args.number c.args.picker) c.controller_bytes.ensures in
-    let saved = c.as_slice.ensures.value ∙ c.save.ensures.bytes in
-    let other : bytes_eq (saved_bytes c.args.number c.port_in-port.result) b ≡ false =
-    ap (λ l. bytes_eq l b) (sym saved) ∙ sym c.if-eq.ensures in
-    is_whose c.args.number b c.port_in-port.result false other
-    ∙ (ap (whose c.args.number b) c.port_in-port.ensures
-    ∙ comes c.args.number c.args.picker b (Ok c.in-Ok.controller) none said)
+    let picker = (λ i. (c.in-Ok.ensures.made.over i).picker)
+    ∙ ap (λ (h : Holdings K). h.picker) c.new-controller.ensures.fresh in
+    let held : c.resume.new.self ≡ held_in c.args.picker b = c.resume.ensures ∙ λ i. held_in (picker i) b in
+    subst IsSound (λ i. (sym held i).controller) c.in_default.ensures.saved.controller.sound

@@ -1,0 +1,42 @@
+-- One more answer of a controller.
+use Rattle.std.proofs.Common.{◌≡◌, ℕ, ◌+◌, ◌<◌, List, [], ◌∷◌, ◌++◌, take, get_or, length, refl, ap, sym, ◌∙◌, subst, arith}
+use Rattle.std.proofs.lemmas.List.{length_push, take_more}
+use Rattle.mscp_queue.specs.declared.view.Choice.{Choice}
+use Rattle.mscp_events.specs.declared.event.Event.{Event}
+use Rattle.mscp_controller.specs.declared.entry.Entry.{Entry}
+use Rattle.mscp_controller.specs.Holdings.{Answered, Answers, Holdings}
+use Rattle.mscp_controller.proofs.Bridge.Owning.{owner_kept}
+
+-- one more answer, behind the others
+answered_push : {K : Type 0} (picks : List Choice → ℕ → Type 0) (h m h' : Holdings K) (es : List Event)
+    (ns : List Entry) (e : Event) (n : Entry) → Answered picks h es ns m → Answers picks m e n h'
+    → Answered picks h (es ++ e ∷ []) (ns ++ n ∷ []) h'
+answered_push {K} picks h m h' [] [] e n r a = (h', subst (λ (x : Holdings K). Answers picks x e n h') r a, refl)
+answered_push picks h m h' (e' ∷ es) (n' ∷ ns) e n r a = (r.0, r.1, answered_push picks r.0 m h' es ns e n r.2 a)
+answered_push picks h m h' [] (n' ∷ ns) e n r a = absurd r
+answered_push picks h m h' (e' ∷ es) [] e n r a = absurd r
+
+-- what a controller has answered so far
+pub record Goes {K : Type 0} (picks : List Choice → ℕ → Type 0) (start now : Holdings K) (events : List Event) (i : ℕ)
+    (entries : List Entry) : Type 0 where
+  pub answered : Answered picks start (take i events) entries now
+  pub picker : now.picker ≡ start.picker
+  pub many : length entries ≡ i
+
+pub goes_more : {K : Type 0} (picks : K → List Choice → ℕ → Type 0) (start now next : Holdings K) (all : List Event)
+    (i : ℕ) (so_far new : List Entry) (event : Event) (entry : Entry) → i < length all
+    → event ≡ get_or all i event → Goes (picks start.picker) start now all i so_far
+    → Answers (picks now.picker) now event entry next → new ≡ so_far ++ entry ∷ []
+    → Goes (picks start.picker) start next all (i + 1) new
+goes_more {K} picks start now next all i so_far new event entry l e g a n =
+    let one : Answers (picks start.picker) now event entry next =
+    subst (λ (p : K). Answers (picks p) now event entry next) g.picker a in
+    let more : take (i + 1) all ≡ take i all ++ event ∷ [] =
+    take_more all i event l ∙ ap (λ x. take i all ++ x ∷ []) (sym e) in
+    record {
+      answered = subst (λ es. Answered (picks start.picker) start es new next) (sym more)
+          (subst (λ ns. Answered (picks start.picker) start (take i all ++ event ∷ []) ns next) (sym n)
+          (answered_push (picks start.picker) start now next (take i all) so_far event entry g.answered one));
+      picker = (owner_kept (picks start.picker) now next event entry one).1 ∙ g.picker;
+      many = let m = g.many in omega (arith, ap length n, length_push so_far entry);
+    }

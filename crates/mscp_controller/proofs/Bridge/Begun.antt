@@ -1,0 +1,285 @@
+-- What is begun when one more call comes.
+use Rattle.std.proofs.Common.{◌≡◌, ⊎_elim, ℕ, ◌+◌, ◌<◌, ◌≤◌, Bool, true, false, not, ◌||◌, List, [], ◌∷◌, ◌++◌, take, drop, length, refl, ap, sym, ◌∙◌, subst, append_assoc, append-nil, arith}
+use Rattle.std.specs.Prelude.{if◌then◌else◌, is_some, nat_eq, unwrap_or, Option, Some, None}
+use Rattle.std.specs.List.{list_any}
+use Rattle.std.proofs.lemmas.Bool.{and_parts, cases_lt, or_parts, true≢false}
+use Rattle.std.proofs.lemmas.List.{drop-append-le, drop_all, get_or_append_left, get_or_at, length-append, length_push, take-append-drop, take-append-le, take_at}
+use Rattle.std.proofs.lemmas.List.Folds.{list_any-append}
+use Rattle.std.proofs.lemmas.Grind.{flat_map-append}
+use Rattle.mscp_queue.specs.declared.upcoming.Upcoming.{Upcoming}
+use Rattle.mscp_queue.specs.declared.view.Choice.{Choice}
+use Rattle.mscp_queue.specs.declared.name.Name.{Name}
+use Rattle.mscp_events.specs.Settings.{Settings}
+use Rattle.mscp_controller.specs.History.{Trace}
+use Rattle.mscp_controller.specs.Commands.{ends_in, is_waiting, name, waiting}
+use Rattle.mscp_controller.specs.Legal.{IsLegal, IsPick}
+use Rattle.mscp_controller.specs.Calls.{Call, HoldsToBegun, IsBegunSince, IsRightCall, NothingBegun, StartsChosen, call_at, foretold, history, moments_of, steps, upcoming_in, upcoming_name}
+use Rattle.mscp_controller.specs.Calls.{Begin}
+use Rattle.mscp_controller.proofs.Promise.Apart.{Apart}
+use Rattle.mscp_controller.proofs.Promise.Among.{one_waits}
+use Rattle.mscp_controller.proofs.Promise.Grows.{is_waiting_before}
+use Rattle.mscp_controller.specs.Holdings.{Holdings}
+use Rattle.mscp_controller.proofs.Bridge.Sending.{Agrees}
+use Rattle.mscp_controller.proofs.Promise.Waits.{cut, waits_below}
+
+-- ---- one more call
+
+pub history_more : (calls : List Call) (call : Call) → history (calls ++ call ∷ []) ≡ history calls ++ moments_of call
+history_more calls call = flat_map-append moments_of calls (call ∷ [])
+    ∙ ap (λ ms. history calls ++ ms) (append-nil (moments_of call))
+
+front_same : (calls : List Call) (call : Call) (j : ℕ) → j < length calls → take j (calls ++ call ∷ []) ≡ take j calls
+front_same calls call j l = take-append-le j calls (call ∷ []) (omega (arith, l))
+
+call_before : (calls : List Call) (call : Call) (j : ℕ) → j < length calls
+    → call_at (calls ++ call ∷ []) j ≡ call_at calls j
+call_before calls call j l = get_or_append_left calls (call ∷ []) (Begin None) j l
+
+call_last : (calls : List Call) (call : Call) → call_at (calls ++ call ∷ []) (length calls) ≡ call
+call_last calls call = get_or_at calls call [] (Begin None) (length calls) refl
+
+-- the history before a call is no longer than the whole
+shorter : (calls : List Call) (j : ℕ) → length (history (take j calls)) ≤ length (history calls)
+shorter calls j =
+    let cut : history calls ≡ history (take j calls) ++ history (drop j calls) =
+    ap history (sym (take-append-drop j calls)) ∙ flat_map-append moments_of (take j calls) (drop j calls) in
+    omega (arith, ap length cut, length-append (history (take j calls)) (history (drop j calls)))
+
+-- what waits waited before, if it had come
+waits_before : (t ms : Trace) (y : ℕ) → y < length t → is_waiting (t ++ ms) y ≡ true → is_waiting t y ≡ true
+waits_before t [] y l w = subst (λ u. is_waiting u y ≡ true) (append-nil t) w
+waits_before t (m ∷ ms) y l w =
+    let one = waits_before (t ++ m ∷ []) ms y (omega (arith, l, length_push t m))
+    (subst (λ u. is_waiting u y ≡ true) (sym (append_assoc t (m ∷ []) ms)) w) in
+    (and_parts (is_waiting t y) (not (ends_in (name t y) m.1)) (sym (is_waiting_before t m y l) ∙ one)).0
+
+-- what was begun before the last call, and that the last was no step
+pub begun_before : (calls : List Call) (call : Call) (up : Upcoming) (y j : ℕ) → j < length calls
+    → IsBegunSince (calls ++ call ∷ []) up y j → IsBegunSince calls up y j × (steps call ≡ false)
+begun_before calls call up y j l b =
+    let same = front_same calls call j l in
+    let waited = subst (λ cs. is_waiting (history cs) y ≡ true) same b.waited in
+    let behind : drop (j + 1) (calls ++ call ∷ []) ≡ drop (j + 1) calls ++ call ∷ [] =
+    drop-append-le (j + 1) calls (call ∷ []) (omega (arith, l)) in
+    let none = or_parts (list_any steps (drop (j + 1) calls)) (list_any steps (call ∷ []))
+    (sym (list_any-append steps (drop (j + 1) calls) (call ∷ []))
+    ∙ (ap (list_any steps) (sym behind) ∙ b.unstepped)) in
+    let below : y < length (history calls) = omega
+    (arith, waits_below (history (take j calls)) y waited, shorter calls j) in
+    let before : IsBegunSince calls up y j = record {
+      inside = l;
+      told = ap upcoming_in (sym (call_before calls call j l)) ∙ b.told;
+      own = b.own ∙ ap (λ cs. foretold (history cs) y) same;
+      waited = waited;
+      unstepped = none.0;
+      waits = waits_before (history calls) (moments_of call) y below
+          (subst (λ u. is_waiting u y ≡ true) (history_more calls call) b.waits);
+    } in
+    (before, (or_parts (steps call) false none.1).0)
+
+-- what the last call began
+pub record Last (calls : List Call) (call : Call) (up : Upcoming) (y : ℕ) : Type 0 where
+  pub told : upcoming_in call ≡ Some up
+  pub own : up ≡ foretold (history calls) y
+  pub waited : is_waiting (history calls) y ≡ true
+
+begun_last : (calls : List Call) (call : Call) (up : Upcoming) (y j : ℕ) → length calls ≡ j
+    → IsBegunSince (calls ++ call ∷ []) up y j → Last calls call up y
+begun_last calls call up y j e b =
+    let front : take j (calls ++ call ∷ []) ≡ calls =
+    ap (λ i. take i (calls ++ call ∷ [])) (sym e) ∙ take_at calls (call ∷ []) (length calls) refl in
+    record {
+      told = ap upcoming_in (sym (call_last calls call))
+          ∙ (ap (λ i. upcoming_in (call_at (calls ++ call ∷ []) i)) e ∙ b.told);
+      own = b.own ∙ ap (λ cs. foretold (history cs) y) front;
+      waited = subst (λ cs. is_waiting (history cs) y ≡ true) front b.waited;
+    }
+
+-- either is known of what is begun after one more call
+pub either : (X : Type 0) (calls : List Call) (call : Call) (up : Upcoming) (y j : ℕ)
+    → (IsBegunSince calls up y j → steps call ≡ false → X) → (Last calls call up y → X)
+    → IsBegunSince (calls ++ call ∷ []) up y j → X
+either X calls call up y j before last b =
+    ⊎_elim (λ l. let k = begun_before calls call up y j l b in before k.0 k.1)
+    (λ l. last (begun_last calls call up y j (let i = b.inside in
+    omega (arith, l, i, length-append calls (call ∷ []))) b)) (cases_lt j (length calls))
+
+-- what was begun is begun after a call that is no step, where it still waits
+pub begun_more : (calls : List Call) (call : Call) (up : Upcoming) (y j : ℕ) → IsBegunSince calls up y j
+    → steps call ≡ false → is_waiting (history (calls ++ call ∷ [])) y ≡ true → IsBegunSince (calls ++ call ∷ []) up y j
+begun_more calls call up y j b n w =
+    let l = b.inside in
+    let same = front_same calls call j l in
+    record {
+      inside = omega (arith, l, length-append calls (call ∷ []));
+      told = ap upcoming_in (call_before calls call j l) ∙ b.told;
+      own = b.own ∙ ap (λ cs. foretold (history cs) y) (sym same);
+      waited = subst (λ cs. is_waiting (history cs) y ≡ true) (sym same) b.waited;
+      unstepped = ap (list_any steps) (drop-append-le (j + 1) calls (call ∷ []) (omega (arith, l)))
+          ∙ (list_any-append steps (drop (j + 1) calls) (call ∷ []) ∙ (λ i. b.unstepped i || (n i || false)));
+      waits = w;
+    }
+
+-- ---- what is known of what is begun
+
+pub record Begun (c : Settings) (picks : List Choice → ℕ → Type 0) (calls : List Call) (n : Name) (up : Upcoming)
+    (y j : ℕ) : Type 0 where
+  pub is : IsBegunSince calls up y j
+  pub now : up ≡ foretold (history calls) y
+  pub own : upcoming_name up ≡ n
+  pub only : (up' : Upcoming) (y' j' : ℕ) → IsBegunSince calls up' y' j' → (y' ≡ y) × (up' ≡ up)
+  pub chosen : nat_eq up.done 0 ≡ true → IsPick c picks (history (take j calls)) n
+
+-- what is held to be begun is what is begun
+abbrev pub Holds : Settings → (List Choice → ℕ → Type 0) → List Call → Option Name → Type 0
+Holds c picks calls None = NothingBegun calls
+Holds c picks calls (Some n) = (up : Upcoming) × (y : ℕ) × (j : ℕ) × Begun c picks calls n up y j
+
+-- its name is that of the history
+pub name_begun : {c : Settings} {picks : List Choice → ℕ → Type 0} {calls : List Call} {n : Name} {up : Upcoming}
+    {y j : ℕ} → Begun c picks calls n up y j → name (history calls) y ≡ n
+name_begun b = ap upcoming_name (sym b.now) ∙ b.own
+
+untold : (call : Call) (up : Upcoming) → upcoming_in call ≡ None → upcoming_in call ≡ Some up → ⊥
+untold call up n e = true≢false (ap is_some (sym e ∙ n))
+
+-- a call that is no step, and tells nothing
+pub holds_on : (c : Settings) (picks : List Choice → ℕ → Type 0) (calls : List Call) (call : Call) (o o' : Option Name)
+    → steps call ≡ false → upcoming_in call ≡ None
+    → ((y : ℕ) → is_waiting (history calls) y ≡ true
+    → foretold (history (calls ++ call ∷ [])) y ≡ foretold (history calls) y)
+    → ((n : Name) (y : ℕ) → o ≡ Some n → is_waiting (history calls) y ≡ true → name (history calls) y ≡ n
+    → o' ≡ (if is_waiting (history (calls ++ call ∷ [])) y then Some n else None))
+    → (o ≡ None → o' ≡ None) → Holds c picks calls o → Holds c picks (calls ++ call ∷ []) o'
+holds_on c picks calls call None o' n q stay link none h =
+    let calls' = calls ++ call ∷ [] in
+    let nothing : NothingBegun calls' = λ up y j b.
+    either ⊥ calls call up y j (λ k s. h up y j k) (λ l. untold call up q l.told) b in
+    subst (Holds c picks calls') (sym (none refl)) nothing
+holds_on c picks calls call (Some n) o' s q stay link none h =
+    let calls' = calls ++ call ∷ [] in
+    let t' = history calls' in
+    let up = h.0 in
+    let y = h.1 in
+    let j = h.2 in
+    let b = h.3 in
+    let both : (w : Bool) → is_waiting t' y ≡ w → Holds c picks calls' (if w then Some n else None) =
+    λ w. elim w as (λ w. is_waiting t' y ≡ w → Holds c picks calls' (if w then Some n else None)) [
+      | true ↦ λ e.
+          let on : Begun c picks calls' n up y j = record {
+            is = begun_more calls call up y j b.is s e;
+            now = b.now ∙ sym (stay y b.is.waits);
+            own = b.own;
+            only = λ up' y' j' k. either ((y' ≡ y) × (up' ≡ up)) calls call up' y' j' (λ m z. b.only up' y' j' m)
+                (λ l. absurd (untold call up' q l.told)) k;
+            chosen = λ d. subst (λ cs. IsPick c picks (history cs) n) (sym (front_same calls call j b.is.inside))
+                (b.chosen d);
+          } in
+          (up, y, j, on)
+      | false ↦ λ e up' y' j' k.
+          either ⊥ calls call up' y' j' (λ m z. let one = b.only up' y' j' m in
+          true≢false (sym k.waits ∙ (ap (is_waiting t') one.0 ∙ e))) (λ l. untold call up' q l.told) k
+    ] in
+    subst (Holds c picks calls') (sym (link n y refl b.is.waits (name_begun b))) (both (is_waiting t' y) refl)
+
+-- a step
+pub nothing_stepped : (calls : List Call) (call : Call) → steps call ≡ true → upcoming_in call ≡ None
+    → NothingBegun (calls ++ call ∷ [])
+nothing_stepped calls call s q up y j b = either ⊥ calls call up y j (λ k z. true≢false (sym s ∙ z))
+    (λ l. untold call up q l.told) b
+
+-- a begin that tells of y
+some_is : (up up' : Upcoming) → Some up ≡ Some up' → up' ≡ up
+some_is up up' e = ap (λ o. unwrap_or o up) (sym e)
+
+-- two that are foretold alike and wait are one
+one_foretold : (t : Trace) (up up' : Upcoming) (y y' : ℕ) → Apart t (waiting t) → is_waiting t y ≡ true
+    → is_waiting t y' ≡ true → up ≡ foretold t y → up' ≡ foretold t y' → up' ≡ up → y' ≡ y
+one_foretold t up up' y y' apart w w' e e' same = one_waits t y' y apart w' w
+    (ap upcoming_name (sym e' ∙ (same ∙ e)))
+
+last_same : (calls : List Call) (up up' : Upcoming) (y y' : ℕ) → Apart (history calls) (waiting (history calls))
+    → is_waiting (history calls) y ≡ true → up ≡ foretold (history calls) y → Last calls (Begin (Some up)) up' y'
+    → (y' ≡ y) × (up' ≡ up)
+last_same calls up up' y y' apart w e l =
+    let same = some_is up up' l.told in (one_foretold (history calls) up up' y y' apart w l.waited e l.own same, same)
+
+-- a begin is no moment
+pub begin_same : (calls : List Call) (upcoming : Option Upcoming)
+    → history (calls ++ Begin upcoming ∷ []) ≡ history calls
+begin_same calls upcoming = history_more calls (Begin upcoming) ∙ append-nil (history calls)
+
+-- it begins y where nothing is begun
+pub holds_new : (c : Settings) (picks : List Choice → ℕ → Type 0) (calls : List Call) (n : Name) (up : Upcoming) (y : ℕ)
+    → Apart (history calls) (waiting (history calls)) → NothingBegun calls → is_waiting (history calls) y ≡ true
+    → up ≡ foretold (history calls) y → upcoming_name up ≡ n
+    → (nat_eq up.done 0 ≡ true → IsPick c picks (history calls) n)
+    → Holds c picks (calls ++ Begin (Some up) ∷ []) (Some n)
+holds_new c picks calls n up y apart none w e own p =
+    let call = Begin (Some up) in
+    let calls' = calls ++ call ∷ [] in
+    let j = length calls in
+    let same = begin_same calls (Some up) in
+    let front : take j calls' ≡ calls = take_at calls (call ∷ []) j refl in
+    let is : IsBegunSince calls' up y j = record {
+      inside = omega (arith, length-append calls (call ∷ []));
+      told = ap upcoming_in (call_last calls call);
+      own = e ∙ ap (λ cs. foretold (history cs) y) (sym front);
+      waited = subst (λ cs. is_waiting (history cs) y ≡ true) (sym front) w;
+      unstepped = ap (list_any steps) (drop_all (j + 1) calls' (omega (arith, length-append calls (call ∷ []))));
+      waits = subst (λ u. is_waiting u y ≡ true) (sym same) w;
+    } in
+    let all : Begun c picks calls' n up y j = record {
+      is = is;
+      now = e ∙ ap (λ u. foretold u y) (sym same);
+      own = own;
+      only = λ up' y' j' k. either ((y' ≡ y) × (up' ≡ up)) calls call up' y' j' (λ m z. absurd (none up' y' j' m))
+          (last_same calls up up' y y' apart w e) k;
+      chosen = λ d. subst (λ cs. IsPick c picks (history cs) n) (sym front) (p d);
+    } in
+    (up, y, j, all)
+
+-- and tells of it again where it is begun
+pub holds_again : (c : Settings) (picks : List Choice → ℕ → Type 0) (calls : List Call) (n : Name) (up : Upcoming)
+    (y j : ℕ) → Apart (history calls) (waiting (history calls)) → Begun c picks calls n up y j
+    → Holds c picks (calls ++ Begin (Some up) ∷ []) (Some n)
+holds_again c picks calls n up y j apart b =
+    let call = Begin (Some up) in
+    let same = begin_same calls (Some up) in
+    let all : Begun c picks (calls ++ call ∷ []) n up y j = record {
+      is = begun_more calls call up y j b.is refl (subst (λ u. is_waiting u y ≡ true) (sym same) b.is.waits);
+      now = b.now ∙ ap (λ u. foretold u y) (sym same);
+      own = b.own;
+      only = λ up' y' j' k. either ((y' ≡ y) × (up' ≡ up)) calls call up' y' j' (λ m z. b.only up' y' j' m)
+          (last_same calls up up' y y' apart b.is.waits b.now) k;
+      chosen = λ d. subst (λ cs. IsPick c picks (history cs) n) (sym (front_same calls call j b.is.inside))
+          (b.chosen d);
+    } in
+    (up, y, j, all)
+
+-- a begin that finds nothing
+pub nothing_told : (calls : List Call) → waiting (history calls) ≡ [] → NothingBegun calls
+    → NothingBegun (calls ++ Begin None ∷ [])
+nothing_told calls e none up y j b = either ⊥ calls (Begin None) up y j (λ k z. none up y j k)
+    (λ l. untold (Begin None) up refl l.told) b
+
+-- ---- a call
+
+-- what is known of a call, and of what is then held
+pub record Turned {K : Type 0} (c : Settings) (picks : List Choice → ℕ → Type 0) (calls : List Call) (call : Call)
+    (h : Holdings K) : Type 0 where
+  pub legal : IsLegal c (history (calls ++ call ∷ []))
+  pub agrees : Agrees c (history (calls ++ call ∷ [])) h
+  pub right : IsRightCall c calls call
+  pub begun : HoldsToBegun calls call
+  pub picked : StartsChosen (IsPick c picks) calls call
+  pub holds : Holds c picks (calls ++ call ∷ []) h.begun
+
+-- what is held to be begun, and that it is
+abbrev pub Held : {K : Type 0} → Settings → (List Choice → ℕ → Type 0) → List Call → Holdings K → Option Name → Type 0
+Held c picks calls h o = (h.begun ≡ o) × Holds c picks calls o
+
+-- something waits that is begun
+pub none_waits : (t : Trace) (y : ℕ) → waiting t ≡ [] → is_waiting t y ≡ true → ⊥
+none_waits t y e w = let k = cut t y (waits_below t y w) w in
+    absurd (omega (arith, ap length (sym e ∙ k.2.is), length-append k.0 (y ∷ k.1)))

@@ -1,0 +1,233 @@
+-- The drives of a controller are those of the run: each unit's state and head.
+use Rattle.std.proofs.Common.{◌≡◌, ◌≢◌, ℕ, Bool, true, false, cond, List, [], ◌∷◌, ◌++◌, map, refl, ap, sym, ◌∙◌}
+use Rattle.std.specs.Prelude.{find, nat_eq, unwrap_or, if◌then◌else◌, Option, Some, None, is_some, option_map}
+use Rattle.std.specs.List.{AllByRecursion}
+use Rattle.std.proofs.lemmas.Bool.{eqb-true, eqb-false, true≢false, false≢true}
+use Rattle.mscp_packet.specs.declared.command.Command.{Command}
+use Rattle.mscp_packet.specs.declared.command.Order.{Order}
+use Rattle.mscp_packet.specs.declared.command.Order.TheVariants as orders
+use Rattle.mscp_packet.specs.declared.end.End.{End}
+use Rattle.mscp_drive.specs.Shape.{Shape, cylinder_of, one_block}
+use Rattle.mscp_drive.specs.UnitList.{IsUnitList}
+use Rattle.mscp_events.specs.declared.block.Block.{Block}
+use Rattle.mscp_queue.specs.declared.drive.Drive.{Drive}
+use Rattle.mscp_events.specs.Settings.{Settings, unit_found, unit_shape}
+use Rattle.mscp_queue.specs.Drives.{drive_of, fresh_drive, has_number, replaced}
+use Rattle.mscp_controller.specs.Arrival.{is_immediate, is_queued, move_fault, order_fault, unit_fault}
+use Rattle.mscp_queue.specs.Outcomes.{head_after}
+use Rattle.mscp_controller.specs.History.{Trace, Moment, service_in}
+use Rattle.mscp_controller.specs.Commands.{command, order, unit, waiting, done}
+use Rattle.mscp_controller.specs.Units.{head, is_online}
+use Rattle.mscp_controller.specs.Ends.{outcome}
+use Rattle.mscp_controller.specs.Legal.{IsRight, block_of, end_of, seek_to}
+use Rattle.mscp_queue.specs.Serving.{drive_after, end_given, seek_from, state_left, touched}
+use Rattle.mscp_controller.specs.Controllers.{drive_now}
+use Rattle.mscp_queue.proofs.Lists.{every_from, every_weaker}
+use Rattle.mscp_controller.proofs.Promise.Served.{Step, some_same}
+use Rattle.mscp_controller.proofs.Promise.Queued.{each_queued, queued_open}
+use Rattle.mscp_queue.proofs.Turns.{units_found}
+use Rattle.mscp_queue.proofs.Placed.{map_map, map_on}
+use Rattle.mscp_controller.proofs.Bridge.Legals.{service_by}
+use Rattle.mscp_controller.proofs.Promise.States.{head_empty, head_kept, head_other, head_own, is_online_empty, is_online_ended, is_online_kept, is_online_other, is_online_unended}
+use Rattle.mscp_controller.proofs.Bridge.Held.{held_of}
+
+-- ---- units
+
+pub found_number : (units : List Shape) (u : ℕ) (s : Shape) → find (λ x. nat_eq x.number u) units ≡ Some s
+    → s.number ≡ u
+found_number [] u s e = absurd (false≢true (ap is_some e))
+found_number (x ∷ xs) u s e =
+    let both : (b : Bool) → nat_eq x.number u ≡ b → cond b (Some x) (find (λ z. nat_eq z.number u) xs) ≡ Some s
+    → s.number ≡ u =
+    λ b. elim b as (λ b. nat_eq x.number u ≡ b → cond b (Some x) (find (λ z. nat_eq z.number u) xs) ≡ Some s
+    → s.number ≡ u) [
+      | true ↦ λ q h. ap (λ (z : Shape). z.number) (sym (some_same x s h)) ∙ eqb-true x.number u q
+      | false ↦ λ q h. found_number xs u s h
+    ] in
+    both (nat_eq x.number u) refl e
+
+some_of : {X : Type 0} (o : Option X) → is_some o ≡ true → (x : X) × (o ≡ Some x)
+some_of None h = absurd (false≢true h)
+some_of (Some x) h = (x, refl)
+
+pub find_map : {X Y : Type 0} (p : Y → Bool) (f : X → Y) (xs : List X)
+    → find p (map f xs) ≡ option_map f (find (λ x. p (f x)) xs)
+find_map p f [] = refl
+find_map p f (x ∷ xs) =
+    let rest = find_map p f xs in
+    elim (p (f x)) as (λ b. cond b (Some (f x)) (find p (map f xs))
+    ≡ option_map f (cond b (Some x) (find (λ z. p (f z)) xs))) [ true ↦ refl | false ↦ rest ]
+
+-- ---- the units of commands
+
+-- the command's unit is configured
+abbrev pub IsConfigured : Settings → Command → Type 0
+IsConfigured c k = is_some (unit_found c k.unit) ≡ true
+
+move_found : (c : Settings) (count block : ℕ) (o : Option Shape) → move_fault c count block o ≡ None → is_some o ≡ true
+move_found c count block None h = absurd (true≢false (ap is_some h))
+move_found c count block (Some s) h = refl
+
+fault_found : (o : Option Shape) → unit_fault o ≡ None → is_some o ≡ true
+fault_found None h = absurd (true≢false (ap is_some h))
+fault_found (Some s) h = refl
+
+order_found : (c : Settings) (u : ℕ) (o : Order) → is_immediate o ≡ false → order_fault c u o ≡ None
+    → is_some (unit_found c u) ≡ true
+order_found c u (orders.Move kind count block) i h = move_found c count block (unit_found c u) h
+order_found c u orders.Available i h = fault_found (unit_found c u) h
+order_found c u orders.Online i h = fault_found (unit_found c u) h
+order_found c u orders.SetUnit i h = fault_found (unit_found c u) h
+order_found c u (orders.Invalid opcode status) i h = absurd (true≢false (ap is_some h))
+order_found c u (orders.Abort other) i h = absurd (true≢false i)
+order_found c u (orders.Status other) i h = absurd (true≢false i)
+order_found c u orders.UnitStatus i h = absurd (true≢false i)
+order_found c u (orders.SetController version) i h = absurd (true≢false i)
+
+queued_configured : (c : Settings) (k : Command) → is_queued c k ≡ true → IsConfigured c k
+queued_configured c k q = let o = queued_open c k q in order_found c k.unit k.order o.waits o.sound
+
+-- ---- drives
+
+-- the drive of a unit after t, by the unit's number
+abbrev pub drive_by : Settings → Trace → ℕ → Drive
+drive_by c t u = record { unit = unit_shape c u; online = is_online t u; head = head c t u }
+
+-- The drives are those of the units, and each waiting command has one.
+pub record Driven (c : Settings) (t : Trace) (ds : List Drive) : Type 0 where
+  pub drives : ds ≡ map (drive_now c t) c.units
+  pub configured : AllByRecursion (λ x. IsConfigured c (command t x)) (waiting t)
+
+same_drive : (c : Settings) (t : Trace) (s : Shape) (u : ℕ) → unit_found c u ≡ Some s → s.number ≡ u
+    → drive_now c t s ≡ drive_by c t u
+same_drive c t s u e n =
+    let shape : s ≡ unit_shape c u = sym (ap (λ o. unwrap_or o one_block) e) in
+    λ i. record { unit = shape i; online = is_online t (n i); head = head c t (n i) }
+
+-- The drive that is found is that of the number.
+pub drive_found : (c : Settings) (t : Trace) (ds : List Drive) (u : ℕ) → Driven c t ds → is_some (unit_found c u) ≡ true
+    → drive_of ds u ≡ drive_by c t u
+drive_found c t ds u d h =
+    let some = some_of (unit_found c u) h in
+    let s = some.0 in
+    let e = some.1 in
+    ap (λ ds. drive_of ds u) d.drives
+    ∙ (ap (λ o. unwrap_or o (fresh_drive one_block))
+    (find_map (λ (x : Drive). nat_eq x.unit.number u) (drive_now c t) c.units ∙ ap (option_map (drive_now c t)) e)
+    ∙ same_drive c t s u e (found_number c.units u s e))
+
+-- ---- at first, and where nothing is served
+
+configured_more : (c : Settings) (t : Trace) (m : Moment) → IsRight c t m.0 m.1
+    → AllByRecursion (λ x. IsConfigured c (command t x)) (waiting t)
+    → AllByRecursion (λ x. IsConfigured c (command (t ++ m ∷ []) x)) (waiting (t ++ m ∷ []))
+configured_more c t m r h = each_queued c (IsConfigured c) (queued_configured c) t m r h
+
+pub driven_fresh : (c : Settings) → Driven c [] (map fresh_drive c.units)
+unfolding waiting
+driven_fresh c = record {
+  drives = map_on fresh_drive (drive_now c []) c.units
+      (every_from (λ s. fresh_drive s ≡ drive_now c [] s)
+      (λ s. λ i. record {
+        unit = s;
+        online = sym (is_online_empty s.number) i;
+        head =
+            sym (head_empty c s.number) i;
+      }) c.units);
+  configured = tt;
+}
+
+pub driven_kept : (c : Settings) (t : Trace) (m : Moment) (ds : List Drive) → service_in m.1 ≡ None
+    → IsRight c t m.0 m.1 → Driven c t ds → Driven c (t ++ m ∷ []) ds
+driven_kept c t m ds n r d =
+    let t' = t ++ m ∷ [] in
+    record {
+      drives = d.drives ∙ map_on (drive_now c t) (drive_now c t') c.units
+          (every_from (λ s. drive_now c t s ≡ drive_now c t' s)
+          (λ s. λ i. record {
+            unit = s;
+            online = sym (is_online_kept t m s.number n) i;
+            head =
+                sym (head_kept c t m s.number n) i;
+          }) c.units);
+      configured = configured_more c t m r d.configured;
+    }
+
+-- ---- a step
+
+-- a record's end is its command's
+pub end_held : (c : Settings) (t : Trace) (k : Block) (y : ℕ)
+    → end_given k (drive_by c t (unit t y)) (held_of t y) ≡ end_of c t k y
+unfolding outcome
+end_held c t k y = refl
+
+-- the head goes as far as the run says
+pub seek_held : (c : Settings) (t : Trace) (u : ℕ) (o : Option ℕ) → seek_from (drive_by c t u) o ≡ seek_to c t u o
+seek_held c t u None = refl
+seek_held c t u (Some block) = refl
+
+state_held : (c : Settings) (t : Trace) (m : Moment) (k : Block) (y : ℕ) (front back : List ℕ)
+    → Step c t m (service_by c t k y) k y front back → (o : Option End) → end_of c t k y ≡ o
+    → state_left (is_online t (unit t y)) (order t y) o ≡ is_online (t ++ m ∷ []) (unit t y)
+state_held c t m k y front back st None e = sym (is_online_unended c t m (service_by c t k y) k y front back st e)
+state_held c t m k y front back st (Some end) e = sym
+    (is_online_ended c t m (service_by c t k y) k y front back end st e)
+
+head_held : (c : Settings) (t : Trace) (m : Moment) (k : Block) (y : ℕ) (front back : List ℕ)
+    → Step c t m (service_by c t k y) k y front back
+    → head_after (nat_eq (done t y) 0) (option_map (cylinder_of (unit_shape c (unit t y)))
+    (touched (drive_by c t (unit t y)) (held_of t y))) (head c t (unit t y)) ≡ head c (t ++ m ∷ []) (unit t y)
+unfolding block_of
+head_held c t m k y front back st = sym (head_own c t m (service_by c t k y) k y front back st)
+
+own_served : (c : Settings) (t : Trace) (m : Moment) (k : Block) (y : ℕ) (front back : List ℕ)
+    → Step c t m (service_by c t k y) k y front back
+    → drive_after k (drive_by c t (unit t y)) (held_of t y) ≡ drive_by c (t ++ m ∷ []) (unit t y)
+own_served c t m k y front back st =
+    let u = unit t y in
+    let state = ap (state_left (is_online t u) (order t y)) (end_held c t k y)
+    ∙ state_held c t m k y front back st (end_of c t k y) refl in
+    λ i. record { unit = unit_shape c u; online = state i; head = head_held c t m k y front back st i }
+
+one_served : (c : Settings) (t : Trace) (m : Moment) (k : Block) (y : ℕ) (front back : List ℕ)
+    → Step c t m (service_by c t k y) k y front back
+    → (s : Shape) → unit_found c s.number ≡ Some s
+    → (if nat_eq s.number (unit t y) then drive_after k (drive_by c t (unit t y)) (held_of t y) else drive_now c t s)
+    ≡ drive_now c (t ++ m ∷ []) s
+one_served c t m k y front back st s found =
+    let t' = t ++ m ∷ [] in
+    let u = unit t y in
+    let served : Bool → Drive = λ b. if b then drive_after k (drive_by c t u) (held_of t y) else drive_now c t s in
+    let both : (b : Bool) → nat_eq s.number u ≡ b → served b ≡ drive_now c t' s =
+    λ b. elim b as (λ b. nat_eq s.number u ≡ b → served b ≡ drive_now c t' s) [
+      | true ↦ λ e.
+          let n = eqb-true s.number u e in
+          let there = ap (unit_found c) (sym n) ∙ found in
+          own_served c t m k y front back st ∙ sym (same_drive c t' s u there n)
+      | false ↦ λ e.
+          let n : u ≢ s.number = λ h. eqb-false s.number u e (sym h) in
+          λ i. record {
+            unit = s;
+            online = sym (is_online_other c t m (service_by c t k y) k y front back s.number st n)
+                i;
+            head = sym (head_other c t m (service_by c t k y) k y front back s.number st n) i;
+          }
+    ] in
+    both (nat_eq s.number u) refl
+
+-- A step of y leaves the drives of the run.
+pub driven_served : (c : Settings) (t : Trace) (m : Moment) (k : Block) (y : ℕ) (front back : List ℕ) (ds : List Drive)
+    → IsUnitList c.units → Step c t m (service_by c t k y) k y front back
+    → IsRight c t m.0 m.1 → Driven c t ds → Driven c (t ++ m ∷ [])
+    (replaced (unit t y) (drive_after k (drive_by c t (unit t y)) (held_of t y)) ds)
+driven_served c t m k y front back ds l st r d =
+    let t' = t ++ m ∷ [] in
+    let new = drive_after k (drive_by c t (unit t y)) (held_of t y) in
+    let serve : Drive → Drive = λ q. if has_number (unit t y) q then new else q in
+    record {
+      drives = ap (map serve) d.drives ∙ (map_map (drive_now c t) serve c.units
+          ∙ map_on (λ s. serve (drive_now c t s)) (drive_now c t') c.units
+          (every_weaker (λ s. unit_found c s.number ≡ Some s) (λ s. serve (drive_now c t s) ≡ drive_now c t' s)
+          (one_served c t m k y front back st) c.units (units_found c.units l)));
+      configured = configured_more c t m r d.configured;
+    }

@@ -1,0 +1,243 @@
+-- Every answer is right and picked, and what is then held is that of the run.
+use Rattle.std.proofs.Common.{◌≡◌, ℕ, suc, ◌≤◌, true, List, [], ◌∷◌, ◌++◌, map, drop, length, refl, ap, sym, ◌∙◌, subst, append-nil, arith}
+use Rattle.std.specs.Prelude.{zip, slice_get, Option, Some, None, option_map}
+use Rattle.std.proofs.lemmas.List.{append_assoc}
+use Rattle.arrayvec.specs.ArrayVec.{ArrayVec}
+use Rattle.mscp_packet.specs.declared.end.End.{End}
+use Rattle.mscp_packet.specs.Ends.{end_bytes}
+use Rattle.mscp_events.specs.declared.connection.Connection.{Connection}
+use Rattle.mscp_events.specs.declared.connection.Connection.TheVariants.{First, Second}
+use Rattle.mscp_events.specs.declared.block.Block.{Block}
+use Rattle.mscp_queue.specs.declared.report.Report.{Report}
+use Rattle.mscp_queue.specs.declared.report.Report.TheVariants as reports
+use Rattle.mscp_queue.specs.declared.view.Choice.{Choice}
+use Rattle.mscp_queue.specs.Figures.{figures}
+use Rattle.mscp_queue.specs.Lines.{Line}
+use Rattle.mscp_events.specs.declared.event.Event.{Event}
+use Rattle.mscp_events.specs.declared.event.Event.TheVariants as events
+use Rattle.mscp_controller.specs.declared.entry.Entry.{Entry}
+use Rattle.mscp_controller.specs.declared.entry.Entry.TheVariants as entries
+use Rattle.mscp_events.specs.Settings.{Settings, IsValid}
+use Rattle.mscp_events.specs.Both.{Both, of, put}
+use Rattle.mscp_controller.specs.History.{Trace, Moment, collect, takes}
+use Rattle.mscp_controller.specs.Commands.{waiting}
+use Rattle.mscp_controller.specs.Account.{ends, untaken}
+use Rattle.mscp_controller.specs.Legal.{IsLegal, IsPicked, IsRight}
+use Rattle.mscp_controller.specs.Holdings.{Answered, Answers, Holdings, Steps, after_message, after_take, answer_to_message, end_taken, fresh}
+use Rattle.mscp_controller.proofs.Promise.Known.{known_empty}
+use Rattle.mscp_controller.proofs.Bridge.Owning.{owner_kept, unbegun_kept}
+use Rattle.mscp_controller.proofs.Bridge.Legals.{legal_more, picked_more}
+use Rattle.mscp_controller.proofs.Bridge.Held.{held_of, figures_held}
+use Rattle.mscp_controller.proofs.Bridge.Quiet.{untaken_taken}
+use Rattle.mscp_controller.proofs.Bridge.Drives.{driven_fresh}
+use Rattle.mscp_controller.proofs.Bridge.Sending.{Agrees, IsUntaken, Sends, ends_on, ends_stay, quiet, sends}
+use Rattle.mscp_controller.proofs.Bridge.Stepped.{Turns, of_after, turns_at}
+
+-- ---- a look
+
+looks : {K : Type 0} (h : Holdings K) (t : Trace) (list : ArrayVec (Connection × ℕ × ℕ)) → 1 ≤ h.settings.longest
+    → Agrees h.settings t h → list.items ≡ figures h.settings.budget h.waiting
+    → Sends h.settings t (events.Look, entries.Looked list) h
+looks h t list l a e =
+    let c = h.settings in
+    let m : Moment = (events.Look, entries.Looked list) in
+    let r = e ∙ (ap (figures c.budget) a.follows.waits ∙ figures_held c t) in
+    quiet h h t m l (record { unserved = refl; kept = λ r. refl }) refl refl refl
+    (λ via. ends_stay via h t m refl a refl) a r
+
+-- ---- a take
+
+-- the moment of a take of an end, or of none
+abbrev taking : Connection → Option End → Moment
+taking via end = (events.Take via, entries.Taken via (option_map (λ e. record { items = end_bytes e }) end))
+
+-- the ends that are then held, where these are the connection's
+rest_held : {K : Type 0} (via : Connection) (h : Holdings K) (t : Trace) (u : End) → Agrees h.settings t h
+    → takes via (taking via (Some u)).1 ≡ true
+    → drop 1 (of via h.untaken) ≡ untaken h.settings via (t ++ taking via (Some u) ∷ [])
+rest_held via h t u a n = ap (drop 1) (a.follows.ends via)
+    ∙ sym (untaken_taken h.settings via t (taking via (Some u)) n refl)
+
+all_held : {K : Type 0} (via : Connection) (h : Holdings K) (t : Trace) (u : End) → Agrees h.settings t h
+    → IsUntaken h t (taking via (Some u)) (after_take via h)
+all_held First h t u a First = rest_held First h t u a refl
+all_held First h t u a Second = ends_stay Second h t (taking First (Some u)) refl a refl
+all_held Second h t u a First = ends_stay First h t (taking Second (Some u)) refl a refl
+all_held Second h t u a Second = rest_held Second h t u a refl
+
+put_same : (via : Connection) (us : Both (List End)) → of via us ≡ [] → put via (drop 1 (of via us)) us ≡ us
+put_same First us e = ap (λ xs. record us { first = xs }) (ap (drop 1) e ∙ sym e)
+put_same Second us e = ap (λ xs. record us { second = xs }) (ap (drop 1) e ∙ sym e)
+
+takes_when : {K : Type 0} (via : Connection) (h : Holdings K) (t : Trace) → 1 ≤ h.settings.longest
+    → Agrees h.settings t h → (us : List End) → of via h.untaken ≡ us
+    → Sends h.settings t (taking via (slice_get us 0)) (after_take via h)
+takes_when {K} via h t l a [] e =
+    let c = h.settings in
+    let m = taking via None in
+    let r : IsRight c t m.0 m.1 = (
+      refl,
+      ap (λ us. option_map (λ e. record { items = end_bytes e }) (slice_get us 0))
+          (sym e ∙ a.follows.ends via),
+    ) in
+    subst (λ (us : Both (List End)). Sends c t m (record h { untaken = us })) (sym (put_same via h.untaken e))
+    (quiet h h t m l (record { unserved = refl; kept = λ r. refl }) refl refl refl
+    (λ other. ends_stay other h t m refl a refl) a r)
+takes_when via h t l a (u ∷ us) e =
+    let c = h.settings in
+    let m = taking via (Some u) in
+    let r : IsRight c t m.0 m.1 = (
+      refl,
+      ap (λ us. option_map (λ e. record { items = end_bytes e }) (slice_get us 0))
+          (sym e ∙ a.follows.ends via),
+    ) in
+    quiet h (after_take via h) t m l (record { unserved = refl; kept = λ r. refl }) refl refl refl
+    (all_held via h t u a) a r
+
+-- ---- a step
+
+pub none_mapped : {X Y : Type 0} (f : X → Y) (xs : List X) → map f xs ≡ [] → xs ≡ []
+none_mapped f [] e = refl
+none_mapped f (x ∷ xs) e = absurd (omega (arith, ap length e))
+
+idles : {K : Type 0} (picks : List Choice → ℕ → Type 0) (h h' : Holdings K) (t : Trace) (k : Block) → IsValid h.settings
+    → Agrees h.settings t h → Steps picks k h reports.Idle h'
+    → Turns h.settings picks t (events.Step k, entries.Stepped reports.Idle) h.begun h'
+idles {K} picks h h' t k v a s =
+    let c = h.settings in
+    let m : Moment = (events.Step k, entries.Stepped reports.Idle) in
+    let none : waiting t ≡ [] = none_mapped (held_of t) (waiting t) (sym a.follows.waits ∙ s.serves.0) in
+    let same = s.serves.2 in
+    let ends : IsUntaken h t m h' = λ via. ap (of via) s.ends ∙ (of_after via h.untaken reports.Idle
+    ∙ ends_on via h t m refl a [] refl) in
+    record {
+      sends = quiet h h' t m v.some_blocks (record { unserved = refl; kept = λ r. refl }) refl
+          (ap (λ (l : Line K). l.waiting) same) (ap (λ (l : Line K). l.drives) same) ends a none;
+      same =
+          λ n b. tt;
+      picked = λ b. tt;
+    }
+
+steps : {K : Type 0} (picks : List Choice → ℕ → Type 0) (h h' : Holdings K) (t : Trace) (k : Block) (report : Report)
+    → IsValid h.settings → Agrees h.settings t h → Steps picks k h report h'
+    → Turns h.settings picks t (events.Step k, entries.Stepped report) h.begun h'
+steps picks h h' t k reports.Idle v a s = idles picks h h' t k v a s
+steps picks h h' t k (reports.Served connection reference unit lbn started seek ended) v a s =
+    turns_at picks h h' t k (reports.Served connection reference unit lbn started seek ended) s.serves.0 v a
+    s.serves.1 s.ends
+
+-- ---- every event
+
+-- each answer is right and picked, and what is then held is that of the run
+pub turns : {K : Type 0} (picks : List Choice → ℕ → Type 0) (h h' : Holdings K) (t : Trace) (event : Event)
+    (entry : Entry) → IsValid h.settings → Agrees h.settings t h → Answers picks h event entry h'
+    → Turns h.settings picks t (event, entry) h.begun h'
+turns {K} picks h h' t (events.Send via message) (entries.Sent other sent) v a r =
+    let b = message.items in
+    let m : Moment = (events.Send via message, entries.Sent via (answer_to_message via h b)) in
+    let all : Turns h.settings picks t m h.begun (after_message via h b) =
+    record { sends = sends via h t message v.some_blocks a; same = λ n b. tt; picked = λ b. tt } in
+    subst (λ q. Turns h.settings picks t (events.Send via message, q) h.begun h')
+    (λ i. entries.Sent (sym r.0 i) (sym r.1 i))
+    (subst (λ (x : Holdings K). Turns h.settings picks t m h.begun x) (sym r.2) all)
+turns {K} picks h h' t (events.Take via) (entries.Taken other end) v a r =
+    let m : Moment = (events.Take via, entries.Taken via (end_taken via h)) in
+    let all : Turns h.settings picks t m h.begun (after_take via h) = record {
+      sends = takes_when via h t v.some_blocks a (of via h.untaken) refl;
+      same = λ n b. tt;
+      picked = λ b. tt;
+    } in
+    subst (λ q. Turns h.settings picks t (events.Take via, q) h.begun h') (λ i. entries.Taken (sym r.0 i) (sym r.1 i))
+    (subst (λ (x : Holdings K). Turns h.settings picks t m h.begun x) (sym r.2) all)
+turns picks h h' t (events.Step k) (entries.Stepped report) v a r = steps picks h h' t k report v a r
+turns {K} picks h h' t events.Look (entries.Looked list) v a r =
+    subst (λ (x : Holdings K). Turns h.settings picks t (events.Look, entries.Looked list) h.begun x) (sym r.1)
+    (record { sends = looks h t list v.some_blocks a r.0; same = λ n b. tt; picked = λ b. tt })
+turns picks h h' t (events.Send via message) (entries.Taken other end) v a r = absurd r
+turns picks h h' t (events.Send via message) (entries.Stepped report) v a r = absurd r
+turns picks h h' t (events.Send via message) (entries.Looked list) v a r = absurd r
+turns picks h h' t (events.Take via) (entries.Sent other sent) v a r = absurd r
+turns picks h h' t (events.Take via) (entries.Stepped report) v a r = absurd r
+turns picks h h' t (events.Take via) (entries.Looked list) v a r = absurd r
+turns picks h h' t (events.Step k) (entries.Sent other sent) v a r = absurd r
+turns picks h h' t (events.Step k) (entries.Taken other end) v a r = absurd r
+turns picks h h' t (events.Step k) (entries.Looked list) v a r = absurd r
+turns picks h h' t events.Look (entries.Sent other sent) v a r = absurd r
+turns picks h h' t events.Look (entries.Taken other end) v a r = absurd r
+turns picks h h' t events.Look (entries.Stepped report) v a r = absurd r
+
+-- ---- a whole history
+
+-- what is known after each part of a history
+pub record Comes {K : Type 0} (c : Settings) (picks : List Choice → ℕ → Type 0) (t : Trace) (h : Holdings K) :
+    Type 0 where
+  pub settings : h.settings ≡ c
+  pub legal : IsLegal c t
+  pub picked : IsPicked c picks t
+  pub agrees : Agrees c t h
+  pub unbegun : h.begun ≡ None
+
+comes_more : {K : Type 0} (c : Settings) (picks : List Choice → ℕ → Type 0) (t : Trace) (h h' : Holdings K)
+    (event : Event) (entry : Entry) → IsValid c → Answers picks h event entry h' → Comes c picks t h
+    → Comes c picks (t ++ (event, entry) ∷ []) h'
+comes_more {K} c picks t h h' event entry v r k =
+    let m : Moment = (event, entry) in
+    let turn : Turns c picks t m h.begun h' =
+    subst (λ s. Turns s picks t m h.begun h') k.settings
+    (turns picks h h' t event entry (subst IsValid (sym k.settings) v)
+    (subst (λ s. Agrees s t h) (sym k.settings) k.agrees) r) in
+    record {
+      settings = (owner_kept picks h h' event entry r).0 ∙ k.settings;
+      legal = legal_more c t m k.legal turn.sends.right;
+      picked = picked_more c picks t m k.picked (turn.picked k.unbegun);
+      agrees = turn.sends.agrees;
+      unbegun = unbegun_kept picks h h' event entry k.unbegun r;
+    }
+
+comes_after : {K : Type 0} (c : Settings) (picks : List Choice → ℕ → Type 0) (t : Trace) (h h' : Holdings K)
+    (es : List Event) (ns : List Entry) → IsValid c → Answered picks h es ns h' → Comes c picks t h
+    → Comes c picks (t ++ zip es ns) h'
+comes_after {K} c picks t h h' [] [] v r k = subst (λ (x : Holdings K). Comes c picks (t ++ []) x) (sym r)
+    (subst (λ u. Comes c picks u h) (sym (append-nil t)) k)
+comes_after {K} c picks t h h' (e ∷ es) (n ∷ ns) v r k =
+    let next = r.0 in
+    subst (λ u. Comes c picks u h') (append_assoc t ((e, n) ∷ []) (zip es ns))
+    (comes_after c picks (t ++ (e, n) ∷ []) next h' es ns v r.2 (comes_more c picks t h next e n v r.1 k))
+comes_after c picks t h h' [] (n ∷ ns) v r k = absurd r
+comes_after c picks t h h' (e ∷ es) [] v r k = absurd r
+
+none_untaken : (c : Settings) (via : Connection) → of via (record { first = []; second = [] }) ≡ untaken c via []
+unfolding untaken ends collect
+none_untaken c First = refl
+none_untaken c Second = refl
+
+pub none_held : {K : Type 0} (c : Settings) (picker : K) → Agrees c [] (fresh c picker)
+unfolding waiting
+none_held c picker = record {
+  follows = record { known = known_empty c; waits = refl; ends = none_untaken c };
+  driven =
+      driven_fresh c;
+}
+
+-- What a new controller answers to events comes so.
+pub comes : {K : Type 0} (c : Settings) (picks : List Choice → ℕ → Type 0) (picker : K) (h : Holdings K)
+    (es : List Event) (ns : List Entry) → IsValid c → Answered picks (fresh c picker) es ns h
+    → Comes c picks (zip es ns) h
+comes {K} c picks picker h es ns v r =
+    comes_after c picks [] (fresh c picker) h es ns v r
+    (record {
+      settings = refl;
+      legal = λ i l. absurd (omega (arith, l));
+      picked =
+          λ i l. absurd (omega (arith, l));
+      agrees = none_held c picker;
+      unbegun = refl;
+    })
+
+-- there is one entry an event
+pub as_many : {K : Type 0} (picks : List Choice → ℕ → Type 0) (h h' : Holdings K) (es : List Event) (ns : List Entry)
+    → Answered picks h es ns h' → length ns ≡ length es
+as_many picks h h' [] [] r = refl
+as_many picks h h' (e ∷ es) (n ∷ ns) r = ap (λ k. suc k) (as_many picks r.0 h' es ns r.2)
+as_many picks h h' [] (n ∷ ns) r = absurd r
+as_many picks h h' (e ∷ es) [] r = absurd r

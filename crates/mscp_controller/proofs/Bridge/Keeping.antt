@@ -1,0 +1,330 @@
+-- What each call keeps of what a controller holds.
+use Rattle.std.proofs.Common.{◌≡◌, ℕ, ◌+◌, ◌-◌, ◌<◌, ◌≤◌, Bool, true, false, cond, List, [], ◌∷◌, ◌++◌, map, length, drop, ap, refl, sym, subst, ◌∙◌, arith}
+use Rattle.std.specs.Prelude.{if◌then◌else◌, option_to_list, slice_get, Option, Some, None, IfSome, is_some}
+use Rattle.std.proofs.lemmas.Bool.{false≢true}
+use Rattle.std.specs.List.{AllByRecursion}
+use Rattle.std.proofs.lemmas.List.{length-append, length-drop}
+use Rattle.mscp_packet.specs.declared.command.Command.{Command}
+use Rattle.mscp_packet.specs.declared.end.End.{End}
+use Rattle.mscp_packet.specs.Ends.{IsOfKind}
+use Rattle.mscp_drive.specs.Shape.{Shape}
+use Rattle.mscp_events.specs.declared.block.Block.{Block}
+use Rattle.mscp_events.specs.declared.connection.Connection.{Connection}
+use Rattle.mscp_events.specs.declared.connection.Connection.TheVariants.{First, Second}
+use Rattle.mscp_queue.specs.declared.name.Name.{Name}
+use Rattle.mscp_queue.specs.declared.report.Report.{Report}
+use Rattle.mscp_queue.specs.declared.report.Report.TheVariants as reports
+use Rattle.mscp_queue.specs.declared.view.Choice.{Choice}
+use Rattle.mscp_queue.specs.Drives.{fresh_drive}
+use Rattle.mscp_queue.specs.Kept.{units_of}
+use Rattle.mscp_queue.specs.Lines as lines
+use Rattle.mscp_queue.specs.Lines.{Line, Serves}
+use Rattle.mscp_queue.specs.Names.{name_on, same_connection}
+use Rattle.mscp_queue.specs.Records.{Record, fresh_record, without}
+use Rattle.mscp_queue.specs.Serving.{begun_without, end_in}
+use Rattle.mscp_queue.proofs.Lists.{every_append}
+use Rattle.mscp_queue.proofs.Named.{own_side}
+use Rattle.mscp_controller.specs.declared.account.Account.{Account}
+use Rattle.mscp_controller.specs.declared.account.Accounts.{Accounts}
+use Rattle.mscp_controller.specs.Accounts.{CanEnd, account, come, ended, fresh, left, put_account, reported, taken, untaken_in}
+use Rattle.mscp_events.specs.Settings.{Settings, IsValid, credits_of, room}
+use Rattle.mscp_controller.specs.Holdings.{ends_reported, waiting_on}
+use Rattle.mscp_events.specs.Both.{of}
+use Rattle.mscp_controller.specs.Kept.{IsAccount, IsHeld}
+use Rattle.mscp_controller.proofs.Bridge.Accounts.{each_account, of_more, reported_at, seen_left, seen_of}
+use Rattle.mscp_controller.proofs.Bridge.Counting.{count_stepped, other_count, own_count, push_count}
+use Rattle.mscp_controller.proofs.Bridge.Owning.{stays}
+use Rattle.mscp_controller.proofs.Promise.Served.{some_same}
+use Rattle.mscp_controller.proofs.Promise.Sides.{sides_length}
+
+-- ---- the accounts
+
+-- the limits and the units stay
+pub record IsStill {K : Type 0} (old new : Line K) : Type 0 where
+  pub room : new.room ≡ old.room
+  pub budget : new.budget ≡ old.budget
+  pub longest : new.longest ≡ old.longest
+  pub units : units_of new.drives ≡ units_of old.drives
+
+held_like : {K : Type 0} {c : Settings} {old new : Line K} {a a' : Accounts} → IsHeld c old a → IsStill old new
+    → ((via : Connection) → IsAccount c new.waiting via (account via a')) → IsHeld c new a'
+held_like h s e = record {
+  valid = h.valid;
+  account = e;
+  same_room = s.room ∙ h.same_room;
+  same_budget = s.budget ∙ h.same_budget;
+  same_longest = s.longest ∙ h.same_longest;
+  units = s.units ∙ h.units;
+}
+
+still_by : {K : Type 0} {old new : Line K} (ws : List Record) (o : Option Name)
+    → new ≡ record old { waiting = ws; begun = o } → IsStill old new
+still_by {K} ws o e = record {
+  room = ap (λ (l : Line K). l.room) e;
+  budget = ap (λ (l : Line K). l.budget) e;
+  longest = ap (λ (l : Line K). l.longest) e;
+  units = ap (λ (l : Line K). units_of l.drives) e;
+}
+
+-- an account of which nothing changes, where as many of its commands wait
+account_stays : {c : Settings} {ws ws' : List Record} {via : Connection} {own : Account}
+    → IsAccount c ws via own → length (waiting_on via ws') ≡ length (waiting_on via ws) → IsAccount c ws' via own
+account_stays h e =
+    let counted = h.counted in
+    record { counted = omega (arith, counted, e); covered = h.covered; fits = h.fits; shaped = h.shaped }
+
+-- ---- nothing came
+
+units_fresh : (us : List Shape) → units_of (map fresh_drive us) ≡ us
+units_fresh [] = refl
+units_fresh (u ∷ us) = ap (λ vs. u ∷ vs) (units_fresh us)
+
+fresh_account : (c : Settings) (via : Connection) → IsAccount c [] via fresh
+fresh_account c via = record { counted = refl; covered = omega arith; fits = omega arith; shaped = tt }
+
+pub held_fresh : {K : Type 0} (c : Settings) (units : List Shape) (room' budget longest : ℕ) (picker : K)
+    (line : Line K) (a : Accounts) → IsValid c → units ≡ c.units → room' ≡ room c → budget ≡ c.budget
+    → longest ≡ c.longest → line ≡ lines.fresh units room' budget longest picker
+    → a ≡ record { first = fresh; second = fresh } → IsHeld c line a
+held_fresh {K} c units room' budget longest picker line a v u r p l e n =
+    let none : (via : Connection) → IsAccount c [] via (account via (record { first = fresh; second = fresh })) =
+    λ via. elim via as (λ via. IsAccount c [] via (account via (record { first = fresh; second = fresh })))
+    [ First ↦ fresh_account c First | Second ↦ fresh_account c Second ] in
+    let all : IsHeld c (lines.fresh units room' budget longest picker) (record { first = fresh; second = fresh }) =
+    record {
+      valid = v;
+      account = none;
+      same_room = r;
+      same_budget = p;
+      same_longest = l;
+      units = units_fresh units ∙ u;
+    } in
+    subst (λ (q : Line K). IsHeld c q a) (sym e)
+    (subst (IsHeld c (lines.fresh units room' budget longest picker)) (sym n) all)
+
+-- ---- a step
+
+-- the ends that a step brings are of their kind
+kind_either : (here : Bool) (end : End) → IsOfKind end → AllByRecursion IsOfKind (if here then end ∷ [] else [])
+kind_either true end h = (h, tt)
+kind_either false end h = tt
+
+reported_kinds : (via : Connection) (report : Report) → IfSome (end_in report) IsOfKind
+    → AllByRecursion IsOfKind (ends_reported via report)
+reported_kinds via reports.Idle h = tt
+reported_kinds via (reports.Served here reference unit lbn started seek None) h =
+    elim (same_connection here via) as (λ b. AllByRecursion IsOfKind (if b then option_to_list {X = End} None else []))
+    [ true ↦ tt | false ↦ tt ]
+reported_kinds via (reports.Served here reference unit lbn started seek (Some end)) h =
+    kind_either (same_connection here via) end h
+
+few_of : (c : Settings) (via : Connection) → IsValid c → credits_of c via ≤ 64
+few_of c First v = let few = v.few_credits in omega (arith, few)
+few_of c Second v = let few = v.few_credits in omega (arith, few)
+
+-- there is room for the end that a step brings, and its command is counted
+pub can_end : {K : Type 0} (c : Settings) (picks : List Choice → ℕ → Type 0) (k : Block) (old : Line K)
+    (report : Report) (new : Line K) (a : Accounts) → IsHeld c old a → Serves picks k old report new → CanEnd report a
+can_end c picks k old reports.Idle new a h s = tt
+can_end c picks k old (reports.Served via reference unit lbn started seek None) new a h s = tt
+can_end c picks k old (reports.Served via reference unit lbn started seek (Some end)) new a h s =
+    let count = count_stepped via picks k old (reports.Served via reference unit lbn started seek (Some end)) new s in
+    let one = ap (λ b. length (if b then end ∷ [] else [])) (own_side via) in
+    let counted = (h.account via).counted in
+    let covered = (h.account via).covered in
+    (omega (arith, count, one, counted), omega (arith, count, one, counted, covered, few_of c via h.valid))
+
+pub held_stepped : {K : Type 0} (c : Settings) (picks : List Choice → ℕ → Type 0) (k : Block) (old : Line K)
+    (report : Report) (new : Line K) (a : Accounts) → IsHeld c old a → Serves picks k old report new
+    → units_of new.drives ≡ units_of old.drives → IfSome (end_in report) IsOfKind → IsHeld c new (reported report a)
+held_stepped {K} c picks k old report new a h s u kind =
+    let same = stays picks k old report new s in
+    held_like h (record { room = same.0; budget = same.1; longest = same.2; units = u })
+    (λ via.
+    let own = h.account via in
+    let count = count_stepped via picks k old report new s in
+    let more = reported_at via report a (can_end c picks k old report new a h s) in
+    let waiting = more.waiting in
+    let counted = own.counted in
+    let covered = own.covered in
+    let fits = own.fits in
+    record {
+      counted = omega (arith, count, waiting, counted);
+      covered = omega (
+        arith,
+        waiting,
+        covered,
+        ap length more.untaken,
+        length-append (account via a).untaken.items (ends_reported via report),
+      );
+      fits = omega (arith, waiting, fits);
+      shaped = subst (AllByRecursion IsOfKind) (sym more.untaken)
+          (every_append IsOfKind (account via a).untaken.items (ends_reported via report) own.shaped
+          (reported_kinds via report kind));
+    })
+
+-- ---- a message
+
+-- one more command waits
+pub held_queued : {K : Type 0} {c : Settings} {old new : Line K} {a : Accounts} (via : Connection) (k : Command)
+    → IsHeld c old a → new ≡ lines.pushed old via k
+    → 2 ≤ credits_of c via - (length (waiting_on via old.waiting) + length (account via a).untaken.items)
+    → IsHeld c new (put_account via (come (account via a)) a)
+held_queued {K} {c} {old} {new} {a} via k h e free =
+    let own = h.account via in
+    let counted = own.counted in
+    let ws = old.waiting ++ fresh_record via k ∷ [] in
+    let more = push_count via via old.waiting k ∙ ap (λ b. length (waiting_on via old.waiting) + cond b 1 0)
+    (own_side via) in
+    let own' : IsAccount c ws via (come (account via a)) = record {
+      counted = omega (arith, counted, more);
+      covered = omega (arith, counted, free);
+      fits = omega (arith, counted, free);
+      shaped = own.shaped;
+    } in
+    held_like h (still_by ws old.begun e)
+    (subst (λ (l : Line K). (via' : Connection)
+    → IsAccount c l.waiting via' (account via' (put_account via (come (account via a)) a))) (sym e)
+    (each_account (IsAccount c ws) via (come (account via a)) a own'
+    (λ other d. account_stays (h.account other) (push_count via other old.waiting k
+    ∙ (ap (λ b. length (waiting_on other old.waiting) + cond b 1 0) d ∙ omega arith)))))
+
+-- an end is made
+pub held_ended : {K : Type 0} {c : Settings} {line : Line K} {a : Accounts} (via : Connection) (end : End)
+    → IsHeld c line a
+    → 1 ≤ credits_of c via - (length (waiting_on via line.waiting) + length (account via a).untaken.items)
+    → IsOfKind end → IsHeld c line (put_account via (ended end (account via a)) a)
+held_ended {K} {c} {line} {a} via end h free kind =
+    let own = h.account via in
+    let counted = own.counted in
+    let items = (account via a).untaken.items in
+    held_like h (record { room = refl; budget = refl; longest = refl; units = refl })
+    (each_account (IsAccount c line.waiting) via (ended end (account via a)) a
+    (record {
+      counted = counted;
+      covered = omega (arith, counted, free, length-append items (end ∷ []));
+      fits = own.fits;
+      shaped = every_append IsOfKind items (end ∷ []) own.shaped (kind, tt);
+    })
+    (λ other d. h.account other))
+
+-- an end is taken, if there is one
+rest_kinds : (es : List End) → AllByRecursion IsOfKind es → AllByRecursion IsOfKind (drop 1 es)
+rest_kinds [] h = tt
+rest_kinds (e ∷ es) h = h.1
+
+pub held_taken : {K : Type 0} {c : Settings} {line : Line K} {a : Accounts} (via : Connection) → IsHeld c line a
+    → IsHeld c line (put_account via (taken (account via a)) a)
+held_taken {K} {c} {line} {a} via h =
+    let own = h.account via in
+    let covered = own.covered in
+    let items = (account via a).untaken.items in
+    held_like h (record { room = refl; budget = refl; longest = refl; units = refl })
+    (each_account (IsAccount c line.waiting) via (taken (account via a)) a
+    (record {
+      counted = own.counted;
+      covered = omega (arith, covered, length-drop 1 items);
+      fits = own.fits;
+      shaped = rest_kinds items own.shaped;
+    })
+    (λ other d. h.account other))
+
+-- ---- an abort
+
+-- there is room for the end of an aborted command, and the command is counted
+pub can_leave : {K : Type 0} {c : Settings} {old new : Line K} {a : Accounts} (via : Connection) (n : ℕ)
+    → IsHeld c old a → new ≡ lines.aborting (name_on via n) old → length new.waiting + 1 ≡ length old.waiting
+    → (1 ≤ (account via a).waiting) × (length (account via a).untaken.items < 64)
+can_leave {K} {c} {old} {new} {a} via n h e count =
+    let less = own_count via n old.waiting (sym (ap (λ (l : Line K). length l.waiting + 1) e) ∙ count) in
+    let counted = (h.account via).counted in
+    let covered = (h.account via).covered in
+    (omega (arith, less, counted), omega (arith, less, counted, covered, few_of c via h.valid))
+
+pub held_aborted : {K : Type 0} {c : Settings} {old new : Line K} {a : Accounts} (via : Connection) (n : ℕ) (end : End)
+    → IsHeld c old a → new ≡ lines.aborting (name_on via n) old → length new.waiting + 1 ≡ length old.waiting
+    → IsOfKind end → IsHeld c new (put_account via (left end (account via a)) a)
+held_aborted {K} {c} {old} {new} {a} via n end h e count kind =
+    let ws = without (name_on via n) old.waiting in
+    let own = h.account via in
+    let items = (account via a).untaken.items in
+    let less = own_count via n old.waiting (sym (ap (λ (l : Line K). length l.waiting + 1) e) ∙ count) in
+    let counted = own.counted in
+    let covered = own.covered in
+    let fits = own.fits in
+    let own' : IsAccount c ws via (left end (account via a)) = record {
+      counted = omega (arith, counted, less);
+      covered = omega (arith, counted, covered, less, length-append items (end ∷ []));
+      fits = omega (arith, fits);
+      shaped = every_append IsOfKind items (end ∷ []) own.shaped (kind, tt);
+    } in
+    held_like h (still_by ws (begun_without (name_on via n) old.begun) e)
+    (subst (λ (l : Line K). (via' : Connection)
+    → IsAccount c l.waiting via' (account via' (put_account via (left end (account via a)) a))) (sym e)
+    (each_account (IsAccount c ws) via (left end (account via a)) a own'
+    (λ other d. account_stays (h.account other) (other_count via other n old.waiting d))))
+
+-- ---- credits that are seen
+
+-- so many credits are free, whether the ends are seen or held
+pub free_seen : (c : Settings) (ws : List Record) (via : Connection) (n : ℕ) (a : Accounts)
+    → n ≤ credits_of c via - (length (waiting_on via ws) + length (of via (untaken_in a)))
+    → n ≤ credits_of c via - (length (waiting_on via ws) + length (account via a).untaken.items)
+free_seen c ws via n a h =
+    subst (λ es. n ≤ credits_of c via - (length (waiting_on via ws) + length es)) (seen_of via a) h
+
+-- where a connection has two credits free, there is room for one more
+pub room_left : {K : Type 0} {c : Settings} {line : Line K} {a : Accounts} (via : Connection) → IsHeld c line a
+    → 2 ≤ credits_of c via - (length (waiting_on via line.waiting) + length (account via a).untaken.items)
+    → length line.waiting < line.room
+room_left {K} {c} {line} {a} First h free =
+    let other = (h.account Second).fits in
+    let counted = (h.account Second).counted in
+    let room = h.same_room in
+    omega (arith, free, other, counted, room, sides_length (λ (r : Record). r.connection) line.waiting)
+room_left {K} {c} {line} {a} Second h free =
+    let other = (h.account First).fits in
+    let counted = (h.account First).counted in
+    let room = h.same_room in
+    omega (arith, free, other, counted, room, sides_length (λ (r : Record). r.connection) line.waiting)
+
+-- the account of each connection
+pub balanced : {K : Type 0} {c : Settings} {line : Line K} {a : Accounts} → IsHeld c line a → (via : Connection)
+    → credits_of c via - (length (waiting_on via line.waiting) + length (of via (untaken_in a)))
+    + length (waiting_on via line.waiting) + length (of via (untaken_in a)) ≡ credits_of c via
+balanced {K} {c} {line} {a} h via =
+    let counted = (h.account via).counted in
+    let covered = (h.account via).covered in
+    omega (arith, counted, covered, ap length (seen_of via a))
+
+-- what a connection's commands and ends hold is at most 64
+pub held_small : {K : Type 0} {c : Settings} {line : Line K} {a : Accounts} → IsHeld c line a → (via : Connection)
+    → (account via a).waiting + length (account via a).untaken.items ≤ 64
+held_small {K} {c} {line} {a} h via = let covered = (h.account via).covered in omega (
+  arith,
+  covered,
+  few_of c via h.valid,
+)
+
+-- an abort leaves the credits that are free as they were: its end takes the place of its command
+pub balance_left : {K : Type 0} (c : Settings) (old new : Line K) (a a' : Accounts) (via : Connection) (n : ℕ)
+    (end : End)
+    → new ≡ lines.aborting (name_on via n) old → length new.waiting + 1 ≡ length old.waiting
+    → a' ≡ put_account via (left end (account via a)) a
+    → credits_of c via - (length (waiting_on via new.waiting) + length (of via (untaken_in a')))
+    ≡ credits_of c via - (length (waiting_on via old.waiting) + length (of via (untaken_in a)))
+balance_left {K} c old new a a' via n end e count more =
+    let less = own_count via n old.waiting (sym (ap (λ (l : Line K). length l.waiting + 1) e) ∙ count) in
+    omega (
+      arith,
+      less,
+      ap (λ (l : Line K). length (waiting_on via l.waiting)) e,
+      ap (λ (x : Accounts). length (of via (untaken_in x))) more,
+      ap length (ap (of via) (seen_left via end a) ∙ (of_more via (untaken_in a) (end ∷ []))),
+      length-append (of via (untaken_in a)) (end ∷ []),
+    )
+
+-- an end that is taken has the body of its endcode
+pub taken_kind : (es : List End) (e : End) → slice_get es 0 ≡ Some e → AllByRecursion IsOfKind es → IsOfKind e
+taken_kind [] e q h = absurd (false≢true (ap is_some q))
+taken_kind (x ∷ xs) e q h = subst IsOfKind (some_same x e q) h.0

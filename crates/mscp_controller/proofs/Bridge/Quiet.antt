@@ -1,0 +1,156 @@
+-- Moments that serve nobody: what is held after them.
+use Rattle.std.proofs.Common.{◌≡◌, ℕ, ◌+◌, ◌<◌, ◌≤◌, Bool, true, false, cond, not, ◌&&◌, List, [], ◌∷◌, ◌++◌, map, drop, length, ap, sym, ◌∙◌, append-nil, arith}
+use Rattle.std.specs.Prelude.{count_by, filter, None}
+use Rattle.std.specs.List.{AllByRecursion}
+use Rattle.std.proofs.lemmas.List.{drop-drop, map-append}
+use Rattle.mscp_packet.specs.declared.end.End.{End}
+use Rattle.mscp_packet.specs.Commands.{command_of}
+use Rattle.mscp_events.specs.declared.connection.Connection.{Connection}
+use Rattle.mscp_queue.specs.declared.name.Name.{Name}
+use Rattle.mscp_queue.specs.Records.{Record, fresh_record, name_of}
+use Rattle.mscp_events.specs.Settings.{Settings}
+use Rattle.mscp_events.specs.Both.{Both, of}
+use Rattle.mscp_queue.specs.Orders.{order_weight}
+use Rattle.mscp_controller.specs.History.{Trace, Moment, connection_of, queues, sent_bytes, is_good, takes, service_in}
+use Rattle.mscp_controller.specs.Commands.{name, waiting, done, good, service_is, service_starts, ends_in}
+use Rattle.mscp_controller.specs.Passing.{passed}
+use Rattle.mscp_controller.specs.Ends.{ends_at}
+use Rattle.mscp_controller.specs.Account.{ends, untaken}
+use Rattle.mscp_controller.specs.Legal.{IsRight}
+use Rattle.mscp_queue.proofs.Lists.{every_kept, every_weaker, every_from, filter_all}
+use Rattle.mscp_controller.proofs.Promise.Grows.{command_before, command_last, connection_before, connection_last, done_last, good_before, good_last, waiting_more, taken_more, ends_more}
+use Rattle.mscp_controller.proofs.Promise.Waits.{waiting_below, passed_last}
+use Rattle.mscp_controller.proofs.Promise.Steady.{done_kept}
+use Rattle.mscp_controller.proofs.Promise.Passed.{none_starts}
+use Rattle.mscp_controller.proofs.Promise.Known.{known_more}
+use Rattle.mscp_queue.proofs.Placed.{filter_map_of, map_on}
+use Rattle.mscp_controller.proofs.Bridge.Held.{held_of, Follows}
+
+-- the moment serves nobody and ends nobody
+pub record IsQuiet (m : Moment) : Type 0 where
+  pub unserved : service_in m.1 ≡ None
+  pub kept : (r : Name) → ends_in r m.1 ≡ false
+
+-- ---- one command
+
+-- a record of which nothing changes
+pub held_same : (t : Trace) (m : Moment) (x : ℕ) → x < length t → done (t ++ m ∷ []) x ≡ done t x
+    → good (t ++ m ∷ []) x ≡ good t x → passed (t ++ m ∷ []) x ≡ passed t x
+    → held_of (t ++ m ∷ []) x ≡ held_of t x
+held_same t m x l d g p = λ i.
+    let k = command_before t m x l in
+    let v = connection_before t m x l in
+    record {
+      connection = v i;
+      command = k i;
+      weight = order_weight (k i).order;
+      done = d i;
+      good = g i;
+      passed = p i;
+    }
+
+good_kept : (t : Trace) (m : Moment) (x : ℕ) → service_in m.1 ≡ None → x < length t → good (t ++ m ∷ []) x ≡ good t x
+good_kept t m x e l = good_before t m x l ∙ (ap (λ o. good t x + cond (service_is (name t x) o && is_good m.0) 1 0)
+    e ∙ omega arith)
+
+passed_kept : (t : Trace) (m : Moment) (x : ℕ) → service_in m.1 ≡ None → passed (t ++ m ∷ []) x ≡ passed t x
+passed_kept t m x e = none_starts t m x (λ r. ap (service_starts r) e)
+
+-- the record of each that waits stays
+abbrev pub Keeps : Trace → Trace → ℕ → Type 0
+Keeps t t' x = held_of t' x ≡ held_of t x
+
+keeps : (t : Trace) (m : Moment) → service_in m.1 ≡ None → AllByRecursion (Keeps t (t ++ m ∷ [])) (waiting t)
+keeps t m e =
+    every_weaker (λ x. x < length t) (Keeps t (t ++ m ∷ []))
+    (λ x l. held_same t m x l (done_kept t m x e l) (good_kept t m x e l) (passed_kept t m x e))
+    (waiting t) (waiting_below t)
+
+waiting_kept : (t : Trace) (m : Moment) → IsQuiet m
+    → waiting (t ++ m ∷ []) ≡ waiting t ++ cond (queues m.1) (length t ∷ []) []
+waiting_kept t m q =
+    waiting_more t m ∙ ap (λ l. l ++ cond (queues m.1) (length t ∷ []) [])
+    (filter_all (λ x. not (ends_in (name t x) m.1)) (waiting t)
+    (every_from (λ x. not (ends_in (name t x) m.1) ≡ true) (λ x. ap not (q.kept (name t x))) (waiting t)))
+
+pub records_kept : (t t' : Trace) (xs : List ℕ) → AllByRecursion (Keeps t t') xs
+    → map (held_of t') xs ≡ map (held_of t) xs
+records_kept t t' xs k = map_on (held_of t') (held_of t) xs k
+
+-- ---- nobody comes
+
+-- What is held after a moment that serves nobody and queues nobody: the records of the commands that it doesn't end.
+pub follows_left : (c : Settings) (t : Trace) (m : Moment) (ws ws' : List Record) (us us' : Both (List End))
+    → 1 ≤ c.longest → IsRight c t m.0 m.1 → service_in m.1 ≡ None → queues m.1 ≡ false
+    → ws' ≡ filter (λ r. not (ends_in (name_of r) m.1)) ws → ((via : Connection)
+    → of via us' ≡ untaken c via (t ++ m ∷ []))
+    → Follows c t ws us
+    → Follows c (t ++ m ∷ []) ws' us'
+follows_left c t m ws ws' us us' l r unserved n left e f =
+    let t' = t ++ m ∷ [] in
+    let keep : ℕ → Bool = λ x. not (ends_in (name t x) m.1) in
+    let stays : Record → Bool = λ r. not (ends_in (name_of r) m.1) in
+    let kept = filter keep (waiting t) in
+    let same : waiting t' ≡ kept = waiting_more t m
+    ∙ (ap (λ b. kept ++ cond b (length t ∷ []) []) n ∙ append-nil kept) in
+    let k = every_kept (Keeps t t') keep (waiting t) (keeps t m unserved) in
+    record {
+      known = known_more c l t m r f.known;
+      waits = left ∙ (ap (filter stays) f.waits ∙ (filter_map_of (held_of t) stays (waiting t)
+          ∙ (sym (records_kept t t' kept k) ∙ ap (map (held_of t')) (sym same))));
+      ends = e;
+    }
+
+-- ---- a command comes
+
+record_new : (t : Trace) (m : Moment)
+    → held_of (t ++ m ∷ []) (length t) ≡ fresh_record (connection_of m.0) (command_of (sent_bytes m.0))
+record_new t m = λ i.
+    let k = command_last t m in
+    let v = connection_last t m in
+    let d = done_last t m in
+    let g = good_last t m in
+    let p = passed_last t m in
+    record {
+      connection = v i;
+      command = k i;
+      weight = order_weight (k i).order;
+      done = d i;
+      good = g i;
+      passed = p i;
+    }
+
+-- What is held after a command was queued: its record comes last.
+pub follows_queued : (c : Settings) (t : Trace) (m : Moment) (ws : List Record) (us us' : Both (List End))
+    → 1 ≤ c.longest → IsRight c t m.0 m.1 → IsQuiet m → queues m.1 ≡ true
+    → ((via : Connection) → of via us' ≡ untaken c via (t ++ m ∷ [])) → Follows c t ws us
+    → Follows c (t ++ m ∷ []) (ws ++ fresh_record (connection_of m.0) (command_of (sent_bytes m.0)) ∷ []) us'
+follows_queued c t m ws us us' l r q n e f =
+    let t' = t ++ m ∷ [] in
+    let x = length t in
+    let same : waiting t' ≡ waiting t ++ x ∷ [] = waiting_kept t m q
+    ∙ ap (λ b. waiting t ++ cond b (length t ∷ []) []) n in
+    let k = keeps t m q.unserved in
+    record {
+      known = known_more c l t m r f.known;
+      waits =
+          ap (λ ys. ys ++ fresh_record (connection_of m.0) (command_of (sent_bytes m.0)) ∷ [])
+          (f.waits ∙ sym (records_kept t t' (waiting t) k))
+          ∙ (ap (λ y. map (held_of t') (waiting t) ++ y ∷ []) (sym (record_new t m))
+          ∙ (sym (map-append (held_of t') (waiting t) (x ∷ [])) ∙ ap (map (held_of t')) (sym same)));
+      ends = e;
+    }
+
+-- ---- an end is taken
+
+-- Where an end is taken, the others stay.
+pub untaken_taken : (c : Settings) (via : Connection) (t : Trace) (m : Moment) → takes via m.1 ≡ true
+    → ends_at c via t m ≡ [] → untaken c via (t ++ m ∷ []) ≡ drop 1 (untaken c via t)
+unfolding untaken
+untaken_taken c via t m e n =
+    let k = count_by (λ (n : Moment). takes via n.1) t in
+    let one : count_by (λ (n : Moment). takes via n.1) (t ++ m ∷ []) ≡ k + 1 =
+    taken_more via t m ∙ ap (λ b. k + cond b 1 0) e in
+    let same : ends c via (t ++ m ∷ []) ≡ ends c via t = ends_more c via t m
+    ∙ (ap (λ l. ends c via t ++ l) n ∙ append-nil (ends c via t)) in
+    ap (λ j. drop j (ends c via (t ++ m ∷ []))) one ∙ (ap (drop (k + 1)) same ∙ sym (drop-drop 1 k (ends c via t)))

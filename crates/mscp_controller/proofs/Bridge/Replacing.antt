@@ -1,0 +1,185 @@
+-- A controller whose picker is replaced keeps the promise as one whose picker may pick what that of the call may.
+use Rattle.std.proofs.Common.{◌≡◌, ◌⊎◌, ◌∙◌, ℕ, Bool, true, false, List, [], ◌∷◌, Option, None, Some, Contains, inl, inr, refl, ap, sym, subst}
+use Rattle.std.specs.Prelude.{if◌then◌else◌, Ok, Err, Result}
+use Rattle.mscp_packet.specs.declared.command.Command.{Command}
+use Rattle.mscp_packet.specs.Commands.{command_of}
+use Rattle.mscp_events.specs.declared.block.Block.{Block}
+use Rattle.mscp_events.specs.declared.connection.Connection.{Connection}
+use Rattle.mscp_events.specs.declared.event.Event.{Event}
+use Rattle.mscp_events.specs.declared.event.Event.TheVariants as events
+use Rattle.mscp_events.specs.Settings.{IsValid, Settings}
+use Rattle.mscp_queue.specs.declared.drive.Drive.{Drive}
+use Rattle.mscp_queue.specs.declared.name.Name.{Name}
+use Rattle.mscp_queue.specs.declared.report.Report.{Report}
+use Rattle.mscp_queue.specs.declared.report.Report.TheVariants as reports
+use Rattle.mscp_queue.specs.declared.upcoming.Upcoming.{Upcoming}
+use Rattle.mscp_queue.specs.declared.view.Choice.{Choice}
+use Rattle.mscp_queue.specs.Lines.{Begins, Line, Serves}
+use Rattle.mscp_queue.specs.Records.{Record}
+use Rattle.mscp_queue.specs.Serving.{IsNext}
+use Rattle.mscp_queue.specs.Names.{name_on}
+use Rattle.mscp_queue.specs.Views.{view_of}
+use Rattle.mscp_controller.specs.Arrival.{is_queued, refusal}
+use Rattle.mscp_controller.specs.Calls.{AnsweredCalls, AnswersCall, Begin, Call, Finish, Plain}
+use Rattle.mscp_controller.specs.Controllers.{KeepsPromise}
+use Rattle.mscp_controller.specs.Holdings.{Answers, Finishes, Foretells, Holdings, Steps, aborting, after_message, answer_to_message, answered_end, balance_of, fresh, held_unless, line_of, outstanding_of, queued, sent_unless, with_end}
+use Rattle.mscp_controller.specs.Replacing.{AnsweredInTurn, Called, MayPickThen, Replaced, Turn, calls_of}
+use Rattle.mscp_controller.specs.declared.entry.Entry.{Entry}
+use Rattle.mscp_controller.specs.declared.entry.Entry.TheVariants as entries
+use Rattle.mscp_controller.specs.declared.entry.SendFault.{SendFault}
+use Rattle.mscp_controller.specs.declared.entry.Stale.{Stale}
+use Rattle.mscp_controller.proofs.Bridge.Controllers.{keeps_promise}
+
+-- what is held, with another picker
+abbrev by : {K : Type 0} → K → Holdings K → Holdings K
+by picker h = record h { picker = picker }
+
+-- what it would show
+abbrev shown : {K : Type 0} → Holdings K → List Choice
+shown h = view_of h.settings.budget h.drives h.waiting
+
+-- what a picker may pick of a view is allowed
+abbrev Allows : List Choice → (List Choice → ℕ → Type 0) → (List Choice → ℕ → Type 0) → Type 0
+Allows view picks allowed = (place : ℕ) → picks view place → allowed view place
+
+-- ---- messages
+
+held_by : {K : Type 0} (via : Connection) (h : Holdings K) (a : K) (command : Command) (o : Option SendFault)
+    → by a (held_unless via h command o) ≡ held_unless via (by a h) command o
+held_by via h a command (Some fault) = refl
+held_by via h a command None = elim (is_queued h.settings command) as
+    (λ b. by a (if b then queued via h command
+    else with_end via (aborting via h command.order) (answered_end via h command))
+    ≡ (if b then queued via (by a h) command
+    else with_end via (aborting via (by a h) command.order) (answered_end via (by a h) command)))
+    [ true ↦ refl | false ↦ refl ]
+
+sent_by : {K : Type 0} (via : Connection) (h : Holdings K) (a : K) (command : Command) (o : Option SendFault)
+    → sent_unless via h command o ≡ sent_unless via (by a h) command o
+sent_by via h a command (Some fault) = refl
+sent_by via h a command None = refl
+
+-- ---- steps
+
+next_allowed : (picks allowed : List Choice → ℕ → Type 0) (budget : ℕ) (ds : List Drive) (rs : List Record)
+    (begun : Option Name) (place : ℕ) → Allows (view_of budget ds rs) picks allowed
+    → IsNext picks budget ds rs begun place → IsNext allowed budget ds rs begun place
+next_allowed picks allowed budget ds rs begun place allows n = record {
+  servable = n.servable;
+  same = n.same;
+  picked = λ none unstarted.
+      let p = n.picked none unstarted in (p.0, p.1, p.2, allows p.0 p.3);
+}
+
+serves_by : {K : Type 0} (picks allowed : List Choice → ℕ → Type 0) (a : K) (k : Block) (old new : Holdings K)
+    (report : Report) → Allows (shown old) picks allowed → Serves picks k (line_of old) report (line_of new)
+    → Serves allowed k (line_of (by a old)) report (line_of (by a new))
+serves_by {K} picks allowed a k old new reports.Idle allows s =
+    (s.0, s.1, ap (λ (l : Line K). record l { picker = a }) s.2)
+serves_by {K} picks allowed a k old new (reports.Served via reference unit lbn started seek ended) allows s = (
+  s.0,
+  record {
+    next = next_allowed picks allowed old.settings.budget old.drives old.waiting old.begun s.0 allows s.1.next;
+    told = s.1.told;
+    left = ap (λ (l : Line K). record l { picker = a }) s.1.left;
+  },
+)
+
+steps_by : {K : Type 0} (picks allowed : List Choice → ℕ → Type 0) (a : K) (k : Block) (old new : Holdings K)
+    (report : Report) → Allows (shown old) picks allowed → Steps picks k old report new
+    → Steps allowed k (by a old) report (by a new)
+steps_by picks allowed a k old new report allows s = record {
+  serves = serves_by picks allowed a k old new report allows s.serves;
+  ends = s.ends;
+  settings = s.settings;
+}
+
+begins_by : {K : Type 0} (picks allowed : List Choice → ℕ → Type 0) (a : K) (old new : Holdings K)
+    (upcoming : Option Upcoming) → Allows (shown old) picks allowed → Begins picks (line_of old) upcoming (line_of new)
+    → Begins allowed (line_of (by a old)) upcoming (line_of (by a new))
+begins_by {K} picks allowed a old new None allows b =
+    (b.0, b.1, ap (λ (l : Line K). record l { picker = a }) b.2)
+begins_by {K} picks allowed a old new (Some upcoming) allows b = (
+  b.0,
+  record {
+    next = next_allowed picks allowed old.settings.budget old.drives old.waiting old.begun b.0 allows b.1.next;
+    told = b.1.told;
+    left = ap (λ (l : Line K). record l { picker = a }) b.1.left;
+  },
+)
+
+-- ---- calls
+
+answers_by : {K : Type 0} (picks allowed : List Choice → ℕ → Type 0) (a : K) (old new : Holdings K) (event : Event)
+    (entry : Entry) → Allows (shown old) picks allowed → Answers picks old event entry new
+    → Answers allowed (by a old) event entry (by a new)
+answers_by {K} picks allowed a old new (events.Send via message) (entries.Sent other sent) allows r =
+    let command = command_of message.items in
+    let fault = refusal (balance_of via old) (outstanding_of via old) message.items in
+    (r.0, r.1 ∙ sent_by via old a command fault, ap (λ (h : Holdings K). by a h) r.2 ∙ held_by via old a command fault)
+answers_by {K} picks allowed a old new (events.Take via) (entries.Taken other end) allows r =
+    (r.0, r.1, ap (λ (h : Holdings K). by a h) r.2)
+answers_by picks allowed a old new (events.Step k) (entries.Stepped report) allows r =
+    steps_by picks allowed a k old new report allows r
+answers_by {K} picks allowed a old new events.Look (entries.Looked list) allows r =
+    (r.0, ap (λ (h : Holdings K). by a h) r.1)
+answers_by picks allowed a old new event entry allows r = absurd r
+
+finishes_by : {K : Type 0} (picks allowed : List Choice → ℕ → Type 0) (a : K) (name : Name) (k : Block)
+    (old new : Holdings K) (answer : Result Report Stale) → Allows (shown old) picks allowed
+    → Finishes picks name k old answer new → Finishes allowed name k (by a old) answer (by a new)
+finishes_by picks allowed a name k old new (Ok report) allows r =
+    (r.0, steps_by picks allowed a k old new report allows r.1)
+finishes_by {K} picks allowed a name k old new (Err stale) allows r = (r.0, ap (λ (h : Holdings K). by a h) r.1)
+
+call_by : {K : Type 0} (picks allowed : List Choice → ℕ → Type 0) (a : K) (old new : Holdings K) (call : Call)
+    → Allows (shown old) picks allowed → AnswersCall picks old call new → AnswersCall allowed (by a old) call (by a new)
+call_by picks allowed a old new (Plain event entry) allows r = answers_by picks allowed a old new event entry allows r
+call_by picks allowed a old new (Begin upcoming) allows r = record {
+  begins = begins_by picks allowed a old new upcoming allows r.begins;
+  untaken = r.untaken;
+  settings = r.settings;
+}
+call_by picks allowed a old new (Finish via reference k answer) allows r =
+    finishes_by picks allowed a (name_on via reference) k old new answer allows r
+
+-- ---- calls, one after the other
+
+in_turn : {K : Type 0} (picks : K → List Choice → ℕ → Type 0) (allowed : List Choice → ℕ → Type 0) (a : K)
+    (turns : List (Turn K)) (old new : Holdings K) → (r : AnsweredInTurn picks old turns new)
+    → ((view : List Choice) (place : ℕ) → MayPickThen picks old turns new r view place → allowed view place)
+    → AnsweredCalls allowed (by a old) (calls_of turns) (by a new)
+in_turn {K} picks allowed a [] old new e covers = ap (λ (h : Holdings K). by a h) e
+in_turn picks allowed a (Called call ∷ turns) old new r covers = (
+  by a r.0,
+  call_by (picks old.picker) allowed a old r.0 call (λ place own. covers (shown old) place (inl (refl, own))) r.1,
+  in_turn picks allowed a turns r.0 new r.2 (λ view place later. covers view place (inr later)),
+)
+in_turn picks allowed a (Replaced picker ∷ turns) old new r covers =
+    in_turn picks allowed a turns (by picker old) new r covers
+
+-- ---- the law
+
+pub keeps_in_turn : {K : Type 0} (c : Settings) (picks : K → List Choice → ℕ → Type 0) (picker : K)
+    (turns : List (Turn K)) (held : Holdings K) → IsValid c → (r : AnsweredInTurn picks (fresh c picker) turns held)
+    → KeepsPromise (MayPickThen picks (fresh c picker) turns held r) c (calls_of turns) held
+keeps_in_turn c picks picker turns held v r =
+    let allowed = MayPickThen picks (fresh c picker) turns held r in
+    let k = keeps_promise c allowed picker (calls_of turns) (by picker held) v
+    (in_turn picks allowed picker turns (fresh c picker) held r (λ view place own. own)) in
+    record {
+      legal = k.legal;
+      promise = k.promise;
+      right = k.right;
+      begun = k.begun;
+      picked = k.picked;
+      swept = k.swept;
+      settings = k.settings;
+      waiting = k.waiting;
+      untaken = k.untaken;
+      figure = k.figure;
+      kept_back = k.kept_back;
+      unheld = k.unheld;
+      drives = k.drives;
+      balance = k.balance;
+    }

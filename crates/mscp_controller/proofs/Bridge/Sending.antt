@@ -1,0 +1,309 @@
+-- A message: the answer to it is right, and what is held after it.
+use Rattle.std.proofs.Common.{◌≡◌, ℕ, ◌+◌, ◌-◌, ◌≤◌, Bool, true, false, not, List, [], ◌∷◌, ◌++◌, map, length, refl, ap, sym, ◌∙◌, subst, append-nil, append_assoc, arith}
+use Rattle.std.specs.Prelude.{filter, if◌then◌else◌, Option, Some, None, is_some, option_map, option_to_list, Result, Ok, Err}
+use Rattle.std.proofs.lemmas.List.{length-map}
+use Rattle.mscp_packet.specs.declared.command.Command.{Command}
+use Rattle.mscp_packet.specs.declared.command.Order.{Order}
+use Rattle.mscp_packet.specs.declared.command.Order.TheVariants as orders
+use Rattle.mscp_packet.specs.declared.end.End.{End}
+use Rattle.mscp_packet.specs.Commands.{command_of}
+use Rattle.mscp_drive.specs.Shape.{Shape}
+use Rattle.mscp_queue.specs.declared.drive.Drive.{Drive}
+use Rattle.mscp_queue.specs.Records.{Record, aborted_record, name_of}
+use Rattle.mscp_controller.specs.declared.entry.SendFault.{SendFault}
+use Rattle.mscp_controller.specs.declared.entry.Sent.{Sent}
+use Rattle.mscp_controller.specs.declared.entry.Sent.TheVariants as sents
+use Rattle.arrayvec.specs.ArrayVec.{ArrayVec}
+use Rattle.mscp_events.specs.declared.event.Event.TheVariants as events
+use Rattle.mscp_controller.specs.declared.entry.Entry.TheVariants as entries
+use Rattle.mscp_events.specs.Settings.{Settings, credits_of, unit_found}
+use Rattle.mscp_events.specs.Both.{Both, of}
+use Rattle.mscp_controller.specs.Arrival.{is_queued, order_fault, refusal, unit_fault}
+use Rattle.mscp_controller.specs.Outcomes.{answer_body, answer_status, own_end, own_end_with}
+use Rattle.mscp_queue.specs.Outcomes.{end_with}
+use Rattle.mscp_controller.specs.History.{Trace, Moment, queues, service_in, takes}
+use Rattle.mscp_controller.specs.Commands.{ends_in, reference, waiting, waiting_by}
+use Rattle.mscp_controller.specs.Units.{is_online}
+use Rattle.mscp_controller.specs.Ends.{answer, ends_at}
+use Rattle.mscp_controller.specs.Account.{untaken, balance, outstanding}
+use Rattle.mscp_controller.specs.Ends as history
+use Rattle.mscp_controller.specs.Credits.{arrival, taken_in, taken_unless}
+use Rattle.mscp_controller.specs.Legal.{IsRight}
+use Rattle.mscp_controller.specs.Holdings.{Holdings, record_aborted, reference_aborted, aborting, after_message, answer_to_message, answered_end, balance_of, with_end, figure_polled, held_unless, outstanding_of, queued, sent_unless, waiting_on}
+use Rattle.mscp_events.specs.declared.connection.Connection.{Connection}
+use Rattle.mscp_events.specs.declared.connection.Connection.TheVariants.{First, Second}
+use Rattle.mscp_queue.specs.Names.{name_on, same_connection}
+use Rattle.mscp_queue.specs.Drives.{drive_of}
+use Rattle.mscp_queue.specs.Figures.{figure_of_name}
+use Rattle.mscp_controller.proofs.Promise.Arrivals.{taken_when}
+use Rattle.mscp_controller.proofs.Promise.Grows.{untaken_more}
+use Rattle.mscp_queue.proofs.Lists.{every_from, filter_all}
+use Rattle.mscp_queue.proofs.Placed.{filter_map_of, map_map}
+use Rattle.mscp_controller.proofs.Bridge.Held.{held_of, Follows, figure_of_held}
+use Rattle.mscp_controller.proofs.Bridge.Aborting.{end_made, others_wait, reference_told}
+use Rattle.mscp_controller.proofs.Bridge.Quiet.{IsQuiet, follows_left, follows_queued}
+use Rattle.mscp_controller.proofs.Bridge.Drives.{Driven, drive_found, driven_kept}
+
+-- all that is held is that of the run
+pub record Agrees {K : Type 0} (c : Settings) (t : Trace) (h : Holdings K) : Type 0 where
+  pub follows : Follows c t h.waiting h.untaken
+  pub driven : Driven c t h.drives
+
+-- ---- credits
+
+-- those of a connection that are held
+held_by : (c : Settings) (via : Connection) (t : Trace) (ws : List Record) (us : Both (List End)) → Follows c t ws us
+    → waiting_on via ws ≡ map (held_of t) (waiting_by via t)
+held_by c via t ws us f = ap (waiting_on via) f.waits
+    ∙ filter_map_of (held_of t) (λ r. same_connection r.connection via) (waiting t)
+
+pub balance_held : (c : Settings) (via : Connection) (t : Trace) (ws : List Record) (us : Both (List End))
+    → Follows c t ws us → credits_of c via - (length (waiting_on via ws) + length (of via us)) ≡ balance c via t
+unfolding balance
+balance_held c via t ws us f =
+    let w = ap length (held_by c via t ws us f) ∙ length-map (waiting_by via t) (held_of t) in
+    let u = ap length (f.ends via) in
+    omega arith
+
+outstanding_held : (c : Settings) (via : Connection) (t : Trace) (ws : List Record) (us : Both (List End))
+    → Follows c t ws us
+    → map (λ r. r.command.reference) (waiting_on via ws) ++ map (λ e. e.reference) (of via us) ≡ outstanding c via t
+unfolding outstanding
+outstanding_held c via t ws us f =
+    ap (λ xs. map (λ r. r.command.reference) xs ++ map (λ (e : End). e.reference) (of via us)) (held_by c via t ws us f)
+    ∙ (ap (λ xs. xs ++ map (λ (e : End). e.reference) (of via us))
+    (map_map (held_of t) (λ (r : Record). r.command.reference) (waiting_by via t))
+    ∙ ap (λ xs. map (reference t) (waiting_by via t) ++ map (λ (e : End). e.reference) xs) (f.ends via))
+
+-- a message is refused alike
+refusal_held : {K : Type 0} (via : Connection) (h : Holdings K) (t : Trace) (b : List ℕ)
+    → Follows h.settings t h.waiting h.untaken
+    → refusal (balance_of via h) (outstanding_of via h) b
+    ≡ refusal (balance h.settings via t) (outstanding h.settings via t) b
+refusal_held via h t b f = λ i. refusal (balance_held h.settings via t h.waiting h.untaken f i)
+    (outstanding_held h.settings via t h.waiting h.untaken f i) b
+
+-- ---- its end
+
+asked_held : (c : Settings) (via : Connection) (t : Trace) (ws : List Record) (us : Both (List End)) (o : Order)
+    → Follows c t ws us → figure_polled c via ws o ≡ history.figure_asked c via t o
+asked_held c via t ws us (orders.Status other) f = ap (λ xs. figure_of_name c.budget xs (name_on via other)) f.waits
+    ∙ figure_of_held c t (name_on via other)
+asked_held c via t ws us (orders.Abort other) f = refl
+asked_held c via t ws us orders.UnitStatus f = refl
+asked_held c via t ws us (orders.SetController version) f = refl
+asked_held c via t ws us orders.Available f = refl
+asked_held c via t ws us orders.Online f = refl
+asked_held c via t ws us orders.SetUnit f = refl
+asked_held c via t ws us (orders.Move kind count block) f = refl
+asked_held c via t ws us (orders.Invalid opcode status) f = refl
+
+with_same : (c : Settings) (on on' : Bool) (figure : ℕ) (k : Command) (fault : Option ℕ)
+    → answer_status on k.order ≡ answer_status on' k.order
+    → own_end_with c on figure k fault ≡ own_end_with c on' figure k fault
+with_same c on on' figure k None e = ap (λ s. end_with k s (answer_body c figure k.unit k.order)) e
+with_same c on on' figure k (Some status) e = refl
+
+status_same : (c : Settings) (on on' : Bool) (figure : ℕ) (k : Command) (found : Option Shape)
+    → (is_some found ≡ true → on ≡ on') → own_end_with c on figure k (unit_fault found)
+    ≡ own_end_with c on' figure k (unit_fault found)
+status_same c on on' figure k None h = refl
+status_same c on on' figure k (Some s) h = ap (λ b. own_end_with c b figure k None) (h refl)
+
+-- An answer asks for the state of no unit that isn't configured.
+own_same : (c : Settings) (on on' : Bool) (figure reference unit : ℕ) (o : Order)
+    → (is_some (unit_found c unit) ≡ true → on ≡ on')
+    → let k : Command = record { reference = reference; unit = unit; order = o } in
+    own_end c on figure k ≡ own_end c on' figure k
+own_same c on on' figure reference unit orders.UnitStatus h =
+    let k : Command = record { reference = reference; unit = unit; order = orders.UnitStatus } in
+    status_same c on on' figure k (unit_found c unit) h
+own_same c on on' figure reference unit o h =
+    let k : Command = record { reference = reference; unit = unit; order = o } in
+    with_same c on on' figure k (order_fault c unit o) refl
+
+answer_held : {K : Type 0} (via : Connection) (h : Holdings K) (t : Trace) (b : List ℕ) → Agrees h.settings t h
+    → option_to_list (option_map aborted_record (record_aborted via h.waiting (command_of b).order))
+    ++ answered_end via h (command_of b) ∷ [] ≡ answer h.settings via t b
+unfolding answer
+answer_held via h t b a =
+    let c = h.settings in
+    let k = command_of b in
+    let on = is_online t k.unit in
+    let state = own_same c (drive_of h.drives k.unit).online on (figure_polled c via h.waiting k.order) k.reference
+    k.unit k.order (λ found. ap (λ (d : Drive). d.online) (drive_found c t h.drives k.unit a.driven found)) in
+    let own : answered_end via h k ≡ own_end c on (history.figure_asked c via t k.order) k =
+    state ∙ ap (λ n. own_end c on n k) (asked_held c via t h.waiting h.untaken k.order a.follows) in
+    let made = end_made c via t h.waiting k a.follows.known.steady.apart a.follows.waits in
+    (λ i. made i ++ own i ∷ [])
+
+-- ---- what becomes of it
+
+-- what is answered to a message is right, and what is then held is that of the run
+pub record Sends {K : Type 0} (c : Settings) (t : Trace) (m : Moment) (h : Holdings K) : Type 0 where
+  pub right : IsRight c t m.0 m.1
+  pub agrees : Agrees c (t ++ m ∷ []) h
+
+-- the moment of a message
+abbrev pub sending : Connection → ArrayVec ℕ → Result Sent SendFault → Moment
+sending via b s = (events.Send via b, entries.Sent via s)
+
+-- each connection's ends that are held are those that weren't taken after the moment
+abbrev pub IsUntaken : {K : Type 0} → Holdings K → Trace → Moment → Holdings K → Type 0
+IsUntaken h t m h' = (via : Connection) → of via h'.untaken ≡ untaken h.settings via (t ++ m ∷ [])
+
+-- A moment that serves nobody and queues nobody: those that it doesn't end wait on.
+leaves : {K : Type 0} (h h' : Holdings K) (t : Trace) (m : Moment) → 1 ≤ h.settings.longest → service_in m.1 ≡ None
+    → queues m.1 ≡ false → h'.waiting ≡ filter (λ r. not (ends_in (name_of r) m.1)) h.waiting
+    → h'.drives ≡ h.drives → IsUntaken h t m h' → Agrees h.settings t h
+    → IsRight h.settings t m.0 m.1 → Sends h.settings t m h'
+leaves h h' t m l unserved n left stay e a r =
+    let c = h.settings in
+    record {
+      right = r;
+      agrees = record {
+        follows = follows_left c t m h.waiting h'.waiting h.untaken h'.untaken l r unserved n left e a.follows;
+        driven = subst (Driven c (t ++ m ∷ [])) (sym stay) (driven_kept c t m h.drives unserved r a.driven);
+      };
+    }
+
+-- The same where it ends nobody.
+pub quiet : {K : Type 0} (h h' : Holdings K) (t : Trace) (m : Moment) → 1 ≤ h.settings.longest → IsQuiet m
+    → queues m.1 ≡ false → h'.waiting ≡ h.waiting → h'.drives ≡ h.drives → IsUntaken h t m h'
+    → Agrees h.settings t h → IsRight h.settings t m.0 m.1 → Sends h.settings t m h'
+quiet h h' t m l q n same stay e a r =
+    let stays : Record → Bool = λ r. not (ends_in (name_of r) m.1) in
+    leaves h h' t m l q.unserved n (same ∙ sym (filter_all stays h.waiting
+    (every_from (λ r. stays r ≡ true) (λ r. ap not (q.kept (name_of r))) h.waiting))) stay e a r
+
+-- The ends of a connection where a moment takes none.
+pub ends_on : {K : Type 0} (via : Connection) (h : Holdings K) (t : Trace) (m : Moment) → takes via m.1 ≡ false
+    → Agrees h.settings t h → (es : List End) → es ≡ ends_at h.settings via t m
+    → of via h.untaken ++ es ≡ untaken h.settings via (t ++ m ∷ [])
+ends_on via h t m n a es e = (λ i. a.follows.ends via i ++ e i)
+    ∙ sym (untaken_more h.settings via t m n (a.follows.known.room.taken via))
+
+-- the same where it makes none
+pub ends_stay : {K : Type 0} (via : Connection) (h : Holdings K) (t : Trace) (m : Moment) → takes via m.1 ≡ false
+    → Agrees h.settings t h → ends_at h.settings via t m ≡ [] → of via h.untaken ≡ untaken h.settings via (t ++ m ∷ [])
+ends_stay via h t m n a e = sym (append-nil (of via h.untaken)) ∙ ends_on via h t m n a [] (sym e)
+
+refused : {K : Type 0} (via : Connection) (h : Holdings K) (t : Trace) (b : ArrayVec ℕ) (fault : SendFault)
+    → 1 ≤ h.settings.longest → Agrees h.settings t h → Err fault ≡ arrival h.settings via t b.items
+    → Sends h.settings t (sending via b (Err fault)) h
+refused via h t b fault l a r =
+    let m = sending via b (Err fault) in
+    quiet h h t m l (record { unserved = refl; kept = λ r. refl }) refl refl refl
+    (λ other. ends_stay other h t m refl a refl) a (refl, r)
+
+waits : {K : Type 0} (via : Connection) (h : Holdings K) (t : Trace) (b : ArrayVec ℕ) → 1 ≤ h.settings.longest
+    → Agrees h.settings t h → Ok (sents.Queued (command_of b.items).reference) ≡ arrival h.settings via t b.items
+    → Sends h.settings t (sending via b (Ok (sents.Queued (command_of b.items).reference)))
+    (queued via h (command_of b.items))
+waits via h t b l a r =
+    let c = h.settings in
+    let m = sending via b (Ok (sents.Queued (command_of b.items).reference)) in
+    record {
+      right = (refl, r);
+      agrees = record {
+        follows = follows_queued c t m h.waiting h.untaken h.untaken l (refl, r)
+            (record { unserved = refl; kept = λ r. refl }) refl (λ other. ends_stay other h t m refl a refl) a.follows;
+        driven = driven_kept c t m h.drives refl (refl, r) a.driven;
+      };
+    }
+
+-- what is held once a message was answered
+abbrev pub answered_holds : {K : Type 0} → Connection → Holdings K → Command → Holdings K
+answered_holds via h k = with_end via (aborting via h k.order) (answered_end via h k)
+
+-- the moment of its answer
+abbrev pub answering : {K : Type 0} → Connection → Holdings K → ArrayVec ℕ → Moment
+answering via h b =
+    let k = command_of b.items in
+    sending via b (Ok (sents.Answered k.reference (reference_aborted via h.waiting k.order)))
+
+-- the ends of the connection are its own two or one more
+own_ends : {K : Type 0} (via : Connection) (h : Holdings K) (t : Trace) (b : ArrayVec ℕ) → Agrees h.settings t h
+    → takes via (answering via h b).1 ≡ false
+    → ends_at h.settings via t (answering via h b) ≡ answer h.settings via t b.items ++ []
+    → (of via h.untaken ++ option_to_list (option_map aborted_record
+    (record_aborted via h.waiting (command_of b.items).order))) ++ answered_end via h (command_of b.items) ∷ []
+    ≡ untaken h.settings via (t ++ answering via h b ∷ [])
+own_ends via h t b a n e =
+    let k = command_of b.items in
+    let made = option_to_list (option_map aborted_record (record_aborted via h.waiting k.order)) in
+    let own = answered_end via h k ∷ [] in
+    append_assoc (of via h.untaken) made own
+    ∙ ends_on via h t (answering via h b) n a (made ++ own)
+    (answer_held via h t b.items a ∙ (sym (append-nil (answer h.settings via t b.items)) ∙ sym e))
+
+-- and those of the other as they were
+answered_ends : {K : Type 0} (via : Connection) (h : Holdings K) (t : Trace) (b : ArrayVec ℕ) → Agrees h.settings t h
+    → IsUntaken h t (answering via h b) (answered_holds via h (command_of b.items))
+answered_ends First h t b a First = own_ends First h t b a refl refl
+answered_ends First h t b a Second = ends_stay Second h t (answering First h b) refl a refl
+answered_ends Second h t b a First = ends_stay First h t (answering Second h b) refl a refl
+answered_ends Second h t b a Second = own_ends Second h t b a refl refl
+
+answered : {K : Type 0} (via : Connection) (h : Holdings K) (t : Trace) (b : ArrayVec ℕ) → 1 ≤ h.settings.longest
+    → Agrees h.settings t h
+    → Ok (sents.Answered (command_of b.items).reference
+    (reference_aborted via h.waiting (command_of b.items).order)) ≡ arrival h.settings via t b.items
+    → Sends h.settings t (answering via h b) (answered_holds via h (command_of b.items))
+answered via h t b l a r =
+    let k = command_of b.items in
+    leaves h (answered_holds via h k) t (answering via h b) l refl refl
+    (others_wait via k.reference h.waiting k.order) refl (answered_ends via h t b a) a (refl, r)
+
+-- ---- every message
+
+taken_as_queued : (c : Settings) (via : Connection) (t : Trace) (k : Command) → is_queued c k ≡ true
+    → sents.Queued k.reference ≡ taken_in c via t k
+taken_as_queued c via t k q = sym (ap (taken_when c via t k) q)
+
+taken_as_answered : {K : Type 0} (via : Connection) (h : Holdings K) (t : Trace) (k : Command)
+    → Follows h.settings t h.waiting h.untaken → is_queued h.settings k ≡ false
+    → sents.Answered k.reference (reference_aborted via h.waiting k.order) ≡ taken_in h.settings via t k
+taken_as_answered via h t k f q = ap (sents.Answered k.reference)
+    (sym (reference_told h.settings via t h.waiting k f.known.steady.apart f.waits))
+    ∙ sym (ap (taken_when h.settings via t k) q)
+
+-- what the history says of a message that is refused so, or isn't
+arrival_when : (c : Settings) (via : Connection) (t : Trace) (b : List ℕ) (o : Option SendFault)
+    → refusal (balance c via t) (outstanding c via t) b ≡ o → taken_unless c via t (command_of b) o ≡ arrival c via t b
+unfolding arrival
+arrival_when c via t b o e = sym (ap (taken_unless c via t (command_of b)) e)
+
+sends_taken : {K : Type 0} (via : Connection) (h : Holdings K) (t : Trace) (b : ArrayVec ℕ) → 1 ≤ h.settings.longest
+    → Agrees h.settings t h
+    → refusal (balance h.settings via t) (outstanding h.settings via t) b.items ≡ None
+    → (q : Bool) → is_queued h.settings (command_of b.items) ≡ q
+    → let k = command_of b.items in
+    Sends h.settings t (sending via b (Ok (if q then sents.Queued k.reference
+    else sents.Answered k.reference (reference_aborted via h.waiting k.order))))
+    (if q then queued via h k else answered_holds via h k)
+sends_taken via h t b l f none true q =
+    let c = h.settings in
+    waits via h t b l f (ap Ok (taken_as_queued c via t
+    (command_of b.items) q) ∙ arrival_when c via t b.items None none)
+sends_taken via h t b l f none false q =
+    let c = h.settings in
+    answered via h t b l f (ap Ok (taken_as_answered via h t (command_of b.items) f.follows q)
+    ∙ arrival_when c via t b.items None none)
+
+sends_when : {K : Type 0} (via : Connection) (h : Holdings K) (t : Trace) (b : ArrayVec ℕ) → 1 ≤ h.settings.longest
+    → Agrees h.settings t h
+    → (o : Option SendFault) → refusal (balance h.settings via t) (outstanding h.settings via t) b.items ≡ o
+    → Sends h.settings t (sending via b (sent_unless via h (command_of b.items) o))
+    (held_unless via h (command_of b.items) o)
+sends_when via h t b l f (Some fault) r =
+    refused via h t b fault l f (arrival_when h.settings via t b.items (Some fault) r)
+sends_when via h t b l f None r = sends_taken via h t b l f r (is_queued h.settings (command_of b.items)) refl
+
+-- A message is answered right, and what is then held is that of the run.
+pub sends : {K : Type 0} (via : Connection) (h : Holdings K) (t : Trace) (b : ArrayVec ℕ) → 1 ≤ h.settings.longest
+    → Agrees h.settings t h
+    → Sends h.settings t (sending via b (answer_to_message via h b.items)) (after_message via h b.items)
+sends via h t b l f =
+    sends_when via h t b l f (refusal (balance_of via h) (outstanding_of via h) b.items)
+    (sym (refusal_held via h t b.items f.follows))

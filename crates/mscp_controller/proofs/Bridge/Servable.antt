@@ -1,0 +1,118 @@
+-- The record that may be served next: the run serves its command next, too.
+use Rattle.std.proofs.Common.{◌≡◌, ℕ, ◌+◌, ◌<◌, Bool, true, false, ◌&&◌, ◌||◌, List, [], ◌∷◌, map, take, drop, get_or, length, refl, ap, sym, ◌∙◌, subst, arith}
+use Rattle.std.specs.Prelude.{All, nat_eq, Option, Some, None, is_some}
+use Rattle.std.specs.List.{AllByRecursion, list_all}
+use Rattle.std.proofs.lemmas.Bool.{eq-eqb, eqb-false, lt-ltb}
+use Rattle.std.proofs.lemmas.List.{get_or-map, length-map}
+use Rattle.std.proofs.lemmas.List.Elements.{recursion_from_All}
+use Rattle.mscp_queue.specs.declared.drive.Drive.{Drive}
+use Rattle.mscp_queue.specs.declared.view.Choice.{Choice}
+use Rattle.mscp_queue.specs.Drives.{drive_of}
+use Rattle.mscp_queue.specs.declared.name.Name.{Name}
+use Rattle.mscp_queue.specs.Records.{Record, name_of, record_at}
+use Rattle.mscp_queue.specs.Records as recorded
+use Rattle.mscp_queue.specs.Serving.{IsNext}
+use Rattle.mscp_queue.specs.Views.{open_places}
+use Rattle.mscp_events.specs.Settings.{Settings, unit_found}
+use Rattle.mscp_controller.specs.History.{Trace}
+use Rattle.mscp_controller.specs.Commands.{name, unit, is_idle, is_waiting, waiting, done, in_service}
+use Rattle.mscp_controller.specs.Passing.{is_startable, startable}
+use Rattle.mscp_controller.specs.Legal.{view}
+use Rattle.mscp_queue.proofs.Named.{same_is}
+use Rattle.mscp_queue.proofs.Lists.{every_mapped, every_weaker, every_parts}
+use Rattle.mscp_controller.proofs.Promise.Waits.{waiting_waits}
+use Rattle.mscp_controller.proofs.Bridge.Held.{held_of}
+use Rattle.mscp_controller.proofs.Bridge.Drives.{Driven, drive_by, drive_found}
+use Rattle.mscp_controller.proofs.Bridge.Viewed.{cut_at, record_held, startable_held, startable_places, view_held, waiting_at}
+
+pub all_of : (p : ℕ → Bool) (xs : List ℕ) → AllByRecursion (λ x. p x ≡ true) xs → list_all p xs ≡ true
+all_of p [] h = refl
+all_of p (x ∷ xs) h = ap (λ b. b && list_all p xs) h.0 ∙ all_of p xs h.1
+
+or_right : (a b : Bool) → b ≡ true → (a || b) ≡ true
+or_right true b h = refl
+or_right false b h = h
+
+-- the records are idle where the commands are
+idle_held : (t : Trace) → All (λ r. r.done ≡ 0) (map (held_of t) (waiting t)) → is_idle t ≡ true
+idle_held t h =
+    all_of (λ x. nat_eq (done t x) 0) (waiting t)
+    (every_weaker (λ x. done t x ≡ 0) (λ x. nat_eq (done t x) 0 ≡ true) (λ x d. eq-eqb (done t x) 0 d) (waiting t)
+    (every_mapped (held_of t) (λ r. r.done ≡ 0) (waiting t)
+    (recursion_from_All (λ r. r.done ≡ 0) (map (held_of t) (waiting t)) h)))
+
+-- what is known of a record that may be served next: that its command may be
+pub record Next (c : Settings) (t : Trace) (place : ℕ) : Type 0 where
+  pub inside : place < length (waiting t)
+  pub next : (in_service t (waiting_at t place) || is_startable c t (waiting_at t place)) ≡ true
+
+-- and that it was begun, or where nothing was, that it is picked
+pub record Chosen (c : Settings) (picks : List Choice → ℕ → Type 0) (t : Trace) (begun : Option Name) (place : ℕ) :
+    Type 0 where
+  pub same : (n : Name) → begun ≡ Some n → name t (waiting_at t place) ≡ n
+  pub picked : begun ≡ None → nat_eq (done t (waiting_at t place)) 0 ≡ true
+      → (i : ℕ) × (i < length (startable c t)) × (get_or (startable c t) i 0 ≡ waiting_at t place) × picks (view c t) i
+
+pub next_held : (c : Settings) (picks : List Choice → ℕ → Type 0) (t : Trace) (ds : List Drive) (begun : Option Name)
+    (place : ℕ) → Driven c t ds → IsNext picks c.budget ds (map (held_of t) (waiting t)) begun place
+    → Next c t place × Chosen c picks t begun place
+next_held c picks t ds begun place d n =
+    let rs = map (held_of t) (waiting t) in
+    let y = waiting_at t place in
+    let inside : place < length (waiting t) = let l = n.servable.inside in
+    omega (arith, length-map (waiting t) (held_of t)) in
+    let same : recorded.is_unstarted (record_at rs place) ≡ nat_eq (done t y) 0 =
+    ap recorded.is_unstarted (record_held t place inside) in
+    let places = open_places c.budget rs in
+    let both : (b : Bool) → nat_eq (done t y) 0 ≡ b → (in_service t y || is_startable c t y) ≡ true =
+    λ b. elim b as (λ b. nat_eq (done t y) 0 ≡ b → (in_service t y || is_startable c t y) ≡ true) [
+      | true ↦ λ e.
+          let idle = idle_held t (n.servable.idle (same ∙ e)) in
+          or_right (in_service t y) (is_startable c t y)
+          (startable_held c t place inside idle ∙ n.servable.opens (same ∙ e))
+      | false ↦ λ e.
+          let some = eqb-false (done t y) 0 e in
+          ap (λ b. b || is_startable c t y) (lt-ltb 0 (done t y) (omega arith))
+    ] in
+    let next : Next c t place = record { inside = inside; next = both (nat_eq (done t y) 0) refl } in
+    let chosen : Chosen c picks t begun place = record {
+      same = λ k e. ap name_of (sym (record_held t place inside))
+          ∙ same_is (name_of (record_at rs place)) k (n.same k e);
+      picked = λ b e.
+          let idle = idle_held t (n.servable.idle (same ∙ e)) in
+          let p = n.picked b (same ∙ e) in
+          let at = startable_places c t idle in
+          let i = p.0 in (
+            i,
+            (let l = p.1 in omega (arith, ap length at, length-map places (waiting_at t))),
+            ap (λ xs. get_or xs i 0) at ∙ (get_or-map (waiting_at t) places i 0 0 p.1 ∙ ap (waiting_at t) p.2),
+            subst (λ v. picks v i) (sym (view_held c t ds d idle)) p.3,
+          );
+    } in
+    (next, chosen)
+
+-- what is read of the record at a place: it is that of its command, and its drive that of its unit
+pub record Reads (c : Settings) (t : Trace) (ds : List Drive) (ws : List Record) (place : ℕ) : Type 0 where
+  pub own : record_at ws place ≡ held_of t (waiting_at t place)
+  pub at : drive_of ds (record_at ws place).command.unit ≡ drive_by c t (unit t (waiting_at t place))
+
+pub reads : (c : Settings) (t : Trace) (ds : List Drive) (ws : List Record) (place : ℕ) → Driven c t ds
+    → ws ≡ map (held_of t) (waiting t) → place < length (waiting t) → Reads c t ds ws place
+reads c t ds ws place d e l =
+    let W = waiting t in
+    let y = waiting_at t place in
+    let found : is_some (unit_found c (unit t y)) ≡ true =
+    (every_parts (λ x. is_some (unit_found c (unit t x)) ≡ true) (take place W) (y ∷ drop (place + 1) W)
+    (subst (AllByRecursion (λ x. is_some (unit_found c (unit t x)) ≡ true)) (cut_at t place l) d.configured)).1.0 in
+    let own : record_at ws place ≡ held_of t y = ap (λ zs. record_at zs place) e ∙ record_held t place l in
+    record {
+      own = own;
+      at = ap (λ (r : Record). drive_of ds r.command.unit) own
+          ∙ drive_found c t ds (unit t y) d found;
+    }
+
+pub waits_at : (t : Trace) (place : ℕ) → place < length (waiting t) → is_waiting t (waiting_at t place) ≡ true
+waits_at t place l =
+    let P : ℕ → Type 0 = λ x. is_waiting t x ≡ true in
+    (every_parts P (take place (waiting t)) (waiting_at t place ∷ drop (place + 1) (waiting t))
+    (subst (AllByRecursion P) (cut_at t place l) (waiting_waits t))).1.0

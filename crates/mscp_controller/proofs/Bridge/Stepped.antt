@@ -1,0 +1,390 @@
+-- A step of the record that may be served next: it is right, it is picked, and what is held after it is that of the
+-- run.
+use Rattle.std.proofs.Common.{◌≡◌, ℕ, ◌+◌, ◌<◌, Bool, true, false, cond, ◌&&◌, List, [], ◌∷◌, ◌++◌, map, take, drop, length, refl, ap, sym, ◌∙◌, subst, arith}
+use Rattle.std.specs.Prelude.{All, IfSome, nat_eq, nat_lt, Option, Some, None, is_some, option_to_list, if◌then◌else◌}
+use Rattle.std.specs.List.{AllByRecursion}
+use Rattle.std.proofs.Math.Bool.{and-false}
+use Rattle.std.proofs.lemmas.Bool.{eq-eqb, lt-ltb, true≢false, false≢true}
+use Rattle.std.proofs.lemmas.List.{map-append, take-map, drop-map}
+use Rattle.std.proofs.lemmas.List.Elements.{recursion_from_All}
+use Rattle.mscp_packet.specs.declared.end.End.{End}
+use Rattle.mscp_events.specs.declared.block.Block.{Block}
+use Rattle.mscp_events.specs.declared.block.Block.TheVariants.{Good, Bad}
+use Rattle.mscp_queue.specs.declared.drive.Drive.{Drive}
+use Rattle.mscp_queue.specs.declared.report.Report.{Report}
+use Rattle.mscp_queue.specs.declared.report.Report.TheVariants as reports
+use Rattle.mscp_queue.specs.declared.view.Choice.{Choice}
+use Rattle.mscp_queue.specs.Drives.{drive_of, replaced}
+use Rattle.mscp_queue.specs.Lines.{Line, ServesAt}
+use Rattle.mscp_queue.specs.declared.name.Name.{Name}
+use Rattle.mscp_events.specs.declared.connection.Connection.{Connection}
+use Rattle.mscp_events.specs.declared.connection.Connection.TheVariants.{First, Second}
+use Rattle.mscp_queue.specs.Names.{same_connection, same_name}
+use Rattle.mscp_queue.specs.Orders.{order_weight}
+use Rattle.mscp_queue.specs.Outcomes.{goes_on, is_good_block, touches}
+use Rattle.mscp_queue.specs.Records.{Record, advanced, step_toll, passed_by, record_at, remains}
+use Rattle.mscp_queue.specs.Records as recorded
+use Rattle.mscp_queue.specs.Serving.{IsNext, drive_after, end_given, report_of, waiting_after}
+use Rattle.mscp_events.specs.declared.event.Event.TheVariants as events
+use Rattle.mscp_controller.specs.declared.entry.Entry.TheVariants as entries
+use Rattle.mscp_events.specs.Settings.{Settings, IsValid}
+use Rattle.mscp_events.specs.Both.{Both, of}
+use Rattle.mscp_controller.specs.History.{Trace, Moment, is_good, service_in, WhenStarted}
+use Rattle.mscp_controller.specs.Commands.{connection, name, reference, service_name, unit, order, is_waiting, waiting, weight, done, good, left, serves_in}
+use Rattle.mscp_controller.specs.Passing.{passed}
+use Rattle.mscp_controller.specs.Passing as passings
+use Rattle.mscp_controller.specs.Units.{is_online}
+use Rattle.mscp_controller.specs.Ends.{outcome}
+use Rattle.mscp_controller.specs.Account.{untaken}
+use Rattle.mscp_controller.specs.Legal.{IsPick, IsRight, block_of, end_of, IsServed, seek_to}
+use Rattle.mscp_controller.specs.Holdings.{Holdings, ends_after, ends_reported, line_of}
+use Rattle.mscp_queue.proofs.Named.{is_same}
+use Rattle.mscp_queue.proofs.Lists.{every_mapped, every_weaker, every_both, every_from, every_parts}
+use Rattle.mscp_controller.proofs.Promise.Grows.{command_before, connection_before, done_before, good_before, untaken_more}
+use Rattle.mscp_controller.proofs.Promise.Waits.{cut_of, waiting_below, waiting_waits}
+use Rattle.mscp_controller.proofs.Promise.Apart.{Apart}
+use Rattle.mscp_controller.proofs.Promise.Among.{alone}
+use Rattle.mscp_controller.proofs.Promise.Served.{Serves, Step, changes, below_parts}
+use Rattle.mscp_controller.proofs.Promise.Passed.{none_starts, passed_behind, passed_front}
+use Rattle.mscp_controller.proofs.Promise.Known.{known_more}
+use Rattle.mscp_controller.proofs.Bridge.Legals.{service_by}
+use Rattle.mscp_queue.proofs.Placed.{map_map, map_on}
+use Rattle.mscp_controller.proofs.Bridge.Held.{held_of}
+use Rattle.mscp_controller.proofs.Bridge.Drives.{Driven, drive_by, driven_served, end_held, seek_held}
+use Rattle.mscp_controller.proofs.Bridge.Quiet.{held_same, records_kept}
+use Rattle.mscp_controller.proofs.Bridge.Sending.{Agrees, Sends}
+use Rattle.mscp_controller.proofs.Bridge.Viewed.{cut_at, record_held, waiting_at}
+use Rattle.mscp_controller.proofs.Bridge.Servable.{Next, next_held, reads, waits_at}
+
+-- ---- what it says
+
+-- the moment that serves y
+abbrev pub serving : Settings → Trace → Block → ℕ → Moment
+serving c t k y = (
+  events.Step k,
+  entries.Stepped (reports.Served (connection t y) (reference t y) (unit t y) (block_of t y) (nat_eq (done t y) 0)
+      (seek_to c t (unit t y) (block_of t y)) (end_of c t k y)),
+)
+
+-- a step of a record reports the service
+report_held : (c : Settings) (t : Trace) (k : Block) (y : ℕ)
+    → entries.Stepped (report_of k (drive_by c t (unit t y)) (held_of t y)) ≡ (serving c t k y).1
+unfolding block_of
+report_held c t k y = λ i. entries.Stepped (reports.Served (connection t y) (reference t y) (unit t y) (block_of t y)
+    (nat_eq (done t y) 0) (seek_held c t (unit t y) (block_of t y) i) (end_held c t k y i))
+
+-- the command at a place waits
+served_at : (c : Settings) (t : Trace) (k : Block) (place : ℕ) → Next c t place
+    → IsServed c t k (service_by c t k (waiting_at t place)) (waiting_at t place)
+served_at c t k place n =
+    record {
+      waits = waits_at t place n.inside;
+      next = n.next;
+      lbn = refl;
+      started = refl;
+      seek = refl;
+      ended = refl;
+      connection = refl;
+      reference = refl;
+      unit = refl;
+    }
+
+-- and so the step is one of the command there, among the others
+step_at : (c : Settings) (t : Trace) (k : Block) (place : ℕ) → Apart t (waiting t) → Next c t place
+    → Step c t (serving c t k (waiting_at t place)) (service_by c t k (waiting_at t place)) k (waiting_at t place)
+    (take place (waiting t)) (drop (place + 1) (waiting t))
+step_at c t k place apart n =
+    let y = waiting_at t place in
+    let A = take place (waiting t) in
+    let B = drop (place + 1) (waiting t) in
+    let serves : Serves t (serving c t k y) (service_by c t k y) y A B =
+    record { among = alone t y A B apart (cut_of t A y B (cut_at t place n.inside)); is = refl; same = refl } in
+    record {
+      served = served_at c t k place n;
+      serves = serves;
+      changes =
+          changes t (serving c t k y) (service_by c t k y) y A B serves;
+    }
+
+-- ---- the others
+
+one_if : Bool → ℕ
+one_if b = cond b 1 0
+
+unserved : (here well : Bool) (n : ℕ) → n + one_if here ≡ n → one_if (here && well) ≡ 0
+unfolding one_if
+unserved true well n h = absurd (omega arith)
+unserved false well n h = refl
+
+good_same : (t : Trace) (m : Moment) (x : ℕ) → x < length t → done (t ++ m ∷ []) x ≡ done t x
+    → good (t ++ m ∷ []) x ≡ good t x
+unfolding one_if
+good_same t m x l d =
+    good_before t m x l ∙ (ap (λ n. good t x + n) (unserved (serves_in (name t x) m.1) (is_good m.0) (done t x)
+    (sym (done_before t m x l) ∙ d)) ∙ omega arith)
+
+-- the commands behind it keep their records
+behind_kept : (c : Settings) (t : Trace) (k : Block) (y : ℕ) (A B : List ℕ)
+    → Step c t (serving c t k y) (service_by c t k y) k y A B
+    → map (held_of (t ++ serving c t k y ∷ [])) B ≡ map (held_of t) B
+behind_kept c t k y A B st =
+    let m = serving c t k y in
+    let t' = t ++ m ∷ [] in
+    let at = st.serves.among.at in
+    let L : ℕ → Type 0 = λ x. (x < length t) × (y < x) in
+    let D : ℕ → Type 0 = λ x. done t' x ≡ done t x in
+    records_kept t t' B
+    (every_weaker (λ x. L x × D x) (λ x. held_of t' x ≡ held_of t x)
+    (λ x h. held_same t m x h.0.0 h.1 (good_same t m x h.0.0 h.1)
+    (passed_behind c t m (service_by c t k y) k y A B st x (omega (arith, h.0.1))))
+    B (every_both L D B (every_both (λ x. x < length t) (λ x. y < x) B (below_parts t y A B at).1.1 at.behind)
+    st.changes.back_done))
+
+-- a record that was passed
+held_passed : (t : Trace) (m : Moment) (x n : ℕ) → x < length t → done (t ++ m ∷ []) x ≡ done t x
+    → good (t ++ m ∷ []) x ≡ good t x → passed (t ++ m ∷ []) x ≡ passed t x + n
+    → held_of (t ++ m ∷ []) x ≡ passed_by n (held_of t x)
+held_passed t m x n l d g p = λ i.
+    let k = command_before t m x l in
+    let v = connection_before t m x l in
+    record {
+      connection = v i;
+      command = k i;
+      weight = order_weight (k i).order;
+      done = d i;
+      good = g i;
+      passed = p i;
+    }
+
+cost_held : (t : Trace) (y : ℕ) (b : Bool) → nat_eq (done t y) 0 ≡ b
+    → step_toll (held_of t y) ≡ cond b (weight t y) 0
+cost_held t y b e = ap (λ b. cond b (weight t y) 0) e
+
+-- by how much a command in front was passed then
+front_tolled : (c : Settings) (t : Trace) (k : Block) (y : ℕ) (A B : List ℕ)
+    → Step c t (serving c t k y) (service_by c t k y) k y A B
+    → (nat_eq (done t y) 0 ≡ true → AllByRecursion (λ x. passings.is_unstarted t x ≡ true) A)
+    → AllByRecursion (λ x. passed (t ++ serving c t k y ∷ []) x ≡ passed t x + step_toll (held_of t y)) A
+front_tolled c t k y A B st idle =
+    let m = serving c t k y in
+    let s = service_by c t k y in
+    let at = st.serves.among.at in
+    let Q : ℕ → ℕ → Type 0 = λ n x. passed (t ++ m ∷ []) x ≡ passed t x + n in
+    let both : (b : Bool) → nat_eq (done t y) 0 ≡ b → AllByRecursion (Q (step_toll (held_of t y))) A =
+    λ b. elim b as (λ b. nat_eq (done t y) 0 ≡ b → AllByRecursion (Q (step_toll (held_of t y))) A) [
+      | true ↦ λ e. subst (λ n. AllByRecursion (Q n) A) (sym (cost_held t y true e))
+          (every_weaker (λ x. (x < y) × (passings.is_unstarted t x ≡ true)) (Q (weight t y))
+          (λ x h. passed_front c t m s k y A B st e x h.0 h.1) A
+          (every_both (λ x. x < y) (λ x. passings.is_unstarted t x ≡ true) A at.before (idle e)))
+      | false ↦ λ e. subst (λ n. AllByRecursion (Q n) A) (sym (cost_held t y false e))
+          (every_from (Q 0) (λ x. none_starts t m x
+          (λ r. ap (λ b. same_name (name t y) r && b) e ∙ and-false (same_name (name t y) r)) ∙ omega arith) A)
+    ] in
+    both (nat_eq (done t y) 0) refl
+
+-- the commands in front of it were passed
+front_passed : (c : Settings) (t : Trace) (k : Block) (y : ℕ) (A B : List ℕ)
+    → Step c t (serving c t k y) (service_by c t k y) k y A B
+    → (nat_eq (done t y) 0 ≡ true → AllByRecursion (λ x. passings.is_unstarted t x ≡ true) A)
+    → map (passed_by (step_toll (held_of t y))) (map (held_of t) A) ≡ map (held_of (t ++ serving c t k y ∷ [])) A
+front_passed c t k y A B st idle =
+    let m = serving c t k y in
+    let t' = t ++ m ∷ [] in
+    let n = step_toll (held_of t y) in
+    let at = st.serves.among.at in
+    let D : ℕ → Type 0 = λ x. (x < length t) × (done t' x ≡ done t x) in
+    let P : ℕ → Type 0 = λ x. passed t' x ≡ passed t x + n in
+    map_map (held_of t) (passed_by n) A
+    ∙ map_on (λ x. passed_by n (held_of t x)) (held_of t') A
+    (every_weaker (λ x. D x × P x) (λ x. passed_by n (held_of t x) ≡ held_of t' x)
+    (λ x h. sym (held_passed t m x n h.0.0 h.0.1 (good_same t m x h.0.0 h.0.1) h.1)) A
+    (every_both D P A (every_both (λ x. x < length t) (λ x. done t' x ≡ done t x) A (below_parts t y A B at).0
+    st.changes.front_done) (front_tolled c t k y A B st idle)))
+
+-- ---- the command itself, where it goes on
+
+cut_off : (a b : Bool) → (a && false && b) ≡ false
+cut_off true b = refl
+cut_off false b = refl
+
+-- where a command goes on, its block was good
+goes_good : (a b : Bool) (k : Block) → (a && is_good_block k && b) ≡ true → is_good (events.Step k) ≡ true
+goes_good a b Good h = refl
+goes_good a b (Bad status) h = absurd (false≢true (sym (cut_off a b) ∙ h))
+
+goes_when : (b : Bool) (e : End) → (if b then None else Some e) ≡ None → b ≡ true
+goes_when true e h = refl
+goes_when false e h = absurd (true≢false (ap is_some h))
+
+goes_on_good : (c : Settings) (t : Trace) (k : Block) (y : ℕ) → end_of c t k y ≡ None → is_good (events.Step k) ≡ true
+goes_on_good c t k y h =
+    let on = is_online t (unit t y) in
+    goes_good (touches on (order t y)) (nat_lt 1 (left t y)) k
+    (goes_when (goes_on on (order t y) k (left t y)) (outcome c t k y) h)
+
+good_own : (c : Settings) (t : Trace) (k : Block) (y : ℕ) → y < length t → end_of c t k y ≡ None
+    → good (t ++ serving c t k y ∷ []) y ≡ good t y + 1
+good_own c t k y l e =
+    good_before t (serving c t k y) y l
+    ∙ (ap (λ b. good t y + cond (b && is_good (events.Step k)) 1 0) (is_same (name t y) (name t y) refl)
+    ∙ ap (λ b. good t y + cond b 1 0) (goes_on_good c t k y e))
+
+held_own : (c : Settings) (t : Trace) (k : Block) (y : ℕ) (A B : List ℕ)
+    → Step c t (serving c t k y) (service_by c t k y) k y A B → end_of c t k y ≡ None
+    → held_of (t ++ serving c t k y ∷ []) y ≡ advanced (held_of t y)
+held_own c t k y A B st e =
+    let m = serving c t k y in
+    let l = (below_parts t y A B st.serves.among.at).1.0 in
+    let q = command_before t m y l in
+    let v = connection_before t m y l in
+    let d = st.changes.own_done in
+    let g = good_own c t k y l e in
+    let p = passed_behind c t m (service_by c t k y) k y A B st y (omega arith) in
+    λ i. record {
+      connection = v i;
+      command = q i;
+      weight = order_weight (q i).order;
+      done = d i;
+      good = g i;
+      passed = p i;
+    }
+
+own_remains : (c : Settings) (t : Trace) (k : Block) (y : ℕ) (A B : List ℕ)
+    → Step c t (serving c t k y) (service_by c t k y) k y A B → (o : Option End) → end_of c t k y ≡ o
+    → remains (held_of t y) o ≡ map (held_of (t ++ serving c t k y ∷ [])) (cond (is_some o) [] (y ∷ []))
+own_remains c t k y A B st None e = ap (λ r. r ∷ []) (sym (held_own c t k y A B st e))
+own_remains c t k y A B st (Some end) e = refl
+
+-- ---- what is held afterwards
+
+-- the records after a step of the one at the place
+waiting_served : (c : Settings) (t : Trace) (k : Block) (place : ℕ) (d : Drive) → Apart t (waiting t) → Next c t place
+    → d ≡ drive_by c t (unit t (waiting_at t place))
+    → (nat_eq (done t (waiting_at t place)) 0 ≡ true
+    → AllByRecursion (λ x. passings.is_unstarted t x ≡ true) (take place (waiting t)))
+    → waiting_after k d (map (held_of t) (waiting t)) place
+    ≡ map (held_of (t ++ serving c t k (waiting_at t place) ∷ []))
+    (waiting (t ++ serving c t k (waiting_at t place) ∷ []))
+waiting_served c t k place d apart n e idle =
+    let y = waiting_at t place in
+    let A = take place (waiting t) in
+    let B = drop (place + 1) (waiting t) in
+    let rs = map (held_of t) (waiting t) in
+    let m = serving c t k y in
+    let t' = t ++ m ∷ [] in
+    let h' = held_of t' in
+    let o = end_of c t k y in
+    let st = step_at c t k place apart n in
+    let gone = cond (is_some o) [] (y ∷ []) in
+    let leaves : Drive → Record → List Record → List Record → List Record =
+    λ d r front back. map (passed_by (step_toll r)) front ++ (remains r (end_given k d r) ++ back) in
+    ap (λ r. leaves d r (take place rs) (drop (place + 1) rs)) (record_held t place n.inside)
+    ∙ (ap (λ d. leaves d (held_of t y) (take place rs) (drop (place + 1) rs)) e
+    ∙ (ap (λ a. leaves (drive_by c t (unit t y)) (held_of t y) a (drop (place + 1) rs))
+    (take-map (held_of t) place (waiting t))
+    ∙ (ap (λ b. leaves (drive_by c t (unit t y)) (held_of t y) (map (held_of t) A) b)
+    (drop-map (held_of t) (place + 1) (waiting t))
+    ∙ (ap (λ x. map (passed_by (step_toll (held_of t y))) (map (held_of t) A)
+    ++ (remains (held_of t y) x ++ map (held_of t) B)) (end_held c t k y)
+    ∙ (ap (λ a. a ++ (remains (held_of t y) o ++ map (held_of t) B)) (front_passed c t k y A B st idle)
+    ∙ (ap (λ r. map h' A ++ (r ++ map (held_of t) B)) (own_remains c t k y A B st o refl)
+    ∙ (ap (λ b. map h' A ++ (map h' gone ++ b)) (sym (behind_kept c t k y A B st))
+    ∙ (ap (λ l. map h' A ++ l) (sym (map-append h' gone B))
+    ∙ (sym (map-append h' A (gone ++ B)) ∙ ap (map h') (sym st.changes.waits))))))))))
+
+-- what is answered to a step is right and picked, and what is then held is that of the run
+pub record Turns {K : Type 0} (c : Settings) (picks : List Choice → ℕ → Type 0) (t : Trace) (m : Moment)
+    (begun : Option Name) (h : Holdings K) : Type 0 where
+  pub sends : Sends c t m h
+  -- what was begun is served
+  pub same : (n : Name) → begun ≡ Some n → IfSome (service_in m.1) (λ s. service_name s ≡ n)
+  -- and where nothing was, what starts is picked
+  pub picked : begun ≡ None → WhenStarted (λ s. IsPick c picks t (service_name s)) (service_in m.1)
+
+unstarted_by : (t : Trace) (x : ℕ) → x < length t → is_waiting t x ≡ true → done t x ≡ 0
+    → passings.is_unstarted t x ≡ true
+unstarted_by t x l w d =
+    ap (λ b. b && is_waiting t x && nat_eq (done t x) 0) (lt-ltb x (length t) l)
+    ∙ (ap (λ b. b && nat_eq (done t x) 0) w ∙ eq-eqb (done t x) 0 d)
+
+-- where one starts, each that waits was never served
+unstarted_front : (c : Settings) (picks : List Choice → ℕ → Type 0) (t : Trace) (place : ℕ) (ds : List Drive)
+    (rs : List Record) (begun : Option Name) → rs ≡ map (held_of t) (waiting t)
+    → IsNext picks c.budget ds rs begun place → Next c t place
+    → nat_eq (done t (waiting_at t place)) 0 ≡ true
+    → AllByRecursion (λ x. passings.is_unstarted t x ≡ true) (take place (waiting t))
+unstarted_front c picks t place ds rs begun e n held u =
+    let W = waiting t in
+    let here : recorded.is_unstarted (record_at rs place) ≡ true =
+    ap (λ l. recorded.is_unstarted (record_at l place)) e
+    ∙ (ap recorded.is_unstarted (record_held t place held.inside) ∙ u) in
+    let done_all = every_mapped (held_of t) (λ r. r.done ≡ 0) W
+    (recursion_from_All (λ r. r.done ≡ 0) (map (held_of t) W)
+    (subst (All (λ r. r.done ≡ 0)) e (n.servable.idle here))) in
+    let W' : AllByRecursion (λ x. (x < length t) × (is_waiting t x ≡ true)) W =
+    every_both (λ x. x < length t) (λ x. is_waiting t x ≡ true) W (waiting_below t) (waiting_waits t) in
+    let all = every_weaker (λ x. ((x < length t) × (is_waiting t x ≡ true)) × (done t x ≡ 0))
+    (λ x. passings.is_unstarted t x ≡ true)
+    (λ x q. unstarted_by t x q.0.0 q.0.1 q.1) W (every_both (λ x. (x < length t) × (is_waiting t x ≡ true))
+    (λ x. done t x ≡ 0) W W' done_all) in
+    (every_parts (λ x. passings.is_unstarted t x ≡ true) (take place W) (waiting_at t place ∷ drop (place + 1) W)
+    (subst (AllByRecursion (λ x. passings.is_unstarted t x ≡ true)) (cut_at t place held.inside) all)).0
+
+-- the ends of a connection after a report
+pub of_after : (via : Connection) (us : Both (List End)) (report : Report)
+    → of via (ends_after us report) ≡ of via us ++ ends_reported via report
+of_after First us report = refl
+of_after Second us report = refl
+
+-- A step of the record at a place.
+pub turns_at : {K : Type 0} (picks : List Choice → ℕ → Type 0) (h h' : Holdings K) (t : Trace) (k : Block)
+    (report : Report) (place : ℕ) → IsValid h.settings → Agrees h.settings t h
+    → ServesAt picks k (line_of h) report (line_of h') place → h'.untaken ≡ ends_after h.untaken report
+    → Turns h.settings picks t (events.Step k, entries.Stepped report) h.begun h'
+turns_at {K} picks h h' t k report place v a s u =
+    let c = h.settings in
+    let W = waiting t in
+    let rs = map (held_of t) W in
+    let f = a.follows in
+    let next : IsNext picks c.budget h.drives rs h.begun place =
+    subst (λ ws. IsNext picks c.budget h.drives ws h.begun place) f.waits s.next in
+    let both = next_held c picks t h.drives h.begun place a.driven next in
+    let n = both.0 in
+    let y = waiting_at t place in
+    let m = serving c t k y in
+    let t' = t ++ m ∷ [] in
+    let apart = f.known.steady.apart in
+    let st = step_at c t k place apart n in
+    let idle = unstarted_front c picks t place h.drives rs h.begun refl next n in
+    let read = reads c t h.drives h.waiting place a.driven f.waits n.inside in
+    let own = read.own in
+    let at = read.at in
+    let told : report ≡ report_of k (drive_by c t (unit t y)) (held_of t y) =
+    s.told ∙ (λ i. report_of k (at i) (own i)) in
+    let entry : entries.Stepped report ≡ m.1 = ap entries.Stepped told ∙ report_held c t k y in
+    let right : IsRight c t m.0 m.1 = (y, served_at c t k place n) in
+    let known = known_more c v.some_blocks t m right f.known in
+    let waits : h'.waiting ≡ map (held_of t') (waiting t') =
+    ap (λ (l : Line K). l.waiting) s.left ∙ (ap (λ ws.
+    waiting_after k (drive_of h.drives (record_at h.waiting place).command.unit) ws place) f.waits
+    ∙ waiting_served c t k place (drive_of h.drives (record_at h.waiting place).command.unit) apart n at idle) in
+    let ends : (via : Connection) → of via h'.untaken ≡ untaken c via t' = λ via.
+    ap (of via) u ∙ (of_after via h.untaken report ∙ ((λ i. f.ends via i ++ ends_reported via (told i))
+    ∙ (ap (λ o. untaken c via t ++ (if same_connection (connection t y) via then option_to_list o else []))
+    (end_held c t k y) ∙ sym (untaken_more c via t m refl (f.known.room.taken via))))) in
+    let drives : h'.drives ≡ replaced (unit t y) (drive_after k (drive_by c t (unit t y)) (held_of t y)) h.drives =
+    ap (λ (l : Line K). l.drives) s.left ∙ (λ i. replaced (own i).command.unit (drive_after k (at i) (own i))
+    h.drives) in
+    let driven = driven_served c t m k y (take place W) (drop (place + 1) W) h.drives v.unit_list st right a.driven in
+    let all : Turns c picks t m h.begun h' = record {
+      sends = record {
+        right = right;
+        agrees = record {
+          follows = record { known = known; waits = waits; ends = ends };
+          driven = subst (Driven c t') (sym drives) driven;
+        };
+      };
+      same = both.1.same;
+      picked = λ b e. let p = both.1.picked b e in (p.0, p.1, ap (name t) p.2, p.3);
+    } in
+    subst (λ q. Turns c picks t (events.Step k, q) h.begun h') (sym entry) all

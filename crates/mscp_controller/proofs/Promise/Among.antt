@@ -1,0 +1,57 @@
+-- A waiting command among the others, which have other names.
+use Rattle.std.proofs.Common.{◌≡◌, ◌≢◌, ℕ, Bool, true, false, List, refl, ap, sym, ◌∙◌, subst}
+use Rattle.std.specs.Prelude.{find, unwrap_or, Some}
+use Rattle.std.specs.List.{AllByRecursion}
+use Rattle.mscp_events.specs.Settings.{Settings}
+use Rattle.mscp_controller.specs.History.{Trace}
+use Rattle.mscp_controller.specs.Commands.{is_waiting, name, waiting}
+use Rattle.mscp_controller.specs.Figures.{figure, figure_of, figure_found}
+use Rattle.mscp_queue.specs.Names.{same_name}
+use Rattle.mscp_queue.proofs.Named.{is_differ, is_same}
+use Rattle.mscp_queue.proofs.Lists.{every_weaker, pairs_middle}
+use Rattle.mscp_queue.proofs.Placed.{find_first}
+use Rattle.mscp_controller.proofs.Promise.Waits.{Cut, cut, waits_below}
+use Rattle.mscp_controller.proofs.Promise.Apart.{Apart}
+
+pub record Alone (t : Trace) (y : ℕ) (front back : List ℕ) : Type 0 where
+  pub at : Cut t y front back
+  pub before : AllByRecursion (λ x. name t x ≢ name t y) front
+  pub behind : AllByRecursion (λ x. name t x ≢ name t y) back
+
+pub alone : (t : Trace) (y : ℕ) (front back : List ℕ) → Apart t (waiting t) → Cut t y front back → Alone t y front back
+alone t y front back a k =
+    let p = pairs_middle (λ x z. name t x ≢ name t z) front y back (subst (λ l. Apart t l) k.is a) in
+    record {
+      at = k;
+      before = p.0;
+      behind = every_weaker (λ x. name t y ≢ name t x) (λ x. name t x ≢ name t y)
+          (λ x n e. n (sym e)) back p.1;
+    }
+
+-- The figure of its name is its own.
+pub figure_of_one : (c : Settings) (t : Trace) (y : ℕ) (front back : List ℕ) → Alone t y front back
+    → figure_of c t (name t y) ≡ figure c t y
+unfolding figure_of
+figure_of_one c t y front back a =
+    let p : ℕ → Bool = λ x. same_name (name t x) (name t y) in
+    ap (figure_found c t) (ap (find p) a.at.is
+    ∙ find_first p front y back
+    (every_weaker (λ x. name t x ≢ name t y) (λ x. p x ≡ false)
+    (λ x n. is_differ (name t x) (name t y) n) front a.before)
+    (is_same (name t y) (name t y) refl))
+
+-- two that wait and have one name are one
+pub one_waits : (t : Trace) (x y : ℕ) → Apart t (waiting t) → is_waiting t x ≡ true → is_waiting t y ≡ true
+    → name t x ≡ name t y → x ≡ y
+one_waits t x y apart w v e =
+    let found : (z : ℕ) → is_waiting t z ≡ true → find (λ i. same_name (name t i) (name t z)) (waiting t)
+    ≡ Some z =
+    λ z k.
+    let c = cut t z (waits_below t z k) k in
+    let a = alone t z c.0 c.1 apart c.2 in
+    let p : ℕ → Bool = λ i. same_name (name t i) (name t z) in
+    ap (find p) a.at.is
+    ∙ find_first p c.0 z c.1 (every_weaker (λ i. name t i ≢ name t z) (λ i. p i ≡ false)
+    (λ i n. is_differ (name t i) (name t z) n) c.0 a.before) (is_same (name t z) (name t z) refl) in
+    ap (λ o. unwrap_or o x) (sym (found x w) ∙ (ap (λ n. find (λ i. same_name (name t i) n) (waiting t)) e
+    ∙ found y v))

@@ -1,0 +1,106 @@
+-- The commands that wait have different names.
+use Rattle.std.proofs.Common.{◌≡◌, ◌≢◌, ℕ, ◌<◌, Bool, true, false, cond, not, List, [], ◌∷◌, ◌++◌, map, length, refl, ap, sym, ◌∙◌, subst, append-nil}
+use Rattle.std.specs.Prelude.{nat_eq, filter}
+use Rattle.std.specs.List.{AllByRecursion}
+use Rattle.std.proofs.lemmas.Bool.{or_parts, eqb-false, true≢false}
+use Rattle.mscp_packet.specs.declared.end.End.{End}
+use Rattle.mscp_events.specs.Settings.{Settings}
+use Rattle.mscp_packet.specs.Commands.{command_of}
+use Rattle.mscp_controller.specs.Arrival.{holds}
+use Rattle.mscp_controller.specs.History.{Trace, Moment, connection_of, queues, sent_bytes}
+use Rattle.mscp_controller.specs.Commands.{connection, name, reference, waiting, waiting_by, ends_in}
+use Rattle.mscp_controller.specs.Account.{untaken, outstanding}
+use Rattle.mscp_controller.specs.Legal.{IsRight}
+use Rattle.mscp_queue.specs.declared.name.Name.{Name}
+use Rattle.mscp_queue.specs.Names.{name_on, same_connection}
+use Rattle.mscp_queue.specs.Pairs.{Pairs}
+use Rattle.mscp_queue.proofs.Named.{own_side}
+use Rattle.mscp_queue.proofs.Lists.{every_kept, every_weaker, pairs_filter, pairs_append}
+use Rattle.mscp_controller.proofs.Promise.Grows.{command_last, connection_last, name_before, waiting_more}
+use Rattle.mscp_controller.proofs.Promise.Waits.{waiting_below}
+use Rattle.mscp_controller.proofs.Promise.Arrivals.{queued_right}
+
+abbrev pub Apart : Trace → List ℕ → Type 0
+Apart t xs = Pairs (λ x y. name t x ≢ name t y) xs
+
+-- the name of what a moment queues
+abbrev pub queued_name : Moment → Name
+queued_name m = name_on (connection_of m.0) (command_of (sent_bytes m.0)).reference
+
+pub name_last : (t : Trace) (m : Moment) → name (t ++ m ∷ []) (length t) ≡ queued_name m
+name_last t m = λ i. name_on (connection_last t m i) (command_last t m i).reference
+
+apart_from : (t : Trace) (m : Moment) (x : ℕ) (xs : List ℕ) → x < length t → AllByRecursion (λ y. y < length t) xs
+    → AllByRecursion (λ y. name t x ≢ name t y) xs
+    → AllByRecursion (λ y. name (t ++ m ∷ []) x ≢ name (t ++ m ∷ []) y) xs
+apart_from t m x [] l h a = tt
+apart_from t m x (y ∷ ys) l h a = (
+  (λ e. a.0 (sym (name_before t m x l) ∙ (e ∙ name_before t m y h.0))),
+  apart_from t m x ys l h.1 a.1,
+)
+
+apart_along : (t : Trace) (m : Moment) (xs : List ℕ) → AllByRecursion (λ x. x < length t) xs → Apart t xs
+    → Apart (t ++ m ∷ []) xs
+apart_along t m [] h a = tt
+apart_along t m (x ∷ xs) h a = (apart_from t m x xs h.0 h.1 a.0, apart_along t m xs h.1 a.1)
+
+not_held : (f : ℕ → ℕ) (xs us : List ℕ) (q : ℕ) → holds (map f xs ++ us) q ≡ false → AllByRecursion (λ x. f x ≢ q) xs
+not_held f [] us q h = tt
+not_held f (x ∷ xs) us q h = let p = or_parts (nat_eq (f x) q) (holds (map f xs ++ us) q) h in
+    (eqb-false (f x) q p.0, not_held f xs us q p.1)
+
+new_apart : (t : Trace) (m : Moment) (xs : List ℕ) → AllByRecursion (λ x. x < length t) xs
+    → AllByRecursion (λ x. name t x ≢ queued_name m) xs
+    → AllByRecursion (λ x. name (t ++ m ∷ []) x ≢ name (t ++ m ∷ []) (length t)) xs
+new_apart t m [] h a = tt
+new_apart t m (x ∷ xs) h a = (
+  (λ e. a.0 (sym (name_before t m x h.0) ∙ (e ∙ name_last t m))),
+  new_apart t m xs
+      h.1 a.1,
+)
+
+-- what holds of each that passes a test
+each_passed : (P : ℕ → Type 0) (p : ℕ → Bool) (xs : List ℕ) → AllByRecursion P (filter p xs)
+    → AllByRecursion (λ x. p x ≡ true → P x) xs
+each_passed P p [] h = tt
+each_passed P p (x ∷ xs) h =
+    let both : (b : Bool) → p x ≡ b → AllByRecursion P (cond b (x ∷ filter p xs) (filter p xs))
+    → AllByRecursion (λ x. p x ≡ true → P x) (x ∷ xs) =
+    λ b. elim b as (λ b. p x ≡ b → AllByRecursion P (cond b (x ∷ filter p xs) (filter p xs))
+    → AllByRecursion (λ x. p x ≡ true → P x) (x ∷ xs)) [
+      | true ↦ λ e k. ((λ q. k.0), each_passed P p xs k.1)
+      | false ↦ λ e k. ((λ q. absurd (true≢false (sym q ∙ e))), each_passed P p xs k)
+    ] in
+    both (p x) refl h
+
+-- a queued command has a new name
+pub new_name : (c : Settings) (t : Trace) (m : Moment) → IsRight c t m.0 m.1 → queues m.1 ≡ true
+    → AllByRecursion (λ x. name t x ≢ queued_name m) (waiting t)
+unfolding outstanding command_of
+new_name c t m r q =
+    let new = (command_of (sent_bytes m.0)).reference in
+    let via = connection_of m.0 in
+    let on : ℕ → Bool = λ x. same_connection (connection t x) via in
+    every_weaker (λ x. on x ≡ true → reference t x ≢ new) (λ x. name t x ≢ queued_name m)
+    (λ x n e. n (ap (λ (k : Name). same_connection k.connection via) e ∙ own_side via)
+    (ap (λ (k : Name). k.reference) e)) (waiting t)
+    (each_passed (λ x. reference t x ≢ new) on (waiting t)
+    (not_held (reference t) (waiting_by via t) (map (λ (e : End). e.reference) (untaken c via t)) new
+    (queued_right c t m.0 m.1 q r).taken.new))
+
+-- A legal moment keeps the names apart.
+pub apart_more : (c : Settings) (t : Trace) (m : Moment) → IsRight c t m.0 m.1 → Apart t (waiting t)
+    → Apart (t ++ m ∷ []) (waiting (t ++ m ∷ []))
+apart_more c t m r a =
+    let keep : ℕ → Bool = λ x. not (ends_in (name t x) m.1) in
+    let kept = filter keep (waiting t) in
+    let below = every_kept (λ x. x < length t) keep (waiting t) (waiting_below t) in
+    let old = apart_along t m kept below (pairs_filter (λ x y. name t x ≢ name t y) keep (waiting t) a) in
+    let both : (b : Bool) → queues m.1 ≡ b → Apart (t ++ m ∷ []) (kept ++ cond b (length t ∷ []) []) =
+    λ b. elim b as (λ b. queues m.1 ≡ b → Apart (t ++ m ∷ []) (kept ++ cond b (length t ∷ []) [])) [
+      | true ↦ λ e. pairs_append (λ x y. name (t ++ m ∷ []) x ≢ name (t ++ m ∷ []) y) kept (length t) old
+          (new_apart t m kept below (every_kept (λ x. name t x ≢ queued_name m) keep
+          (waiting t) (new_name c t m r e)))
+      | false ↦ λ e. subst (λ l. Apart (t ++ m ∷ []) l) (sym (append-nil kept)) old
+    ] in
+    subst (λ l. Apart (t ++ m ∷ []) l) (sym (waiting_more t m)) (both (queues m.1) refl)

@@ -1,0 +1,110 @@
+-- What is known of a message that was taken.
+use Rattle.std.proofs.Common.{◌≡◌, ℕ, ◌≤◌, Bool, true, false, not, ◌&&◌, List, length, refl, ap, ◌∙◌}
+use Rattle.std.specs.Prelude.{nat_eq, nat_lt, if◌then◌else◌, slice_index, Option, Some, None, is_some, Result, Ok, Err, is_ok}
+use Rattle.std.proofs.lemmas.Bool.{ltb-false, eqb-false, true≢false, false≢true}
+use Rattle.mscp_packet.specs.declared.command.Command.{Command}
+use Rattle.mscp_controller.specs.declared.entry.SendFault.{SendFault}
+use Rattle.mscp_controller.specs.declared.entry.SendFault.TheVariants.{Short, Long, NoCredit, LastCredit, Doubled}
+use Rattle.mscp_controller.specs.declared.entry.Sent.{Sent}
+use Rattle.mscp_controller.specs.declared.entry.Sent.TheVariants as sents
+use Rattle.mscp_events.specs.declared.event.Event.{Event}
+use Rattle.mscp_events.specs.declared.event.Event.TheVariants as events
+use Rattle.mscp_controller.specs.declared.entry.Entry.{Entry}
+use Rattle.mscp_controller.specs.declared.entry.Entry.TheVariants as entries
+use Rattle.mscp_events.specs.declared.connection.Connection.{Connection}
+use Rattle.mscp_events.specs.Settings.{Settings}
+use Rattle.mscp_packet.specs.Number.{num}
+use Rattle.mscp_packet.specs.Opcodes.{class, is_immediate_class}
+use Rattle.mscp_packet.specs.Commands.{command_of}
+use Rattle.mscp_controller.specs.Arrival.{is_queued, holds, refusal}
+use Rattle.mscp_controller.specs.History.{Trace, connection_of, queues, sent_bytes}
+use Rattle.mscp_controller.specs.Credits.{aborted_reference, taken_in, taken_unless, arrival}
+use Rattle.mscp_controller.specs.Account.{balance, outstanding}
+use Rattle.mscp_controller.specs.Legal.{IsRight}
+
+-- no reason to refuse it
+pub record IsTaken (credit : ℕ) (references b : List ℕ) : Type 0 where
+  pub low : 12 ≤ length b
+  pub high : length b ≤ 64
+  pub free : (credit ≡ 0) → ⊥
+  pub last : (nat_eq credit 1 && not (is_immediate_class (class (slice_index b 8)))) ≡ false
+  pub new : holds references (num b 0 4) ≡ false
+
+pub if_none : {X : Type 0} (b : Bool) (f : X) (rest : Option X) → (if b then Some f else rest) ≡ None
+    → (b ≡ false) × (rest ≡ None)
+if_none true f rest h = absurd (true≢false (ap is_some h))
+if_none false f rest h = (refl, h)
+
+pub refusal_none : (credit : ℕ) (references b : List ℕ) → refusal credit references b ≡ None
+    → IsTaken credit references b
+refusal_none credit references b h =
+    let e = if_none (nat_lt (length b) 12) Short _ h in
+    let f = if_none (nat_lt 64 (length b)) Long _ e.1 in
+    let g = if_none (nat_eq credit 0) NoCredit _ f.1 in
+    let k = if_none (nat_eq credit 1 && not (is_immediate_class (class (slice_index b 8)))) LastCredit _ g.1 in
+    let l = if_none (holds references (num b 0 4)) Doubled None k.1 in
+    record {
+      low = ltb-false (length b) 12 e.0;
+      high = ltb-false 64 (length b) f.0;
+      free =
+          eqb-false credit 0 g.0;
+      last = k.0;
+      new = l.0;
+    }
+
+sent_or : Sent → Result Sent SendFault → Sent
+sent_or s (Ok r) = r
+sent_or s (Err f) = s
+
+unless_ok : (c : Settings) (via : Connection) (t : Trace) (command : Command) (s : Sent) (o : Option SendFault)
+    → Ok s ≡ taken_unless c via t command o → (o ≡ None) × (s ≡ taken_in c via t command)
+unfolding sent_or
+unless_ok c via t command s None h = (refl, ap (sent_or s) h)
+unless_ok c via t command s (Some fault) h = absurd (true≢false (ap is_ok h))
+
+pub record Arrives (c : Settings) (via : Connection) (t : Trace) (b : List ℕ) (s : Sent) : Type 0 where
+  pub taken : IsTaken (balance c via t) (outstanding c via t) b
+  pub is : s ≡ taken_in c via t (command_of b)
+
+pub arrives : (c : Settings) (via : Connection) (t : Trace) (b : List ℕ) (s : Sent) → Ok s ≡ arrival c via t b
+    → Arrives c via t b s
+unfolding arrival
+arrives c via t b s h =
+    let u = unless_ok c via t (command_of b) s (refusal (balance c via t) (outstanding c via t) b) h in
+    record { taken = refusal_none (balance c via t) (outstanding c via t) b u.0; is = u.1 }
+
+is_queue : Sent → Bool
+is_queue (sents.Queued r) = true
+is_queue (sents.Answered r a) = false
+
+-- what is known of a message that was queued
+pub record Queues (c : Settings) (via : Connection) (t : Trace) (b : List ℕ) : Type 0 where
+  pub taken : IsTaken (balance c via t) (outstanding c via t) b
+  pub waits : is_queued c (command_of b) ≡ true
+
+-- what a command becomes, if it is queued or isn't
+abbrev pub taken_when : Settings → Connection → Trace → Command → Bool → Sent
+taken_when c via t command q =
+    if q then sents.Queued command.reference else sents.Answered command.reference (aborted_reference c via t command)
+
+queue_of : (c : Settings) (via : Connection) (t : Trace) (command : Command) (r : ℕ)
+    → sents.Queued r ≡ taken_in c via t command
+    → is_queued c command ≡ true
+unfolding is_queue
+queue_of c via t command r h =
+    let both : (q : Bool) → is_queued c command ≡ q → is_queued c command ≡ true =
+    λ q. elim q as (λ q. is_queued c command ≡ q → is_queued c command ≡ true) [
+      | true ↦ λ e. e
+      | false ↦ λ e. absurd (true≢false (ap is_queue (h ∙ ap (taken_when c via t command) e)))
+    ] in
+    both (is_queued c command) refl
+
+pub queued_right : (c : Settings) (t : Trace) (event : Event) (entry : Entry) → queues entry ≡ true
+    → IsRight c t event entry → Queues c (connection_of event) t (sent_bytes event)
+queued_right c t (events.Send via b) (entries.Sent other (Ok (sents.Queued r))) q h =
+    let a = arrives c via t b.items (sents.Queued r) h.1 in
+    record { taken = a.taken; waits = queue_of c via t (command_of b.items) r a.is }
+queued_right c t (events.Step k) (entries.Sent other (Ok (sents.Queued r))) q h = absurd h
+queued_right c t (events.Take via) (entries.Sent other (Ok (sents.Queued r))) q h = absurd h
+queued_right c t events.Look (entries.Sent other (Ok (sents.Queued r))) q h = absurd h
+queued_right c t event entry q h = absurd (false≢true q)

@@ -1,0 +1,57 @@
+-- At a right moment no figure rises, and where it is a step each falls.
+use Rattle.std.proofs.Common.{◌≡◌, ℕ, ◌<◌, ◌≤◌, true, [], ◌∷◌, ◌++◌, length, refl, ap, arith}
+use Rattle.std.specs.Prelude.{Option, Some, None, is_some, Contains}
+use Rattle.std.proofs.lemmas.Bool.{true≢false, false≢true}
+use Rattle.mscp_queue.specs.declared.report.Report.TheVariants as reports
+use Rattle.mscp_events.specs.declared.event.Event.{Event}
+use Rattle.mscp_events.specs.declared.event.Event.TheVariants as events
+use Rattle.mscp_controller.specs.declared.entry.Entry.{Entry}
+use Rattle.mscp_controller.specs.declared.entry.Entry.TheVariants as entries
+use Rattle.mscp_events.specs.Settings.{Settings}
+use Rattle.mscp_controller.specs.History.{Trace, Moment, is_step, Service, service_in}
+use Rattle.mscp_controller.specs.Commands.{waiting}
+use Rattle.mscp_controller.specs.Figures.{figure}
+use Rattle.mscp_controller.specs.Legal.{IsRight}
+use Rattle.mscp_controller.proofs.Promise.Grows.{done_last}
+use Rattle.mscp_controller.proofs.Promise.Served.{step_right}
+use Rattle.mscp_controller.proofs.Promise.Steady.{Steady}
+use Rattle.mscp_controller.proofs.Promise.Falls.{step_falls}
+use Rattle.mscp_controller.proofs.Promise.Stays.{never_rises}
+use Rattle.mscp_controller.proofs.Promise.Fitted.{fit_of, leaves_of}
+
+-- what becomes of the figures of those that wait
+pub record Falling (c : Settings) (t : Trace) (m : Moment) : Type 0 where
+  pub step : is_step m.0 ≡ true → (x : ℕ) → Contains (waiting t) x → figure c (t ++ m ∷ []) x < figure c t x
+  pub other : (x : ℕ) → Contains (waiting t) x → figure c (t ++ m ∷ []) x ≤ figure c t x
+
+nobody : (t : Trace) (x : ℕ) → waiting t ≡ [] → Contains (waiting t) x → ⊥
+nobody t x e h = let l = ap length e in let k = h.1 in omega (arith, l, k)
+
+idle_right : (c : Settings) (t : Trace) (event : Event) (entry : Entry) → is_step event ≡ true → service_in entry ≡ None
+    → IsRight c t event entry → waiting t ≡ []
+idle_right c t (events.Step k) (entries.Stepped reports.Idle) s e r = r
+idle_right c t (events.Step k) (entries.Stepped (reports.Served n a b d f g h)) s e r =
+    absurd (true≢false (ap is_some e))
+idle_right c t (events.Step k) (entries.Sent to sent) s e r = absurd r
+idle_right c t (events.Step k) (entries.Taken to taken) s e r = absurd r
+idle_right c t (events.Step k) (entries.Looked list) s e r = absurd r
+idle_right c t (events.Take from) entry s e r = absurd (false≢true s)
+idle_right c t events.Look entry s e r = absurd (false≢true s)
+idle_right c t (events.Send from b) entry s e r = absurd (false≢true s)
+
+pub falling : (c : Settings) (t : Trace) (m : Moment) → IsRight c t m.0 m.1 → Steady c t
+    → Falling c t m
+falling c t m r steady =
+    let both : (o : Option Service) → service_in m.1 ≡ o → Falling c t m =
+    λ o. elim o as (λ o. service_in m.1 ≡ o → Falling c t m) [
+      | None ↦ λ e. record {
+        step = λ s x w. absurd (nobody t x (idle_right c t m.0 m.1 s e r) w);
+        other =
+            never_rises c t m (leaves_of t m e) (done_last t m);
+      }
+      | Some s ↦ λ e.
+          let z = step_right c t m s steady.apart e r in
+          let less = step_falls c t m s z.2 z.1 z.3 (fit_of c t m s z.0 z.1 z.2 z.3 z.4 steady) in
+          record { step = λ b. less; other = λ x w. let l = less x w in omega (arith, l) }
+    ] in
+    both (service_in m.1) refl

@@ -1,0 +1,48 @@
+-- A right step, with all that is known of those that wait; and moments that serve nobody.
+use Rattle.std.proofs.Common.{◌≡◌, ℕ, ◌+◌, ◌<◌, ◌≤◌, List, [], ◌∷◌, ◌++◌, length, ap, sym, ◌∙◌, subst}
+use Rattle.std.specs.Prelude.{None, is_some}
+use Rattle.std.specs.List.{AllByRecursion}
+use Rattle.mscp_events.specs.declared.block.Block.{Block}
+use Rattle.mscp_events.specs.Settings.{Settings}
+use Rattle.mscp_controller.specs.History.{Trace, Moment, Service, service_in}
+use Rattle.mscp_controller.specs.Commands.{weight, waiting, done, service_starts}
+use Rattle.mscp_controller.specs.Passing.{toll, passed}
+use Rattle.mscp_queue.proofs.Lists.{every_weaker, every_parts}
+use Rattle.mscp_controller.proofs.Promise.Waits.{waiting_below, earlier_is}
+use Rattle.mscp_controller.proofs.Promise.Served.{Step}
+use Rattle.mscp_controller.proofs.Promise.Starts.{startable_of, startable_parts}
+use Rattle.mscp_controller.proofs.Promise.Steady.{Steady, idle_others, more_left, done_kept, weight_before}
+use Rattle.mscp_controller.proofs.Promise.Passed.{none_starts}
+use Rattle.mscp_controller.proofs.Promise.Figured.{record_of, marks, made_is}
+use Rattle.mscp_controller.proofs.Promise.Falls.{Fit}
+use Rattle.mscp_controller.proofs.Promise.Stays.{Leaves}
+
+pub fit_of : (c : Settings) (t : Trace) (m : Moment) (s : Service) (k : Block) (y : ℕ) (front back : List ℕ)
+    → Step c t m s k y front back → Steady c t → Fit c t m s front y back
+fit_of c t m s k y front back st steady =
+    let w = st.serves.among.at.is in
+    let idle = idle_others c t y front back w steady.single st.served.next in
+    let unfinished = every_parts (λ x. done t x < weight t x) front (y ∷ back)
+    (subst (AllByRecursion (λ x. done t x < weight t x)) w steady.unfinished) in
+    record {
+      is = w;
+      after = st.changes.waits;
+      marks = marks c t m s k y front back st idle.0;
+      serves = st.serves.is;
+      same = st.serves.same;
+      started = st.served.started;
+      more = λ b. more_left c t k y (sym (ap is_some st.served.ended) ∙ b);
+      unfinished = unfinished.1.0;
+      idle_front = idle.0;
+      idle_back = idle.1;
+      affordable = λ b. subst (AllByRecursion (λ x. passed t x + toll t y ≤ c.budget))
+          (earlier_is t y front back st.serves.among.at)
+          (startable_parts c t y (startable_of c t k s y st.served b)).affordable;
+    }
+
+pub leaves_of : (t : Trace) (m : Moment) → service_in m.1 ≡ None → Leaves t m
+leaves_of t m e =
+    let t' = t ++ m ∷ [] in
+    every_weaker (λ x. x < length t) (λ x. record_of t' x ≡ record_of t x)
+    (λ x l. made_is _ _ _ _ _ _ (weight_before t m x l) (done_kept t m x e l)
+    (none_starts t m x (λ r. ap (service_starts r) e))) (waiting t) (waiting_below t)

@@ -1,0 +1,221 @@
+-- What the definitions say when one more moment comes.
+use Rattle.std.proofs.Common.{◌≡◌, ℕ, ◌+◌, ◌<◌, ◌≤◌, Bool, true, false, cond, not, ◌&&◌, ◌||◌, List, [], ◌∷◌, ◌++◌, take, drop, length, refl, ap, sym, ◌∙◌, arith, append-nil}
+use Rattle.std.specs.Prelude.{filter, count_by, sum_by, flat_map, None}
+use Rattle.std.specs.List.{range_with_len, list_any}
+use Rattle.std.proofs.lemmas.List.{get_or_append_left, get_or_at, drop-append-le, drop_all, length_push, take_at, take-append-le}
+use Rattle.std.proofs.lemmas.List.Sums.{sum_by_push}
+use Rattle.std.proofs.lemmas.List.Folds.{list_any-append}
+use Rattle.std.proofs.lemmas.List.Elements.{filter-append}
+use Rattle.std.proofs.lemmas.Grind.{flat_map-append}
+use Rattle.mscp_events.specs.declared.event.Event.TheVariants as events
+use Rattle.mscp_controller.specs.declared.entry.Entry.TheVariants as entries
+use Rattle.mscp_packet.specs.Commands.{command_of}
+use Rattle.mscp_events.specs.Settings.{Settings}
+use Rattle.mscp_controller.specs.History.{Trace, Moment, moment, positions, collect, connection_of, last_or, queues, sent_bytes, is_good, is_step, takes}
+use Rattle.mscp_controller.specs.Commands.{command, connection, name, is_waiting, waiting, done, good, steps_after, serves_in, ends_in}
+use Rattle.mscp_controller.specs.Passing.{passed_at, passed}
+use Rattle.mscp_controller.specs.Ends.{ends_at}
+use Rattle.mscp_controller.specs.Account.{ends, untaken}
+use Rattle.mscp_events.specs.declared.connection.Connection.{Connection}
+use Rattle.mscp_events.specs.declared.connection.Connection.TheVariants.{First}
+use Rattle.mscp_queue.specs.declared.name.Name.{Name}
+use Rattle.mscp_queue.specs.Names.{name_on}
+use Rattle.mscp_queue.proofs.Lists.{filter_on, filter_filter, sum_on, flat_on, every_weaker, range_more, range_below}
+
+pub moment_before : (t : Trace) (m : Moment) (x : ℕ) → x < length t → moment (t ++ m ∷ []) x ≡ moment t x
+unfolding moment
+moment_before t m x h = get_or_append_left t (m ∷ []) (events.Take First, entries.Taken First None) x h
+
+pub moment_last : (t : Trace) (m : Moment) → moment (t ++ m ∷ []) (length t) ≡ m
+unfolding moment
+moment_last t m = get_or_at t m [] (events.Take First, entries.Taken First None) (length t) refl
+
+pub positions_more : (t : Trace) (m : Moment) → positions (t ++ m ∷ []) ≡ positions t ++ length t ∷ []
+positions_more t m = ap (range_with_len 0) (length_push t m) ∙ range_more (length t)
+
+-- What is collected after one more moment: what was, and what is seen in it.
+pub collect_more : {X : Type 0} (seen : Trace → Moment → List X) (t : Trace) (m : Moment)
+    → collect seen (t ++ m ∷ []) ≡ collect seen t ++ seen t m
+unfolding collect
+collect_more seen t m =
+    let before = flat_on (λ i. seen (take i (t ++ m ∷ [])) (moment (t ++ m ∷ []) i)) (λ i. seen (take i t) (moment t i))
+    (positions t)
+    (every_weaker (λ i. (0 ≤ i) × (i < 0 + length t))
+    (λ i. seen (take i (t ++ m ∷ [])) (moment (t ++ m ∷ []) i) ≡ seen (take i t) (moment t i))
+    (λ i h. ap (λ u. seen u (moment (t ++ m ∷ []) i)) (take-append-le i t (m ∷ []) (omega arith))
+    ∙ ap (seen (take i t)) (moment_before t m i (omega arith)))
+    (positions t) (range_below 0 (length t))) in
+    let last : seen (take (length t) (t ++ m ∷ [])) (moment (t ++ m ∷ []) (length t)) ≡ seen t m =
+    ap (λ u. seen u (moment (t ++ m ∷ []) (length t))) (take_at t (m ∷ []) (length t) refl)
+    ∙ ap (seen t) (moment_last t m) in
+    ap (flat_map (λ i. seen (take i (t ++ m ∷ [])) (moment (t ++ m ∷ []) i))) (positions_more t m)
+    ∙ (flat_map-append (λ i. seen (take i (t ++ m ∷ [])) (moment (t ++ m ∷ []) i)) (positions t) (length t ∷ [])
+    ∙ (ap (λ l. l ++ (seen (take (length t) (t ++ m ∷ [])) (moment (t ++ m ∷ []) (length t)) ++ [])) before
+    ∙ ap (λ l. flat_map (λ i. seen (take i t) (moment t i)) (positions t) ++ l)
+    (append-nil (seen (take (length t) (t ++ m ∷ [])) (moment (t ++ m ∷ []) (length t))) ∙ last)))
+
+pub last_or-append : {X : Type 0} (xs ys : List X) (d : X) → last_or (xs ++ ys) d ≡ last_or ys (last_or xs d)
+last_or-append [] ys d = refl
+last_or-append (x ∷ xs) ys d = last_or-append xs ys x
+
+-- The last that was collected: what is seen in the moment, or else what it was.
+pub last_more : {X : Type 0} (seen : Trace → Moment → List X) (d : X) (t : Trace) (m : Moment)
+    → last_or (collect seen (t ++ m ∷ [])) d ≡ last_or (seen t m) (last_or (collect seen t) d)
+last_more seen d t m = ap (λ l. last_or l d) (collect_more seen t m) ∙ last_or-append (collect seen t) (seen t m) d
+
+-- ---- commands
+
+pub command_before : (t : Trace) (m : Moment) (x : ℕ) → x < length t → command (t ++ m ∷ []) x ≡ command t x
+unfolding command
+command_before t m x h = ap (λ (n : Moment). command_of (sent_bytes n.0)) (moment_before t m x h)
+
+pub command_last : (t : Trace) (m : Moment) → command (t ++ m ∷ []) (length t) ≡ command_of (sent_bytes m.0)
+unfolding command
+command_last t m = ap (λ (n : Moment). command_of (sent_bytes n.0)) (moment_last t m)
+
+pub connection_before : (t : Trace) (m : Moment) (x : ℕ) → x < length t
+    → connection (t ++ m ∷ []) x ≡ connection t x
+connection_before t m x h = ap (λ (n : Moment). connection_of n.0) (moment_before t m x h)
+
+pub connection_last : (t : Trace) (m : Moment) → connection (t ++ m ∷ []) (length t) ≡ connection_of m.0
+connection_last t m = ap (λ (n : Moment). connection_of n.0) (moment_last t m)
+
+pub name_before : (t : Trace) (m : Moment) (x : ℕ) → x < length t → name (t ++ m ∷ []) x ≡ name t x
+name_before t m x h = λ i. name_on (connection_before t m x h i) (command_before t m x h i).reference
+
+pub drop_before : (t : Trace) (m : Moment) (x : ℕ) → x < length t
+    → drop (x + 1) (t ++ m ∷ []) ≡ drop (x + 1) t ++ m ∷ []
+drop_before t m x h = drop-append-le (x + 1) t (m ∷ []) (omega arith)
+
+pub drop_last : (t : Trace) (m : Moment) → drop (length t + 1) (t ++ m ∷ []) ≡ []
+drop_last t m = drop_all (length t + 1) (t ++ m ∷ []) (omega (arith, length_push t m))
+
+still : (q a e : Bool) → (q && not (a || (e || false))) ≡ ((q && not a) && not e)
+still true true true = refl
+still true true false = refl
+still true false true = refl
+still true false false = refl
+still false a e = refl
+
+pub is_waiting_before : (t : Trace) (m : Moment) (x : ℕ) → x < length t
+    → is_waiting (t ++ m ∷ []) x ≡ (is_waiting t x && not (ends_in (name t x) m.1))
+unfolding is_waiting
+is_waiting_before t m x h =
+    let E : Name → Moment → Bool = λ k n. ends_in k n.1 in
+    ap (λ (n : Moment). queues n.1 && not (list_any (E (name (t ++ m ∷ []) x)) (drop (x + 1) (t ++ m ∷ []))))
+    (moment_before t m x h)
+    ∙ ap (λ (k : Name). queues (moment t x).1 && not (list_any (E k) (drop (x + 1) (t ++ m ∷ []))))
+    (name_before t m x h)
+    ∙ ap (λ l. queues (moment t x).1 && not (list_any (E (name t x)) l)) (drop_before t m x h)
+    ∙ ap (λ b. queues (moment t x).1 && not b) (list_any-append (E (name t x)) (drop (x + 1) t) (m ∷ []))
+    ∙ still (queues (moment t x).1) (list_any (E (name t x)) (drop (x + 1) t)) (E (name t x) m)
+
+and_true : (b : Bool) → (b && true) ≡ b
+and_true true = refl
+and_true false = refl
+
+pub is_waiting_last : (t : Trace) (m : Moment) → is_waiting (t ++ m ∷ []) (length t) ≡ queues m.1
+unfolding is_waiting
+is_waiting_last t m =
+    let E : Moment → Bool = λ n. ends_in (name (t ++ m ∷ []) (length t)) n.1 in
+    ap (λ (n : Moment). queues n.1 && not (list_any E (drop (length t + 1) (t ++ m ∷ [])))) (moment_last t m)
+    ∙ ap (λ l. queues m.1 && not (list_any E l)) (drop_last t m)
+    ∙ and_true (queues m.1)
+
+-- What waits after one more moment: what waited and isn't ended by it, and what it queues.
+pub waiting_more : (t : Trace) (m : Moment) → waiting (t ++ m ∷ [])
+    ≡ filter (λ x. not (ends_in (name t x) m.1)) (waiting t) ++ cond (queues m.1) (length t ∷ []) []
+unfolding waiting
+waiting_more t m =
+    let before = filter_on (is_waiting (t ++ m ∷ [])) (λ x. is_waiting t x && not (ends_in (name t x) m.1))
+    (positions t)
+    (every_weaker (λ x. (0 ≤ x) × (x < 0 + length t))
+    (λ x. is_waiting (t ++ m ∷ []) x ≡ (is_waiting t x && not (ends_in (name t x) m.1)))
+    (λ x h. is_waiting_before t m x (omega arith)) (positions t) (range_below 0 (length t))) in
+    ap (filter (is_waiting (t ++ m ∷ []))) (positions_more t m)
+    ∙ (filter-append (is_waiting (t ++ m ∷ [])) (positions t) (length t ∷ [])
+    ∙ (ap (λ l. l ++ filter (is_waiting (t ++ m ∷ [])) (length t ∷ []))
+    (before ∙ sym (filter_filter (λ x. not (ends_in (name t x) m.1)) (is_waiting t) (positions t)))
+    ∙ ap (λ b. filter (λ x. not (ends_in (name t x) m.1)) (filter (is_waiting t) (positions t))
+    ++ cond b (length t ∷ []) []) (is_waiting_last t m)))
+
+-- a count of what came after x, at a test of its name
+count_before : (p : Name → Moment → Bool) (t : Trace) (m : Moment) (x : ℕ) → x < length t
+    → count_by (p (name (t ++ m ∷ []) x)) (drop (x + 1) (t ++ m ∷ [])) ≡ count_by (p (name t x)) (drop (x + 1) t)
+    + cond (p (name t x) m) 1 0
+count_before p t m x h =
+    ap (λ (k : Name). count_by (p k) (drop (x + 1) (t ++ m ∷ []))) (name_before t m x h)
+    ∙ (ap (count_by (p (name t x))) (drop_before t m x h)
+    ∙ sum_by_push (λ (n : Moment). cond (p (name t x) n) 1 0) (drop (x + 1) t) m)
+
+-- How often a command was served after one more moment, and how often well.
+pub done_before : (t : Trace) (m : Moment) (x : ℕ) → x < length t
+    → done (t ++ m ∷ []) x ≡ done t x + cond (serves_in (name t x) m.1) 1 0
+unfolding done
+done_before t m x h = count_before (λ k n. serves_in k n.1) t m x h
+
+pub good_before : (t : Trace) (m : Moment) (x : ℕ) → x < length t
+    → good (t ++ m ∷ []) x ≡ good t x + cond (serves_in (name t x) m.1 && is_good m.0) 1 0
+unfolding good
+good_before t m x h = count_before (λ k n. serves_in k n.1 && is_good n.0) t m x h
+
+pub done_last : (t : Trace) (m : Moment) → done (t ++ m ∷ []) (length t) ≡ 0
+unfolding done
+done_last t m = ap (count_by (λ (n : Moment). serves_in (name (t ++ m ∷ []) (length t)) n.1)) (drop_last t m)
+
+pub good_last : (t : Trace) (m : Moment) → good (t ++ m ∷ []) (length t) ≡ 0
+unfolding good
+good_last t m = ap (count_by (λ (n : Moment). serves_in (name (t ++ m ∷ []) (length t)) n.1 && is_good n.0))
+    (drop_last t m)
+
+-- How often a command was passed after one more moment.
+pub passed_more : (t : Trace) (m : Moment) (x : ℕ) → passed (t ++ m ∷ []) x ≡ passed t x + passed_at t m x
+unfolding passed
+passed_more t m x =
+    let P : Trace → ℕ → ℕ = λ u i. passed_at (take i u) (moment u i) x in
+    let before = sum_on (P (t ++ m ∷ [])) (P t) (positions t)
+    (every_weaker (λ i. (0 ≤ i) × (i < 0 + length t)) (λ i. P (t ++ m ∷ []) i ≡ P t i)
+    (λ i h. ap (λ u. passed_at u (moment (t ++ m ∷ []) i) x) (take-append-le i t (m ∷ []) (omega arith))
+    ∙ ap (λ n. passed_at (take i t) n x) (moment_before t m i (omega arith)))
+    (positions t) (range_below 0 (length t))) in
+    let last : P (t ++ m ∷ []) (length t) ≡ passed_at t m x =
+    ap (λ u. passed_at u (moment (t ++ m ∷ []) (length t)) x) (take_at t (m ∷ []) (length t) refl)
+    ∙ ap (λ n. passed_at t n x) (moment_last t m) in
+    ap (sum_by (P (t ++ m ∷ []))) (positions_more t m)
+    ∙ (sum_by_push (P (t ++ m ∷ [])) (positions t) (length t)
+    ∙ (ap (λ k. k + P (t ++ m ∷ []) (length t)) before ∙ ap (λ k. sum_by (P t) (positions t) + k) last))
+
+-- ---- ends
+
+-- The ends after one more moment: those before, and those that it makes.
+pub ends_more : (c : Settings) (via : Connection) (t : Trace) (m : Moment)
+    → ends c via (t ++ m ∷ []) ≡ ends c via t ++ ends_at c via t m
+unfolding ends
+ends_more c via t m = collect_more (ends_at c via) t m
+
+pub taken_more : (via : Connection) (t : Trace) (m : Moment) → count_by (λ n. takes via n.1) (t ++ m ∷ [])
+    ≡ count_by (λ n. takes via n.1) t + cond (takes via m.1) 1 0
+taken_more via t m = sum_by_push (λ (n : Moment). cond (takes via n.1) 1 0) t m
+
+-- Where nothing is taken, the ends that it makes come behind the untaken ones.
+pub untaken_more : (c : Settings) (via : Connection) (t : Trace) (m : Moment) → takes via m.1 ≡ false
+    → count_by (λ n. takes via n.1) t ≤ length (ends c via t)
+    → untaken c via (t ++ m ∷ []) ≡ untaken c via t ++ ends_at c via t m
+unfolding untaken
+untaken_more c via t m e h =
+    let k = count_by (λ (n : Moment). takes via n.1) t in
+    let same : count_by (λ (n : Moment). takes via n.1) (t ++ m ∷ []) ≡ k =
+    taken_more via t m ∙ (ap (λ b. k + cond b 1 0) e ∙ omega arith) in
+    ap (λ n. drop n (ends c via (t ++ m ∷ []))) same ∙ (ap (drop k) (ends_more c via t m)
+    ∙ drop-append-le k (ends c via t) (ends_at c via t m) h)
+
+-- ---- steps
+
+-- How many steps there were after a command, after one more moment.
+pub steps_more : (t : Trace) (m : Moment) (x : ℕ) → x < length t
+    → steps_after (t ++ m ∷ []) x ≡ steps_after t x + cond (is_step m.0) 1 0
+steps_more t m x h = ap (count_by (λ (n : Moment). is_step n.0)) (drop_before t m x h)
+    ∙ sum_by_push (λ (n : Moment). cond (is_step n.0) 1 0) (drop (x + 1) t) m
+
+pub steps_last : (t : Trace) (m : Moment) → steps_after (t ++ m ∷ []) (length t) ≡ 0
+steps_last t m = ap (count_by (λ (n : Moment). is_step n.0)) (drop_last t m)

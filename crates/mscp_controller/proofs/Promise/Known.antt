@@ -1,0 +1,58 @@
+-- What is true after every part of a legal run, from the definitions alone.
+use Rattle.std.proofs.Common.{◌≡◌, ℕ, zero, suc, ◌+◌, ◌<◌, ◌≤◌, [], ◌∷◌, ◌++◌, take, length, ap, sym, ◌∙◌, subst, arith}
+use Rattle.std.specs.Prelude.{None}
+use Rattle.std.proofs.lemmas.List.{take_more}
+use Rattle.mscp_events.specs.declared.event.Event.TheVariants as events
+use Rattle.mscp_controller.specs.declared.entry.Entry.TheVariants as entries
+use Rattle.mscp_events.specs.declared.connection.Connection.TheVariants.{First}
+use Rattle.mscp_events.specs.Settings.{Settings}
+use Rattle.mscp_controller.specs.History.{Trace, Moment, moment}
+use Rattle.mscp_controller.specs.Commands.{waiting}
+use Rattle.mscp_controller.specs.Legal.{IsRight, IsLegal}
+use Rattle.mscp_controller.proofs.Promise.Steady.{Steady, steady_empty, steady_more}
+use Rattle.mscp_controller.proofs.Promise.Room.{Room, room_empty, room_more}
+use Rattle.mscp_controller.proofs.Promise.Queued.{Short, short_more}
+use Rattle.mscp_controller.proofs.Promise.Limited.{Limited, limited_more}
+use Rattle.mscp_controller.proofs.Promise.Falling.{falling}
+use Rattle.mscp_controller.proofs.Promise.Within.{Within, within_more}
+
+-- a part of a run, and the moment after it
+pub more_at : (t : Trace) (i : ℕ) → i < length t → take (i + 1) t ≡ take i t ++ moment t i ∷ []
+unfolding moment
+more_at t i h = take_more t i (events.Take First, entries.Taken First None) h
+
+-- What holds of the empty run, and is kept by right moments, holds after every part of a legal run.
+pub by_moments : (c : Settings) (P : Trace → Type 0) → P []
+    → ((t : Trace) (m : Moment) → IsRight c t m.0 m.1 → P t → P (t ++ m ∷ [])) → (t : Trace) → IsLegal c t → (i : ℕ)
+    → i ≤ length t → P (take i t)
+by_moments c P start keeps t legal zero h = start
+by_moments c P start keeps t legal (suc i) h =
+    let e : i + 1 ≡ suc i = omega arith in
+    subst P (sym (more_at t i (omega arith)) ∙ ap (λ k. take k t) e)
+    (keeps (take i t) (moment t i) (legal i (omega arith)) (by_moments c P start keeps t legal i (omega arith)))
+
+pub record Known (c : Settings) (t : Trace) : Type 0 where
+  pub steady : Steady c t
+  pub room : Room c t
+  pub short : Short c t (waiting t)
+  pub limited : Limited c t (waiting t)
+  pub within : Within c t
+
+pub known_empty : (c : Settings) → Known c []
+unfolding waiting
+known_empty c = record { steady = steady_empty c; room = room_empty c; short = tt; limited = tt; within = tt }
+
+pub known_more : (c : Settings) → 1 ≤ c.longest → (t : Trace) (m : Moment) → IsRight c t m.0 m.1 → Known c t
+    → Known c (t ++ m ∷ [])
+known_more c l t m r k =
+    let short = short_more c t m l r k.short in
+    record {
+      steady = steady_more c t m r k.steady;
+      room = room_more c t m r k.steady k.room;
+      short = short;
+      limited = limited_more c t m r k.steady k.limited;
+      within = within_more c t m r k.room (falling c t m r k.steady) short k.within;
+    }
+
+pub known : (c : Settings) → 1 ≤ c.longest → (t : Trace) → IsLegal c t → (i : ℕ) → i ≤ length t → Known c (take i t)
+known c l t legal i h = by_moments c (Known c) (known_empty c) (known_more c l) t legal i h

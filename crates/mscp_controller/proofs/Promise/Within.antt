@@ -1,0 +1,113 @@
+-- The figure of each command that waits, and the steps that it has seen, stay within the bound.
+use Rattle.std.proofs.Common.{◌≡◌, ℕ, ◌+◌, ◌*◌, ◌<◌, ◌≤◌, Bool, true, false, cond, not, List, [], ◌∷◌, ◌++◌, get_or, length, refl, ap, sym, ◌∙◌, subst, arith, append-nil}
+use Rattle.std.specs.Prelude.{filter, sum_by, Contains}
+use Rattle.std.specs.List.{AllByRecursion}
+use Rattle.std.proofs.lemmas.List.Elements.{All-from_recursion, recursion_from_All, Contains-get_or}
+use Rattle.std.proofs.lemmas.List.Sums.{sum_by-le}
+use Rattle.mscp_events.specs.declared.connection.Connection.{Connection}
+use Rattle.mscp_events.specs.declared.connection.Connection.TheVariants.{First, Second}
+use Rattle.mscp_events.specs.Settings.{Settings, bound, room}
+use Rattle.mscp_controller.specs.History.{Trace, Moment, connection_of, queues, is_step, sent_bytes}
+use Rattle.mscp_controller.specs.Commands.{connection, name, weight, waiting, done, left, steps_after, ends_in}
+use Rattle.mscp_controller.specs.Passing.{passed}
+use Rattle.mscp_controller.specs.Figures.{figure}
+use Rattle.mscp_controller.specs.Account.{balance}
+use Rattle.mscp_controller.specs.Legal.{IsRight}
+use Rattle.mscp_queue.proofs.Lists.{fewer, every_weaker, every_kept, every_append, every_parts, every_both}
+use Rattle.mscp_controller.proofs.Promise.Grows.{waiting_more, done_last, steps_more, steps_last}
+use Rattle.mscp_controller.proofs.Promise.Waits.{waiting_below, passed_last}
+use Rattle.mscp_controller.proofs.Promise.Arrivals.{queued_right}
+use Rattle.mscp_controller.proofs.Promise.Queued.{Short, two_free}
+use Rattle.mscp_controller.proofs.Promise.Falls.{figure_idle}
+use Rattle.mscp_controller.proofs.Promise.Falling.{Falling}
+use Rattle.mscp_controller.proofs.Promise.Room.{Room, balance_two}
+use Rattle.mscp_controller.proofs.Promise.Sides.{sides_length}
+
+abbrev pub Within : Settings → Trace → Type 0
+Within c t = AllByRecursion (λ x. figure c t x + steps_after t x ≤ bound c) (waiting t)
+
+pub every_contained : (P : ℕ → Type 0) (xs : List ℕ) → ((x : ℕ) → Contains xs x → P x) → AllByRecursion P xs
+every_contained P xs h = recursion_from_All P xs (λ k d l. h (get_or xs k d) (Contains-get_or xs k d l))
+
+-- ---- a new command
+
+times_more : (a b k : ℕ) → a ≤ b → a * k ≤ b * k
+times_more a b k h = grind arith
+
+bound_of : (room Q L n l s : ℕ) → n + 1 ≤ room → s ≤ n * L → l ≤ L → s + Q + l ≤ room * L + Q
+bound_of room Q L n l s h k m =
+    let big : (n + 1) * L ≤ room * L = times_more (n + 1) room L (omega arith) in
+    omega arith
+
+new_figure : (c : Settings) (t : Trace) (W : List ℕ) (x : ℕ) → waiting t ≡ W ++ x ∷ [] → done t x ≡ 0 → passed t x ≡ 0
+    → Short c t (W ++ x ∷ []) → length W + 1 ≤ room c → figure c t x ≤ bound c
+new_figure c t W x e d p h n =
+    let f = figure_idle c t W x [] e d in
+    let parts = every_parts (λ z. weight t z ≤ c.longest) W (x ∷ []) h in
+    let l = parts.1.0 in
+    let each = every_weaker (λ z. weight t z ≤ c.longest) (λ z. left t z ≤ c.longest) (λ z w. omega (arith, w)) W
+    parts.0 in
+    let s = sum_by-le (left t) c.longest W (All-from_recursion (λ z. left t z ≤ c.longest) W each) in
+    let b = bound_of (room c) c.budget c.longest (length W) (left t x) (sum_by (left t) W) n s (omega (arith, l)) in
+    omega (arith, f, p, b)
+
+-- where a connection has two credits free, there is room for one more
+room_for_one : (c : Settings) (via : Connection) (t : Trace) → Room c t → 2 ≤ balance c via t
+    → length (waiting t) + 1 ≤ room c
+room_for_one c First t r h = let spare = r.spare Second in omega (
+  arith,
+  balance_two c First t h,
+  spare,
+  sides_length (connection t) (waiting t),
+)
+room_for_one c Second t r h = let spare = r.spare First in omega (
+  arith,
+  balance_two c Second t h,
+  spare,
+  sides_length (connection t) (waiting t),
+)
+
+-- ---- one more moment
+
+-- Each right moment keeps it.
+pub within_more : (c : Settings) (t : Trace) (m : Moment) → IsRight c t m.0 m.1 → Room c t → Falling c t m
+    → Short c (t ++ m ∷ []) (waiting (t ++ m ∷ [])) → Within c t → Within c (t ++ m ∷ [])
+within_more c t m r space f short w =
+    let t' = t ++ m ∷ [] in
+    let n = length t in
+    let keep : ℕ → Bool = λ x. not (ends_in (name t x) m.1) in
+    let kept = filter keep (waiting t) in
+    let New : ℕ → Type 0 = λ x. figure c t' x + steps_after t' x ≤ bound c in
+    let Old : ℕ → Type 0 = λ x. (figure c t x + steps_after t x ≤ bound c) × (x < length t) in
+    let old : AllByRecursion Old (waiting t) = every_both (λ x. figure c t x + steps_after t x ≤ bound c)
+    (λ x. x < length t) (waiting t) w (waiting_below t) in
+    let stay : (b : Bool) → is_step m.0 ≡ b → AllByRecursion New (waiting t) =
+    λ b. elim b as (λ b. is_step m.0 ≡ b → AllByRecursion New (waiting t)) [
+      | true ↦ λ e.
+          every_weaker (λ x. Old x × (figure c t' x < figure c t x)) New
+          (λ x h. let s = steps_more t m x h.0.1 in let one = ap {B = ℕ} (λ b. cond b 1 0) e in
+          omega (arith, s, one, h.0.0, h.1)) (waiting t)
+          (every_both Old (λ x. figure c t' x < figure c t x) (waiting t) old
+          (every_contained (λ x. figure c t' x < figure c t x) (waiting t) (f.step e)))
+      | false ↦ λ e.
+          every_weaker (λ x. Old x × (figure c t' x ≤ figure c t x)) New
+          (λ x h. let s = steps_more t m x h.0.1 in let none = ap {B = ℕ} (λ b. cond b 1 0) e in
+          omega (arith, s, none, h.0.0, h.1)) (waiting t)
+          (every_both Old (λ x. figure c t' x ≤ figure c t x) (waiting t) old
+          (every_contained (λ x. figure c t' x ≤ figure c t x) (waiting t) f.other))
+    ] in
+    let front : AllByRecursion New kept = every_kept New keep (waiting t) (stay (is_step m.0) refl) in
+    let split : (b : Bool) → queues m.1 ≡ b → AllByRecursion New (waiting t') =
+    λ b. elim b as (λ b. queues m.1 ≡ b → AllByRecursion New (waiting t')) [
+      | true ↦ λ e.
+          let is : waiting t' ≡ kept ++ n ∷ [] = waiting_more t m ∙ ap (λ b. kept ++ cond b (n ∷ []) []) e in
+          let via = connection_of m.0 in
+          let one = room_for_one c via t space (two_free c via t (sent_bytes m.0) (queued_right c t m.0 m.1 e r)) in
+          let few : length kept + 1 ≤ room c = omega (arith, one, fewer keep (waiting t)) in
+          let new = new_figure c t' kept n is (done_last t m) (passed_last t m) (subst (Short c t') is short) few in
+          subst (AllByRecursion New) (sym is) (every_append New kept (n ∷ []) front
+          (omega (arith, new, steps_last t m), tt))
+      | false ↦ λ e. subst (AllByRecursion New) (sym
+          (waiting_more t m ∙ (ap (λ b. kept ++ cond b (n ∷ []) []) e ∙ append-nil kept))) front
+    ] in
+    split (queues m.1) refl

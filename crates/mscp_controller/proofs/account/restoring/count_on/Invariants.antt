@@ -1,0 +1,10 @@
+use Rattle.std.proofs.Common.{◌≡◌, ◌≤◌, length, take}
+use Rattle.mscp_controller.specs.Holdings.{waiting_on}
+use Rattle.mscp_controller.proofs.account.restoring.count_on.Given as goal
+
+abbrev pub invariant-loop-place : goal.invariant-loop-place
+invariant-loop-place l =
+    record {
+      counted : l.count ≡ length (waiting_on l.connection (take l.place l.records));
+      small : l.count ≤ l.place;
+    }

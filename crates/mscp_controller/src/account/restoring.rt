@@ -1,0 +1,55 @@
+// The accounts of the connections' hosts as they were.
+
+ghost use Rattle.std.specs.Prelude.{◌≡◌, ◌≤◌, length};
+ghost use Rattle.mscp_events.specs.declared.connection.Connection.TheVariants.{First, Second};
+ghost use Rattle.mscp_controller.specs.Accounts.{account};
+ghost use Rattle.mscp_controller.specs.Holdings.{waiting_on};
+
+use crate::account::Accounts;
+use arrayvec::ArrayVec;
+use mscp_events::Connection;
+use mscp_packet::End;
+use mscp_queue::Record;
+
+/// How many of the records are of commands of the connection.
+fn count_on(connection: Connection, records: &[Record]) -> u32
+    requires { length records.now ≤ 64 }
+    ensures { result ≡ length (waiting_on connection records.now) }
+{
+    let mut count = 0;
+    for place in 0..records.len() {
+        if records[place].connection() == connection {
+            count += 1;
+        }
+    }
+    count
+}
+
+impl Accounts {
+    /// These commands wait from now on, and these ends of each connection weren't taken. What was there before is forgotten.
+    #[inline(never)]
+    pub(crate) fn restore(
+        &mut self,
+        waiting: &[Record],
+        first: ArrayVec<End, 64>,
+        second: ArrayVec<End, 64>,
+    )
+        requires { length waiting.now ≤ 64 }
+        ensures { self.new ≡ record {
+          first = record { waiting = length (waiting_on First waiting.now); untaken = first };
+          second = record { waiting = length (waiting_on Second waiting.now); untaken = second };
+        } }
+    {
+        self.first.waiting = count_on(Connection::First, waiting);
+        self.first.untaken = first;
+        self.second.waiting = count_on(Connection::Second, waiting);
+        self.second.untaken = second;
+    }
+
+    /// The ends of the connection that weren't taken, oldest first.
+    pub(crate) fn ends(&self, connection: Connection) -> &[End]
+        ensures { result.now ≡ (account connection self.now).untaken.items }
+    {
+        self.of(connection).untaken.as_slice()
+    }
+}

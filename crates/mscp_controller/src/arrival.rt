@@ -1,0 +1,78 @@
+// How a message is judged when it comes.
+
+ghost use Rattle.std.specs.Prelude.{◌≡◌, ◌+◌, ◌≤◌, ◌^◌, IfOk};
+ghost use Rattle.mscp_packet.specs.Opcodes.{class, is_immediate_class};
+ghost use Rattle.mscp_controller.specs.Arrival.{is_immediate, judged, move_fault, unit_fault, version_fault};
+ghost use Rattle.mscp_queue.specs.Orders.{first_block};
+ghost use Rattle.mscp_events.specs.Settings.{unit_found};
+ghost use Rattle.mscp_drive.specs.Extent.{weighed, weight};
+
+use mscp_events::Config;
+use mscp_packet::status::{INVALID_VERSION, UNIT_OFFLINE};
+use mscp_packet::{Command, Order, class_of};
+
+/// Whether a command with this opcode byte is answered without a step, so that the last credit is enough
+/// for it.
+pub(crate) fn may_take_last_credit(opcode: u8) -> bool
+    ensures { result ≡ is_immediate_class (class opcode) }
+{
+    class_of(opcode).is_immediate()
+}
+
+/// The weight of a transfer to the unit, or the status that refuses it.
+fn judge_move(config: &Config, number: u16, count: u32, block: u32) -> Result<u32, u16>
+    ensures weight { result ≡ weighed (move_fault config.now count block (unit_found config.now number))
+        (weight count) }
+    ensures small { IfOk result (λ steps. block + steps ≤ 2 ^ 32) }
+{
+    match config.units().find(number) {
+        Some(unit) => unit.check(block, count, config.longest()),
+        None => Err(UNIT_OFFLINE),
+    }
+}
+
+/// The weight of another command to the unit, or the status that refuses it.
+fn judge_unit(config: &Config, number: u16) -> Result<u32, u16>
+    ensures { result ≡ weighed (unit_fault (unit_found config.now number)) 1 }
+{
+    match config.units().find(number) {
+        Some(_) => Ok(1),
+        None => Err(UNIT_OFFLINE),
+    }
+}
+
+/// The weight of SET CONTROLLER CHARACTERISTICS of this MSCP version, or the status that refuses it.
+fn judge_version(version: u16) -> Result<u32, u16>
+    ensures { result ≡ weighed (version_fault version) 1 }
+{
+    match version {
+        0 => Ok(1),
+        _ => Err(INVALID_VERSION),
+    }
+}
+
+/// How many steps the command takes, or the status that refuses it.
+pub(crate) fn judge(config: &Config, command: &Command) -> Result<u32, u16>
+    ensures steps { result ≡ judged config.now command.now }
+    ensures small { IfOk result (λ steps. first_block command.now.order + steps ≤ 2 ^ 32) }
+{
+    match command.order {
+        Order::Invalid { status, .. } => Err(status),
+        Order::Abort(_) | Order::Status(_) => Ok(1),
+        Order::Move(_, count, block) => judge_move(config, command.unit, count, block),
+        Order::UnitStatus | Order::Available | Order::Online | Order::SetUnit => {
+            judge_unit(config, command.unit)
+        }
+        Order::SetController(version) => judge_version(version),
+    }
+}
+
+/// Whether the order is answered when it comes.
+pub(crate) fn is_immediate(order: &Order) -> bool
+    ensures { result ≡ is_immediate order.now }
+{
+    matches!(
+        order,
+        Order::Abort(_) | Order::Status(_) | Order::UnitStatus | Order::SetController(_)
+    )
+}

@@ -1,0 +1,392 @@
+// A controller: its queue, and the account of each connection's host.
+
+ghost use Rattle.std.specs.Prelude.{◌≡◌, ◌+◌, ◌≤◌, ◌^◌, true, false, slice_get, IfErr, IfNone, IfSome, None, Some};
+ghost use Rattle.mscp_packet.specs.Ends.{IsEnd, IsOfKind};
+ghost use Rattle.mscp_queue.specs.Orders.{first_block, order_weight};
+ghost use Rattle.mscp_queue.specs.Names.{name_on};
+ghost use Rattle.mscp_queue.specs.Outcomes.{IsCoded};
+ghost use Rattle.mscp_controller.specs.Arrival.{credit_fault, fault_of, holds, is_queued};
+ghost use Rattle.mscp_controller.specs.Accounts.{CanEnd, reported};
+ghost use Rattle.mscp_events.specs.Both.{of};
+ghost use Rattle.mscp_events.specs.Settings.{IsValid};
+ghost use Rattle.mscp_controller.specs.Holdings.{Answers, Finishes, Foretells, IsBalanced, Steps, aborting, after_message, after_take, answer_to_message, answered_end, arrives, balance_of, end_taken, with_end, fresh, outstanding_of, queued, reference_aborted, taken_as};
+
+mod restoring;
+mod seeing;
+
+use crate::account::Accounts;
+use crate::answer::{controller_end, refused_end, unit_status_end};
+use crate::arrival::{is_immediate, judge, may_take_last_credit};
+use crate::entry::{Entry, SendFault, Sent, Stale};
+use arrayvec::ArrayVec;
+use mscp_drive::Units;
+use mscp_events::{Block, Config, Connection, Event};
+use mscp_packet::status::SUCCESS;
+use mscp_packet::{Command, End, EndBody, Order, read_command, write_end};
+use mscp_queue::{Picker, Queue, Report, Upcoming, Waiting, end_with};
+use std::marker::Model;
+
+/// Gives the end that a report brings, if it brings one, to the host of its command's connection.
+fn keep_end(accounts: &mut Accounts, report: &Report)
+    requires { CanEnd report.now accounts.old }
+    ensures { accounts.new ≡ reported report.now accounts.old }
+{
+    if let Report::Served {
+        connection,
+        ended: Some(end),
+        ..
+    } = report
+    {
+        accounts.leave(*connection, *end);
+    }
+}
+
+/// A command queue with credits, whose picker picks the commands that start.
+#[derive(Drop)]
+pub struct Controller<K> {
+    config: Config,
+    queue: Queue<K>,
+    accounts: Accounts,
+}
+
+// A clause sees the settings, the waiting commands and each connection's ends that weren't taken, all oldest first, the
+// drives in the order of their units, what was begun, and the picker.
+impl<K> Model for Controller<K> {
+    ghost use Rattle.mscp_controller.specs.Holdings.{Holdings};
+    ghost use Rattle.mscp_controller.specs.Accounts.{untaken_in};
+    ghost use Rattle.mscp_controller.specs.Kept.{IsHeld};
+
+    ghost Value = { Holdings K };
+
+    ghost view = { λ h.
+        record {
+          settings = h.config;
+          waiting = h.queue.waiting;
+          untaken = untaken_in h.accounts;
+          drives = h.queue.drives;
+          begun = h.queue.begun;
+          picker = h.queue.picker;
+        } };
+
+    ghost invariant = { λ h. IsHeld h.config h.queue h.accounts };
+}
+
+impl<K: Picker> Controller<K> {
+    /// A controller to which nothing came so far. It is built into its caller: each call on the way would have room for a
+    /// controller of its own on the stack.
+    #[inline(always)]
+    pub fn new(config: Config, picker: K) -> Controller<K>
+        ensures fresh { result ≡ fresh config picker }
+        ensures account { IsBalanced result }
+        ensures valid { IsValid config }
+    {
+        let Ok(units) = Units::new(config.units().list()) else {
+            unreachable!();
+        };
+        let queue = Queue::new(
+            units,
+            config.room(),
+            config.budget(),
+            config.longest(),
+            picker,
+        );
+        Controller {
+            config,
+            queue,
+            accounts: Accounts::new(),
+        }
+    }
+
+    /// Forgets all that came to it, as a reset of its port makes it: it is as new, with the same settings and picker. Ends
+    /// that weren't taken are gone.
+    pub fn reset(&mut self)
+        ensures fresh { self.new ≡ fresh self.old.settings self.old.picker }
+        ensures account { IsBalanced self.new }
+    {
+        self.queue.reset();
+        self.accounts.clear();
+    }
+
+    /// Lets this picker pick from now on, and gives back the one that picked. What was begun stays begun.
+    pub fn replace_picker(&mut self, picker: K) -> K
+        ensures before { result ≡ self.old.picker }
+        ensures after { self.new ≡ record self.old { picker = picker } }
+        ensures account { IsBalanced self.new }
+    {
+        self.queue.replace_picker(picker)
+    }
+
+    /// Its settings.
+    pub fn config(&self) -> &Config
+        ensures value { result.now ≡ self.now.settings }
+        ensures account { IsBalanced self.now }
+    {
+        &self.config
+    }
+
+    /// Whether a command of the connection with the reference number waits, or has an end that wasn't taken.
+    #[tactic(auto, using(crate::proofs::Bridge::Judging::holds_either))]
+    fn is_outstanding(&self, connection: Connection, reference: u32) -> bool
+        ensures { result ≡ holds (outstanding_of connection self.now) reference }
+    {
+        let waits = self.queue.contains(connection, reference);
+        let ended = self.accounts.is_untaken(connection, reference);
+        waits || ended
+    }
+
+    /// Why a command of the connection with this opcode byte and reference number is refused, if it is.
+    fn credit_fault(&self, connection: Connection, opcode: u8, reference: u32) -> Option<SendFault>
+        ensures fault { result
+            ≡ credit_fault (balance_of connection self.now) (outstanding_of connection self.now) opcode reference }
+        ensures account { IsBalanced self.now }
+    {
+        match self.balance(connection) {
+            0 => Some(SendFault::NoCredit),
+            1 if !may_take_last_credit(opcode) => Some(SendFault::LastCredit),
+            _ if self.is_outstanding(connection, reference) => Some(SendFault::Doubled),
+            _ => None,
+        }
+    }
+
+    /// Lets a command of this weight wait, which came by the connection.
+    fn queue(&mut self, connection: Connection, command: &Command, weight: u32)
+        requires queued { is_queued self.old.settings command.now ≡ true }
+        requires weight { weight ≡ order_weight command.now.order }
+        requires small { first_block command.now.order + weight ≤ 2 ^ 32 }
+        requires new { holds (outstanding_of connection self.old) command.now.reference ≡ false }
+        requires free { 2 ≤ balance_of connection self.old }
+        ensures after { self.new ≡ queued connection self.old command.now }
+        ensures account { IsBalanced self.new }
+    {
+        self.queue.push(Waiting {
+            connection,
+            reference: command.reference,
+            unit: command.unit,
+            order: command.order,
+            weight,
+        });
+        self.accounts.come(connection);
+    }
+
+    /// Makes an end for the connection.
+    fn end(&mut self, connection: Connection, end: End)
+        requires free { 1 ≤ balance_of connection self.old }
+        requires shaped { IsOfKind end }
+        ensures after { self.new ≡ with_end connection self.old end }
+        ensures account { IsBalanced self.new }
+    {
+        self.accounts.end(connection, end);
+    }
+
+    /// The end of a GET UNIT STATUS to a unit that is configured.
+    fn unit_status_end(&self, connection: Connection, command: &Command) -> End
+        requires order { command.now.order ≡ Order.UnitStatus }
+        requires sound { fault_of self.now.settings command.now ≡ None }
+        ensures { result ≡ answered_end connection self.now command.now }
+    {
+        match self.config.units().find(command.unit) {
+            Some(unit) => unit_status_end(command, unit, self.queue.is_online(command.unit)),
+            None => unreachable!(),
+        }
+    }
+
+    /// The end of an answered command of the connection that isn't refused.
+    fn answered_end(&self, connection: Connection, command: &Command) -> End
+        requires { fault_of self.now.settings command.now ≡ None }
+        ensures { result ≡ answered_end connection self.now command.now }
+    {
+        match command.order {
+            Order::Abort(other) => end_with(command, SUCCESS, EndBody::Abort(other)),
+            Order::Status(other) => {
+                let figure = self.figure(connection, other);
+                end_with(command, SUCCESS, EndBody::Status { other, figure })
+            }
+            Order::UnitStatus => self.unit_status_end(connection, command),
+            Order::SetController(_) => controller_end(command, &self.config),
+            _ => refused_end(command, SUCCESS),
+        }
+    }
+
+    /// Ends the waiting command that an order of the connection names to be aborted, if there is one, and tells its
+    /// reference number.
+    fn abort(&mut self, connection: Connection, order: &Order) -> Option<u32>
+        ensures reference { result ≡ reference_aborted connection self.old.waiting order.now }
+        ensures after { self.new ≡ aborting connection self.old order.now }
+        ensures balance { balance_of connection self.new ≡ balance_of connection self.old }
+    {
+        let Order::Abort(other) = order else {
+            return None;
+        };
+        let end = self.queue.abort(connection, *other)?;
+        self.accounts.leave(connection, end);
+        Some(end.reference)
+    }
+
+    /// Answers a command of the connection at once that isn't refused: the end of one that it aborts stands before its own.
+    /// Tells the reference number of that one.
+    fn answer_now(&mut self, connection: Connection, command: &Command) -> Option<u32>
+        requires sound { fault_of self.old.settings command.now ≡ None }
+        requires free { 1 ≤ balance_of connection self.old }
+        requires coded { IsCoded command.now.order }
+        ensures aborted { result ≡ reference_aborted connection self.old.waiting command.now.order }
+        ensures after { self.new ≡ with_end connection (aborting connection self.old command.now.order)
+            (answered_end connection self.old command.now) }
+        ensures account { IsBalanced self.new }
+    {
+        let own = self.answered_end(connection, command);
+        let aborted = self.abort(connection, &command.order);
+        self.end(connection, own);
+        aborted
+    }
+
+    /// Queues a command of the connection that isn't refused for want of credit, or answers it at once.
+    fn arrive(&mut self, connection: Connection, command: Command) -> Sent
+        requires free { 1 ≤ balance_of connection self.old }
+        requires spare { is_queued self.old.settings command ≡ true → 2 ≤ balance_of connection self.old }
+        requires new { holds (outstanding_of connection self.old) command.reference ≡ false }
+        requires coded { IsCoded command.order }
+        ensures sent { result ≡ taken_as connection self.old command }
+        ensures after { self.new ≡ arrives connection self.old command }
+        ensures account { IsBalanced self.new }
+    {
+        let aborted = match judge(&self.config, &command) {
+            Ok(weight) if !is_immediate(&command.order) => {
+                self.queue(connection, &command, weight);
+                return Sent::Queued(command.reference);
+            }
+            Ok(_) => self.answer_now(connection, &command),
+            Err(status) => {
+                self.end(connection, refused_end(&command, status));
+                None
+            }
+        };
+        Sent::Answered {
+            reference: command.reference,
+            aborted,
+        }
+    }
+
+    /// Takes a message of the connection's host in, or says why not: the first of the faults that holds. A refusal changes
+    /// nothing. Where there is no second connection, each of its messages that is neither too short nor too long has no credit.
+    pub fn send(&mut self, connection: Connection, b: &[u8]) -> Result<Sent, SendFault>
+        ensures answer { result ≡ answer_to_message connection self.old b.now }
+        ensures after { self.new ≡ after_message connection self.old b.now }
+        ensures unchanged { IfErr result (λ fault. self.new ≡ self.old) }
+        ensures account { IsBalanced self.new }
+    {
+        // The account is one of the settings, also where a message is refused for its size.
+        let _ = &self.config;
+        let command = read_command(b)?;
+        match self.credit_fault(connection, command.opcode(), command.reference) {
+            Some(fault) => Err(fault),
+            None => Ok(self.arrive(connection, command)),
+        }
+    }
+
+    /// Takes the oldest end of the connection that wasn't taken, as bytes, if there is one. They are a message of that end.
+    pub fn take(&mut self, connection: Connection) -> Option<ArrayVec<u8, 48>>
+        ensures answer { result ≡ end_taken connection self.old }
+        ensures reads_back { (end : End) → slice_get (of connection self.old.untaken) 0 ≡ Some end
+            → IfSome result (λ b. IsEnd b.items end) }
+        ensures after { self.new ≡ after_take connection self.old }
+        ensures account { IsBalanced self.new }
+    {
+        let end = self.accounts.take(connection)?;
+        Some(write_end(&end))
+    }
+
+    /// What the next step serves, if a command waits: the command, the block that it touches, how many steps it had, and
+    /// how many it takes in all. Where nothing is in service and nothing was begun the picker picks it, and its choice is
+    /// kept. Until a step, a reset, or an ABORT of that command, this answers the same; and it changes nothing that `look`,
+    /// `figure`, `balance`, `config`, `send` and `take` tell.
+    pub fn begin(&mut self) -> Option<Upcoming>
+        ensures begin { Foretells (K.picks self.old.picker) self.old result self.new }
+        ensures account { IsBalanced self.new }
+    {
+        self.queue.begin()
+    }
+
+    /// The step of the connection's command with this reference number, where it is begun: its block had this outcome. Else
+    /// it is stale: nothing changes, and the block counts for nothing. A command is known by its connection and its number
+    /// alone. So who begins anew after a step, an ABORT or a reset must let no finish of an older begin come any more: the
+    /// number may be the same.
+    pub fn finish(
+        &mut self,
+        connection: Connection,
+        reference: u32,
+        block: Block,
+    ) -> Result<Report, Stale>
+        ensures finish { Finishes (K.picks self.old.picker) (name_on connection reference) block self.old result self.new }
+        ensures account { IsBalanced self.new }
+    {
+        if self.queue.is_begun(connection, reference) {
+            Ok(self.step(block))
+        } else {
+            Err(Stale)
+        }
+    }
+
+    /// The body of `step`, where the step may be a command's first or last.
+    #[inline(never)]
+    fn step_apart(&mut self, block: Block) -> Report
+        ensures step { Steps (K.picks self.old.picker) block self.old result self.new }
+        ensures account { IsBalanced self.new }
+    {
+        let report = self.queue.serve(block);
+        keep_end(&mut self.accounts, &report);
+        report
+    }
+
+    /// The same. It is built into its caller, so that room for its report is cleared only where it is called.
+    #[inline(always)]
+    fn step_rest(&mut self, block: Block) -> Report
+        ensures step { Steps (K.picks self.old.picker) block self.old result self.new }
+        ensures account { IsBalanced self.new }
+    {
+        self.step_apart(block)
+    }
+
+    /// The step, if this finds that it is neither a command's first nor its last: else nothing changes. No clause says when it
+    /// finds that, so None tells nothing, and `step` is to be asked.
+    #[inline(always)]
+    pub fn step_amid(&mut self, block: &Block) -> Option<Report>
+        ensures step { IfSome result (λ report. Steps (K.picks self.old.picker) block.now self.old report self.new) }
+        ensures account { IfSome result (λ report. IsBalanced self.new) }
+        ensures none { IfNone result (self.new ≡ self.old) }
+    {
+        if let Some(amid) = self.queue.serve_amid(block) {
+            keep_end(&mut self.accounts, &amid);
+            return Some(amid);
+        }
+        None
+    }
+
+    /// Serves one block, with this outcome, if a command waits: to the command that was begun, or else to that in service,
+    /// or to one that the picker picks of those that may start.
+    pub fn step(&mut self, block: Block) -> Report
+        ensures step { Steps (K.picks self.old.picker) block self.old result self.new }
+        ensures account { IsBalanced self.new }
+    {
+        if let Some(amid) = self.step_amid(&block) {
+            return amid;
+        }
+        if self.queue.is_idle() {
+            return Report::Idle;
+        }
+        self.step_rest(block)
+    }
+
+    /// What is answered to an event.
+    pub(crate) fn answer(&mut self, event: &Event) -> Entry
+        ensures { Answers (K.picks self.old.picker) self.old event.now result self.new }
+    {
+        match event {
+            Event::Send(connection, message) => {
+                Entry::Sent(*connection, self.send(*connection, message.as_slice()))
+            }
+            Event::Take(connection) => Entry::Taken(*connection, self.take(*connection)),
+            Event::Step(block) => Entry::Stepped(self.step(*block)),
+            Event::Look => Entry::Looked(self.look()),
+        }
+    }
+}

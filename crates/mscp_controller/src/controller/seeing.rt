@@ -1,0 +1,105 @@
+// What callers see of a controller.
+
+ghost use Rattle.std.specs.Prelude.{All, ◌≡◌, ◌+◌, ◌≤◌, false, length, IfNone, IfSome};
+ghost use Rattle.mscp_queue.specs.Drives.{is_online_in};
+ghost use Rattle.mscp_queue.specs.Figures.{figure_of_name, figures};
+ghost use Rattle.mscp_queue.specs.Names.{name_on};
+ghost use Rattle.mscp_queue.specs.Records.{IsServing, has_name, record_at};
+ghost use Rattle.mscp_queue.specs.Views.{is_open_at};
+ghost use Rattle.mscp_queue.specs.Why.{holders_of_name, is_nobody};
+ghost use Rattle.std.specs.List.{position};
+ghost use Rattle.mscp_controller.specs.Arrival.{holds};
+ghost use Rattle.mscp_events.specs.Both.{of};
+ghost use Rattle.mscp_events.specs.Settings.{credits_of};
+ghost use Rattle.mscp_controller.specs.Holdings.{IsBalanced, balance_of, waiting_on};
+
+use crate::controller::Controller;
+use arrayvec::ArrayVec;
+use mscp_events::Connection;
+use mscp_queue::{Holder, Picker};
+
+impl<K: Picker> Controller<K> {
+    /// How many credits of the connection are free: each of its waiting commands and of its untaken ends holds one (manual,
+    /// "Flow Control").
+    pub fn balance(&self, connection: Connection) -> u32
+        ensures value { result ≡ balance_of connection self.now }
+        ensures account { result + length (waiting_on connection self.now.waiting)
+            + length (of connection self.now.untaken) ≡ credits_of self.now.settings connection }
+        ensures accounts { IsBalanced self.now }
+    {
+        let held = self.accounts.held(connection);
+        self.config.credits_of(connection).saturating_sub(held)
+    }
+
+    /// How many commands of the connection wait.
+    pub fn waiting(&self, connection: Connection) -> u32
+        ensures value { result ≡ length (waiting_on connection self.now.waiting) }
+        ensures account { IsBalanced self.now }
+    {
+        self.accounts.waiting(connection)
+    }
+
+    /// How many ends of the connection weren't taken.
+    pub fn untaken(&self, connection: Connection) -> u32
+        ensures value { result ≡ length (of connection self.now.untaken) }
+        ensures account { IsBalanced self.now }
+    {
+        self.accounts.untaken(connection)
+    }
+
+    /// Whether the unit of this number is online: false where it isn't configured.
+    pub fn is_online(&self, unit: u16) -> bool
+        ensures value { result ≡ is_online_in self.now.drives unit }
+        ensures account { IsBalanced self.now }
+    {
+        self.queue.is_online(unit)
+    }
+
+    /// The figure of the waiting command of the connection with the reference number, 0 if there is none: how many steps it
+    /// may still wait, at most.
+    pub fn figure(&self, connection: Connection, reference: u32) -> u32
+        ensures value { result
+            ≡ figure_of_name self.now.settings.budget self.now.waiting (name_on connection reference) }
+        ensures account { IsBalanced self.now }
+    {
+        self.queue.figure(connection, reference)
+    }
+
+    /// Who keeps the waiting command of the connection with the reference number back, oldest first: nobody where none
+    /// waits of it. While no other is in service it may start exactly if there is nobody.
+    pub fn holders(&self, connection: Connection, reference: u32) -> ArrayVec<Holder, 64>
+        ensures holders { result.items
+            ≡ holders_of_name self.now.settings.budget self.now.waiting (name_on connection reference) }
+        ensures none { IfSome (position (has_name (name_on connection reference)) self.now.waiting) (λ place.
+            is_nobody result.items ≡ is_open_at self.now.settings.budget self.now.waiting place) }
+        ensures account { IsBalanced self.now }
+    {
+        self.queue.holders(connection, reference)
+    }
+
+    /// Connection and reference number of the command in service, if one is.
+    pub fn serving(&self) -> Option<(Connection, u32)>
+        ensures some { IfSome result (λ served. IsServing (name_on served.0 served.1) self.now.waiting) }
+        ensures none { IfNone result (All (λ r. r.done ≡ 0) self.now.waiting) }
+        ensures account { IsBalanced self.now }
+    {
+        self.queue.serving()
+    }
+
+    /// By how many blocks the oldest waiting command was passed, 0 where none waits. No other was passed by more.
+    pub fn most_passed(&self) -> u32
+        ensures oldest { result ≡ (record_at self.now.waiting 0).passed }
+        ensures most { All (λ r. r.passed ≤ result) self.now.waiting }
+        ensures account { IsBalanced self.now }
+    {
+        self.queue.most_passed()
+    }
+
+    /// Connection, reference number and figure of each waiting command, oldest first.
+    pub fn look(&self) -> ArrayVec<(Connection, u32, u32), 64>
+        ensures value { result.items ≡ figures self.now.settings.budget self.now.waiting }
+        ensures account { IsBalanced self.now }
+    {
+        self.queue.look()
+    }
+}

@@ -1,0 +1,6 @@
+use Rattle.std.proofs.Common.{◌≡◌, drop}
+use Rattle.mscp_host.specs.Apart.{are_apart}
+use Rattle.mscp_host.proofs.outstanding.are_apart.Given as goal
+
+abbrev pub invariant-loop-place : goal.invariant-loop-place
+invariant-loop-place l = are_apart l.submissions ≡ are_apart (drop l.place l.submissions)

@@ -1,0 +1,155 @@
+-- What a host is told of credits over a whole history.
+use Rattle.std.proofs.Common.{◌≡◌, ◌⊎◌, ◌∙◌, ◌+◌, ◌-◌, ◌≤◌, ◌∷◌, [], ℕ, Bool, true, false, cond, List, Option, None, Some, inl, inr, refl, ap, sym, arith}
+use Rattle.std.specs.Prelude.{Result, Ok, Err, min}
+use Rattle.std.proofs.Math.Nat.{min-le_left}
+use Rattle.std.proofs.lemmas.Bool.{false≢true}
+use Rattle.mscp_controller.specs.Holdings.{Holdings}
+use Rattle.mscp_port.specs.declared.action.Outcome.{Outcome}
+use Rattle.mscp_port.specs.declared.action.Outcome.TheVariants as outcomes
+use Rattle.mscp_port.specs.declared.action.Unasked.{Unasked}
+use Rattle.mscp_port.specs.declared.hardware.Hardware.{Hardware}
+use Rattle.mscp_port.specs.declared.port.Outgoing.{Outgoing}
+use Rattle.mscp_port.specs.declared.port.Port.{Port}
+use Rattle.mscp_port.specs.declared.slot.Descriptor.{Descriptor}
+use Rattle.mscp_port.specs.declared.stage.Stage.TheVariants as stages
+use Rattle.mscp_port.specs.declared.task.Task.{Task}
+use Rattle.mscp_port.specs.declared.task.Task.TheVariants as tasks
+use Rattle.mscp_port.specs.Acted.{WritesOut}
+use Rattle.mscp_port.specs.Calls.{Goes, HoldsPacket, IsMadeOf}
+use Rattle.mscp_port.specs.Departures.{IsForgotten, IsWritten, Told, ends_in}
+use Rattle.mscp_port.specs.Histories.{Answered, Becomes, Call, WriteIp, ReadIp, WriteSa, Next, WasRead, Went, LookAgain, Tick, Change}
+use Rattle.mscp_port.specs.Packets.{credits_told, credits_with}
+
+-- ---- a call
+
+abbrev KeepsCredits : {K : Type 0} → Port K → Port K → Type 0
+KeepsCredits old new = (new.untold ≡ old.untold) × (new.more ≡ old.more)
+
+-- all is forgotten, or a packet is written, or the credits stay
+abbrev Counts : {K : Type 0} → Call → Port K → Port K → Type 0
+Counts call old new = IsForgotten old new
+    ⊎ (IsWritten call old × (slot : Descriptor) × WritesOut outcomes.Done slot old new)
+    ⊎ KeepsCredits old new
+
+-- the packet that is in hand
+packet_in : (t : Task) → HoldsPacket t → (slot : Descriptor) × (t ≡ tasks.Packet slot)
+packet_in (tasks.Packet slot) holds = (slot, refl)
+packet_in t holds = absurd holds
+
+is_done : Outcome → Bool
+is_done outcomes.Done = true
+is_done outcome = false
+
+-- an outcome but Done of a packet is a fatal error
+went_with : {K : Type 0} (outcome : Outcome) (done : Unit) (old new : Port K) → Goes outcome old (Ok done) new
+    → HoldsPacket old.task → Counts (Went outcome (Ok done)) old new
+unfolding is_done
+went_with outcomes.Done done old new r holds =
+    let held = packet_in old.task holds in inr (inl (holds, held.0, (r.acts refl).packet held.0 held.1))
+went_with outcome done old new r holds =
+    let held = packet_in old.task holds in
+    inl (stages.Dead 2, ((r.acts refl).packet held.0 held.1).missing (λ e. false≢true (ap is_done e)))
+
+went : {K : Type 0} (outcome : Outcome) (result : Result Unit Unasked) (old new : Port K) → Goes outcome old result new
+    → Counts (Went outcome result) old new
+went outcome (Err unasked) old new r =
+    inr (inr (ap (λ p. p.untold) r.unasked, ap (λ p. p.more) r.unasked))
+went outcome (Ok done) old new r = elim r.credits [
+  | inl holds ↦ went_with outcome done old new r holds
+  | inr more ↦ elim more [ inl same ↦ inr (inr same) | inr dead ↦ inl (stages.Dead dead.0, dead.1) ]
+]
+
+counts : {K : Type 0} (call : Call) (old new : Port K) → Becomes call old new → Counts call old new
+counts WriteIp old new r = inl (stages.First, r)
+counts ReadIp old new r = elim r.frame
+    [ inl e ↦ inr (inr (ap (λ p. p.untold) e, ap (λ p. p.more) e)) | inr dead ↦ inl (stages.Dead dead.0, dead.1) ]
+counts (WriteSa word) old new r = elim r.frame
+    [ inl e ↦ inr (inr (ap (λ p. p.untold) e, ap (λ p. p.more) e)) | inr dead ↦ inl (stages.Dead dead.0, dead.1) ]
+counts (Next action) old new r = inr (inr (ap (λ p. p.untold) r.frame, ap (λ p. p.more) r.frame))
+counts (WasRead bytes result) old new r = elim r.frame
+    [ inl e ↦ inr (inr (ap (λ p. p.untold) e, ap (λ p. p.more) e)) | inr dead ↦ inl (stages.Dead dead.0, dead.1) ]
+counts (Went outcome result) old new r = went outcome result old new r
+counts LookAgain old new r = inr (inr (ap (λ p. p.untold) r, ap (λ p. p.more) r))
+counts Tick old new r = elim r.either
+    [ inl e ↦ inr (inr (ap (λ p. p.untold) e, ap (λ p. p.more) e)) | inr dead ↦ inl (stages.Dead 9, dead) ]
+counts (Change there protected unit result) old new r =
+    inr (inr (ap (λ p. p.untold) r.frame, ap (λ p. p.more) r.frame))
+
+-- ---- the law
+
+-- a packet tells as many as it counts off, and for an end one more
+by_kind : (u c m e : ℕ) (ended : Bool) → c + u ≡ m + e
+    → (c + cond ended (1 + min u 14) 0) + (u - (cond ended (1 + min u 14) 0 - 1)) ≡ m + (e + cond ended 1 0)
+by_kind u c m e true h = let least : min u 14 ≤ u = min-le_left u 14 in omega (arith, h, least)
+by_kind u c m e false h = omega (arith, h)
+
+packet_counts : (u c m e : ℕ) (o : Option Outgoing) → c + u ≡ m + e
+    → (c + credits_with u o) + (u - (credits_with u o - 1)) ≡ m + (e + ends_in o)
+packet_counts u c m e None h = omega (arith, h)
+packet_counts u c m e (Some o) h = by_kind u c m e o.is_end h
+
+-- what is told of a packet that was written
+written : {K : Type 0} (call : Call) (old new : Port K) → IsWritten call old → Becomes call old new
+    → (slot : Descriptor) × WritesOut outcomes.Done slot old new
+written (Went outcomes.Done (Ok done)) old new holds r =
+    let held = packet_in old.task holds in (held.0, (r.acts refl).packet held.0 held.1)
+written call old new holds r = absurd holds
+
+more_after : {K : Type 0} (call : Call) (old new : Port K) → Counts call old new → new.more ≡ old.more
+more_after call old new counted = elim counted [
+  | inl forgotten ↦ forgotten.1.more
+  | inr more ↦ elim more [ inl w ↦ ap (λ p. p.more) (w.2.done refl) | inr keeps ↦ keeps.1 ]
+]
+
+pub all_but_one : {K : Type 0} (hardware : Hardware) (credits : ℕ) (controller : Holdings K) (start p : Port K)
+    (calls : List Call) → IsMadeOf hardware credits controller start → Answered start calls p → p.more + 1 ≡ credits
+all_but_one hardware credits controller start p [] made e = ap (λ q. q.more + 1) e ∙ made.credit
+all_but_one hardware credits controller start p (call ∷ calls) made a =
+    ap (λ m. m + 1) (more_after call a.0 p (counts call a.0 p a.2))
+    ∙ all_but_one hardware credits controller start a.0 calls made a.1
+
+after_written : {K : Type 0} (old new : Port K) (slot : Descriptor) (told ended : ℕ)
+    → WritesOut outcomes.Done slot old new
+    → told + old.untold ≡ old.more + ended
+    → (told + credits_told old) + new.untold ≡ new.more + (ended + ends_in old.outgoing)
+after_written old new slot told ended w e =
+    ap (λ (p : Port _). told + credits_told old + p.untold) (w.done refl)
+    ∙ packet_counts old.untold told old.more ended old.outgoing e
+    ∙ ap (λ m. m + (ended + ends_in old.outgoing)) (sym (ap (λ p. p.more) (w.done refl)))
+
+pub tells_its_credits : {K : Type 0} (hardware : Hardware) (credits : ℕ) (controller : Holdings K) (start p : Port K)
+    (calls : List Call) (told ends : ℕ) → IsMadeOf hardware credits controller start → (a : Answered start calls p)
+    → Told start p calls a told ends → told + p.untold ≡ p.more + ends
+tells_its_credits hardware credits controller start p [] told ends made a t =
+    let untold : p.untold ≡ start.untold = ap (λ q. q.untold) a in
+    let more : p.more ≡ start.more = ap (λ q. q.more) a in
+    let all : start.untold ≡ start.more = made.untold in
+    omega (arith, untold, more, all, t.0, t.1)
+tells_its_credits hardware credits controller start p (call ∷ calls) told ends made a t = elim t [
+  | inl anew ↦
+      let untold : p.untold ≡ a.0.more = anew.0.1.untold in
+      let more : p.more ≡ a.0.more = anew.0.1.more in
+      omega (arith, untold, more, anew.1, anew.2)
+  | inr some ↦ elim some [
+    | inl w ↦
+        let packet = written call a.0 p w.0 a.2 in
+        ap (λ n. n + p.untold) w.4
+        ∙ after_written a.0 p packet.0 w.1 w.2 packet.1
+        (tells_its_credits hardware credits controller start a.0 calls w.1 w.2 made a.1 w.3)
+        ∙ ap (λ n. p.more + n) (sym w.5)
+    | inr none ↦ elim (counts call a.0 p a.2) [
+      | inl forgotten ↦ absurd (none.0 (inl forgotten))
+      | inr more ↦ elim more [
+        | inl w ↦ absurd (none.0 (inr w.0))
+        | inr keeps ↦
+            ap (λ n. told + n) keeps.0
+            ∙ tells_its_credits hardware credits controller start a.0 calls told ends made a.1 none.1
+            ∙ ap (λ m. m + ends) (sym keeps.1)
+      ]
+    ]
+  ]
+]
+
+pub sums : (told untold more ends credits : ℕ) → told + untold ≡ more + ends → more + 1 ≡ credits
+    → told + untold + 1 ≡ credits + ends
+sums told untold more ends credits e f = omega (arith, e, f)

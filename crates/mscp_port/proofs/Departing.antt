@@ -1,0 +1,125 @@
+-- What goes out of a port over a whole history.
+use Rattle.std.proofs.Common.{◌≡◌, ◌⊎◌, ◌∙◌, ◌++◌, ◌∷◌, [], ℕ, List, Option, None, Some, IfSome, inl, inr, ap, sym, subst}
+use Rattle.std.specs.Prelude.{option_to_list}
+use Rattle.std.proofs.lemmas.List.{append-nil}
+use Rattle.std.proofs.lemmas.Option.{none-some}
+use Rattle.mscp_controller.specs.Holdings.{Holdings}
+use Rattle.mscp_port.specs.declared.hardware.Hardware.{Hardware}
+use Rattle.mscp_port.specs.declared.port.Outgoing.{Outgoing}
+use Rattle.mscp_port.specs.declared.port.Port.{Port}
+use Rattle.mscp_port.specs.declared.rings.Side.TheVariants.{Responses}
+use Rattle.mscp_port.specs.declared.slot.Descriptor.{Descriptor}
+use Rattle.mscp_port.specs.declared.stage.Stage.TheVariants as stages
+use Rattle.mscp_port.specs.declared.task.Task.TheVariants as tasks
+use Rattle.mscp_port.specs.Calls.{Dies, IsMadeOf}
+use Rattle.mscp_port.specs.Departures.{IsDelivered, IsForgotten, begins, begun, gone, leaves}
+use Rattle.mscp_port.specs.Histories.{Answered, Becomes, Call, NamesPacket, reads, WriteIp, ReadIp, WriteSa, Next, WasRead, Went, LookAgain, Tick, Change}
+use Rattle.mscp_port.specs.Outgoings.{Says}
+use Rattle.mscp_port.specs.Ports.{in_hand}
+use Rattle.mscp_port.proofs.Loads.{looks_or_not}
+use Rattle.mscp_port.proofs.Naming.Whole.{knows}
+
+-- ---- a call
+
+-- what went out was in a slot that is given back now
+abbrev IsReturned : {K : Type 0} → Port K → Type 0
+IsReturned old = (slot : Descriptor) × (old.task ≡ tasks.Return Responses slot)
+
+-- by each call what goes out stays, or nothing went out, or what went out is gone
+abbrev Passes : {K : Type 0} → Port K → Port K → Type 0
+Passes old new = (new.outgoing ≡ old.outgoing) ⊎ (old.outgoing ≡ None)
+    ⊎ ((new.outgoing ≡ None) × (IsForgotten old new ⊎ IsReturned old))
+
+forgotten : {K : Type 0} (old new : Port K) → IsForgotten old new → Passes old new
+forgotten old new f = inr (inr (f.1.outgoing, inl f))
+
+dead : {K : Type 0} (old new : Port K) → Dies old new → Passes old new
+dead old new d = forgotten old new (stages.Dead d.0, d.1)
+
+said : {K : Type 0} (old new : Port K) → Says old new → Passes old new
+said old new says = elim (looks_or_not old) [
+  | inl looks ↦ inr (inl looks.outgoing)
+  | inr still ↦ inl (says.keeps still).outgoing
+]
+
+passes : {K : Type 0} (call : Call) (old new : Port K) → Becomes call old new → Passes old new
+passes WriteIp old new r = forgotten old new (stages.First, r)
+passes ReadIp old new r = elim r.frame [ inl e ↦ inl (ap (λ p. p.outgoing) e) | inr d ↦ dead old new d ]
+passes (WriteSa word) old new r = elim r.frame [ inl e ↦ inl (ap (λ p. p.outgoing) e) | inr d ↦ dead old new d ]
+passes (Next action) old new r = said old new r.says
+passes (WasRead bytes result) old new r = elim r.out [
+  | inl same ↦ inl same
+  | inr more ↦ elim more [ inl own ↦ inr (inl own.4.nothing) | inr d ↦ dead old new d ]
+]
+passes (Went outcome result) old new r = elim r.out [
+  | inl same ↦ inl same
+  | inr more ↦ elim more [
+    | inl has_said ↦ inr (inr (has_said.out, inr has_said.returned))
+    | inr d ↦ dead old new d
+  ]
+]
+passes LookAgain old new r = inl (ap (λ p. p.outgoing) r)
+passes Tick old new r = elim r.either [
+  | inl e ↦ inl (ap (λ p. p.outgoing) e)
+  | inr d ↦ forgotten old new (stages.Dead 9, d)
+]
+passes (Change there protected unit result) old new r = inl (ap (λ p. p.outgoing) r.frame)
+
+-- ---- the law of order
+
+-- what goes out is kept in step
+in_step : (xs ys : List Outgoing) (before after : Option Outgoing) (Gone : Type 0)
+    → (after ≡ before) ⊎ (before ≡ None) ⊎ ((after ≡ None) × Gone) → xs ≡ ys ++ option_to_list before
+    → xs ++ begins before after ≡ (ys ++ leaves before after) ++ option_to_list after
+in_step xs ys None None Gone h e = ap (λ zs. zs ++ []) e
+in_step xs ys None (Some b) Gone h e = ap (λ zs. zs ++ b ∷ []) e
+in_step xs ys (Some a) None Gone h e = ap (λ zs. zs ++ []) e
+in_step xs ys (Some a) (Some b) Gone h e = elim h [
+  | inl same ↦ append-nil xs ∙ e ∙ sym (ap (λ zs. zs ++ b ∷ []) (append-nil ys)
+      ∙ ap (λ o. ys ++ option_to_list o) same)
+  | inr more ↦ elim more [
+    | inl none ↦ absurd (none-some a (sym none))
+    | inr left ↦ absurd (none-some b (sym left.0))
+  ]
+]
+
+pub speaks_in_order : {K : Type 0} (hardware : Hardware) (credits : ℕ) (controller : Holdings K) (start p : Port K)
+    (calls : List Call) → IsMadeOf hardware credits controller start → (a : Answered start calls p)
+    → begun start p calls a ≡ gone start p calls a ++ option_to_list p.outgoing
+speaks_in_order hardware credits controller start p [] made e =
+    sym (ap option_to_list (ap (λ q. q.outgoing) e ∙ made.outgoing))
+speaks_in_order hardware credits controller start p (call ∷ calls) made a =
+    in_step (begun start a.0 calls a.1) (gone start a.0 calls a.1) a.0.outgoing p.outgoing
+    (IsForgotten a.0 p ⊎ IsReturned a.0) (passes call a.0 p a.2)
+    (speaks_in_order hardware credits controller start a.0 calls made a.1)
+
+-- ---- the law of slots
+
+named_of : (o : Option ℕ) (word : ℕ) (bs : List (List ℕ)) → o ≡ Some word → IfSome o (λ w. NamesPacket bs w)
+    → NamesPacket bs word
+named_of o word bs e h = subst (λ x. IfSome x (λ w. NamesPacket bs w)) e h
+
+delivered : {K : Type 0} (hardware : Hardware) (credits : ℕ) (controller : Holdings K) (start old : Port K)
+    (calls : List Call) → IsMadeOf hardware credits controller start → Answered start calls old → IsReturned old
+    → IsDelivered calls old
+delivered hardware credits controller start old calls made a returned = (
+  returned.0,
+  returned.1,
+  named_of (in_hand old.task) returned.0.word (reads calls) (ap in_hand returned.1)
+      (knows hardware credits controller start old calls made a).packet,
+)
+
+pub fills_its_slot : {K : Type 0} (hardware : Hardware) (credits : ℕ) (controller : Holdings K) (start p : Port K)
+    (call : Call) (calls : List Call) (o : Outgoing) → IsMadeOf hardware credits controller start
+    → (a : Answered start (call ∷ calls) p) → a.0.outgoing ≡ Some o → p.outgoing ≡ None
+    → IsForgotten a.0 p ⊎ IsDelivered calls a.0
+fills_its_slot hardware credits controller start p call calls o made a some none = elim (passes call a.0 p a.2) [
+  | inl same ↦ absurd (none-some o (sym none ∙ same ∙ some))
+  | inr more ↦ elim more [
+    | inl nothing ↦ absurd (none-some o (sym nothing ∙ some))
+    | inr left ↦ elim left.1 [
+      | inl f ↦ inl f
+      | inr returned ↦ inr (delivered hardware credits controller start a.0 calls made a.1 returned)
+    ]
+  ]
+]

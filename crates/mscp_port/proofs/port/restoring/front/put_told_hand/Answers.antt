@@ -1,0 +1,23 @@
+use Rattle.std.proofs.Common.{ℕ, List, ◌∷◌, [], drop, length, sym, ap, ◌∙◌}
+use Rattle.mscp_saved.proofs.Bytes.{first, more}
+use Rattle.mscp_saved.proofs.Parted.{parts_long}
+use Rattle.mscp_port.specs.Codes.{coded_task, task_in}
+use Rattle.mscp_port.specs.Restored.{buffer_count, buffer_in, buffer_place}
+use Rattle.mscp_port.specs.Saved.{coded_bytes, outgoing_byte, outgoing_text, rings_bytes, stage_bytes, written_bytes}
+use Rattle.mscp_port.proofs.port.restoring.front.put_told_hand.Goals as goal
+
+pub returns-clause-items : goal.returns-clause-items
+returns-clause-items c =
+    let xs = c.args.out.now.items in
+    let b = c.args.b.now in
+    let stage = first xs _ _ c.put_stage.ensures.items (ap stage_bytes c.stage_of.ensures) in
+    let written = more xs _ _ _ stage c.put_written.ensures.items (ap written_bytes c.written_in.ensures) in
+    let rings = more xs _ _ _ written c.put_rings.ensures.items (ap rings_bytes c.rings_in.ensures) in
+    let task = more xs _ _ _ rings c.put_coded.ensures.items
+    (ap coded_bytes (c.coded_task.ensures.value ∙ ap coded_task (c.task_in.ensures ∙ ap task_in c.coded_in.ensures))) in
+    let kind = more xs _ _ _ task c.push.ensures.items
+    (ap (λ (n : ℕ). n ∷ []) (c.outgoing_byte.ensures ∙ ap outgoing_byte c.requires.told)) in
+    let text = more xs _ _ _ kind c.push-2.ensures.items
+    (ap (λ (l : List ℕ). length l ∷ []) (c.text_of.ensures.value ∙ ap outgoing_text c.requires.told)) in
+    more xs _ _ _ text c.push-3.ensures.items
+    (ap (λ (n : ℕ). n ∷ []) (sym (parts_long buffer_in 20 (buffer_count b) (drop (buffer_place b) b))))

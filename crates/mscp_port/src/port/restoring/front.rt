@@ -1,0 +1,86 @@
+// What a port is saved as that bytes say, up to its controller: bytes that are a port's are these.
+
+ghost use Rattle.std.specs.Prelude.{◌≡◌, ◌+◌, ◌≤◌, ◌++◌, length};
+ghost use Rattle.arrayvec.specs.ArrayVec.{array_vec_len};
+ghost use Rattle.mscp_port.specs.Restored.{IsFramed, front_in, told_front};
+ghost use Rattle.mscp_port.specs.Saved.{counts_bytes, hand_bytes, state_bytes};
+
+use crate::codes::{coded_task, task_in};
+use crate::port::Outgoing;
+use crate::port::restoring::{
+    buffers_of, coded_in, flag_at, hardware_in, outgoing_of, rings_in, stage_of, volumes_of,
+    words_in, written_in,
+};
+use crate::port::saving::{
+    ROOM, outgoing_byte, put_buffers, put_coded, put_flag, put_frame, put_hardware, put_rings,
+    put_stage, put_volumes, put_words, put_written, text_of,
+};
+use arrayvec::ArrayVec;
+use mscp_packet::fields::{put, put_two, two_at};
+
+/// Appends what bytes say that a port counts, and whether something is so.
+fn put_told_counts(out: &mut ArrayVec<u8, ROOM>, b: &[u8])
+    requires room { array_vec_len out.old + 7 ≤ 5272 }
+    requires long { 280 ≤ length b.now }
+    ensures items { out.new.items ≡ out.old.items ++ counts_bytes (front_in b.now) }
+    ensures len { array_vec_len out.new ≡ array_vec_len out.old + 7 }
+{
+    out.push(b[16]);
+    out.push(b[17]);
+    out.push(b[18]);
+    out.push(b[19]);
+    put_flag(out, flag_at(b, 20));
+    put_flag(out, flag_at(b, 21));
+    put_flag(out, flag_at(b, 22));
+}
+
+/// Appends what kind of port they say, what it counts, and what its host has set.
+fn put_told_state(out: &mut ArrayVec<u8, ROOM>, b: &[u8])
+    requires room { array_vec_len out.old + 21 ≤ 5272 }
+    requires long { 280 ≤ length b.now }
+    ensures items { out.new.items ≡ out.old.items ++ state_bytes (front_in b.now) }
+    ensures len { array_vec_len out.new ≡ array_vec_len out.old + 21 }
+{
+    put_hardware(out, hardware_in(b));
+    put_told_counts(out, b);
+    put_two(out, two_at(b, 23));
+    put_two(out, two_at(b, 25));
+    put_two(out, two_at(b, 27));
+    put_words(out, words_in(b));
+}
+
+/// Appends how far they say that it has come, and what it has in hand, with what goes out.
+fn put_told_hand(out: &mut ArrayVec<u8, ROOM>, b: &[u8], outgoing: &Option<Outgoing>)
+    requires room { array_vec_len out.old + 39 ≤ 5272 }
+    requires framed { IsFramed b.now }
+    requires told { outgoing.now ≡ (front_in b.now).outgoing }
+    ensures items { out.new.items ≡ out.old.items ++ hand_bytes (front_in b.now) }
+    ensures len { array_vec_len out.new ≡ array_vec_len out.old + 39 }
+{
+    put_stage(out, stage_of(b));
+    put_written(out, written_in(b));
+    put_rings(out, rings_in(b));
+    put_coded(out, coded_task(task_in(coded_in(b))));
+    out.push(outgoing_byte(outgoing));
+    out.push(text_of(outgoing).len() as u8);
+    out.push(b[71]);
+}
+
+/// The bytes in front of its controller that the port is saved as that bytes say.
+#[inline(never)]
+pub(super) fn saved_front(b: &[u8]) -> ArrayVec<u8, ROOM>
+    requires { IsFramed b.now }
+    ensures { result.items ≡ told_front b.now }
+{
+    let outgoing = outgoing_of(b);
+    let text = text_of(&outgoing);
+    let total = text.len() + (b.len() - usize::from(b[70]));
+    let mut out = ArrayVec::new();
+    put_frame(&mut out, total as u32);
+    put_told_state(&mut out, b);
+    put_told_hand(&mut out, b, &outgoing);
+    put_volumes(&mut out, &volumes_of(b));
+    put(&mut out, text);
+    put_buffers(&mut out, buffers_of(b).as_slice());
+    out
+}

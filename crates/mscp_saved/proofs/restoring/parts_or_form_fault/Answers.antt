@@ -1,0 +1,24 @@
+use Rattle.std.proofs.Common.{◌≡◌, ◌∙◌, ap, sym}
+use Rattle.std.specs.Prelude.{Option, None}
+use Rattle.mscp_queue.specs.declared.name.Name.{Name}
+use Rattle.mscp_controller.specs.Holdings.{Holdings}
+use Rattle.mscp_controller.specs.Restored.{made_of}
+use Rattle.mscp_saved.specs.declared.fault.RestoreFault.{RestoreFault}
+use Rattle.mscp_saved.specs.Read.{begun_in}
+use Rattle.mscp_saved.specs.Restored.{first_of, form_fault, form_unless, parts_fault}
+use Rattle.mscp_saved.specs.Saved.{saved_bytes}
+use Rattle.mscp_saved.proofs.restoring.parts_or_form_fault.Goals as goal
+
+pub returns-clause-fault : goal.returns-clause-fault
+returns-clause-fault c =
+    let a = c.args in
+    let begun = c.begun_in-begun.ensures in
+    let made : Option Name → Holdings (Unit {0}) =
+    λ g. made_of a.config.now a.waiting.now a.first.now a.second.now a.drives.now g (tt {0}) in
+    let saved = c.as_slice.ensures.value
+    ∙ (c.save_parts.ensures ∙ ap (λ (g : Option Name). saved_bytes a.number (made g)) begun) in
+    let none : parts_fault a.config.now a.drives.now a.waiting.now a.first.now a.second.now (begun_in a.b.now) ≡ None =
+    sym (ap (parts_fault a.config.now a.drives.now a.waiting.now a.first.now a.second.now) begun)
+    ∙ (sym c.parts_fault.ensures.fault ∙ c.in_default.is) in
+    c.form_fault.ensures ∙ (ap (form_unless a.number a.b.now) saved
+    ∙ sym (ap (λ (o : Option RestoreFault). first_of o (form_fault a.number a.b.now (made (begun_in a.b.now)))) none))

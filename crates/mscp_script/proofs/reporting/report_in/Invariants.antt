@@ -1,6 +1,0 @@
-use Rattle.std.proofs.Common.{◌≡◌, take}
-use Rattle.mscp_script.specs.Text.{reported}
-use Rattle.mscp_script.proofs.reporting.report_in.Given as goal
-
-abbrev pub invariant-loop-entry : goal.invariant-loop-entry
-invariant-loop-entry g l = l.reporter ≡ reported (take l.entry-index l.entries)

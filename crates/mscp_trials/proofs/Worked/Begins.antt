@@ -1,0 +1,225 @@
+-- What was begun is held to, whatever comes in between, until it is aborted.
+use Rattle.std.proofs.Common.{◌≡◌, ℕ, true, false, List, [], ◌∷◌, ◌++◌, map, take, refl, ap, arith}
+use Rattle.std.specs.Prelude.{Some, Ok, Err, unwrap_or, replicate}
+use Rattle.std.proofs.lemmas.Bool.{false≢true}
+use Rattle.mscp_queue.specs.Names.{name_on}
+use Rattle.mscp_packet.specs.Commands.{command_of}
+use Rattle.mscp_events.specs.declared.connection.Connection.TheVariants.{First}
+use Rattle.mscp_events.specs.declared.block.Block.TheVariants.{Good}
+use Rattle.mscp_queue.specs.declared.report.Report.TheVariants as reports
+use Rattle.mscp_queue.specs.declared.upcoming.Upcoming.{Upcoming}
+use Rattle.mscp_controller.specs.declared.entry.Stale.{Stale}
+use Rattle.mscp_controller.specs.History.{Moment, moment, collect}
+use Rattle.mscp_controller.specs.Commands.{command, is_waiting, waiting, done, good}
+use Rattle.mscp_controller.specs.Passing.{passed_at, passed, is_free, is_startable, startable}
+use Rattle.mscp_controller.specs.Figures.{figure, figure_of}
+use Rattle.mscp_controller.specs.Units.{cost, is_online, head_cylinder, head_up}
+use Rattle.mscp_controller.specs.Ends.{answer, outcome}
+use Rattle.mscp_controller.specs.Account.{ends, untaken, balance, outstanding}
+use Rattle.mscp_controller.specs.Credits.{arrival}
+use Rattle.mscp_controller.specs.Legal.{IsLegal, block_of}
+use Rattle.mscp_controller.specs.Sweeping.{swept}
+use Rattle.mscp_controller.specs.Calls.{Begin, Call, Finish, HoldsTo, HoldsToBegun, IsBegun, IsBegunSince, IsForetold, Plain, call_at, history}
+use Rattle.mscp_controller.proofs.Bridge.Legals.{legal_from, by_serving}
+use Rattle.mscp_trials.proofs.Worked.Literals.{settings, came_online, read, queued, aborted, served, moved, took}
+
+abbrev plain : Moment → Call
+plain m = Plain m.0 m.1
+
+-- what is told of a read of one block that had no step
+abbrev one_block : ℕ → ℕ → Upcoming
+one_block r block = record {
+  connection = First;
+  command = record { reference = r; unit = 0; order = read 512 block };
+  lbn =
+      Some block;
+  done = 0;
+  weight = 1;
+}
+
+abbrev stale : Stale
+stale = record {}
+
+-- A far read is begun. A near one comes, and changes nothing of that. The far one is aborted: it can't be finished any
+-- more, and the near one is begun and finished.
+abbrev begun_and_aborted : List Call
+begun_and_aborted =
+    map plain came_online
+    ++ plain (queued 1 0 (read 512 60))
+    ∷ Begin (Some (one_block 1 60))
+    ∷ plain (queued 2 0 (read 512 0))
+    ∷ Begin (Some (one_block 1 60))
+    ∷ plain (aborted 3 1)
+    ∷ Finish First 1 Good (Err stale)
+    ∷ Begin (Some (one_block 2 0))
+    ∷ Finish First 2 Good (Ok (reports.Served First 2 0 (Some 0) true 0 (moved 2 0 0 512)))
+    ∷ []
+
+begun_legal : IsLegal (settings 8 8) (history begun_and_aborted)
+unfolding moment collect command_of command is_waiting waiting done good passed_at passed is_free is_startable startable
+    figure figure_of is_online head_cylinder head_up cost swept answer outcome ends untaken balance outstanding arrival
+    block_of
+begun_legal = legal_from (settings 8 8) (history begun_and_aborted) (
+  (refl, refl),
+  (
+    by_serving 0 refl refl refl,
+    (
+      (refl, refl),
+      (
+        (refl, refl),
+        (
+          (refl, refl),
+          (
+            (refl, refl),
+            (by_serving 4 refl refl refl, tt),
+          ),
+        ),
+      ),
+    ),
+  ),
+)
+
+-- It is told of the far one,
+far_told : IsForetold (settings 8 8) (history (take 4 begun_and_aborted)) (Some (one_block 1 60))
+unfolding moment collect command_of command is_waiting waiting done good passed_at passed is_free is_startable startable
+    figure figure_of is_online head_cylinder head_up cost swept answer outcome ends untaken balance outstanding arrival
+    block_of
+far_told = (3, refl, refl, refl)
+
+-- which is begun when the near one has come, though the sweep would start that one.
+far_begun : IsBegunSince (take 6 begun_and_aborted) (one_block 1 60) 3 4
+unfolding moment collect command_of command is_waiting waiting done good passed_at passed is_free is_startable startable
+    figure figure_of is_online head_cylinder head_up cost swept answer outcome ends untaken balance outstanding arrival
+    block_of
+far_begun = record { inside = omega arith; told = refl; own = refl; waited = refl; unstepped = refl; waits = refl }
+
+near_swept : swept (settings 8 8) (history (take 6 begun_and_aborted)) ≡ Some 4
+unfolding moment collect command_of command is_waiting waiting done good passed_at passed is_free is_startable startable
+    figure figure_of is_online head_cylinder head_up cost swept answer outcome ends untaken balance outstanding arrival
+    block_of
+near_swept = refl
+
+-- So the next begin tells the same.
+told_again : HoldsTo (one_block 1 60) (call_at begun_and_aborted 6)
+told_again = refl
+
+-- No begin may tell of the near one then,
+near_untold : HoldsToBegun (take 6 begun_and_aborted) (Begin (Some (one_block 2 0))) → ⊥
+near_untold h = let e = ap (λ o. (unwrap_or o (one_block 0 0)).command.reference) (h (one_block 1 60) 3 4 far_begun) in
+    absurd (omega (arith, e))
+
+-- no step may serve it,
+near_unserved : HoldsToBegun (take 6 begun_and_aborted) (plain (served Good 2 0 (Some 0) true 0 (moved 2 0 0 512))) → ⊥
+near_unserved h = let e = (h (one_block 1 60) 3 4 far_begun).reference in absurd (omega (arith, e))
+
+-- nor may another block of the far one be served,
+other_block_unserved : HoldsToBegun (take 6 begun_and_aborted)
+    (plain (served Good 1 0 (Some 0) true 0 (moved 1 0 0 512))) → ⊥
+other_block_unserved h = let e = ap (λ o. unwrap_or o 1) (h (one_block 1 60) 3 4 far_begun).lbn in
+    absurd (omega (arith, e))
+
+-- and no finish of the far one may be stale.
+far_not_stale : HoldsToBegun (take 6 begun_and_aborted) (Finish First 1 Good (Err stale)) → ⊥
+far_not_stale h = h (one_block 1 60) 3 4 far_begun refl
+
+-- Once it is aborted it is begun no more,
+far_aborted : is_waiting (history (take 8 begun_and_aborted)) 3 ≡ false
+unfolding moment collect command_of command is_waiting waiting done good passed_at passed is_free is_startable startable
+    figure figure_of is_online head_cylinder head_up cost swept answer outcome ends untaken balance outstanding arrival
+    block_of
+far_aborted = refl
+
+-- the near one is told then,
+near_told : IsForetold (settings 8 8) (history (take 9 begun_and_aborted)) (Some (one_block 2 0))
+unfolding moment collect command_of command is_waiting waiting done good passed_at passed is_free is_startable startable
+    figure figure_of is_online head_cylinder head_up cost swept answer outcome ends untaken balance outstanding arrival
+    block_of
+near_told = (4, refl, refl, refl)
+
+-- and what is finished is that one.
+near_finished : IsBegun (take 10 begun_and_aborted) (name_on First 2)
+unfolding moment collect command_of command is_waiting waiting done good passed_at passed is_free is_startable startable
+    figure figure_of is_online head_cylinder head_up cost swept answer outcome ends untaken balance outstanding arrival
+    block_of
+near_finished = (
+  one_block 2 0,
+  4,
+  9,
+  record {
+    inside = omega arith;
+    told = refl;
+    own = refl;
+    waited = refl;
+    unstepped =
+        refl;
+    waits = refl;
+  },
+  refl,
+)
+
+-- ---- a number that is used again
+
+-- The end of the far one is taken, and a third read comes under its number. The old begin isn't of that one: it can't
+-- be finished until a begin tells of it.
+abbrev number_again : List Call
+number_again =
+    take 8 begun_and_aborted
+    ++ plain (took (1 ∷ 0 ∷ 0 ∷ 0 ∷ 0 ∷ 0 ∷ 0 ∷ 0 ∷ 0xA1 ∷ 0 ∷ 2 ∷ replicate 21 0))
+    ∷ plain (queued 1 0 (read 512 80))
+    ∷ Finish First 1 Good (Err stale)
+    ∷ Begin (Some (one_block 1 80))
+    ∷ Finish First 1 Good (Ok (reports.Served First 1 0 (Some 80) true 4 (moved 1 0 0 512)))
+    ∷ []
+
+again_legal : IsLegal (settings 8 8) (history number_again)
+unfolding moment collect command_of command is_waiting waiting done good passed_at passed is_free is_startable startable
+    figure figure_of is_online head_cylinder head_up cost swept answer outcome ends untaken balance outstanding arrival
+    block_of
+again_legal = legal_from (settings 8 8) (history number_again) (
+  (refl, refl),
+  (
+    by_serving 0 refl refl refl,
+    (
+      (refl, refl),
+      (
+        (refl, refl),
+        ((refl, refl), ((refl, refl), ((refl, refl), ((refl, refl), (by_serving 7 refl refl refl, tt))))),
+      ),
+    ),
+  ),
+)
+
+-- The old one waits no more,
+old_left : IsBegunSince (take 10 number_again) (one_block 1 60) 3 4 → ⊥
+unfolding moment collect command_of command is_waiting waiting done good passed_at passed is_free is_startable startable
+    figure figure_of is_online head_cylinder head_up cost swept answer outcome ends untaken balance outstanding arrival
+    block_of
+old_left b = false≢true b.waits
+
+-- the new one hadn't come when the old one was begun,
+new_unbegun : (upcoming : Upcoming) → IsBegunSince (take 10 number_again) upcoming 7 4 → ⊥
+unfolding moment collect command_of command is_waiting waiting done good passed_at passed is_free is_startable startable
+    figure figure_of is_online head_cylinder head_up cost swept answer outcome ends untaken balance outstanding arrival
+    block_of
+new_unbegun upcoming b = false≢true b.waited
+
+-- and what is finished in the end is the new one.
+new_finished : IsBegun (take 12 number_again) (name_on First 1)
+unfolding moment collect command_of command is_waiting waiting done good passed_at passed is_free is_startable startable
+    figure figure_of is_online head_cylinder head_up cost swept answer outcome ends untaken balance outstanding arrival
+    block_of
+new_finished = (
+  one_block 1 80,
+  7,
+  11,
+  record {
+    inside = omega arith;
+    told = refl;
+    own = refl;
+    waited =
+        refl;
+    unstepped = refl;
+    waits = refl;
+  },
+  refl,
+)

@@ -1,0 +1,154 @@
+-- Two hosts: what is legal where each has a connection of its own, and what isn't right.
+use Rattle.std.proofs.Common.{◌≡◌, ℕ, true, List, [], ◌∷◌, ◌++◌, take, refl, ap, arith}
+use Rattle.std.specs.Prelude.{replicate, Option, Some, None, Result, is_some, is_ok, slice_index, Ok, Err}
+use Rattle.std.proofs.lemmas.Bool.{true≢false, false≢true}
+use Rattle.arrayvec.specs.ArrayVec.{ArrayVec}
+use Rattle.mscp_packet.specs.declared.command.Order.{Order}
+use Rattle.mscp_packet.specs.declared.command.Order.TheVariants as orders
+use Rattle.mscp_packet.specs.declared.end.End.{End}
+use Rattle.mscp_packet.specs.Commands.{command_bytes, command_of}
+use Rattle.mscp_events.specs.declared.block.Block.TheVariants.{Good}
+use Rattle.mscp_events.specs.declared.connection.Connection.{Connection}
+use Rattle.mscp_events.specs.declared.connection.Connection.TheVariants.{First, Second}
+use Rattle.mscp_queue.specs.declared.report.Report.TheVariants as reports
+use Rattle.mscp_controller.specs.declared.entry.SendFault.{SendFault}
+use Rattle.mscp_controller.specs.declared.entry.SendFault.TheVariants as faults
+use Rattle.mscp_controller.specs.declared.entry.Sent.{Sent}
+use Rattle.mscp_controller.specs.declared.entry.Sent.TheVariants as sents
+use Rattle.mscp_events.specs.declared.event.Event.{Event}
+use Rattle.mscp_events.specs.declared.event.Event.TheVariants as events
+use Rattle.mscp_controller.specs.declared.entry.Entry.TheVariants as entries
+use Rattle.mscp_events.specs.Settings.{Settings}
+use Rattle.mscp_controller.specs.History.{Trace, Moment, moment, collect}
+use Rattle.mscp_controller.specs.Commands.{command, is_waiting, waiting, done, good}
+use Rattle.mscp_controller.specs.Passing.{passed_at, passed, is_free, is_startable, startable}
+use Rattle.mscp_controller.specs.Figures.{figure, figure_of}
+use Rattle.mscp_controller.specs.Units.{is_online, head_cylinder, head_up}
+use Rattle.mscp_controller.specs.Ends.{answer, outcome}
+use Rattle.mscp_controller.specs.Account.{ends, untaken, balance, outstanding}
+use Rattle.mscp_controller.specs.Credits.{arrival}
+use Rattle.mscp_controller.specs.Legal.{IsLegal, IsRight, block_of}
+use Rattle.mscp_controller.proofs.Bridge.Legals.{legal_from, by_serving}
+use Rattle.mscp_trials.proofs.Worked.Literals.{settings_of, shape, read, moved, onlined}
+
+-- both connections have so many credits
+abbrev of_both : ℕ → Settings
+of_both credits = record (settings_of (shape 0 ∷ []) credits 16) { second = credits }
+
+abbrev sends : Connection → ℕ → Order → Event
+sends via r o = events.Send via (record { items = command_bytes (record { reference = r; unit = 0; order = o }) })
+
+abbrev queued : Connection → ℕ → Order → Moment
+queued via r o = (sends via r o, entries.Sent via (Ok (sents.Queued r)))
+
+-- answered, and this command aborted, if one was
+abbrev answered : Connection → ℕ → Order → Option ℕ → Moment
+answered via r o other = (sends via r o, entries.Sent via (Ok (sents.Answered r other)))
+
+abbrev took : Connection → List ℕ → Moment
+took via b = (events.Take via, entries.Taken via (Some (record { items = b })))
+
+abbrev served : Connection → ℕ → Option ℕ → Option End → Moment
+served via r lbn ended = (events.Step Good, entries.Stepped (reports.Served via r 0 lbn true 0 ended))
+
+-- the end of a poll of command 1 by command 2, with this figure
+abbrev told : ℕ → List ℕ
+told figure = 2 ∷ 0 ∷ 0 ∷ 0 ∷ 0 ∷ 0 ∷ 0 ∷ 0 ∷ 0x82 ∷ 0 ∷ 0 ∷ 0 ∷ 1 ∷ 0 ∷ 0 ∷ 0 ∷ figure ∷ 0 ∷ 0 ∷ 0 ∷ []
+
+-- An ONLINE of the first host and a READ of the second have one number. The second polls its own, whose figure counts
+-- the ONLINE before it, and each end goes to its host.
+abbrev shared : Trace
+shared =
+    queued First 1 orders.Online
+    ∷ queued Second 1 (read 512 0)
+    ∷ answered Second 2 (orders.Status 1) None
+    ∷ took Second (told 18)
+    ∷ served First 1 None (onlined 1 0 0)
+    ∷ served Second 1 (Some 0) (moved 1 0 0 512)
+    ∷ took Second ((1 ∷ 0 ∷ 0 ∷ 0 ∷ 0 ∷ 0 ∷ 0 ∷ 0 ∷ 0xA1 ∷ 0 ∷ 0 ∷ 0 ∷ 0 ∷ 2 ∷ 0 ∷ 0 ∷ []) ++ replicate 16 0)
+    ∷ []
+
+shared_legal : IsLegal (of_both 4) shared
+unfolding moment collect command_of command is_waiting waiting done good passed_at passed is_free is_startable startable
+    figure figure_of is_online head_cylinder head_up answer outcome ends untaken balance outstanding arrival block_of
+shared_legal = legal_from (of_both 4) shared (
+  (refl, refl),
+  (
+    (refl, refl),
+    (
+      (refl, refl),
+      ((refl, refl), (by_serving 0 refl refl refl, (by_serving 1 refl refl refl, ((refl, refl), tt)))),
+    ),
+  ),
+)
+
+-- The end of the ONLINE is the first host's, who didn't take it.
+shared_balances : (balance (of_both 4) First shared ≡ 3) × (balance (of_both 4) Second shared ≡ 4)
+unfolding moment collect command_of command is_waiting waiting done good passed_at passed is_free is_startable startable
+    figure figure_of is_online head_cylinder head_up answer outcome ends untaken balance outstanding arrival block_of
+shared_balances = (refl, refl)
+
+-- A reference number of the other host is none of one's own.
+outstanding_apart : (outstanding (of_both 4) First (take 3 shared) ≡ 1 ∷ [])
+    × (outstanding (of_both 4) Second (take 3 shared) ≡ 1 ∷ 2 ∷ [])
+unfolding moment collect command_of command is_waiting waiting done good passed_at passed is_free is_startable startable
+    figure figure_of is_online head_cylinder head_up answer outcome ends untaken balance outstanding arrival block_of
+outstanding_apart = (refl, refl)
+
+-- ---- what isn't right
+
+abbrev IsWrong : Settings → Trace → Moment → Type 0
+IsWrong c t m = IsRight c t m.0 m.1 → ⊥
+
+-- what an answer says was aborted
+aborted_in : Result Sent SendFault → Option ℕ
+aborted_in (Ok (sents.Answered r other)) = other
+aborted_in sent = None
+
+-- the figure that an end tells
+figure_byte : Option (ArrayVec ℕ) → ℕ
+figure_byte None = 0
+figure_byte (Some b) = slice_index b.items 16
+
+-- a READ 7 of the second host waits
+abbrev seven : Trace
+seven = queued Second 7 (read 512 0) ∷ []
+
+-- The first host's ABORT doesn't find it: nothing is aborted.
+abort_finds_nothing : IsRight (of_both 4) seven (answered First 2 (orders.Abort 7) None).0
+    (answered First 2 (orders.Abort 7) None).1
+unfolding moment collect command_of command is_waiting waiting done good passed_at passed is_free is_startable startable
+    figure figure_of is_online head_cylinder head_up answer outcome ends untaken balance outstanding arrival block_of
+abort_finds_nothing = (refl, refl)
+
+abort_across : IsWrong (of_both 4) seven (answered First 2 (orders.Abort 7) (Some 7))
+unfolding moment collect command_of command is_waiting waiting done good passed_at passed is_free is_startable startable
+    figure figure_of is_online head_cylinder head_up answer outcome ends untaken balance outstanding arrival block_of
+    aborted_in
+abort_across h = true≢false (ap (λ s. is_some (aborted_in s)) h.1)
+
+-- The second host's last credit doesn't keep the first from a READ.
+one_balance : IsWrong (of_both 2) seven (sends First 1 (read 512 0), entries.Sent First (Err faults.LastCredit))
+unfolding moment collect command_of command is_waiting waiting done good passed_at passed is_free is_startable startable
+    figure figure_of is_online head_cylinder head_up answer outcome ends untaken balance outstanding arrival block_of
+one_balance h = false≢true (ap is_ok h.1)
+
+-- The first host takes nothing of the second's.
+taken_across : IsWrong (of_both 4) (take 3 shared) (took First (told 18))
+unfolding moment collect command_of command is_waiting waiting done good passed_at passed is_free is_startable startable
+    figure figure_of is_online head_cylinder head_up answer outcome ends untaken balance outstanding arrival block_of
+taken_across h = true≢false (ap is_some h.1)
+
+-- The second host isn't told the first's figure, 17.
+told_the_others : IsWrong (of_both 4) (take 3 shared) (took Second (told 17))
+unfolding moment collect command_of command is_waiting waiting done good passed_at passed is_free is_startable startable
+    figure figure_of is_online head_cylinder head_up answer outcome ends untaken balance outstanding arrival block_of
+    figure_byte
+told_the_others h = let e : 17 ≡ 18 = ap figure_byte h.1 in omega (arith, e)
+
+-- Where there is no second connection its messages find no credit.
+absent : IsRight (record (of_both 4) { second = 0 }) [] (sends Second 1 (read 512 0))
+    (entries.Sent Second (Err faults.NoCredit))
+unfolding moment collect command_of command is_waiting waiting done good passed_at passed is_free is_startable startable
+    figure figure_of is_online head_cylinder head_up answer outcome ends untaken balance outstanding arrival block_of
+absent = (refl, refl)

@@ -1,0 +1,131 @@
+-- Which messages are refused for want of a credit, for their reference number, or for their length.
+use Rattle.std.proofs.Common.{◌≡◌, [], ◌∷◌, ◌++◌, refl}
+use Rattle.std.specs.Prelude.{replicate, None, Ok, Err}
+use Rattle.mscp_packet.specs.declared.command.Order.TheVariants as orders
+use Rattle.mscp_packet.specs.Commands.{command_of}
+use Rattle.mscp_controller.specs.declared.entry.SendFault.TheVariants as faults
+use Rattle.mscp_controller.specs.declared.entry.Sent.TheVariants as sents
+use Rattle.mscp_controller.specs.History.{Trace, moment, collect}
+use Rattle.mscp_controller.specs.Commands.{command, is_waiting, waiting, done, good}
+use Rattle.mscp_controller.specs.Passing.{passed_at, passed, is_free, is_startable, startable}
+use Rattle.mscp_controller.specs.Figures.{figure, figure_of}
+use Rattle.mscp_controller.specs.Units.{is_online, head_cylinder, head_up}
+use Rattle.mscp_controller.specs.Ends.{answer, outcome}
+use Rattle.mscp_events.specs.declared.connection.Connection.TheVariants.{First}
+use Rattle.mscp_controller.specs.Account.{ends, untaken, balance, outstanding}
+use Rattle.mscp_controller.specs.Credits.{arrival}
+use Rattle.mscp_controller.specs.Legal.{IsLegal, block_of}
+use Rattle.mscp_controller.proofs.Bridge.Legals.{legal_from}
+use Rattle.mscp_trials.proofs.Worked.Literals.{settings, read, raw, queued, answered, refused, took, took_none, idle, looked}
+
+-- With two credits a read takes one, and the other is for polls alone. A credit is back once an end is taken.
+abbrev pub last_credit : Trace
+last_credit =
+    queued 1 0 (read 512 0)
+    ∷ refused 2 0 (read 512 0) faults.LastCredit
+    ∷ answered 3 0 (orders.Status 1)
+    ∷ refused 4 0 (orders.Status 1) faults.NoCredit
+    ∷ took (3 ∷ 0 ∷ 0 ∷ 0 ∷ 0 ∷ 0 ∷ 0 ∷ 0 ∷ 0x82 ∷ 0 ∷ 0 ∷ 0 ∷ 1 ∷ 0 ∷ 0 ∷ 0 ∷ 0x11 ∷ 0 ∷ 0 ∷ 0 ∷ [])
+    ∷ answered 4 0 (orders.Status 1)
+    ∷ []
+
+pub last_credit_legal : IsLegal (settings 2 2) last_credit
+unfolding moment collect command_of command is_waiting waiting done good passed_at passed is_free is_startable startable
+    figure figure_of is_online head_cylinder head_up answer outcome ends untaken balance outstanding arrival block_of
+last_credit_legal = legal_from (settings 2 2) last_credit (
+  (refl, refl),
+  (
+    (refl, refl),
+    (
+      (refl, refl),
+      (
+        (
+          refl,
+          refl,
+        ),
+        ((refl, refl), ((refl, refl), tt)),
+      ),
+    ),
+  ),
+)
+
+-- One end is left.
+last_credit_balance : balance (settings 2 2) First last_credit ≡ 0
+unfolding moment collect command_of command is_waiting waiting done good passed_at passed is_free is_startable startable
+    figure figure_of is_online head_cylinder head_up answer outcome ends untaken balance outstanding arrival block_of
+last_credit_balance = refl
+
+-- A reference number may be used again once its end is taken.
+abbrev pub doubled : Trace
+doubled =
+    answered 1 0 orders.UnitStatus
+    ∷ refused 1 0 (read 512 0) faults.Doubled
+    ∷ took ((1 ∷ 0 ∷ 0 ∷ 0 ∷ 0 ∷ 0 ∷ 0 ∷ 0 ∷ 0x83 ∷ 0 ∷ 4 ∷ 0 ∷ [])
+    ++ (replicate 8 0 ++ ((1 ∷ 0 ∷ 0 ∷ 0 ∷ 0 ∷ 0 ∷ 0 ∷ 0 ∷ [])
+    ++ (replicate 8 0 ++ ((0x0A ∷ 0 ∷ 2 ∷ 0 ∷ 1 ∷ 0 ∷ []) ++ replicate 6 0)))))
+    ∷ queued 1 0 (read 512 0)
+    ∷ refused 1 0 (orders.Status 7) faults.Doubled
+    ∷ []
+
+pub doubled_legal : IsLegal (settings 4 2) doubled
+unfolding moment collect command_of command is_waiting waiting done good passed_at passed is_free is_startable startable
+    figure figure_of is_online head_cylinder head_up answer outcome ends untaken balance outstanding arrival block_of
+doubled_legal = legal_from (settings 4 2) doubled (
+  (refl, refl),
+  (
+    (refl, refl),
+    (
+      (refl, refl),
+      (
+        (refl, refl),
+        ((refl, refl), tt),
+      ),
+    ),
+  ),
+)
+
+-- A message of 11 bytes is too short and one of 65 too long, and neither costs a credit.
+abbrev pub lengths : Trace
+lengths =
+    raw (replicate 11 0) (Err faults.Short)
+    ∷ raw (replicate 65 0) (Err faults.Long)
+    ∷ []
+
+pub lengths_legal : IsLegal (settings 4 2) lengths
+unfolding moment collect command_of command is_waiting waiting done good passed_at passed is_free is_startable startable
+    figure figure_of is_online head_cylinder head_up answer outcome ends untaken balance outstanding arrival block_of
+lengths_legal = legal_from (settings 4 2) lengths ((refl, refl), ((refl, refl), tt))
+
+-- All credits are there.
+lengths_balance : balance (settings 4 2) First lengths ≡ 4
+unfolding moment collect command_of command is_waiting waiting done good passed_at passed is_free is_startable startable
+    figure figure_of is_online head_cylinder head_up answer outcome ends untaken balance outstanding arrival block_of
+lengths_balance = refl
+
+-- Where nothing came there is nothing to serve, to take or to look at.
+abbrev pub nothing : Trace
+nothing =
+    idle
+    ∷ took_none
+    ∷ looked []
+    ∷ []
+
+pub nothing_legal : IsLegal (settings 4 2) nothing
+unfolding moment collect command_of command is_waiting waiting done good passed_at passed is_free is_startable startable
+    figure figure_of is_online head_cylinder head_up answer outcome ends untaken balance outstanding arrival block_of
+nothing_legal = legal_from (settings 4 2) nothing (refl, ((refl, refl), (refl, tt)))
+
+-- Which messages the last credit is kept from is told by the opcode byte alone: an unknown opcode is refused, and a
+-- poll that is too short is taken.
+abbrev pub by_opcode : Trace
+by_opcode =
+    queued 1 0 (read 512 0)
+    ∷ raw (2 ∷ 0 ∷ 0 ∷ 0 ∷ 0 ∷ 0 ∷ 0 ∷ 0 ∷ 0x13 ∷ 0 ∷ 0 ∷ 0 ∷ []) (Err faults.LastCredit)
+    ∷ raw (3 ∷ 0 ∷ 0 ∷ 0 ∷ 0 ∷ 0 ∷ 0 ∷ 0 ∷ 2 ∷ 0 ∷ 0 ∷ 0 ∷ []) (Ok (sents.Answered 3 None))
+    ∷ raw (4 ∷ 0 ∷ 0 ∷ 0 ∷ 0 ∷ 0 ∷ 0 ∷ 0 ∷ 2 ∷ 0 ∷ 0 ∷ 0 ∷ []) (Err faults.NoCredit)
+    ∷ []
+
+pub by_opcode_legal : IsLegal (settings 2 2) by_opcode
+unfolding moment collect command_of command is_waiting waiting done good passed_at passed is_free is_startable startable
+    figure figure_of is_online head_cylinder head_up answer outcome ends untaken balance outstanding arrival block_of
+by_opcode_legal = legal_from (settings 2 2) by_opcode ((refl, refl), ((refl, refl), ((refl, refl), ((refl, refl), tt))))

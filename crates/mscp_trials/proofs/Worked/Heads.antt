@@ -1,0 +1,228 @@
+-- How heads go over the cylinders of their units.
+use Rattle.std.proofs.Common.{◌≡◌, true, false, [], ◌∷◌, ◌++◌, take, refl}
+use Rattle.std.specs.Prelude.{replicate, Some, None}
+use Rattle.mscp_packet.specs.declared.command.Order.TheVariants as orders
+use Rattle.mscp_packet.specs.declared.end.EndBody.TheVariants as bodies
+use Rattle.mscp_packet.specs.Commands.{command_of}
+use Rattle.mscp_events.specs.declared.block.Block.TheVariants.{Good, Bad}
+use Rattle.mscp_controller.specs.History.{Trace, moment, collect}
+use Rattle.mscp_controller.specs.Commands.{command, is_waiting, waiting, done, good}
+use Rattle.mscp_controller.specs.Passing.{passed_at, passed, is_free, is_startable, startable}
+use Rattle.mscp_controller.specs.Figures.{figure, figure_of}
+use Rattle.mscp_controller.specs.Units.{is_online, head_cylinder, head_up, head}
+use Rattle.mscp_controller.specs.Ends.{answer, outcome}
+use Rattle.mscp_controller.specs.Account.{ends, untaken, balance, outstanding}
+use Rattle.mscp_controller.specs.Credits.{arrival}
+use Rattle.mscp_controller.specs.Legal.{IsLegal, block_of}
+use Rattle.mscp_controller.proofs.Bridge.Legals.{legal_from, by_serving}
+use Rattle.mscp_trials.proofs.Worked.Literals.{settings, two_units, came_online, read, queued, took, served, moved, onlined}
+
+-- A head that goes up serves what lies above it, turns, and serves what lies below.
+abbrev pub up_and_down : Trace
+up_and_down =
+    came_online
+    ++ queued 1 0 (read 512 200)
+    ∷ served Good 1 0 (Some 200) true 10 (moved 1 0 0 512)
+    ∷ queued 2 0 (read 512 100)
+    ∷ queued 3 0 (read 512 600)
+    ∷ queued 4 0 (read 512 160)
+    ∷ served Good 3 0 (Some 600) true 20 (moved 3 0 0 512)
+    ∷ served Good 4 0 (Some 160) true 22 (moved 4 0 0 512)
+    ∷ served Good 2 0 (Some 100) true 3 (moved 2 0 0 512)
+    ∷ []
+
+pub up_and_down_legal : IsLegal (settings 8 8) up_and_down
+unfolding moment collect command_of command is_waiting waiting done good passed_at passed is_free is_startable startable
+    figure figure_of is_online head_cylinder head_up answer outcome ends untaken balance outstanding arrival block_of
+up_and_down_legal = legal_from (settings 8 8) up_and_down (
+  (refl, refl),
+  (
+    by_serving 0 refl refl refl,
+    (
+      (refl, refl),
+      (
+        (refl, refl),
+        (
+          by_serving 3 refl refl refl,
+          (
+            (refl, refl),
+            (
+              (refl, refl),
+              (
+                (refl, refl),
+                (by_serving 6 refl refl refl, (by_serving 7 refl refl refl, (by_serving 5 refl refl refl, tt))),
+              ),
+            ),
+          ),
+        ),
+      ),
+    ),
+  ),
+)
+
+-- At first it goes up.
+up_and_down_up : head (settings 8 8) (take 5 up_and_down) 0 ≡ record { cylinder = 10; up = true }
+unfolding moment collect command_of command is_waiting waiting done good passed_at passed is_free is_startable startable
+    figure figure_of is_online head_cylinder head_up answer outcome ends untaken balance outstanding arrival block_of
+up_and_down_up = refl
+
+-- It goes on up.
+up_and_down_on : head (settings 8 8) (take 9 up_and_down) 0 ≡ record { cylinder = 30; up = true }
+unfolding moment collect command_of command is_waiting waiting done good passed_at passed is_free is_startable startable
+    figure figure_of is_online head_cylinder head_up answer outcome ends untaken balance outstanding arrival block_of
+up_and_down_on = refl
+
+-- Then it goes down.
+up_and_down_down : head (settings 8 8) (take 10 up_and_down) 0 ≡ record { cylinder = 8; up = false }
+unfolding moment collect command_of command is_waiting waiting done good passed_at passed is_free is_startable startable
+    figure figure_of is_online head_cylinder head_up answer outcome ends untaken balance outstanding arrival block_of
+up_and_down_down = refl
+
+-- A head that goes down to a transfer goes up with it to the next cylinder.
+abbrev pub carried : Trace
+carried =
+    came_online
+    ++ queued 1 0 (read 512 60)
+    ∷ served Good 1 0 (Some 60) true 3 (moved 1 0 0 512)
+    ∷ queued 2 0 (read 1024 39)
+    ∷ served Good 2 0 (Some 39) true 2 None
+    ∷ served Good 2 0 (Some 40) false 1 (moved 2 0 0 1024)
+    ∷ []
+
+pub carried_legal : IsLegal (settings 8 8) carried
+unfolding moment collect command_of command is_waiting waiting done good passed_at passed is_free is_startable startable
+    figure figure_of is_online head_cylinder head_up answer outcome ends untaken balance outstanding arrival block_of
+carried_legal = legal_from (settings 8 8) carried (
+  (refl, refl),
+  (
+    by_serving 0 refl refl refl,
+    (
+      (refl, refl),
+      (
+        (refl, refl),
+        (
+          by_serving 3 refl refl refl,
+          ((refl, refl), (by_serving 5 refl refl refl, (by_serving 5 refl refl refl, tt))),
+        ),
+      ),
+    ),
+  ),
+)
+
+-- The transfer began on the way down.
+carried_started : head (settings 8 8) (take 7 carried) 0 ≡ record { cylinder = 1; up = false }
+unfolding moment collect command_of command is_waiting waiting done good passed_at passed is_free is_startable startable
+    figure figure_of is_online head_cylinder head_up answer outcome ends untaken balance outstanding arrival block_of
+carried_started = refl
+
+-- Its later block does not turn the head.
+carried_keeps : head (settings 8 8) carried 0 ≡ record { cylinder = 2; up = false }
+unfolding moment collect command_of command is_waiting waiting done good passed_at passed is_free is_startable startable
+    figure figure_of is_online head_cylinder head_up answer outcome ends untaken balance outstanding arrival block_of
+carried_keeps = refl
+
+-- A bad block is touched too: the head is on its cylinder.
+abbrev pub bad_touched : Trace
+bad_touched =
+    came_online
+    ++ queued 1 0 (read 512 800)
+    ∷ served (Bad 0x000B) 1 0 (Some 800) true 40 (moved 1 0 0x000B 0)
+    ∷ []
+
+pub bad_touched_legal : IsLegal (settings 4 2) bad_touched
+unfolding moment collect command_of command is_waiting waiting done good passed_at passed is_free is_startable startable
+    figure figure_of is_online head_cylinder head_up answer outcome ends untaken balance outstanding arrival block_of
+bad_touched_legal = legal_from (settings 4 2) bad_touched
+    ((refl, refl), (by_serving 0 refl refl refl, ((refl, refl), ((refl, refl), (by_serving 3 refl refl refl, tt)))))
+
+-- The head is there.
+bad_touched_head : head (settings 4 2) bad_touched 0 ≡ record { cylinder = 40; up = true }
+unfolding moment collect command_of command is_waiting waiting done good passed_at passed is_free is_startable startable
+    figure figure_of is_online head_cylinder head_up answer outcome ends untaken balance outstanding arrival block_of
+bad_touched_head = refl
+
+-- Two units: orders of one do not hold up the other, and each has its own head.
+abbrev pub two_heads : Trace
+two_heads =
+    queued 900 0 orders.Online
+    ∷ queued 901 1 orders.Online
+    ∷ served Good 900 0 None true 0 (onlined 900 0 0)
+    ∷ served Good 901 1 None true 0 (onlined 901 1 0)
+    ∷ took ((0x84 ∷ 3 ∷ 0 ∷ 0 ∷ 0 ∷ 0 ∷ 0 ∷ 0 ∷ 0x89 ∷ 0 ∷ 0 ∷ 0 ∷ [])
+    ++ (replicate 8 0 ++ ((1 ∷ 0 ∷ 0 ∷ 0 ∷ 0 ∷ 0 ∷ 0 ∷ 0 ∷ [])
+    ++ (replicate 8 0 ++ (0xE8 ∷ 3 ∷ 0 ∷ 0 ∷ 1 ∷ 0 ∷ 0 ∷ 0 ∷ [])))))
+    ∷ took ((0x85 ∷ 3 ∷ 0 ∷ 0 ∷ 1 ∷ 0 ∷ 0 ∷ 0 ∷ 0x89 ∷ 0 ∷ 0 ∷ 0 ∷ [])
+    ++ (replicate 8 0 ++ ((2 ∷ 0 ∷ 0 ∷ 0 ∷ 0 ∷ 0 ∷ 0 ∷ 0 ∷ [])
+    ++ (replicate 8 0 ++ (0xE8 ∷ 3 ∷ 0 ∷ 0 ∷ 2 ∷ 0 ∷ 0 ∷ 0 ∷ [])))))
+    ∷ queued 1 0 (read 512 400)
+    ∷ queued 2 0 orders.SetUnit
+    ∷ queued 3 0 (read 512 0)
+    ∷ queued 4 1 (read 512 0)
+    ∷ served Good 4 1 (Some 0) true 0 (moved 4 1 0 512)
+    ∷ served Good 1 0 (Some 400) true 20 (moved 1 0 0 512)
+    ∷ served Good 2 0 None true 0 (Some (record {
+      reference = 2;
+      unit = 0;
+      code = 0x8A;
+      status = 0;
+      body =
+          bodies.Online 1 0 1000 1;
+    }))
+    ∷ served Good 3 0 (Some 0) true 20 (moved 3 0 0 512)
+    ∷ []
+
+pub two_heads_legal : IsLegal (two_units 8 2) two_heads
+unfolding moment collect command_of command is_waiting waiting done good passed_at passed is_free is_startable startable
+    figure figure_of is_online head_cylinder head_up answer outcome ends untaken balance outstanding arrival block_of
+two_heads_legal = legal_from (two_units 8 2) two_heads (
+  (refl, refl),
+  (
+    (refl, refl),
+    (
+      by_serving 0 refl refl refl,
+      (
+        by_serving 1 refl refl refl,
+        (
+          (refl, refl),
+          (
+            (refl, refl),
+            (
+              (refl, refl),
+              (
+                (refl, refl),
+                (
+                  (refl, refl),
+                  (
+                    (refl, refl),
+                    (
+                      by_serving 9 refl refl refl,
+                      (by_serving 6 refl refl refl, (by_serving 7 refl refl refl, (by_serving 8 refl refl refl, tt))),
+                    ),
+                  ),
+                ),
+              ),
+            ),
+          ),
+        ),
+      ),
+    ),
+  ),
+)
+
+-- The first read of each unit may start.
+two_heads_startable : startable (two_units 8 2) (take 10 two_heads) ≡ 6 ∷ 9 ∷ []
+unfolding moment collect command_of command is_waiting waiting done good passed_at passed is_free is_startable startable
+    figure figure_of is_online head_cylinder head_up answer outcome ends untaken balance outstanding arrival block_of
+two_heads_startable = refl
+
+-- The head of the first unit went up and down.
+two_heads_first : head (two_units 8 2) two_heads 0 ≡ record { cylinder = 0; up = false }
+unfolding moment collect command_of command is_waiting waiting done good passed_at passed is_free is_startable startable
+    figure figure_of is_online head_cylinder head_up answer outcome ends untaken balance outstanding arrival block_of
+two_heads_first = refl
+
+-- That of the second never moved.
+two_heads_second : head (two_units 8 2) two_heads 1 ≡ record { cylinder = 0; up = true }
+unfolding moment collect command_of command is_waiting waiting done good passed_at passed is_free is_startable startable
+    figure figure_of is_online head_cylinder head_up answer outcome ends untaken balance outstanding arrival block_of
+two_heads_second = refl

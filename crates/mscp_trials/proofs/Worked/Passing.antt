@@ -1,0 +1,281 @@
+-- Which of three reads may start, by how many blocks one may be passed.
+use Rattle.std.proofs.Common.{◌≡◌, true, [], ◌∷◌, ◌++◌, take, refl}
+use Rattle.std.specs.Prelude.{Some, None}
+use Rattle.mscp_packet.specs.Commands.{command_of}
+use Rattle.mscp_events.specs.declared.block.Block.TheVariants.{Good}
+use Rattle.mscp_controller.specs.History.{Trace, moment, collect}
+use Rattle.mscp_controller.specs.Commands.{command, is_waiting, waiting, done, good}
+use Rattle.mscp_controller.specs.Passing.{passed_at, passed, is_free, is_startable, startable}
+use Rattle.mscp_controller.specs.Figures.{figure, figure_of}
+use Rattle.mscp_controller.specs.Units.{is_online, head_cylinder, head_up}
+use Rattle.mscp_controller.specs.Ends.{answer, outcome}
+use Rattle.mscp_controller.specs.Account.{ends, untaken, balance, outstanding}
+use Rattle.mscp_controller.specs.Credits.{arrival}
+use Rattle.mscp_controller.specs.Legal.{IsLegal, block_of}
+use Rattle.mscp_controller.proofs.Bridge.Legals.{legal_from, by_serving}
+use Rattle.mscp_trials.proofs.Worked.Literals.{settings, came_online, read, queued, looked, served, moved, with_budget}
+
+-- Three reads where none may be passed: they start in the order in which they came.
+abbrev pub in_order : Trace
+in_order =
+    came_online
+    ++ queued 1 0 (read 512 800)
+    ∷ queued 2 0 (read 512 40)
+    ∷ queued 3 0 (read 512 60)
+    ∷ served Good 1 0 (Some 800) true 40 (moved 1 0 0 512)
+    ∷ served Good 2 0 (Some 40) true 38 (moved 2 0 0 512)
+    ∷ served Good 3 0 (Some 60) true 1 (moved 3 0 0 512)
+    ∷ []
+
+pub in_order_legal : IsLegal (settings 5 0) in_order
+unfolding moment collect command_of command is_waiting waiting done good passed_at passed is_free is_startable startable
+    figure figure_of is_online head_cylinder head_up answer outcome ends untaken balance outstanding arrival block_of
+in_order_legal = legal_from (settings 5 0) in_order (
+  (refl, refl),
+  (
+    by_serving 0 refl refl refl,
+    (
+      (refl, refl),
+      (
+        (refl, refl),
+        (
+          (refl, refl),
+          (
+            (refl, refl),
+            (
+              by_serving 3 refl refl refl,
+              (
+                by_serving 4 refl refl refl,
+                (by_serving 5 refl refl refl, tt),
+              ),
+            ),
+          ),
+        ),
+      ),
+    ),
+  ),
+)
+
+-- Each time the first alone may start.
+in_order_startable : startable (settings 5 0) (take 6 in_order) ≡ 3 ∷ []
+unfolding moment collect command_of command is_waiting waiting done good passed_at passed is_free is_startable startable
+    figure figure_of is_online head_cylinder head_up answer outcome ends untaken balance outstanding arrival block_of
+in_order_startable = refl
+
+-- Then the second.
+in_order_startable_then : startable (settings 5 0) (take 7 in_order) ≡ 4 ∷ []
+unfolding moment collect command_of command is_waiting waiting done good passed_at passed is_free is_startable startable
+    figure figure_of is_online head_cylinder head_up answer outcome ends untaken balance outstanding arrival block_of
+in_order_startable_then = refl
+
+-- The same where one may be passed by a block: the second starts first, and then the first has to.
+abbrev pub passed_once : Trace
+passed_once =
+    came_online
+    ++ queued 1 0 (read 512 800)
+    ∷ queued 2 0 (read 512 40)
+    ∷ queued 3 0 (read 512 60)
+    ∷ looked ((1, 2) ∷ (2, 3) ∷ (3, 4) ∷ [])
+    ∷ served Good 2 0 (Some 40) true 2 (moved 2 0 0 512)
+    ∷ looked ((1, 1) ∷ (3, 3) ∷ [])
+    ∷ served Good 1 0 (Some 800) true 38 (moved 1 0 0 512)
+    ∷ looked ((3, 2) ∷ [])
+    ∷ served Good 3 0 (Some 60) true 37 (moved 3 0 0 512)
+    ∷ looked []
+    ∷ []
+
+pub passed_once_legal : IsLegal (with_budget 5 1) passed_once
+unfolding moment collect command_of command is_waiting waiting done good passed_at passed is_free is_startable startable
+    figure figure_of is_online head_cylinder head_up answer outcome ends untaken balance outstanding arrival block_of
+passed_once_legal = legal_from (with_budget 5 1) passed_once (
+  (refl, refl),
+  (
+    by_serving 0 refl refl refl,
+    (
+      (refl, refl),
+      (
+        (refl, refl),
+        (
+          (refl, refl),
+          (
+            (refl, refl),
+            (
+              refl,
+              (
+                by_serving 4 refl refl refl,
+                (refl, (by_serving 3 refl refl refl, (refl, (by_serving 5 refl refl refl, (refl, tt))))),
+              ),
+            ),
+          ),
+        ),
+      ),
+    ),
+  ),
+)
+
+-- At first any may start.
+passed_once_startable : startable (with_budget 5 1) (take 7 passed_once) ≡ 3 ∷ 4 ∷ 5 ∷ []
+unfolding moment collect command_of command is_waiting waiting done good passed_at passed is_free is_startable startable
+    figure figure_of is_online head_cylinder head_up answer outcome ends untaken balance outstanding arrival block_of
+passed_once_startable = refl
+
+-- Then the first has nothing left of its budget.
+passed_once_startable_then : startable (with_budget 5 1) (take 9 passed_once) ≡ 3 ∷ []
+unfolding moment collect command_of command is_waiting waiting done good passed_at passed is_free is_startable startable
+    figure figure_of is_online head_cylinder head_up answer outcome ends untaken balance outstanding arrival block_of
+passed_once_startable_then = refl
+
+-- It was passed by one block.
+passed_once_passes : passed (take 9 passed_once) 3 ≡ 1
+unfolding moment collect command_of command is_waiting waiting done good passed_at passed is_free is_startable startable
+    figure figure_of is_online head_cylinder head_up answer outcome ends untaken balance outstanding arrival block_of
+passed_once_passes = refl
+
+-- The same where one may be passed by two blocks: both others start before the first.
+abbrev pub passed_twice : Trace
+passed_twice =
+    came_online
+    ++ queued 1 0 (read 512 800)
+    ∷ queued 2 0 (read 512 40)
+    ∷ queued 3 0 (read 512 60)
+    ∷ served Good 2 0 (Some 40) true 2 (moved 2 0 0 512)
+    ∷ served Good 3 0 (Some 60) true 1 (moved 3 0 0 512)
+    ∷ served Good 1 0 (Some 800) true 37 (moved 1 0 0 512)
+    ∷ []
+
+pub passed_twice_legal : IsLegal (with_budget 5 2) passed_twice
+unfolding moment collect command_of command is_waiting waiting done good passed_at passed is_free is_startable startable
+    figure figure_of is_online head_cylinder head_up answer outcome ends untaken balance outstanding arrival block_of
+passed_twice_legal = legal_from (with_budget 5 2) passed_twice (
+  (refl, refl),
+  (
+    by_serving 0 refl refl refl,
+    (
+      (refl, refl),
+      (
+        (refl, refl),
+        (
+          (refl, refl),
+          (
+            (refl, refl),
+            (
+              by_serving 4 refl refl refl,
+              (
+                by_serving 5 refl refl refl,
+                (by_serving 3 refl refl refl, tt),
+              ),
+            ),
+          ),
+        ),
+      ),
+    ),
+  ),
+)
+
+-- The first was passed by two blocks.
+passed_twice_passes : passed (take 8 passed_twice) 3 ≡ 2
+unfolding moment collect command_of command is_waiting waiting done good passed_at passed is_free is_startable startable
+    figure figure_of is_online head_cylinder head_up answer outcome ends untaken balance outstanding arrival block_of
+passed_twice_passes = refl
+
+-- The second, which started first, was never passed.
+passed_twice_second : passed (take 8 passed_twice) 4 ≡ 0
+unfolding moment collect command_of command is_waiting waiting done good passed_at passed is_free is_startable startable
+    figure figure_of is_online head_cylinder head_up answer outcome ends untaken balance outstanding arrival block_of
+passed_twice_second = refl
+
+-- A start passes every earlier command that waits, not the oldest alone.
+abbrev pub passed_each : Trace
+passed_each =
+    came_online
+    ++ queued 1 0 (read 512 800)
+    ∷ queued 2 0 (read 512 40)
+    ∷ queued 3 0 (read 512 60)
+    ∷ queued 4 0 (read 512 80)
+    ∷ served Good 4 0 (Some 80) true 4 (moved 4 0 0 512)
+    ∷ served Good 1 0 (Some 800) true 36 (moved 1 0 0 512)
+    ∷ []
+
+pub passed_each_legal : IsLegal (with_budget 8 1) passed_each
+unfolding moment collect command_of command is_waiting waiting done good passed_at passed is_free is_startable startable
+    figure figure_of is_online head_cylinder head_up answer outcome ends untaken balance outstanding arrival block_of
+passed_each_legal = legal_from (with_budget 8 1) passed_each (
+  (refl, refl),
+  (
+    by_serving 0 refl refl refl,
+    (
+      (refl, refl),
+      (
+        (refl, refl),
+        (
+          (refl, refl),
+          (
+            (refl, refl),
+            (
+              (refl, refl),
+              (
+                by_serving 6 refl refl refl,
+                (
+                  by_serving 3 refl refl refl,
+                  tt,
+                ),
+              ),
+            ),
+          ),
+        ),
+      ),
+    ),
+  ),
+)
+
+-- The second was passed by the fourth, as the first was.
+passed_each_passes : passed (take 8 passed_each) 4 ≡ 1
+unfolding moment collect command_of command is_waiting waiting done good passed_at passed is_free is_startable startable
+    figure figure_of is_online head_cylinder head_up answer outcome ends untaken balance outstanding arrival block_of
+passed_each_passes = refl
+
+-- So the third may not start before the second.
+passed_each_startable : startable (with_budget 8 1) (take 9 passed_each) ≡ 4 ∷ []
+unfolding moment collect command_of command is_waiting waiting done good passed_at passed is_free is_startable startable
+    figure figure_of is_online head_cylinder head_up answer outcome ends untaken balance outstanding arrival block_of
+passed_each_startable = refl
+
+-- A later command in service counts in the figure of an earlier one.
+abbrev pub overtaken : Trace
+overtaken =
+    came_online
+    ++ queued 1 0 (read 512 800)
+    ∷ queued 2 0 (read 2048 0)
+    ∷ looked ((1, 9) ∷ (2, 13) ∷ [])
+    ∷ served Good 2 0 (Some 0) true 0 None
+    ∷ looked ((1, 8) ∷ (2, 3) ∷ [])
+    ∷ []
+
+pub overtaken_legal : IsLegal (settings 5 1) overtaken
+unfolding moment collect command_of command is_waiting waiting done good passed_at passed is_free is_startable startable
+    figure figure_of is_online head_cylinder head_up answer outcome ends untaken balance outstanding arrival block_of
+overtaken_legal = legal_from (settings 5 1) overtaken (
+  (refl, refl),
+  (
+    by_serving 0 refl refl refl,
+    (
+      (refl, refl),
+      (
+        (refl, refl),
+        (
+          (refl, refl),
+          (
+            refl,
+            (by_serving 4 refl refl refl, (refl, tt)),
+          ),
+        ),
+      ),
+    ),
+  ),
+)
+
+-- Where a command is in service, none may start.
+overtaken_startable : startable (settings 5 1) (take 7 overtaken) ≡ []
+unfolding moment collect command_of command is_waiting waiting done good passed_at passed is_free is_startable startable
+    figure figure_of is_online head_cylinder head_up answer outcome ends untaken balance outstanding arrival block_of
+overtaken_startable = refl

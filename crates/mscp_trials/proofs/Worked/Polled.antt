@@ -1,0 +1,168 @@
+-- Polls, and the figures that they are answered.
+use Rattle.std.proofs.Common.{◌≡◌, true, false, [], ◌∷◌, ◌++◌, take, refl}
+use Rattle.std.specs.Prelude.{replicate, Some, None}
+use Rattle.mscp_packet.specs.declared.command.Order.TheVariants as orders
+use Rattle.mscp_packet.specs.Commands.{command_of}
+use Rattle.mscp_events.specs.declared.block.Block.TheVariants.{Good}
+use Rattle.mscp_controller.specs.History.{Trace, moment, collect}
+use Rattle.mscp_controller.specs.Commands.{command, is_waiting, waiting, done, good}
+use Rattle.mscp_controller.specs.Passing.{passed_at, passed, is_free, is_startable, startable}
+use Rattle.mscp_controller.specs.Figures.{figure, figure_of}
+use Rattle.mscp_controller.specs.Units.{is_online, head_cylinder, head_up}
+use Rattle.mscp_controller.specs.Ends.{answer, outcome}
+use Rattle.mscp_events.specs.declared.connection.Connection.TheVariants.{First}
+use Rattle.mscp_controller.specs.Account.{ends, untaken, balance, outstanding}
+use Rattle.mscp_controller.specs.Credits.{arrival}
+use Rattle.mscp_controller.specs.Legal.{IsLegal, block_of}
+use Rattle.mscp_controller.proofs.Bridge.Legals.{legal_from, by_serving}
+use Rattle.mscp_trials.proofs.Worked.Literals.{settings, came_online, read, queued, answered, took, looked, served, moved}
+
+-- A read of two blocks where none may be passed, with a poll before each step: its figure is what is left of it.
+abbrev pub polled : Trace
+polled =
+    came_online
+    ++ queued 1 0 (read 1024 5)
+    ∷ answered 2 0 (orders.Status 1)
+    ∷ took (2 ∷ 0 ∷ 0 ∷ 0 ∷ 0 ∷ 0 ∷ 0 ∷ 0 ∷ 0x82 ∷ 0 ∷ 0 ∷ 0 ∷ 1 ∷ 0 ∷ 0 ∷ 0 ∷ 2 ∷ 0 ∷ 0 ∷ 0 ∷ [])
+    ∷ served Good 1 0 (Some 5) true 0 None
+    ∷ answered 3 0 (orders.Status 1)
+    ∷ took (3 ∷ 0 ∷ 0 ∷ 0 ∷ 0 ∷ 0 ∷ 0 ∷ 0 ∷ 0x82 ∷ 0 ∷ 0 ∷ 0 ∷ 1 ∷ 0 ∷ 0 ∷ 0 ∷ 1 ∷ 0 ∷ 0 ∷ 0 ∷ [])
+    ∷ served Good 1 0 (Some 6) false 0 (moved 1 0 0 1024)
+    ∷ took ((1 ∷ 0 ∷ 0 ∷ 0 ∷ 0 ∷ 0 ∷ 0 ∷ 0 ∷ 0xA1 ∷ 0 ∷ 0 ∷ 0 ∷ 0 ∷ 4 ∷ 0 ∷ 0 ∷ []) ++ replicate 16 0)
+    ∷ []
+
+pub polled_legal : IsLegal (settings 4 0) polled
+unfolding moment collect command_of command is_waiting waiting done good passed_at passed is_free is_startable startable
+    figure figure_of is_online head_cylinder head_up answer outcome ends untaken balance outstanding arrival block_of
+polled_legal = legal_from (settings 4 0) polled (
+  (refl, refl),
+  (
+    by_serving 0 refl refl refl,
+    (
+      (refl, refl),
+      (
+        (refl, refl),
+        (
+          (refl, refl),
+          (
+            (refl, refl),
+            (
+              by_serving 3 refl refl refl,
+              (
+                (refl, refl),
+                (
+                  (refl, refl),
+                  (
+                    by_serving 3 refl refl refl,
+                    ((refl, refl), tt),
+                  ),
+                ),
+              ),
+            ),
+          ),
+        ),
+      ),
+    ),
+  ),
+)
+
+-- Before its first step two steps are left.
+polled_figure : figure (settings 4 0) (take 4 polled) 3 ≡ 2
+unfolding moment collect command_of command is_waiting waiting done good passed_at passed is_free is_startable startable
+    figure figure_of is_online head_cylinder head_up answer outcome ends untaken balance outstanding arrival block_of
+polled_figure = refl
+
+-- The same where one may be passed twice: each pass that may still come counts as the longest transfer. The
+-- head goes up two cylinders.
+abbrev pub watched : Trace
+watched =
+    came_online
+    ++ queued 1 0 (read 1024 40)
+    ∷ answered 2 0 (orders.Status 1)
+    ∷ took (2 ∷ 0 ∷ 0 ∷ 0 ∷ 0 ∷ 0 ∷ 0 ∷ 0 ∷ 0x82 ∷ 0 ∷ 0 ∷ 0 ∷ 1 ∷ 0 ∷ 0 ∷ 0 ∷ 0x12 ∷ 0 ∷ 0 ∷ 0 ∷ [])
+    ∷ served Good 1 0 (Some 40) true 2 None
+    ∷ looked ((1, 1) ∷ [])
+    ∷ served Good 1 0 (Some 41) false 0 (moved 1 0 0 1024)
+    ∷ took ((1 ∷ 0 ∷ 0 ∷ 0 ∷ 0 ∷ 0 ∷ 0 ∷ 0 ∷ 0xA1 ∷ 0 ∷ 0 ∷ 0 ∷ 0 ∷ 4 ∷ 0 ∷ 0 ∷ []) ++ replicate 16 0)
+    ∷ []
+
+pub watched_legal : IsLegal (settings 4 2) watched
+unfolding moment collect command_of command is_waiting waiting done good passed_at passed is_free is_startable startable
+    figure figure_of is_online head_cylinder head_up answer outcome ends untaken balance outstanding arrival block_of
+watched_legal = legal_from (settings 4 2) watched (
+  (refl, refl),
+  (
+    by_serving 0 refl refl refl,
+    (
+      (refl, refl),
+      (
+        (refl, refl),
+        (
+          (refl, refl),
+          ((refl, refl), (by_serving 3 refl refl refl, (refl, (by_serving 3 refl refl refl, ((refl, refl), tt))))),
+        ),
+      ),
+    ),
+  ),
+)
+
+-- At first it is 2 * 8 + 2.
+watched_figure : figure (settings 4 2) (take 4 watched) 3 ≡ 18
+unfolding moment collect command_of command is_waiting waiting done good passed_at passed is_free is_startable startable
+    figure figure_of is_online head_cylinder head_up answer outcome ends untaken balance outstanding arrival block_of
+watched_figure = refl
+
+-- Where everything was taken all credits are back.
+watched_balance : balance (settings 4 2) First watched ≡ 4
+unfolding moment collect command_of command is_waiting waiting done good passed_at passed is_free is_startable startable
+    figure figure_of is_online head_cylinder head_up answer outcome ends untaken balance outstanding arrival block_of
+watched_balance = refl
+
+-- A poll of a reference that nothing waits under is answered 0.
+abbrev pub unknown_polled : Trace
+unknown_polled =
+    answered 2 0 (orders.Status 77)
+    ∷ took (2 ∷ 0 ∷ 0 ∷ 0 ∷ 0 ∷ 0 ∷ 0 ∷ 0 ∷ 0x82 ∷ 0 ∷ 0 ∷ 0 ∷ 0x4D ∷ 0 ∷ 0 ∷ 0 ∷ 0 ∷ 0 ∷ 0 ∷ 0 ∷ [])
+    ∷ []
+
+pub unknown_polled_legal : IsLegal (settings 4 2) unknown_polled
+unfolding moment collect command_of command is_waiting waiting done good passed_at passed is_free is_startable startable
+    figure figure_of is_online head_cylinder head_up answer outcome ends untaken balance outstanding arrival block_of
+unknown_polled_legal = legal_from (settings 4 2) unknown_polled ((refl, refl), ((refl, refl), tt))
+
+-- A reference number that is used again names another command, which starts anew.
+abbrev pub used_again : Trace
+used_again =
+    came_online
+    ++ queued 1 0 (read 1024 40)
+    ∷ served Good 1 0 (Some 40) true 2 None
+    ∷ served Good 1 0 (Some 41) false 0 (moved 1 0 0 1024)
+    ∷ took ((1 ∷ 0 ∷ 0 ∷ 0 ∷ 0 ∷ 0 ∷ 0 ∷ 0 ∷ 0xA1 ∷ 0 ∷ 0 ∷ 0 ∷ 0 ∷ 4 ∷ 0 ∷ 0 ∷ []) ++ replicate 16 0)
+    ∷ queued 1 0 (read 1024 60)
+    ∷ looked ((1, 18) ∷ [])
+    ∷ served Good 1 0 (Some 60) true 1 None
+    ∷ looked ((1, 1) ∷ [])
+    ∷ []
+
+pub used_again_legal : IsLegal (settings 4 2) used_again
+unfolding moment collect command_of command is_waiting waiting done good passed_at passed is_free is_startable startable
+    figure figure_of is_online head_cylinder head_up answer outcome ends untaken balance outstanding arrival block_of
+used_again_legal = legal_from (settings 4 2) used_again (
+  (refl, refl),
+  (
+    by_serving 0 refl refl refl,
+    (
+      (refl, refl),
+      (
+        (refl, refl),
+        (
+          by_serving 3 refl refl refl,
+          (
+            by_serving 3 refl refl refl,
+            ((refl, refl), ((refl, refl), (refl, (by_serving 7 refl refl refl, (refl, tt))))),
+          ),
+        ),
+      ),
+    ),
+  ),
+)

@@ -1,0 +1,202 @@
+-- Literal talks of the first host alone, worked by hand: what stands there, and what it keeps.
+use Rattle.std.proofs.Common.{◌≡◌, ◌≤◌, ℕ, true, false, [], ◌∷◌, ◌++◌, Bool, refl, ap, sym, subst, arith}
+use Rattle.std.specs.Prelude.{Option, Some, None, unwrap_or}
+use Rattle.std.proofs.lemmas.Bool.{eqb-true, false≢true}
+use Rattle.mscp_events.specs.declared.connection.Connection.TheVariants.{First}
+use Rattle.mscp_packet.specs.declared.command.Order.{Order}
+use Rattle.mscp_packet.specs.declared.command.Order.TheVariants as orders
+use Rattle.mscp_packet.specs.declared.end.End.{End}
+use Rattle.mscp_packet.specs.declared.end.EndBody.TheVariants as bodies
+use Rattle.mscp_packet.specs.Commands.{command_of}
+use Rattle.mscp_packet.specs.Ends.{end_bytes}
+use Rattle.mscp_events.specs.declared.block.Block.TheVariants.{Good}
+use Rattle.mscp_queue.specs.declared.report.Report.TheVariants as reports
+use Rattle.mscp_controller.specs.declared.entry.Sent.TheVariants as sents
+use Rattle.mscp_controller.specs.History.{moment}
+use Rattle.mscp_controller.specs.Commands.{command, is_waiting, waiting, done}
+use Rattle.mscp_controller.specs.Passing.{passed_at, passed}
+use Rattle.mscp_controller.specs.Figures.{figure, figure_of}
+use Rattle.mscp_trials.proofs.Worked.Literals.{answered, moved, onlined, queued, read, served, settings, took}
+use Rattle.mscp_host.specs.declared.news.News.TheVariants as news
+use Rattle.mscp_sim.specs.declared.conversing.Turn.TheVariants as turns
+use Rattle.mscp_sim.specs.declared.conversing.Heard.TheVariants as hears
+use Rattle.mscp_sim.specs.Talks.{Said, Talk, account_at, accounts_at, asks_about, figure_told, is_outstanding, last_answer, outstanding, said}
+use Rattle.mscp_sim.specs.TwoEnds.{IsHeard, Stands}
+
+-- ---- short words
+
+-- a command of unit 0 that waits
+abbrev submits : ℕ → Order → Said
+submits r o = record {
+  turn = turns.Submit First (record { reference = r; unit = 0; order = o });
+  heard = hears.Submitted (sents.Queued r);
+  moment = Some (queued r 0 o);
+}
+
+-- a poll of command 1
+abbrev asks : ℕ → Said
+asks r = record { turn = turns.Poll First r; heard = hears.Asked; moment = Some (answered r 0 (orders.Status 1)) }
+
+abbrev steps : ℕ → Option ℕ → Bool → ℕ → Option End → Said
+steps r lbn started seek ended = record {
+  turn = turns.Step Good;
+  heard = hears.Stepped (reports.Served First r 0 lbn started seek ended);
+  moment = Some (served Good r 0 lbn started seek ended);
+}
+
+abbrev hands : End → news.the_data → Said
+hands e n = record { turn = turns.Take First; heard = hears.News n; moment = Some (took (end_bytes e)) }
+
+abbrev online_end : End
+online_end = record { reference = 9; unit = 0; code = 0x89; status = 0; body = bodies.Online 1 0 1000 1 }
+
+abbrev read_end : End
+read_end = record { reference = 1; unit = 0; code = 0xA1; status = 0; body = bodies.Moved 1024 }
+
+-- the end of a poll of command 1
+abbrev answer : ℕ → ℕ → End
+answer r f = record { reference = r; unit = 0; code = 0x82; status = 0; body = bodies.Status 1 f }
+
+-- unit 0 comes online, a READ of two blocks waits, and a first poll is answered
+abbrev opening : Talk
+opening =
+    submits 9 orders.Online
+    ∷ steps 9 None true 0 (onlined 9 0 0)
+    ∷ hands online_end (news.Ended online_end)
+    ∷ submits 1 (read 1024 40)
+    ∷ asks 10
+    ∷ hands (answer 10 18) (news.First 18)
+    ∷ []
+
+-- ---- an answer that stands
+
+-- a second poll right after it
+abbrev standing : Talk
+standing = opening ++ asks 11 ∷ hands (answer 11 18) news.Reset ∷ []
+
+first_told : figure_told (settings 4 2) First standing 4 ≡ 18
+unfolding moment command_of command is_waiting waiting done passed_at passed figure figure_of outstanding
+first_told = refl
+
+it_stands : Stands (settings 4 2) First standing 7
+unfolding moment command_of command is_waiting waiting done passed_at passed figure figure_of outstanding
+it_stands = record {
+  poll = 6;
+  command = 3;
+  last = 18;
+  handed = refl;
+  about = refl;
+  outstanding = refl;
+  told =
+      refl;
+  not_less = omega arith;
+}
+
+-- before the second poll is answered the host keeps the READ, of which 18 was told, and the poll
+kept : account_at (settings 4 2) First standing 7 ≡ record {
+  credits = 4;
+  outstanding = record { reference = 1; unit = 0; opcode = 0x21; told = Some 18 }
+      ∷ record { reference = 11; unit = 0; opcode = 0x02; told = None } ∷ [];
+  watch = Some (record { reference = 11; polled = 1; is_outstanding = true });
+}
+unfolding moment command_of command is_waiting waiting done passed_at passed figure figure_of outstanding
+kept = refl
+
+-- ---- a step between the polls, and one that ends the command
+
+abbrev moving : Talk
+moving =
+    opening
+    ++ steps 1 (Some 40) true 2 None
+    ∷ asks 11
+    ∷ hands (answer 11 1) (news.Progress 1)
+    ∷ steps 1 (Some 41) false 0 (moved 1 0 0 1024)
+    ∷ asks 12
+    ∷ hands read_end (news.Ended read_end)
+    ∷ hands (answer 12 0) news.Late
+    ∷ []
+
+second_told : figure_told (settings 4 2) First moving 7 ≡ 1
+unfolding moment command_of command is_waiting waiting done passed_at passed figure figure_of outstanding
+second_told = refl
+
+third_told : figure_told (settings 4 2) First moving 10 ≡ 0
+unfolding moment command_of command is_waiting waiting done passed_at passed figure figure_of outstanding
+third_told = refl
+
+last_before : last_answer (settings 4 2) First moving 8 3 ≡ Some 18
+unfolding moment command_of command is_waiting waiting done passed_at passed figure figure_of outstanding
+last_before = refl
+
+-- the second answer doesn't stand: 1 is less than 18
+falls : Stands (settings 4 2) First moving 8 → ⊥
+unfolding moment command_of command is_waiting waiting done passed_at passed figure figure_of outstanding
+falls st =
+    let poll : st.poll ≡ 7 = sym (ap (λ o. unwrap_or o 0) st.handed) in
+    let command : st.command ≡ 3 = sym (eqb-true 3 st.command
+    (subst (λ p. asks_about First moving st.command p ≡ true) poll st.about)) in
+    let last : 18 ≡ st.last = ap (λ o. unwrap_or o 0)
+    (subst (λ i. last_answer (settings 4 2) First moving 8 i ≡ Some st.last) command st.told) in
+    let low : st.last ≤ 1 = subst (λ p. st.last ≤ figure_told (settings 4 2) First moving p) poll st.not_less in
+    omega (arith, last, low)
+
+-- and the third neither, which comes after the command's end
+late : Stands (settings 4 2) First moving 12 → ⊥
+unfolding moment command_of command is_waiting waiting done passed_at passed figure figure_of outstanding
+late st =
+    let poll : st.poll ≡ 10 = sym (ap (λ o. unwrap_or o 0) st.handed) in
+    let command : st.command ≡ 3 = sym (eqb-true 3 st.command
+    (subst (λ p. asks_about First moving st.command p ≡ true) poll st.about)) in
+    false≢true (subst (λ i. is_outstanding First moving 12 i ≡ true) command st.outstanding)
+
+-- when the third answer comes the READ is outstanding no more
+kept_late : account_at (settings 4 2) First moving 12 ≡ record {
+  credits = 4;
+  outstanding = record { reference = 12; unit = 0; opcode = 0x02; told = None } ∷ [];
+  watch = Some (record { reference = 12; polled = 1; is_outstanding = false });
+}
+unfolding moment command_of command is_waiting waiting done passed_at passed figure figure_of outstanding
+kept_late = refl
+
+-- what is heard there is what the rules of a host say
+heard_late : IsHeard (accounts_at (settings 4 2) moving 12) (turns.Take First) (said moving 12)
+    (accounts_at (settings 4 2) moving 13)
+unfolding moment command_of command is_waiting waiting done passed_at passed figure figure_of outstanding
+heard_late = (
+  Some (record { items = end_bytes (answer 12 0) }),
+  account_at (settings 4 2) First moving 13,
+  refl,
+  (news.Late, refl, refl),
+  refl,
+)
+
+-- ---- a number that is used again
+
+-- READ 1 ends while its poll is under way, and another READ 1 waits before the answer comes
+abbrev again : Talk
+again =
+    opening
+    ++ steps 1 (Some 40) true 2 None
+    ∷ steps 1 (Some 41) false 0 (moved 1 0 0 1024)
+    ∷ asks 11
+    ∷ hands read_end (news.Ended read_end)
+    ∷ submits 1 (read 1024 40)
+    ∷ hands (answer 11 0) news.Late
+    ∷ asks 12
+    ∷ hands (answer 12 18) (news.First 18)
+    ∷ []
+
+-- of the second nothing was told yet
+untold : last_answer (settings 4 2) First again 13 10 ≡ None
+unfolding moment command_of command is_waiting waiting done passed_at passed figure figure_of outstanding
+untold = refl
+
+-- though the figure is the one that was last told of the first
+kept_again : account_at (settings 4 2) First again 13 ≡ record {
+  credits = 4;
+  outstanding = record { reference = 1; unit = 0; opcode = 0x21; told = None }
+      ∷ record { reference = 12; unit = 0; opcode = 0x02; told = None } ∷ [];
+  watch = Some (record { reference = 12; polled = 1; is_outstanding = true });
+}
+unfolding moment command_of command is_waiting waiting done passed_at passed figure figure_of outstanding
+kept_again = refl
