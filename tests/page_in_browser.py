@@ -419,7 +419,10 @@ def sizes_have_room():
         for name, (width, height) in SIZES.items():
             driver.execute_cdp_cmd("Emulation.setDeviceMetricsOverride", {
                 "width": width, "height": height, "deviceScaleFactor": 1, "mobile": False})
-            time.sleep(0.3)
+            for _ in range(100):
+                if driver.execute_script("return innerWidth") == width:
+                    break
+                time.sleep(0.1)
             wide = driver.execute_script("return document.documentElement.scrollWidth")
             assert wide <= width, (name, wide)
             driver.save_screenshot(f"{PICTURES}/{name}{'_dark' if dark else ''}.png")
