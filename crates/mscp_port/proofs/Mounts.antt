@@ -160,7 +160,8 @@ with_news : (place : ℕ) (m : Mount) (units : List Shape) (vs ws : List Volume)
 unfolding mount_of
 with_news place m units vs ws None out news holds = subst (λ xs. Holds place xs m) (sym news.1) holds
 with_news place m units vs ws (Some q) out news holds =
-    subst (λ xs. Holds place xs m) (sym news.1) (set_alike vs place q (record (volume_at vs q) { is_news = false }) m refl holds)
+    subst (λ xs. Holds place xs m) (sym news.1)
+    (set_alike vs place q (record (volume_at vs q) { is_news = false }) m refl holds)
 
 said : {K : Type 0} (place : ℕ) (m : Mount) (old new : Port K) → Says old new → Holds place old.volumes m
     → Holds place new.volumes m

@@ -67,8 +67,8 @@ IsMounted place start p (call ∷ earlier) a m =
     × (m ≡ record before { is_protected = false }))
     ⊎ ((IsRemounted place call a.0 p → ⊥) × IsMounted place start a.0 earlier a.1 m)
 
--- the law of mounts: whoever calls a port that was made over a controller, a block is moved only where the volume in its
--- unit is the one that this was brought online with, and one that is written or erased only where its host doesn't
+-- the law of mounts: whoever calls a port that was made over a controller, a block is moved only where the volume in
+-- its unit is the one that this was brought online with, and one that is written or erased only where its host doesn't
 -- protect it
 abbrev pub PortsMoveAsMounted : Type 0 → Type 0
 PortsMoveAsMounted K =
