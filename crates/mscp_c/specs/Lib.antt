@@ -4,6 +4,7 @@ pub mod HostSaving
 pub mod Hosted
 pub mod Made
 pub mod PortGiven
+pub mod PortHandleCalls
 pub mod PortMade
 pub mod PortSaving
 pub mod PortServed

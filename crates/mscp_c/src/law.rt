@@ -4,6 +4,7 @@ ghost use Rattle.std.specs.Prelude.{◌≡◌, pos, true};
 ghost use Rattle.mscp_events.specs.Settings.{IsValid};
 ghost use Rattle.mscp_memory.specs.ControllerHandles.{is_made};
 ghost use Rattle.mscp_c.specs.HandleCalls.{HandlesKeepThePromise};
+ghost use Rattle.mscp_c.specs.PortHandleCalls.{PortHandlesKeepThePromise};
 ghost use Rattle.mscp_c.specs.Statuses.{minus};
 
 use crate::status::{
@@ -39,6 +40,12 @@ pub fn handles_keep_the_promise(policy: Policy)
 {
     controllers_keep_the_promise(&policy);
 }
+
+/// Calls on a port's handle, one after the other, are calls of a port, also where it was saved and restored in between: each
+/// law of ports is about them, and statuses and out-structs tell what the port answers.
+pub fn port_handles_keep_the_promise()
+    ensures { PortHandlesKeepThePromise }
+{}
 
 /// Each status is the number that the header has under its name.
 pub fn statuses_are_these()

@@ -23,4 +23,7 @@ mod status;
 mod telling;
 mod units;
 
-pub use crate::law::{handles_keep_the_promise, made_handles_are_valid, statuses_are_these};
+pub use crate::law::{
+    handles_keep_the_promise, made_handles_are_valid, port_handles_keep_the_promise,
+    statuses_are_these,
+};
