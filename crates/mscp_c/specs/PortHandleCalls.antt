@@ -18,8 +18,8 @@ use Rattle.mscp_c.specs.PortTold.{action_told, next_code}
 
 -- ---- calls
 
--- a call on a port's handle: what was passed; what the out-pointer pointed to, if there is one; the status or number that
--- was answered; and what the out-pointer points to then (profile)
+-- a call on a port's handle: what was passed; what the out-pointer pointed to, if there is one; the status or number
+-- that was answered; and what the out-pointer points to then (profile)
 pub data HandleCall : Type 0 where
   ReadIp : ℤ → HandleCall
   WriteIp : ℤ → HandleCall
