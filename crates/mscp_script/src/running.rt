@@ -14,25 +14,26 @@ use crate::reporting::Reporter;
 use mscp_controller::{Block, Config, Connection, Controller, OutOfMemory, Sweep};
 use mscp_packet::write_command;
 use mscp_reader::{Plain, Request};
-use std::alloc::Allocator;
+use mscp_text::Out;
 
 /// A controller whose picker sweeps, and the report of what it answered so far. No entry is kept.
 #[derive(Drop)]
-pub struct Run<A: Allocator> {
+pub struct Run<O: Out> {
     controller: Controller<Sweep>,
-    reporter: Reporter<A>,
+    reporter: Reporter<O>,
 }
 
-impl<A: Allocator> Run<A> {
+impl<O: Out> Run<O> {
     /// A new controller, to which nothing came.
-    pub fn new(alloc: A, config: Config) -> Run<A>
+    pub fn new(out: O, config: Config) -> Run<O>
+        requires { O.text out ≡ [] }
         ensures controller { result.controller ≡ fresh config result.controller.picker }
         ensures report { result.reporter ≡ reported [] }
         ensures valid { IsValid config }
     {
         Run {
             controller: Controller::new(config, Sweep),
-            reporter: Reporter::new(alloc),
+            reporter: Reporter::new(out),
         }
     }
 
@@ -128,8 +129,8 @@ impl<A: Allocator> Run<A> {
     }
 
     /// The text of the report.
-    pub fn finish(self) -> Result<Vec<u8, A>, OutOfMemory>
-        ensures { IfOk result (λ bytes. bytes.items ≡ finished self.reporter) }
+    pub fn finish(self) -> Result<O, OutOfMemory>
+        ensures { IfOk result (λ out. O.text out ≡ finished self.reporter) }
     {
         self.reporter.finish()
     }
