@@ -136,11 +136,11 @@ fn packet_in(message: &[u8]) -> Result<Packet, ShowFault>
 
 /// `show_packet`, written to what has nothing in it.
 #[tactic(auto, unfolding(crate::specs::Shown::shown))]
-pub fn show_packet_to<O: Out>(mut out: O, word: &str) -> Result<O, ShowFault>
+pub fn show_packet_to<O: Out>(mut out: O, word: &[u8]) -> Result<O, ShowFault>
     requires { O.text out ≡ [] }
     ensures { Shows O.text result (shown word.now) }
 {
-    let message = message_of(word.as_bytes())?;
+    let message = message_of(word)?;
     let packet = packet_in(&message)?;
     put_packet(&mut out, packet)?;
     Ok(out)
@@ -151,5 +151,5 @@ pub fn show_packet_to<O: Out>(mut out: O, word: &str) -> Result<O, ShowFault>
 pub fn show_packet(alloc: Global, word: &str) -> Result<Vec<u8>, ShowFault>
     ensures { Shows (λ text. text.items) result (shown word.now) }
 {
-    show_packet_to(Vec::new(alloc), word)
+    show_packet_to(Vec::new(alloc), word.as_bytes())
 }

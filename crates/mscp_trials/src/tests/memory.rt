@@ -226,7 +226,7 @@ const SHOWN: [(&str, Result<&[u8], ShowFault>); 6] = [
 fn shown(rt: &(impl Abort + AllocGlobal), word: &str, wanted: Result<&[u8], ShowFault>) -> u64 {
     for number in 1..MANY {
         let heap = Scarce::new(rt.alloc(), number);
-        match show_packet_to(Vec::new(&heap), word) {
+        match show_packet_to(Vec::new(&heap), word.as_bytes()) {
             Err(ShowFault::OutOfMemory) => nothing_is_kept(rt, &heap, true),
             Err(fault) => {
                 same_of(rt, word, Err(fault), wanted);
