@@ -5,6 +5,7 @@
  *     ./mscpq-c run ../examples/first.mscp
  */
 #include "mscp.h"
+#include <errno.h>
 #include <stdio.h>
 #include <stdlib.h>
 #include <string.h>
@@ -78,7 +79,7 @@ static int run(const char *name)
     uint8_t *script = NULL;
     int status = 3;
     if (file == NULL)
-        return say("cannot read", 3);
+        return say(errno == ENOMEM ? "out of memory" : "cannot read", 3);
     script = read_script(file, &length);
     if (script == NULL)
         say("out of memory", 3);

@@ -54,7 +54,7 @@ static void faults_are_told(void)
         {"credits 4\nbudget 16\n", MSCP_SCRIPT_HEADER, 3},
         {"", MSCP_SCRIPT_HEADER, 1},
     };
-    for (size_t i = 0; i < sizeof rows / sizeof *rows; i++)
+    for (size_t i = 0; i < COUNT(rows); i++)
         fails(rows[i].script, strlen(rows[i].script), rows[i].fault, rows[i].line);
 }
 
@@ -64,8 +64,8 @@ static void limits_are_told(void)
     static char script[16777217];
     char *end = script + sprintf(script, HEADER);
     memset(end, '\n', sizeof script - (end - script));
-    fails(script, 1000001, MSCP_SCRIPT_LINES, 1000001);
-    fails(script, sizeof script, MSCP_SCRIPT_SIZE, 1);
+    fails(script, end - script + 999995, MSCP_SCRIPT_LINES, 1000001);
+    fails(script, sizeof script, MSCP_SCRIPT_SIZE, 0);
     for (int i = 0; i < 1000; i++)
         end += sprintf(end, "step 1000\n");
     fails(script, end - script + sprintf(end, "look\n"), MSCP_SCRIPT_EVENTS, 1007);
@@ -83,7 +83,7 @@ static void packets_are_shown(void)
         {"050000000000000094000000", MSCP_WORD_CODE, ""},
         {"050000000000000082000000", MSCP_WORD_LENGTH, ""},
     };
-    for (size_t i = 0; i < sizeof rows / sizeof *rows; i++) {
+    for (size_t i = 0; i < COUNT(rows); i++) {
         size_t length = strlen(rows[i].text), count = 77;
         is("packet", mscp_show_packet((const uint8_t *)rows[i].word, strlen(rows[i].word), room, 1024, &count), rows[i].status);
         is("its bytes", count, rows[i].status == MSCP_DONE ? length : 77);
