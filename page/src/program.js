@@ -1,5 +1,5 @@
-// What the program does, by the library: a script's report, and the line of a packet. It has a library of its own, in whose
-// memory no controller lies.
+// What the program does, by the library: a script's report, and the line of a packet. It has a library of its own, in
+// whose memory no controller lies.
 
 import { Library } from './memory.js';
 
@@ -24,7 +24,8 @@ export class Fault extends Error {
 function write(library, name, text, size, tellsLine) {
     const bytes = new TextEncoder().encode(text);
     library.clear();
-    const count = library.take(8), line = library.take(4), from = library.take(bytes.length + 1), room = library.take(size);
+    const count = library.take(8), line = library.take(4);
+    const from = library.take(bytes.length + 1), room = library.take(size);
     library.write(from, bytes);
     const words = [from, bytes.length, room, size, count, ...(tellsLine ? [line] : [])];
     const status = library.exports[name](...words.map(BigInt));

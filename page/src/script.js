@@ -27,7 +27,8 @@ function configOf(lines) {
     const [credits, budget, longest, timeout, ...units] = lines.map(({ words: [, ...numbers] }) => numbers.map(Number));
     const times = lines[1].words[0] === 'passing' ? longest[0] : 1;
     return {
-        credits: credits[0], second: credits[1] ?? 0, budget: budget[0] * times, longest: longest[0], timeout: timeout[0],
+        credits: credits[0], second: credits[1] ?? 0, budget: budget[0] * times, longest: longest[0],
+        timeout: timeout[0],
         units: units.map(([number, track, group, cylinder, size]) => ({ number, track, group, cylinder, size })),
     };
 }

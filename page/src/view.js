@@ -8,7 +8,8 @@ import { legend, queueItems } from './queue_view.js';
 /**
  * @typedef {import('./play.js').Play} Play
  * `textOf` is the line of a packet, by its digits.
- * @typedef {{textOf: (digits: string) => string, actOn: (word: 'status' | 'abort', command: import('./model.js').Waiting) => void,
+ * @typedef {{textOf: (digits: string) => string,
+ *   actOn: (word: 'status' | 'abort', command: import('./model.js').Waiting) => void,
  *   goTo: (at: number) => void}} Acts
  */
 
