@@ -38,7 +38,9 @@ fn report_lines<O: Out>(out: O, lines: &mut Lines<'_>) -> Result<O, ReadFault>
     runs_keep_the_promise(&Sweep);
     let mut run = Run::new(out, read_header(lines)?);
     run_events(lines, &mut run)?;
-    Ok(run.finish()?)
+    // A controller isn't small, so the run isn't handed on.
+    let Run { reporter, .. } = run;
+    Ok(reporter.finish()?)
 }
 
 /// Has a run meet the events of all lines that are left.

@@ -1,6 +1,6 @@
 // A controller that is driven event by event, and the report of what it answers.
 
-ghost use Rattle.std.specs.Prelude.{◌≡◌, ◌+◌, ◌<◌, ◌^◌, [], length, replicate, OnOk, IfOk};
+ghost use Rattle.std.specs.Prelude.{◌≡◌, ◌+◌, ◌<◌, ◌^◌, [], length, replicate, OnOk};
 ghost use Rattle.mscp_controller.specs.Holdings.{fresh};
 ghost use Rattle.mscp_events.specs.Settings.{IsValid};
 ghost use Rattle.mscp_events.specs.declared.event.Event.TheVariants as events;
@@ -8,7 +8,7 @@ ghost use Rattle.mscp_events.specs.declared.block.Block.TheVariants.{Good};
 ghost use Rattle.mscp_reader.specs.Plain.{plain_request};
 ghost use Rattle.mscp_reader.specs.Requests.{events_of};
 ghost use Rattle.mscp_script.specs.Running.{Meets, Ran};
-ghost use Rattle.mscp_script.specs.Text.{finished, reported};
+ghost use Rattle.mscp_script.specs.Text.{reported};
 
 use crate::reporting::Reporter;
 use mscp_controller::{Block, Config, Connection, Controller, OutOfMemory, Sweep};
@@ -20,7 +20,7 @@ use mscp_text::Out;
 #[derive(Drop)]
 pub struct Run<O: Out> {
     controller: Controller<Sweep>,
-    reporter: Reporter<O>,
+    pub reporter: Reporter<O>,
 }
 
 impl<O: Out> Run<O> {
@@ -126,12 +126,5 @@ impl<O: Out> Run<O> {
             Plain::Look => self.look(),
             Plain::Steps(count) => self.steps(count),
         }
-    }
-
-    /// The text of the report.
-    pub fn finish(self) -> Result<O, OutOfMemory>
-        ensures { IfOk result (λ out. O.text out ≡ finished self.reporter) }
-    {
-        self.reporter.finish()
     }
 }
