@@ -10,6 +10,7 @@ pub mod PortSaving
 pub mod PortServed
 pub mod PortTold
 pub mod Restoring
+pub mod Running
 pub mod Saving
 pub mod Served
 pub mod Statuses

@@ -15,6 +15,7 @@ mod port_saving;
 mod port_telling;
 mod port_turning;
 mod port_watching;
+mod running;
 mod saving;
 mod seeing;
 mod sending;
