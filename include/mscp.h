@@ -120,7 +120,8 @@ enum mscp_status {
     MSCP_SAVED_ENDS = -51,    /* an end without an endcode */
     MSCP_SAVED_BEGUN = -52,   /* that a command is begun which doesn't wait, or may not be served */
     MSCP_SAVED_PICKER = -53,  /* no enum mscp_picker */
-    MSCP_SAVED_FORM = -54     /* they say what may be, but not as it is saved */
+    MSCP_SAVED_FORM = -54,    /* they say what may be, but not as it is saved */
+    MSCP_SAVED_POLL = -55     /* a poll in flight that isn't outstanding, or that is about nobody */
 };
 
 /* By which connection a host talks to the controller. Each has its own credits, ends and reference numbers. */
@@ -606,8 +607,8 @@ MSCP_INLINE int32_t mscp_host_save(const struct mscp_host *host, uint8_t *bytes,
 }
 
 /* Makes the host that was saved, in the handle's memory. MSCP_DONE, or the first fault of those of the memory (-11 to
- * -15) and MSCP_SAVED_LENGTH, _MAGIC, _VERSION, _LIMITS, _CREDITS, _DOUBLED and _FORM. This takes up to 6 KiB of the
- * stack, and mscp_host_save up to 3. */
+ * -15) and MSCP_SAVED_LENGTH, _MAGIC, _VERSION, _LIMITS, _CREDITS, _DOUBLED, _POLL and _FORM. This takes up to 6 KiB
+ * of the stack, and mscp_host_save up to 3. */
 MSCP_MUST_USE
 MSCP_INLINE int32_t mscp_host_restore(struct mscp_host *host, const uint8_t *bytes, size_t length)
 {
@@ -764,6 +765,7 @@ MSCP_INLINE const char *mscp_status_text(int64_t status)
     case MSCP_SAVED_BEGUN: return "a saved command that may not be begun";
     case MSCP_SAVED_PICKER: return "no picker of the saved number";
     case MSCP_SAVED_FORM: return "bytes that nothing is saved as";
+    case MSCP_SAVED_POLL: return "a saved poll about nobody";
     default: return "unknown status";
     }
 }

@@ -95,6 +95,7 @@ host_restore_code host_bytes.Version = status.SAVED_VERSION
 host_restore_code host_bytes.Credits = status.SAVED_LIMITS
 host_restore_code host_bytes.Outstanding = status.SAVED_CREDITS
 host_restore_code host_bytes.Doubled = status.SAVED_DOUBLED
+host_restore_code host_bytes.Poll = status.SAVED_POLL
 host_restore_code host_bytes.Form = status.SAVED_FORM
 
 -- of bytes that are no saved port: those of its controller have their own

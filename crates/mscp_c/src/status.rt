@@ -137,6 +137,8 @@ pub(crate) const SAVED_BEGUN: i32 = -52;
 pub(crate) const SAVED_PICKER: i32 = -53;
 
 pub(crate) const SAVED_FORM: i32 = -54;
+/// A poll in flight about nobody.
+pub(crate) const SAVED_POLL: i32 = -55;
 
 /// The status of memory that is no room.
 pub(crate) fn room_code(fault: RoomFault) -> i32
@@ -273,6 +275,7 @@ pub(crate) fn host_restore_code(fault: HostRestoreFault) -> i32
         HostRestoreFault::Credits => SAVED_LIMITS,
         HostRestoreFault::Outstanding => SAVED_CREDITS,
         HostRestoreFault::Doubled => SAVED_DOUBLED,
+        HostRestoreFault::Poll => SAVED_POLL,
         HostRestoreFault::Form => SAVED_FORM,
     }
 }
