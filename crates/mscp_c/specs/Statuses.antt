@@ -103,5 +103,6 @@ abbrev pub port_restore_code : ported.RestoreFault → ℤ
 port_restore_code port_bytes.Length = status.SAVED_LENGTH
 port_restore_code port_bytes.Magic = status.SAVED_MAGIC
 port_restore_code port_bytes.Version = status.SAVED_VERSION
+port_restore_code port_bytes.Size = status.SAVED_SIZE
 port_restore_code (port_bytes.Controller fault) = restore_code fault
 port_restore_code port_bytes.Form = status.SAVED_FORM

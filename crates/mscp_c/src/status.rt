@@ -139,6 +139,8 @@ pub(crate) const SAVED_PICKER: i32 = -53;
 pub(crate) const SAVED_FORM: i32 = -54;
 /// A poll in flight about nobody.
 pub(crate) const SAVED_POLL: i32 = -55;
+/// What a port has in hand has a size that nothing in hand has.
+pub(crate) const SAVED_SIZE: i32 = -56;
 
 /// The status of memory that is no room.
 pub(crate) fn room_code(fault: RoomFault) -> i32
@@ -288,6 +290,7 @@ pub(crate) fn port_restore_code(fault: PortRestoreFault) -> i32
         PortRestoreFault::Length => SAVED_LENGTH,
         PortRestoreFault::Magic => SAVED_MAGIC,
         PortRestoreFault::Version => SAVED_VERSION,
+        PortRestoreFault::Size => SAVED_SIZE,
         PortRestoreFault::Controller(fault) => restore_code(fault),
         PortRestoreFault::Form => SAVED_FORM,
     }

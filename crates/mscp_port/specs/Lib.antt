@@ -21,3 +21,4 @@ pub mod Seen
 pub mod Slots
 pub mod Volumes
 pub mod Wanted
+pub mod Sizes

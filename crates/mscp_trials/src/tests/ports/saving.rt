@@ -174,6 +174,26 @@ fn other_bytes_are_refused(rt: HostRuntime) {
 }
 
 #[test]
+fn a_size_that_nothing_in_hand_has_is_refused(rt: HostRuntime) {
+    let saved = in_the_middle(&rt).port.save(7);
+    // A text of 4 bytes, and 2 bytes of the area that are clear.
+    has_fault(&rt, &saved, 52, 5, RestoreFault::Size);
+    has_fault(&rt, &saved, 52, 2, RestoreFault::Size);
+    // Where the size is one, what a text lacks and a transfer has stands there still.
+    let text = with(&saved, 52, 5);
+    has_fault(&rt, &text, 58, 11, RestoreFault::Size);
+    has_fault(&rt, &text, 58, 12, RestoreFault::Form);
+    has_fault(&rt, &text, 58, 64, RestoreFault::Form);
+    has_fault(&rt, &text, 58, 65, RestoreFault::Size);
+    // 64 bytes that are clear, 1,024, and 1,088.
+    let clear = with(&saved, 52, 2);
+    has_fault(&rt, &clear, 54, 64, RestoreFault::Form);
+    let most = with(&clear, 55, 4);
+    has_fault(&rt, &most, 54, 0, RestoreFault::Form);
+    has_fault(&rt, &most, 54, 64, RestoreFault::Size);
+}
+
+#[test]
 fn bytes_of_no_form_are_refused(rt: HostRuntime) {
     let saved = in_the_middle(&rt).port.save(7);
     // No bus, no flag, no stage, a word where there is none.
