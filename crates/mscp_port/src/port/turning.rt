@@ -180,7 +180,7 @@ impl<K: Picker> Port<K> {
         ensures within { IsWithin self.now result }
         ensures wanted { IsWanted self.now self.now.task result }
         ensures moves { (kind : Kind) (unit block count : ℕ) → result ≡ actions.Transfer kind unit block count
-            → MayMoveOn kind unit self.now }
+            → MayMoveOn kind unit block self.now }
         ensures rests { result ≡ actions.Rest → self.now.task ≡ tasks.Free }
     {
         match (self.task, self.rings) {
@@ -269,7 +269,7 @@ impl<K: Picker> Port<K> {
         ensures within { IsWithin self.now result }
         ensures value { result ≡ move_wanted self.now.task job.now (part_now self.now job.now) }
         ensures moves { (kind : Kind) (unit block count : ℕ) → result ≡ actions.Transfer kind unit block count
-            → MayMoveOn kind unit self.now }
+            → MayMoveOn kind unit block self.now }
         ensures some { result ≢ actions.Rest }
     {
         match (self.task, self.part(job)) {
@@ -290,7 +290,7 @@ impl<K: Picker> Port<K> {
         ensures value { result ≡ part_now self.now job.now }
         ensures inside { IfSome result (λ part. IsInSomeBuffer self.now part.0 part.1) }
         ensures moves { IsSome result → is_storing self.now.task ≡ false
-            → MayMoveOn job.now.kind job.now.unit self.now }
+            → MayMoveOn job.now.kind job.now.unit job.now.block self.now }
     {
         // What was read goes to the host, even if its volume has gone since.
         if !matches!(self.task, Task::Store(_)) && self.fault_of(job).is_some() {

@@ -193,6 +193,24 @@ fn a_size_that_nothing_in_hand_has_is_refused(rt: HostRuntime) {
     has_fault(&rt, &most, 54, 64, RestoreFault::Size);
 }
 
+/// The port that was to move a block moves none where another byte stands at a place. Its command ends.
+fn moves_nothing(rt: &impl Abort, place: usize, byte: u8) {
+    let bytes = with(&in_the_middle(rt).port.save(7), place, byte);
+    let mut port = Port::restore(bytes.as_slice(), 7, Sweep)
+        .ok()
+        .expect(rt, "a port");
+    holds(rt, port.next() == Action::Pause);
+    holds(rt, port.went(Outcome::Done).is_ok());
+    holds(rt, matches!(port.next(), Action::Read { count: 4, .. }));
+}
+
+#[test]
+fn a_block_that_no_unit_has_is_not_moved(rt: HostRuntime) {
+    // Block 65,540 of unit 0, and block 4 of unit 9.
+    moves_nothing(&rt, 60, 1);
+    moves_nothing(&rt, 66, 9);
+}
+
 #[test]
 fn bytes_of_no_form_are_refused(rt: HostRuntime) {
     let saved = in_the_middle(&rt).port.save(7);
