@@ -121,6 +121,8 @@ enum mscp_status {
     MSCP_SAVED_BEGUN = -52,   /* that a command is begun which doesn't wait, or may not be served */
     MSCP_SAVED_PICKER = -53,  /* no enum mscp_picker */
     MSCP_SAVED_FORM = -54,    /* they say what may be, but not as it is saved */
+    MSCP_SAVED_POLL = -55,    /* a poll in flight that isn't outstanding, or that is about nobody */
+    MSCP_SAVED_SIZE = -56,    /* what a port has in hand has a size that nothing in hand has */
 
     MSCP_SCRIPT_SIZE = -60,   /* mscp_run_script: the script has over 16777216 bytes */
     MSCP_SCRIPT_LINES = -61,  /* it is line 1000001 */
@@ -629,8 +631,8 @@ MSCP_INLINE int32_t mscp_host_save(const struct mscp_host *host, uint8_t *bytes,
 }
 
 /* Makes the host that was saved, in the handle's memory. MSCP_DONE, or the first fault of those of the memory (-11 to
- * -15) and MSCP_SAVED_LENGTH, _MAGIC, _VERSION, _LIMITS, _CREDITS, _DOUBLED and _FORM. This takes up to 6 KiB of the
- * stack, and mscp_host_save up to 3. */
+ * -15) and MSCP_SAVED_LENGTH, _MAGIC, _VERSION, _LIMITS, _CREDITS, _DOUBLED, _POLL and _FORM. This takes up to 6 KiB
+ * of the stack, and mscp_host_save up to 3. */
 MSCP_MUST_USE
 MSCP_INLINE int32_t mscp_host_restore(struct mscp_host *host, const uint8_t *bytes, size_t length)
 {
@@ -712,9 +714,9 @@ MSCP_INLINE int32_t mscp_port_save(const struct mscp_port *port, uint8_t *bytes,
 }
 
 /* Makes the port that was saved, in the handle's memory: it goes on as it would have there. MSCP_DONE, or the first fault
- * of those of the memory (-11 to -15) and those of the bytes (-40 to -54), which may be those of its controller's. Bytes
- * of a stranger make a port with which every call is safe, or none. This takes up to 40 KiB of the stack, and
- * mscp_port_save up to 28. */
+ * of those of the memory (-11 to -15) and those of the bytes (-40 to -54 and MSCP_SAVED_SIZE), which may be those of its
+ * controller's. Bytes of a stranger make a port with which every call is safe, and which moves only blocks that its units
+ * have, or none. This takes up to 40 KiB of the stack, and mscp_port_save up to 28. */
 MSCP_MUST_USE
 MSCP_INLINE int32_t mscp_port_restore(struct mscp_port *port, const uint8_t *bytes, size_t length)
 {
@@ -811,6 +813,8 @@ MSCP_INLINE const char *mscp_status_text(int64_t status)
     case MSCP_SAVED_BEGUN: return "a saved command that may not be begun";
     case MSCP_SAVED_PICKER: return "no picker of the saved number";
     case MSCP_SAVED_FORM: return "bytes that nothing is saved as";
+    case MSCP_SAVED_POLL: return "a saved poll about nobody";
+    case MSCP_SAVED_SIZE: return "a saved port with a size that none has";
     case MSCP_SCRIPT_SIZE: return "a script of over 16777216 bytes";
     case MSCP_SCRIPT_LINES: return "over 1000000 lines";
     case MSCP_SCRIPT_LONG: return "a line of over 200 bytes";

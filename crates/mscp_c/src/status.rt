@@ -139,6 +139,10 @@ pub(crate) const SAVED_BEGUN: i32 = -52;
 pub(crate) const SAVED_PICKER: i32 = -53;
 
 pub(crate) const SAVED_FORM: i32 = -54;
+/// A poll in flight about nobody.
+pub(crate) const SAVED_POLL: i32 = -55;
+/// What a port has in hand has a size that nothing in hand has.
+pub(crate) const SAVED_SIZE: i32 = -56;
 
 /// What is wrong in a line of a script.
 pub(crate) const SCRIPT_SIZE: i32 = -60;
@@ -313,6 +317,7 @@ pub(crate) fn host_restore_code(fault: HostRestoreFault) -> i32
         HostRestoreFault::Credits => SAVED_LIMITS,
         HostRestoreFault::Outstanding => SAVED_CREDITS,
         HostRestoreFault::Doubled => SAVED_DOUBLED,
+        HostRestoreFault::Poll => SAVED_POLL,
         HostRestoreFault::Form => SAVED_FORM,
     }
 }
@@ -325,6 +330,7 @@ pub(crate) fn port_restore_code(fault: PortRestoreFault) -> i32
         PortRestoreFault::Length => SAVED_LENGTH,
         PortRestoreFault::Magic => SAVED_MAGIC,
         PortRestoreFault::Version => SAVED_VERSION,
+        PortRestoreFault::Size => SAVED_SIZE,
         PortRestoreFault::Controller(fault) => restore_code(fault),
         PortRestoreFault::Form => SAVED_FORM,
     }

@@ -22,3 +22,4 @@ pub mod Seen
 pub mod Slots
 pub mod Volumes
 pub mod Wanted
+pub mod Sizes
