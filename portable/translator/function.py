@@ -136,7 +136,12 @@ class Function:
 
     def do_loop(self, it):
         self.begin_block("loop", it.number)
-        self.lines.append(self.labels)
+        self.come_together(self.labels)
+
+    def come_together(self, label):
+        """A place to which several ways lead: of a local that is set more than once it isn't known which value it has."""
+        self.lines.append(label)
+        self.tops = {local: top for local, top in self.tops.items() if self.sets[local] == 1}
 
     def end_block(self, is_reached):
         block = self.blocks.pop()
@@ -148,7 +153,7 @@ class Function:
             self.lines.append(f"{block.result} = {self.stack[-1]:all};")
         del self.stack[block.height :]
         if block.kind == "block":
-            self.lines.append(block.label)
+            self.come_together(block.label)
         if block.result:
             self.stack.append(Value(block.result, self.temporaries[int(block.result[1:])]))
         self.unreached = None
@@ -239,15 +244,16 @@ class Function:
     # ---- locals
 
     def do_local_get(self, it):
-        value = Value(f"v{it.number}", self.kinds[it.number], local=[it.number], top=self.tops.get(it.number))
-        self.stack.append(value)
+        top = self.tops.get(it.number)
+        self.stack.append(Value(None if top == 0 else f"v{it.number}", self.kinds[it.number], local=[it.number], top=top))
 
     def do_local_set(self, it):
         (value,) = self.pop(1)
         self.spill(lambda other: it.number in other.locals)
-        if value.top is not None and self.sets[it.number] == 1:
+        self.tops.pop(it.number, None)
+        if value.top is not None:
             self.tops[it.number] = value.top
-        if value.text != f"v{it.number}":
+        if value.top != 0 and value.text != f"v{it.number}":
             self.lines.append(f"v{it.number} = {value:all};")
 
     def do_local_tee(self, it):

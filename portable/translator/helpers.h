@@ -62,13 +62,13 @@ static inline void copy(u64 to, u64 from, u64 count) { memmove(P(to), P(from), (
 
 static inline void fill(u64 to, u32 v, u64 count) { memset(P(to), (int)(v & 255), (size_t)count); }
 
-static inline u32 rotl32(u32 v, u32 n) { return v << n | v >> (32 - n & 31); }
+static inline u32 rotl32(u32 v, u32 n) { return v << n | v >> ((32 - n) & 31); }
 
-static inline u32 rotr32(u32 v, u32 n) { return v >> n | v << (32 - n & 31); }
+static inline u32 rotr32(u32 v, u32 n) { return v >> n | v << ((32 - n) & 31); }
 
-static inline u64 rotl64(u64 v, u64 n) { return v << n | v >> (64 - n & 63); }
+static inline u64 rotl64(u64 v, u64 n) { return v << n | v >> ((64 - n) & 63); }
 
-static inline u64 rotr64(u64 v, u64 n) { return v >> n | v << (64 - n & 63); }
+static inline u64 rotr64(u64 v, u64 n) { return v >> n | v << ((64 - n) & 63); }
 
 #ifdef __POPCNT__
 static inline u64 pop64(u64 v) { return (u64)__builtin_popcountll(v); }

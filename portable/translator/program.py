@@ -67,10 +67,8 @@ class Program:
         if it.number != it.other:
             base = f"A(data + {self.place(it)})"
             text = base if value.number == 0 else f"{base} + {value}"
-        elif value.text is None:
-            raise Refusal("the stack's pointer is an address")
         else:
-            text = f"{value} + {it.number}" if it.number else value.text
+            text = f"{value} + {it.number}" if it.number else format(value, "all")
         return Value(text, I64, local=value.locals, memory=value.memory)
 
     # ---- text

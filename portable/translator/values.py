@@ -2,6 +2,8 @@
 
 import re
 
+from .wasm import Refusal
+
 I32, I64 = 0x7F, 0x7E
 WIDTHS = {I32: "u32", I64: "u64"}
 LETTERS = {"i": I32, "I": I64, "b": I32}
@@ -25,6 +27,8 @@ class Value:
         self.locals, self.memory, self.number, self.top = frozenset(local), memory, number, top
 
     def __format__(self, how):
+        if self.text is None:
+            raise Refusal("the stack's pointer is used in a way that isn't known")
         if how == "all":
             return self.text
         if how:
