@@ -43,6 +43,16 @@ typedef u8 handles_are_known[sizeof(struct mscp) == MSCP_HEAD && sizeof(struct m
 /* The code's addresses have 64 bits, and are the machine's own. Its functions have room in memory that is aligned to 16. */
 #define A(pointer) ((u64)(uintptr_t)(pointer))
 #define P(address) ((u8 *)(uintptr_t)(address))
+/* A function with much room isn't built into another one, so that it gives its room back: so no call takes more of the stack
+ * than mscp.h says. */
+#if defined(__GNUC__)
+#define APART __attribute__((noinline)) static
+#elif defined(_MSC_VER)
+#define APART __declspec(noinline) static
+#else
+#define APART static
+#endif
+
 #ifdef __GNUC__
 #define ROOM(name, bytes) __attribute__((aligned(16))) u8 name[bytes]
 #else

@@ -84,7 +84,7 @@ static inline u64 pop64(u64 v)
 static inline u32 pop32(u32 v) { return (u32)pop64(v); }
 
 #ifdef __GNUC__
-static inline u64 ctz64(u64 v) { return v == 0 ? 64 : (u64)__builtin_ctzll(v); }
+static inline u64 ctz64(u64 v) { return v == 0 ? 64 : (u64)(u32)__builtin_ctzll(v); }
 #else
 static inline u64 ctz64(u64 v) { return pop64(~v & (v - 1)); }
 #endif
@@ -92,7 +92,7 @@ static inline u64 ctz64(u64 v) { return pop64(~v & (v - 1)); }
 static inline u32 ctz32(u32 v) { return v == 0 ? 32 : (u32)ctz64(v); }
 
 #ifdef __GNUC__
-static inline u64 clz64(u64 v) { return v == 0 ? 64 : (u64)__builtin_clzll(v); }
+static inline u64 clz64(u64 v) { return v == 0 ? 64 : (u64)(u32)__builtin_clzll(v); }
 #else
 static inline u64 clz64(u64 v)
 {

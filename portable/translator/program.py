@@ -7,6 +7,7 @@ from .values import I32, I64, WIDTHS, Value, constant, literal
 from .wasm import Refusal
 
 MOST = 118 # characters of a line, if it can be broken
+MUCH = 256 # bytes of a function's room, from which on it stands apart
 
 
 class Program:
@@ -83,7 +84,8 @@ class Program:
         body = re.sub(r"@(\d+)@", lambda match: self.names[int(match.group(1))], body)
         takes = ", ".join(f"{WIDTHS[kind]} v{place}" for place, kind in enumerate(it.takes))
         gives = WIDTHS[it.gives[0]] if it.gives else "void"
-        lines = [f"static {gives} {self.names[number]}({takes or 'void'})", "{", *declarations(it, body)]
+        begins = "APART" if (it.frame or 0) >= MUCH else "static"
+        lines = [f"{begins} {gives} {self.names[number]}({takes or 'void'})", "{", *declarations(it, body)]
         return "\n".join(lines + [body, "}"]) + "\n"
 
     def statement(self, line, it):
