@@ -6,8 +6,10 @@ from translator.values import I32, I64, combined, constant
 TRAP = None
 SUB = ("sub", "ii", "i", "", "local.get 0 local.get 1 i32.sub")
 STORE = ("store", "I", "", "", "local.get 0 i32.const 7 i32.store 0")
-FRAME = "global.get 0 i64.const 32 i64.sub local.tee 1 global.set 0 block void local.get 1 i64.const 16 i64.lt_s i32.eqz br_if 0 " \
+FRAME = (
+    "global.get 0 i64.const 32 i64.sub local.tee 1 global.set 0 block void local.get 1 i64.const 16 i64.lt_s i32.eqz br_if 0 "
     "unreachable end "
+)
 LEFT = "local.get 1 i64.const 32 i64.add global.set 0 "
 DIRTY = ("dirty", "i", "", "I", FRAME + "local.get 1 local.get 0 i32.const 1 i32.add i32.store 8 " + LEFT)
 LOOK = "global.get 0 i64.const 15 i64.gt_s i32.const 41 i32.add"
@@ -42,14 +44,14 @@ CASES = (
      "local.get 0 i32.load 0 i32.sub", (), [(("M",), 0xF4030201 - 7)]),
     ("what was loaded stays as a call comes", "I", "i", "", "local.get 0 i32.load 0 local.get 0 call 1 local.get 0 i32.load 0 "
      "i32.sub", (STORE,), [(("M",), 0xF4030201 - 7)]),
-    ("what was loaded stays as bytes are moved", "I", "i", "", "local.get 0 i32.load 0 local.get 0 local.get 0 i64.const 4 i64.add "
-     "i64.const 4 memory.copy local.get 0 i32.load 0 i32.sub", (), [(("M",), 0xF4030201 - 0xB8C7D6E5)]),
+    ("what was loaded stays as bytes are moved", "I", "i", "", "local.get 0 i32.load 0 local.get 0 local.get 0 i64.const 4 "
+     "i64.add i64.const 4 memory.copy local.get 0 i32.load 0 i32.sub", (), [(("M",), 0xF4030201 - 0xB8C7D6E5)]),
     ("what stands below a block stays", "ii", "i", "", "local.get 0 block void local.get 1 br_if 0 i32.const 9 local.set 0 end "
      "local.get 0 i32.sub", (), [((5, 1), 0), ((5, 0), 0xFFFFFFFC)]),
     ("a block gives what a branch brings", "i", "I", "", "block i64 i64.const 5 local.get 0 br_if 0 drop i64.const 6 end", (),
      [((0,), 6), ((1,), 5)]),
-    ("what nobody reaches is left out", "", "i", "", "block void br 0 block void loop void i32.const 1 br 0 end end end i32.const 3",
-     (), [((), 3)]),
+    ("what nobody reaches is left out", "", "i", "", "block void br 0 block void loop void i32.const 1 br 0 end end end "
+     "i32.const 3", (), [((), 3)]),
     ("an address of a constant", "", "i", "", "i64.const DATA+5 i32.load8_u 0 i64.const 3 i32.load8_u DATA+9 i32.sub", (),
      [((), 0xFFFFFFF9)]),
     ("a place in the frame", "i", "i", "I", FRAME + "local.get 1 local.get 0 i32.store 8 local.get 0 call 1 local.get 1 "

@@ -1,10 +1,13 @@
 """Modules that can't be told in C, and what is said of each."""
 
 from translator.library import library
+from translator.opcodes import TABLE
 from translator.program import Program
 from translator.wasm import Module, Refusal
 
 from .assembling import module, section
+from .control import CASES, WRONG
+from .meanings import rows
 
 BASES = 0x100000, 0x300000
 
@@ -58,7 +61,16 @@ def header_that_differs_is_refused():
     return False
 
 
+def each_instruction_is_tried():
+    """Each of the table is tried, with its number by the standard, and has a wrong translation."""
+    numeric = {number: name for number, name, *_ in rows()}
+    others = {opcode.name for number, opcode in TABLE.items() if number not in numeric}
+    same = all(TABLE[number].name == name for number, name in numeric.items())
+    return same and others == {case[0] for case in CASES} & others == set(WRONG) & others
+
+
 def lines():
+    yield f"each instruction is tried: {'passed' if each_instruction_is_tried() else 'FAILED'}"
     for name, forms, said in REFUSED:
         yield f"{name} is refused: {'passed' if is_refused(forms, said) else 'FAILED'}"
     yield f"a header that differs is refused: {'passed' if header_that_differs_is_refused() else 'FAILED'}"

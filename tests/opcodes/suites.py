@@ -35,7 +35,8 @@ static void begin(void) { static const u8 first[] = {%s}; memcpy(memory, first, 
 #define TRAPS(call) do { begin(); if (!setjmp(out)) { (void)(call); wrong++; } } while (0)
 #define ALL(rows, call) do { for (size_t k = 0; k < sizeof rows / sizeof *rows; k++) { const u64 *const row = rows[k]; \
     if (row[3]) TRAPS(call); else GIVES(call, row[2]); } } while (0)
-#define LEAVES(call, ...) do { static const u8 then[] = {__VA_ARGS__}; begin(); call; wrong += memcmp(memory, then, 32) != 0; } while (0)
+#define LEAVES(call, ...) do { static const u8 then[] = {__VA_ARGS__}; begin(); call; wrong += memcmp(memory, then, 32) != 0; \\
+    } while (0)
 """
 
 
@@ -159,16 +160,22 @@ def wrongly():
         yield of_case(*case), mock.patch.multiple(Function, **WRONG[case[0]]) if case[0] in WRONG else None
 
 
+def run(function, name, if_wrong, else_):
+    """C that tries a suite, and prints a line of it."""
+    return f'    wrong = 0; {function}(); printf("{name}: %s\\n", wrong ? "{if_wrong}" : "{else_}");'
+
+
 def write():
-    """C that prints a line for each: what is tried, and whether it is right, or its wrong translation seen."""
+    """C that prints a line for each: what is tried, and whether it is right, or its wrong translation seen. With RIGHT defined it
+    has no wrong one."""
     parts, runs = [], []
     for place, (suite, patch) in enumerate(wrongly()):
-        parts.append(written(f"right_{place}_", suite, f"try_{place}"))
-        runs.append(f'wrong = 0; try_{place}(); printf("{suite.name}: %s\\n", wrong ? "FAILED" : "passed");')
+        parts.append(written(f"right_{place}_", suite, f"right_{place}"))
+        runs.append(run(f"right_{place}", suite.name, "FAILED", "passed"))
         if patch is not None:
             with patch:
-                parts.append(written(f"wrong_{place}_", suite, f"try_wrong_{place}"))
-            runs.append(f'wrong = 0; try_wrong_{place}(); printf("wrong {suite.name} is seen: %s\\n", wrong ? "passed" : "FAILED");')
-    main = "int main(void)\n{\n    " + "\n    ".join(runs) + "\n    return 0;\n}\n"
+                parts += ["#ifndef RIGHT", written(f"wrong_{place}_", suite, f"wrong_{place}"), "#endif"]
+            runs += ["#ifndef RIGHT", run(f"wrong_{place}", f"wrong {suite.name} is seen", "passed", "FAILED"), "#endif"]
+    main = "int main(void)\n{\n" + "\n".join(runs) + "\n    return 0;\n}\n"
     text = TRYING % ", ".join(str(it) for it in MEMORY) + "\n".join(parts) + main
     return HEAD + whole(text)
