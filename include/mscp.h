@@ -36,12 +36,15 @@ extern "C" {
 #endif
 
 /* libmscp.a is for x86-64 and 64-bit ARM, with numbers and calls as on Linux. For any machine there is mscp.c in its place,
- * a file that you compile with yours. A handle asks for it where libmscp.a couldn't be called: so the linker refuses that. */
+ * a file that you compile with yours. A handle asks for that where libmscp.a can't be called, so the linker refuses it there. */
 #if (defined(__x86_64__) || (defined(__aarch64__) && !defined(__AARCH64EB__))) && defined(__LP64__) && defined(__ELF__)
-#define MSCP_HERE ((void)0)
+#define MSCP_HERE() ((void)0)
 #else
-extern void mscp_is_for_any_machine(void);
-#define MSCP_HERE mscp_is_for_any_machine()
+#define MSCP_HERE() \
+    do { \
+        extern void mscp_is_for_any_machine(void); \
+        mscp_is_for_any_machine(); \
+    } while (0)
 #endif
 
 /* What a handle, and memory for what it is on, is aligned to, in bytes; and the bytes of a handle. Both are so on every
@@ -359,19 +362,19 @@ size_t mscp_port_align(void);
 MSCP_INLINE struct mscp mscp_over(void *memory, size_t length)
 {
     struct mscp handle = {memory, (uintptr_t)memory, length, MSCP_ROOM};
-    MSCP_HERE;
+    MSCP_HERE();
     return handle;
 }
 MSCP_INLINE struct mscp_host mscp_host_over(void *memory, size_t length)
 {
     struct mscp_host handle = {memory, (uintptr_t)memory, length, MSCP_HOST_ROOM};
-    MSCP_HERE;
+    MSCP_HERE();
     return handle;
 }
 MSCP_INLINE struct mscp_port mscp_port_over(void *memory, size_t length)
 {
     struct mscp_port handle = {memory, (uintptr_t)memory, length, MSCP_PORT_ROOM};
-    MSCP_HERE;
+    MSCP_HERE();
     return handle;
 }
 
@@ -477,8 +480,8 @@ int32_t mscp_port_restore_at(struct mscp_port *port, const uint8_t *bytes, size_
  * by a picker of enum mscp_picker. MSCP_DONE, or the first fault in this order: those of the memory (-11 to -15),
  * MSCP_BAD_PICKER, MSCP_MANY_UNITS, those of the first unit that has one (-21 to -24), MSCP_UNITS_FALL, MSCP_NO_UNITS,
  * those of the limits (-28 to -31). The controller is made on the stack, of which this takes up to 40 KiB, and is moved
- * into the memory. No call takes more, and no other one over 2 KiB, but for those that save and restore. The memory may
- * go at any time, without a call. */
+ * into the memory. No call takes more, and no other one over 2 KiB, but for those that save and restore. On s390x, where each
+ * function takes 160 bytes for itself, mscp.c may take 1 KiB more. The memory may go at any time, without a call. */
 MSCP_MUST_USE
 MSCP_INLINE int32_t mscp_init(struct mscp *mscp, const struct mscp_limits *limits, const struct mscp_unit *units,
                               size_t count, uint32_t picker)

@@ -117,9 +117,9 @@ class Call:
                 self.after.append(f"give_{header.structs[kind].short}({name}, {name}_room);")
 
     def length(self, name):
-        self.before += [f"u8 {name}_room[8];", f"s8(A({name}_room), *{name});"]
+        self.before.append(f"u8 {name}_room[8];")
         self.passed.append(f"A({name}_room)")
-        self.after.append(f"*{name} = (size_t)l8(A({name}_room));")
+        self.after += ["if (answer == MSCP_DONE)", f"    *{name} = (size_t)l8(A({name}_room));"]
 
     def single(self, struct, name):
         self.before.append(f"u8 {name}_room[LIES_{struct.short} ? 1 : {struct.size}];")

@@ -40,25 +40,27 @@ typedef u8 handles_are_known[sizeof(struct mscp) == MSCP_HEAD && sizeof(struct m
 #define LITTLE 0
 #endif
 
-/* The code's addresses have 64 bits, and are the machine's own. Its functions have room in memory that is aligned to 16. */
+/* The code's addresses have 64 bits, and are the machine's own. */
 #define A(pointer) ((u64)(uintptr_t)(pointer))
 #define P(address) ((u8 *)(uintptr_t)(address))
-/* A function with much room isn't built into another one, so that it gives its room back: so no call takes more of the stack
- * than mscp.h says. */
+
+/* What a function has in memory, which is aligned to 16. */
+#ifdef __GNUC__
+#define ROOM(name, bytes) __attribute__((aligned(16))) u8 name[bytes]
+#else
+#define ROOM(name, bytes) \
+    u64 name##_words[(bytes) / 8 + 2]; \
+    u8 *const name = P((A(name##_words) + 15) & ~15ull)
+#endif
+
+/* A function that has much of it isn't built into another one, so that it gives it back: no call takes more of the stack than
+ * mscp.h says. */
 #if defined(__GNUC__)
 #define APART __attribute__((noinline)) static
 #elif defined(_MSC_VER)
 #define APART __declspec(noinline) static
 #else
 #define APART static
-#endif
-
-#ifdef __GNUC__
-#define ROOM(name, bytes) __attribute__((aligned(16))) u8 name[bytes]
-#else
-#define ROOM(name, bytes) \
-    u64 name##_words[((bytes) + 15) / 8]; \
-    u8 *const name = P((A(name##_words) + 15) & ~15ull)
 #endif
 
 /* Where mscp.h asks for it. Of libmscp.a nobody has this. */

@@ -6,7 +6,6 @@ from .function import Function, beside, read_code
 from .values import I32, I64, WIDTHS, Value, constant, literal
 from .wasm import Refusal
 
-MOST = 118 # characters of a line, if it can be broken
 MUCH = 256 # bytes of a function's room, from which on it stands apart
 
 
@@ -100,20 +99,8 @@ def declarations(it, body):
         local = [f"v{place} = 0" for place, its in enumerate(it.kinds)
                  if its == kind and place >= len(it.takes) and f"v{place}" in said]
         temporary = [f"t{place}" for place, its in enumerate(it.temporaries) if its == kind and f"t{place}" in said]
-        lines += broken(WIDTHS[kind] + " ", local + temporary)
+        lines += [f"    {WIDTHS[kind]} {', '.join(local + temporary)};"] if local + temporary else []
     return lines + [f"    (void)v{place};" for place in range(len(it.takes)) if f"v{place}" not in said]
-
-
-def broken(first, words):
-    """A declaration of these, or none, on lines that aren't too long."""
-    lines, line = [], "    " + first
-    for place, word in enumerate(words):
-        piece = word + (";" if place == len(words) - 1 else ", ")
-        if len(line) + len(piece) > MOST:
-            lines.append(line.rstrip())
-            line = "        "
-        line += piece
-    return lines + [line] if words else []
 
 
 def constants(data):

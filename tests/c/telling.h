@@ -4,6 +4,7 @@
 #define TELLING_H
 #include "mscp.h"
 #include <stdio.h>
+#include <stdlib.h>
 #include <string.h>
 
 enum call {

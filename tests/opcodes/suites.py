@@ -166,8 +166,8 @@ def run(function, name, if_wrong, else_):
 
 
 def write():
-    """C that prints a line for each: what is tried, and whether it is right, or its wrong translation seen. With RIGHT defined it
-    has no wrong one."""
+    """C that prints a line for each: what is tried, and whether it is right, or its wrong translation seen. With RIGHT defined
+    it has no wrong one."""
     parts, runs = [], []
     for place, (suite, patch) in enumerate(wrongly()):
         parts.append(written(f"right_{place}_", suite, f"right_{place}"))
