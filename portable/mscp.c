@@ -33,11 +33,16 @@ typedef u8 handles_are_known[sizeof(struct mscp) == MSCP_HEAD && sizeof(struct m
 #define TRAP() abort()
 #endif
 
-/* Whether numbers lie in memory as the code has them, with the low byte first. MSCP_BYTES says that it isn't known. */
+/* In memory the code's numbers have the low byte first. LITTLE is whether the machine's have, and ORDERED the other form of a
+ * number of so many bits. Where neither is known, as MSCP_BYTES says, numbers are read and written byte by byte. */
 #if (defined(_MSC_VER) || (defined(__BYTE_ORDER__) && __BYTE_ORDER__ == __ORDER_LITTLE_ENDIAN__)) && !defined(MSCP_BYTES)
 #define LITTLE 1
+#define ORDERED(bits, number) (number)
 #else
 #define LITTLE 0
+#if defined(__GNUC__) && defined(__BYTE_ORDER__) && __BYTE_ORDER__ == __ORDER_BIG_ENDIAN__ && !defined(MSCP_BYTES)
+#define ORDERED(bits, number) __builtin_bswap##bits(number)
+#endif
 #endif
 
 /* The code's addresses have 64 bits, and are the machine's own. */
@@ -53,8 +58,8 @@ typedef u8 handles_are_known[sizeof(struct mscp) == MSCP_HEAD && sizeof(struct m
     u8 *const name = P((A(name##_words) + 15) & ~15ull)
 #endif
 
-/* A function that has much of it isn't built into another one, so that it gives it back: no call takes more of the stack than
- * mscp.h says. */
+/* A function that has much of it isn't built into another one, so that it gives it back: no call takes more of the stack
+ * than mscp.h says. */
 #if defined(__GNUC__)
 #define APART __attribute__((noinline)) static
 #elif defined(_MSC_VER)
@@ -67,13 +72,13 @@ typedef u8 handles_are_known[sizeof(struct mscp) == MSCP_HEAD && sizeof(struct m
 extern void mscp_is_for_any_machine(void);
 void mscp_is_for_any_machine(void) {}
 
-#if LITTLE
-static inline u32 l2(u64 a) { u16 v; memcpy(&v, P(a), 2); return v; }
+#ifdef ORDERED
+static inline u32 l2(u64 a) { u16 v; memcpy(&v, P(a), 2); return ORDERED(16, v); }
 #else
 static inline u32 l2(u64 a) { const u8 *p = P(a); return (u32)p[0] | (u32)p[1] << 8; }
 #endif
-#if LITTLE
-static inline u32 l4(u64 a) { u32 v; memcpy(&v, P(a), 4); return v; }
+#ifdef ORDERED
+static inline u32 l4(u64 a) { u32 v; memcpy(&v, P(a), 4); return ORDERED(32, v); }
 #else
 static inline u32 l4(u64 a)
 {
@@ -81,8 +86,8 @@ static inline u32 l4(u64 a)
     return (u32)p[0] | (u32)p[1] << 8 | (u32)p[2] << 16 | (u32)p[3] << 24;
 }
 #endif
-#if LITTLE
-static inline u64 l8(u64 a) { u64 v; memcpy(&v, P(a), 8); return v; }
+#ifdef ORDERED
+static inline u64 l8(u64 a) { u64 v; memcpy(&v, P(a), 8); return ORDERED(64, v); }
 #else
 static inline u64 l8(u64 a)
 {
@@ -91,13 +96,13 @@ static inline u64 l8(u64 a)
            (u64)p[6] << 48 | (u64)p[7] << 56;
 }
 #endif
-#if LITTLE
-static inline void s2(u64 a, u32 v) { const u16 low = (u16)v; memcpy(P(a), &low, 2); }
+#ifdef ORDERED
+static inline void s2(u64 a, u32 v) { const u16 low = ORDERED(16, (u16)v); memcpy(P(a), &low, 2); }
 #else
 static inline void s2(u64 a, u32 v) { u8 *p = P(a); p[0] = (u8)v; p[1] = (u8)(v >> 8); }
 #endif
-#if LITTLE
-static inline void s4(u64 a, u32 v) { memcpy(P(a), &v, 4); }
+#ifdef ORDERED
+static inline void s4(u64 a, u32 v) { v = ORDERED(32, v); memcpy(P(a), &v, 4); }
 #else
 static inline void s4(u64 a, u32 v)
 {
@@ -105,8 +110,8 @@ static inline void s4(u64 a, u32 v)
     p[0] = (u8)v; p[1] = (u8)(v >> 8); p[2] = (u8)(v >> 16); p[3] = (u8)(v >> 24);
 }
 #endif
-#if LITTLE
-static inline void s8(u64 a, u64 v) { memcpy(P(a), &v, 8); }
+#ifdef ORDERED
+static inline void s8(u64 a, u64 v) { v = ORDERED(64, v); memcpy(P(a), &v, 8); }
 #else
 static inline void s8(u64 a, u64 v)
 {

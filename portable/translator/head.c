@@ -33,11 +33,16 @@ typedef u8 handles_are_known[sizeof(struct mscp) == MSCP_HEAD && sizeof(struct m
 #define TRAP() abort()
 #endif
 
-/* Whether numbers lie in memory as the code has them, with the low byte first. MSCP_BYTES says that it isn't known. */
+/* In memory the code's numbers have the low byte first. LITTLE is whether the machine's have, and ORDERED the other form of a
+ * number of so many bits. Where neither is known, as MSCP_BYTES says, numbers are read and written byte by byte. */
 #if (defined(_MSC_VER) || (defined(__BYTE_ORDER__) && __BYTE_ORDER__ == __ORDER_LITTLE_ENDIAN__)) && !defined(MSCP_BYTES)
 #define LITTLE 1
+#define ORDERED(bits, number) (number)
 #else
 #define LITTLE 0
+#if defined(__GNUC__) && defined(__BYTE_ORDER__) && __BYTE_ORDER__ == __ORDER_BIG_ENDIAN__ && !defined(MSCP_BYTES)
+#define ORDERED(bits, number) __builtin_bswap##bits(number)
+#endif
 #endif
 
 /* The code's addresses have 64 bits, and are the machine's own. */
@@ -53,8 +58,8 @@ typedef u8 handles_are_known[sizeof(struct mscp) == MSCP_HEAD && sizeof(struct m
     u8 *const name = P((A(name##_words) + 15) & ~15ull)
 #endif
 
-/* A function that has much of it isn't built into another one, so that it gives it back: no call takes more of the stack than
- * mscp.h says. */
+/* A function that has much of it isn't built into another one, so that it gives it back: no call takes more of the stack
+ * than mscp.h says. */
 #if defined(__GNUC__)
 #define APART __attribute__((noinline)) static
 #elif defined(_MSC_VER)

@@ -1,13 +1,13 @@
 /* Paragraphs of mscp.c, of which it has those that it calls. Nothing includes this file. */
 
-#if LITTLE
-static inline u32 l2(u64 a) { u16 v; memcpy(&v, P(a), 2); return v; }
+#ifdef ORDERED
+static inline u32 l2(u64 a) { u16 v; memcpy(&v, P(a), 2); return ORDERED(16, v); }
 #else
 static inline u32 l2(u64 a) { const u8 *p = P(a); return (u32)p[0] | (u32)p[1] << 8; }
 #endif
 
-#if LITTLE
-static inline u32 l4(u64 a) { u32 v; memcpy(&v, P(a), 4); return v; }
+#ifdef ORDERED
+static inline u32 l4(u64 a) { u32 v; memcpy(&v, P(a), 4); return ORDERED(32, v); }
 #else
 static inline u32 l4(u64 a)
 {
@@ -16,8 +16,8 @@ static inline u32 l4(u64 a)
 }
 #endif
 
-#if LITTLE
-static inline u64 l8(u64 a) { u64 v; memcpy(&v, P(a), 8); return v; }
+#ifdef ORDERED
+static inline u64 l8(u64 a) { u64 v; memcpy(&v, P(a), 8); return ORDERED(64, v); }
 #else
 static inline u64 l8(u64 a)
 {
@@ -27,14 +27,14 @@ static inline u64 l8(u64 a)
 }
 #endif
 
-#if LITTLE
-static inline void s2(u64 a, u32 v) { const u16 low = (u16)v; memcpy(P(a), &low, 2); }
+#ifdef ORDERED
+static inline void s2(u64 a, u32 v) { const u16 low = ORDERED(16, (u16)v); memcpy(P(a), &low, 2); }
 #else
 static inline void s2(u64 a, u32 v) { u8 *p = P(a); p[0] = (u8)v; p[1] = (u8)(v >> 8); }
 #endif
 
-#if LITTLE
-static inline void s4(u64 a, u32 v) { memcpy(P(a), &v, 4); }
+#ifdef ORDERED
+static inline void s4(u64 a, u32 v) { v = ORDERED(32, v); memcpy(P(a), &v, 4); }
 #else
 static inline void s4(u64 a, u32 v)
 {
@@ -43,8 +43,8 @@ static inline void s4(u64 a, u32 v)
 }
 #endif
 
-#if LITTLE
-static inline void s8(u64 a, u64 v) { memcpy(P(a), &v, 8); }
+#ifdef ORDERED
+static inline void s8(u64 a, u64 v) { v = ORDERED(64, v); memcpy(P(a), &v, 8); }
 #else
 static inline void s8(u64 a, u64 v)
 {

@@ -202,7 +202,7 @@ static void work(void)
 }
 
 #ifdef __s390x__
-enum { MORE = 1024 };
+enum { MORE = 256 };
 #else
 enum { MORE = 0 };
 #endif
