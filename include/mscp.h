@@ -21,10 +21,6 @@
  * docs/FORMATS.md in the sources. */
 #ifndef MSCP_H
 #define MSCP_H
-#if !(defined(__x86_64__) || (defined(__aarch64__) && !defined(__AARCH64EB__))) || !defined(__LP64__) || \
-    !defined(__ELF__)
-#error "mscp.h: the library is for x86-64 and 64-bit ARM, with numbers and calls as on Linux, and for no other machine"
-#endif
 #include <stddef.h>
 #include <stdint.h>
 #ifdef __cplusplus
@@ -37,6 +33,32 @@ extern "C" {
 #endif
 #ifndef MSCP_INLINE
 #define MSCP_INLINE static inline /* shared.c makes calls of libmscp.so of these */
+#endif
+
+/* libmscp.a is for x86-64 and 64-bit ARM, with numbers and calls as on Linux. For any machine there is mscp.c in its place,
+ * a file that you compile with yours. A handle asks for that where libmscp.a can't be called, so the linker refuses it there. */
+#if (defined(__x86_64__) || (defined(__aarch64__) && !defined(__AARCH64EB__))) && defined(__LP64__) && defined(__ELF__)
+#define MSCP_HERE() ((void)0)
+#else
+#define MSCP_HERE() \
+    do { \
+        extern void mscp_is_for_any_machine(void); \
+        mscp_is_for_any_machine(); \
+    } while (0)
+#endif
+
+/* What a handle, and memory for what it is on, is aligned to, in bytes; and the bytes of a handle. Both are so on every
+ * machine: where 64 bits would be aligned to fewer, MSCP_ALIGNED stands before what is to be aligned. */
+#define MSCP_ALIGN 8u
+#define MSCP_HEAD 32u
+#if defined(__GNUC__)
+#define MSCP_ALIGNED __attribute__((aligned(8)))
+#elif defined(_MSC_VER)
+#define MSCP_ALIGNED __declspec(align(8))
+#elif defined(__cplusplus)
+#define MSCP_ALIGNED alignas(8)
+#else
+#define MSCP_ALIGNED
 #endif
 
 /* The version of this header, 0.5.0: a byte for each of the three numbers. Where mscp_version answers another number
@@ -240,21 +262,21 @@ enum mscp_outcome {
 /* A handle on memory of yours: where it is, and what is in it. Nothing in it is for you, save where the memory moves:
  * see mscp_moved. */
 struct mscp {
-    void *at;
-    uintptr_t address;
-    size_t length;
+    MSCP_ALIGNED void *at;
+    MSCP_ALIGNED uint64_t address;
+    uint64_t length;
     uint64_t mark;
 };
 struct mscp_host {
-    void *at;
-    uintptr_t address;
-    size_t length;
+    MSCP_ALIGNED void *at;
+    MSCP_ALIGNED uint64_t address;
+    uint64_t length;
     uint64_t mark;
 };
 struct mscp_port {
-    void *at;
-    uintptr_t address;
-    size_t length;
+    MSCP_ALIGNED void *at;
+    MSCP_ALIGNED uint64_t address;
+    uint64_t length;
     uint64_t mark;
 };
 
@@ -348,13 +370,10 @@ size_t mscp_port_size(void);
 size_t mscp_port_align(void);
 
 /* At least those sizes, for memory that is there from the start, as
- * static uint64_t memory[(MSCP_HEAD + MSCP_SIZE) / sizeof(uint64_t)]; */
+ * static MSCP_ALIGNED uint64_t memory[(MSCP_HEAD + MSCP_SIZE) / sizeof(uint64_t)]; */
 #define MSCP_SIZE 15248u
 #define MSCP_HOST_SIZE 1056u
 #define MSCP_PORT_SIZE 17016u
-
-/* The bytes of a handle, at the head of the memory. */
-#define MSCP_HEAD sizeof(struct mscp)
 
 /* Marks of handles on memory where nothing was made yet. */
 #define MSCP_ROOM UINT64_C(0x4D534350524F4F4D)
@@ -365,16 +384,19 @@ size_t mscp_port_align(void);
 MSCP_INLINE struct mscp mscp_over(void *memory, size_t length)
 {
     struct mscp handle = {memory, (uintptr_t)memory, length, MSCP_ROOM};
+    MSCP_HERE();
     return handle;
 }
 MSCP_INLINE struct mscp_host mscp_host_over(void *memory, size_t length)
 {
     struct mscp_host handle = {memory, (uintptr_t)memory, length, MSCP_HOST_ROOM};
+    MSCP_HERE();
     return handle;
 }
 MSCP_INLINE struct mscp_port mscp_port_over(void *memory, size_t length)
 {
     struct mscp_port handle = {memory, (uintptr_t)memory, length, MSCP_PORT_ROOM};
+    MSCP_HERE();
     return handle;
 }
 
@@ -389,7 +411,7 @@ MSCP_INLINE struct mscp *mscp_in_memory(void *memory, size_t length)
     static struct mscp small = {NULL, 4096, 0, MSCP_ROOM};
     if (memory == NULL)
         return &null;
-    if ((uintptr_t)memory % sizeof(uint64_t) != 0)
+    if ((uintptr_t)memory % MSCP_ALIGN != 0)
         return &misaligned;
     if (length < MSCP_HEAD)
         return &small;
@@ -403,7 +425,7 @@ MSCP_INLINE struct mscp_host *mscp_host_in_memory(void *memory, size_t length)
     static struct mscp_host small = {NULL, 4096, 0, MSCP_HOST_ROOM};
     if (memory == NULL)
         return &null;
-    if ((uintptr_t)memory % sizeof(uint64_t) != 0)
+    if ((uintptr_t)memory % MSCP_ALIGN != 0)
         return &misaligned;
     if (length < MSCP_HEAD)
         return &small;
@@ -417,7 +439,7 @@ MSCP_INLINE struct mscp_port *mscp_port_in_memory(void *memory, size_t length)
     static struct mscp_port small = {NULL, 4096, 0, MSCP_PORT_ROOM};
     if (memory == NULL)
         return &null;
-    if ((uintptr_t)memory % sizeof(uint64_t) != 0)
+    if ((uintptr_t)memory % MSCP_ALIGN != 0)
         return &misaligned;
     if (length < MSCP_HEAD)
         return &small;
@@ -483,8 +505,8 @@ int32_t mscp_show_packet_at(const uint8_t *word, size_t length, uint8_t *bytes, 
  * by a picker of enum mscp_picker. MSCP_DONE, or the first fault in this order: those of the memory (-11 to -15),
  * MSCP_BAD_PICKER, MSCP_MANY_UNITS, those of the first unit that has one (-21 to -24), MSCP_UNITS_FALL, MSCP_NO_UNITS,
  * those of the limits (-28 to -31). The controller is made on the stack, of which this takes up to 40 KiB, and is moved
- * into the memory. No call takes more, and no other one over 2 KiB, but for those that save and restore. The memory may
- * go at any time, without a call. */
+ * into the memory. No call takes more, and no other one over 2 KiB, but for those that save and restore. On s390x, where each
+ * function takes 160 bytes for itself, mscp.c takes up to 256 bytes more. The memory may go at any time, without a call. */
 MSCP_MUST_USE
 MSCP_INLINE int32_t mscp_init(struct mscp *mscp, const struct mscp_limits *limits, const struct mscp_unit *units,
                               size_t count, uint32_t picker)

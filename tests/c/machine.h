@@ -78,9 +78,9 @@ static inline uint32_t move(const struct mscp_action *action)
 /* Does what an action is about memory, if all of that is there. */
 static inline uint32_t reach(const struct mscp_action *action)
 {
-    uint8_t *at = machine.memory + action->address;
     if (!is_there(action->address, action->count))
         return MSCP_OUTCOME_MISSING;
+    uint8_t *at = machine.memory + action->address;
     switch (action->kind) {
     case MSCP_ACTION_WRITE: memcpy(at, action->bytes, action->count); break;
     case MSCP_ACTION_FETCH:

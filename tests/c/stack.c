@@ -215,7 +215,13 @@ static void work(void)
     measure(PORT_RESTORE);
 }
 
-/* The most that mscp.h says of a call. */
+#ifdef __s390x__
+enum { MORE = 256 };
+#else
+enum { MORE = 0 };
+#endif
+
+/* The most that mscp.h says of a call, but for what one may take more on a machine of much stack. */
 static size_t most(int call)
 {
     switch (call) {
@@ -245,7 +251,7 @@ int main(void)
     work();
     for (int call = SEND; call < CALLS; call++) {
         printf("mscp_%s %zu\n", NAMES[call], deepest[call]);
-        wrong |= deepest[call] > most(call);
+        wrong |= deepest[call] > most(call) + MORE;
     }
     return wrong;
 }

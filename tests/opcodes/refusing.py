@@ -1,0 +1,76 @@
+"""Modules that can't be told in C, and what is said of each."""
+
+from translator.library import library
+from translator.opcodes import TABLE
+from translator.program import Program
+from translator.wasm import Module, Refusal
+
+from .assembling import module, section
+from .control import CASES, WRONG
+from .meanings import rows
+
+BASES = 0x100000, 0x300000
+
+
+def function(text, takes=""):
+    return [("mscp_it", takes, "", "", text)]
+
+
+def made(functions):
+    return [module(functions, base) for base in BASES]
+
+
+def spoiled(old, new):
+    """A module without an instruction, in which some bytes are others."""
+    return [it.replace(old, new, 1) for it in made(function("nop"))]
+
+
+# What a module has, its two forms, and what is said of it.
+REFUSED = (
+    ("floating point", made(function("f32.add drop")), "f32.add"),
+    ("a longer number of an instruction", made(function("i32.trunc_sat_f32_s drop")), "i32.trunc_sat_f32_s"),
+    ("a call by a pointer", made(function("call_indirect")), "call_indirect"),
+    ("an if", made(function("local.get 0 if void end", "i")), "if"),
+    ("growing memory", made(function("i64.const 1 memory.grow drop")), "memory.grow"),
+    ("a function that calls itself", made(function("call 0")), "a function calls itself"),
+    ("a stack's pointer that is an address", made(function("global.get 0 i32.load 0 drop")), "the stack's pointer"),
+    ("a stack's pointer that is moved in another way", made(function("global.get 0 i64.const 8 i64.and drop")), "i64.and"),
+    ("an address of no constant", made(function("i64.const DATA+99 drop")), "no constant"),
+    ("an import", [it + section(2, []) for it in made(function("nop"))], "an import"),
+    ("a table", [it + section(4, []) for it in made(function("nop"))], "a table"),
+    ("short addresses", spoiled(b"\x05\x03\x01\x04", b"\x05\x03\x01\x00"), "64 bits"),
+    ("no module", [b"something else"] * 2, "no module"),
+    ("two modules of other constants", [made(function("nop"))[0], spoiled(b"\x40\x41", b"\x40\x42")[1]], "other constants"),
+    ("two modules of other code", [made(function("nop"))[0], made(function("nop nop"))[1]], "differ"),
+)
+
+
+def is_refused(forms, said):
+    try:
+        Program(*[Module(it) for it in forms])
+    except Refusal as it:
+        return said in str(it)
+    return False
+
+
+def header_that_differs_is_refused():
+    try:
+        library("uint32_t mscp_other(void);", *made(function("nop")))
+    except Refusal as it:
+        return "w_mscp_it, w_mscp_other" in str(it)
+    return False
+
+
+def each_instruction_is_tried():
+    """Each of the table is tried, with its number by the standard, and has a wrong translation."""
+    numeric = {number: name for number, name, *_ in rows()}
+    others = {opcode.name for number, opcode in TABLE.items() if number not in numeric}
+    same = all(TABLE[number].name == name for number, name in numeric.items())
+    return same and others == {case[0] for case in CASES} & others == set(WRONG) & others
+
+
+def lines():
+    yield f"each instruction is tried: {'passed' if each_instruction_is_tried() else 'FAILED'}"
+    for name, forms, said in REFUSED:
+        yield f"{name} is refused: {'passed' if is_refused(forms, said) else 'FAILED'}"
+    yield f"a header that differs is refused: {'passed' if header_that_differs_is_refused() else 'FAILED'}"
