@@ -23,7 +23,7 @@ struct port {
     struct port_bus bus;
     struct mscp_port *mscp;
     uint8_t block[MSCP_BLOCK]; /* on its way between a volume and the host's memory */
-    uint64_t memory[(MSCP_HEAD + MSCP_PORT_SIZE) / sizeof(uint64_t)];
+    MSCP_ALIGNED uint64_t memory[(MSCP_HEAD + MSCP_PORT_SIZE) / sizeof(uint64_t)];
 };
 
 /* Makes a port of these units in rising order of their numbers, without volumes. A status of mscp_port_init. */

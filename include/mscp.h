@@ -505,8 +505,9 @@ int32_t mscp_show_packet_at(const uint8_t *word, size_t length, uint8_t *bytes, 
  * by a picker of enum mscp_picker. MSCP_DONE, or the first fault in this order: those of the memory (-11 to -15),
  * MSCP_BAD_PICKER, MSCP_MANY_UNITS, those of the first unit that has one (-21 to -24), MSCP_UNITS_FALL, MSCP_NO_UNITS,
  * those of the limits (-28 to -31). The controller is made on the stack, of which this takes up to 40 KiB, and is moved
- * into the memory. No call takes more, and no other one over 2 KiB, but for those that save and restore. On s390x, where each
- * function takes 160 bytes for itself, mscp.c takes up to 256 bytes more. The memory may go at any time, without a call. */
+ * into the memory. No call takes more, and no other one over 2 KiB, but for those that save and restore. Where each
+ * function takes much for itself, as on s390x and 32-bit x86, mscp.c takes up to 256 bytes more. The memory may go at any
+ * time, without a call. */
 MSCP_MUST_USE
 MSCP_INLINE int32_t mscp_init(struct mscp *mscp, const struct mscp_limits *limits, const struct mscp_unit *units,
                               size_t count, uint32_t picker)

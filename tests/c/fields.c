@@ -14,8 +14,8 @@ static const struct mscp_limits LIMITS = {
 };
 static const uint32_t FIGURE = 3355443202u; /* the budget, and the two blocks of the command's own */
 
-static uint64_t memory[(MSCP_HEAD + MSCP_SIZE) / sizeof(uint64_t)];
-static uint64_t host_memory[(MSCP_HEAD + MSCP_HOST_SIZE) / sizeof(uint64_t)];
+static MSCP_ALIGNED uint64_t memory[(MSCP_HEAD + MSCP_SIZE) / sizeof(uint64_t)];
+static MSCP_ALIGNED uint64_t host_memory[(MSCP_HEAD + MSCP_HOST_SIZE) / sizeof(uint64_t)];
 static struct mscp *mscp;
 static struct mscp_host *host;
 static uint32_t via; /* the connection of all calls */

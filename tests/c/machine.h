@@ -8,7 +8,7 @@ enum { MEMORY = 1 << 16, UNITS = 4, BLOCKS = 64, HOST_CREDITS = 16, MOST_ACTIONS
 
 static struct {
     struct mscp_port *port;
-    uint64_t rooms[2][(MSCP_HEAD + MSCP_PORT_SIZE) / sizeof(uint64_t)]; /* the port lies in one of them */
+    MSCP_ALIGNED uint64_t rooms[2][(MSCP_HEAD + MSCP_PORT_SIZE) / sizeof(uint64_t)]; /* the port lies in one of them */
     bool moves; /* before each action the port goes to the other room, as to a file and back */
     bool saves; /* and so it does by the bytes that it is saved as */
     uint8_t memory[MEMORY];

@@ -14,7 +14,7 @@ static int32_t init(struct mscp *mscp)
 /* What a handle says of its memory, and whose it is. */
 static void words_of_handles(void)
 {
-    static uint64_t memory[8];
+    static MSCP_ALIGNED uint64_t memory[8];
     struct mscp over = mscp_over(memory, 40), *head = mscp_in_memory(memory, sizeof memory);
     is("a handle", over.at == memory && over.address == (uintptr_t)memory && over.length == 40, 1);
     is("its mark", over.mark == MSCP_ROOM, 1);
@@ -25,6 +25,7 @@ static void words_of_handles(void)
     is("its mark", host.mark == MSCP_HOST_ROOM, 1);
     is("a host's head", top->at == memory + 4 && top->address == (uintptr_t)(memory + 4) && top->length == 32, 1);
     is("its mark", top->mark == MSCP_HOST_ROOM, 1);
+    is("the bytes of a handle", sizeof over == MSCP_HEAD && sizeof host == MSCP_HEAD && sizeof(struct mscp_port) == MSCP_HEAD, 1);
 }
 
 /* An init judges what the handle says, with the handle at the head of the memory and beside it. */
@@ -58,7 +59,7 @@ static void inits_of_no_room(void)
         is("a handle alone", init(mscp_in_memory(memory, length)), MSCP_SMALL);
         is("a host's alone", mscp_host_init(mscp_host_in_memory(memory, length), 4), MSCP_SMALL);
     }
-    is("aligned to 8", mscp_align() == 8 && mscp_host_align() == 8, 1);
+    is("aligned", mscp_align() == MSCP_ALIGN && mscp_host_align() == MSCP_ALIGN && mscp_port_align() == MSCP_ALIGN, 1);
     free(memory);
 }
 

@@ -215,13 +215,13 @@ static void work(void)
     measure(PORT_RESTORE);
 }
 
-#ifdef __s390x__
+#if defined(__s390x__) || defined(__i386__)
 enum { MORE = 256 };
 #else
 enum { MORE = 0 };
 #endif
 
-/* The most that mscp.h says of a call, but for what one may take more on a machine of much stack. */
+/* The most that mscp.h says of a call, but for what functions take for themselves on some machines. */
 static size_t most(int call)
 {
     switch (call) {

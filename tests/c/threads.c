@@ -67,7 +67,7 @@ int main(void)
 {
     static const struct mscp_unit UNIT = {1, 1000, 0, 1, 0, 10, 2, 1};
     static const struct mscp_limits LIMITS = {1, 16, CREDITS, 0, 8, 60};
-    static uint64_t memory[(MSCP_HEAD + MSCP_SIZE) / sizeof(uint64_t)];
+    static MSCP_ALIGNED uint64_t memory[(MSCP_HEAD + MSCP_SIZE) / sizeof(uint64_t)];
     pthread_t threads[THREADS];
     uint32_t numbers[THREADS];
     mscp = mscp_in_memory(memory, sizeof memory);
