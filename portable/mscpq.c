@@ -48,16 +48,25 @@ static int put(uint8_t *text, size_t count)
     return written == count && fflush(stdout) == 0 ? 0 : say("cannot write", 3);
 }
 
+/* Room for so many bytes, or where there isn't as much for half as many, and so on. What is never touched costs little. */
+static uint8_t *take_room(size_t *room)
+{
+    uint8_t *bytes = malloc(*room);
+    while (bytes == NULL && *room > 4096)
+        bytes = malloc(*room /= 2);
+    return bytes;
+}
+
 /* Runs a script, in more and more room until its report fits. */
 static int run_script(const uint8_t *script, size_t length)
 {
     static const char *const CAUSES[] = {"size", "lines", "long", "byte", "word", "count", "number",
                                          "hex", "status", "unit", "config", "header", "events"};
-    size_t room = 65536 + 16 * length, count = 0;
+    size_t room = 65536 + 128 * length, count = 0, had = 0;
     uint32_t line = 0;
     for (;;) {
-        uint8_t *text = malloc(room);
-        int32_t status = text == NULL ? MSCP_SMALL : mscp_run_script(script, length, text, room, &count, &line);
+        uint8_t *text = take_room(&room);
+        int32_t status = text == NULL || room <= had ? MSCP_SMALL : mscp_run_script(script, length, text, room, &count, &line);
         if (status == MSCP_DONE)
             return put(text, count);
         free(text);
@@ -65,8 +74,9 @@ static int run_script(const uint8_t *script, size_t length)
             fprintf(stderr, "line %lu: %s\n", (unsigned long)line, CAUSES[MSCP_SCRIPT_SIZE - status]);
             return 1;
         }
-        if (text == NULL || room > SIZE_MAX / 8)
+        if (text == NULL || room <= had || room > SIZE_MAX / 8)
             return say("out of memory", 3);
+        had = room;
         room *= 8;
     }
 }
