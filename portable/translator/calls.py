@@ -8,7 +8,7 @@ import re
 from .wasm import Refusal
 
 WIDTHS = {"uint8_t": 1, "uint16_t": 2, "uint32_t": 4, "uint64_t": 8, "size_t": 8, "void *": 8}
-# With which answers a number of this kind is told: how many bytes there are where all is done, and the line of a script's fault.
+# With which answers a number of this kind is told: how many bytes there are if all is done, and the line of a script's fault.
 TOLD = {"size_t": "answer == MSCP_DONE", "uint32_t": "answer <= MSCP_SCRIPT_SIZE && answer >= MSCP_SCRIPT_EVENTS"}
 STRUCT = re.compile(r"^struct (\w+) \{\n(.*?)^\};", re.M | re.S)
 FIELD = re.compile(r"^ +(?:MSCP_ALIGNED )?(void \*|\w+ )(\w+)(?:\[(\w+)\])?;", re.M)

@@ -30,7 +30,7 @@ def read_constants(module, other):
 
 class Program:
     """A library that was linked twice, so that its constants lie at two places: a number that differs is an address of them.
-    Where one of the constants is such an address, it is loaded as its place: of a list of them, by loads from its first one on."""
+    Where one of the constants is such an address, its place is loaded: of a list of them, by loads from its first one on."""
 
     def __init__(self, module, other):
         self.module, self.other = module, other
