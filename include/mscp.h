@@ -105,7 +105,7 @@ enum mscp_status {
     MSCP_NO_HANDLE = -12,   /* an init of what is no handle */
     MSCP_NO_MEMORY = -13,   /* an init: the memory is NULL */
     MSCP_MISALIGNED = -14,  /* an init: its address isn't a multiple of the alignment */
-    MSCP_SMALL = -15,       /* an init: it has fewer bytes than the size; a save: fewer than what is saved has */
+    MSCP_SMALL = -15,       /* it has fewer bytes than what is to be made, saved or written there takes */
 
     MSCP_BAD_PICKER = -20,    /* mscp_init: no enum mscp_picker */
     MSCP_ZERO_TRACK = -21,    /* the first unit that is refused has a track of no blocks */
@@ -142,7 +142,29 @@ enum mscp_status {
     MSCP_SAVED_ENDS = -51,    /* an end without an endcode */
     MSCP_SAVED_BEGUN = -52,   /* that a command is begun which doesn't wait, or may not be served */
     MSCP_SAVED_PICKER = -53,  /* no enum mscp_picker */
-    MSCP_SAVED_FORM = -54     /* they say what may be, but not as it is saved */
+    MSCP_SAVED_FORM = -54,    /* they say what may be, but not as it is saved */
+    MSCP_SAVED_POLL = -55,    /* a poll in flight that isn't outstanding, or that is about nobody */
+    MSCP_SAVED_SIZE = -56,    /* what a port has in hand has a size that nothing in hand has */
+
+    MSCP_SCRIPT_SIZE = -60,   /* mscp_run_script: the script has over 16777216 bytes */
+    MSCP_SCRIPT_LINES = -61,  /* it is line 1000001 */
+    MSCP_SCRIPT_LONG = -62,   /* the line has over 200 bytes */
+    MSCP_SCRIPT_BYTE = -63,   /* a byte that is neither a space nor a printed ASCII character */
+    MSCP_SCRIPT_WORD = -64,   /* its first word isn't one that may stand there */
+    MSCP_SCRIPT_COUNT = -65,  /* it has too few or too many words */
+    MSCP_SCRIPT_NUMBER = -66, /* a number that isn't one of 1 to 10 digits, or out of its range */
+    MSCP_SCRIPT_HEX = -67,    /* digits that aren't hexadecimal, or not as many as there may be */
+    MSCP_SCRIPT_STATUS = -68, /* a bad block's status of low five bits 0 to 4 */
+    MSCP_SCRIPT_UNIT = -69,   /* the unit is refused */
+    MSCP_SCRIPT_CONFIG = -70, /* the limits are refused */
+    MSCP_SCRIPT_HEADER = -71, /* the script ends before its header does */
+    MSCP_SCRIPT_EVENTS = -72, /* the line brings the events over 1000000 */
+
+    MSCP_WORD_HEX = -73,   /* mscp_show_packet: the word isn't an even number of hexadecimal digits */
+    MSCP_WORD_SHORT = -74, /* a message of under 12 bytes */
+    MSCP_WORD_LONG = -75,  /* one of over 64 */
+    MSCP_WORD_CODE = -76,  /* an end of no endcode */
+    MSCP_WORD_LENGTH = -77 /* an end that is shorter than its endcode says */
 };
 
 /* By which connection a host talks to the controller. Each has its own credits, ends and reference numbers. */
@@ -451,7 +473,7 @@ MSCP_INLINE struct mscp_port *mscp_port_moved(void *memory)
     return handle;
 }
 
-/* The library's own form of fourteen calls: their pointer to a list or to bytes is never NULL. In C call those without
+/* The library's own form of sixteen calls: their pointer to a list or to bytes is never NULL. In C call those without
  * _at. */
 int32_t mscp_init_at(struct mscp *mscp, const struct mscp_limits *limits, const struct mscp_unit *units, size_t count,
                      uint32_t picker);
@@ -471,6 +493,9 @@ int32_t mscp_port_init_at(struct mscp_port *port, const struct mscp_limits *limi
 int32_t mscp_port_was_read_at(struct mscp_port *port, const uint8_t *bytes, size_t length);
 int32_t mscp_port_save_at(const struct mscp_port *port, uint8_t *bytes, size_t room, size_t *length);
 int32_t mscp_port_restore_at(struct mscp_port *port, const uint8_t *bytes, size_t length);
+int32_t mscp_run_script_at(const uint8_t *script, size_t length, uint8_t *bytes, size_t room, size_t *count,
+                           uint32_t *line);
+int32_t mscp_show_packet_at(const uint8_t *word, size_t length, uint8_t *bytes, size_t room, size_t *count);
 
 /* ---- the controller. Each call but mscp_init and mscp_restore answers MSCP_NOT_MADE where there is none. Then each of
  * a connection answers MSCP_BAD_CONNECTION where its number is no enum mscp_connection, and nothing changes. A second
@@ -629,8 +654,8 @@ MSCP_INLINE int32_t mscp_host_save(const struct mscp_host *host, uint8_t *bytes,
 }
 
 /* Makes the host that was saved, in the handle's memory. MSCP_DONE, or the first fault of those of the memory (-11 to
- * -15) and MSCP_SAVED_LENGTH, _MAGIC, _VERSION, _LIMITS, _CREDITS, _DOUBLED and _FORM. This takes up to 6 KiB of the
- * stack, and mscp_host_save up to 3. */
+ * -15) and MSCP_SAVED_LENGTH, _MAGIC, _VERSION, _LIMITS, _CREDITS, _DOUBLED, _POLL and _FORM. This takes up to 6 KiB
+ * of the stack, and mscp_host_save up to 3. */
 MSCP_MUST_USE
 MSCP_INLINE int32_t mscp_host_restore(struct mscp_host *host, const uint8_t *bytes, size_t length)
 {
@@ -712,14 +737,38 @@ MSCP_INLINE int32_t mscp_port_save(const struct mscp_port *port, uint8_t *bytes,
 }
 
 /* Makes the port that was saved, in the handle's memory: it goes on as it would have there. MSCP_DONE, or the first fault
- * of those of the memory (-11 to -15) and those of the bytes (-40 to -54), which may be those of its controller's. Bytes
- * of a stranger make a port with which every call is safe, or none. This takes up to 40 KiB of the stack, and
- * mscp_port_save up to 28. */
+ * of those of the memory (-11 to -15) and those of the bytes (-40 to -54 and MSCP_SAVED_SIZE), which may be those of its
+ * controller's. Bytes of a stranger make a port with which every call is safe, and which moves only blocks that its units
+ * have, or none. This takes up to 40 KiB of the stack, and mscp_port_save up to 28. */
 MSCP_MUST_USE
 MSCP_INLINE int32_t mscp_port_restore(struct mscp_port *port, const uint8_t *bytes, size_t length)
 {
     const uint8_t none = 0;
     return mscp_port_restore_at(port, length == 0 ? &none : bytes, length);
+}
+
+/* ---- scripts. docs/FORMATS.md says what stands in one, and what its report has. */
+
+/* Runs a script of so many bytes through a controller of its own, as the program mscpq does, and writes the report to the
+ * front of the room, of `*count` bytes. MSCP_DONE; MSCP_SMALL, where the room has fewer than twice as many bytes as the
+ * report; or MSCP_SCRIPT_SIZE to _EVENTS, what is wrong in line `*line`, the first in which something is.
+ * This takes up to 48 KiB of the stack. */
+MSCP_MUST_USE
+MSCP_INLINE int32_t mscp_run_script(const uint8_t *script, size_t length, uint8_t *bytes, size_t room, size_t *count,
+                                    uint32_t *line)
+{
+    uint8_t none = 0;
+    return mscp_run_script_at(length == 0 ? &none : script, length, room == 0 ? &none : bytes, room, count, line);
+}
+
+/* Writes what a message says, which a word of so many bytes is the hexadecimal digits of, as `mscpq packet` does: a line of
+ * `*count` bytes at the front of the room. MSCP_DONE; MSCP_SMALL, where the room has fewer than twice as many bytes as the
+ * line; or MSCP_WORD_HEX to _LENGTH. */
+MSCP_MUST_USE
+MSCP_INLINE int32_t mscp_show_packet(const uint8_t *word, size_t length, uint8_t *bytes, size_t room, size_t *count)
+{
+    uint8_t none = 0;
+    return mscp_show_packet_at(length == 0 ? &none : word, length, room == 0 ? &none : bytes, room, count);
 }
 
 /* ---- statuses as texts */
@@ -787,6 +836,26 @@ MSCP_INLINE const char *mscp_status_text(int64_t status)
     case MSCP_SAVED_BEGUN: return "a saved command that may not be begun";
     case MSCP_SAVED_PICKER: return "no picker of the saved number";
     case MSCP_SAVED_FORM: return "bytes that nothing is saved as";
+    case MSCP_SAVED_POLL: return "a saved poll about nobody";
+    case MSCP_SAVED_SIZE: return "a saved port with a size that none has";
+    case MSCP_SCRIPT_SIZE: return "a script of over 16777216 bytes";
+    case MSCP_SCRIPT_LINES: return "over 1000000 lines";
+    case MSCP_SCRIPT_LONG: return "a line of over 200 bytes";
+    case MSCP_SCRIPT_BYTE: return "a byte that may not stand in a line";
+    case MSCP_SCRIPT_WORD: return "a first word that may not stand there";
+    case MSCP_SCRIPT_COUNT: return "too few or too many words";
+    case MSCP_SCRIPT_NUMBER: return "a number that isn't one, or out of its range";
+    case MSCP_SCRIPT_HEX: return "no hexadecimal digits, or not as many as may be";
+    case MSCP_SCRIPT_STATUS: return "no status of a bad block";
+    case MSCP_SCRIPT_UNIT: return "a unit that is refused";
+    case MSCP_SCRIPT_CONFIG: return "limits that are refused";
+    case MSCP_SCRIPT_HEADER: return "a script that ends before its header";
+    case MSCP_SCRIPT_EVENTS: return "over 1000000 events";
+    case MSCP_WORD_HEX: return "no even number of hexadecimal digits";
+    case MSCP_WORD_SHORT: return "a packet of under 12 bytes";
+    case MSCP_WORD_LONG: return "a packet of over 64 bytes";
+    case MSCP_WORD_CODE: return "an end of no endcode";
+    case MSCP_WORD_LENGTH: return "an end that is too short";
     default: return "unknown status";
     }
 }

@@ -6,16 +6,20 @@ import { commandLine, configOfForm, fillCommands, hostWord, randomRead, showConf
 import { readLink, writeLink } from './link.js';
 import { Library } from './memory.js';
 import { referenceOf } from './messages.js';
-import { play, stateAt } from './play.js';
-import { Fault, headerText, readScript } from './script.js';
+import { play, reportText, stateAt } from './play.js';
+import { Fault, packetText, runScript } from './program.js';
+import { headerText, readScript } from './script.js';
 import { say, show } from './view.js';
 
-/** @typedef {{text: string, picker: string, at: number, played: import('./play.js').Play, header: number}} Page */
+/** @typedef {{text: string, picker: string, at: number, played: import('./play.js').Play, report: string,
+ *   header: number}} Page */
 
 const TICK = 600; // milliseconds between moments that run
 const FIRST_EXAMPLE = 'six_figures';
 
+// One for the controller that is shown, and one for the program.
 const library = await Library.load(byId('module').textContent);
+const program = await Library.load(byId('module').textContent);
 /** @type {Page} */
 let page;
 /** @type {number | undefined} */
@@ -24,10 +28,14 @@ let ticking;
 /** Plays a script, and shows it up to a moment: its end where that is null. A fault changes nothing. */
 function playText(/** @type {string} */ text, /** @type {string} */ picker, /** @type {number | null} */ at) {
     try {
+        const report = runScript(program, text);
         const script = readScript(text);
         const played = play(library, script, picker);
         const end = played.moments.length;
-        page = { text, picker, at: Math.min(at ?? end, end), played, header: script.header };
+        page = {
+            text, picker, at: Math.min(at ?? end, end), played, header: script.header,
+            report: picker === 'sweep' ? report : reportText(played),
+        };
         byId('script').value = text;
         showConfig(script.config, picker);
         byId('reference').value = freshReference();
@@ -48,8 +56,8 @@ function freshReference() {
 }
 
 function refresh() {
-    const { played, at, text, picker } = page;
-    show(played, at, { goTo, actOn });
+    const { played, report, at, text, picker } = page;
+    show(played, report, at, { goTo, actOn, textOf: (digits) => packetText(program, digits) });
     const hash = `#${writeLink({ script: text, picker, at: at === played.moments.length ? null : at })}`;
     history.replaceState(null, '', hash);
     byId('link').value = location.href;

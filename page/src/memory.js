@@ -5,7 +5,7 @@
  * @typedef {Record<string, any>} Exports
  */
 
-const PAGES = 2; // of 64 KiB: more than all that lies behind the module's own data
+const PAGE = 65536; // bytes by which memory grows
 
 /** @param {string} text base 64 @returns {Uint8Array} */
 function decodeBase64(text) {
@@ -26,7 +26,6 @@ export class Library {
     /** @param {Exports} exports */
     constructor(exports) {
         this.exports = exports;
-        growMemory(exports.memory, PAGES);
         this.base = Number(exports.__heap_base.value);
         this.top = this.base;
     }
@@ -46,6 +45,8 @@ export class Library {
     take(length) {
         const at = (this.top + 15) & ~15;
         this.top = at + length;
+        const lacking = this.top - this.exports.memory.buffer.byteLength;
+        if (lacking > 0) growMemory(this.exports.memory, Math.ceil(lacking / PAGE));
         new Uint8Array(this.exports.memory.buffer, at, length).fill(0);
         return at;
     }

@@ -1,7 +1,7 @@
 // A script played on the library, event by event: what each event prints, and all that is shown after it.
 
 import { Controller, STATUS } from './controller.js';
-import { hexOf, packetText, statusText } from './messages.js';
+import { hexOf, statusText } from './messages.js';
 import { cylinderBlocks, freshHeads, leave, moveHead, partsOf, queue, serve, sumOf } from './model.js';
 
 /**
@@ -13,8 +13,8 @@ import { cylinderBlocks, freshHeads, leave, moveHead, partsOf, queue, serve, sum
  * @typedef {{waiting: Waiting[], figures: Figure[], holders: import('./controller.js').Holder[][],
  *   heads: Record<number, import('./model.js').Head>, online: Record<number, boolean>, balance: number[],
  *   untaken: number[], steps: number, seeks: number, agrees: boolean}} State
- * What happened in a moment: the lines of the report, and the bytes that were sent or taken with their text.
- * @typedef {{event: Event, report: string[], packet: {bytes: string, text: string} | null,
+ * What happened in a moment: the lines of the report, and the bytes that were sent or taken.
+ * @typedef {{event: Event, report: string[], packet: string | null,
  *   served: import('./controller.js').Served | null, state: State}} Moment
  * @typedef {{config: import('./controller.js').Config, picker: string, start: State, moments: Moment[]}} Play
  */
@@ -27,9 +27,6 @@ const REFUSALS = {
 
 /** @param {number} connection */
 const before = (connection) => (connection === 1 ? 'second ' : '');
-
-/** @param {Uint8Array} bytes */
-const told = (bytes) => ({ bytes: hexOf(bytes), text: packetText(bytes) });
 
 class Player {
     /** @param {Controller} controller @param {import('./controller.js').Config} config */
@@ -100,7 +97,7 @@ class Player {
         switch (action.kind) {
             case 'send': {
                 const report = [this.send(action.connection, action.message)];
-                return { report, packet: told(action.message), served: null };
+                return { report, packet: hexOf(action.message), served: null };
             }
             case 'step': {
                 const { line, served } = this.step(action.status);
@@ -109,7 +106,7 @@ class Player {
             case 'take': {
                 const end = this.controller.take(action.connection);
                 const report = [`${before(action.connection)}${end ? `end ${hexOf(end)}` : 'none'}`];
-                return { report, packet: end ? told(end) : null, served: null };
+                return { report, packet: end ? hexOf(end) : null, served: null };
             }
             case 'look':
                 return { report: this.look(), packet: null, served: null };

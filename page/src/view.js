@@ -2,12 +2,14 @@
 
 import { byId, make, replace } from './document.js';
 import { cylinderPictures, figuresPicture, figuresTable, mostOf } from './pictures.js';
-import { reportText, stateAt } from './play.js';
+import { stateAt } from './play.js';
 import { legend, queueItems } from './queue_view.js';
 
 /**
  * @typedef {import('./play.js').Play} Play
- * @typedef {{actOn: (word: 'status' | 'abort', command: import('./model.js').Waiting) => void,
+ * `textOf` is the line of a packet, by its digits.
+ * @typedef {{textOf: (digits: string) => string,
+ *   actOn: (word: 'status' | 'abort', command: import('./model.js').Waiting) => void,
  *   goTo: (at: number) => void}} Acts
  */
 
@@ -54,8 +56,8 @@ function showLog(played, at, acts) {
             }, String(number))),
             make('td', {}, event.text),
             make('td', {}, report.join(', ')),
-            make('td', {}, packet ? packet.text : ''),
-            make('td', { class: 'bytes' }, packet ? packet.bytes : ''));
+            make('td', {}, packet ? acts.textOf(packet) : ''),
+            make('td', { class: 'bytes' }, packet ?? ''));
     }).reverse();
     const titles = ['Moment', 'Line', 'Report', 'As mscpq packet says', 'Bytes'];
     replace(byId('moments'), make('table', {},
@@ -63,17 +65,17 @@ function showLog(played, at, acts) {
         make('tbody', {}, ...rows)));
 }
 
-/** @param {Play} played */
-function showReport(played) {
-    byId('report').value = reportText(played);
+/** @param {Play} played @param {string} report */
+function showReport(played, report) {
+    byId('report').value = report;
     byId('whose').textContent = played.picker === 'sweep' ?
-        'The report is written here from what the library answered: mscpq run prints the same of this script.' :
+        "The report is the program's own: mscpq run prints the same of this script." :
         'The report is written here from what the library answered. The program mscpq has the sweep alone, so it may ' +
         'print another.';
 }
 
-/** Shows all of it. @param {Play} played @param {number} at @param {Acts} acts */
-export function show(played, at, acts) {
+/** Shows all of it. @param {Play} played @param {string} report @param {number} at @param {Acts} acts */
+export function show(played, report, at, acts) {
     const state = stateAt(played, at), { budget } = played.config;
     showTime(played, at);
     replace(byId('queue'), ...queueItems(state, budget, mostOf(played), widthOf('queue'), acts.actOn));
@@ -82,7 +84,7 @@ export function show(played, at, acts) {
     replace(byId('figures-table'), figuresTable(played, at));
     replace(byId('cylinders-picture'), ...cylinderPictures(played, at, widthOf('cylinders-picture')));
     showLog(played, at, acts);
-    showReport(played);
+    showReport(played, report);
     const { credits, second, longest } = played.config;
     const room = credits - 1 + (second ? second - 1 : 0);
     byId('bound').textContent =

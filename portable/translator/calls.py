@@ -8,6 +8,8 @@ import re
 from .wasm import Refusal
 
 WIDTHS = {"uint8_t": 1, "uint16_t": 2, "uint32_t": 4, "uint64_t": 8, "size_t": 8, "void *": 8}
+# With which answers a number of this kind is told: how many bytes there are where all is done, and the line of a script's fault.
+TOLD = {"size_t": "answer == MSCP_DONE", "uint32_t": "answer <= MSCP_SCRIPT_SIZE && answer >= MSCP_SCRIPT_EVENTS"}
 STRUCT = re.compile(r"^struct (\w+) \{\n(.*?)^\};", re.M | re.S)
 FIELD = re.compile(r"^ +(?:MSCP_ALIGNED )?(void \*|\w+ )(\w+)(?:\[(\w+)\])?;", re.M)
 NUMBER = re.compile(r"^#define (\w+) (\d+)u", re.M)
@@ -104,8 +106,8 @@ class Call:
             self.passed.append(name)
         elif kind == "uint8_t":
             self.passed.append(f"A({name})")
-        elif kind == "size_t":
-            self.length(name)
+        elif kind in TOLD:
+            self.number(kind, name)
         elif has_count and is_const:
             self.list_taken(header.use(kind, "take"), name)
         elif has_count:
@@ -116,10 +118,11 @@ class Call:
                 header.use(kind, "give")
                 self.after.append(f"give_{header.structs[kind].short}({name}, {name}_room);")
 
-    def length(self, name):
-        self.before.append(f"u8 {name}_room[8];")
+    def number(self, kind, name):
+        width = WIDTHS[kind]
+        self.before.append(f"u8 {name}_room[{width}];")
         self.passed.append(f"A({name}_room)")
-        self.after += ["if (answer == MSCP_DONE)", f"    *{name} = (size_t)l8(A({name}_room));"]
+        self.after += [f"if ({TOLD[kind]})", f"    *{name} = ({kind})l{width}(A({name}_room));"]
 
     def single(self, struct, name):
         self.before.append(f"u8 {name}_room[LIES_{struct.short} ? 1 : {struct.size}];")

@@ -88,11 +88,18 @@ class Function:
         if known is not None:
             self.stack.append(known)
         elif it.opcode.gives:
-            self.stack.append(combined(it.opcode.text.format(*parts), it.opcode.gives, parts))
-            self.stack[-1].memory |= it.opcode.immediate == "memory"
+            value = combined(it.opcode.text.format(*parts), it.opcode.gives, parts)
+            value.memory |= it.opcode.immediate == "memory"
+            self.stack.append(self.loaded(it, value))
         else:
             self.spill(lambda value: value.memory)
             self.lines.append(it.opcode.text.format(*parts))
+
+    def loaded(self, it, value):
+        """What an instruction gives: of an address among the constants its place was loaded."""
+        if not self.program.is_of_addresses(it):
+            return value
+        return Value(f"A(data + {value})", I64, local=value.locals, memory=True)
 
     def pass_over(self, name):
         if name in ("block", "loop"):

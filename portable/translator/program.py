@@ -6,16 +6,36 @@ from .function import Function, beside, read_code
 from .values import I32, I64, WIDTHS, Value, constant, literal
 from .wasm import Refusal
 
+READ = re.compile(r"\bt\d+\b(?! = )")
+KEPT = re.compile(r"(t\d+) = (.*;)")
 MUCH = 256 # bytes of a function's room, from which on it stands apart
 
 
+def read_constants(module, other):
+    """The constants, in which an address of one of them is its place, and the places of these addresses."""
+    if len(module.data) != len(other.data) or len(module.data) > 1:
+        raise Refusal("the two modules have other constants")
+    (base, data), (other_base, other_data) = (*module.data, (0, b""))[0], (*other.data, (0, b""))[0]
+    addresses = {at // 8 * 8 for at, (one, its) in enumerate(zip(data, other_data)) if one != its}
+    told = bytearray(data)
+    for at in addresses:
+        place = int.from_bytes(data[at : at + 8], "little") - base
+        if place != int.from_bytes(other_data[at : at + 8], "little") - other_base or not 0 <= place < len(data):
+            raise Refusal("the two modules have other constants")
+        told[at : at + 8] = place.to_bytes(8, "little")
+    if len(data) != len(other_data):
+        raise Refusal("the two modules have other constants")
+    return bytes(told), addresses
+
+
 class Program:
-    """A library that was linked twice, so that its constants lie at two places: a number that differs is an address of them."""
+    """A library that was linked twice, so that its constants lie at two places: a number that differs is an address of them.
+    Where one of the constants is such an address, it is loaded as its place: of a list of them, by loads from its first one on."""
 
     def __init__(self, module, other):
         self.module, self.other = module, other
-        if [it[1] for it in module.data] != [it[1] for it in other.data] or len(module.data) > 1:
-            raise Refusal("the two modules have other constants")
+        self.constants, self.addresses = read_constants(module, other)
+        self.begun = set() # the places of addresses from which on some are loaded
         self.functions = {}
         self.order = [] # the numbers of functions, each behind those that it calls
         self.names = {}
@@ -23,6 +43,8 @@ class Program:
             if name.startswith("mscp_"):
                 self.names[module.exports[name]] = "w_" + name
                 self.visit(module.exports[name], ())
+        if any(it - 8 not in self.addresses | self.begun and it not in self.begun for it in self.addresses):
+            raise Refusal("no load begins at an address among constants")
         for number in self.order:
             self.names.setdefault(number, f"f{len(self.names)}")
 
@@ -51,16 +73,24 @@ class Program:
 
     def place(self, it):
         """Where in the constants an address lies."""
-        (base, data), (other_base, _) = self.module.data[0], self.other.data[0]
-        place = it.number - base
-        if place != it.other - other_base or not 0 <= place < len(data):
+        place = it.number - self.module.data[0][0]
+        if place != it.other - self.other.data[0][0] or not 0 <= place < len(self.constants):
             raise Refusal(f"{it.opcode.name} has an address of no constant")
+        if place in self.addresses and it.opcode.name != "i64.load":
+            raise Refusal(f"{it.opcode.name} has an address of an address")
         return place
 
     def number(self, it, kind):
         if it.number != it.other:
             return Value(f"A(data + {self.place(it)})", kind)
         return constant(it.number, kind)
+
+    def is_of_addresses(self, it):
+        """Whether it loads one of the addresses among the constants."""
+        if it.opcode.name != "i64.load" or it.number == it.other or self.place(it) not in self.addresses:
+            return False
+        self.begun.add(self.place(it))
+        return True
 
     def address(self, value, it):
         """Where a load or a store reaches."""
@@ -74,12 +104,12 @@ class Program:
     # ---- text
 
     def text(self):
-        data = list(self.module.data[0][1]) if self.module.data else []
-        return "\n".join([constants(data)] + [self.function(number) for number in self.order])
+        return "\n".join([constants(self.constants)] + [self.function(number) for number in self.order])
 
     def function(self, number):
         it = self.functions[number]
-        body = "\n".join(self.statement(line, it) for line in it.lines if not isinstance(line, int) or line in it.used)
+        lines = without_unread([line for line in it.lines if not isinstance(line, int) or line in it.used])
+        body = "\n".join(self.statement(line, it) for line in lines)
         body = re.sub(r"@(\d+)@", lambda match: self.names[int(match.group(1))], body)
         takes = ", ".join(f"{WIDTHS[kind]} v{place}" for place, kind in enumerate(it.takes))
         gives = WIDTHS[it.gives[0]] if it.gives else "void"
@@ -89,6 +119,24 @@ class Program:
 
     def statement(self, line, it):
         return f"L{line}:;" if isinstance(line, int) else "    " + line
+
+
+def wanted(line, read):
+    """A line, if it is wanted: of one that keeps for later what nobody reads only a call is."""
+    it = KEPT.fullmatch(line) if isinstance(line, str) else None
+    if it is None or it.group(1) in read:
+        return line
+    return it.group(2) if "@" in line else None
+
+
+def without_unread(lines):
+    """The lines that are wanted, of which one may be wanted for another that isn't."""
+    while True:
+        read = set(READ.findall("\n".join(line for line in lines if isinstance(line, str))))
+        left = [it for it in (wanted(line, read) for line in lines) if it is not None]
+        if left == lines:
+            return lines
+        lines = left
 
 
 def declarations(it, body):

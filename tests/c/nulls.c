@@ -9,6 +9,8 @@
 #define mscp_host_receive_at receive_seen
 #define mscp_port_init_at port_init_seen
 #define mscp_port_was_read_at was_read_seen
+#define mscp_run_script_at script_seen
+#define mscp_show_packet_at packet_seen
 #include "trying.h"
 
 static const void *seen;
@@ -63,6 +65,16 @@ int32_t was_read_seen(struct mscp_port *port, const uint8_t *bytes, size_t lengt
     return port != NULL ? see(bytes, length) : 0;
 }
 
+int32_t script_seen(const uint8_t *script, size_t length, uint8_t *bytes, size_t room, size_t *count, uint32_t *line)
+{
+    return count != NULL && line != NULL && (room > 0 || bytes != NULL) ? see(script, length) : 0;
+}
+
+int32_t packet_seen(const uint8_t *word, size_t length, uint8_t *bytes, size_t room, size_t *count)
+{
+    return word != NULL && length == 2 && count != NULL ? see(bytes, room) : 0;
+}
+
 static void passes(const char *what, int32_t answer, const void *pointer, size_t length)
 {
     is(what, answer, 77);
@@ -82,7 +94,9 @@ int main(void)
     static struct mscp_holder holders[2];
     struct mscp_sent sent;
     struct mscp_news news;
-    uint8_t bytes[2] = {0, 0};
+    uint8_t bytes[2] = {0, 0}, out[2];
+    size_t count;
+    uint32_t line;
     passes("init", mscp_init(&mscp, &limits, units, 2, 3), units, 2);
     passes("send", mscp_send(&mscp, 7, bytes, 2, &sent), bytes, 2);
     passes("look", mscp_look(&mscp, list, 2), list, 2);
@@ -91,6 +105,8 @@ int main(void)
     passes("receive", mscp_host_receive(&host, bytes, 2, &news), bytes, 2);
     passes("init of a port", mscp_port_init(&port, &limits, units, 2, 3, &hardware, 4), units, 2);
     passes("was read", mscp_port_was_read(&port, bytes, 2), bytes, 2);
+    passes("script", mscp_run_script(bytes, 2, out, 2, &count, &line), bytes, 2);
+    passes("packet", mscp_show_packet(bytes, 2, out, 2, &count), out, 2);
     passes("init of none", mscp_init(&mscp, &limits, NULL, 0, 3), NULL, 0);
     passes("send of none", mscp_send(&mscp, 7, NULL, 0, &sent), NULL, 0);
     passes("look at none", mscp_look(&mscp, NULL, 0), NULL, 0);
@@ -98,6 +114,8 @@ int main(void)
     passes("submit of none", mscp_host_submit(&host, NULL, 0), NULL, 0);
     passes("receive of none", mscp_host_receive(&host, NULL, 0, &news), NULL, 0);
     passes("init of a port of none", mscp_port_init(&port, &limits, NULL, 0, 3, &hardware, 4), NULL, 0);
+    passes("no script", mscp_run_script(NULL, 0, NULL, 0, &count, &line), NULL, 0);
+    passes("packet in no room", mscp_show_packet(bytes, 2, NULL, 0, &count), NULL, 0);
     passes("none was read", mscp_port_was_read(&port, NULL, 0), NULL, 0);
     return wrong;
 }

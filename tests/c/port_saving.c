@@ -81,6 +81,7 @@ static void other_bytes(void)
         {8, 1, MSCP_SAVED_LENGTH},       {70, 49, MSCP_SAVED_LENGTH},     {0, 0, MSCP_SAVED_MAGIC},
         {4, 2, MSCP_SAVED_VERSION},      {280, 0, MSCP_SAVED_MAGIC},      {280 + 12, 65, MSCP_SAVED_LIMITS},
         {280 + 30, 2, MSCP_SAVED_PICKER}, {33, 10, MSCP_SAVED_FORM},
+        {52, 5, MSCP_SAVED_SIZE},        {54, 1, MSCP_SAVED_FORM},
     };
     size_t length = 0, told = 5;
     build(&UDA50);

@@ -216,6 +216,36 @@ static void doubled_submissions(void)
     free(to);
 }
 
+/* Polls in flight that no host has. */
+static void polls_about_nobody(void)
+{
+    static const struct {
+        size_t place;
+        uint8_t byte, was;
+    } cases[] = {
+        {18, 11, 10},       /* the poll's number isn't outstanding */
+        {22, 2, 1},         /* the polled one isn't the oldest */
+        {26 + 12 + 6, 3, 2} /* no GET COMMAND STATUS has the poll's number */
+    };
+    uint8_t bytes[MSCP_HOST_SAVED_MAX];
+    size_t size = MSCP_HEAD + mscp_host_size(), length = 0;
+    void *memory = memory_of(size), *to = memory_of(size);
+    struct mscp_host *host = mscp_host_in_memory(memory, size), *there = mscp_host_in_memory(to, size);
+    struct mscp_packet message;
+    is("init", mscp_host_init(host, 4), MSCP_DONE);
+    is("submit", mscp_host_submit(host, command(1, MSCP_READ, 1024, 40), 32), MSCP_DONE);
+    is("poll", mscp_host_poll(host, 10, &message), MSCP_DONE);
+    is("save", mscp_host_save(host, bytes, sizeof bytes, &length), MSCP_DONE);
+    for (size_t i = 0; i < sizeof cases / sizeof cases[0]; i++) {
+        bytes[cases[i].place] = cases[i].byte;
+        is("a poll about nobody", mscp_host_restore(there, bytes, length), MSCP_SAVED_POLL);
+        bytes[cases[i].place] = cases[i].was;
+    }
+    is("a poll", mscp_host_restore(there, bytes, length), MSCP_DONE);
+    free(memory);
+    free(to);
+}
+
 /* Bytes that aren't the controller's. Each place is one of the format, and each change the least that is refused so. */
 static void other_bytes(void)
 {
@@ -306,6 +336,7 @@ int main(void)
     polls();
     nothing_is_there();
     doubled_submissions();
+    polls_about_nobody();
     other_bytes();
     flipped_bits();
     return wrong;

@@ -10,14 +10,14 @@ enum {
     NOTHING, SEND, BEGIN, FINISH, STEP, TAKE, LOOK, FIGURE, BALANCE, WAITING, UNTAKEN, IS_ONLINE, RESET, SUBMIT, POLL,
     RECEIVE, HOST_BALANCE, SAVE, HOST_SAVE, INIT, HOST_INIT, RESTORE, HOST_RESTORE, PORT_INIT, READ_IP, WRITE_IP, READ_SA,
     WRITE_SA, NEXT, WAS_READ, WENT, LOOK_AGAIN, TICK, VOLUME_CAME, VOLUME_WENT,
-    PORT_SAVE, PORT_RESTORE, CALLS
+    PORT_SAVE, PORT_RESTORE, RUN_SCRIPT, SHOW_PACKET, CALLS
 };
 static const char *const NAMES[CALLS] = {
     "nothing", "send", "begin", "finish", "step", "take", "look", "figure", "balance", "waiting", "untaken",
     "is_online", "reset", "host_submit", "host_poll", "host_receive", "host_balance", "save", "host_save", "init", "host_init",
     "restore", "host_restore", "port_init", "port_read_ip", "port_write_ip", "port_read_sa", "port_write_sa", "port_next",
     "port_was_read", "port_went", "port_look_again", "port_tick", "port_volume_came", "port_volume_went",
-    "port_save", "port_restore",
+    "port_save", "port_restore", "run_script", "show_packet",
 };
 
 /* Aligned for anything. */
@@ -36,6 +36,12 @@ static volatile int64_t answered; /* by the last call */
 static uint8_t bytes[MSCP_SAVED_MAX], host_bytes[MSCP_HOST_SAVED_MAX]; /* as both are saved */
 static uint8_t port_bytes[MSCP_PORT_SAVED_MAX];
 static size_t saved, host_saved, port_saved;
+/* Each kind of line, and a packet. */
+static const char SCRIPT[] = "credits 4 3\nbudget 16\nlongest 8\ntimeout 60\nunit 0 10 2 1 1000\ngo\nonline 9 0\nstep 1\ntake\n"
+                             "read 1 0 512 1\nsecond packet 050000000000000013000000\nstatus 2 1\nlook\nbad 0008\n"
+                             "second take\nsetcontroller 3\n";
+static const char WORD[] = "050000000000000083000000000000000000000000000000" "000000000000000000000000000000000000000000000000";
+static uint8_t text[4096];
 
 static void run(int call)
 {
@@ -89,6 +95,14 @@ static void run(int call)
     case PORT_SAVE: answered = mscp_port_save(port, port_bytes, sizeof port_bytes, &port_saved); break;
     case PORT_RESTORE:
         answered = mscp_port_restore(mscp_port_in_memory(&fresh_port, sizeof fresh_port), port_bytes, port_saved);
+        break;
+    case RUN_SCRIPT: {
+        static uint32_t line;
+        answered = mscp_run_script((const uint8_t *)SCRIPT, sizeof SCRIPT - 1, text, sizeof text, &saved, &line);
+        break;
+    }
+    case SHOW_PACKET:
+        answered = mscp_show_packet((const uint8_t *)WORD, sizeof WORD - 1, text, sizeof text, &saved);
         break;
     case HOST_INIT: answered = mscp_host_init(mscp_host_in_memory(&fresh_host, sizeof fresh_host), 64); break;
     }
@@ -216,6 +230,7 @@ static size_t most(int call)
     case INIT: case PORT_INIT: case RESTORE: case PORT_RESTORE: return 40 * 1024;
     case HOST_RESTORE: return 6 * 1024;
     case PORT_SAVE: return 28 * 1024;
+    case RUN_SCRIPT: return 48 * 1024;
     default: return 2 * 1024;
     }
 }

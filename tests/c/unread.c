@@ -4,12 +4,12 @@
 void calls(struct mscp *mscp, struct mscp_host *host, const struct mscp_limits *limits, const struct mscp_unit *units,
            const uint8_t *bytes, struct mscp_sent *sent, struct mscp_packet *packet, struct mscp_upcoming *upcoming,
            struct mscp_report *report, struct mscp_news *news, uint8_t *out, size_t *length,
-           struct mscp_port *port, const struct mscp_hardware *hardware, struct mscp_action *action);
+           struct mscp_port *port, const struct mscp_hardware *hardware, struct mscp_action *action, uint32_t *line);
 
 void calls(struct mscp *mscp, struct mscp_host *host, const struct mscp_limits *limits, const struct mscp_unit *units,
            const uint8_t *bytes, struct mscp_sent *sent, struct mscp_packet *packet, struct mscp_upcoming *upcoming,
            struct mscp_report *report, struct mscp_news *news, uint8_t *out, size_t *length,
-           struct mscp_port *port, const struct mscp_hardware *hardware, struct mscp_action *action)
+           struct mscp_port *port, const struct mscp_hardware *hardware, struct mscp_action *action, uint32_t *line)
 {
     mscp_init(mscp, limits, units, 1, MSCP_SWEEP);
     mscp_reset(mscp);
@@ -34,4 +34,6 @@ void calls(struct mscp *mscp, struct mscp_host *host, const struct mscp_limits *
     mscp_port_volume_went(port, 0);
     mscp_port_save(port, out, 1, length);
     mscp_port_restore(port, bytes, 12);
+    mscp_run_script(bytes, 1, out, 1, length, line);
+    mscp_show_packet(bytes, 1, out, 1, length);
 }

@@ -74,7 +74,8 @@ def body(text, base):
 
 def module(functions, base):
     """A module of these functions, of which each has a name, what it takes and gives, the kinds of its locals, and its
-    instructions. Its constants lie at this address, which is that at which its stack ends, too."""
+    instructions. Its constants lie at this address, which is that at which its stack ends, too. Where one asks for them, two
+    addresses of constants stand behind the others."""
     types, codes, exports = [], [], []
     for place, (name, takes, gives, local, text) in enumerate(functions):
         types.append(b"\x60" + several([bytes([KINDS[it]]) for it in takes]) + several([bytes([KINDS[it]]) for it in gives]))
@@ -82,9 +83,12 @@ def module(functions, base):
         codes.append(unsigned(len(code)) + code)
         if name.startswith("mscp_"):
             exports.append(several([bytes([it]) for it in name.encode()]) + b"\0" + unsigned(place))
+    constants = [bytes([it]) for it in range(64, 80)]
+    if any("DATA+16" in it[4] or "DATA+24" in it[4] for it in functions):
+        constants += [bytes([it]) for place in (3, 9) for it in (base + place).to_bytes(8, "little")]
     globals_ = [b"\x7e\x01\x42" + signed(base) + b"\x0b", b"\x7f\x01\x41\0\x0b"]
     return b"".join([
         b"\0asm\1\0\0\0", section(1, types), section(3, [unsigned(it) for it in range(len(types))]),
         section(5, [b"\x04\x01"]), section(6, globals_), section(7, exports), section(10, codes),
-        section(11, [b"\0\x42" + signed(base) + b"\x0b" + several([bytes([it]) for it in range(64, 80)])]),
+        section(11, [b"\0\x42" + signed(base) + b"\x0b" + several(constants)]),
     ])

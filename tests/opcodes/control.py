@@ -1,7 +1,7 @@
 """Functions about blocks, branches, calls, locals and constants, what they give, and wrong translations of each."""
 
 from translator.function import Function
-from translator.values import I32, I64, combined, constant
+from translator.values import I32, I64, Value, combined, constant
 
 TRAP = None
 SUB = ("sub", "ii", "i", "", "local.get 0 local.get 1 i32.sub")
@@ -54,6 +54,8 @@ CASES = (
      "i32.const 3", (), [((), 3)]),
     ("an address of a constant", "", "i", "", "i64.const DATA+5 i32.load8_u 0 i64.const 3 i32.load8_u DATA+9 i32.sub", (),
      [((), 0xFFFFFFF9)]),
+    ("an address among constants", "I", "i", "", "local.get 0 i64.const 3 i64.shl i64.load DATA+16 i32.load8_u 0", (),
+     [((0,), 67), ((1,), 73)]),
     ("a place in the frame", "i", "i", "I", FRAME + "local.get 1 local.get 0 i32.store 8 local.get 0 call 1 local.get 1 "
      "i32.load 8 " + LEFT, (DIRTY,), [((5,), 5)]),
     ("there is always a stack", "", "i", "", LOOK, (), [((), 42)]),
@@ -97,6 +99,10 @@ def turned_table(self, it):
     TRUE["do_br_table"](self, it._replace(number=it.number[1:] + it.number[:1]))
 
 
+def one_too_far(self, it, value):
+    return Value(f"A(data + 1 + {value})", I64, memory=True) if self.program.is_of_addresses(it) else value
+
+
 def unspilled(self, wanted):
     """Nothing is found before it changes."""
 
@@ -122,6 +128,7 @@ WRONG = {
     "global.set": {"do_global_set": lambda self, it: None},
     "i32.const": {"do_i32_const": lambda self, it: self.stack.append(constant(it.number & 0x7FFFFFFF, I32))},
     "i64.const": {"do_i64_const": lambda self, it: self.stack.append(constant(it.number & 0xFFFFFFFF, I64))},
+    "an address among constants": {"loaded": one_too_far},
     "what was loaded stays as a store comes": {"spill": unspilled},
     "what was loaded stays as a call comes": {"spill": unspilled},
     "what was loaded stays as bytes are moved": {"spill": unspilled},

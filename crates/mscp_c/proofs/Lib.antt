@@ -1,4 +1,5 @@
 pub mod Policies
+pub mod PortHandled
 pub mod Ascending
 pub mod Configured
 pub mod Handled

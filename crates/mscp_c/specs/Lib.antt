@@ -4,11 +4,13 @@ pub mod HostSaving
 pub mod Hosted
 pub mod Made
 pub mod PortGiven
+pub mod PortHandleCalls
 pub mod PortMade
 pub mod PortSaving
 pub mod PortServed
 pub mod PortTold
 pub mod Restoring
+pub mod Running
 pub mod Saving
 pub mod Served
 pub mod Statuses

@@ -95,6 +95,7 @@ host_restore_code host_bytes.Version = status.SAVED_VERSION
 host_restore_code host_bytes.Credits = status.SAVED_LIMITS
 host_restore_code host_bytes.Outstanding = status.SAVED_CREDITS
 host_restore_code host_bytes.Doubled = status.SAVED_DOUBLED
+host_restore_code host_bytes.Poll = status.SAVED_POLL
 host_restore_code host_bytes.Form = status.SAVED_FORM
 
 -- of bytes that are no saved port: those of its controller have their own
@@ -102,5 +103,6 @@ abbrev pub port_restore_code : ported.RestoreFault → ℤ
 port_restore_code port_bytes.Length = status.SAVED_LENGTH
 port_restore_code port_bytes.Magic = status.SAVED_MAGIC
 port_restore_code port_bytes.Version = status.SAVED_VERSION
+port_restore_code port_bytes.Size = status.SAVED_SIZE
 port_restore_code (port_bytes.Controller fault) = restore_code fault
 port_restore_code port_bytes.Form = status.SAVED_FORM

@@ -4,6 +4,7 @@ ghost use Rattle.std.specs.Prelude.{◌≡◌, pos, true};
 ghost use Rattle.mscp_events.specs.Settings.{IsValid};
 ghost use Rattle.mscp_memory.specs.ControllerHandles.{is_made};
 ghost use Rattle.mscp_c.specs.HandleCalls.{HandlesKeepThePromise};
+ghost use Rattle.mscp_c.specs.PortHandleCalls.{PortHandlesKeepThePromise};
 ghost use Rattle.mscp_c.specs.Statuses.{minus};
 
 use crate::status::{
@@ -12,9 +13,12 @@ use crate::status::{
     LAST_CREDIT, LATE, LONG, LOST, MADE, MANY_UNITS, MISALIGNED, NO_CREDIT, NO_HANDLE, NO_MEMORY,
     NO_UNITS, NOT_MADE, NOTHING, PROGRESS, QUEUED, RESET, SAVED_BEGUN, SAVED_COMMAND,
     SAVED_CREDITS, SAVED_DOUBLED, SAVED_ENDS, SAVED_FORM, SAVED_HEADS, SAVED_LENGTH, SAVED_LIMITS,
-    SAVED_MAGIC, SAVED_PASSED, SAVED_PICKER, SAVED_STEPS, SAVED_UNITS, SAVED_VERSION, SHORT, SMALL,
-    STALE, UNASKED, UNITS_FALL, UNKNOWN, UNKNOWN_UNIT, UNREADABLE, ZERO_CYLINDER, ZERO_GROUP,
-    ZERO_SIZE, ZERO_TRACK,
+    SAVED_MAGIC, SAVED_PASSED, SAVED_PICKER, SAVED_POLL, SAVED_SIZE, SAVED_STEPS, SAVED_UNITS,
+    SAVED_VERSION, SCRIPT_BYTE, SCRIPT_CONFIG, SCRIPT_COUNT, SCRIPT_EVENTS, SCRIPT_HEADER,
+    SCRIPT_HEX, SCRIPT_LINES, SCRIPT_LONG, SCRIPT_NUMBER, SCRIPT_SIZE, SCRIPT_STATUS, SCRIPT_UNIT,
+    SCRIPT_WORD, SHORT, SMALL, STALE, UNASKED, UNITS_FALL, UNKNOWN, UNKNOWN_UNIT, UNREADABLE,
+    WORD_CODE, WORD_HEX, WORD_LENGTH, WORD_LONG, WORD_SHORT, ZERO_CYLINDER, ZERO_GROUP, ZERO_SIZE,
+    ZERO_TRACK,
 };
 use mscp_controller::controllers_keep_the_promise;
 use mscp_memory::Policy;
@@ -39,6 +43,12 @@ pub fn handles_keep_the_promise(policy: Policy)
 {
     controllers_keep_the_promise(&policy);
 }
+
+/// Calls on a port's handle, one after the other, are calls of a port, also where it was saved and restored in between: each
+/// law of ports is about them, and statuses and out-structs tell what the port answers.
+pub fn port_handles_keep_the_promise()
+    ensures { PortHandlesKeepThePromise }
+{}
 
 /// Each status is the number that the header has under its name.
 pub fn statuses_are_these()
@@ -101,4 +111,24 @@ pub fn statuses_are_these()
     ensures saved_begun { SAVED_BEGUN ≡ minus 52 }
     ensures saved_picker { SAVED_PICKER ≡ minus 53 }
     ensures saved_form { SAVED_FORM ≡ minus 54 }
+    ensures saved_poll { SAVED_POLL ≡ minus 55 }
+    ensures saved_size { SAVED_SIZE ≡ minus 56 }
+    ensures script_size { SCRIPT_SIZE ≡ minus 60 }
+    ensures script_lines { SCRIPT_LINES ≡ minus 61 }
+    ensures script_long { SCRIPT_LONG ≡ minus 62 }
+    ensures script_byte { SCRIPT_BYTE ≡ minus 63 }
+    ensures script_word { SCRIPT_WORD ≡ minus 64 }
+    ensures script_count { SCRIPT_COUNT ≡ minus 65 }
+    ensures script_number { SCRIPT_NUMBER ≡ minus 66 }
+    ensures script_hex { SCRIPT_HEX ≡ minus 67 }
+    ensures script_status { SCRIPT_STATUS ≡ minus 68 }
+    ensures script_unit { SCRIPT_UNIT ≡ minus 69 }
+    ensures script_config { SCRIPT_CONFIG ≡ minus 70 }
+    ensures script_header { SCRIPT_HEADER ≡ minus 71 }
+    ensures script_events { SCRIPT_EVENTS ≡ minus 72 }
+    ensures word_hex { WORD_HEX ≡ minus 73 }
+    ensures word_short { WORD_SHORT ≡ minus 74 }
+    ensures word_long { WORD_LONG ≡ minus 75 }
+    ensures word_code { WORD_CODE ≡ minus 76 }
+    ensures word_length { WORD_LENGTH ≡ minus 77 }
 {}

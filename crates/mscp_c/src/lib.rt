@@ -15,6 +15,7 @@ mod port_saving;
 mod port_telling;
 mod port_turning;
 mod port_watching;
+mod running;
 mod saving;
 mod seeing;
 mod sending;
@@ -23,4 +24,7 @@ mod status;
 mod telling;
 mod units;
 
-pub use crate::law::{handles_keep_the_promise, made_handles_are_valid, statuses_are_these};
+pub use crate::law::{
+    handles_keep_the_promise, made_handles_are_valid, port_handles_keep_the_promise,
+    statuses_are_these,
+};

@@ -1,8 +1,9 @@
 // What the calls answer: 0 and up what came of a call, below 0 why it was refused.
 
-ghost use Rattle.std.specs.Prelude.{◌≡◌};
+ghost use Rattle.std.specs.Prelude.{◌≡◌, ◌≢◌};
 ghost use Rattle.mscp_c.specs.Statuses.{host_code, host_restore_code, limits_code, port_restore_code, restore_code, room_code, send_fault_code, unit_code, units_code};
 ghost use Rattle.mscp_c.specs.Made.{init_code};
+ghost use Rattle.mscp_c.specs.Running.{cause_code, show_code};
 ghost use Rattle.mscp_c.specs.PortMade.{port_init_code};
 
 use crate::port_given::PortInitFault;
@@ -13,6 +14,7 @@ use mscp_host::{HostFault, RestoreFault as HostRestoreFault};
 use mscp_memory::RoomFault;
 use mscp_port::RestoreFault as PortRestoreFault;
 use mscp_saved::RestoreFault;
+use mscp_script::{Cause, ShowFault};
 
 /// There is nothing: no command waits, no end was made, no poll is to be sent.
 pub(crate) const NOTHING: i32 = 0;
@@ -137,6 +139,48 @@ pub(crate) const SAVED_BEGUN: i32 = -52;
 pub(crate) const SAVED_PICKER: i32 = -53;
 
 pub(crate) const SAVED_FORM: i32 = -54;
+/// A poll in flight about nobody.
+pub(crate) const SAVED_POLL: i32 = -55;
+/// What a port has in hand has a size that nothing in hand has.
+pub(crate) const SAVED_SIZE: i32 = -56;
+
+/// What is wrong in a line of a script.
+pub(crate) const SCRIPT_SIZE: i32 = -60;
+
+pub(crate) const SCRIPT_LINES: i32 = -61;
+
+pub(crate) const SCRIPT_LONG: i32 = -62;
+
+pub(crate) const SCRIPT_BYTE: i32 = -63;
+
+pub(crate) const SCRIPT_WORD: i32 = -64;
+
+pub(crate) const SCRIPT_COUNT: i32 = -65;
+
+pub(crate) const SCRIPT_NUMBER: i32 = -66;
+
+pub(crate) const SCRIPT_HEX: i32 = -67;
+
+pub(crate) const SCRIPT_STATUS: i32 = -68;
+
+pub(crate) const SCRIPT_UNIT: i32 = -69;
+
+pub(crate) const SCRIPT_CONFIG: i32 = -70;
+
+pub(crate) const SCRIPT_HEADER: i32 = -71;
+
+pub(crate) const SCRIPT_EVENTS: i32 = -72;
+
+/// A word that is no packet.
+pub(crate) const WORD_HEX: i32 = -73;
+
+pub(crate) const WORD_SHORT: i32 = -74;
+
+pub(crate) const WORD_LONG: i32 = -75;
+
+pub(crate) const WORD_CODE: i32 = -76;
+
+pub(crate) const WORD_LENGTH: i32 = -77;
 
 /// The status of memory that is no room.
 pub(crate) fn room_code(fault: RoomFault) -> i32
@@ -273,6 +317,7 @@ pub(crate) fn host_restore_code(fault: HostRestoreFault) -> i32
         HostRestoreFault::Credits => SAVED_LIMITS,
         HostRestoreFault::Outstanding => SAVED_CREDITS,
         HostRestoreFault::Doubled => SAVED_DOUBLED,
+        HostRestoreFault::Poll => SAVED_POLL,
         HostRestoreFault::Form => SAVED_FORM,
     }
 }
@@ -285,7 +330,45 @@ pub(crate) fn port_restore_code(fault: PortRestoreFault) -> i32
         PortRestoreFault::Length => SAVED_LENGTH,
         PortRestoreFault::Magic => SAVED_MAGIC,
         PortRestoreFault::Version => SAVED_VERSION,
+        PortRestoreFault::Size => SAVED_SIZE,
         PortRestoreFault::Controller(fault) => restore_code(fault),
         PortRestoreFault::Form => SAVED_FORM,
+    }
+}
+
+/// The status of what is wrong in a line of a script.
+pub(crate) fn cause_code(cause: Cause) -> i32
+    ensures value { result ≡ cause_code cause }
+    ensures below { result ≢ DONE }
+{
+    match cause {
+        Cause::Size => SCRIPT_SIZE,
+        Cause::Lines => SCRIPT_LINES,
+        Cause::Long => SCRIPT_LONG,
+        Cause::Byte => SCRIPT_BYTE,
+        Cause::Word => SCRIPT_WORD,
+        Cause::Count => SCRIPT_COUNT,
+        Cause::Number => SCRIPT_NUMBER,
+        Cause::Hex => SCRIPT_HEX,
+        Cause::Status => SCRIPT_STATUS,
+        Cause::Unit => SCRIPT_UNIT,
+        Cause::Config => SCRIPT_CONFIG,
+        Cause::Header => SCRIPT_HEADER,
+        Cause::Events => SCRIPT_EVENTS,
+    }
+}
+
+/// The status of a packet that isn't shown.
+pub(crate) fn show_code(fault: ShowFault) -> i32
+    ensures value { result ≡ show_code fault }
+    ensures below { result ≢ DONE }
+{
+    match fault {
+        ShowFault::Hex => WORD_HEX,
+        ShowFault::Short => WORD_SHORT,
+        ShowFault::Long => WORD_LONG,
+        ShowFault::Code => WORD_CODE,
+        ShowFault::Length => WORD_LENGTH,
+        ShowFault::OutOfMemory => SMALL,
     }
 }

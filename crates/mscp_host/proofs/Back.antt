@@ -16,7 +16,8 @@ use Rattle.mscp_host.specs.declared.restoring.RestoreFault.{RestoreFault}
 use Rattle.mscp_host.specs.declared.restoring.RestoreFault.TheVariants as faults
 use Rattle.mscp_host.specs.Accounts.{Account}
 use Rattle.mscp_host.specs.Apart.{are_apart}
-use Rattle.mscp_host.specs.Restored.{account_in, apart_whose, head_fault, restored, restored_unless, submission_in, told_in, watch_in, whose}
+use Rattle.mscp_host.specs.Watched.{is_watched}
+use Rattle.mscp_host.specs.Restored.{account_in, apart_whose, head_fault, restored, restored_unless, submission_in, told_in, watch_in, watched_whose, whose}
 use Rattle.mscp_host.specs.Saved.{HasRange, HasSubmissionRange, frame_bytes, saved_bytes, submission_bytes, told_bytes, watch_byte, watch_bytes}
 
 -- ---- a submission
@@ -119,10 +120,12 @@ same_bytes : (b : List ℕ) → bytes_eq b b ≡ true
 same_bytes b = (bytes_eq-Decides b b).1 refl
 
 pub restored_back : (a : Account) → 2 ≤ a.credits → a.credits ≤ 64 → length a.outstanding ≤ a.credits
-    → are_apart a.outstanding ≡ true → HasRange a → restored (saved_bytes a) ≡ Ok a
-restored_back a some few covered apart range =
+    → are_apart a.outstanding ≡ true → is_watched a.outstanding a.watch ≡ true → HasRange a
+    → restored (saved_bytes a) ≡ Ok a
+restored_back a some few covered apart watched range =
     let b = saved_bytes a in
     ap (λ (f : Option RestoreFault). restored_unless f b) (head_back a some few covered)
     ∙ (ap (apart_whose b) (account_back a.credits a.outstanding a.watch few range)
-    ∙ (ap (λ (yes : Bool). if not yes then Err faults.Doubled else whose b a) apart
-    ∙ ap (λ (yes : Bool). if yes then Ok a else Err faults.Form) (same_bytes b)))
+    ∙ (ap (λ (yes : Bool). if not yes then Err faults.Doubled else watched_whose b a) apart
+    ∙ (ap (λ (yes : Bool). if not yes then Err faults.Poll else whose b a) watched
+    ∙ ap (λ (yes : Bool). if yes then Ok a else Err faults.Form) (same_bytes b))))

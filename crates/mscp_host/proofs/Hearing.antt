@@ -1,10 +1,11 @@
 -- An end that is heard.
-use Rattle.std.proofs.Common.{◌≡◌, ℕ, List, true, refl}
+use Rattle.std.proofs.Common.{◌≡◌, ℕ, List, true, false, refl}
 use Rattle.std.specs.Prelude.{find, Result, Some, Ok, Err}
 use Rattle.mscp_packet.specs.declared.end.End.{End}
 use Rattle.mscp_packet.specs.declared.reading.EndFault.{EndFault}
 use Rattle.mscp_host.specs.declared.submission.Submission.{Submission}
-use Rattle.mscp_host.specs.Accounts.{Account, answered, end_in, has_reference, heard, is_about_polled, is_code_of, news_with, or_unreadable, received}
+use Rattle.mscp_host.specs.declared.news.HostFault.TheVariants as faults
+use Rattle.mscp_host.specs.Accounts.{Account, answered, end_in, has_reference, heard, is_about_polled, is_code_of, may_end, news_with, or_unreadable, received}
 
 pub readable : (r : Result End EndFault) (e : End) → or_unreadable r ≡ Ok e → r ≡ Ok e
 readable (Ok x) e h = cc
@@ -15,3 +16,8 @@ pub heard_ok : (a : Account) (b : List ℕ) (e : End) (s : Submission) → end_i
     → is_code_of e.code s.opcode ≡ true → is_about_polled a.watch (answered a.watch e) ≡ true
     → heard a b ≡ (Ok (news_with a e (answered a.watch e)), received a e)
 heard_ok a b e s read found code about = rw (read, found, code, about) refl
+
+pub heard_other : (a : Account) (b : List ℕ) (e : End) (s : Submission) → end_in b ≡ Ok e
+    → find (has_reference e.reference) a.outstanding ≡ Some s → may_end a e s ≡ false
+    → heard a b ≡ (Err faults.Unknown, a)
+heard_other a b e s read found never = rw (read, found, never) refl

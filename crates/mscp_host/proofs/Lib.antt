@@ -3,3 +3,4 @@ pub mod Hearing
 pub mod Back
 pub mod Heads
 pub mod Apart
+pub mod Watched

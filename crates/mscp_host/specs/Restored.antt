@@ -9,6 +9,7 @@ use Rattle.mscp_host.specs.declared.restoring.RestoreFault.{RestoreFault}
 use Rattle.mscp_host.specs.declared.restoring.RestoreFault.TheVariants as faults
 use Rattle.mscp_host.specs.Accounts.{Account}
 use Rattle.mscp_host.specs.Apart.{are_apart}
+use Rattle.mscp_host.specs.Watched.{is_watched}
 use Rattle.mscp_host.specs.Saved.{head_size, magic, saved_bytes, saved_length, submission_size, version}
 
 -- ---- what bytes say. Of bytes that are nobody's something is said, too
@@ -69,9 +70,13 @@ head_fault b =
 abbrev pub whose : List ℕ → Account → Result Account RestoreFault
 whose b a = if bytes_eq (saved_bytes a) b then Ok a else Err faults.Form
 
+-- this host, where its poll in flight, if there is one, is about somebody
+abbrev pub watched_whose : List ℕ → Account → Result Account RestoreFault
+watched_whose b a = if not (is_watched a.outstanding a.watch) then Err faults.Poll else whose b a
+
 -- this host, where no two of its submissions have one number
 abbrev pub apart_whose : List ℕ → Account → Result Account RestoreFault
-apart_whose b a = if not (are_apart a.outstanding) then Err faults.Doubled else whose b a
+apart_whose b a = if not (are_apart a.outstanding) then Err faults.Doubled else watched_whose b a
 
 abbrev pub restored_unless : Option RestoreFault → List ℕ → Result Account RestoreFault
 restored_unless (Some fault) b = Err fault

@@ -27,13 +27,14 @@ impl Model for Host {
     ghost use Rattle.std.specs.Prelude.{◌≡◌, ◌≤◌, true, length};
     ghost use Rattle.mscp_host.specs.Accounts.{Account};
     ghost use Rattle.mscp_host.specs.Apart.{are_apart};
+    ghost use Rattle.mscp_host.specs.Watched.{is_watched};
 
     ghost Value = { Account };
 
     ghost view = { λ h. record { credits = h.credits; outstanding = h.outstanding.items; watch = h.watch } };
 
     ghost invariant = { λ h. (2 ≤ h.credits) × (h.credits ≤ 64) × (length h.outstanding.items ≤ h.credits)
-        × (are_apart h.outstanding.items ≡ true) };
+        × (are_apart h.outstanding.items ≡ true) × (is_watched h.outstanding.items h.watch ≡ true) };
 }
 
 impl Host {

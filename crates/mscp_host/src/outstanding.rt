@@ -4,8 +4,9 @@ ghost use Rattle.std.specs.Prelude.{◌≡◌, ◌≤◌, length, find, not, opt
 ghost use Rattle.std.specs.List.{list_any, position};
 ghost use Rattle.mscp_host.specs.Apart.{are_apart};
 ghost use Rattle.mscp_host.specs.Accounts.{has_reference, is_immediate, last_told, with_told, without};
+ghost use Rattle.mscp_host.specs.Watched.{is_oldest, is_status};
 
-use crate::submission::{Submission, is_immediate};
+use crate::submission::{STATUS, Submission, is_immediate};
 use arrayvec::ArrayVec;
 
 /// Whether one of the submissions has the reference number.
@@ -45,6 +46,24 @@ pub fn find_oldest(submissions: &[Submission]) -> Option<&Submission>
     submissions
         .iter()
         .find(|submission| !is_immediate(submission.opcode))
+}
+
+/// Whether the oldest of the commands that aren't answered when they arrive has this number.
+pub fn is_oldest(submissions: &[Submission], reference: u32) -> bool
+    ensures { result ≡ is_oldest reference submissions.now }
+{
+    match find_oldest(submissions).copied() {
+        Some(submission) => submission.reference == reference,
+        None => false,
+    }
+}
+
+/// Whether one of the submissions is the GET COMMAND STATUS of this number.
+pub fn has_status(submissions: &[Submission], reference: u32) -> bool
+    ensures { result ≡ list_any (is_status reference) submissions.now }
+{
+    submissions.iter().any(|submission| submission.reference == reference
+        && submission.opcode == STATUS)
 }
 
 /// The place of the submission of this reference number, if there is one.

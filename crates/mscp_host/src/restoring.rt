@@ -5,12 +5,13 @@ ghost use Rattle.mscp_packet.specs.Parts.{parts_in};
 ghost use Rattle.mscp_host.specs.Apart.{are_apart};
 ghost use Rattle.mscp_host.specs.Restored.{account_in, count_in, is_framed, head_fault, outstanding_in, restored, submission_in, told_in, watch_in};
 ghost use Rattle.mscp_host.specs.Saved.{saved_bytes};
+ghost use Rattle.mscp_host.specs.Watched.{is_watched};
 
 use crate::host::Host;
 use crate::outstanding::are_apart;
 use crate::saving::{MAGIC, VERSION};
 use crate::submission::Submission;
-use crate::watch::Watch;
+use crate::watch::{Watch, is_watched};
 use arrayvec::ArrayVec;
 use mscp_packet::fields::{four_at, two_at};
 use thiserror::Error;
@@ -36,6 +37,10 @@ pub enum RestoreFault {
     /// Two outstanding submissions of one reference number.
     #[error("doubled")]
     Doubled,
+    /// A poll in flight whose own GET COMMAND STATUS isn't outstanding, or that is about nobody: about a command that is said
+    /// to be outstanding, and isn't the oldest that isn't answered when it arrives, or about itself.
+    #[error("poll")]
+    Poll,
     /// The bytes say a host, and aren't those that it is saved as.
     #[error("form")]
     Form,
@@ -128,18 +133,28 @@ fn outstanding_in(b: &[u8]) -> ArrayVec<Submission, 64>
     submissions_in(usize::from(b[16]), &b[26..])
 }
 
-/// The host that bytes with the head of one say, with these outstanding submissions.
-fn host_in(b: &[u8], outstanding: ArrayVec<Submission, 64>) -> Host
+/// The poll in flight that bytes with the head of a host say.
+fn poll_in(b: &[u8]) -> Option<Watch>
+    requires { head_fault b.now ≡ None }
+    ensures { result ≡ (account_in b.now).watch }
+{
+    watch_in(b[17], four_at(b, 18), four_at(b, 22))
+}
+
+/// The host that bytes with the head of one say, with these outstanding submissions and this poll in flight.
+fn host_in(b: &[u8], outstanding: ArrayVec<Submission, 64>, watch: Option<Watch>) -> Host
     requires head { head_fault b.now ≡ None }
     requires said { outstanding.items ≡ outstanding_in b.now }
     requires len { length outstanding.items ≡ count_in b.now }
     requires apart { are_apart outstanding.items ≡ true }
+    requires poll { watch ≡ (account_in b.now).watch }
+    requires watched { is_watched outstanding.items watch ≡ true }
     ensures { result ≡ account_in b.now }
 {
     Host {
         credits: four_at(b, 12),
         outstanding,
-        watch: watch_in(b[17], four_at(b, 18), four_at(b, 22)),
+        watch,
     }
 }
 
@@ -157,7 +172,11 @@ impl Host {
         if !are_apart(outstanding.as_slice()) {
             return Err(RestoreFault::Doubled);
         }
-        let host = host_in(b, outstanding);
+        let watch = poll_in(b);
+        if !is_watched(outstanding.as_slice(), &watch) {
+            return Err(RestoreFault::Poll);
+        }
+        let host = host_in(b, outstanding, watch);
         if host.save().as_slice() == b {
             Ok(host)
         } else {

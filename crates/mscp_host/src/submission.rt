@@ -5,6 +5,9 @@ ghost use Rattle.mscp_host.specs.Accounts.{is_immediate, submission_of};
 
 use mscp_packet::{Command, class_of};
 
+/// The opcode of a GET COMMAND STATUS.
+pub(crate) const STATUS: u8 = 2;
+
 /// A command whose end wasn't received. It is a submission, and not a number: a number that is used again is another.
 #[derive(Clone, Copy, Debug, PartialEq, Eq)]
 pub struct Submission {

@@ -2,7 +2,10 @@
 
 ghost use Rattle.std.specs.Prelude.{◌≡◌};
 ghost use Rattle.mscp_host.specs.Accounts.{answered, is_about_polled, polled_is_outstanding, told_in, watch_after};
+ghost use Rattle.mscp_host.specs.Watched.{is_about_somebody, is_watched};
 
+use crate::outstanding::{has_status, is_oldest};
+use crate::submission::Submission;
 use mscp_packet::{End, EndBody};
 
 /// The endcode of a GET COMMAND STATUS (manual, "End Messages").
@@ -73,5 +76,28 @@ pub fn watch_after(watch: Option<Watch>, reference: u32) -> Option<Watch>
             ..watch
         }),
         _ => watch,
+    }
+}
+
+/// Whether a poll is about the oldest command, or about one that is outstanding no more, and that isn't the poll itself.
+fn is_about_somebody(submissions: &[Submission], watch: &Watch) -> bool
+    ensures { result ≡ is_about_somebody submissions.now watch.now }
+{
+    if watch.is_outstanding {
+        is_oldest(submissions, watch.polled)
+    } else {
+        watch.polled != watch.reference
+    }
+}
+
+/// Whether the own GET COMMAND STATUS of the poll in flight is outstanding, and it is about somebody; or there is none.
+pub fn is_watched(submissions: &[Submission], watch: &Option<Watch>) -> bool
+    ensures { result ≡ is_watched submissions.now watch.now }
+{
+    match watch {
+        Some(watch) => {
+            has_status(submissions, watch.reference) && is_about_somebody(submissions, watch)
+        }
+        None => true,
     }
 }

@@ -24,7 +24,7 @@ use std::alloc::Allocator;
 #[derive(Drop)]
 pub struct Judge<A: Allocator> {
     controller: Controller<Wanted>,
-    reporter: Reporter<A>,
+    reporter: Reporter<Vec<u8, A>>,
     peaks: Peaks,
     // How many bytes of the reporter's lines the log has told.
     told: usize,
@@ -44,7 +44,7 @@ impl<A: Allocator> Judge<A> {
     {
         Judge {
             controller: Controller::new(config, Wanted { named: None }),
-            reporter: Reporter::new(alloc),
+            reporter: Reporter::new(Vec::new(alloc)),
             peaks: Peaks::none(),
             told: 0,
             starts: Starts::new(),

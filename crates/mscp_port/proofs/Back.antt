@@ -21,10 +21,10 @@ use Rattle.mscp_port.specs.declared.port.restoring.RestoreFault.{RestoreFault}
 use Rattle.mscp_port.specs.declared.port.restoring.RestoreFault.TheVariants as faults
 use Rattle.mscp_port.specs.declared.volumes.Volume.{Volume}
 use Rattle.mscp_port.specs.Areas.{AreRings, Rings, are_rings}
-use Rattle.mscp_port.specs.Codes.{coded_task, number_or_none, optional, some_byte, stage_byte, stage_in, stage_word, task_in}
+use Rattle.mscp_port.specs.Codes.{coded_task, has_size, number_or_none, optional, some_byte, stage_byte, stage_in, stage_word, task_in}
 use Rattle.mscp_port.specs.Restored.{area_in, buffer_count, buffer_in, buffers_in, coded_in, controller_place, frame_fault, is_framed, outgoing_in, over, port_in, restored, restored_unless, rings_if, text_count, text_in, volume_in, volumes_in, whose}
 use Rattle.mscp_port.specs.Saved.{HasBufferRange, HasRange, HasVolumeRange, buffer_bytes, length_of, outgoing_byte, outgoing_text, rings_or_none, saved_bytes, volume_bytes}
-use Rattle.mscp_port.proofs.Coded.{bus_back, optional_back, stage_back, task_back}
+use Rattle.mscp_port.proofs.Coded.{bus_back, optional_back, size_back, stage_back, task_back}
 
 -- ---- parts
 
@@ -194,7 +194,7 @@ module _ {K : Type 0} (number : ℕ) (p : Port K) where
     rings = (ap (rings_if (some_byte p.rings)) (area_said r) ∙ rings_is p.rings r.hand.rings) i;
     responses = p.responses;
     commands = p.commands;
-    task = (ap task_in (coded_said r) ∙ task_back p.task r.hand.status) i;
+    task = (ap task_in (coded_said r) ∙ task_back p.task r.hand.task) i;
     outgoing = (ap (outgoing_in (outgoing_byte p.outgoing)) (text_said r) ∙ outgoing_back p.outgoing) i;
     is_polled = flag_back p.is_polled i;
     is_stalled = flag_back p.is_stalled i;
@@ -232,7 +232,10 @@ module _ {K : Type 0} (number : ℕ) (p : Port K) where
       (le-leb (controller_place b) (length b) (omega (arith, long))))))
 
   frame_passes : HasRange p → length cs ≤ 3664 → frame_fault b ≡ None
-  frame_passes r fits = λ i. if not (framed r fits i) then Some faults.Length else None
+  frame_passes r fits =
+      (λ i. if not (framed r fits i) then Some faults.Length else
+      (if not (has_size (coded_said r i)) then Some faults.Size else None))
+      ∙ (λ i. if not (size_back p.task r.hand.task i) then Some faults.Size else None)
 
   -- ---- the bytes say the port
 

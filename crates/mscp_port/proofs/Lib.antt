@@ -8,6 +8,7 @@ pub mod Credits
 pub mod Departing
 pub mod Known
 pub mod Loads
+pub mod Mounts
 pub mod Naming
 pub mod Settings
 pub mod Formed

@@ -28,9 +28,9 @@ step_task first task =
 -- a part of the area was cleared, behind so many bytes: the next one comes, or the last step of the initialisation
 pub record Clears {K : Type 0} (outcome : Outcome) (r : Rings) (done : ℕ) (old new : Port K) : Type 0 where
   pub missing : outcome ≢ outcomes.Done → IsAsNew (stages.Dead 7) old new
-  pub on : outcome ≡ outcomes.Done → start_of r (old.words.second % 2 == 1) + (done % 2048 + 64) < end_of r
-      → new ≡ record old { task = tasks.Clear (done % 2048 + 64) }
-  pub last : outcome ≡ outcomes.Done → end_of r ≤ start_of r (old.words.second % 2 == 1) + (done % 2048 + 64)
+  pub on : outcome ≡ outcomes.Done → start_of r (old.words.second % 2 == 1) + (done + 64) < end_of r
+      → new ≡ record old { task = tasks.Clear (done + 64) }
+  pub last : outcome ≡ outcomes.Done → end_of r ≤ start_of r (old.words.second % 2 == 1) + (done + 64)
       → new ≡ record old { stage = stages.Last; task = step_task old.words.first tasks.Free }
 
 -- ---- slots that are given back

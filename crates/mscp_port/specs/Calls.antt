@@ -137,9 +137,10 @@ pub record Wants {K : Type 0} (old : Port K) (action : Action) (new : Port K) : 
   pub says : Says old new
   pub begun : (IsOfBlock new.task → ⊥) → new.controller.begun ≡ old.controller.begun
   pub settings : new.controller.settings ≡ old.controller.settings
-  -- a block is moved only on a volume that is there, with which its unit is online, and that may be written on if it is
+  -- a block is moved only if its unit has it, on a volume that is there, with which the unit is online, and that may be
+  -- written on if it is
   pub moves : (kind : MoveKind) (unit block count : ℕ) → action ≡ actions.Transfer kind unit block count
-      → MayMoveOn kind unit new
+      → MayMoveOn kind unit block new
   -- what is in hand stays so until it is told how that went
   pub goes_on : old.task ≢ tasks.Free → new ≡ old
 

@@ -1,5 +1,5 @@
 -- What has no number of its own, as numbers, and what numbers stand for.
-use Rattle.std.specs.Prelude.{ℕ, ◌%◌, ◌≤◌, nat_eq, nat_le, nat_lt, if◌then◌else◌, Option, Some, None}
+use Rattle.std.specs.Prelude.{◌≡◌, ℕ, ◌%◌, ◌≤◌, ◌<◌, Bool, true, nat_eq, nat_le, nat_lt, if◌then◌else◌, Option, Some, None, is_some}
 use Rattle.mscp_packet.specs.declared.command.MoveKind.{MoveKind}
 use Rattle.mscp_packet.specs.declared.command.MoveKind.TheVariants as moves
 use Rattle.mscp_events.specs.declared.block.Block.{Block}
@@ -12,10 +12,12 @@ use Rattle.mscp_port.specs.declared.hardware.Bus.{Bus}
 use Rattle.mscp_port.specs.declared.hardware.Bus.TheVariants.{Q, Uni}
 use Rattle.mscp_port.specs.declared.rings.Side.{Side}
 use Rattle.mscp_port.specs.declared.rings.Side.TheVariants.{Responses, Commands}
+use Rattle.mscp_port.specs.declared.slot.Descriptor.{Descriptor}
 use Rattle.mscp_port.specs.declared.stage.Stage.{Stage}
 use Rattle.mscp_port.specs.declared.stage.Stage.TheVariants as stages
 use Rattle.mscp_port.specs.declared.task.Task.{Task}
 use Rattle.mscp_port.specs.declared.task.Task.TheVariants as tasks
+use Rattle.mscp_port.specs.Sizes.{clear_size, text_size}
 
 -- ---- what there may be
 
@@ -155,18 +157,28 @@ coded_task (tasks.Fetch job) = coded_job 12 job
 coded_task (tasks.Transfer job) = coded_job 13 job
 coded_task (tasks.Store job) = coded_job 14 job
 
+-- the clearing of the area behind so many bytes, if they are parts of one
+abbrev pub clear_task : Option ℕ → Task
+clear_task None = tasks.Free
+clear_task (Some done) = tasks.Clear done
+
+-- the reading of a text of this size, if it is one
+abbrev pub text_task : Descriptor → Bool → Option ℕ → Task
+text_task slot foreign None = tasks.Free
+text_task slot foreign (Some size) = tasks.Text slot size foreign
+
 -- what comes before the rings are in use
 abbrev pub early_task_in : Coded → Task
 early_task_in c =
     if nat_eq c.task 1 then tasks.Settle else (
-    if nat_eq c.task 2 then tasks.Clear c.first else tasks.Free)
+    if nat_eq c.task 2 then clear_task (clear_size c.first) else tasks.Free)
 
 -- what is done with the rings
 abbrev pub ring_task_in : Coded → Task
 ring_task_in c =
     if nat_eq c.task 3 then tasks.Slot (side_in c.whom) else (
     if nat_eq c.task 4 then tasks.Header (record { word = c.first }) else (
-    if nat_eq c.task 5 then tasks.Text (record { word = c.first }) c.second (nat_eq c.whom 1) else (
+    if nat_eq c.task 5 then text_task (record { word = c.first }) (nat_eq c.whom 1) (text_size c.second) else (
     if nat_eq c.task 6 then tasks.Packet (record { word = c.first }) else (
     if nat_eq c.task 7 then tasks.Return (side_in c.whom) (record { word = c.first }) else (
     if nat_eq c.task 8 then tasks.Neighbour (side_in c.whom) else tasks.Word (side_in c.whom))))))
@@ -184,7 +196,16 @@ task_in c =
     if nat_lt c.task 3 then early_task_in c else (
     if nat_lt c.task 10 then ring_task_in c else block_task_in c)
 
--- a status is one of those that a block may end with
-abbrev pub HasStatus : Task → Type 0
-HasStatus (tasks.Step via reference (Bad status)) = 5 ≤ status % 32
-HasStatus task = Unit {0}
+-- the size that a task has by its numbers, if it has one, is such as a task of its kind has
+abbrev pub has_size : Coded → Bool
+has_size c =
+    if nat_eq c.task 2 then is_some (clear_size c.first) else (
+    if nat_eq c.task 5 then is_some (text_size c.second) else true)
+
+-- so much is clear as may be while more is to be cleared, a text has a size of one, and a status is one of those that a
+-- block may end with
+abbrev pub IsTask : Task → Type 0
+IsTask (tasks.Clear done) = (done % 64 ≡ 0) × (done < 1032)
+IsTask (tasks.Text slot size foreign) = (12 ≤ size) × (size ≤ 64)
+IsTask (tasks.Step via reference (Bad status)) = 5 ≤ status % 32
+IsTask task = Unit {0}

@@ -9,6 +9,7 @@ pub mod Histories
 pub mod Leaving
 pub mod Loaded
 pub mod Messages
+pub mod Mounted
 pub mod Moved
 pub mod Outgoings
 pub mod Packets
@@ -21,3 +22,4 @@ pub mod Seen
 pub mod Slots
 pub mod Volumes
 pub mod Wanted
+pub mod Sizes

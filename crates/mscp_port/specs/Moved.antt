@@ -1,6 +1,7 @@
 -- What is wanted for a block in hand, and what follows once that was done.
-use Rattle.std.specs.Prelude.{◌≡◌, ◌<◌, ◌⊎◌, ℕ, ◌%◌, ◌==◌, ◌||◌, Bool, true, false, is_none, if◌then◌else◌, List, MatchOption, Result, Option, None, Some, Ok}
+use Rattle.std.specs.Prelude.{◌≡◌, ◌<◌, ◌⊎◌, ℕ, ◌%◌, ◌==◌, ◌||◌, Bool, true, false, is_none, nat_lt, if◌then◌else◌, List, MatchOption, Result, Option, None, Some, Ok}
 use Rattle.mscp_drive.specs.Shape.{Shape}
+use Rattle.mscp_drive.specs.UnitList.{unit_found}
 use Rattle.mscp_packet.specs.declared.command.MoveKind.{MoveKind}
 use Rattle.mscp_packet.specs.declared.command.MoveKind.TheVariants as moves
 use Rattle.mscp_events.specs.declared.block.Block.{Block}
@@ -57,10 +58,23 @@ abbrev pub fault_at : Option ℕ → Option Buffer → MoveKind → List Volume 
 fault_at (Some place) (Some b) kind volumes = fault_with kind b (volume_at volumes place)
 fault_at place kept kind volumes = Some 0x000B
 
--- why a step in hand may not go on, if it may not: its volume may have changed since
+-- the unit has this block, if it is one
+abbrev pub is_block_of : Option Shape → ℕ → Bool
+is_block_of None block = false
+is_block_of (Some unit) block = nat_lt block unit.size
+
+-- the unit of this number has this block
+abbrev pub has_block : List Shape → ℕ → ℕ → Bool
+has_block units unit block = is_block_of (unit_found units unit) block
+
+-- why a step in hand may not go on, if it may not: its volume may have changed since. Only restored bytes say a block
+-- that its unit hasn't
 abbrev pub fault_now : {K : Type 0} → Port K → Job → Option ℕ
-fault_now p job = fault_at (place_in p.controller.settings.units job.unit) (kept_of job.reference p.buffers.items)
-    job.kind p.volumes
+fault_now p job =
+    if has_block p.controller.settings.units job.unit job.block
+    then fault_at (place_in p.controller.settings.units job.unit) (kept_of job.reference p.buffers.items) job.kind
+    p.volumes
+    else Some 0x000B
 
 abbrev pub part_kept : Option Buffer → ℕ → Option (ℕ × ℕ)
 part_kept None done = None
@@ -77,10 +91,10 @@ part_now p job =
     if is_storing p.task || is_none (fault_now p job) then part_kept (kept_of job.reference p.buffers.items) job.done
     else None
 
--- a block of this unit may be moved so: on the volume that is in it
-abbrev pub MayMoveOn : {K : Type 0} → MoveKind → ℕ → Port K → Type 0
-MayMoveOn kind unit p = (place : ℕ) × (place_in p.controller.settings.units unit ≡ Some place) × (place < 16)
-    × MayMove kind (volume_at p.volumes place)
+-- this block of this unit may be moved so: there is such a block, and it is on the volume that is in the unit
+abbrev pub MayMoveOn : {K : Type 0} → MoveKind → ℕ → ℕ → Port K → Type 0
+MayMoveOn kind unit block p = (place : ℕ) × (place_in p.controller.settings.units unit ≡ Some place) × (place < 16)
+    × MayMove kind (volume_at p.volumes place) × (has_block p.controller.settings.units unit block ≡ true)
 
 -- ---- what is wanted
 

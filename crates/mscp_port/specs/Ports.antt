@@ -1,5 +1,5 @@
 -- What a port knows of its host's memory, and what it may touch there.
-use Rattle.std.specs.Prelude.{◌≡◌, ◌≢◌, ℕ, ◌+◌, ◌-◌, ◌≤◌, ◌<◌, ◌⊎◌, ◌&&◌, true, false, nat_le, if◌then◌else◌, List, [], length, Contains, IfSome, IsSomeAnd, Option, None, Some}
+use Rattle.std.specs.Prelude.{◌≡◌, ◌≢◌, ℕ, ◌+◌, ◌-◌, ◌≤◌, ◌<◌, ◌⊎◌, true, false, List, [], length, Contains, IfSome, IsSomeAnd, Option, None, Some}
 use Rattle.mscp_controller.specs.Holdings.{fresh}
 use Rattle.mscp_packet.specs.Number.{num}
 use Rattle.mscp_port.specs.declared.action.Action.{Action}
@@ -63,12 +63,12 @@ in_hand (tasks.Packet slot) = Some slot.word
 in_hand (tasks.Return side slot) = Some slot.word
 in_hand task = None
 
--- how many bytes are wanted of the host's memory, if some are: a descriptor, a header, or a text of 12 to 64 bytes
+-- how many bytes are wanted of the host's memory, if some are: a descriptor, a header, or a text
 abbrev pub read_size : Task → Option ℕ
 read_size (tasks.Slot side) = Some 4
 read_size (tasks.Neighbour side) = Some 4
 read_size (tasks.Header slot) = Some 4
-read_size (tasks.Text slot size foreign) = if nat_le 12 size && nat_le size 64 then Some size else None
+read_size (tasks.Text slot size foreign) = Some size
 read_size task = None
 
 -- what is in hand may have gone so: a read that was done is told by its bytes

@@ -16,7 +16,7 @@ use Rattle.mscp_port.specs.declared.port.restoring.RestoreFault.{RestoreFault}
 use Rattle.mscp_port.specs.declared.port.restoring.RestoreFault.TheVariants as faults
 use Rattle.mscp_port.specs.declared.volumes.Volume.{Volume}
 use Rattle.mscp_port.specs.Areas.{Rings, rings_of}
-use Rattle.mscp_port.specs.Codes.{bus_in, optional, stage_in, task_in}
+use Rattle.mscp_port.specs.Codes.{bus_in, has_size, optional, stage_in, task_in}
 use Rattle.mscp_port.specs.Saved.{buffer_size, front_bytes, front_size, head_size, length_before, magic, saved_bytes, version, volume_size}
 
 -- ---- what bytes say. Of bytes that are nobody's something is said, too
@@ -165,7 +165,8 @@ abbrev pub frame_fault : List ℕ → Option RestoreFault
 frame_fault b =
     if not (is_framed b) then Some faults.Length else (
     if not (nat_eq (num b 0 4) magic) then Some faults.Magic else (
-    if not (nat_eq (num b 4 4) version) then Some faults.Version else None))
+    if not (nat_eq (num b 4 4) version) then Some faults.Version else (
+    if not (has_size (coded_in b)) then Some faults.Size else None)))
 
 -- this port, where the bytes are those that it is saved as
 abbrev pub whose : {K : Type 0} → ℕ → List ℕ → Port K → Result (Port K) RestoreFault

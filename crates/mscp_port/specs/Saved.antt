@@ -12,7 +12,7 @@ use Rattle.mscp_port.specs.declared.port.Words.{Words}
 use Rattle.mscp_port.specs.declared.stage.Stage.{Stage}
 use Rattle.mscp_port.specs.declared.volumes.Volume.{Volume}
 use Rattle.mscp_port.specs.Areas.{AreRings, Rings}
-use Rattle.mscp_port.specs.Codes.{HasStatus, bus_byte, coded_task, number_or_none, some_byte, stage_byte, stage_word}
+use Rattle.mscp_port.specs.Codes.{IsTask, bus_byte, coded_task, number_or_none, some_byte, stage_byte, stage_word}
 
 -- ---- sizes
 
@@ -200,7 +200,7 @@ pub record HasHandRange {K : Type 0} (p : Port K) : Type 0 where
   pub written : number_or_none p.written < 2 ^ 16
   pub rings : IfSome p.rings (λ r. AreRings r)
   pub coded : HasCodedRange (coded_task p.task)
-  pub status : HasStatus p.task
+  pub task : IsTask p.task
 
 -- all of them, and how many there are of each part
 pub record HasRange {K : Type 0} (p : Port K) : Type 0 where

@@ -31,7 +31,7 @@ vector_of p = vector_in p.words.first
 
 -- the area is cleared from behind so many bytes on, and not past its end
 abbrev pub clear_from : {K : Type 0} → Port K → Rings → ℕ → ℕ
-clear_from p r done = min (start_of r (p.words.second % 2 == 1) + done % 2048) (end_of r)
+clear_from p r done = min (start_of r (p.words.second % 2 == 1) + done) (end_of r)
 
 -- what is wanted for the rings, if the host has named them; and else nothing for a while
 abbrev pub InRings : {K : Type 0} → Port K → Action → (Rings → Type 0) → Type 0
@@ -47,7 +47,7 @@ IsWanted p tasks.Interrupt action = action ≡ actions.Interrupt (vector_of p)
 IsWanted p (tasks.Slot side) action =
     InRings p action (λ r. action ≡ actions.Read (slot_in r side (given_in p side)) 4)
 IsWanted p (tasks.Header slot) action = action ≡ actions.Read (text_of slot.word - 4) 4
-IsWanted p (tasks.Text slot size foreign) action = action ≡ actions.Read (text_of slot.word) (min size 64)
+IsWanted p (tasks.Text slot size foreign) action = action ≡ actions.Read (text_of slot.word) size
 IsWanted p (tasks.Packet slot) action = IfSome p.outgoing (λ o.
     Writes action (text_of slot.word - 4) (packet_of (credits_told p) o.bytes.items))
 IsWanted p (tasks.Return side slot) action =

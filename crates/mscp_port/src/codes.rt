@@ -2,11 +2,12 @@
 
 ghost use Rattle.std.specs.Prelude.{◌≡◌, ◌<◌, ◌≤◌};
 ghost use Rattle.mscp_port.specs.declared.task.Task.TheVariants as tasks;
-ghost use Rattle.mscp_port.specs.Codes.{HasStatus, bad_byte, bad_status, block_in, block_task_in, bus_byte, bus_in, coded_job, coded_task, early_task_in, job_in, kind_byte, kind_in, nothing, ring_task_in, side_byte, side_in, stage_byte, stage_in, stage_word, task_in};
+ghost use Rattle.mscp_port.specs.Codes.{IsTask, bad_byte, bad_status, block_in, block_task_in, bus_byte, bus_in, clear_task, coded_job, coded_task, early_task_in, has_size, job_in, kind_byte, kind_in, nothing, ring_task_in, side_byte, side_in, stage_byte, stage_in, stage_word, task_in, text_task};
 
 use crate::buffers::Job;
 use crate::hardware::Bus;
 use crate::rings::Side;
+use crate::sizes::{ClearSize, TextSize};
 use crate::slot::Descriptor;
 use crate::stage::Stage;
 use crate::task::Task;
@@ -232,7 +233,7 @@ fn of_packet(task: u8, slot: Descriptor) -> Coded
 /// The taking of a step whose block had this outcome.
 fn coded_step(connection: Connection, reference: u32, block: Block) -> Coded
     ensures value { result ≡ coded_task (tasks.Step connection reference block) }
-    ensures status { HasStatus (tasks.Step connection reference block) }
+    ensures status { IsTask (tasks.Step connection reference block) }
 {
     let (how, two) = coded_block(block);
     Coded {
@@ -248,14 +249,14 @@ fn coded_step(connection: Connection, reference: u32, block: Block) -> Coded
 /// A task as numbers.
 pub(crate) fn coded_task(task: Task) -> Coded
     ensures value { result ≡ coded_task task }
-    ensures status { HasStatus task }
+    ensures task { IsTask task }
 {
     match task {
         Task::Free => NOTHING,
         Task::Settle => Coded { task: 1, ..NOTHING },
-        Task::Clear(first) => Coded {
+        Task::Clear(done) => Coded {
             task: 2,
-            first,
+            first: done.get(),
             ..NOTHING
         },
         Task::Slot(side) => of_ring(3, side),
@@ -266,7 +267,7 @@ pub(crate) fn coded_task(task: Task) -> Coded
             is_foreign,
         } => Coded {
             whom: if is_foreign { 1 } else { 0 },
-            second: length,
+            second: length.get(),
             ..of_packet(5, slot)
         },
         Task::Packet(slot) => of_packet(6, slot),
@@ -287,13 +288,48 @@ pub(crate) fn coded_task(task: Task) -> Coded
     }
 }
 
+/// Whether the size that a task has by its numbers, if it has one, is such as a task of its kind has.
+pub(crate) fn has_size(coded: Coded) -> bool
+    ensures { result ≡ has_size coded }
+{
+    match coded.task {
+        2 => ClearSize::of(coded.first).is_some(),
+        5 => TextSize::of(coded.second).is_some(),
+        _ => true,
+    }
+}
+
+/// The clearing of the area behind so many bytes, if they are parts of one.
+fn clear_task(done: Option<ClearSize>) -> Task
+    ensures { result ≡ clear_task done }
+{
+    match done {
+        Some(done) => Task::Clear(done),
+        None => Task::Free,
+    }
+}
+
+/// The reading of a text of this size, if it is one.
+fn text_task(slot: Descriptor, is_foreign: bool, length: Option<TextSize>) -> Task
+    ensures { result ≡ text_task slot is_foreign length }
+{
+    match length {
+        Some(length) => Task::Text {
+            slot,
+            length,
+            is_foreign,
+        },
+        None => Task::Free,
+    }
+}
+
 /// The task that numbers say, of those before the rings are in use.
 fn early_task_in(coded: Coded) -> Task
     ensures { result ≡ early_task_in coded }
 {
     match coded.task {
         1 => Task::Settle,
-        2 => Task::Clear(coded.first),
+        2 => clear_task(ClearSize::of(coded.first)),
         _ => Task::Free,
     }
 }
@@ -307,11 +343,7 @@ fn ring_task_in(coded: Coded) -> Task
     match coded.task {
         3 => Task::Slot(side),
         4 => Task::Header(slot),
-        5 => Task::Text {
-            slot,
-            length: coded.second,
-            is_foreign: coded.whom == 1,
-        },
+        5 => text_task(slot, coded.whom == 1, TextSize::of(coded.second)),
         6 => Task::Packet(slot),
         7 => Task::Return(side, slot),
         8 => Task::Neighbour(side),

@@ -3,6 +3,7 @@
 ghost use Rattle.mscp_port.specs.Departures.{PortsFillTheirSlots, PortsSpeakInOrder, PortsTellTheirCredits};
 ghost use Rattle.mscp_port.specs.Histories.{PortsHaveCredit, PortsTouchWhatIsNamed};
 ghost use Rattle.mscp_port.specs.Loaded.{PortsMoveOnVolumes};
+ghost use Rattle.mscp_port.specs.Mounted.{PortsMoveAsMounted};
 ghost use Rattle.mscp_port.specs.Places.{PortsTouchWhatWasPut};
 
 use mscp_queue::Picker;
@@ -36,9 +37,12 @@ pub fn ports_have_credit<K: Picker>(picker: &K)
 }
 
 /// Whoever calls a port that was made over a controller: a block is moved only where a volume is in its unit, and one that is
-/// written or erased only where that volume isn't protected, as was told last of it. So say the calls alone.
+/// written or erased only where that volume isn't protected, as was told last of it. So say the calls alone. And that volume is
+/// the one that its unit was brought online with, and is written on only where its host doesn't protect it: so say the ends that
+/// were heeded, with what was kept of their commands.
 pub fn ports_move_on_volumes<K: Picker>(picker: &K)
-    ensures { PortsMoveOnVolumes K }
+    ensures volumes { PortsMoveOnVolumes K }
+    ensures mounts { PortsMoveAsMounted K }
 {
     let _ = picker;
 }

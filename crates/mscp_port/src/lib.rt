@@ -11,6 +11,7 @@ mod law;
 mod message;
 mod port;
 mod rings;
+mod sizes;
 mod slot;
 mod stage;
 mod task;

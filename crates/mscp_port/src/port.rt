@@ -28,6 +28,7 @@ pub use crate::port::restoring::{RestoreFault, restore_fault, saved_settings};
 pub use crate::port::saving::ROOM;
 pub use crate::port::watching::NoUnit;
 use crate::rings::Rings;
+use crate::sizes::ClearSize;
 use crate::stage::Stage;
 use crate::task::Task;
 use crate::volumes::{Volume, reset_all};
@@ -329,7 +330,7 @@ impl<K: Picker> Port<K> {
         match self.rings {
             Some(_) => {
                 self.stage = Stage::Clearing;
-                self.task = Task::Clear(0);
+                self.task = Task::Clear(ClearSize::none());
             }
             None => self.die(7),
         }

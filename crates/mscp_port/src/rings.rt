@@ -135,6 +135,7 @@ impl Rings {
     pub fn end(&self) -> u32
         ensures value { result ≡ end_of self.now }
         ensures low { result < 2 ^ 31 + 1025 }
+        ensures near { result ≤ self.now.base + 1024 }
     {
         self.base + (self.responses + self.commands) * 4
     }

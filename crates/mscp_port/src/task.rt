@@ -1,7 +1,12 @@
 // What a port has in hand.
 
+ghost use Rattle.std.specs.Prelude.{◌≡◌, ◌≤◌, ℕ, Bool};
+ghost use Rattle.mscp_port.specs.declared.slot.Descriptor.{Descriptor as Slot};
+ghost use Rattle.mscp_port.specs.declared.task.Task.TheVariants as tasks;
+
 use crate::buffers::Job;
 use crate::rings::Side;
+use crate::sizes::{ClearSize, TextSize};
 use crate::slot::Descriptor;
 use mscp_queue::{Block, Connection};
 
@@ -13,7 +18,7 @@ pub(crate) enum Task {
     /// A step of the initialisation is taken, once the machine went on a little.
     Settle,
     /// The communication area is cleared, behind so many bytes that are clear.
-    Clear(u32),
+    Clear(ClearSize),
     /// The next slot of a ring is read.
     Slot(Side),
     /// The header of a command's packet is read.
@@ -21,7 +26,7 @@ pub(crate) enum Task {
     /// The text of a command is read, which has so many bytes. A foreign one is for another connection than the disk's.
     Text {
         slot: Descriptor,
-        length: u32,
+        length: TextSize,
         is_foreign: bool,
     },
     /// The packet of what goes out is written.
@@ -42,4 +47,27 @@ pub(crate) enum Task {
     Transfer(Job),
     /// The host gets its bytes.
     Store(Job),
+}
+
+impl Task {
+    /// How many bytes the text has that is read, if one is: at most 64.
+    pub fn text_size(self) -> u32
+        ensures value { (slot : Slot) (size : ℕ) (foreign : Bool) → self ≡ tasks.Text slot size foreign → result ≡ size }
+        ensures few { result ≤ 64 }
+    {
+        match self {
+            Task::Text { length, .. } => length.get(),
+            _ => 0,
+        }
+    }
+
+    /// Behind how many bytes the area is cleared, if it is.
+    pub fn clear_size(self) -> ClearSize
+        ensures { (done : ℕ) → self ≡ tasks.Clear done → result ≡ done }
+    {
+        match self {
+            Task::Clear(done) => done,
+            _ => ClearSize::none(),
+        }
+    }
 }

@@ -1,6 +1,6 @@
 -- The costs of a view in a row of their own, and the first of the least of them.
 use Rattle.std.proofs.Common.{◌≡◌, ◌∙◌, ◌+◌, ◌-◌, ◌<◌, ◌≤◌, ◌^◌, ℕ, List, ◌++◌, map, take, drop, length, get_or, set, inl, inr, ap, sym, subst, arith}
-use Rattle.std.specs.Prelude.{All, Option, None, Some, IfNone, IfSome, unwrap_or}
+use Rattle.std.specs.Prelude.{Option, None, Some, IfNone, IfSome, unwrap_or}
 use Rattle.std.specs.List.{CopiedTo, SameBelow, drop-map, take-map}
 use Rattle.std.specs.Int.{bit_at}
 use Rattle.std.proofs.lemmas.Bool.{cases_eq, cases_lt}
@@ -9,7 +9,7 @@ use Rattle.std.proofs.lemmas.List.{get_or-append_right, get_or-drop, get_or-map,
 use Rattle.mscp_queue.specs.declared.view.Choice.{Choice}
 use Rattle.mscp_queue.specs.Lanes.{IsLeast}
 use Rattle.mscp_queue.specs.Lineups.{costing, no_choice}
-use Rattle.mscp_queue.specs.Pickers.{IsFirstLeast, IsRow, IsSweep, costs}
+use Rattle.mscp_queue.specs.Pickers.{IsRow, IsSweep, costs}
 
 cost_of : Choice → ℕ
 cost_of c = c.cost
@@ -40,7 +40,7 @@ behind xs place k l inside =
     ∙ ap (λ i. get_or xs i 0) (omega arith)
 
 pub row_left : (row new : List ℕ) (view : List Choice) (place : ℕ) → place < length view → IsRow row view
-    → CopiedTo row new (place + 1) place (64 - (place + 1)) → SameBelow row new place
+    → CopiedTo row new (place + 1) place (length view - (place + 1)) → SameBelow row new place
     → IsRow new (take place view ++ drop (place + 1) view)
 row_left row new view place inside r copied same =
     let long : length (costs view) ≡ length view = length-map view (λ (c : Choice). c.cost) in
@@ -59,7 +59,7 @@ row_left row new view place inside r copied same =
             ∙ r.each k (omega arith)
             ∙ sym (in_front (costs view) place k before (omega (arith, long)))
             ∙ sym (ap (λ xs. get_or xs k 0) (left_costs view place))
-        | inr after ↦ copied k 0 after (omega (arith, few, l, left))
+        | inr after ↦ copied k 0 after (omega (arith, inside, l, left))
             ∙ ap (λ i. get_or row i 0) (omega arith)
             ∙ r.each (k + 1) (omega (arith, l, left))
             ∙ sym (behind (costs view) place k after (omega (arith, long)))

@@ -62,6 +62,10 @@ impl Picker for Sweep {
         ensures empty { view.now ≡ [] → result ≡ 0 }
         ensures sweep { 0 < length view.now → IsSweep view.now result }
     {
-        least(view.costs(), bits_of(view.choices().len())).unwrap_or(0)
+        let count = view.choices().len();
+        if count < 2 {
+            return 0;
+        }
+        least(view.costs(), bits_of(count)).unwrap_or(0)
     }
 }

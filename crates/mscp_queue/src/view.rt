@@ -137,7 +137,7 @@ impl View {
         requires { place < length self.old }
         ensures { self.new ≡ take place self.old ++ drop (place + 1) self.old }
     {
-        self.costs.copy_within(place + 1.., place);
+        self.costs.copy_within(place + 1..self.choices.len(), place);
         self.choices.remove(place);
     }
 

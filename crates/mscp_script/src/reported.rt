@@ -17,29 +17,34 @@ use mscp_reader::{
     Line, Lines, MOST_EVENTS, PlainLine, ReadFault, ScriptFault, lines_of, read_header,
     request_after,
 };
-use std::alloc::Allocator;
+use mscp_text::Out;
 
-/// The report of the script that these bytes are, or its first fault. It takes memory for the report alone.
+/// Writes the report of the script that these bytes are to what has nothing in it, or tells its first fault. It takes memory
+/// for the report alone.
 #[tactic(auto, using(mscp_reader::proofs::Sound::is_fault))]
-pub fn report_script<A: Allocator>(alloc: A, bytes: &[u8]) -> Result<Vec<u8, A>, ReadFault>
-    ensures report { IfOk result (λ report. IsReport bytes.now report.items) }
+pub fn report_script<O: Out>(out: O, bytes: &[u8]) -> Result<O, ReadFault>
+    requires { O.text out ≡ [] }
+    ensures report { IfOk result (λ report. IsReport bytes.now (O.text report)) }
     ensures fault { (fault : ScriptFault) → result ≡ Err (ReadFault.Script fault) → IsFault bytes.now fault }
 {
-    report_lines(alloc, &mut lines_of(bytes)?)
+    report_lines(out, &mut lines_of(bytes)?)
 }
 
 /// The report of what lines stand for, or the first fault.
-fn report_lines<A: Allocator>(alloc: A, lines: &mut Lines<'_>) -> Result<Vec<u8, A>, ReadFault>
-    ensures { TellsReport (λ report. report.items) result (rest_outcome lines.old.number Begins lines.old.rest.now) }
+fn report_lines<O: Out>(out: O, lines: &mut Lines<'_>) -> Result<O, ReadFault>
+    requires { O.text out ≡ [] }
+    ensures { TellsReport O.text result (rest_outcome lines.old.number Begins lines.old.rest.now) }
 {
     runs_keep_the_promise(&Sweep);
-    let mut run = Run::new(alloc, read_header(lines)?);
+    let mut run = Run::new(out, read_header(lines)?);
     run_events(lines, &mut run)?;
-    Ok(run.finish()?)
+    // A controller isn't small, so the run isn't handed on.
+    let Run { reporter, .. } = run;
+    Ok(reporter.finish()?)
 }
 
 /// Has a run meet the events of all lines that are left.
-fn run_events<A: Allocator>(lines: &mut Lines<'_>, run: &mut Run<A>) -> Result<(), ReadFault>
+fn run_events<O: Out>(lines: &mut Lines<'_>, run: &mut Run<O>) -> Result<(), ReadFault>
     requires { run.old.reporter.count ≡ 0 }
     ensures { (c : Settings) → Runs c [] run.old → RunsTo (λ events. (c, events)) c result run.new
         (rest_outcome lines.old.number (HasGone c []) lines.old.rest.now) }
@@ -53,7 +58,7 @@ fn run_events<A: Allocator>(lines: &mut Lines<'_>, run: &mut Run<A>) -> Result<(
 }
 
 /// Has a run meet the events of the next lines, as far as they are plain.
-fn run_plain_lines<A: Allocator>(lines: &mut Lines<'_>, run: &mut Run<A>) -> Result<(), ReadFault>
+fn run_plain_lines<O: Out>(lines: &mut Lines<'_>, run: &mut Run<O>) -> Result<(), ReadFault>
     requires { run.old.reporter.count ≤ MOST_EVENTS }
     ensures few { OnOk result (run.new.reporter.count ≤ MOST_EVENTS) }
     ensures left { OnOk result (length lines.new.rest.now ≤ length lines.old.rest.now) }
@@ -67,7 +72,7 @@ fn run_plain_lines<A: Allocator>(lines: &mut Lines<'_>, run: &mut Run<A>) -> Res
 }
 
 /// Has a run meet the events of a plain line. Where they are too many, the reader of all lines tells the fault.
-fn run_plain<A: Allocator>(run: &mut Run<A>, found: PlainLine<'_>) -> Result<(), ReadFault>
+fn run_plain<O: Out>(run: &mut Run<O>, found: PlainLine<'_>) -> Result<(), ReadFault>
     requires { run.old.reporter.count ≤ MOST_EVENTS }
     ensures few { OnOk result (run.new.reporter.count ≤ MOST_EVENTS) }
     ensures next { (c : Settings) (es : List Event) → Runs c es run.old → RunsTo (HasGone c) c result run.new
@@ -81,7 +86,7 @@ fn run_plain<A: Allocator>(run: &mut Run<A>, found: PlainLine<'_>) -> Result<(),
 }
 
 /// Has a run meet the events of a line.
-fn run_line<A: Allocator>(run: &mut Run<A>, line: Line<'_>) -> Result<(), ReadFault>
+fn run_line<O: Out>(run: &mut Run<O>, line: Line<'_>) -> Result<(), ReadFault>
     requires { run.old.reporter.count ≤ MOST_EVENTS }
     ensures few { OnOk result (run.new.reporter.count ≤ MOST_EVENTS) }
     ensures next { (c : Settings) (es : List Event) → Runs c es run.old → RunsTo (HasGone c) c result run.new

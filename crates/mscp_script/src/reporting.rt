@@ -13,28 +13,27 @@ use crate::reporting::tail::Tail;
 use crate::totals::Totals;
 use arrayvec::ArrayVec;
 use mscp_controller::{Connection, OutOfMemory, Report, SendFault, Sent};
-use mscp_text::put;
-use std::alloc::Allocator;
+use mscp_text::{Out, put};
 use std::marker::Model;
 
 /// The lines of the entries so far, and their totals.
 #[derive(Drop)]
-pub struct Reporter<A: Allocator> {
-    out: Vec<u8, A>,
+pub struct Reporter<O: Out> {
+    out: O,
     // Where each line is written, before it is appended.
     line: Tail,
     totals: Totals,
 }
 
 // A clause sees the lines, how many entries they are of, and the totals.
-impl<A: Allocator> Model for Reporter<A> {
+impl<O: Out> Model for Reporter<O> {
     ghost use Rattle.mscp_script.specs.Text.{Reported};
 
     ghost Value = { Reported };
 
     ghost view = { λ r.
         record {
-          lines = r.out.items;
+          lines = O.text r.out;
           count = r.totals.count;
           steps = r.totals.steps;
           seeks = r.totals.seeks;
@@ -43,13 +42,14 @@ impl<A: Allocator> Model for Reporter<A> {
         } };
 }
 
-impl<A: Allocator> Reporter<A> {
+impl<O: Out> Reporter<O> {
     /// A report of no entry.
-    pub fn new(alloc: A) -> Reporter<A>
+    pub fn new(out: O) -> Reporter<O>
+        requires { O.text out ≡ [] }
         ensures { result ≡ reported [] }
     {
         Reporter {
-            out: Vec::new(alloc),
+            out,
             line: Tail::new(),
             totals: Totals::new(),
         }
@@ -73,21 +73,21 @@ impl<A: Allocator> Reporter<A> {
     pub fn lines(&self) -> &[u8]
         ensures { result.now ≡ self.now.lines }
     {
-        &self.out
+        self.out.appended()
     }
 
     /// Forgets the lines. How many entries were reported, and their totals, stay.
     pub fn forget_lines(&mut self)
         ensures { self.new ≡ record self.old { lines = [] } }
     {
-        self.out.clear();
+        self.out.forget();
     }
 
     /// Forgets all entries.
     pub fn restart(&mut self)
         ensures { self.new ≡ reported [] }
     {
-        self.out.clear();
+        self.out.forget();
         self.totals = Totals::new();
     }
 
@@ -155,8 +155,8 @@ impl<A: Allocator> Reporter<A> {
     }
 
     /// The text, with the line of the totals.
-    pub fn finish(mut self) -> Result<Vec<u8, A>, OutOfMemory>
-        ensures { IfOk result (λ bytes. bytes.items ≡ finished self) }
+    pub fn finish(mut self) -> Result<O, OutOfMemory>
+        ensures { IfOk result (λ out. O.text out ≡ finished self) }
     {
         put_totals(&mut self.out, &self.totals)?;
         Ok(self.out)

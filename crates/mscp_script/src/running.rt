@@ -1,6 +1,6 @@
 // A controller that is driven event by event, and the report of what it answers.
 
-ghost use Rattle.std.specs.Prelude.{◌≡◌, ◌+◌, ◌<◌, ◌^◌, [], length, replicate, OnOk, IfOk};
+ghost use Rattle.std.specs.Prelude.{◌≡◌, ◌+◌, ◌<◌, ◌^◌, [], length, replicate, OnOk};
 ghost use Rattle.mscp_controller.specs.Holdings.{fresh};
 ghost use Rattle.mscp_events.specs.Settings.{IsValid};
 ghost use Rattle.mscp_events.specs.declared.event.Event.TheVariants as events;
@@ -8,31 +8,32 @@ ghost use Rattle.mscp_events.specs.declared.block.Block.TheVariants.{Good};
 ghost use Rattle.mscp_reader.specs.Plain.{plain_request};
 ghost use Rattle.mscp_reader.specs.Requests.{events_of};
 ghost use Rattle.mscp_script.specs.Running.{Meets, Ran};
-ghost use Rattle.mscp_script.specs.Text.{finished, reported};
+ghost use Rattle.mscp_script.specs.Text.{reported};
 
 use crate::reporting::Reporter;
 use mscp_controller::{Block, Config, Connection, Controller, OutOfMemory, Sweep};
 use mscp_packet::write_command;
 use mscp_reader::{Plain, Request};
-use std::alloc::Allocator;
+use mscp_text::Out;
 
 /// A controller whose picker sweeps, and the report of what it answered so far. No entry is kept.
 #[derive(Drop)]
-pub struct Run<A: Allocator> {
+pub struct Run<O: Out> {
     controller: Controller<Sweep>,
-    reporter: Reporter<A>,
+    pub reporter: Reporter<O>,
 }
 
-impl<A: Allocator> Run<A> {
+impl<O: Out> Run<O> {
     /// A new controller, to which nothing came.
-    pub fn new(alloc: A, config: Config) -> Run<A>
+    pub fn new(out: O, config: Config) -> Run<O>
+        requires { O.text out ≡ [] }
         ensures controller { result.controller ≡ fresh config result.controller.picker }
         ensures report { result.reporter ≡ reported [] }
         ensures valid { IsValid config }
     {
         Run {
             controller: Controller::new(config, Sweep),
-            reporter: Reporter::new(alloc),
+            reporter: Reporter::new(out),
         }
     }
 
@@ -125,12 +126,5 @@ impl<A: Allocator> Run<A> {
             Plain::Look => self.look(),
             Plain::Steps(count) => self.steps(count),
         }
-    }
-
-    /// The text of the report.
-    pub fn finish(self) -> Result<Vec<u8, A>, OutOfMemory>
-        ensures { IfOk result (λ bytes. bytes.items ≡ finished self.reporter) }
-    {
-        self.reporter.finish()
     }
 }

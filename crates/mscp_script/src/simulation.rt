@@ -76,7 +76,7 @@ pub fn simulate_in<A: Allocator + Copy, R: Source, W: Sink>(
     ensures once { WritesOnce result (W.writes writer.old) (W.writes writer.new) }
 {
     let script = read_all(alloc, reader)?;
-    let text = report_script(alloc, &script)?;
+    let text = report_script(Vec::new(alloc), &script)?;
     writer.write_all(&text)?;
     Ok(())
 }

@@ -1,6 +1,6 @@
 // A packet as a line of text: a message that is written as hexadecimal digits.
 
-ghost use Rattle.std.specs.Prelude.{◌≡◌, ◌≤◌, ◌%◌, ◌==◌, ◌&&◌, length, IfOk};
+ghost use Rattle.std.specs.Prelude.{◌≡◌, [], ◌≤◌, ◌%◌, ◌==◌, ◌&&◌, length, IfOk};
 ghost use Rattle.std.specs.Char.{is_ascii_hexdigit};
 ghost use Rattle.std.specs.List.{list_all};
 ghost use Rattle.mscp_packet.specs.Steps.{Gives};
@@ -9,12 +9,13 @@ ghost use Rattle.mscp_text.specs.declared.packet.ShowFault.TheVariants as faults
 
 mod text;
 
+use crate::out::Out;
 use crate::packet::text::put_packet;
 use arrayvec::ArrayVec;
 use mscp_packet::{
     Command, End, EndFault, MOST_MESSAGE_BYTES, PacketFault, decode, read_command, read_end,
 };
-use std::alloc::{AllocError, Allocator, Global};
+use std::alloc::{AllocError, Global};
 use thiserror::Error;
 
 /// The fewest bytes of a message.
@@ -133,14 +134,14 @@ fn packet_in(message: &[u8]) -> Result<Packet, ShowFault>
     }
 }
 
-/// `show_packet` over any allocator.
+/// `show_packet`, written to what has nothing in it.
 #[tactic(auto, unfolding(crate::specs::Shown::shown))]
-pub fn show_packet_in<A: Allocator>(alloc: A, word: &str) -> Result<Vec<u8, A>, ShowFault>
-    ensures { Shows (λ text. text.items) result (shown word.now) }
+pub fn show_packet_to<O: Out>(mut out: O, word: &[u8]) -> Result<O, ShowFault>
+    requires { O.text out ≡ [] }
+    ensures { Shows O.text result (shown word.now) }
 {
-    let message = message_of(word.as_bytes())?;
+    let message = message_of(word)?;
     let packet = packet_in(&message)?;
-    let mut out = Vec::new(alloc);
     put_packet(&mut out, packet)?;
     Ok(out)
 }
@@ -150,5 +151,5 @@ pub fn show_packet_in<A: Allocator>(alloc: A, word: &str) -> Result<Vec<u8, A>, 
 pub fn show_packet(alloc: Global, word: &str) -> Result<Vec<u8>, ShowFault>
     ensures { Shows (λ text. text.items) result (shown word.now) }
 {
-    show_packet_in(alloc, word)
+    show_packet_to(Vec::new(alloc), word.as_bytes())
 }

@@ -26,6 +26,7 @@ use crate::buffers::{Buffer, forget_aborted, keep};
 use crate::message::{SET_CONTROLLER, message_for_controller, own_end};
 use crate::port::{Outgoing, Port};
 use crate::rings::Side;
+use crate::sizes::TextSize;
 use crate::slot::Descriptor;
 use crate::task::Task;
 use arrayvec::ArrayVec;
@@ -33,11 +34,6 @@ use mscp_controller::{SendFault, Sent};
 use mscp_packet::fields::{four_at, two_at};
 use mscp_packet::write_end;
 use mscp_queue::{Connection, Picker};
-
-/// The fewest and the most bytes of a command's text.
-const SHORTEST: u32 = 12;
-
-const LONGEST: u32 = 64;
 
 /// The connection of commands that the diagnostic and utilities protocol has.
 const UTILITIES: u32 = 2;
@@ -50,7 +46,8 @@ impl<K: Picker> Port<K> {
         if self.is_dead() {
             return Err(Unasked);
         }
-        match self.task {
+        let task = self.task;
+        match task {
             Task::Slot(side) if bytes.len() == 4 => {
                 let word = four_at(bytes, 0);
                 self.see_slot(side, Descriptor { word });
@@ -63,7 +60,7 @@ impl<K: Picker> Port<K> {
                 slot,
                 length,
                 is_foreign,
-            } if bytes.len() == length as usize && length >= SHORTEST && length <= LONGEST => {
+            } if bytes.len() == length.get() as usize => {
                 self.see_text(slot, is_foreign, bytes);
             }
             _ => return Err(Unasked),
@@ -120,7 +117,6 @@ impl<K: Picker> Port<K> {
             ⊎ ((size : ℕ) × (foreign : Bool) × (self.new.task ≡ tasks.Text slot size foreign)) }
         ensures packet { IfSome (in_hand self.new.task) (λ word. word ≡ slot.word) }
     {
-        let length = header % 0x1_0000;
         let connection = header / 0x100_0000;
         if header / 0x10_0000 % 0x10 != 0 {
             return self.die(20);
@@ -128,9 +124,9 @@ impl<K: Picker> Port<K> {
         if connection != 0 && connection != UTILITIES {
             return self.die(14);
         }
-        if length < SHORTEST || length > LONGEST {
+        let Some(length) = TextSize::of(header % 0x1_0000) else {
             return self.die(1);
-        }
+        };
         self.task = Task::Text {
             slot,
             length,

@@ -12,7 +12,7 @@ ghost use Rattle.mscp_port.specs.Saved.{saved_bytes};
 mod front;
 
 use crate::buffers::Buffer;
-use crate::codes::{Coded, bus_in, stage_in, task_in};
+use crate::codes::{Coded, bus_in, has_size, stage_in, task_in};
 use crate::hardware::Hardware;
 use crate::port::restoring::front::saved_front;
 use crate::port::saving::{MAGIC, VERSION};
@@ -36,6 +36,9 @@ pub enum RestoreFault {
     Magic,
     /// A version of the format that isn't known.
     Version,
+    /// A task with a size that no task of its kind has: a text of fewer than 12 bytes or more than 64; or bytes of the
+    /// communication area that are clear, which aren't whole parts of 64, or as many as no area has.
+    Size,
     /// The bytes of the controller are no saved controller, with this picker's number.
     Controller(mscp_saved::RestoreFault),
     /// The bytes say a port, and aren't those that it is saved as.
@@ -227,6 +230,9 @@ fn frame_fault(b: &[u8]) -> Option<RestoreFault>
     }
     if four_at(b, 4) != VERSION {
         return Some(RestoreFault::Version);
+    }
+    if !has_size(coded_in(b)) {
+        return Some(RestoreFault::Size);
     }
     None
 }

@@ -26,6 +26,7 @@ use crate::action::{Action, Outcome, Unasked};
 use crate::buffers::{Buffer, Job, find_buffer};
 use crate::port::Port;
 use crate::rings::{Rings, Side};
+use crate::sizes::{CLEARED, ClearSize};
 use crate::slot::Descriptor;
 use crate::stage::Stage;
 use crate::task::Task;
@@ -33,17 +34,8 @@ use arrayvec::ArrayVec;
 use mscp_packet::fields::{put, put_four, put_two};
 use mscp_queue::Picker;
 
-/// The most bytes of a packet's text.
-const LONGEST: u32 = 64;
-
 /// The bytes of a packet's header, which stands in front of its text.
 const HEADER: u32 = 4;
-
-/// The bytes that one action clears, at most.
-const CLEARED: u32 = 64;
-
-/// More bytes than a communication area has.
-const AREA: u32 = 2048;
 
 /// So many zeros.
 fn zeros(count: u32) -> ArrayVec<u8, 64>
@@ -188,19 +180,19 @@ impl<K: Picker> Port<K> {
         ensures within { IsWithin self.now result }
         ensures wanted { IsWanted self.now self.now.task result }
         ensures moves { (kind : Kind) (unit block count : ℕ) → result ≡ actions.Transfer kind unit block count
-            → MayMoveOn kind unit self.now }
+            → MayMoveOn kind unit block self.now }
         ensures rests { result ≡ actions.Rest → self.now.task ≡ tasks.Free }
     {
         match (self.task, self.rings) {
             (Task::Free, _) => Action::Rest,
             (Task::Interrupt, _) => Action::Interrupt(self.vector()),
             (Task::Header(slot), _) => self.header_wanted(slot),
-            (Task::Text { slot, length, .. }, _) => Action::Read {
+            (Task::Text { slot, .. }, _) => Action::Read {
                 address: slot.text(),
-                count: length.min(LONGEST),
+                count: self.task.text_size(),
             },
             (Task::Packet(slot), _) => self.packet_wanted(slot),
-            (Task::Clear(done), Some(rings)) => self.clearing(&rings, done),
+            (Task::Clear(_), Some(rings)) => self.clearing(&rings, self.task.clear_size()),
             (Task::Slot(side), Some(rings)) => {
                 slot_wanted(&rings, side, u32::from(self.number(side)))
             }
@@ -258,14 +250,14 @@ impl<K: Picker> Port<K> {
     }
 
     /// The next bytes of the communication area are to be cleared.
-    fn clearing(&self, rings: &Rings, done: u32) -> Action
+    fn clearing(&self, rings: &Rings, done: ClearSize) -> Action
         requires { self.now.rings ≡ Some rings.now }
         ensures within { IsWithin self.now result }
         ensures value { Writes result (clear_from self.now rings.now done)
             (replicate (min (end_of rings.now - clear_from self.now rings.now done) 64) 0) }
         ensures some { result ≢ actions.Rest }
     {
-        let from = (rings.start(self.has_purge_word()) + done % AREA).min(rings.end());
+        let from = (rings.start(self.has_purge_word()) + done.get()).min(rings.end());
         Action::Write {
             address: from,
             bytes: zeros((rings.end() - from).min(CLEARED)),
@@ -277,7 +269,7 @@ impl<K: Picker> Port<K> {
         ensures within { IsWithin self.now result }
         ensures value { result ≡ move_wanted self.now.task job.now (part_now self.now job.now) }
         ensures moves { (kind : Kind) (unit block count : ℕ) → result ≡ actions.Transfer kind unit block count
-            → MayMoveOn kind unit self.now }
+            → MayMoveOn kind unit block self.now }
         ensures some { result ≢ actions.Rest }
     {
         match (self.task, self.part(job)) {
@@ -298,7 +290,7 @@ impl<K: Picker> Port<K> {
         ensures value { result ≡ part_now self.now job.now }
         ensures inside { IfSome result (λ part. IsInSomeBuffer self.now part.0 part.1) }
         ensures moves { IsSome result → is_storing self.now.task ≡ false
-            → MayMoveOn job.now.kind job.now.unit self.now }
+            → MayMoveOn job.now.kind job.now.unit job.now.block self.now }
     {
         // What was read goes to the host, even if its volume has gone since.
         if !matches!(self.task, Task::Store(_)) && self.fault_of(job).is_some() {
@@ -316,7 +308,8 @@ impl<K: Picker> Port<K> {
         if self.is_dead() || !self.may_go(&outcome) {
             return Err(Unasked);
         }
-        match self.task {
+        let task = self.task;
+        match task {
             Task::Free => {}
             Task::Slot(_) | Task::Neighbour(_) => self.die(6),
             Task::Header(_) | Task::Text { .. } => self.die(1),
@@ -392,7 +385,7 @@ impl<K: Picker> Port<K> {
     }
 
     /// A part of the communication area was cleared, behind so many bytes.
-    fn cleared(&mut self, done: u32, outcome: Outcome)
+    fn cleared(&mut self, done: ClearSize, outcome: Outcome)
         ensures clears { MatchOption self.old.rings (IsAsNew (stages.Dead 7) self.old self.new)
             (λ r. Clears outcome r done self.old self.new) }
         ensures frame { (self.new ≡ record self.old { stage = self.new.stage; task = self.new.task })
@@ -406,9 +399,8 @@ impl<K: Picker> Port<K> {
         if outcome != Outcome::Done {
             return self.die(7);
         }
-        let next = done % AREA + CLEARED;
-        if rings.start(self.has_purge_word()) + next < rings.end() {
-            self.task = Task::Clear(next);
+        if rings.start(self.has_purge_word()) + done.get() + CLEARED < rings.end() {
+            self.task = Task::Clear(done.next());
         } else {
             self.task = Task::Free;
             self.enter(Stage::Last);

@@ -11,8 +11,8 @@ use crate::totals::Totals;
 use arrayvec::ArrayVec;
 use mscp_controller::{Connection, Report, SendFault, Sent};
 use mscp_packet::End;
-use mscp_text::{put, put_field};
-use std::alloc::{AllocError, Allocator};
+use mscp_text::{Out, put, put_field};
+use std::alloc::AllocError;
 
 /// Puts in front that a line is of the second connection, if it is.
 fn put_connection(line: &mut Tail, connection: Connection)
@@ -64,13 +64,13 @@ fn put_taken_in(line: &mut Tail, sent: Sent)
 }
 
 /// Appends the line of a message of the connection: what became of it, or why it is refused.
-pub fn put_sent<A: Allocator>(
-    out: &mut Vec<u8, A>,
+pub fn put_sent<O: Out>(
+    out: &mut O,
     line: &mut Tail,
     connection: Connection,
     sent: &Result<Sent, SendFault>,
 ) -> Result<(), AllocError>
-    ensures { OnOk result (out.new.items ≡ out.old.items ++ entry_lines (entries.Sent connection sent.now)) }
+    ensures { OnOk result (O.text out.new ≡ O.text out.old ++ entry_lines (entries.Sent connection sent.now)) }
 {
     line.begin();
     match sent {
@@ -81,17 +81,17 @@ pub fn put_sent<A: Allocator>(
         }
     }
     put_connection(line, connection);
-    out.extend_from_slice(line.bytes())
+    out.append(line.bytes())
 }
 
 /// Appends the line of an end of the connection that was taken, or of none.
-pub fn put_taken<A: Allocator>(
-    out: &mut Vec<u8, A>,
+pub fn put_taken<O: Out>(
+    out: &mut O,
     line: &mut Tail,
     connection: Connection,
     end: &Option<ArrayVec<u8, 48>>,
 ) -> Result<(), AllocError>
-    ensures { OnOk result (out.new.items ≡ out.old.items ++ entry_lines (entries.Taken connection end.now)) }
+    ensures { OnOk result (O.text out.new ≡ O.text out.old ++ entry_lines (entries.Taken connection end.now)) }
 {
     line.begin();
     match end {
@@ -102,7 +102,7 @@ pub fn put_taken<A: Allocator>(
         None => line.words("none"),
     }
     put_connection(line, connection);
-    out.extend_from_slice(line.bytes())
+    out.append(line.bytes())
 }
 
 /// Puts in front what a step did with a block.
@@ -130,12 +130,8 @@ fn put_ended(line: &mut Tail, ended: &Option<End>)
 }
 
 /// Appends the line of a step.
-pub fn put_step<A: Allocator>(
-    out: &mut Vec<u8, A>,
-    line: &mut Tail,
-    report: &Report,
-) -> Result<(), AllocError>
-    ensures value { OnOk result (out.new.items ≡ out.old.items ++ step_line report.now) }
+pub fn put_step<O: Out>(out: &mut O, line: &mut Tail, report: &Report) -> Result<(), AllocError>
+    ensures value { OnOk result (O.text out.new ≡ O.text out.old ++ step_line report.now) }
     ensures short { OnOk result (length (step_line report.now) ≤ 108) }
 {
     match report {
@@ -157,33 +153,33 @@ pub fn put_step<A: Allocator>(
             line.field(" unit ", u32::from(*unit));
             line.field("serve ", *reference);
             put_connection(line, *connection);
-            out.extend_from_slice(line.bytes())
+            out.append(line.bytes())
         }
     }
 }
 
 /// Appends the line of a waiting command.
-fn put_figure<A: Allocator>(
-    out: &mut Vec<u8, A>,
+fn put_figure<O: Out>(
+    out: &mut O,
     line: &mut Tail,
     shown: &(Connection, u32, u32),
 ) -> Result<(), AllocError>
-    ensures { OnOk result (out.new.items ≡ out.old.items ++ figure_line shown.now) }
+    ensures { OnOk result (O.text out.new ≡ O.text out.old ++ figure_line shown.now) }
 {
     line.begin();
     line.field(" ", shown.2);
     line.field("figure ", shown.1);
     put_connection(line, shown.0);
-    out.extend_from_slice(line.bytes())
+    out.append(line.bytes())
 }
 
 /// Appends the line of each waiting command.
-pub fn put_figures<A: Allocator>(
-    out: &mut Vec<u8, A>,
+pub fn put_figures<O: Out>(
+    out: &mut O,
     line: &mut Tail,
     shown: &[(Connection, u32, u32)],
 ) -> Result<(), AllocError>
-    ensures { OnOk result (out.new.items ≡ out.old.items ++ flat_map figure_line shown.now) }
+    ensures { OnOk result (O.text out.new ≡ O.text out.old ++ flat_map figure_line shown.now) }
 {
     for command in shown {
         put_figure(out, line, command)?;
@@ -192,8 +188,8 @@ pub fn put_figures<A: Allocator>(
 }
 
 /// Appends the last line.
-pub fn put_totals<A: Allocator>(out: &mut Vec<u8, A>, totals: &Totals) -> Result<(), AllocError>
-    ensures { OnOk result (out.new.items ≡ out.old.items
+pub fn put_totals<O: Out>(out: &mut O, totals: &Totals) -> Result<(), AllocError>
+    ensures { OnOk result (O.text out.new ≡ O.text out.old
         ++ last_line totals.now.steps totals.now.seeks totals.now.queued totals.now.ended) }
 {
     put_field(out, "steps ", totals.steps)?;

@@ -4,11 +4,12 @@ ghost use Rattle.std.specs.Prelude.{◌≡◌, ◌++◌, codes, OnOk};
 ghost use Rattle.mscp_text.specs.Lines.{status_text};
 ghost use Rattle.mscp_text.specs.Shown.{body_text, code_text, command_text, end_text, invalid_name, move_name, order_text, packet_line};
 
+use crate::out::Out;
 use crate::packet::Packet;
 use crate::words::{put, put_field, put_hex, put_two};
 use mscp_packet::status::INVALID_OPCODE;
 use mscp_packet::{Command, End, EndBody, MoveKind, Order};
-use std::alloc::{AllocError, Allocator};
+use std::alloc::AllocError;
 
 /// The name of a transfer.
 fn move_name(kind: MoveKind) -> &'static str
@@ -35,8 +36,8 @@ fn invalid_name(status: u16) -> &'static str
 }
 
 /// Appends what a command asks for.
-fn put_order<A: Allocator>(out: &mut Vec<u8, A>, order: Order) -> Result<(), AllocError>
-    ensures { OnOk result (out.new.items ≡ out.old.items ++ order_text order) }
+fn put_order<O: Out>(out: &mut O, order: Order) -> Result<(), AllocError>
+    ensures { OnOk result (O.text out.new ≡ O.text out.old ++ order_text order) }
 {
     match order {
         Order::Abort(other) => put_field(out, "ABORT of ", other),
@@ -60,8 +61,8 @@ fn put_order<A: Allocator>(out: &mut Vec<u8, A>, order: Order) -> Result<(), All
 }
 
 /// Appends a command.
-fn put_command<A: Allocator>(out: &mut Vec<u8, A>, command: Command) -> Result<(), AllocError>
-    ensures { OnOk result (out.new.items ≡ out.old.items ++ command_text command) }
+fn put_command<O: Out>(out: &mut O, command: Command) -> Result<(), AllocError>
+    ensures { OnOk result (O.text out.new ≡ O.text out.old ++ command_text command) }
 {
     put_two(out, "command ", command.reference, " unit ", command.unit)?;
     put(out, " ")?;
@@ -69,8 +70,8 @@ fn put_command<A: Allocator>(out: &mut Vec<u8, A>, command: Command) -> Result<(
 }
 
 /// Appends what an end tells beside its status.
-fn put_body<A: Allocator>(out: &mut Vec<u8, A>, body: EndBody) -> Result<(), AllocError>
-    ensures { OnOk result (out.new.items ≡ out.old.items ++ body_text body) }
+fn put_body<O: Out>(out: &mut O, body: EndBody) -> Result<(), AllocError>
+    ensures { OnOk result (O.text out.new ≡ O.text out.old ++ body_text body) }
 {
     match body {
         EndBody::Bare => Ok(()),
@@ -102,24 +103,24 @@ fn put_body<A: Allocator>(out: &mut Vec<u8, A>, body: EndBody) -> Result<(), All
 }
 
 /// Appends the endcode of an end.
-fn put_code<A: Allocator>(out: &mut Vec<u8, A>, code: u8) -> Result<(), AllocError>
-    ensures { OnOk result (out.new.items ≡ out.old.items ++ (codes " code " ++ code_text code)) }
+fn put_code<O: Out>(out: &mut O, code: u8) -> Result<(), AllocError>
+    ensures { OnOk result (O.text out.new ≡ O.text out.old ++ (codes " code " ++ code_text code)) }
 {
     put(out, " code ")?;
     put_hex(out, &[code])
 }
 
 /// Appends the status of an end.
-fn put_status<A: Allocator>(out: &mut Vec<u8, A>, status: u16) -> Result<(), AllocError>
-    ensures { OnOk result (out.new.items ≡ out.old.items ++ (codes " status " ++ status_text status)) }
+fn put_status<O: Out>(out: &mut O, status: u16) -> Result<(), AllocError>
+    ensures { OnOk result (O.text out.new ≡ O.text out.old ++ (codes " status " ++ status_text status)) }
 {
     put(out, " status ")?;
     put_hex(out, &status.to_be_bytes())
 }
 
 /// Appends an end.
-fn put_end<A: Allocator>(out: &mut Vec<u8, A>, end: End) -> Result<(), AllocError>
-    ensures { OnOk result (out.new.items ≡ out.old.items ++ end_text end) }
+fn put_end<O: Out>(out: &mut O, end: End) -> Result<(), AllocError>
+    ensures { OnOk result (O.text out.new ≡ O.text out.old ++ end_text end) }
 {
     put_two(out, "end ", end.reference, " unit ", end.unit)?;
     put_code(out, end.code)?;
@@ -128,8 +129,8 @@ fn put_end<A: Allocator>(out: &mut Vec<u8, A>, end: End) -> Result<(), AllocErro
 }
 
 /// Appends the line of a packet.
-pub fn put_packet<A: Allocator>(out: &mut Vec<u8, A>, packet: Packet) -> Result<(), AllocError>
-    ensures { OnOk result (out.new.items ≡ out.old.items ++ packet_line packet) }
+pub fn put_packet<O: Out>(out: &mut O, packet: Packet) -> Result<(), AllocError>
+    ensures { OnOk result (O.text out.new ≡ O.text out.old ++ packet_line packet) }
 {
     match packet {
         Packet::Command(command) => put_command(out, command)?,

@@ -13,7 +13,7 @@ use mscp_host::News;
 use mscp_packet::{MoveKind, Order, write_command};
 use mscp_sim::{
     Heard, ReadFault, ShowFault, SimFault, Turn, converse_in, read_script, read_script_in, report,
-    report_in, show_packet_in, simulate_in,
+    report_in, show_packet_to, simulate_in,
 };
 use std::alloc::Global;
 use std::mem::size_of;
@@ -226,7 +226,7 @@ const SHOWN: [(&str, Result<&[u8], ShowFault>); 6] = [
 fn shown(rt: &(impl Abort + AllocGlobal), word: &str, wanted: Result<&[u8], ShowFault>) -> u64 {
     for number in 1..MANY {
         let heap = Scarce::new(rt.alloc(), number);
-        match show_packet_in(&heap, word) {
+        match show_packet_to(Vec::new(&heap), word.as_bytes()) {
             Err(ShowFault::OutOfMemory) => nothing_is_kept(rt, &heap, true),
             Err(fault) => {
                 same_of(rt, word, Err(fault), wanted);

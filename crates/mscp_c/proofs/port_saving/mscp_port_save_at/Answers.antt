@@ -1,4 +1,4 @@
-use Rattle.std.proofs.Common.{◌≡◌, ◌∙◌, ℕ, List, ap, subst, sym}
+use Rattle.std.proofs.Common.{◌≡◌, ◌∙◌, ℕ, List, ap, rules, subst, sym}
 use Rattle.std.specs.Prelude.{Ok, nat_eq, if◌then◌else◌}
 use Rattle.mscp_memory.specs.declared.policy.Policy.{Policy}
 use Rattle.mscp_memory.specs.declared.policy.Policy.TheVariants.{Oldest, Sweep}
@@ -10,7 +10,7 @@ use Rattle.mscp_port.specs.Saved.{saved_bytes}
 use Rattle.mscp_port.proofs.Comes.{number_told}
 use Rattle.mscp_c.specs.PortSaving.{policy_named, restored_by, saved_by}
 use Rattle.mscp_c.specs.Restoring.{policy_number}
-use Rattle.mscp_c.specs.Saving.{room_after}
+use Rattle.mscp_c.specs.Saving.{room_after, save_code}
 use Rattle.mscp_c.proofs.Policies.{number_back}
 use Rattle.mscp_c.proofs.port_saving.mscp_port_save_at.Goals as goal
 
@@ -37,6 +37,19 @@ returns-clause-back c made =
     subst (λ (p : Held). restored_by (saved_by p) ≡ Ok p) held
     (all_back own c.policy_number.result c.save-bytes.result.items number c.save-bytes.ensures.bytes
     c.save-bytes.ensures.back)
+
+pub returns-clause-code : goal.returns-clause-code
+returns-clause-code c made =
+    let own = c.lend-port.result.now in
+    let held : own ≡ c.args.handle.now.held
+    = c.lend-port.ensures.value ∙ ap (λ (h : Handle). h.held) c.is_made.ensures.same in
+    let number = c.policy_number.ensures ∙ ap policy_number c.picker.ensures in
+    let bytes : c.save-bytes.result.items ≡ saved_by c.args.handle.now.held
+    = c.save-bytes.ensures.bytes ∙ (ap (λ (n : ℕ). saved_bytes n own) number ∙ ap saved_by held) in
+    let code : c.tell_saved.result ≡ save_code (saved_by c.args.handle.now.held) c.args.room.now
+    = c.tell_saved.ensures.code
+    ∙ ap (λ (b : List ℕ). save_code b c.args.room.now) (c.as_slice.ensures.value ∙ bytes) in
+    search rules
 
 pub returns-clause-told : goal.returns-clause-told
 returns-clause-told c made =

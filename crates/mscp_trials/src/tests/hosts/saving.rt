@@ -66,6 +66,10 @@ fn other_bytes_are_refused(rt: HostRuntime) {
     has_fault(&rt, 12, 1, RestoreFault::Credits);
     has_fault(&rt, 12, 65, RestoreFault::Credits);
     has_fault(&rt, 38, 1, RestoreFault::Doubled);
+    has_fault(&rt, 18, 9, RestoreFault::Poll);
+    has_fault(&rt, 22, 2, RestoreFault::Poll);
+    has_fault(&rt, 32, 3, RestoreFault::Poll);
+    has_fault(&rt, 44, 3, RestoreFault::Poll);
     has_fault(&rt, 17, 0, RestoreFault::Form);
     has_fault(&rt, 17, 3, RestoreFault::Form);
     has_fault(&rt, 33, 0, RestoreFault::Form);
@@ -73,6 +77,14 @@ fn other_bytes_are_refused(rt: HostRuntime) {
     has_fault(&rt, 46, 1, RestoreFault::Form);
     is_refused(&rt, &POLLED_TWICE[..49], RestoreFault::Length);
     is_refused(&rt, &[], RestoreFault::Length);
+}
+
+#[test]
+fn a_poll_of_a_command_that_ended_is_about_another_number(rt: HostRuntime) {
+    let ended = with(POLLED_TWICE, 17, 1);
+    holds(&rt, Host::restore(&ended).is_ok());
+    holds(&rt, Host::restore(&with(ended, 22, 2)).is_ok());
+    is_refused(&rt, &with(ended, 22, 8), RestoreFault::Poll);
 }
 
 #[test]
@@ -107,7 +119,7 @@ fn what_a_flipped_bit_says_is_saved_as_it_stands(rt: HostRuntime) {
             }
         }
     }
-    // Credits of 5, 6, 12, 20 and 36; each bit of the poll's two numbers; of a submission each bit of its number, its unit
-    // and its opcode byte; of the READ each bit of its figure; and of the poll that 0 was told of it.
-    same(&rt, restored, 5 + 64 + 2 * 56 + 32 + 1);
+    // Credits of 5, 6, 12, 20 and 36; each bit of the two units; of the READ each bit of its opcode byte but the one that
+    // makes an ABORT of it, and of its figure; and of the poll that 0 was told of it.
+    same(&rt, restored, 5 + 2 * 16 + 7 + 32 + 1);
 }

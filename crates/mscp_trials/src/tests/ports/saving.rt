@@ -174,6 +174,44 @@ fn other_bytes_are_refused(rt: HostRuntime) {
 }
 
 #[test]
+fn a_size_that_nothing_in_hand_has_is_refused(rt: HostRuntime) {
+    let saved = in_the_middle(&rt).port.save(7);
+    // A text of 4 bytes, and 2 bytes of the area that are clear.
+    has_fault(&rt, &saved, 52, 5, RestoreFault::Size);
+    has_fault(&rt, &saved, 52, 2, RestoreFault::Size);
+    // Where the size is one, what a text lacks and a transfer has stands there still.
+    let text = with(&saved, 52, 5);
+    has_fault(&rt, &text, 58, 11, RestoreFault::Size);
+    has_fault(&rt, &text, 58, 12, RestoreFault::Form);
+    has_fault(&rt, &text, 58, 64, RestoreFault::Form);
+    has_fault(&rt, &text, 58, 65, RestoreFault::Size);
+    // 64 bytes that are clear, 1,024, and 1,088.
+    let clear = with(&saved, 52, 2);
+    has_fault(&rt, &clear, 54, 64, RestoreFault::Form);
+    let most = with(&clear, 55, 4);
+    has_fault(&rt, &most, 54, 0, RestoreFault::Form);
+    has_fault(&rt, &most, 54, 64, RestoreFault::Size);
+}
+
+/// The port that was to move a block moves none where another byte stands at a place. Its command ends.
+fn moves_nothing(rt: &impl Abort, place: usize, byte: u8) {
+    let bytes = with(&in_the_middle(rt).port.save(7), place, byte);
+    let mut port = Port::restore(bytes.as_slice(), 7, Sweep)
+        .ok()
+        .expect(rt, "a port");
+    holds(rt, port.next() == Action::Pause);
+    holds(rt, port.went(Outcome::Done).is_ok());
+    holds(rt, matches!(port.next(), Action::Read { count: 4, .. }));
+}
+
+#[test]
+fn a_block_that_no_unit_has_is_not_moved(rt: HostRuntime) {
+    // Block 65,540 of unit 0, and block 4 of unit 9.
+    moves_nothing(&rt, 60, 1);
+    moves_nothing(&rt, 66, 9);
+}
+
+#[test]
 fn bytes_of_no_form_are_refused(rt: HostRuntime) {
     let saved = in_the_middle(&rt).port.save(7);
     // No bus, no flag, no stage, a word where there is none.

@@ -2,6 +2,8 @@ use Rattle.std.proofs.Common.{◌≤◌, ℕ, List, length, ap, subst, sym, ◌�
 use Rattle.mscp_host.specs.declared.submission.Submission.{Submission}
 use Rattle.mscp_host.specs.Accounts.{with_told}
 use Rattle.mscp_host.specs.Apart.{are_apart}
+use Rattle.mscp_host.specs.Watched.{is_watched}
+use Rattle.mscp_host.proofs.Watched.{watched_told}
 use Rattle.mscp_host.proofs.Apart.{apart_told, refilled, told_long}
 use Rattle.mscp_host.proofs.host.Host.keep_told.Goals as goal
 
@@ -11,6 +13,7 @@ invariant_of-self c =
     let n = c.in-Some.number in
     let f = c.in-Some.figure in
     let xs = c.self.inside.outstanding.items in
+    let w = c.self.inside.watch in
     let told = c.set_told.ensures ∙ ap (with_told n f) c.as_mut_slice.ensures.value in
     let all = refilled n f (length xs) xs c.set_told.new.submissions refl told ∙ told in (
       inv.0,
@@ -18,4 +21,5 @@ invariant_of-self c =
       subst (λ (k : ℕ). k ≤ c.self.inside.credits)
           (sym (ap (λ (l : List Submission). length l) all ∙ told_long n f xs)) inv.2,
       ap are_apart all ∙ (apart_told n f xs ∙ inv.3),
+      ap (λ (l : List Submission). is_watched l w) all ∙ (watched_told n f xs w ∙ inv.4),
     )

@@ -1,5 +1,6 @@
 use Rattle.std.proofs.Common.{◌≡◌, ◌≤◌, true, length, ap, ◌∙◌, rules}
 use Rattle.mscp_host.specs.Apart.{are_apart}
+use Rattle.mscp_host.specs.Watched.{is_watched}
 use Rattle.mscp_host.specs.Restored.{restored}
 use Rattle.mscp_host.specs.Saved.{HasRange, saved_bytes}
 use Rattle.mscp_host.proofs.Back.{restored_back}
@@ -13,5 +14,6 @@ returns-clause-back c =
     let few : a.credits ≤ 64 = search rules in
     let covered : length a.outstanding ≤ a.credits = search rules in
     let apart : are_apart a.outstanding ≡ true = search rules in
+    let watched : is_watched a.outstanding a.watch ≡ true = search rules in
     let range : HasRange a = search rules in
-    ap restored bytes ∙ restored_back a some few covered apart range
+    ap restored bytes ∙ restored_back a some few covered apart watched range

@@ -7,5 +7,5 @@ pub returns-clause-stands : goal.returns-clause-stands
 returns-clause-stands g c =
     stands_new c.args.config _ c.new.ensures.valid
     c.new.ensures.fresh (ap (λ
-    (r : Reported). r.lines) c.new-2.ensures)
-    c.new-2.ensures refl c.none.ensures.figure c.none.ensures.passed
+    (r : Reported). r.lines) c.new-3.ensures)
+    c.new-3.ensures refl c.none.ensures.figure c.none.ensures.passed

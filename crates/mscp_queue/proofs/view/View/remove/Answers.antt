@@ -15,5 +15,6 @@ invariant_of-self c =
     subst (IsRow new) (ap (λ n. take place view ++ drop n view) next ∙ sym c.remove.ensures.items)
     (row_left row new view place
     (subst (λ (xs : List Choice). place < length xs) (sym c.self.view_is) c.requires) c.self.invariant
-    (subst (λ n. CopiedTo row new (place + 1) place (n - (place + 1))) c.self.told c.copy_within.ensures.by_index.0)
+    (subst (λ n. CopiedTo row new (place + 1) place (n - (place + 1))) c.len.ensures.value
+    c.copy_within.ensures.by_index.0)
     c.copy_within.ensures.by_index.1)

@@ -1,0 +1,78 @@
+-- Calls on a port's handle are calls of the port.
+use Rattle.std.proofs.Common.{◌≡◌, ◌++◌, ◌∷◌, [], ℕ, ℤ, List, Option, None, Some, refl, ap, sym, subst}
+use Rattle.std.specs.Prelude.{MatchOption}
+use Rattle.mscp_port.specs.declared.action.Outcome.{Outcome}
+use Rattle.mscp_port.specs.Histories.{Answered, Becomes, Call}
+use Rattle.mscp_port.specs.Histories as calls
+use Rattle.mscp_memory.specs.declared.port.handle.Handle.{Handle}
+use Rattle.mscp_memory.specs.PortRoom.{Held}
+use Rattle.mscp_c.specs.declared.status.TheConstants.{BAD_OUTCOME}
+use Rattle.mscp_c.specs.PortGiven.{outcome_given}
+use Rattle.mscp_c.specs.PortHandleCalls.{AnsweredByHandle, AnswersHandle, HandleCall, KeepsPortPromise, LookAgain, Next, ReadIp, ReadSa, Resume, Tells, TellsOutcome, Tick, VolumeCame, VolumeWent, WasRead, Went, WriteIp, WriteSa}
+use Rattle.mscp_c.specs.PortServed.{TellsWent}
+
+-- what a call on a handle tells, and the call of the port that it is
+record Is (call : HandleCall) (old new : Held) : Type 0 where
+  next : List Call
+  tells : Tells call next
+  becomes : (start : Held) (told : List Call) → Answered start told old → Answered start (next ++ told) new
+
+-- it is this call of the port
+one : (call : HandleCall) (it : Call) (old new : Held) → Tells call (it ∷ []) → Becomes it old new → Is call old new
+one call it old new tells b = record { next = it ∷ []; tells = tells; becomes = λ start told a. (old, a, b) }
+
+-- or none
+none : (call : HandleCall) (old new : Held) → Tells call [] → new ≡ old → Is call old new
+none call old new tells e =
+    record { next = []; tells = tells; becomes = λ start told a. subst (Answered start told) (sym e) a }
+
+went : (number block : ℕ) (status : ℤ) (o : Option Outcome) (old new : Handle)
+    → MatchOption o ((status ≡ BAD_OUTCOME) × (new ≡ old)) (λ outcome. TellsWent outcome old status new)
+    → (next : List Call)
+    × MatchOption o ((next ≡ []) × (status ≡ BAD_OUTCOME)) (λ outcome. TellsOutcome outcome status next)
+    × ((start : Held) (told : List Call) → Answered start told old.held → Answered start (next ++ told) new.held)
+went number block status None old new refused = (
+  [],
+  (refl, refused.0),
+  λ start told a. subst (Answered start told) (ap (λ h. h.held) (sym refused.1)) a,
+)
+went number block status (Some outcome) old new t = (
+  calls.Went outcome t.answer ∷ [],
+  (t.answer, refl, t.code),
+  λ start told a. (old.held, a, t.goes),
+)
+
+call_is : (call : HandleCall) (old new : Handle) → AnswersHandle old call new → Is call old.held new.held
+call_is (ReadIp status) old new r = one (ReadIp status) calls.ReadIp old.held new.held (refl, r.1) r.0.leaves
+call_is (WriteIp status) old new r = one (WriteIp status) calls.WriteIp old.held new.held (refl, r.1) r.0.leaves
+call_is (ReadSa answer) old new r = none (ReadSa answer) old.held new.held refl (ap (λ h. h.held) r.1)
+call_is (WriteSa word status) old new r =
+    one (WriteSa word status) (calls.WriteSa word) old.held new.held (refl, r.1) r.0.leaves
+call_is (Next before status after) old new r =
+    one (Next before status after) (calls.Next r.action) old.held new.held (r.action, refl, r.code, r.told) r.wants
+call_is (WasRead bytes status) old new r =
+    one (WasRead bytes status) (calls.WasRead bytes r.answer) old.held new.held (r.answer, refl, r.code) r.hears
+call_is (Went number block status) old new r =
+    let w = went number block status (outcome_given number block) old new r in
+    record { next = w.0; tells = w.1; becomes = w.2 }
+call_is (LookAgain status) old new r =
+    one (LookAgain status) calls.LookAgain old.held new.held (refl, r.1) r.0.leaves
+call_is (Tick status) old new r = one (Tick status) calls.Tick old.held new.held (refl, r.1) r.0.leaves
+call_is (VolumeCame unit flag status) old new r =
+    one (VolumeCame unit flag status) (calls.Change _ _ unit r.answer) old.held new.held (r.answer, refl, r.code)
+    r.changes
+call_is (VolumeWent unit status) old new r =
+    one (VolumeWent unit status) (calls.Change _ _ unit r.answer) old.held new.held (r.answer, refl, r.code) r.changes
+call_is (Resume bytes) old new r = none (Resume bytes) old.held new.held refl r.1
+
+pub keeps_promise : (made : List HandleCall) (start h : Handle) → AnsweredByHandle start made h
+    → KeepsPortPromise start.held made h.held
+keeps_promise [] start h a = record { told = []; tells = refl; answered = ap (λ g. g.held) a }
+keeps_promise (call ∷ earlier) start h a =
+    let before = keeps_promise earlier start a.0 a.1 in
+    let is = call_is call a.0 h a.2 in
+    record {
+      told = is.next ++ before.told;
+      tells = (is.next, before.told, refl, is.tells, before.tells);
+      answered = is.becomes start.held before.told before.answered;
+    }

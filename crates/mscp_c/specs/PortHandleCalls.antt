@@ -1,0 +1,117 @@
+-- What somebody calls from C who holds a handle on a port, what is told, and what is promised of it.
+use Rattle.std.specs.Prelude.{◌≡◌, ◌==◌, not, ℕ, ℤ, pos, Bool, true, false, List, [], ◌∷◌, ◌++◌, MatchOption, Result, Ok}
+use Rattle.mscp_port.specs.declared.action.Action.{Action}
+use Rattle.mscp_port.specs.declared.action.Outcome.{Outcome}
+use Rattle.mscp_port.specs.declared.action.Unasked.{Unasked}
+use Rattle.mscp_port.specs.declared.port.watching.NoUnit.{NoUnit}
+use Rattle.mscp_port.specs.Calls as ports
+use Rattle.mscp_port.specs.Histories.{Answered, Call}
+use Rattle.mscp_port.specs.Histories as calls
+use Rattle.mscp_memory.specs.declared.port.handle.Handle.{Handle}
+use Rattle.mscp_memory.specs.PortRoom.{Held}
+use Rattle.mscp_c.specs.declared.outs.ActionOut.{ActionOut}
+use Rattle.mscp_c.specs.declared.status.TheConstants.{BAD_OUTCOME, DONE}
+use Rattle.mscp_c.specs.PortGiven.{outcome_given}
+use Rattle.mscp_c.specs.PortSaving.{restored_by}
+use Rattle.mscp_c.specs.PortServed.{Holds, TellsHeard, TellsVolume, TellsWanted, TellsWent, told_code, volume_code}
+use Rattle.mscp_c.specs.PortTold.{action_told, next_code}
+
+-- ---- calls
+
+-- a call on a port's handle: what was passed; what the out-pointer pointed to, if there is one; the status or number
+-- that was answered; and what the out-pointer points to then (profile)
+pub data HandleCall : Type 0 where
+  ReadIp : ℤ → HandleCall
+  WriteIp : ℤ → HandleCall
+  ReadSa : ℤ → HandleCall
+  -- a word
+  WriteSa : ℕ → ℤ → HandleCall
+  Next : ActionOut → ℤ → ActionOut → HandleCall
+  -- the bytes that were read
+  WasRead : List ℕ → ℤ → HandleCall
+  -- the number of an outcome, and a status
+  Went : ℕ → ℕ → ℤ → HandleCall
+  LookAgain : ℤ → HandleCall
+  Tick : ℤ → HandleCall
+  -- the number of a unit, and whether its volume is protected
+  VolumeCame : ℕ → ℕ → ℤ → HandleCall
+  VolumeWent : ℕ → ℤ → HandleCall
+  -- from here on a handle on other memory goes on, for which the port was restored from these bytes
+  Resume : List ℕ → HandleCall
+
+-- what a call on a handle that was made answers, and what is there then: it is what the call itself promises
+abbrev pub AnswersHandle : Handle → HandleCall → Handle → Type 0
+AnswersHandle old (ReadIp status) new = Holds ports.ReadsIp old new × (status ≡ DONE)
+AnswersHandle old (WriteIp status) new = Holds ports.WritesIp old new × (status ≡ DONE)
+AnswersHandle old (ReadSa answer) new = (answer ≡ pos (ports.sa_of old.held)) × (new ≡ old)
+AnswersHandle old (WriteSa word status) new = Holds (ports.WritesSa word) old new × (status ≡ DONE)
+AnswersHandle old (Next before status after) new = TellsWanted old before status new after
+AnswersHandle old (WasRead bytes status) new = TellsHeard bytes old status new
+AnswersHandle old (Went number block status) new =
+    MatchOption (outcome_given number block) ((status ≡ BAD_OUTCOME) × (new ≡ old))
+    (λ outcome. TellsWent outcome old status new)
+AnswersHandle old (LookAgain status) new = Holds ports.LooksAgain old new × (status ≡ DONE)
+AnswersHandle old (Tick status) new = Holds ports.Ticks old new × (status ≡ DONE)
+AnswersHandle old (VolumeCame unit flag status) new = TellsVolume unit true (not (flag == 0)) old status new
+AnswersHandle old (VolumeWent unit status) new = TellsVolume unit false false old status new
+AnswersHandle old (Resume bytes) new = (restored_by bytes ≡ Ok old.held) × (new.held ≡ old.held)
+
+-- the same of calls, the last one first, as in the histories of ports
+abbrev pub AnsweredByHandle : Handle → List HandleCall → Handle → Type 0
+AnsweredByHandle start [] h = h ≡ start
+AnsweredByHandle start (call ∷ earlier) h =
+    (before : Handle) × AnsweredByHandle start earlier before × AnswersHandle before call h
+
+-- ---- what they tell
+
+-- an action went so: what was answered to that is told
+abbrev pub TellsOutcome : Outcome → ℤ → List Call → Type 0
+TellsOutcome outcome status next =
+    (answer : Result (Unit {0}) Unasked) × (next ≡ calls.Went outcome answer ∷ []) × (status ≡ told_code answer)
+
+abbrev pub TellsChange : Bool → Bool → ℕ → ℤ → List Call → Type 0
+TellsChange there protected unit status next =
+    (answer : Result (Unit {0}) NoUnit) × (next ≡ calls.Change there protected unit answer ∷ [])
+    × (status ≡ volume_code answer)
+
+-- the call on the handle is this call of its port, or none: status and out-struct tell what the port answers (profile)
+abbrev pub Tells : HandleCall → List Call → Type 0
+Tells (ReadIp status) next = (next ≡ calls.ReadIp ∷ []) × (status ≡ DONE)
+Tells (WriteIp status) next = (next ≡ calls.WriteIp ∷ []) × (status ≡ DONE)
+Tells (ReadSa answer) next = next ≡ []
+Tells (WriteSa word status) next = (next ≡ calls.WriteSa word ∷ []) × (status ≡ DONE)
+Tells (Next before status after) next =
+    (action : Action) × (next ≡ calls.Next action ∷ []) × (status ≡ next_code action)
+    × (after ≡ action_told action before)
+Tells (WasRead bytes status) next =
+    (answer : Result (Unit {0}) Unasked) × (next ≡ calls.WasRead bytes answer ∷ []) × (status ≡ told_code answer)
+Tells (Went number block status) next =
+    MatchOption (outcome_given number block) ((next ≡ []) × (status ≡ BAD_OUTCOME))
+    (λ outcome. TellsOutcome outcome status next)
+Tells (LookAgain status) next = (next ≡ calls.LookAgain ∷ []) × (status ≡ DONE)
+Tells (Tick status) next = (next ≡ calls.Tick ∷ []) × (status ≡ DONE)
+Tells (VolumeCame unit flag status) next = TellsChange true (not (flag == 0)) unit status next
+Tells (VolumeWent unit status) next = TellsChange false false unit status next
+Tells (Resume bytes) next = next ≡ []
+
+-- the same of calls, the last one first
+abbrev pub TellsAll : List HandleCall → List Call → Type 0
+TellsAll [] told = told ≡ []
+TellsAll (call ∷ earlier) told =
+    (next : List Call) × (before : List Call) × (told ≡ next ++ before) × Tells call next × TellsAll earlier before
+
+-- ---- the promise
+
+-- what is promised of a handle whose port answered so to these calls, and now holds this
+pub record KeepsPortPromise (start : Held) (made : List HandleCall) (held : Held) : Type 0 where
+  -- the calls on the handle are these of its port
+  pub told : List Call
+  pub tells : TellsAll made told
+  -- in their order, so that each law of ports is about them
+  pub answered : Answered start told held
+
+-- the law: every handle on a port keeps the promise, whoever calls it, from any moment on; from an init on the port is
+-- one that was made over a controller (profile)
+abbrev pub PortHandlesKeepThePromise : Type 0
+PortHandlesKeepThePromise = (made : List HandleCall) (start h : Handle) → AnsweredByHandle start made h
+    → KeepsPortPromise start.held made h.held

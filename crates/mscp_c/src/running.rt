@@ -1,0 +1,92 @@
+// A whole script and a packet's line, in memory that a program in C lends. Each is written behind the front of the room, and
+// then moved there: so the room has twice its bytes.
+
+ghost use Rattle.std.specs.Prelude.{◌≡◌, ◌≢◌, ◌⊎◌, ◌≤◌, length, take, Err, IfOk, IfSome};
+ghost use Rattle.mscp_reader.specs.Grammar.{IsFault};
+ghost use Rattle.mscp_text.specs.Shown.{shown, Shows};
+ghost use Rattle.mscp_c.specs.Running.{HasLine, HasReport, IsNoPacket, TellsFault};
+
+use crate::status::{DONE, SMALL, cause_code, show_code};
+use mscp_script::{Lent, Out, ReadFault, ScriptFault, ShowFault, report_script, show_packet_to};
+
+/// Copies text to the front of a room, if it fits, and tells how many bytes it has.
+fn put_front(front: &mut [u8], text: &[u8]) -> Option<usize>
+    ensures length { length front.new ≡ length front.old }
+    ensures text { IfSome result (λ n. (n ≤ length front.new) × (take n front.new ≡ text.now)) }
+{
+    if text.len() > front.len() {
+        return None;
+    }
+    front[..text.len()].copy_from_slice(text);
+    Some(text.len())
+}
+
+/// The report of a script stands at the front of the room, and has so many bytes; or why not.
+fn run(script: &[u8], room: &mut [u8]) -> Result<usize, ReadFault>
+    ensures length { length room.new ≡ length room.old }
+    ensures report { IfOk result (λ n. HasReport script.now room.new n) }
+    ensures fault { (fault : ScriptFault) → result ≡ Err (ReadFault.Script fault) → IsFault script.now fault }
+{
+    let half = room.len() / 2;
+    let (front, back) = room.split_at_mut(half);
+    let out = report_script(Lent::new(back), script)?;
+    put_front(front, out.appended()).ok_or(ReadFault::OutOfMemory)
+}
+
+/// Runs a script of so many bytes, as `mscpq` does, and writes its report to the front of the room, which needs room for twice
+/// as many bytes.
+#[unsafe(no_mangle)]
+pub extern "C" fn mscp_run_script_at(
+    script: &[u8],
+    room: &mut [u8],
+    count: &mut usize,
+    line: &mut u32,
+) -> i32
+    ensures done { result ≡ DONE → HasReport script.now room.new count.new }
+    ensures fault { (result ≡ DONE) ⊎ (result ≡ SMALL) ⊎ TellsFault script.now result line.new }
+    ensures count { result ≢ DONE → count.new ≡ count.old }
+    ensures line { (result ≡ DONE) ⊎ (result ≡ SMALL) → line.new ≡ line.old }
+    ensures room { length room.new ≡ length room.old }
+{
+    match run(script, room) {
+        Ok(bytes) => {
+            *count = bytes;
+            DONE
+        }
+        Err(ReadFault::OutOfMemory) => SMALL,
+        Err(ReadFault::Script(fault)) => {
+            *line = fault.line;
+            cause_code(fault.cause)
+        }
+    }
+}
+
+/// The line of a packet stands at the front of the room, and has so many bytes; or why not.
+fn show(word: &[u8], room: &mut [u8]) -> Result<usize, ShowFault>
+    ensures length { length room.new ≡ length room.old }
+    ensures line { IfOk result (λ n. HasLine word.now room.new n) }
+    ensures fault { (fault : ShowFault) → result ≡ Err fault → fault ≢ ShowFault.OutOfMemory → shown word.now ≡ Err fault }
+{
+    let half = room.len() / 2;
+    let (front, back) = room.split_at_mut(half);
+    let out = show_packet_to(Lent::new(back), word)?;
+    put_front(front, out.appended()).ok_or(ShowFault::OutOfMemory)
+}
+
+/// Writes the line of the packet that a word is the hexadecimal digits of to the front of the room, as `mscpq packet` does. The
+/// room needs room for twice as many bytes.
+#[unsafe(no_mangle)]
+pub extern "C" fn mscp_show_packet_at(word: &[u8], room: &mut [u8], count: &mut usize) -> i32
+    ensures done { result ≡ DONE → HasLine word.now room.new count.new }
+    ensures fault { (result ≡ DONE) ⊎ (result ≡ SMALL) ⊎ IsNoPacket word.now result }
+    ensures count { result ≢ DONE → count.new ≡ count.old }
+    ensures room { length room.new ≡ length room.old }
+{
+    match show(word, room) {
+        Ok(bytes) => {
+            *count = bytes;
+            DONE
+        }
+        Err(fault) => show_code(fault),
+    }
+}

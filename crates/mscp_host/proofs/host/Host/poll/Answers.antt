@@ -1,0 +1,22 @@
+use Rattle.std.proofs.Common.{ℕ, true, List, ap, sym, ◌∙◌}
+use Rattle.std.specs.Prelude.{Result, Some}
+use Rattle.arrayvec.specs.ArrayVec.{ArrayVec}
+use Rattle.mscp_host.specs.declared.news.HostFault.{HostFault}
+use Rattle.mscp_host.specs.declared.submission.Submission.{Submission}
+use Rattle.mscp_host.specs.Accounts.{Account, poll_of}
+use Rattle.mscp_host.specs.Watched.{is_watched}
+use Rattle.mscp_host.proofs.Watched.{was_submitted, watched_poll}
+use Rattle.mscp_host.proofs.host.Host.poll.Goals as goal
+
+pub invariant_of-self : goal.invariant_of-self
+invariant_of-self c =
+    let inv = c.self-2.invariant in
+    let r = c.args.reference in
+    let s = c.in-Some.polled in
+    let sent = ap (λ (x : Result (ArrayVec ℕ) HostFault). (x, c.submit.new.self)) (sym c.in_ok-message.was)
+    ∙ c.submit.ensures in
+    let after = was_submitted _ _ (poll_of r s) _ c.in_ok-message.message sent in
+    let items = ap (λ (a : Account). a.outstanding) (c.self-2.view_is ∙ after) in
+    let found = sym c.oldest.ensures ∙ c.in-Some.is in
+    let watch = Some (record { reference = r; polled = s.reference; is_outstanding = true }) in
+    (inv.0, inv.1, inv.2, inv.3, ap (λ (xs : List Submission). is_watched xs watch) items ∙ watched_poll r s _ found)

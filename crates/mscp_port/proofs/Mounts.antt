@@ -1,0 +1,259 @@
+-- What a host has made of a unit is what a port holds of its volume.
+use Rattle.std.proofs.Common.{◌≡◌, ◌≢◌, ◌⊎◌, ◌∙◌, ◌<◌, ◌≤◌, ◌/◌, ◌%◌, ℕ, Bool, true, false, cond, List, [], ◌∷◌, Option, None, Some, inl, inr, refl, ap, sym, subst, length, set}
+use Rattle.std.specs.Prelude.{nat_eq}
+use Rattle.std.proofs.lemmas.Bool.{cases_eq, cases_lt, false≢true}
+use Rattle.std.proofs.lemmas.List.{get_or-set_other, get_or-set_same, get_or_past, length-set}
+use Rattle.mscp_drive.specs.Shape.{Shape}
+use Rattle.mscp_packet.specs.declared.end.End.{End}
+use Rattle.mscp_packet.specs.declared.command.MoveKind.{MoveKind}
+use Rattle.mscp_controller.specs.Holdings.{Holdings}
+use Rattle.mscp_port.specs.declared.action.Action.TheVariants as actions
+use Rattle.mscp_port.specs.declared.buffers.Buffer.{Buffer}
+use Rattle.mscp_port.specs.declared.hardware.Hardware.{Hardware}
+use Rattle.mscp_port.specs.declared.port.Port.{Port}
+use Rattle.mscp_port.specs.declared.stage.Stage.TheVariants as stages
+use Rattle.mscp_port.specs.declared.volumes.Volume.{Volume}
+use Rattle.mscp_port.specs.Blocks.{kept_of, writes}
+use Rattle.mscp_port.specs.Calls.{IsMadeOf}
+use Rattle.mscp_port.specs.Departures.{IsForgotten}
+use Rattle.mscp_port.specs.Histories.{Answered, Becomes, Call, WriteIp, ReadIp, WriteSa, Next, WasRead, Went, LookAgain, Tick, Change}
+use Rattle.mscp_port.specs.Mounted.{Ends, IsChangeAt, IsMounted, IsRemounted, Mount, flagged, mount_after, offline}
+use Rattle.mscp_port.specs.Moved.{GoesOnWithBlock, place_heeded}
+use Rattle.mscp_port.specs.Outgoings.{IsNews, Says, news_place}
+use Rattle.mscp_port.specs.Volumes.{MayMove, no_volume, place_in, protected_by, volume_at, volume_changed, volume_heeded, volumes_changed, volumes_heeded}
+use Rattle.mscp_port.proofs.Loads.{looks_or_not}
+
+-- ---- a volume
+
+mount_of : Volume → Mount
+mount_of v = record { volume = v.mounted; is_protected = v.is_protected_by_host }
+
+either_of : (b : Bool) (v w : Volume) → mount_of (cond b v w) ≡ cond b (mount_of v) (mount_of w)
+either_of true v w = refl
+either_of false v w = refl
+
+flags_of : (b : Buffer) (v : Volume) → mount_of (protected_by b v) ≡ flagged b (mount_of v)
+unfolding mount_of
+flags_of b v = either_of (nat_eq (b.modifiers / 4 % 2) 1) _ v
+
+heeded_of : (code : ℕ) (kept : Option Buffer) (v : Volume)
+    → mount_of (volume_heeded code kept v) ≡ mount_after code kept (mount_of v)
+unfolding mount_of
+heeded_of code None v = either_of (nat_eq code 0x88) _ v
+heeded_of code (Some b) v =
+    let off : Volume = record v { mounted = None; is_protected_by_host = false } in
+    let on : Volume = record v { mounted = Some b.changes } in
+    let set_only : Volume = cond (nat_eq code 0x8A) (protected_by b v) v in
+    either_of (nat_eq code 0x88) off (cond (nat_eq code 0x89) (protected_by b on) set_only)
+    ∙ ap (cond (nat_eq code 0x88) offline)
+    (either_of (nat_eq code 0x89) (protected_by b on) set_only
+    ∙ ap (λ m. cond (nat_eq code 0x89) m (mount_of set_only)) (flags_of b on)
+    ∙ ap (cond (nat_eq code 0x89) (flagged b (mount_of on)))
+    (either_of (nat_eq code 0x8A) (protected_by b v) v
+    ∙ ap (λ m. cond (nat_eq code 0x8A) m (mount_of v)) (flags_of b v)))
+
+-- ---- the volumes
+
+-- a place behind them, or what is held of the volume there
+abbrev Holds : ℕ → List Volume → Mount → Type 0
+Holds place vs m = (length vs ≤ place) ⊎ (mount_of (volume_at vs place) ≡ m)
+
+-- the volume at that place is another one, or one at another place is
+set_here : (vs : List Volume) (place : ℕ) (x : Volume) (m : Mount) → mount_of x ≡ m → Holds place (set vs place x) m
+set_here vs place x m e = elim (cases_lt place (length vs)) [
+  | inl inside ↦ inr (ap mount_of (get_or-set_same vs place x no_volume inside) ∙ e)
+  | inr past ↦ inl (subst (λ n. n ≤ place) (sym (length-set vs place x)) past)
+]
+
+set_elsewhere : (vs : List Volume) (place q : ℕ) (x : Volume) (m : Mount) → place ≢ q → Holds place vs m
+    → Holds place (set vs q x) m
+set_elsewhere vs place q x m ne holds = elim holds [
+  | inl past ↦ inl (subst (λ n. n ≤ place) (sym (length-set vs q x)) past)
+  | inr e ↦ inr (ap mount_of (get_or-set_other vs q place x no_volume ne) ∙ e)
+]
+
+-- or one that is as it was
+set_alike : (vs : List Volume) (place q : ℕ) (x : Volume) (m : Mount) → mount_of x ≡ mount_of (volume_at vs q)
+    → Holds place vs m → Holds place (set vs q x) m
+set_alike vs place q x m alike holds = elim (cases_eq place q) [
+  | inr ne ↦ set_elsewhere vs place q x m ne holds
+  | inl e ↦ elim holds [
+    | inl past ↦ inl (subst (λ n. n ≤ place) (sym (length-set vs q x)) past)
+    | inr is ↦ subst (λ i. Holds place (set vs i x) m) e
+        (set_here vs place x m (alike ∙ ap (λ i. mount_of (volume_at vs i)) (sym e) ∙ is))
+  ]
+]
+
+the_same : {K : Type 0} (place : ℕ) (m : Mount) (old new : Port K) → new.volumes ≡ old.volumes
+    → Holds place old.volumes m → Holds place new.volumes m
+the_same place m old new e holds = subst (λ vs. Holds place vs m) (sym e) holds
+
+-- ---- calls
+
+forgotten : {K : Type 0} (place : ℕ) (old new : Port K) → place < 16 → IsForgotten old new
+    → Holds place new.volumes offline
+unfolding mount_of
+forgotten place old new low f = inr (ap mount_of (f.1.volumes place low))
+
+-- an end of this unit, by what was held before
+ended : (vs : List Volume) (place code : ℕ) (kept : Option Buffer) (m : Mount) → Holds place vs m
+    → Holds place (volumes_heeded code kept (Some place) vs) (mount_after code kept m)
+ended vs place code kept m holds = elim holds [
+  | inl past ↦ inl (subst (λ n. n ≤ place) (sym (length-set vs place _)) past)
+  | inr e ↦ set_here vs place _ _ (heeded_of code kept (volume_at vs place) ∙ ap (mount_after code kept) e)
+]
+
+ends : {K : Type 0} (place : ℕ) (old new : Port K) (e : End) (m : Mount) → Ends place old new e
+    → Holds place old.volumes m
+    → Holds place new.volumes (mount_after e.code (kept_of e.reference old.buffers.items) m)
+ends place old new e m end holds =
+    let kept = kept_of e.reference old.buffers.items in
+    subst (λ vs. Holds place vs (mount_after e.code kept m)) (sym (ap (λ p. p.volumes) end.0.frame))
+    (subst (λ o. Holds place (volumes_heeded e.code kept o old.volumes) (mount_after e.code kept m)) (sym end.1)
+    (ended old.volumes place e.code kept m holds))
+
+-- an end of another unit
+heeded_elsewhere : (vs : List Volume) (place code : ℕ) (kept : Option Buffer) (o : Option ℕ) (m : Mount)
+    → (o ≡ Some place → ⊥) → Holds place vs m → Holds place (volumes_heeded code kept o vs) m
+heeded_elsewhere vs place code kept None m ne holds = holds
+heeded_elsewhere vs place code kept (Some q) m ne holds =
+    set_elsewhere vs place q _ m (λ e. ne (ap Some (sym e))) holds
+
+with_block : {K : Type 0} (place : ℕ) (m : Mount) (old new : Port K) → GoesOnWithBlock old new
+    → (((e : End) × Ends place old new e) → ⊥) → Holds place old.volumes m → Holds place new.volumes m
+with_block place m old new (inl e) other holds = the_same place m old new (ap (λ p. p.volumes) e) holds
+with_block place m old new (inr (None, heeds)) other holds =
+    the_same place m old new (ap (λ p. p.volumes) heeds.frame) holds
+with_block place m old new (inr (Some e, heeds)) other holds =
+    subst (λ vs. Holds place vs m) (sym (ap (λ p. p.volumes) heeds.frame))
+    (heeded_elsewhere old.volumes place e.code (kept_of e.reference old.buffers.items)
+    (place_heeded old.controller.settings.units e) m (λ here. other (e, (heeds, here))) holds)
+
+-- a volume that comes or goes
+changed : (units : List Shape) (vs : List Volume) (there protected : Bool) (place : ℕ) (m : Mount) → Holds place vs m
+    → Holds place (volumes_changed there protected (Some place) vs) (record m { is_protected = false })
+unfolding mount_of
+changed units vs there protected place m holds = elim holds [
+  | inl past ↦ inl (subst (λ n. n ≤ place) (sym (length-set vs place _)) past)
+  | inr e ↦ set_here vs place (volume_changed there protected (volume_at vs place)) _
+      (ap {A = Mount} (λ n. record n { is_protected = false }) e)
+]
+
+changes : {K : Type 0} (place : ℕ) (call : Call) (old new : Port K) (m : Mount) → IsChangeAt place call old
+    → Becomes call old new → Holds place old.volumes m → Holds place new.volumes (record m { is_protected = false })
+changes place (Change there protected unit result) old new m here r holds =
+    let units = old.controller.settings.units in
+    subst (λ vs. Holds place vs (record m { is_protected = false })) (sym (ap (λ p. p.volumes) r.frame))
+    (subst (λ o. Holds place (volumes_changed there protected o old.volumes) (record m { is_protected = false }))
+    (sym here) (changed units old.volumes there protected place m holds))
+changes place call old new m here r holds = absurd here
+
+changed_elsewhere : (vs : List Volume) (there protected : Bool) (place : ℕ) (o : Option ℕ) (m : Mount)
+    → (o ≡ Some place → ⊥) → Holds place vs m → Holds place (volumes_changed there protected o vs) m
+changed_elsewhere vs there protected place None m ne holds = holds
+changed_elsewhere vs there protected place (Some q) m ne holds =
+    set_elsewhere vs place q _ m (λ e. ne (ap Some (sym e))) holds
+
+-- news, and what goes out else
+with_news : (place : ℕ) (m : Mount) (units : List Shape) (vs ws : List Volume) (o : Option ℕ)
+    (out : Option _) → IsNews units vs o out ws → Holds place vs m → Holds place ws m
+unfolding mount_of
+with_news place m units vs ws None out news holds = subst (λ xs. Holds place xs m) (sym news.1) holds
+with_news place m units vs ws (Some q) out news holds =
+    subst (λ xs. Holds place xs m) (sym news.1)
+    (set_alike vs place q (record (volume_at vs q) { is_news = false }) m refl holds)
+
+said : {K : Type 0} (place : ℕ) (m : Mount) (old new : Port K) → Says old new → Holds place old.volumes m
+    → Holds place new.volumes m
+said place m old new says holds = elim (looks_or_not old) [
+  | inr still ↦ the_same place m old new (says.keeps still).volumes holds
+  | inl looks ↦ elim (says.looks looks) [
+    | inl takes ↦ the_same place m old new takes.volumes holds
+    | inr tells ↦ with_news place m old.controller.settings.units old.volumes new.volumes (news_place old) new.outgoing
+        tells.out holds
+  ]
+]
+
+-- a call by which the unit isn't mounted anew
+stays : {K : Type 0} (place : ℕ) (m : Mount) (call : Call) (old new : Port K) → Becomes call old new
+    → (IsRemounted place call old new → ⊥) → Holds place old.volumes m → Holds place new.volumes m
+stays place m WriteIp old new r other holds = absurd (other (inl (stages.First, r)))
+stays place m ReadIp old new r other holds = elim r.frame [
+  | inl e ↦ the_same place m old new (ap (λ p. p.volumes) e) holds
+  | inr dead ↦ absurd (other (inl (stages.Dead dead.0, dead.1)))
+]
+stays place m (WriteSa word) old new r other holds = elim r.frame [
+  | inl e ↦ the_same place m old new (ap (λ p. p.volumes) e) holds
+  | inr dead ↦ absurd (other (inl (stages.Dead dead.0, dead.1)))
+]
+stays place m (Next action) old new r other holds = said place m old new r.says holds
+stays place m (WasRead bytes result) old new r other holds = elim r.frame [
+  | inl e ↦ the_same place m old new (ap (λ p. p.volumes) e) holds
+  | inr dead ↦ absurd (other (inl (stages.Dead dead.0, dead.1)))
+]
+stays place m (Went outcome result) old new r other holds = elim r.volumes [
+  | inl e ↦ the_same place m old new e holds
+  | inr more ↦ elim more [
+    | inl block ↦ with_block place m old new block (λ end. other (inr (inl end))) holds
+    | inr dead ↦ absurd (other (inl (stages.Dead dead.0, dead.1)))
+  ]
+]
+stays place m LookAgain old new r other holds = the_same place m old new (ap (λ p. p.volumes) r) holds
+stays place m Tick old new r other holds = elim r.either [
+  | inl e ↦ the_same place m old new (ap (λ p. p.volumes) e) holds
+  | inr dead ↦ absurd (other (inl (stages.Dead 9, dead)))
+]
+stays place m (Change there protected unit result) old new r other holds =
+    subst (λ vs. Holds place vs m) (sym (ap (λ p. p.volumes) r.frame))
+    (changed_elsewhere old.volumes there protected place (place_in old.controller.settings.units unit) m
+    (λ here. other (inr (inr here))) holds)
+
+-- ---- the law
+
+held : {K : Type 0} (hardware : Hardware) (credits : ℕ) (controller : Holdings K) (place : ℕ) → place < 16
+    → (start p : Port K) (calls : List Call) (m : Mount) → IsMadeOf hardware credits controller start
+    → (a : Answered start calls p) → IsMounted place start p calls a m → Holds place p.volumes m
+unfolding mount_of
+held hardware credits controller place low start p [] m made a is =
+    inr (ap (λ q. mount_of (volume_at q.volumes place)) a ∙ ap mount_of (made.volumes place low) ∙ sym is)
+held hardware credits controller place low start p (call ∷ calls) m made a is =
+    let before = held hardware credits controller place low start a.0 calls in
+    elim is [
+      | inl f ↦ subst (Holds place p.volumes) (sym f.1) (forgotten place a.0 p low f.0)
+      | inr more ↦ elim more [
+        | inl end ↦ subst (Holds place p.volumes) (sym end.4)
+            (ends place a.0 p end.0 end.2 end.1 (before end.2 made a.1 end.3))
+        | inr rest ↦ elim rest [
+          | inl change ↦ subst (Holds place p.volumes) (sym change.3)
+              (changes place call a.0 p change.1 change.0 a.2 (before change.1 made a.1 change.2))
+          | inr stay ↦ stays place m call a.0 p a.2 stay.0 (before m made a.1 stay.1)
+        ]
+      ]
+    ]
+
+-- the mount of a volume that is there
+there : (vs : List Volume) (place : ℕ) (m : Mount) → (volume_at vs place).is_there ≡ true → Holds place vs m
+    → mount_of (volume_at vs place) ≡ m
+there vs place m is holds = elim holds [
+  | inl past ↦ absurd (false≢true (sym (ap (λ v. v.is_there) (get_or_past vs place no_volume past)) ∙ is))
+  | inr e ↦ e
+]
+
+pub moves_as_mounted : {K : Type 0} (hardware : Hardware) (credits : ℕ) (controller : Holdings K) (start p : Port K)
+    (calls : List Call) (kind : MoveKind) (unit block count place : ℕ) (m : Mount)
+    → IsMadeOf hardware credits controller start
+    → (a : Answered start (Next (actions.Transfer kind unit block count) ∷ calls) p)
+    → place_in p.controller.settings.units unit ≡ Some place
+    → IsMounted place start p (Next (actions.Transfer kind unit block count) ∷ calls) a m
+    → (m.volume ≡ Some (volume_at p.volumes place).changes) × (writes kind ≡ true → m.is_protected ≡ false)
+unfolding mount_of
+moves_as_mounted hardware credits controller start p calls kind unit block count place m made a here is =
+    let moves = a.2.moves kind unit block count refl in
+    let at = moves.1 in
+    let same : moves.0 ≡ place = cc in
+    let low : place < 16 = subst (λ i. i < 16) same moves.2 in
+    let may = subst (λ i. MayMove kind (volume_at p.volumes i)) same moves.3 in
+    let e = there p.volumes place m may.there
+    (held hardware credits controller place low start p (Next (actions.Transfer kind unit block count) ∷ calls) m made a
+    is) in
+    (sym (ap (λ n. n.volume) e) ∙ may.mounted, λ writing. sym (ap (λ n. n.is_protected) e) ∙ may.host writing)

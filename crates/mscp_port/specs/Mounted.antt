@@ -1,0 +1,81 @@
+-- With which volume a unit is online, and what its host protects, as the history of a port tells.
+use Rattle.std.specs.Prelude.{◌≡◌, ◌⊎◌, ◌%◌, ◌/◌, ◌==◌, ℕ, Bool, true, false, if◌then◌else◌, List, [], ◌∷◌, Option, None, Some}
+use Rattle.mscp_packet.specs.declared.command.MoveKind.{MoveKind}
+use Rattle.mscp_packet.specs.declared.end.End.{End}
+use Rattle.mscp_controller.specs.Holdings.{Holdings}
+use Rattle.mscp_port.specs.declared.action.Action.TheVariants as actions
+use Rattle.mscp_port.specs.declared.buffers.Buffer.{Buffer}
+use Rattle.mscp_port.specs.declared.hardware.Hardware.{Hardware}
+use Rattle.mscp_port.specs.declared.port.Port.{Port}
+use Rattle.mscp_port.specs.Blocks.{kept_of, writes}
+use Rattle.mscp_port.specs.Calls.{IsMadeOf}
+use Rattle.mscp_port.specs.Departures.{IsForgotten}
+use Rattle.mscp_port.specs.Histories.{Answered, Call, Change, Next}
+use Rattle.mscp_port.specs.Moved.{HeedsStep, place_heeded}
+use Rattle.mscp_port.specs.Volumes.{place_in, volume_at}
+
+-- what a host has made of a unit: it is online with the volume that was there when so many had come or gone, if it is
+-- online; and nothing may be written on it
+pub record Mount : Type 0 where
+  pub volume : Option ℕ
+  pub is_protected : Bool
+
+abbrev pub offline : Mount
+offline = record { volume = None; is_protected = false }
+
+-- ---- what the Success of a command makes of it
+
+-- its host protects it by the unit flag 0x1000, if the modifier 4 says that it sets that
+abbrev pub flagged : Buffer → Mount → Mount
+flagged b m = if b.modifiers / 4 % 2 == 1 then record m { is_protected = b.flags / 0x1000 % 2 == 1 } else m
+
+-- by the endcode: AVAILABLE (0x88) takes it offline, ONLINE (0x89) brings it online with the volume that was there when
+-- its message came, and sets the flags, as SET UNIT CHARACTERISTICS (0x8A) does
+abbrev pub mount_after : ℕ → Option Buffer → Mount → Mount
+mount_after code None m = if code == 0x88 then offline else m
+mount_after code (Some b) m =
+    if code == 0x88 then offline
+    else if code == 0x89 then flagged b (record m { volume = Some b.changes })
+    else if code == 0x8A then flagged b m
+    else m
+
+-- ---- over a history
+
+-- by a call an end of Success came, of the unit at this place
+abbrev pub Ends : {K : Type 0} → ℕ → Port K → Port K → End → Type 0
+Ends place old new e = HeedsStep (Some e) old new × (place_heeded old.controller.settings.units e ≡ Some place)
+
+-- it says that a volume came into that unit, or went
+abbrev pub IsChangeAt : {K : Type 0} → ℕ → Call → Port K → Type 0
+IsChangeAt place (Change there protected unit result) old = place_in old.controller.settings.units unit ≡ Some place
+IsChangeAt place call old = ⊥
+
+-- all is forgotten, or the unit is mounted anew, or has another volume
+abbrev pub IsRemounted : {K : Type 0} → ℕ → Call → Port K → Port K → Type 0
+IsRemounted place call old new = IsForgotten old new ⊎ ((e : End) × Ends place old new e) ⊎ IsChangeAt place call old
+
+-- what the host has made of the unit at a place: it begins offline, and is so again once all is forgotten. Each end of
+-- Success makes of it what its endcode says, by what is kept of its command, and another volume isn't protected
+abbrev pub IsMounted : {K : Type 0} (place : ℕ) (start p : Port K) (calls : List Call) → Answered start calls p → Mount
+    → Type 0
+IsMounted place start p [] a m = m ≡ offline
+IsMounted place start p (call ∷ earlier) a m =
+    (IsForgotten a.0 p × (m ≡ offline))
+    ⊎ ((e : End) × Ends place a.0 p e × (before : Mount) × IsMounted place start a.0 earlier a.1 before
+    × (m ≡ mount_after e.code (kept_of e.reference a.0.buffers.items) before))
+    ⊎ (IsChangeAt place call a.0 × (before : Mount) × IsMounted place start a.0 earlier a.1 before
+    × (m ≡ record before { is_protected = false }))
+    ⊎ ((IsRemounted place call a.0 p → ⊥) × IsMounted place start a.0 earlier a.1 m)
+
+-- the law of mounts: whoever calls a port that was made over a controller, a block is moved only where the volume in
+-- its unit is the one that this was brought online with, and one that is written or erased only where its host doesn't
+-- protect it
+abbrev pub PortsMoveAsMounted : Type 0 → Type 0
+PortsMoveAsMounted K =
+    (hardware : Hardware) (credits : ℕ) (controller : Holdings K) (start p : Port K) (calls : List Call)
+    (kind : MoveKind) (unit block count place : ℕ) (m : Mount)
+    → IsMadeOf hardware credits controller start
+    → (a : Answered start (Next (actions.Transfer kind unit block count) ∷ calls) p)
+    → place_in p.controller.settings.units unit ≡ Some place
+    → IsMounted place start p (Next (actions.Transfer kind unit block count) ∷ calls) a m
+    → (m.volume ≡ Some (volume_at p.volumes place).changes) × (writes kind ≡ true → m.is_protected ≡ false)
