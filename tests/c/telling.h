@@ -10,7 +10,8 @@
 enum call {
     INIT, RESET, SEND, TAKE, BEGIN, FINISH, STEP, LOOK, WHY, FIGURE, WAITING, UNTAKEN, BALANCE, IS_ONLINE, SAVE, RESTORE,
     HOST_INIT, HOST_BALANCE, HOST_SUBMIT, HOST_POLL, HOST_RECEIVE, HOST_SAVE, HOST_RESTORE, PORT_INIT, READ_IP, WRITE_IP,
-    READ_SA, WRITE_SA, NEXT, WAS_READ, WENT, LOOK_AGAIN, TICK, CAME, GONE, PORT_SAVE, PORT_RESTORE, CALLS
+    READ_SA, WRITE_SA, NEXT, WAS_READ, WENT, LOOK_AGAIN, TICK, CAME, GONE, PORT_SAVE, PORT_RESTORE, RUN_SCRIPT, SHOW_PACKET,
+    CALLS
 };
 
 enum { LAST = 127 }; /* behind the statuses of a call */
@@ -46,7 +47,7 @@ static const struct {
     [HOST_POLL] = {"mscp_host_poll", {0, 1, 4, -3, -5, -10, LAST}},
     [HOST_RECEIVE] = {"mscp_host_receive", {5, 6, 7, 8, 9, 10, -8, -9, -10, LAST}},
     [HOST_SAVE] = {"mscp_host_save", {1, -10, -15, LAST}},
-    [HOST_RESTORE] = {"mscp_host_restore", {1, OF_MEMORY, -40, -41, -42, -44, -46, -48, -54, LAST}},
+    [HOST_RESTORE] = {"mscp_host_restore", {1, OF_MEMORY, -40, -41, -42, -44, -46, -48, -54, -55, LAST}},
     [PORT_INIT] = {"mscp_port_init", {1, OF_MEMORY, OF_LIMITS, -33, -34, LAST}},
     [READ_IP] = {"mscp_port_read_ip", {1, -10, LAST}},
     [WRITE_IP] = {"mscp_port_write_ip", {1, -10, LAST}},
@@ -60,13 +61,15 @@ static const struct {
     [CAME] = {"mscp_port_volume_came", {1, -10, -37, LAST}},
     [GONE] = {"mscp_port_volume_went", {1, -10, -37, LAST}},
     [PORT_SAVE] = {"mscp_port_save", {1, -10, -15, LAST}},
-    [PORT_RESTORE] = {"mscp_port_restore", {1, OF_MEMORY, OF_BYTES, LAST}},
+    [PORT_RESTORE] = {"mscp_port_restore", {1, OF_MEMORY, OF_BYTES, -56, LAST}},
+    [RUN_SCRIPT] = {"mscp_run_script", {1, -15, -60, -61, -62, -63, -64, -65, -66, -67, -68, -69, -70, -71, -72, LAST}},
+    [SHOW_PACKET] = {"mscp_show_packet", {1, -15, -73, -74, -75, -76, -77, LAST}},
 };
 
 static struct {
     uint64_t sum;
     unsigned long calls;
-    unsigned long seen[CALLS][128]; /* by status + 64 */
+    unsigned long seen[CALLS][128]; /* by status + 100 */
 } told = {UINT64_C(0xCBF29CE484222325), 0, {{0}}};
 
 static inline void eat_bytes(const void *bytes, size_t length)
@@ -89,7 +92,7 @@ static inline int64_t tell(enum call call, int64_t status)
     int is_number = TOLD[call].statuses[0] == 126;
     eat((uint64_t)call);
     eat((uint64_t)status);
-    told.seen[call][(is_number && status > 0 ? 1 : status) + 64]++;
+    told.seen[call][(is_number && status > 0 ? 1 : status) + 100]++;
     if (++told.calls % 1000 == 0)
         printf("%lu calls: %016llx\n", told.calls, (unsigned long long)told.sum);
     return status;
@@ -110,8 +113,8 @@ static inline int all_were_seen(void)
     int wrong = 0;
     for (enum call call = 0; call < CALLS; call++) {
         printf("%s", TOLD[call].name);
-        for (int status = -64; status < 64; status++) {
-            unsigned long times = told.seen[call][status + 64];
+        for (int status = -100; status < 28; status++) {
+            unsigned long times = told.seen[call][status + 100];
             if (times > 0)
                 printf(" %d:%lu", status, times);
             if ((times > 0) != is_told(call, status)) {

@@ -3,6 +3,7 @@
  * libraries that answer alike print the same, on every machine. Ends with 1 where a call never answered a status that mscp.h
  * tells of it, or answered another one. With a number it makes only so many rounds, and ends with 0. */
 #include "guesting.h"
+#include "scripting.h"
 
 /* ---- how what is made is refused */
 
@@ -202,12 +203,47 @@ static void spoil_all(void)
         spoil_saved(length, restore_port);
 }
 
+/* ---- scripts */
+
+/* Runs a script in so much room. */
+static void run_script(const char *script, size_t length, size_t room)
+{
+    static uint8_t text[12000000];
+    size_t done = 7;
+    uint32_t line = 7;
+    tell(RUN_SCRIPT, mscp_run_script((const uint8_t *)script, length, text, room, &done, &line));
+    eat(done), eat(line);
+    if (done != 7)
+        eat_bytes(text, done);
+}
+
+static void run_scripts(void)
+{
+    static const int32_t LARGE[] = {MSCP_SCRIPT_LINES, MSCP_SCRIPT_SIZE, MSCP_SCRIPT_EVENTS};
+    static uint8_t text[1024];
+    for (size_t i = 0; i < sizeof SCRIPTS / sizeof *SCRIPTS; i++)
+        run_script(SCRIPTS[i].text, strlen(SCRIPTS[i].text), 65536);
+    for (size_t i = 0; i < sizeof LARGE / sizeof *LARGE; i++)
+        run_script(large, make_large(LARGE[i]), 12000000);
+    for (size_t room = 0; room < 65536; room += 97)
+        run_script(HEADER "online 9 0\nstep 1\ntake\nread 1 0 1024 40\nstatus 2 1\nlook\n", sizeof HEADER + 50, room);
+    for (size_t i = 0; i < sizeof PACKETS / sizeof *PACKETS; i++)
+        for (size_t room = 0; room < sizeof text; room += 53) {
+            size_t done = 7;
+            tell(SHOW_PACKET, mscp_show_packet((const uint8_t *)PACKETS[i].word, strlen(PACKETS[i].word), text, room, &done));
+            eat(done);
+            if (done != 7)
+                eat_bytes(text, done);
+        }
+}
+
 int main(int argc, char **argv)
 {
     int rounds = argc > 1 ? atoi(argv[1]) : 36;
     refuse_all();
     try_unmade();
     poll_often();
+    run_scripts();
     for (int round = 0; round < rounds; round++) {
         make_controller();
         on_wire = 0;
