@@ -4,6 +4,10 @@
  *     cc -O2 -I. mscpq.c mscp.c -o mscpq-c
  *     ./mscpq-c run ../examples/first.mscp
  */
+#ifdef __linux__
+#define _DEFAULT_SOURCE /* for madvise */
+#include <sys/mman.h>
+#endif
 #include "mscp.h"
 #include <errno.h>
 #include <stdio.h>
@@ -48,12 +52,26 @@ static int put(uint8_t *text, size_t count)
     return written == count && fflush(stdout) == 0 ? 0 : say("cannot write", 3);
 }
 
+/* Linux may give these bytes in large pages: they are written once, from the front on. */
+static void ask_for_large_pages(uint8_t *bytes, size_t count)
+{
+#if defined(__linux__) && defined(MADV_HUGEPAGE)
+    size_t behind = (size_t)-(uintptr_t)bytes % 4096;
+    if (bytes != NULL && count > 1 << 24)
+        madvise(bytes + behind, count - behind, MADV_HUGEPAGE);
+#else
+    (void)bytes;
+    (void)count;
+#endif
+}
+
 /* Room for so many bytes, or where there isn't as much for half as many, and so on. What is never touched costs little. */
 static uint8_t *take_room(size_t *room)
 {
     uint8_t *bytes = malloc(*room);
     while (bytes == NULL && *room > 4096)
         bytes = malloc(*room /= 2);
+    ask_for_large_pages(bytes, *room);
     return bytes;
 }
 
