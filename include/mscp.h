@@ -505,9 +505,9 @@ int32_t mscp_show_packet_at(const uint8_t *word, size_t length, uint8_t *bytes, 
  * by a picker of enum mscp_picker. MSCP_DONE, or the first fault in this order: those of the memory (-11 to -15),
  * MSCP_BAD_PICKER, MSCP_MANY_UNITS, those of the first unit that has one (-21 to -24), MSCP_UNITS_FALL, MSCP_NO_UNITS,
  * those of the limits (-28 to -31). The controller is made on the stack, of which this takes up to 40 KiB, and is moved
- * into the memory. No call takes more, and no other one over 2 KiB, but for those that save and restore. Where each
- * function takes much for itself, as on s390x and 32-bit x86, mscp.c takes up to 256 bytes more. The memory may go at any
- * time, without a call. */
+ * into the memory. No call but mscp_run_script takes more, and no other one over 2 KiB, but for those that save and restore.
+ * Where each function takes much for itself, as on s390x and 32-bit x86, mscp.c takes up to 256 bytes more. The memory may
+ * go at any time, without a call. */
 MSCP_MUST_USE
 MSCP_INLINE int32_t mscp_init(struct mscp *mscp, const struct mscp_limits *limits, const struct mscp_unit *units,
                               size_t count, uint32_t picker)
@@ -751,8 +751,8 @@ MSCP_INLINE int32_t mscp_port_restore(struct mscp_port *port, const uint8_t *byt
 
 /* Runs a script of so many bytes through a controller of its own, as the program mscpq does, and writes the report to the
  * front of the room, of `*count` bytes. MSCP_DONE; MSCP_SMALL, where the room has fewer than twice as many bytes as the
- * report; or MSCP_SCRIPT_SIZE to _EVENTS, what is wrong in line `*line`, the first in which something is.
- * This takes up to 60 KiB of the stack. */
+ * report; or MSCP_SCRIPT_SIZE to _EVENTS, what is wrong in line `*line`, the first in which something is. Whatever it answers,
+ * all of the room may be written over. This takes up to 60 KiB of the stack. */
 MSCP_MUST_USE
 MSCP_INLINE int32_t mscp_run_script(const uint8_t *script, size_t length, uint8_t *bytes, size_t room, size_t *count,
                                     uint32_t *line)
@@ -763,7 +763,7 @@ MSCP_INLINE int32_t mscp_run_script(const uint8_t *script, size_t length, uint8_
 
 /* Writes what a message says, which a word of so many bytes is the hexadecimal digits of, as `mscpq packet` does: a line of
  * `*count` bytes at the front of the room. MSCP_DONE; MSCP_SMALL, where the room has fewer than twice as many bytes as the
- * line; or MSCP_WORD_HEX to _LENGTH. */
+ * line; or MSCP_WORD_HEX to _LENGTH. Whatever it answers, all of the room may be written over. */
 MSCP_MUST_USE
 MSCP_INLINE int32_t mscp_show_packet(const uint8_t *word, size_t length, uint8_t *bytes, size_t room, size_t *count)
 {

@@ -1,8 +1,8 @@
 /* mscpq.c: runs a script of commands through a disk controller and prints what the controller did, or shows a packet, as the
- * program mscpq does, on any machine with a C compiler:
+ * program mscpq does, on any machine with a C compiler. At the top of the project:
  *
- *     cc -O2 -I. mscpq.c mscp.c -o mscpq-c
- *     ./mscpq-c run ../examples/first.mscp
+ *     cc -O2 -Iinclude portable/mscpq.c portable/mscp.c -o mscpq-c
+ *     ./mscpq-c run examples/first.mscp
  */
 #ifdef __linux__
 #define _DEFAULT_SOURCE /* for madvise */
