@@ -1,16 +1,27 @@
 -- A run whose moments are right one by one is legal.
-use Rattle.std.proofs.Common.{◌≡◌, ℕ, ◌<◌, true, ◌||◌, List, [], ◌∷◌, ◌++◌, take, length, ap, sym, subst, arith, append-nil}
-use Rattle.std.specs.Prelude.{nat_eq, None}
+use Rattle.std.proofs.Common.{◌≡◌, ℕ, ◌<◌, Bool, true, false, ◌||◌, ◌&&◌, List, [], ◌∷◌, ◌++◌, map, take, drop, length, refl, ap, sym, subst, arith, append-nil}
+use Rattle.std.specs.Prelude.{if◌then◌else◌, is_some, nat_eq, option_map, slice_get, slice_index_or, None, Option, Some}
+use Rattle.std.proofs.lemmas.Bool.{and_parts, false≢true}
 use Rattle.std.proofs.lemmas.List.{append_assoc}
+use Rattle.mscp_packet.specs.Commands.{command_of}
+use Rattle.mscp_packet.specs.Ends.{end_bytes}
 use Rattle.mscp_events.specs.declared.block.Block.{Block}
 use Rattle.mscp_events.specs.declared.connection.Connection.TheVariants.{First}
 use Rattle.mscp_events.specs.Settings.{Settings}
-use Rattle.mscp_controller.specs.History.{Trace, Moment, moment, Service, service_in, WhenStarted}
-use Rattle.mscp_controller.specs.Commands.{connection, reference, service_name, unit, is_waiting, done, in_service}
-use Rattle.mscp_controller.specs.Passing.{is_startable}
+use Rattle.mscp_controller.specs.History.{Trace, Moment, moment, collect, Service, service_in, WhenStarted}
+use Rattle.mscp_controller.specs.Account.{balance, ends, outstanding, untaken}
+use Rattle.mscp_controller.specs.Commands.{command, connection, reference, service_name, unit, is_waiting, waiting, done, good, in_service}
+use Rattle.mscp_controller.specs.Credits.{arrival}
+use Rattle.mscp_controller.specs.Ends.{answer, outcome}
+use Rattle.mscp_controller.specs.Figures.{figure, figure_of}
+use Rattle.mscp_controller.specs.Passing.{is_free, is_startable, passed, passed_at, startable}
+use Rattle.mscp_controller.specs.Units.{head_cylinder, head_up, is_online}
 use Rattle.mscp_queue.specs.declared.view.Choice.{Choice}
-use Rattle.mscp_controller.specs.Legal.{IsPick, IsPicked, IsRight, IsLegal, IsServed, block_of, seek_to, end_of}
+use Rattle.mscp_controller.specs.Legal.{IsPick, IsPicked, IsRight, IsLegal, IsServed, block_of, seek_to, end_of, shown}
+use Rattle.mscp_events.specs.declared.event.Event.{Event}
 use Rattle.mscp_events.specs.declared.event.Event.TheVariants as events
+use Rattle.mscp_controller.specs.declared.entry.Entry.{Entry}
+use Rattle.mscp_queue.specs.declared.report.Report.TheVariants as reports
 use Rattle.mscp_controller.specs.declared.entry.Entry.TheVariants as entries
 use Rattle.mscp_queue.proofs.Placed.{each_push}
 
@@ -74,3 +85,77 @@ by_serving y w n e = (
     unit = ap (λ (s : Service). s.unit) e;
   },
 )
+
+-- ---- by computation
+
+-- a step after t with this block serves y, if something waits: none where y may not be served
+abbrev pub step_by : Settings → Trace → Block → ℕ → List ℕ → Option Entry
+step_by c t k y [] = Some (entries.Stepped reports.Idle)
+step_by c t k y (x ∷ xs) =
+    if is_waiting t y && (in_service t y || is_startable c t y) then
+    Some (entries.Stepped (reports.Served (connection t y) (reference t y) (unit t y) (block_of t y)
+    (nat_eq (done t y) 0) (seek_to c t (unit t y) (block_of t y)) (end_of c t k y)))
+    else None
+
+-- what is answered to an event after t, if a step serves y
+abbrev pub answer_by : Settings → Trace → Event → ℕ → Option Entry
+answer_by c t (events.Send via b) y = Some (entries.Sent via (arrival c via t b.items))
+answer_by c t (events.Take via) y =
+    Some (entries.Taken via (option_map (λ e. record { items = end_bytes e }) (slice_get (untaken c via t) 0)))
+answer_by c t (events.Step k) y = step_by c t k y (waiting t)
+answer_by c t events.Look y = Some (entries.Looked (record { items = map (shown c t) (waiting t) }))
+
+-- the commands that are left to be served after an event, which serves the first of them if it is a step and something
+-- waits
+abbrev pub still_served : Trace → Event → List ℕ → List ℕ
+still_served t (events.Step k) ys = if nat_eq (length (waiting t)) 0 then ys else drop 1 ys
+still_served t event ys = ys
+
+-- what is answered to the events of ms after t, if the steps serve these commands, one after the other
+unfoldable pub answers_by : Settings → Trace → Trace → List ℕ → List (Option Entry)
+unfolding moment collect command_of command is_waiting waiting done good passed_at passed is_free is_startable startable
+    figure figure_of is_online head_cylinder head_up answer outcome ends untaken balance outstanding arrival block_of
+answers_by c t [] ys = []
+answers_by c t (m ∷ ms) ys =
+    answer_by c t m.0 (slice_index_or ys 0 0) ∷ answers_by c (t ++ m ∷ []) ms (still_served t m.0 ys)
+
+abbrev Right : Settings → Trace → Event → Option Entry → Type 0
+Right c t e None = Unit {0}
+Right c t e (Some a) = IsRight c t e a
+
+right_step : (c : Settings) (t : Trace) (k : Block) (y : ℕ) (a : Entry) (ws : List ℕ) → waiting t ≡ ws
+    → step_by c t k y ws ≡ Some a → IsRight c t (events.Step k) a
+right_step c t k y a [] e h = subst (Right c t (events.Step k)) h e
+right_step c t k y a (x ∷ xs) e h = both (is_waiting t y && (in_service t y || is_startable c t y)) refl h
+  where
+    served : Entry
+    served = entries.Stepped (reports.Served (connection t y) (reference t y) (unit t y) (block_of t y)
+        (nat_eq (done t y) 0) (seek_to c t (unit t y) (block_of t y)) (end_of c t k y))
+
+    both : (b : Bool) → (is_waiting t y && (in_service t y || is_startable c t y)) ≡ b
+        → (if b then Some served else None) ≡ Some a → IsRight c t (events.Step k) a
+    both true may h =
+        let p = and_parts (is_waiting t y) (in_service t y || is_startable c t y) may in
+        subst (Right c t (events.Step k)) h (by_serving y p.0 p.1 refl)
+    both false may h = absurd (false≢true (ap is_some h))
+
+right_by : (c : Settings) (t : Trace) (e : Event) (y : ℕ) (a : Entry) → answer_by c t e y ≡ Some a → IsRight c t e a
+right_by c t (events.Send via b) y a h = subst (Right c t (events.Send via b)) h (refl, refl)
+right_by c t (events.Take via) y a h = subst (Right c t (events.Take via)) h (refl, refl)
+right_by c t (events.Step k) y a h = right_step c t k y a (waiting t) refl h
+right_by c t events.Look y a h = subst (Right c t events.Look) h refl
+
+right_from : (c : Settings) (t ms : Trace) (ys : List ℕ) → answers_by c t ms ys ≡ map (λ m. Some m.1) ms
+    → RightFrom c t ms
+unfolding answers_by
+right_from c t [] ys h = tt
+right_from c t (m ∷ ms) ys h = (
+  right_by c t m.0 (slice_index_or ys 0 0) m.1 (ap (λ l. slice_index_or l 0 None) h),
+  right_from c (t ++ m ∷ []) ms (still_served t m.0 ys) (ap (λ l. drop 1 l) h),
+)
+
+-- A run is legal if each moment has the answer that is computed after those before it, where its steps serve these
+-- commands.
+pub legal_by : (c : Settings) (ms : Trace) (ys : List ℕ) → answers_by c [] ms ys ≡ map (λ m. Some m.1) ms
+    → IsLegal c ms
+legal_by c ms ys h = legal_from c ms (right_from c [] ms ys h)

@@ -2,18 +2,12 @@
 use Rattle.std.proofs.Common.{◌≡◌, true, [], ◌∷◌, ◌++◌, take, refl}
 use Rattle.std.specs.Prelude.{replicate, Some, None}
 use Rattle.mscp_packet.specs.declared.command.Order.TheVariants as orders
-use Rattle.mscp_packet.specs.Commands.{command_of}
 use Rattle.mscp_events.specs.declared.block.Block.TheVariants.{Good}
-use Rattle.mscp_controller.specs.History.{Trace, moment, collect}
-use Rattle.mscp_controller.specs.Commands.{command, is_waiting, waiting, done, good}
-use Rattle.mscp_controller.specs.Passing.{passed_at, passed, is_free, is_startable, startable}
-use Rattle.mscp_controller.specs.Figures.{figure, figure_of}
-use Rattle.mscp_controller.specs.Units.{is_online, head_cylinder, head_up}
-use Rattle.mscp_controller.specs.Ends.{answer, outcome}
-use Rattle.mscp_controller.specs.Account.{ends, untaken, balance, outstanding}
-use Rattle.mscp_controller.specs.Credits.{arrival}
-use Rattle.mscp_controller.specs.Legal.{IsLegal, block_of}
-use Rattle.mscp_controller.proofs.Bridge.Legals.{legal_from, by_serving}
+use Rattle.mscp_controller.specs.History.{Trace}
+use Rattle.mscp_controller.specs.Passing.{passed, startable}
+use Rattle.mscp_controller.specs.Figures.{figure}
+use Rattle.mscp_controller.specs.Legal.{IsLegal}
+use Rattle.mscp_controller.proofs.Bridge.Legals.{answers_by, legal_by}
 use Rattle.mscp_trials.proofs.Worked.Literals.{settings, came_online, read, queued, answered, aborted, aborted_from, looked, took, took_none, served, with_budget}
 
 -- A read of three blocks is aborted after one. Its end stands before that of the ABORT, and counts the block.
@@ -29,21 +23,8 @@ in_service =
     ∷ []
 
 pub in_service_legal : IsLegal (settings 5 2) in_service
-unfolding moment collect command_of command is_waiting waiting done good passed_at passed is_free is_startable startable
-    figure figure_of is_online head_cylinder head_up answer outcome ends untaken balance outstanding arrival block_of
-in_service_legal = legal_from (settings 5 2) in_service (
-  (refl, refl),
-  (
-    by_serving 0 refl refl refl,
-    (
-      (refl, refl),
-      (
-        (refl, refl),
-        (by_serving 3 refl refl refl, ((refl, refl), ((refl, refl), ((refl, refl), ((refl, refl), tt))))),
-      ),
-    ),
-  ),
-)
+unfolding answers_by
+in_service_legal = legal_by (settings 5 2) in_service (0 ∷ 3 ∷ []) refl
 
 -- Of two reads the second starts first, and is aborted in service. The four blocks that its start cost the first aren't
 -- given back: of the budget of eight, four are left.
@@ -60,29 +41,12 @@ passer =
     ∷ []
 
 pub passer_legal : IsLegal (settings 5 1) passer
-unfolding moment collect command_of command is_waiting waiting done good passed_at passed is_free is_startable startable
-    figure figure_of is_online head_cylinder head_up answer outcome ends untaken balance outstanding arrival block_of
-passer_legal = legal_from (settings 5 1) passer (
-  (refl, refl),
-  (
-    by_serving 0 refl refl refl,
-    (
-      (refl, refl),
-      (
-        (refl, refl),
-        (
-          (refl, refl),
-          (refl, (by_serving 4 refl refl refl, (refl, ((refl, refl), (refl, tt))))),
-        ),
-      ),
-    ),
-  ),
-)
+unfolding answers_by
+passer_legal = legal_by (settings 5 1) passer (0 ∷ 4 ∷ []) refl
 
 -- It was passed by all four all the same.
 passer_passed : passed passer 3 ≡ 4
-unfolding moment collect command_of command is_waiting waiting done good passed_at passed is_free is_startable startable
-    figure figure_of is_online head_cylinder head_up answer outcome ends untaken balance outstanding arrival block_of
+unfolding answers_by
 passer_passed = refl
 
 -- The same with a budget of four: one step is left for the first, which nobody may pass any more.
@@ -99,29 +63,12 @@ spent =
     ∷ []
 
 pub spent_legal : IsLegal (with_budget 5 4) spent
-unfolding moment collect command_of command is_waiting waiting done good passed_at passed is_free is_startable startable
-    figure figure_of is_online head_cylinder head_up answer outcome ends untaken balance outstanding arrival block_of
-spent_legal = legal_from (with_budget 5 4) spent (
-  (refl, refl),
-  (
-    by_serving 0 refl refl refl,
-    (
-      (refl, refl),
-      (
-        (refl, refl),
-        (
-          (refl, refl),
-          (refl, (by_serving 4 refl refl refl, (refl, ((refl, refl), (refl, tt))))),
-        ),
-      ),
-    ),
-  ),
-)
+unfolding answers_by
+spent_legal = legal_by (with_budget 5 4) spent (0 ∷ 4 ∷ []) refl
 
 -- With a budget of three the second, which weighs four, may not start before the first.
 too_heavy : startable (with_budget 5 3) (take 5 spent) ≡ 3 ∷ []
-unfolding moment collect command_of command is_waiting waiting done good passed_at passed is_free is_startable startable
-    figure figure_of is_online head_cylinder head_up answer outcome ends untaken balance outstanding arrival block_of
+unfolding answers_by
 too_heavy = refl
 
 -- The same where the first, which waits, is aborted: the figure of that in service stays.
@@ -138,24 +85,8 @@ overtaken =
     ∷ []
 
 pub overtaken_legal : IsLegal (settings 5 1) overtaken
-unfolding moment collect command_of command is_waiting waiting done good passed_at passed is_free is_startable startable
-    figure figure_of is_online head_cylinder head_up answer outcome ends untaken balance outstanding arrival block_of
-overtaken_legal = legal_from (settings 5 1) overtaken (
-  (refl, refl),
-  (
-    by_serving 0 refl refl refl,
-    (
-      (refl, refl),
-      (
-        (refl, refl),
-        (
-          (refl, refl),
-          (by_serving 4 refl refl refl, (refl, ((refl, refl), (refl, ((refl, refl), tt))))),
-        ),
-      ),
-    ),
-  ),
-)
+unfolding answers_by
+overtaken_legal = legal_by (settings 5 1) overtaken (0 ∷ 4 ∷ []) refl
 
 -- An ABORT and a poll of a number of which nothing waits.
 abbrev pub nobody : Trace
@@ -167,9 +98,8 @@ nobody =
     ∷ []
 
 pub nobody_legal : IsLegal (settings 4 2) nobody
-unfolding moment collect command_of command is_waiting waiting done good passed_at passed is_free is_startable startable
-    figure figure_of is_online head_cylinder head_up answer outcome ends untaken balance outstanding arrival block_of
-nobody_legal = legal_from (settings 4 2) nobody ((refl, refl), ((refl, refl), ((refl, refl), ((refl, refl), tt))))
+unfolding answers_by
+nobody_legal = legal_by (settings 4 2) nobody [] refl
 
 -- A fence that is aborted before it starts, and an ABORT that names another unit than its command's: commands are found
 -- by their reference numbers alone.
@@ -186,36 +116,5 @@ fence =
     ∷ []
 
 pub fence_legal : IsLegal (settings 5 2) fence
-unfolding moment collect command_of command is_waiting waiting done good passed_at passed is_free is_startable startable
-    figure figure_of is_online head_cylinder head_up answer outcome ends untaken balance outstanding arrival block_of
-fence_legal = legal_from (settings 5 2) fence (
-  (refl, refl),
-  (
-    by_serving 0 refl refl refl,
-    (
-      (refl, refl),
-      (
-        (refl, refl),
-        (
-          (refl, refl),
-          (
-            refl,
-            (
-              (refl, refl),
-              (
-                refl,
-                (
-                  (
-                    refl,
-                    refl,
-                  ),
-                  ((refl, refl), tt),
-                ),
-              ),
-            ),
-          ),
-        ),
-      ),
-    ),
-  ),
-)
+unfolding answers_by
+fence_legal = legal_by (settings 5 2) fence (0 ∷ []) refl

@@ -3,24 +3,18 @@ use Rattle.std.proofs.Common.{◌≡◌, ℕ, true, false, List, [], ◌∷◌, 
 use Rattle.std.specs.Prelude.{Some, Ok, Err, unwrap_or, replicate}
 use Rattle.std.proofs.lemmas.Bool.{false≢true}
 use Rattle.mscp_queue.specs.Names.{name_on}
-use Rattle.mscp_packet.specs.Commands.{command_of}
 use Rattle.mscp_events.specs.declared.connection.Connection.TheVariants.{First}
 use Rattle.mscp_events.specs.declared.block.Block.TheVariants.{Good}
 use Rattle.mscp_queue.specs.declared.report.Report.TheVariants as reports
 use Rattle.mscp_queue.specs.declared.upcoming.Upcoming.{Upcoming}
 use Rattle.mscp_controller.specs.declared.entry.Stale.{Stale}
-use Rattle.mscp_controller.specs.History.{Moment, moment, collect}
-use Rattle.mscp_controller.specs.Commands.{command, is_waiting, waiting, done, good}
-use Rattle.mscp_controller.specs.Passing.{passed_at, passed, is_free, is_startable, startable}
-use Rattle.mscp_controller.specs.Figures.{figure, figure_of}
-use Rattle.mscp_controller.specs.Units.{cost, is_online, head_cylinder, head_up}
-use Rattle.mscp_controller.specs.Ends.{answer, outcome}
-use Rattle.mscp_controller.specs.Account.{ends, untaken, balance, outstanding}
-use Rattle.mscp_controller.specs.Credits.{arrival}
-use Rattle.mscp_controller.specs.Legal.{IsLegal, block_of}
+use Rattle.mscp_controller.specs.History.{Moment}
+use Rattle.mscp_controller.specs.Commands.{command, is_waiting, done}
+use Rattle.mscp_controller.specs.Units.{cost}
+use Rattle.mscp_controller.specs.Legal.{IsLegal}
 use Rattle.mscp_controller.specs.Sweeping.{swept}
 use Rattle.mscp_controller.specs.Calls.{Begin, Call, Finish, HoldsTo, HoldsToBegun, IsBegun, IsBegunSince, IsForetold, Plain, call_at, history}
-use Rattle.mscp_controller.proofs.Bridge.Legals.{legal_from, by_serving}
+use Rattle.mscp_controller.proofs.Bridge.Legals.{answers_by, legal_by}
 use Rattle.mscp_trials.proofs.Worked.Literals.{settings, came_online, read, queued, aborted, served, moved, took}
 
 abbrev plain : Moment → Call
@@ -56,47 +50,21 @@ begun_and_aborted =
     ∷ []
 
 begun_legal : IsLegal (settings 8 8) (history begun_and_aborted)
-unfolding moment collect command_of command is_waiting waiting done good passed_at passed is_free is_startable startable
-    figure figure_of is_online head_cylinder head_up cost swept answer outcome ends untaken balance outstanding arrival
-    block_of
-begun_legal = legal_from (settings 8 8) (history begun_and_aborted) (
-  (refl, refl),
-  (
-    by_serving 0 refl refl refl,
-    (
-      (refl, refl),
-      (
-        (refl, refl),
-        (
-          (refl, refl),
-          (
-            (refl, refl),
-            (by_serving 4 refl refl refl, tt),
-          ),
-        ),
-      ),
-    ),
-  ),
-)
+unfolding answers_by cost swept
+begun_legal = legal_by (settings 8 8) (history begun_and_aborted) (0 ∷ 4 ∷ []) refl
 
 -- It is told of the far one,
 far_told : IsForetold (settings 8 8) (history (take 4 begun_and_aborted)) (Some (one_block 1 60))
-unfolding moment collect command_of command is_waiting waiting done good passed_at passed is_free is_startable startable
-    figure figure_of is_online head_cylinder head_up cost swept answer outcome ends untaken balance outstanding arrival
-    block_of
+unfolding answers_by cost swept
 far_told = (3, refl, refl, refl)
 
 -- which is begun when the near one has come, though the sweep would start that one.
 far_begun : IsBegunSince (take 6 begun_and_aborted) (one_block 1 60) 3 4
-unfolding moment collect command_of command is_waiting waiting done good passed_at passed is_free is_startable startable
-    figure figure_of is_online head_cylinder head_up cost swept answer outcome ends untaken balance outstanding arrival
-    block_of
+unfolding answers_by cost swept
 far_begun = record { inside = omega arith; told = refl; own = refl; waited = refl; unstepped = refl; waits = refl }
 
 near_swept : swept (settings 8 8) (history (take 6 begun_and_aborted)) ≡ Some 4
-unfolding moment collect command_of command is_waiting waiting done good passed_at passed is_free is_startable startable
-    figure figure_of is_online head_cylinder head_up cost swept answer outcome ends untaken balance outstanding arrival
-    block_of
+unfolding answers_by cost swept
 near_swept = refl
 
 -- So the next begin tells the same.
@@ -124,23 +92,17 @@ far_not_stale h = h (one_block 1 60) 3 4 far_begun refl
 
 -- Once it is aborted it is begun no more,
 far_aborted : is_waiting (history (take 8 begun_and_aborted)) 3 ≡ false
-unfolding moment collect command_of command is_waiting waiting done good passed_at passed is_free is_startable startable
-    figure figure_of is_online head_cylinder head_up cost swept answer outcome ends untaken balance outstanding arrival
-    block_of
+unfolding answers_by cost swept
 far_aborted = refl
 
 -- the near one is told then,
 near_told : IsForetold (settings 8 8) (history (take 9 begun_and_aborted)) (Some (one_block 2 0))
-unfolding moment collect command_of command is_waiting waiting done good passed_at passed is_free is_startable startable
-    figure figure_of is_online head_cylinder head_up cost swept answer outcome ends untaken balance outstanding arrival
-    block_of
+unfolding answers_by cost swept
 near_told = (4, refl, refl, refl)
 
 -- and what is finished is that one.
 near_finished : IsBegun (take 10 begun_and_aborted) (name_on First 2)
-unfolding moment collect command_of command is_waiting waiting done good passed_at passed is_free is_startable startable
-    figure figure_of is_online head_cylinder head_up cost swept answer outcome ends untaken balance outstanding arrival
-    block_of
+unfolding answers_by cost swept
 near_finished = (
   one_block 2 0,
   4,
@@ -172,42 +134,22 @@ number_again =
     ∷ []
 
 again_legal : IsLegal (settings 8 8) (history number_again)
-unfolding moment collect command_of command is_waiting waiting done good passed_at passed is_free is_startable startable
-    figure figure_of is_online head_cylinder head_up cost swept answer outcome ends untaken balance outstanding arrival
-    block_of
-again_legal = legal_from (settings 8 8) (history number_again) (
-  (refl, refl),
-  (
-    by_serving 0 refl refl refl,
-    (
-      (refl, refl),
-      (
-        (refl, refl),
-        ((refl, refl), ((refl, refl), ((refl, refl), ((refl, refl), (by_serving 7 refl refl refl, tt))))),
-      ),
-    ),
-  ),
-)
+unfolding answers_by cost swept
+again_legal = legal_by (settings 8 8) (history number_again) (0 ∷ 7 ∷ []) refl
 
 -- The old one waits no more,
 old_left : IsBegunSince (take 10 number_again) (one_block 1 60) 3 4 → ⊥
-unfolding moment collect command_of command is_waiting waiting done good passed_at passed is_free is_startable startable
-    figure figure_of is_online head_cylinder head_up cost swept answer outcome ends untaken balance outstanding arrival
-    block_of
+unfolding answers_by cost swept
 old_left b = false≢true b.waits
 
 -- the new one hadn't come when the old one was begun,
 new_unbegun : (upcoming : Upcoming) → IsBegunSince (take 10 number_again) upcoming 7 4 → ⊥
-unfolding moment collect command_of command is_waiting waiting done good passed_at passed is_free is_startable startable
-    figure figure_of is_online head_cylinder head_up cost swept answer outcome ends untaken balance outstanding arrival
-    block_of
+unfolding answers_by cost swept
 new_unbegun upcoming b = false≢true b.waited
 
 -- and what is finished in the end is the new one.
 new_finished : IsBegun (take 12 number_again) (name_on First 1)
-unfolding moment collect command_of command is_waiting waiting done good passed_at passed is_free is_startable startable
-    figure figure_of is_online head_cylinder head_up cost swept answer outcome ends untaken balance outstanding arrival
-    block_of
+unfolding answers_by cost swept
 new_finished = (
   one_block 1 80,
   7,

@@ -3,18 +3,11 @@ use Rattle.std.proofs.Common.{true, false, [], ◌∷◌, ◌++◌, refl}
 use Rattle.std.specs.Prelude.{replicate, Some, None}
 use Rattle.mscp_packet.specs.declared.command.MoveKind.TheVariants as moves
 use Rattle.mscp_packet.specs.declared.command.Order.TheVariants as orders
-use Rattle.mscp_packet.specs.Commands.{command_of}
 use Rattle.mscp_events.specs.declared.block.Block.TheVariants.{Good, Bad}
-use Rattle.mscp_controller.specs.History.{Trace, moment, collect}
-use Rattle.mscp_controller.specs.Commands.{command, is_waiting, waiting, done, good}
-use Rattle.mscp_controller.specs.Passing.{passed_at, passed, is_free, is_startable, startable}
-use Rattle.mscp_controller.specs.Figures.{figure, figure_of}
-use Rattle.mscp_controller.specs.Units.{is_online, head_cylinder, head_up}
-use Rattle.mscp_controller.specs.Ends.{answer, outcome}
-use Rattle.mscp_controller.specs.Account.{ends, untaken, balance, outstanding}
-use Rattle.mscp_controller.specs.Credits.{arrival}
-use Rattle.mscp_controller.specs.Legal.{IsLegal, block_of}
-use Rattle.mscp_controller.proofs.Bridge.Legals.{legal_from, by_serving}
+use Rattle.mscp_controller.specs.History.{Trace}
+use Rattle.mscp_controller.specs.Account.{ends}
+use Rattle.mscp_controller.specs.Legal.{IsLegal}
+use Rattle.mscp_controller.proofs.Bridge.Legals.{answers_by, legal_by}
 use Rattle.mscp_trials.proofs.Worked.Literals.{settings, came_online, read, queued, answered, took, looked, served, moved, moved_by}
 
 -- A transfer of no bytes takes one step.
@@ -28,30 +21,8 @@ empty =
     ∷ []
 
 pub empty_legal : IsLegal (settings 4 2) empty
-unfolding moment collect command_of command is_waiting waiting done good passed_at passed is_free is_startable startable
-    figure figure_of is_online head_cylinder head_up answer outcome ends untaken balance outstanding arrival block_of
-empty_legal = legal_from (settings 4 2) empty (
-  (refl, refl),
-  (
-    by_serving 0 refl refl refl,
-    (
-      (refl, refl),
-      (
-        (refl, refl),
-        (
-          refl,
-          (
-            by_serving 3 refl refl refl,
-            (
-              (refl, refl),
-              tt,
-            ),
-          ),
-        ),
-      ),
-    ),
-  ),
-)
+unfolding answers_by
+empty_legal = legal_by (settings 4 2) empty (0 ∷ 3 ∷ []) refl
 
 -- A byte past a block takes a step of its own.
 abbrev pub partial : Trace
@@ -64,24 +35,8 @@ partial =
     ∷ []
 
 pub partial_legal : IsLegal (settings 4 2) partial
-unfolding moment collect command_of command is_waiting waiting done good passed_at passed is_free is_startable startable
-    figure figure_of is_online head_cylinder head_up answer outcome ends untaken balance outstanding arrival block_of
-partial_legal = legal_from (settings 4 2) partial (
-  (refl, refl),
-  (
-    by_serving 0 refl refl refl,
-    (
-      (refl, refl),
-      (
-        (refl, refl),
-        (
-          by_serving 3 refl refl refl,
-          (by_serving 3 refl refl refl, ((refl, refl), tt)),
-        ),
-      ),
-    ),
-  ),
-)
+unfolding answers_by
+partial_legal = legal_by (settings 4 2) partial (0 ∷ 3 ∷ 3 ∷ []) refl
 
 -- The last block of the unit may be read. A transfer past it, or from past it, is refused.
 abbrev pub last_block : Trace
@@ -94,21 +49,8 @@ last_block =
     ∷ []
 
 pub last_block_legal : IsLegal (settings 4 2) last_block
-unfolding moment collect command_of command is_waiting waiting done good passed_at passed is_free is_startable startable
-    figure figure_of is_online head_cylinder head_up answer outcome ends untaken balance outstanding arrival block_of
-last_block_legal = legal_from (settings 4 2) last_block (
-  (refl, refl),
-  (
-    (refl, refl),
-    (
-      (refl, refl),
-      (
-        (refl, refl),
-        ((refl, refl), tt),
-      ),
-    ),
-  ),
-)
+unfolding answers_by
+last_block_legal = legal_by (settings 4 2) last_block [] refl
 
 -- A transfer as long as may be is queued, and a longer one refused.
 abbrev pub longest : Trace
@@ -119,9 +61,8 @@ longest =
     ∷ []
 
 pub longest_legal : IsLegal (settings 4 2) longest
-unfolding moment collect command_of command is_waiting waiting done good passed_at passed is_free is_startable startable
-    figure figure_of is_online head_cylinder head_up answer outcome ends untaken balance outstanding arrival block_of
-longest_legal = legal_from (settings 4 2) longest ((refl, refl), ((refl, refl), ((refl, refl), tt)))
+unfolding answers_by
+longest_legal = legal_by (settings 4 2) longest [] refl
 
 -- A bad block ends its transfer with its status, and the blocks before it count.
 abbrev pub bad_block : Trace
@@ -134,21 +75,8 @@ bad_block =
     ∷ []
 
 pub bad_block_legal : IsLegal (settings 4 2) bad_block
-unfolding moment collect command_of command is_waiting waiting done good passed_at passed is_free is_startable startable
-    figure figure_of is_online head_cylinder head_up answer outcome ends untaken balance outstanding arrival block_of
-bad_block_legal = legal_from (settings 4 2) bad_block (
-  (refl, refl),
-  (
-    by_serving 0 refl refl refl,
-    (
-      (refl, refl),
-      (
-        (refl, refl),
-        (by_serving 3 refl refl refl, (by_serving 3 refl refl refl, ((refl, refl), tt))),
-      ),
-    ),
-  ),
-)
+unfolding answers_by
+bad_block_legal = legal_by (settings 4 2) bad_block (0 ∷ 3 ∷ 3 ∷ []) refl
 
 -- Each transfer has its own endcode. A read's is above.
 abbrev pub each_transfer : Trace
@@ -169,39 +97,5 @@ each_transfer =
     ∷ []
 
 pub each_transfer_legal : IsLegal (settings 4 2) each_transfer
-unfolding moment collect command_of command is_waiting waiting done good passed_at passed is_free is_startable startable
-    figure figure_of is_online head_cylinder head_up answer outcome ends untaken balance outstanding arrival block_of
-each_transfer_legal = legal_from (settings 4 2) each_transfer (
-  (refl, refl),
-  (
-    by_serving 0 refl refl refl,
-    (
-      (refl, refl),
-      (
-        (refl, refl),
-        (
-          by_serving 3 refl refl refl,
-          (
-            (refl, refl),
-            (
-              (refl, refl),
-              (
-                by_serving 6 refl refl refl,
-                (
-                  (refl, refl),
-                  (
-                    (refl, refl),
-                    (
-                      by_serving 9 refl refl refl,
-                      ((refl, refl), ((refl, refl), (by_serving 12 refl refl refl, ((refl, refl), tt)))),
-                    ),
-                  ),
-                ),
-              ),
-            ),
-          ),
-        ),
-      ),
-    ),
-  ),
-)
+unfolding answers_by
+each_transfer_legal = legal_by (settings 4 2) each_transfer (0 ∷ 3 ∷ 6 ∷ 9 ∷ 12 ∷ []) refl

@@ -6,7 +6,7 @@ use Rattle.arrayvec.specs.ArrayVec.{ArrayVec}
 use Rattle.mscp_packet.specs.declared.command.Order.{Order}
 use Rattle.mscp_packet.specs.declared.command.Order.TheVariants as orders
 use Rattle.mscp_packet.specs.declared.end.End.{End}
-use Rattle.mscp_packet.specs.Commands.{command_bytes, command_of}
+use Rattle.mscp_packet.specs.Commands.{command_bytes}
 use Rattle.mscp_events.specs.declared.block.Block.TheVariants.{Good}
 use Rattle.mscp_events.specs.declared.connection.Connection.{Connection}
 use Rattle.mscp_events.specs.declared.connection.Connection.TheVariants.{First, Second}
@@ -19,16 +19,13 @@ use Rattle.mscp_events.specs.declared.event.Event.{Event}
 use Rattle.mscp_events.specs.declared.event.Event.TheVariants as events
 use Rattle.mscp_controller.specs.declared.entry.Entry.TheVariants as entries
 use Rattle.mscp_events.specs.Settings.{Settings}
-use Rattle.mscp_controller.specs.History.{Trace, Moment, moment, collect}
-use Rattle.mscp_controller.specs.Commands.{command, is_waiting, waiting, done, good}
-use Rattle.mscp_controller.specs.Passing.{passed_at, passed, is_free, is_startable, startable}
-use Rattle.mscp_controller.specs.Figures.{figure, figure_of}
-use Rattle.mscp_controller.specs.Units.{is_online, head_cylinder, head_up}
-use Rattle.mscp_controller.specs.Ends.{answer, outcome}
-use Rattle.mscp_controller.specs.Account.{ends, untaken, balance, outstanding}
-use Rattle.mscp_controller.specs.Credits.{arrival}
-use Rattle.mscp_controller.specs.Legal.{IsLegal, IsRight, block_of}
-use Rattle.mscp_controller.proofs.Bridge.Legals.{legal_from, by_serving}
+use Rattle.mscp_controller.specs.History.{Trace, Moment}
+use Rattle.mscp_controller.specs.Commands.{command}
+use Rattle.mscp_controller.specs.Figures.{figure}
+use Rattle.mscp_controller.specs.Ends.{answer}
+use Rattle.mscp_controller.specs.Account.{balance, outstanding}
+use Rattle.mscp_controller.specs.Legal.{IsLegal, IsRight}
+use Rattle.mscp_controller.proofs.Bridge.Legals.{answers_by, legal_by}
 use Rattle.mscp_trials.proofs.Worked.Literals.{settings_of, shape, read, moved, onlined}
 
 -- both connections have so many credits
@@ -69,30 +66,18 @@ shared =
     ∷ []
 
 shared_legal : IsLegal (of_both 4) shared
-unfolding moment collect command_of command is_waiting waiting done good passed_at passed is_free is_startable startable
-    figure figure_of is_online head_cylinder head_up answer outcome ends untaken balance outstanding arrival block_of
-shared_legal = legal_from (of_both 4) shared (
-  (refl, refl),
-  (
-    (refl, refl),
-    (
-      (refl, refl),
-      ((refl, refl), (by_serving 0 refl refl refl, (by_serving 1 refl refl refl, ((refl, refl), tt)))),
-    ),
-  ),
-)
+unfolding answers_by
+shared_legal = legal_by (of_both 4) shared (0 ∷ 1 ∷ []) refl
 
 -- The end of the ONLINE is the first host's, who didn't take it.
 shared_balances : (balance (of_both 4) First shared ≡ 3) × (balance (of_both 4) Second shared ≡ 4)
-unfolding moment collect command_of command is_waiting waiting done good passed_at passed is_free is_startable startable
-    figure figure_of is_online head_cylinder head_up answer outcome ends untaken balance outstanding arrival block_of
+unfolding answers_by
 shared_balances = (refl, refl)
 
 -- A reference number of the other host is none of one's own.
 outstanding_apart : (outstanding (of_both 4) First (take 3 shared) ≡ 1 ∷ [])
     × (outstanding (of_both 4) Second (take 3 shared) ≡ 1 ∷ 2 ∷ [])
-unfolding moment collect command_of command is_waiting waiting done good passed_at passed is_free is_startable startable
-    figure figure_of is_online head_cylinder head_up answer outcome ends untaken balance outstanding arrival block_of
+unfolding answers_by
 outstanding_apart = (refl, refl)
 
 -- ---- what isn't right
@@ -117,38 +102,30 @@ seven = queued Second 7 (read 512 0) ∷ []
 -- The first host's ABORT doesn't find it: nothing is aborted.
 abort_finds_nothing : IsRight (of_both 4) seven (answered First 2 (orders.Abort 7) None).0
     (answered First 2 (orders.Abort 7) None).1
-unfolding moment collect command_of command is_waiting waiting done good passed_at passed is_free is_startable startable
-    figure figure_of is_online head_cylinder head_up answer outcome ends untaken balance outstanding arrival block_of
+unfolding answers_by
 abort_finds_nothing = (refl, refl)
 
 abort_across : IsWrong (of_both 4) seven (answered First 2 (orders.Abort 7) (Some 7))
-unfolding moment collect command_of command is_waiting waiting done good passed_at passed is_free is_startable startable
-    figure figure_of is_online head_cylinder head_up answer outcome ends untaken balance outstanding arrival block_of
-    aborted_in
+unfolding answers_by aborted_in
 abort_across h = true≢false (ap (λ s. is_some (aborted_in s)) h.1)
 
 -- The second host's last credit doesn't keep the first from a READ.
 one_balance : IsWrong (of_both 2) seven (sends First 1 (read 512 0), entries.Sent First (Err faults.LastCredit))
-unfolding moment collect command_of command is_waiting waiting done good passed_at passed is_free is_startable startable
-    figure figure_of is_online head_cylinder head_up answer outcome ends untaken balance outstanding arrival block_of
+unfolding answers_by
 one_balance h = false≢true (ap is_ok h.1)
 
 -- The first host takes nothing of the second's.
 taken_across : IsWrong (of_both 4) (take 3 shared) (took First (told 18))
-unfolding moment collect command_of command is_waiting waiting done good passed_at passed is_free is_startable startable
-    figure figure_of is_online head_cylinder head_up answer outcome ends untaken balance outstanding arrival block_of
+unfolding answers_by
 taken_across h = true≢false (ap is_some h.1)
 
 -- The second host isn't told the first's figure, 17.
 told_the_others : IsWrong (of_both 4) (take 3 shared) (took Second (told 17))
-unfolding moment collect command_of command is_waiting waiting done good passed_at passed is_free is_startable startable
-    figure figure_of is_online head_cylinder head_up answer outcome ends untaken balance outstanding arrival block_of
-    figure_byte
+unfolding answers_by figure_byte
 told_the_others h = let e : 17 ≡ 18 = ap figure_byte h.1 in omega (arith, e)
 
 -- Where there is no second connection its messages find no credit.
 absent : IsRight (record (of_both 4) { second = 0 }) [] (sends Second 1 (read 512 0))
     (entries.Sent Second (Err faults.NoCredit))
-unfolding moment collect command_of command is_waiting waiting done good passed_at passed is_free is_startable startable
-    figure figure_of is_online head_cylinder head_up answer outcome ends untaken balance outstanding arrival block_of
+unfolding answers_by
 absent = (refl, refl)

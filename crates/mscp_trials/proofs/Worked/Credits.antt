@@ -2,20 +2,13 @@
 use Rattle.std.proofs.Common.{◌≡◌, [], ◌∷◌, ◌++◌, refl}
 use Rattle.std.specs.Prelude.{replicate, None, Ok, Err}
 use Rattle.mscp_packet.specs.declared.command.Order.TheVariants as orders
-use Rattle.mscp_packet.specs.Commands.{command_of}
 use Rattle.mscp_controller.specs.declared.entry.SendFault.TheVariants as faults
 use Rattle.mscp_controller.specs.declared.entry.Sent.TheVariants as sents
-use Rattle.mscp_controller.specs.History.{Trace, moment, collect}
-use Rattle.mscp_controller.specs.Commands.{command, is_waiting, waiting, done, good}
-use Rattle.mscp_controller.specs.Passing.{passed_at, passed, is_free, is_startable, startable}
-use Rattle.mscp_controller.specs.Figures.{figure, figure_of}
-use Rattle.mscp_controller.specs.Units.{is_online, head_cylinder, head_up}
-use Rattle.mscp_controller.specs.Ends.{answer, outcome}
+use Rattle.mscp_controller.specs.History.{Trace}
 use Rattle.mscp_events.specs.declared.connection.Connection.TheVariants.{First}
-use Rattle.mscp_controller.specs.Account.{ends, untaken, balance, outstanding}
-use Rattle.mscp_controller.specs.Credits.{arrival}
-use Rattle.mscp_controller.specs.Legal.{IsLegal, block_of}
-use Rattle.mscp_controller.proofs.Bridge.Legals.{legal_from}
+use Rattle.mscp_controller.specs.Account.{balance}
+use Rattle.mscp_controller.specs.Legal.{IsLegal}
+use Rattle.mscp_controller.proofs.Bridge.Legals.{answers_by, legal_by}
 use Rattle.mscp_trials.proofs.Worked.Literals.{settings, read, raw, queued, answered, refused, took, took_none, idle, looked}
 
 -- With two credits a read takes one, and the other is for polls alone. A credit is back once an end is taken.
@@ -30,29 +23,12 @@ last_credit =
     ∷ []
 
 pub last_credit_legal : IsLegal (settings 2 2) last_credit
-unfolding moment collect command_of command is_waiting waiting done good passed_at passed is_free is_startable startable
-    figure figure_of is_online head_cylinder head_up answer outcome ends untaken balance outstanding arrival block_of
-last_credit_legal = legal_from (settings 2 2) last_credit (
-  (refl, refl),
-  (
-    (refl, refl),
-    (
-      (refl, refl),
-      (
-        (
-          refl,
-          refl,
-        ),
-        ((refl, refl), ((refl, refl), tt)),
-      ),
-    ),
-  ),
-)
+unfolding answers_by
+last_credit_legal = legal_by (settings 2 2) last_credit [] refl
 
 -- One end is left.
 last_credit_balance : balance (settings 2 2) First last_credit ≡ 0
-unfolding moment collect command_of command is_waiting waiting done good passed_at passed is_free is_startable startable
-    figure figure_of is_online head_cylinder head_up answer outcome ends untaken balance outstanding arrival block_of
+unfolding answers_by
 last_credit_balance = refl
 
 -- A reference number may be used again once its end is taken.
@@ -68,21 +44,8 @@ doubled =
     ∷ []
 
 pub doubled_legal : IsLegal (settings 4 2) doubled
-unfolding moment collect command_of command is_waiting waiting done good passed_at passed is_free is_startable startable
-    figure figure_of is_online head_cylinder head_up answer outcome ends untaken balance outstanding arrival block_of
-doubled_legal = legal_from (settings 4 2) doubled (
-  (refl, refl),
-  (
-    (refl, refl),
-    (
-      (refl, refl),
-      (
-        (refl, refl),
-        ((refl, refl), tt),
-      ),
-    ),
-  ),
-)
+unfolding answers_by
+doubled_legal = legal_by (settings 4 2) doubled [] refl
 
 -- A message of 11 bytes is too short and one of 65 too long, and neither costs a credit.
 abbrev pub lengths : Trace
@@ -92,14 +55,12 @@ lengths =
     ∷ []
 
 pub lengths_legal : IsLegal (settings 4 2) lengths
-unfolding moment collect command_of command is_waiting waiting done good passed_at passed is_free is_startable startable
-    figure figure_of is_online head_cylinder head_up answer outcome ends untaken balance outstanding arrival block_of
-lengths_legal = legal_from (settings 4 2) lengths ((refl, refl), ((refl, refl), tt))
+unfolding answers_by
+lengths_legal = legal_by (settings 4 2) lengths [] refl
 
 -- All credits are there.
 lengths_balance : balance (settings 4 2) First lengths ≡ 4
-unfolding moment collect command_of command is_waiting waiting done good passed_at passed is_free is_startable startable
-    figure figure_of is_online head_cylinder head_up answer outcome ends untaken balance outstanding arrival block_of
+unfolding answers_by
 lengths_balance = refl
 
 -- Where nothing came there is nothing to serve, to take or to look at.
@@ -111,9 +72,8 @@ nothing =
     ∷ []
 
 pub nothing_legal : IsLegal (settings 4 2) nothing
-unfolding moment collect command_of command is_waiting waiting done good passed_at passed is_free is_startable startable
-    figure figure_of is_online head_cylinder head_up answer outcome ends untaken balance outstanding arrival block_of
-nothing_legal = legal_from (settings 4 2) nothing (refl, ((refl, refl), (refl, tt)))
+unfolding answers_by
+nothing_legal = legal_by (settings 4 2) nothing [] refl
 
 -- Which messages the last credit is kept from is told by the opcode byte alone: an unknown opcode is refused, and a
 -- poll that is too short is taken.
@@ -126,6 +86,5 @@ by_opcode =
     ∷ []
 
 pub by_opcode_legal : IsLegal (settings 2 2) by_opcode
-unfolding moment collect command_of command is_waiting waiting done good passed_at passed is_free is_startable startable
-    figure figure_of is_online head_cylinder head_up answer outcome ends untaken balance outstanding arrival block_of
-by_opcode_legal = legal_from (settings 2 2) by_opcode ((refl, refl), ((refl, refl), ((refl, refl), ((refl, refl), tt))))
+unfolding answers_by
+by_opcode_legal = legal_by (settings 2 2) by_opcode [] refl

@@ -3,18 +3,12 @@ use Rattle.std.proofs.Common.{◌≡◌, true, false, [], ◌∷◌, ◌++◌, t
 use Rattle.std.specs.Prelude.{replicate, Some, None}
 use Rattle.mscp_packet.specs.declared.command.Order.TheVariants as orders
 use Rattle.mscp_packet.specs.declared.end.EndBody.TheVariants as bodies
-use Rattle.mscp_packet.specs.Commands.{command_of}
 use Rattle.mscp_events.specs.declared.block.Block.TheVariants.{Good, Bad}
-use Rattle.mscp_controller.specs.History.{Trace, moment, collect}
-use Rattle.mscp_controller.specs.Commands.{command, is_waiting, waiting, done, good}
-use Rattle.mscp_controller.specs.Passing.{passed_at, passed, is_free, is_startable, startable}
-use Rattle.mscp_controller.specs.Figures.{figure, figure_of}
-use Rattle.mscp_controller.specs.Units.{is_online, head_cylinder, head_up, head}
-use Rattle.mscp_controller.specs.Ends.{answer, outcome}
-use Rattle.mscp_controller.specs.Account.{ends, untaken, balance, outstanding}
-use Rattle.mscp_controller.specs.Credits.{arrival}
-use Rattle.mscp_controller.specs.Legal.{IsLegal, block_of}
-use Rattle.mscp_controller.proofs.Bridge.Legals.{legal_from, by_serving}
+use Rattle.mscp_controller.specs.History.{Trace}
+use Rattle.mscp_controller.specs.Passing.{startable}
+use Rattle.mscp_controller.specs.Units.{head}
+use Rattle.mscp_controller.specs.Legal.{IsLegal}
+use Rattle.mscp_controller.proofs.Bridge.Legals.{answers_by, legal_by}
 use Rattle.mscp_trials.proofs.Worked.Literals.{settings, two_units, came_online, read, queued, took, served, moved, onlined}
 
 -- A head that goes up serves what lies above it, turns, and serves what lies below.
@@ -32,50 +26,22 @@ up_and_down =
     ∷ []
 
 pub up_and_down_legal : IsLegal (settings 8 8) up_and_down
-unfolding moment collect command_of command is_waiting waiting done good passed_at passed is_free is_startable startable
-    figure figure_of is_online head_cylinder head_up answer outcome ends untaken balance outstanding arrival block_of
-up_and_down_legal = legal_from (settings 8 8) up_and_down (
-  (refl, refl),
-  (
-    by_serving 0 refl refl refl,
-    (
-      (refl, refl),
-      (
-        (refl, refl),
-        (
-          by_serving 3 refl refl refl,
-          (
-            (refl, refl),
-            (
-              (refl, refl),
-              (
-                (refl, refl),
-                (by_serving 6 refl refl refl, (by_serving 7 refl refl refl, (by_serving 5 refl refl refl, tt))),
-              ),
-            ),
-          ),
-        ),
-      ),
-    ),
-  ),
-)
+unfolding answers_by
+up_and_down_legal = legal_by (settings 8 8) up_and_down (0 ∷ 3 ∷ 6 ∷ 7 ∷ 5 ∷ []) refl
 
 -- At first it goes up.
 up_and_down_up : head (settings 8 8) (take 5 up_and_down) 0 ≡ record { cylinder = 10; up = true }
-unfolding moment collect command_of command is_waiting waiting done good passed_at passed is_free is_startable startable
-    figure figure_of is_online head_cylinder head_up answer outcome ends untaken balance outstanding arrival block_of
+unfolding answers_by
 up_and_down_up = refl
 
 -- It goes on up.
 up_and_down_on : head (settings 8 8) (take 9 up_and_down) 0 ≡ record { cylinder = 30; up = true }
-unfolding moment collect command_of command is_waiting waiting done good passed_at passed is_free is_startable startable
-    figure figure_of is_online head_cylinder head_up answer outcome ends untaken balance outstanding arrival block_of
+unfolding answers_by
 up_and_down_on = refl
 
 -- Then it goes down.
 up_and_down_down : head (settings 8 8) (take 10 up_and_down) 0 ≡ record { cylinder = 8; up = false }
-unfolding moment collect command_of command is_waiting waiting done good passed_at passed is_free is_startable startable
-    figure figure_of is_online head_cylinder head_up answer outcome ends untaken balance outstanding arrival block_of
+unfolding answers_by
 up_and_down_down = refl
 
 -- A head that goes down to a transfer goes up with it to the next cylinder.
@@ -90,35 +56,17 @@ carried =
     ∷ []
 
 pub carried_legal : IsLegal (settings 8 8) carried
-unfolding moment collect command_of command is_waiting waiting done good passed_at passed is_free is_startable startable
-    figure figure_of is_online head_cylinder head_up answer outcome ends untaken balance outstanding arrival block_of
-carried_legal = legal_from (settings 8 8) carried (
-  (refl, refl),
-  (
-    by_serving 0 refl refl refl,
-    (
-      (refl, refl),
-      (
-        (refl, refl),
-        (
-          by_serving 3 refl refl refl,
-          ((refl, refl), (by_serving 5 refl refl refl, (by_serving 5 refl refl refl, tt))),
-        ),
-      ),
-    ),
-  ),
-)
+unfolding answers_by
+carried_legal = legal_by (settings 8 8) carried (0 ∷ 3 ∷ 5 ∷ 5 ∷ []) refl
 
 -- The transfer began on the way down.
 carried_started : head (settings 8 8) (take 7 carried) 0 ≡ record { cylinder = 1; up = false }
-unfolding moment collect command_of command is_waiting waiting done good passed_at passed is_free is_startable startable
-    figure figure_of is_online head_cylinder head_up answer outcome ends untaken balance outstanding arrival block_of
+unfolding answers_by
 carried_started = refl
 
 -- Its later block does not turn the head.
 carried_keeps : head (settings 8 8) carried 0 ≡ record { cylinder = 2; up = false }
-unfolding moment collect command_of command is_waiting waiting done good passed_at passed is_free is_startable startable
-    figure figure_of is_online head_cylinder head_up answer outcome ends untaken balance outstanding arrival block_of
+unfolding answers_by
 carried_keeps = refl
 
 -- A bad block is touched too: the head is on its cylinder.
@@ -130,15 +78,12 @@ bad_touched =
     ∷ []
 
 pub bad_touched_legal : IsLegal (settings 4 2) bad_touched
-unfolding moment collect command_of command is_waiting waiting done good passed_at passed is_free is_startable startable
-    figure figure_of is_online head_cylinder head_up answer outcome ends untaken balance outstanding arrival block_of
-bad_touched_legal = legal_from (settings 4 2) bad_touched
-    ((refl, refl), (by_serving 0 refl refl refl, ((refl, refl), ((refl, refl), (by_serving 3 refl refl refl, tt)))))
+unfolding answers_by
+bad_touched_legal = legal_by (settings 4 2) bad_touched (0 ∷ 3 ∷ []) refl
 
 -- The head is there.
 bad_touched_head : head (settings 4 2) bad_touched 0 ≡ record { cylinder = 40; up = true }
-unfolding moment collect command_of command is_waiting waiting done good passed_at passed is_free is_startable startable
-    figure figure_of is_online head_cylinder head_up answer outcome ends untaken balance outstanding arrival block_of
+unfolding answers_by
 bad_touched_head = refl
 
 -- Two units: orders of one do not hold up the other, and each has its own head.
@@ -172,57 +117,20 @@ two_heads =
     ∷ []
 
 pub two_heads_legal : IsLegal (two_units 8 2) two_heads
-unfolding moment collect command_of command is_waiting waiting done good passed_at passed is_free is_startable startable
-    figure figure_of is_online head_cylinder head_up answer outcome ends untaken balance outstanding arrival block_of
-two_heads_legal = legal_from (two_units 8 2) two_heads (
-  (refl, refl),
-  (
-    (refl, refl),
-    (
-      by_serving 0 refl refl refl,
-      (
-        by_serving 1 refl refl refl,
-        (
-          (refl, refl),
-          (
-            (refl, refl),
-            (
-              (refl, refl),
-              (
-                (refl, refl),
-                (
-                  (refl, refl),
-                  (
-                    (refl, refl),
-                    (
-                      by_serving 9 refl refl refl,
-                      (by_serving 6 refl refl refl, (by_serving 7 refl refl refl, (by_serving 8 refl refl refl, tt))),
-                    ),
-                  ),
-                ),
-              ),
-            ),
-          ),
-        ),
-      ),
-    ),
-  ),
-)
+unfolding answers_by
+two_heads_legal = legal_by (two_units 8 2) two_heads (0 ∷ 1 ∷ 9 ∷ 6 ∷ 7 ∷ 8 ∷ []) refl
 
 -- The first read of each unit may start.
 two_heads_startable : startable (two_units 8 2) (take 10 two_heads) ≡ 6 ∷ 9 ∷ []
-unfolding moment collect command_of command is_waiting waiting done good passed_at passed is_free is_startable startable
-    figure figure_of is_online head_cylinder head_up answer outcome ends untaken balance outstanding arrival block_of
+unfolding answers_by
 two_heads_startable = refl
 
 -- The head of the first unit went up and down.
 two_heads_first : head (two_units 8 2) two_heads 0 ≡ record { cylinder = 0; up = false }
-unfolding moment collect command_of command is_waiting waiting done good passed_at passed is_free is_startable startable
-    figure figure_of is_online head_cylinder head_up answer outcome ends untaken balance outstanding arrival block_of
+unfolding answers_by
 two_heads_first = refl
 
 -- That of the second never moved.
 two_heads_second : head (two_units 8 2) two_heads 1 ≡ record { cylinder = 0; up = true }
-unfolding moment collect command_of command is_waiting waiting done good passed_at passed is_free is_startable startable
-    figure figure_of is_online head_cylinder head_up answer outcome ends untaken balance outstanding arrival block_of
+unfolding answers_by
 two_heads_second = refl

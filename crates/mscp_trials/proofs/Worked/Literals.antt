@@ -90,6 +90,13 @@ refused r u o fault = (message r u o, entries.Sent First (Err fault))
 abbrev pub took : List ℕ → Moment
 took b = (events.Take First, entries.Taken First (Some (record { items = b })))
 
+-- the end of an ONLINE of unit 0 under this reference number, with a status of these two bytes, is taken
+abbrev pub took_online : ℕ → ℕ → ℕ → Moment
+took_online r low high =
+    took ((r ∷ 0 ∷ 0 ∷ 0 ∷ 0 ∷ 0 ∷ 0 ∷ 0 ∷ 0x89 ∷ 0 ∷ low ∷ high ∷ [])
+    ++ (replicate 8 0 ++ ((1 ∷ 0 ∷ 0 ∷ 0 ∷ 0 ∷ 0 ∷ 0 ∷ 0 ∷ [])
+    ++ (replicate 8 0 ++ (0xE8 ∷ 3 ∷ 0 ∷ 0 ∷ 1 ∷ 0 ∷ 0 ∷ 0 ∷ [])))))
+
 abbrev pub took_none : Moment
 took_none = (events.Take First, entries.Taken First None)
 

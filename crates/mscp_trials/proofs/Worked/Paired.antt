@@ -6,7 +6,7 @@ use Rattle.mscp_packet.specs.declared.command.Order.{Order}
 use Rattle.mscp_packet.specs.declared.command.Order.TheVariants as orders
 use Rattle.mscp_packet.specs.declared.end.End.{End}
 use Rattle.mscp_packet.specs.declared.end.EndBody.TheVariants as bodies
-use Rattle.mscp_packet.specs.Commands.{command_bytes, command_of}
+use Rattle.mscp_packet.specs.Commands.{command_bytes}
 use Rattle.mscp_packet.specs.Ends.{end_bytes}
 use Rattle.mscp_events.specs.declared.block.Block.TheVariants.{Good}
 use Rattle.mscp_events.specs.declared.connection.Connection.{Connection}
@@ -17,9 +17,7 @@ use Rattle.mscp_controller.specs.declared.entry.Entry.TheVariants as entries
 use Rattle.mscp_controller.specs.declared.entry.Sent.{Sent}
 use Rattle.mscp_controller.specs.declared.entry.Sent.TheVariants as sents
 use Rattle.mscp_controller.specs.History.{moment}
-use Rattle.mscp_controller.specs.Commands.{command, is_waiting, waiting, done}
-use Rattle.mscp_controller.specs.Passing.{passed_at, passed}
-use Rattle.mscp_controller.specs.Figures.{figure, figure_of}
+use Rattle.mscp_controller.specs.Commands.{command}
 use Rattle.mscp_events.specs.Settings.{Settings}
 use Rattle.mscp_trials.proofs.Worked.Literals.{onlined, read, settings}
 use Rattle.mscp_host.specs.Accounts.{fresh, polls_oldest}
@@ -31,6 +29,7 @@ use Rattle.mscp_sim.specs.declared.conversing.Turn.TheVariants as turns
 use Rattle.mscp_sim.specs.declared.conversing.Heard.{Heard}
 use Rattle.mscp_sim.specs.declared.conversing.Heard.TheVariants as hears
 use Rattle.mscp_sim.specs.Talks.{Said, Talk, account_at, figure_told, handed_over, outstanding}
+use Rattle.mscp_controller.proofs.Bridge.Legals.{answers_by}
 
 -- ---- short words
 
@@ -95,11 +94,11 @@ paired =
 
 -- each is told of its own command: the second's waits for the first's two steps too
 first_told : figure_told both First paired 5 ≡ 18
-unfolding moment command_of command is_waiting waiting done passed_at passed figure figure_of outstanding
+unfolding answers_by
 first_told = refl
 
 second_told : figure_told both Second paired 6 ≡ 20
-unfolding moment command_of command is_waiting waiting done passed_at passed figure figure_of outstanding
+unfolding answers_by
 second_told = refl
 
 -- the first end is that of the first host's poll, and none of the second's, though that has the same number
@@ -121,7 +120,7 @@ first_kept : account_at both First paired 8 ≡ record {
   outstanding = record { reference = 1; unit = 0; opcode = 0x21; told = Some 18 } ∷ [];
   watch = None;
 }
-unfolding moment command_of command is_waiting waiting done passed_at passed figure figure_of outstanding
+unfolding answers_by
 first_kept = refl
 
 -- and the second still waits for its answer
@@ -131,7 +130,7 @@ second_kept : account_at both Second paired 8 ≡ record {
       ∷ record { reference = 10; unit = 0; opcode = 0x02; told = None } ∷ [];
   watch = Some (record { reference = 10; polled = 1; is_outstanding = true });
 }
-unfolding moment command_of command is_waiting waiting done passed_at passed figure figure_of outstanding
+unfolding answers_by
 second_kept = refl
 
 -- where there is no second connection, nothing is kept for it

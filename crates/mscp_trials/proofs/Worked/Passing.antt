@@ -1,18 +1,13 @@
 -- Which of three reads may start, by how many blocks one may be passed.
 use Rattle.std.proofs.Common.{◌≡◌, true, [], ◌∷◌, ◌++◌, take, refl}
 use Rattle.std.specs.Prelude.{Some, None}
-use Rattle.mscp_packet.specs.Commands.{command_of}
 use Rattle.mscp_events.specs.declared.block.Block.TheVariants.{Good}
-use Rattle.mscp_controller.specs.History.{Trace, moment, collect}
-use Rattle.mscp_controller.specs.Commands.{command, is_waiting, waiting, done, good}
-use Rattle.mscp_controller.specs.Passing.{passed_at, passed, is_free, is_startable, startable}
-use Rattle.mscp_controller.specs.Figures.{figure, figure_of}
-use Rattle.mscp_controller.specs.Units.{is_online, head_cylinder, head_up}
-use Rattle.mscp_controller.specs.Ends.{answer, outcome}
-use Rattle.mscp_controller.specs.Account.{ends, untaken, balance, outstanding}
-use Rattle.mscp_controller.specs.Credits.{arrival}
-use Rattle.mscp_controller.specs.Legal.{IsLegal, block_of}
-use Rattle.mscp_controller.proofs.Bridge.Legals.{legal_from, by_serving}
+use Rattle.mscp_controller.specs.History.{Trace}
+use Rattle.mscp_controller.specs.Commands.{command}
+use Rattle.mscp_controller.specs.Passing.{passed, startable}
+use Rattle.mscp_controller.specs.Figures.{figure}
+use Rattle.mscp_controller.specs.Legal.{IsLegal}
+use Rattle.mscp_controller.proofs.Bridge.Legals.{answers_by, legal_by}
 use Rattle.mscp_trials.proofs.Worked.Literals.{settings, came_online, read, queued, looked, served, moved, with_budget}
 
 -- Three reads where none may be passed: they start in the order in which they came.
@@ -28,44 +23,17 @@ in_order =
     ∷ []
 
 pub in_order_legal : IsLegal (settings 5 0) in_order
-unfolding moment collect command_of command is_waiting waiting done good passed_at passed is_free is_startable startable
-    figure figure_of is_online head_cylinder head_up answer outcome ends untaken balance outstanding arrival block_of
-in_order_legal = legal_from (settings 5 0) in_order (
-  (refl, refl),
-  (
-    by_serving 0 refl refl refl,
-    (
-      (refl, refl),
-      (
-        (refl, refl),
-        (
-          (refl, refl),
-          (
-            (refl, refl),
-            (
-              by_serving 3 refl refl refl,
-              (
-                by_serving 4 refl refl refl,
-                (by_serving 5 refl refl refl, tt),
-              ),
-            ),
-          ),
-        ),
-      ),
-    ),
-  ),
-)
+unfolding answers_by
+in_order_legal = legal_by (settings 5 0) in_order (0 ∷ 3 ∷ 4 ∷ 5 ∷ []) refl
 
 -- Each time the first alone may start.
 in_order_startable : startable (settings 5 0) (take 6 in_order) ≡ 3 ∷ []
-unfolding moment collect command_of command is_waiting waiting done good passed_at passed is_free is_startable startable
-    figure figure_of is_online head_cylinder head_up answer outcome ends untaken balance outstanding arrival block_of
+unfolding answers_by
 in_order_startable = refl
 
 -- Then the second.
 in_order_startable_then : startable (settings 5 0) (take 7 in_order) ≡ 4 ∷ []
-unfolding moment collect command_of command is_waiting waiting done good passed_at passed is_free is_startable startable
-    figure figure_of is_online head_cylinder head_up answer outcome ends untaken balance outstanding arrival block_of
+unfolding answers_by
 in_order_startable_then = refl
 
 -- The same where one may be passed by a block: the second starts first, and then the first has to.
@@ -85,50 +53,22 @@ passed_once =
     ∷ []
 
 pub passed_once_legal : IsLegal (with_budget 5 1) passed_once
-unfolding moment collect command_of command is_waiting waiting done good passed_at passed is_free is_startable startable
-    figure figure_of is_online head_cylinder head_up answer outcome ends untaken balance outstanding arrival block_of
-passed_once_legal = legal_from (with_budget 5 1) passed_once (
-  (refl, refl),
-  (
-    by_serving 0 refl refl refl,
-    (
-      (refl, refl),
-      (
-        (refl, refl),
-        (
-          (refl, refl),
-          (
-            (refl, refl),
-            (
-              refl,
-              (
-                by_serving 4 refl refl refl,
-                (refl, (by_serving 3 refl refl refl, (refl, (by_serving 5 refl refl refl, (refl, tt))))),
-              ),
-            ),
-          ),
-        ),
-      ),
-    ),
-  ),
-)
+unfolding answers_by
+passed_once_legal = legal_by (with_budget 5 1) passed_once (0 ∷ 4 ∷ 3 ∷ 5 ∷ []) refl
 
 -- At first any may start.
 passed_once_startable : startable (with_budget 5 1) (take 7 passed_once) ≡ 3 ∷ 4 ∷ 5 ∷ []
-unfolding moment collect command_of command is_waiting waiting done good passed_at passed is_free is_startable startable
-    figure figure_of is_online head_cylinder head_up answer outcome ends untaken balance outstanding arrival block_of
+unfolding answers_by
 passed_once_startable = refl
 
 -- Then the first has nothing left of its budget.
 passed_once_startable_then : startable (with_budget 5 1) (take 9 passed_once) ≡ 3 ∷ []
-unfolding moment collect command_of command is_waiting waiting done good passed_at passed is_free is_startable startable
-    figure figure_of is_online head_cylinder head_up answer outcome ends untaken balance outstanding arrival block_of
+unfolding answers_by
 passed_once_startable_then = refl
 
 -- It was passed by one block.
 passed_once_passes : passed (take 9 passed_once) 3 ≡ 1
-unfolding moment collect command_of command is_waiting waiting done good passed_at passed is_free is_startable startable
-    figure figure_of is_online head_cylinder head_up answer outcome ends untaken balance outstanding arrival block_of
+unfolding answers_by
 passed_once_passes = refl
 
 -- The same where one may be passed by two blocks: both others start before the first.
@@ -144,44 +84,17 @@ passed_twice =
     ∷ []
 
 pub passed_twice_legal : IsLegal (with_budget 5 2) passed_twice
-unfolding moment collect command_of command is_waiting waiting done good passed_at passed is_free is_startable startable
-    figure figure_of is_online head_cylinder head_up answer outcome ends untaken balance outstanding arrival block_of
-passed_twice_legal = legal_from (with_budget 5 2) passed_twice (
-  (refl, refl),
-  (
-    by_serving 0 refl refl refl,
-    (
-      (refl, refl),
-      (
-        (refl, refl),
-        (
-          (refl, refl),
-          (
-            (refl, refl),
-            (
-              by_serving 4 refl refl refl,
-              (
-                by_serving 5 refl refl refl,
-                (by_serving 3 refl refl refl, tt),
-              ),
-            ),
-          ),
-        ),
-      ),
-    ),
-  ),
-)
+unfolding answers_by
+passed_twice_legal = legal_by (with_budget 5 2) passed_twice (0 ∷ 4 ∷ 5 ∷ 3 ∷ []) refl
 
 -- The first was passed by two blocks.
 passed_twice_passes : passed (take 8 passed_twice) 3 ≡ 2
-unfolding moment collect command_of command is_waiting waiting done good passed_at passed is_free is_startable startable
-    figure figure_of is_online head_cylinder head_up answer outcome ends untaken balance outstanding arrival block_of
+unfolding answers_by
 passed_twice_passes = refl
 
 -- The second, which started first, was never passed.
 passed_twice_second : passed (take 8 passed_twice) 4 ≡ 0
-unfolding moment collect command_of command is_waiting waiting done good passed_at passed is_free is_startable startable
-    figure figure_of is_online head_cylinder head_up answer outcome ends untaken balance outstanding arrival block_of
+unfolding answers_by
 passed_twice_second = refl
 
 -- A start passes every earlier command that waits, not the oldest alone.
@@ -197,47 +110,17 @@ passed_each =
     ∷ []
 
 pub passed_each_legal : IsLegal (with_budget 8 1) passed_each
-unfolding moment collect command_of command is_waiting waiting done good passed_at passed is_free is_startable startable
-    figure figure_of is_online head_cylinder head_up answer outcome ends untaken balance outstanding arrival block_of
-passed_each_legal = legal_from (with_budget 8 1) passed_each (
-  (refl, refl),
-  (
-    by_serving 0 refl refl refl,
-    (
-      (refl, refl),
-      (
-        (refl, refl),
-        (
-          (refl, refl),
-          (
-            (refl, refl),
-            (
-              (refl, refl),
-              (
-                by_serving 6 refl refl refl,
-                (
-                  by_serving 3 refl refl refl,
-                  tt,
-                ),
-              ),
-            ),
-          ),
-        ),
-      ),
-    ),
-  ),
-)
+unfolding answers_by
+passed_each_legal = legal_by (with_budget 8 1) passed_each (0 ∷ 6 ∷ 3 ∷ []) refl
 
 -- The second was passed by the fourth, as the first was.
 passed_each_passes : passed (take 8 passed_each) 4 ≡ 1
-unfolding moment collect command_of command is_waiting waiting done good passed_at passed is_free is_startable startable
-    figure figure_of is_online head_cylinder head_up answer outcome ends untaken balance outstanding arrival block_of
+unfolding answers_by
 passed_each_passes = refl
 
 -- So the third may not start before the second.
 passed_each_startable : startable (with_budget 8 1) (take 9 passed_each) ≡ 4 ∷ []
-unfolding moment collect command_of command is_waiting waiting done good passed_at passed is_free is_startable startable
-    figure figure_of is_online head_cylinder head_up answer outcome ends untaken balance outstanding arrival block_of
+unfolding answers_by
 passed_each_startable = refl
 
 -- A later command in service counts in the figure of an earlier one.
@@ -252,30 +135,10 @@ overtaken =
     ∷ []
 
 pub overtaken_legal : IsLegal (settings 5 1) overtaken
-unfolding moment collect command_of command is_waiting waiting done good passed_at passed is_free is_startable startable
-    figure figure_of is_online head_cylinder head_up answer outcome ends untaken balance outstanding arrival block_of
-overtaken_legal = legal_from (settings 5 1) overtaken (
-  (refl, refl),
-  (
-    by_serving 0 refl refl refl,
-    (
-      (refl, refl),
-      (
-        (refl, refl),
-        (
-          (refl, refl),
-          (
-            refl,
-            (by_serving 4 refl refl refl, (refl, tt)),
-          ),
-        ),
-      ),
-    ),
-  ),
-)
+unfolding answers_by
+overtaken_legal = legal_by (settings 5 1) overtaken (0 ∷ 4 ∷ []) refl
 
 -- Where a command is in service, none may start.
 overtaken_startable : startable (settings 5 1) (take 7 overtaken) ≡ []
-unfolding moment collect command_of command is_waiting waiting done good passed_at passed is_free is_startable startable
-    figure figure_of is_online head_cylinder head_up answer outcome ends untaken balance outstanding arrival block_of
+unfolding answers_by
 overtaken_startable = refl

@@ -2,19 +2,15 @@
 use Rattle.std.proofs.Common.{◌≡◌, true, false, [], ◌∷◌, ◌++◌, take, refl}
 use Rattle.std.specs.Prelude.{replicate, Some, None}
 use Rattle.mscp_packet.specs.declared.command.Order.TheVariants as orders
-use Rattle.mscp_packet.specs.Commands.{command_of}
 use Rattle.mscp_events.specs.declared.block.Block.TheVariants.{Good}
-use Rattle.mscp_controller.specs.History.{Trace, moment, collect}
-use Rattle.mscp_controller.specs.Commands.{command, is_waiting, waiting, done, good}
-use Rattle.mscp_controller.specs.Passing.{passed_at, passed, is_free, is_startable, startable}
-use Rattle.mscp_controller.specs.Figures.{figure, figure_of}
-use Rattle.mscp_controller.specs.Units.{is_online, head_cylinder, head_up}
-use Rattle.mscp_controller.specs.Ends.{answer, outcome}
+use Rattle.mscp_controller.specs.History.{Trace}
+use Rattle.mscp_controller.specs.Commands.{command}
+use Rattle.mscp_controller.specs.Passing.{passed}
+use Rattle.mscp_controller.specs.Figures.{figure}
 use Rattle.mscp_events.specs.declared.connection.Connection.TheVariants.{First}
-use Rattle.mscp_controller.specs.Account.{ends, untaken, balance, outstanding}
-use Rattle.mscp_controller.specs.Credits.{arrival}
-use Rattle.mscp_controller.specs.Legal.{IsLegal, block_of}
-use Rattle.mscp_controller.proofs.Bridge.Legals.{legal_from, by_serving}
+use Rattle.mscp_controller.specs.Account.{balance}
+use Rattle.mscp_controller.specs.Legal.{IsLegal}
+use Rattle.mscp_controller.proofs.Bridge.Legals.{answers_by, legal_by}
 use Rattle.mscp_trials.proofs.Worked.Literals.{settings, came_online, read, queued, answered, took, looked, served, moved}
 
 -- A read of two blocks where none may be passed, with a poll before each step: its figure is what is left of it.
@@ -32,44 +28,12 @@ polled =
     ∷ []
 
 pub polled_legal : IsLegal (settings 4 0) polled
-unfolding moment collect command_of command is_waiting waiting done good passed_at passed is_free is_startable startable
-    figure figure_of is_online head_cylinder head_up answer outcome ends untaken balance outstanding arrival block_of
-polled_legal = legal_from (settings 4 0) polled (
-  (refl, refl),
-  (
-    by_serving 0 refl refl refl,
-    (
-      (refl, refl),
-      (
-        (refl, refl),
-        (
-          (refl, refl),
-          (
-            (refl, refl),
-            (
-              by_serving 3 refl refl refl,
-              (
-                (refl, refl),
-                (
-                  (refl, refl),
-                  (
-                    by_serving 3 refl refl refl,
-                    ((refl, refl), tt),
-                  ),
-                ),
-              ),
-            ),
-          ),
-        ),
-      ),
-    ),
-  ),
-)
+unfolding answers_by
+polled_legal = legal_by (settings 4 0) polled (0 ∷ 3 ∷ 3 ∷ []) refl
 
 -- Before its first step two steps are left.
 polled_figure : figure (settings 4 0) (take 4 polled) 3 ≡ 2
-unfolding moment collect command_of command is_waiting waiting done good passed_at passed is_free is_startable startable
-    figure figure_of is_online head_cylinder head_up answer outcome ends untaken balance outstanding arrival block_of
+unfolding answers_by
 polled_figure = refl
 
 -- The same where one may be passed twice: each pass that may still come counts as the longest transfer. The
@@ -87,35 +51,17 @@ watched =
     ∷ []
 
 pub watched_legal : IsLegal (settings 4 2) watched
-unfolding moment collect command_of command is_waiting waiting done good passed_at passed is_free is_startable startable
-    figure figure_of is_online head_cylinder head_up answer outcome ends untaken balance outstanding arrival block_of
-watched_legal = legal_from (settings 4 2) watched (
-  (refl, refl),
-  (
-    by_serving 0 refl refl refl,
-    (
-      (refl, refl),
-      (
-        (refl, refl),
-        (
-          (refl, refl),
-          ((refl, refl), (by_serving 3 refl refl refl, (refl, (by_serving 3 refl refl refl, ((refl, refl), tt))))),
-        ),
-      ),
-    ),
-  ),
-)
+unfolding answers_by
+watched_legal = legal_by (settings 4 2) watched (0 ∷ 3 ∷ 3 ∷ []) refl
 
 -- At first it is 2 * 8 + 2.
 watched_figure : figure (settings 4 2) (take 4 watched) 3 ≡ 18
-unfolding moment collect command_of command is_waiting waiting done good passed_at passed is_free is_startable startable
-    figure figure_of is_online head_cylinder head_up answer outcome ends untaken balance outstanding arrival block_of
+unfolding answers_by
 watched_figure = refl
 
 -- Where everything was taken all credits are back.
 watched_balance : balance (settings 4 2) First watched ≡ 4
-unfolding moment collect command_of command is_waiting waiting done good passed_at passed is_free is_startable startable
-    figure figure_of is_online head_cylinder head_up answer outcome ends untaken balance outstanding arrival block_of
+unfolding answers_by
 watched_balance = refl
 
 -- A poll of a reference that nothing waits under is answered 0.
@@ -126,9 +72,8 @@ unknown_polled =
     ∷ []
 
 pub unknown_polled_legal : IsLegal (settings 4 2) unknown_polled
-unfolding moment collect command_of command is_waiting waiting done good passed_at passed is_free is_startable startable
-    figure figure_of is_online head_cylinder head_up answer outcome ends untaken balance outstanding arrival block_of
-unknown_polled_legal = legal_from (settings 4 2) unknown_polled ((refl, refl), ((refl, refl), tt))
+unfolding answers_by
+unknown_polled_legal = legal_by (settings 4 2) unknown_polled [] refl
 
 -- A reference number that is used again names another command, which starts anew.
 abbrev pub used_again : Trace
@@ -145,24 +90,5 @@ used_again =
     ∷ []
 
 pub used_again_legal : IsLegal (settings 4 2) used_again
-unfolding moment collect command_of command is_waiting waiting done good passed_at passed is_free is_startable startable
-    figure figure_of is_online head_cylinder head_up answer outcome ends untaken balance outstanding arrival block_of
-used_again_legal = legal_from (settings 4 2) used_again (
-  (refl, refl),
-  (
-    by_serving 0 refl refl refl,
-    (
-      (refl, refl),
-      (
-        (refl, refl),
-        (
-          by_serving 3 refl refl refl,
-          (
-            by_serving 3 refl refl refl,
-            ((refl, refl), ((refl, refl), (refl, (by_serving 7 refl refl refl, (refl, tt))))),
-          ),
-        ),
-      ),
-    ),
-  ),
-)
+unfolding answers_by
+used_again_legal = legal_by (settings 4 2) used_again (0 ∷ 3 ∷ 3 ∷ 7 ∷ []) refl

@@ -2,18 +2,11 @@
 use Rattle.std.proofs.Common.{[], ◌∷◌, ◌++◌, refl}
 use Rattle.std.specs.Prelude.{replicate, None, Ok}
 use Rattle.mscp_packet.specs.declared.command.Order.TheVariants as orders
-use Rattle.mscp_packet.specs.Commands.{command_of}
 use Rattle.mscp_controller.specs.declared.entry.Sent.TheVariants as sents
-use Rattle.mscp_controller.specs.History.{Trace, moment, collect}
-use Rattle.mscp_controller.specs.Commands.{command, is_waiting, waiting, done, good}
-use Rattle.mscp_controller.specs.Passing.{passed_at, passed, is_free, is_startable, startable}
-use Rattle.mscp_controller.specs.Figures.{figure, figure_of}
-use Rattle.mscp_controller.specs.Units.{is_online, head_cylinder, head_up}
-use Rattle.mscp_controller.specs.Ends.{answer, outcome}
-use Rattle.mscp_controller.specs.Account.{ends, untaken, balance, outstanding}
-use Rattle.mscp_controller.specs.Credits.{arrival}
-use Rattle.mscp_controller.specs.Legal.{IsLegal, block_of}
-use Rattle.mscp_controller.proofs.Bridge.Legals.{legal_from}
+use Rattle.mscp_controller.specs.History.{Trace}
+use Rattle.mscp_controller.specs.Commands.{command}
+use Rattle.mscp_controller.specs.Legal.{IsLegal}
+use Rattle.mscp_controller.proofs.Bridge.Legals.{answers_by, legal_by}
 use Rattle.mscp_trials.proofs.Worked.Literals.{settings, read, raw, queued, answered, took, looked}
 
 -- Messages that are answered at once with a fault: an opcode that no command has, a unit that is not configured, a
@@ -31,21 +24,8 @@ invalid =
     ∷ []
 
 pub invalid_legal : IsLegal (settings 5 2) invalid
-unfolding moment collect command_of command is_waiting waiting done good passed_at passed is_free is_startable startable
-    figure figure_of is_online head_cylinder head_up answer outcome ends untaken balance outstanding arrival block_of
-invalid_legal = legal_from (settings 5 2) invalid (
-  (refl, refl),
-  (
-    (refl, refl),
-    (
-      (refl, refl),
-      (
-        (refl, refl),
-        ((refl, refl), ((refl, refl), ((refl, refl), ((refl, refl), tt)))),
-      ),
-    ),
-  ),
-)
+unfolding answers_by
+invalid_legal = legal_by (settings 5 2) invalid [] refl
 
 -- Messages that are too short for their opcode have its endcode, and do nothing: number 0, which stands for the number
 -- that they don't have, is neither aborted nor polled.
@@ -62,21 +42,8 @@ too_short =
     ∷ []
 
 pub too_short_legal : IsLegal (settings 5 2) too_short
-unfolding moment collect command_of command is_waiting waiting done good passed_at passed is_free is_startable startable
-    figure figure_of is_online head_cylinder head_up answer outcome ends untaken balance outstanding arrival block_of
-too_short_legal = legal_from (settings 5 2) too_short (
-  (refl, refl),
-  (
-    (refl, refl),
-    (
-      (refl, refl),
-      (
-        (refl, refl),
-        ((refl, refl), ((refl, refl), ((refl, refl), (refl, tt)))),
-      ),
-    ),
-  ),
-)
+unfolding answers_by
+too_short_legal = legal_by (settings 5 2) too_short [] refl
 
 -- Commands to a unit that is not configured. That is found before a block past the unit.
 abbrev pub no_unit : Trace
@@ -94,39 +61,8 @@ no_unit =
     ∷ []
 
 pub no_unit_legal : IsLegal (settings 4 2) no_unit
-unfolding moment collect command_of command is_waiting waiting done good passed_at passed is_free is_startable startable
-    figure figure_of is_online head_cylinder head_up answer outcome ends untaken balance outstanding arrival block_of
-no_unit_legal = legal_from (settings 4 2) no_unit (
-  (refl, refl),
-  (
-    (refl, refl),
-    (
-      (refl, refl),
-      (
-        (refl, refl),
-        (
-          (refl, refl),
-          (
-            (refl, refl),
-            (
-              (refl, refl),
-              (
-                (refl, refl),
-                (
-                  (
-                    refl,
-                    refl,
-                  ),
-                  ((refl, refl), tt),
-                ),
-              ),
-            ),
-          ),
-        ),
-      ),
-    ),
-  ),
-)
+unfolding answers_by
+no_unit_legal = legal_by (settings 4 2) no_unit [] refl
 
 -- A host is told of its controller: a timeout of 60 seconds, and identifier 1.
 abbrev pub told : Trace
@@ -137,6 +73,5 @@ told =
     ∷ []
 
 pub told_legal : IsLegal (settings 4 2) told
-unfolding moment collect command_of command is_waiting waiting done good passed_at passed is_free is_startable startable
-    figure figure_of is_online head_cylinder head_up answer outcome ends untaken balance outstanding arrival block_of
-told_legal = legal_from (settings 4 2) told ((refl, refl), ((refl, refl), tt))
+unfolding answers_by
+told_legal = legal_by (settings 4 2) told [] refl

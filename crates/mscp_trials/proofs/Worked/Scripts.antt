@@ -42,6 +42,13 @@ settings units = record { credits = 4; second = 0; budget = 0; longest = 8; time
 abbrev at_line : ℕ → Cause → ScriptFault
 at_line n cause = record { line = n; cause = cause }
 
+-- nothing but a name for all that reads a script
+reading : ℕ
+unfolding lines words said number message status form_of plain_form message_form event_form asked request
+    second_request setting credits credits_of limit unit_of more_units first_units with_unit
+    gone unit_or_go next after_line lines_outcome decode_pairs
+reading = 0
+
 -- ---- lines, words and numbers
 
 -- the last line may lack its line feed, and one carriage return is dropped at each line's end
@@ -95,9 +102,7 @@ asked_for =
     ∷ events.Look ∷ []
 
 shown_read : Reads (text shown) (settings (shape 0 ∷ [])) asked_for
-unfolding lines words said number message status form_of plain_form message_form event_form asked request
-    second_request setting credits credits_of limit unit_of more_units first_units with_unit
-    gone unit_or_go next after_line lines_outcome decode_pairs
+unfolding reading
 shown_read = is_read (text shown) (settings (shape 0 ∷ [])) asked_for (lit≤ tt) refl
 
 -- two units
@@ -105,9 +110,7 @@ abbrev two : List (List ℕ)
 two = limits_lines ++ codes "unit 0 10 2 1 1000" ∷ codes "unit 7 10 2 1 1000" ∷ codes "go" ∷ []
 
 two_read : Reads (text two) (settings (shape 0 ∷ shape 7 ∷ [])) []
-unfolding lines words said number message status form_of plain_form message_form event_form asked request
-    second_request setting credits credits_of limit unit_of more_units first_units with_unit
-    gone unit_or_go next after_line lines_outcome decode_pairs
+unfolding reading
 two_read = is_read (text two) (settings (shape 0 ∷ shape 7 ∷ [])) [] (lit≤ tt) refl
 
 -- two connections: one number each, and lines of the second
@@ -119,9 +122,7 @@ both =
 both_read : Reads (text both) (record (settings (shape 0 ∷ [])) { second = 3 })
     (events.Send Second (record { items = command_bytes (record { reference = 2; unit = 0; order = orders.Abort 1 }) })
     ∷ events.Take First ∷ events.Take Second ∷ [])
-unfolding lines words said number message status form_of plain_form message_form event_form asked request
-    second_request setting credits credits_of limit unit_of more_units first_units with_unit
-    gone unit_or_go next after_line lines_outcome decode_pairs
+unfolding reading
 both_read = is_read (text both) (record (settings (shape 0 ∷ [])) { second = 3 })
     (events.Send Second (record { items = command_bytes (record { reference = 2; unit = 0; order = orders.Abort 1 }) })
     ∷ events.Take First ∷ events.Take Second ∷ []) (lit≤ tt) refl
@@ -132,185 +133,95 @@ abbrev Faulty : List (List ℕ) → ℕ → Cause → Type 0
 Faulty all n cause = IsFault (text all) (at_line n cause)
 
 -- a comment may be too long as well
-abbrev long : List (List ℕ)
-long = header ++ replicate 201 32 ∷ []
-
-long_fault : Faulty long 7 causes.Long
-unfolding lines words said number message status form_of plain_form message_form event_form asked request
-    second_request setting credits credits_of limit unit_of more_units first_units with_unit
-    gone unit_or_go next after_line lines_outcome decode_pairs
-long_fault = is_fault (text long) (at_line 7 causes.Long) (lit≤ tt) refl
+long_fault : Faulty (header ++ replicate 201 32 ∷ []) 7 causes.Long
+unfolding reading
+long_fault = is_fault _ _ (lit≤ tt) refl
 
 -- `second` alone
-abbrev alone : List (List ℕ)
-alone = header ++ codes "second" ∷ []
-
-alone_fault : Faulty alone 7 causes.Count
-unfolding lines words said number message status form_of plain_form message_form event_form asked request
-    second_request setting credits credits_of limit unit_of more_units first_units with_unit
-    gone unit_or_go next after_line lines_outcome decode_pairs
-alone_fault = is_fault (text alone) (at_line 7 causes.Count) (lit≤ tt) refl
+alone_fault : Faulty (header ++ codes "second" ∷ []) 7 causes.Count
+unfolding reading
+alone_fault = is_fault _ _ (lit≤ tt) refl
 
 -- `second` before a line that is of no host, whatever its fields are
-abbrev hostless : List (List ℕ)
-hostless = header ++ codes "second look 1" ∷ []
-
-hostless_fault : Faulty hostless 7 causes.Word
-unfolding lines words said number message status form_of plain_form message_form event_form asked request
-    second_request setting credits credits_of limit unit_of more_units first_units with_unit
-    gone unit_or_go next after_line lines_outcome decode_pairs
-hostless_fault = is_fault (text hostless) (at_line 7 causes.Word) (lit≤ tt) refl
+hostless_fault : Faulty (header ++ codes "second look 1" ∷ []) 7 causes.Word
+unfolding reading
+hostless_fault = is_fault _ _ (lit≤ tt) refl
 
 -- three numbers of credits
-abbrev three : List (List ℕ)
-three = codes "credits 4 4 4" ∷ []
-
-three_fault : Faulty three 1 causes.Count
-unfolding lines words said number message status form_of plain_form message_form event_form asked request
-    second_request setting credits credits_of limit unit_of more_units first_units with_unit
-    gone unit_or_go next after_line lines_outcome decode_pairs
-three_fault = is_fault (text three) (at_line 1 causes.Count) (lit≤ tt) refl
+three_fault : Faulty (codes "credits 4 4 4" ∷ []) 1 causes.Count
+unfolding reading
+three_fault = is_fault _ _ (lit≤ tt) refl
 
 -- a tab
-abbrev byte : List (List ℕ)
-byte = header ++ (9 ∷ codes "take") ∷ []
-
-byte_fault : Faulty byte 7 causes.Byte
-unfolding lines words said number message status form_of plain_form message_form event_form asked request
-    second_request setting credits credits_of limit unit_of more_units first_units with_unit
-    gone unit_or_go next after_line lines_outcome decode_pairs
-byte_fault = is_fault (text byte) (at_line 7 causes.Byte) (lit≤ tt) refl
+byte_fault : Faulty (header ++ (9 ∷ codes "take") ∷ []) 7 causes.Byte
+unfolding reading
+byte_fault = is_fault _ _ (lit≤ tt) refl
 
 -- a line of the header that comes again
-abbrev again : List (List ℕ)
-again = header ++ codes "credits 4" ∷ []
-
-again_fault : Faulty again 7 causes.Word
-unfolding lines words said number message status form_of plain_form message_form event_form asked request
-    second_request setting credits credits_of limit unit_of more_units first_units with_unit
-    gone unit_or_go next after_line lines_outcome decode_pairs
-again_fault = is_fault (text again) (at_line 7 causes.Word) (lit≤ tt) refl
+again_fault : Faulty (header ++ codes "credits 4" ∷ []) 7 causes.Word
+unfolding reading
+again_fault = is_fault _ _ (lit≤ tt) refl
 
 -- another line of the header than is due
-abbrev word_first : List (List ℕ)
-word_first = codes "passing 0" ∷ []
-
-word_first_fault : Faulty word_first 1 causes.Word
-unfolding lines words said number message status form_of plain_form message_form event_form asked request
-    second_request setting credits credits_of limit unit_of more_units first_units with_unit
-    gone unit_or_go next after_line lines_outcome decode_pairs
-word_first_fault = is_fault (text word_first) (at_line 1 causes.Word) (lit≤ tt) refl
+word_first_fault : Faulty (codes "passing 0" ∷ []) 1 causes.Word
+unfolding reading
+word_first_fault = is_fault _ _ (lit≤ tt) refl
 
 -- spaces before what would be a comment
-abbrev word_comment : List (List ℕ)
-word_comment = header ++ codes " # no comment" ∷ []
-
-word_comment_fault : Faulty word_comment 7 causes.Word
-unfolding lines words said number message status form_of plain_form message_form event_form asked request
-    second_request setting credits credits_of limit unit_of more_units first_units with_unit
-    gone unit_or_go next after_line lines_outcome decode_pairs
-word_comment_fault = is_fault (text word_comment) (at_line 7 causes.Word) (lit≤ tt) refl
+word_comment_fault : Faulty (header ++ codes " # no comment" ∷ []) 7 causes.Word
+unfolding reading
+word_comment_fault = is_fault _ _ (lit≤ tt) refl
 
 -- a word too many
-abbrev count : List (List ℕ)
-count = header ++ codes "take 1" ∷ []
-
-count_fault : Faulty count 7 causes.Count
-unfolding lines words said number message status form_of plain_form message_form event_form asked request
-    second_request setting credits credits_of limit unit_of more_units first_units with_unit
-    gone unit_or_go next after_line lines_outcome decode_pairs
-count_fault = is_fault (text count) (at_line 7 causes.Count) (lit≤ tt) refl
+count_fault : Faulty (header ++ codes "take 1" ∷ []) 7 causes.Count
+unfolding reading
+count_fault = is_fault _ _ (lit≤ tt) refl
 
 -- too few words come before a wrong number
-abbrev count_first : List (List ℕ)
-count_first = header ++ codes "read 1 x" ∷ []
-
-count_first_fault : Faulty count_first 7 causes.Count
-unfolding lines words said number message status form_of plain_form message_form event_form asked request
-    second_request setting credits credits_of limit unit_of more_units first_units with_unit
-    gone unit_or_go next after_line lines_outcome decode_pairs
-count_first_fault = is_fault (text count_first) (at_line 7 causes.Count) (lit≤ tt) refl
+count_first_fault : Faulty (header ++ codes "read 1 x" ∷ []) 7 causes.Count
+unfolding reading
+count_first_fault = is_fault _ _ (lit≤ tt) refl
 
 -- no step
-abbrev zero_steps : List (List ℕ)
-zero_steps = header ++ codes "step 0" ∷ []
-
-zero_steps_fault : Faulty zero_steps 7 causes.Number
-unfolding lines words said number message status form_of plain_form message_form event_form asked request
-    second_request setting credits credits_of limit unit_of more_units first_units with_unit
-    gone unit_or_go next after_line lines_outcome decode_pairs
-zero_steps_fault = is_fault (text zero_steps) (at_line 7 causes.Number) (lit≤ tt) refl
+zero_steps_fault : Faulty (header ++ codes "step 0" ∷ []) 7 causes.Number
+unfolding reading
+zero_steps_fault = is_fault _ _ (lit≤ tt) refl
 
 -- an odd number of digits
-abbrev odd_digits : List (List ℕ)
-odd_digits = header ++ codes "packet abc" ∷ []
-
-odd_digits_fault : Faulty odd_digits 7 causes.Hex
-unfolding lines words said number message status form_of plain_form message_form event_form asked request
-    second_request setting credits credits_of limit unit_of more_units first_units with_unit
-    gone unit_or_go next after_line lines_outcome decode_pairs
-odd_digits_fault = is_fault (text odd_digits) (at_line 7 causes.Hex) (lit≤ tt) refl
+odd_digits_fault : Faulty (header ++ codes "packet abc" ∷ []) 7 causes.Hex
+unfolding reading
+odd_digits_fault = is_fault _ _ (lit≤ tt) refl
 
 -- too few digits of a status
-abbrev hex_four : List (List ℕ)
-hex_four = header ++ codes "bad 0" ∷ []
-
-hex_four_fault : Faulty hex_four 7 causes.Hex
-unfolding lines words said number message status form_of plain_form message_form event_form asked request
-    second_request setting credits credits_of limit unit_of more_units first_units with_unit
-    gone unit_or_go next after_line lines_outcome decode_pairs
-hex_four_fault = is_fault (text hex_four) (at_line 7 causes.Hex) (lit≤ tt) refl
+hex_four_fault : Faulty (header ++ codes "bad 0" ∷ []) 7 causes.Hex
+unfolding reading
+hex_four_fault = is_fault _ _ (lit≤ tt) refl
 
 -- code 4
-abbrev code_four : List (List ℕ)
-code_four = header ++ codes "bad 0004" ∷ []
-
-code_four_fault : Faulty code_four 7 causes.Status
-unfolding lines words said number message status form_of plain_form message_form event_form asked request
-    second_request setting credits credits_of limit unit_of more_units first_units with_unit
-    gone unit_or_go next after_line lines_outcome decode_pairs
-code_four_fault = is_fault (text code_four) (at_line 7 causes.Status) (lit≤ tt) refl
+code_four_fault : Faulty (header ++ codes "bad 0004" ∷ []) 7 causes.Status
+unfolding reading
+code_four_fault = is_fault _ _ (lit≤ tt) refl
 
 -- a size of zero
-abbrev no_size : List (List ℕ)
-no_size = limits_lines ++ codes "unit 0 0 2 1 1000" ∷ []
-
-no_size_fault : Faulty no_size 5 causes.Unit
-unfolding lines words said number message status form_of plain_form message_form event_form asked request
-    second_request setting credits credits_of limit unit_of more_units first_units with_unit
-    gone unit_or_go next after_line lines_outcome decode_pairs
-no_size_fault = is_fault (text no_size) (at_line 5 causes.Unit) (lit≤ tt) refl
+no_size_fault : Faulty (limits_lines ++ codes "unit 0 0 2 1 1000" ∷ []) 5 causes.Unit
+unfolding reading
+no_size_fault = is_fault _ _ (lit≤ tt) refl
 
 -- a number that doesn't rise
-abbrev unit_again : List (List ℕ)
-unit_again = limits_lines ++ codes "unit 3 10 2 1 1000" ∷ codes "unit 3 10 2 1 1000" ∷ []
-
-unit_again_fault : Faulty unit_again 6 causes.Unit
-unfolding lines words said number message status form_of plain_form message_form event_form asked request
-    second_request setting credits credits_of limit unit_of more_units first_units with_unit
-    gone unit_or_go next after_line lines_outcome decode_pairs
-unit_again_fault = is_fault (text unit_again) (at_line 6 causes.Unit) (lit≤ tt) refl
+unit_again_fault : Faulty (limits_lines ++ codes "unit 3 10 2 1 1000" ∷ codes "unit 3 10 2 1 1000" ∷ []) 6 causes.Unit
+unfolding reading
+unit_again_fault = is_fault _ _ (lit≤ tt) refl
 
 -- one credit: at go, before what comes later
-abbrev one_credit : List (List ℕ)
-one_credit = codes "credits 1" ∷ codes "passing 0" ∷ codes "longest 8" ∷ codes "timeout 60" ∷ codes "unit 0 10 2 1 1000"
-    ∷ codes "go" ∷ codes "wrong" ∷ []
-
-one_credit_fault : Faulty one_credit 6 causes.Config
-unfolding lines words said number message status form_of plain_form message_form event_form asked request
-    second_request setting credits credits_of limit unit_of more_units first_units with_unit
-    gone unit_or_go next after_line lines_outcome decode_pairs
-one_credit_fault = is_fault (text one_credit) (at_line 6 causes.Config) (lit≤ tt) refl
+one_credit_fault : Faulty (codes "credits 1" ∷ codes "passing 0" ∷ codes "longest 8" ∷ codes "timeout 60"
+    ∷ codes "unit 0 10 2 1 1000" ∷ codes "go" ∷ codes "wrong" ∷ []) 6 causes.Config
+unfolding reading
+one_credit_fault = is_fault _ _ (lit≤ tt) refl
 
 -- the script ends before go
-abbrev no_go : List (List ℕ)
-no_go = limits_lines ++ [] ∷ []
-
-no_go_fault : Faulty no_go 6 causes.Header
-unfolding lines words said number message status form_of plain_form message_form event_form asked request
-    second_request setting credits credits_of limit unit_of more_units first_units with_unit
-    gone unit_or_go next after_line lines_outcome decode_pairs
-no_go_fault = is_fault (text no_go) (at_line 6 causes.Header) (lit≤ tt) refl
+no_go_fault : Faulty (limits_lines ++ [] ∷ []) 6 causes.Header
+unfolding reading
+no_go_fault = is_fault _ _ (lit≤ tt) refl
 
 -- line 1,000,001, whatever stands in it
 lines_fault : (p : Place) (line : List ℕ) → after_line 1000000 p line ≡ Err causes.Lines

@@ -3,19 +3,14 @@ use Rattle.std.proofs.Common.{◌≡◌, true, false, [], ◌∷◌, ◌++◌, t
 use Rattle.std.specs.Prelude.{replicate, Some, None}
 use Rattle.mscp_packet.specs.declared.command.Order.TheVariants as orders
 use Rattle.mscp_packet.specs.declared.end.EndBody.TheVariants as bodies
-use Rattle.mscp_packet.specs.Commands.{command_of}
 use Rattle.mscp_events.specs.declared.block.Block.TheVariants.{Good, Bad}
-use Rattle.mscp_controller.specs.History.{Trace, moment, collect}
-use Rattle.mscp_controller.specs.Commands.{command, is_waiting, waiting, done, good}
-use Rattle.mscp_controller.specs.Passing.{passed_at, passed, is_free, is_startable, startable}
-use Rattle.mscp_controller.specs.Figures.{figure, figure_of}
-use Rattle.mscp_controller.specs.Units.{is_online, head_cylinder, head_up, head}
-use Rattle.mscp_controller.specs.Ends.{answer, outcome}
-use Rattle.mscp_controller.specs.Account.{ends, untaken, balance, outstanding}
-use Rattle.mscp_controller.specs.Credits.{arrival}
-use Rattle.mscp_controller.specs.Legal.{IsLegal, block_of}
-use Rattle.mscp_controller.proofs.Bridge.Legals.{legal_from, by_serving}
-use Rattle.mscp_trials.proofs.Worked.Literals.{settings, came_online, read, queued, answered, took, served, moved, onlined, bare_end}
+use Rattle.mscp_controller.specs.History.{Trace}
+use Rattle.mscp_controller.specs.Passing.{startable}
+use Rattle.mscp_controller.specs.Units.{is_online, head}
+use Rattle.mscp_controller.specs.Account.{ends}
+use Rattle.mscp_controller.specs.Legal.{IsLegal}
+use Rattle.mscp_controller.proofs.Bridge.Legals.{answers_by, legal_by}
+use Rattle.mscp_trials.proofs.Worked.Literals.{settings, came_online, read, queued, answered, took, served, moved, onlined, bare_end, took_online}
 
 -- The ONLINE of a unit that is online ends with a status of its own, and tells the unit too.
 abbrev pub twice_online : Trace
@@ -23,41 +18,16 @@ twice_online =
     came_online
     ++ queued 1 0 orders.Online
     ∷ served Good 1 0 None true 0 (onlined 1 0 0x0100)
-    ∷ took ((1 ∷ 0 ∷ 0 ∷ 0 ∷ 0 ∷ 0 ∷ 0 ∷ 0 ∷ 0x89 ∷ 0 ∷ 0 ∷ 1 ∷ [])
-    ++ (replicate 8 0 ++ ((1 ∷ 0 ∷ 0 ∷ 0 ∷ 0 ∷ 0 ∷ 0 ∷ 0 ∷ [])
-    ++ (replicate 8 0 ++ (0xE8 ∷ 3 ∷ 0 ∷ 0 ∷ 1 ∷ 0 ∷ 0 ∷ 0 ∷ [])))))
+    ∷ took_online 1 0 1
     ∷ []
 
 pub twice_online_legal : IsLegal (settings 4 2) twice_online
-unfolding moment collect command_of command is_waiting waiting done good passed_at passed is_free is_startable startable
-    figure figure_of is_online head_cylinder head_up answer outcome ends untaken balance outstanding arrival block_of
-twice_online_legal = legal_from (settings 4 2) twice_online (
-  (refl, refl),
-  (
-    by_serving 0 refl refl refl,
-    (
-      (refl, refl),
-      (
-        (refl, refl),
-        (
-          by_serving 3 refl refl refl,
-          (
-            (
-              refl,
-              refl,
-            ),
-            tt,
-          ),
-        ),
-      ),
-    ),
-  ),
-)
+unfolding answers_by
+twice_online_legal = legal_by (settings 4 2) twice_online (0 ∷ 3 ∷ []) refl
 
 -- The unit stays online.
 twice_online_stays : is_online twice_online 0 ≡ true
-unfolding moment collect command_of command is_waiting waiting done good passed_at passed is_free is_startable startable
-    figure figure_of is_online head_cylinder head_up answer outcome ends untaken balance outstanding arrival block_of
+unfolding answers_by
 twice_online_stays = refl
 
 -- Orders keep their places on a unit: a read between ONLINE and AVAILABLE finds it online, and one after them
@@ -72,56 +42,29 @@ made_available =
     ∷ served Good 2 0 (Some 0) true 0 (moved 2 0 0 512)
     ∷ served Good 3 0 None true 0 (bare_end 3 0 0x88 0)
     ∷ served Good 4 0 None true 0 (moved 4 0 0x0004 0)
-    ∷ took ((1 ∷ 0 ∷ 0 ∷ 0 ∷ 0 ∷ 0 ∷ 0 ∷ 0 ∷ 0x89 ∷ 0 ∷ 0 ∷ 0 ∷ [])
-    ++ (replicate 8 0 ++ ((1 ∷ 0 ∷ 0 ∷ 0 ∷ 0 ∷ 0 ∷ 0 ∷ 0 ∷ [])
-    ++ (replicate 8 0 ++ (0xE8 ∷ 3 ∷ 0 ∷ 0 ∷ 1 ∷ 0 ∷ 0 ∷ 0 ∷ [])))))
+    ∷ took_online 1 0 0
     ∷ took ((2 ∷ 0 ∷ 0 ∷ 0 ∷ 0 ∷ 0 ∷ 0 ∷ 0 ∷ 0xA1 ∷ 0 ∷ 0 ∷ 0 ∷ 0 ∷ 2 ∷ 0 ∷ 0 ∷ []) ++ replicate 16 0)
     ∷ took (3 ∷ 0 ∷ 0 ∷ 0 ∷ 0 ∷ 0 ∷ 0 ∷ 0 ∷ 0x88 ∷ 0 ∷ 0 ∷ 0 ∷ [])
     ∷ took ((4 ∷ 0 ∷ 0 ∷ 0 ∷ 0 ∷ 0 ∷ 0 ∷ 0 ∷ 0xA1 ∷ 0 ∷ 4 ∷ 0 ∷ 0 ∷ 0 ∷ 0 ∷ 0 ∷ []) ++ replicate 16 0)
     ∷ []
 
 pub made_available_legal : IsLegal (settings 5 2) made_available
-unfolding moment collect command_of command is_waiting waiting done good passed_at passed is_free is_startable startable
-    figure figure_of is_online head_cylinder head_up answer outcome ends untaken balance outstanding arrival block_of
-made_available_legal = legal_from (settings 5 2) made_available (
-  (refl, refl),
-  (
-    (refl, refl),
-    (
-      (refl, refl),
-      (
-        (refl, refl),
-        (
-          by_serving 0 refl refl refl,
-          (
-            by_serving 1 refl refl refl,
-            (
-              by_serving 2 refl refl refl,
-              (by_serving 3 refl refl refl, ((refl, refl), ((refl, refl), ((refl, refl), ((refl, refl), tt))))),
-            ),
-          ),
-        ),
-      ),
-    ),
-  ),
-)
+unfolding answers_by
+made_available_legal = legal_by (settings 5 2) made_available (0 ∷ 1 ∷ 2 ∷ 3 ∷ []) refl
 
 -- At first the ONLINE alone may start.
 made_available_startable : startable (settings 5 2) (take 4 made_available) ≡ 0 ∷ []
-unfolding moment collect command_of command is_waiting waiting done good passed_at passed is_free is_startable startable
-    figure figure_of is_online head_cylinder head_up answer outcome ends untaken balance outstanding arrival block_of
+unfolding answers_by
 made_available_startable = refl
 
 -- After two steps the unit is online.
 made_available_online : is_online (take 6 made_available) 0 ≡ true
-unfolding moment collect command_of command is_waiting waiting done good passed_at passed is_free is_startable startable
-    figure figure_of is_online head_cylinder head_up answer outcome ends untaken balance outstanding arrival block_of
+unfolding answers_by
 made_available_online = refl
 
 -- At last it is available.
 made_available_then : is_online made_available 0 ≡ false
-unfolding moment collect command_of command is_waiting waiting done good passed_at passed is_free is_startable startable
-    figure figure_of is_online head_cylinder head_up answer outcome ends untaken balance outstanding arrival block_of
+unfolding answers_by
 made_available_then = refl
 
 -- The same where the last read is of a far block, and that is bad: it is never touched, and the head stays.
@@ -135,44 +78,19 @@ available_before_bad =
     ∷ served Good 2 0 (Some 0) true 0 (moved 2 0 0 512)
     ∷ served Good 3 0 None true 0 (bare_end 3 0 0x88 0)
     ∷ served (Bad 0x000B) 4 0 None true 0 (moved 4 0 0x0004 0)
-    ∷ took ((1 ∷ 0 ∷ 0 ∷ 0 ∷ 0 ∷ 0 ∷ 0 ∷ 0 ∷ 0x89 ∷ 0 ∷ 0 ∷ 0 ∷ [])
-    ++ (replicate 8 0 ++ ((1 ∷ 0 ∷ 0 ∷ 0 ∷ 0 ∷ 0 ∷ 0 ∷ 0 ∷ [])
-    ++ (replicate 8 0 ++ (0xE8 ∷ 3 ∷ 0 ∷ 0 ∷ 1 ∷ 0 ∷ 0 ∷ 0 ∷ [])))))
+    ∷ took_online 1 0 0
     ∷ took ((2 ∷ 0 ∷ 0 ∷ 0 ∷ 0 ∷ 0 ∷ 0 ∷ 0 ∷ 0xA1 ∷ 0 ∷ 0 ∷ 0 ∷ 0 ∷ 2 ∷ 0 ∷ 0 ∷ []) ++ replicate 16 0)
     ∷ took (3 ∷ 0 ∷ 0 ∷ 0 ∷ 0 ∷ 0 ∷ 0 ∷ 0 ∷ 0x88 ∷ 0 ∷ 0 ∷ 0 ∷ [])
     ∷ took ((4 ∷ 0 ∷ 0 ∷ 0 ∷ 0 ∷ 0 ∷ 0 ∷ 0 ∷ 0xA1 ∷ 0 ∷ 4 ∷ 0 ∷ 0 ∷ 0 ∷ 0 ∷ 0 ∷ []) ++ replicate 16 0)
     ∷ []
 
 pub available_before_bad_legal : IsLegal (settings 5 2) available_before_bad
-unfolding moment collect command_of command is_waiting waiting done good passed_at passed is_free is_startable startable
-    figure figure_of is_online head_cylinder head_up answer outcome ends untaken balance outstanding arrival block_of
-available_before_bad_legal = legal_from (settings 5 2) available_before_bad (
-  (refl, refl),
-  (
-    (refl, refl),
-    (
-      (refl, refl),
-      (
-        (refl, refl),
-        (
-          by_serving 0 refl refl refl,
-          (
-            by_serving 1 refl refl refl,
-            (
-              by_serving 2 refl refl refl,
-              (by_serving 3 refl refl refl, ((refl, refl), ((refl, refl), ((refl, refl), ((refl, refl), tt))))),
-            ),
-          ),
-        ),
-      ),
-    ),
-  ),
-)
+unfolding answers_by
+available_before_bad_legal = legal_by (settings 5 2) available_before_bad (0 ∷ 1 ∷ 2 ∷ 3 ∷ []) refl
 
 -- The head is where it was.
 available_before_bad_head : head (settings 5 2) available_before_bad 0 ≡ record { cylinder = 0; up = true }
-unfolding moment collect command_of command is_waiting waiting done good passed_at passed is_free is_startable startable
-    figure figure_of is_online head_cylinder head_up answer outcome ends untaken balance outstanding arrival block_of
+unfolding answers_by
 available_before_bad_head = refl
 
 -- An ONLINE that goes wrong tells nothing, and leaves the unit available.
@@ -189,15 +107,12 @@ bad_online =
     ∷ []
 
 pub bad_online_legal : IsLegal (settings 4 2) bad_online
-unfolding moment collect command_of command is_waiting waiting done good passed_at passed is_free is_startable startable
-    figure figure_of is_online head_cylinder head_up answer outcome ends untaken balance outstanding arrival block_of
-bad_online_legal = legal_from (settings 4 2) bad_online
-    ((refl, refl), (by_serving 0 refl refl refl, ((refl, refl), ((refl, refl), ((refl, refl), tt)))))
+unfolding answers_by
+bad_online_legal = legal_by (settings 4 2) bad_online (0 ∷ []) refl
 
 -- The unit is available.
 bad_online_state : is_online bad_online 0 ≡ false
-unfolding moment collect command_of command is_waiting waiting done good passed_at passed is_free is_startable startable
-    figure figure_of is_online head_cylinder head_up answer outcome ends untaken balance outstanding arrival block_of
+unfolding answers_by
 bad_online_state = refl
 
 -- An AVAILABLE that goes wrong leaves the unit online.
@@ -214,35 +129,12 @@ bad_available =
     ∷ []
 
 pub bad_available_legal : IsLegal (settings 4 2) bad_available
-unfolding moment collect command_of command is_waiting waiting done good passed_at passed is_free is_startable startable
-    figure figure_of is_online head_cylinder head_up answer outcome ends untaken balance outstanding arrival block_of
-bad_available_legal = legal_from (settings 4 2) bad_available (
-  (refl, refl),
-  (
-    by_serving 0 refl refl refl,
-    (
-      (refl, refl),
-      (
-        (refl, refl),
-        (
-          by_serving 3 refl refl refl,
-          (
-            (
-              refl,
-              refl,
-            ),
-            ((refl, refl), ((refl, refl), tt)),
-          ),
-        ),
-      ),
-    ),
-  ),
-)
+unfolding answers_by
+bad_available_legal = legal_by (settings 4 2) bad_available (0 ∷ 3 ∷ []) refl
 
 -- The unit is online.
 bad_available_state : is_online bad_available 0 ≡ true
-unfolding moment collect command_of command is_waiting waiting done good passed_at passed is_free is_startable startable
-    figure figure_of is_online head_cylinder head_up answer outcome ends untaken balance outstanding arrival block_of
+unfolding answers_by
 bad_available_state = refl
 
 -- What is told of a unit that is available.
@@ -255,9 +147,8 @@ unit_asked =
     ∷ []
 
 pub unit_asked_legal : IsLegal (settings 4 2) unit_asked
-unfolding moment collect command_of command is_waiting waiting done good passed_at passed is_free is_startable startable
-    figure figure_of is_online head_cylinder head_up answer outcome ends untaken balance outstanding arrival block_of
-unit_asked_legal = legal_from (settings 4 2) unit_asked ((refl, refl), ((refl, refl), tt))
+unfolding answers_by
+unit_asked_legal = legal_by (settings 4 2) unit_asked [] refl
 
 -- The same of a unit that is online, with another status.
 abbrev pub unit_asked_online : Trace
@@ -270,10 +161,8 @@ unit_asked_online =
     ∷ []
 
 pub unit_asked_online_legal : IsLegal (settings 4 2) unit_asked_online
-unfolding moment collect command_of command is_waiting waiting done good passed_at passed is_free is_startable startable
-    figure figure_of is_online head_cylinder head_up answer outcome ends untaken balance outstanding arrival block_of
-unit_asked_online_legal = legal_from (settings 4 2) unit_asked_online
-    ((refl, refl), (by_serving 0 refl refl refl, ((refl, refl), ((refl, refl), ((refl, refl), tt)))))
+unfolding answers_by
+unit_asked_online_legal = legal_by (settings 4 2) unit_asked_online (0 ∷ []) refl
 
 -- SET UNIT CHARACTERISTICS tells of a unit that is available, and leaves it so.
 abbrev pub unit_set : Trace
@@ -293,12 +182,10 @@ unit_set =
     ∷ []
 
 pub unit_set_legal : IsLegal (settings 4 2) unit_set
-unfolding moment collect command_of command is_waiting waiting done good passed_at passed is_free is_startable startable
-    figure figure_of is_online head_cylinder head_up answer outcome ends untaken balance outstanding arrival block_of
-unit_set_legal = legal_from (settings 4 2) unit_set ((refl, refl), (by_serving 0 refl refl refl, ((refl, refl), tt)))
+unfolding answers_by
+unit_set_legal = legal_by (settings 4 2) unit_set (0 ∷ []) refl
 
 -- The unit is available.
 unit_set_state : is_online unit_set 0 ≡ false
-unfolding moment collect command_of command is_waiting waiting done good passed_at passed is_free is_startable startable
-    figure figure_of is_online head_cylinder head_up answer outcome ends untaken balance outstanding arrival block_of
+unfolding answers_by
 unit_set_state = refl

@@ -7,21 +7,20 @@ use Rattle.mscp_packet.specs.declared.command.Order.{Order}
 use Rattle.mscp_packet.specs.declared.command.Order.TheVariants as orders
 use Rattle.mscp_packet.specs.declared.end.End.{End}
 use Rattle.mscp_packet.specs.declared.end.EndBody.TheVariants as bodies
-use Rattle.mscp_packet.specs.Commands.{command_of}
 use Rattle.mscp_packet.specs.Ends.{end_bytes}
 use Rattle.mscp_events.specs.declared.block.Block.TheVariants.{Good}
 use Rattle.mscp_queue.specs.declared.report.Report.TheVariants as reports
 use Rattle.mscp_controller.specs.declared.entry.Sent.TheVariants as sents
 use Rattle.mscp_controller.specs.History.{moment}
-use Rattle.mscp_controller.specs.Commands.{command, is_waiting, waiting, done}
-use Rattle.mscp_controller.specs.Passing.{passed_at, passed}
-use Rattle.mscp_controller.specs.Figures.{figure, figure_of}
+use Rattle.mscp_controller.specs.Commands.{command}
+use Rattle.mscp_controller.specs.Figures.{figure}
 use Rattle.mscp_trials.proofs.Worked.Literals.{answered, moved, onlined, queued, read, served, settings, took}
 use Rattle.mscp_host.specs.declared.news.News.TheVariants as news
 use Rattle.mscp_sim.specs.declared.conversing.Turn.TheVariants as turns
 use Rattle.mscp_sim.specs.declared.conversing.Heard.TheVariants as hears
 use Rattle.mscp_sim.specs.Talks.{Said, Talk, account_at, accounts_at, asks_about, figure_told, is_outstanding, last_answer, outstanding, said}
 use Rattle.mscp_sim.specs.TwoEnds.{IsHeard, Stands}
+use Rattle.mscp_controller.proofs.Bridge.Legals.{answers_by}
 
 -- ---- short words
 
@@ -75,11 +74,11 @@ abbrev standing : Talk
 standing = opening ++ asks 11 ∷ hands (answer 11 18) news.Reset ∷ []
 
 first_told : figure_told (settings 4 2) First standing 4 ≡ 18
-unfolding moment command_of command is_waiting waiting done passed_at passed figure figure_of outstanding
+unfolding answers_by
 first_told = refl
 
 it_stands : Stands (settings 4 2) First standing 7
-unfolding moment command_of command is_waiting waiting done passed_at passed figure figure_of outstanding
+unfolding answers_by
 it_stands = record {
   poll = 6;
   command = 3;
@@ -99,7 +98,7 @@ kept : account_at (settings 4 2) First standing 7 ≡ record {
       ∷ record { reference = 11; unit = 0; opcode = 0x02; told = None } ∷ [];
   watch = Some (record { reference = 11; polled = 1; is_outstanding = true });
 }
-unfolding moment command_of command is_waiting waiting done passed_at passed figure figure_of outstanding
+unfolding answers_by
 kept = refl
 
 -- ---- a step between the polls, and one that ends the command
@@ -117,20 +116,20 @@ moving =
     ∷ []
 
 second_told : figure_told (settings 4 2) First moving 7 ≡ 1
-unfolding moment command_of command is_waiting waiting done passed_at passed figure figure_of outstanding
+unfolding answers_by
 second_told = refl
 
 third_told : figure_told (settings 4 2) First moving 10 ≡ 0
-unfolding moment command_of command is_waiting waiting done passed_at passed figure figure_of outstanding
+unfolding answers_by
 third_told = refl
 
 last_before : last_answer (settings 4 2) First moving 8 3 ≡ Some 18
-unfolding moment command_of command is_waiting waiting done passed_at passed figure figure_of outstanding
+unfolding answers_by
 last_before = refl
 
 -- the second answer doesn't stand: 1 is less than 18
 falls : Stands (settings 4 2) First moving 8 → ⊥
-unfolding moment command_of command is_waiting waiting done passed_at passed figure figure_of outstanding
+unfolding answers_by
 falls st =
     let poll : st.poll ≡ 7 = sym (ap (λ o. unwrap_or o 0) st.handed) in
     let command : st.command ≡ 3 = sym (eqb-true 3 st.command
@@ -142,7 +141,7 @@ falls st =
 
 -- and the third neither, which comes after the command's end
 late : Stands (settings 4 2) First moving 12 → ⊥
-unfolding moment command_of command is_waiting waiting done passed_at passed figure figure_of outstanding
+unfolding answers_by
 late st =
     let poll : st.poll ≡ 10 = sym (ap (λ o. unwrap_or o 0) st.handed) in
     let command : st.command ≡ 3 = sym (eqb-true 3 st.command
@@ -155,13 +154,13 @@ kept_late : account_at (settings 4 2) First moving 12 ≡ record {
   outstanding = record { reference = 12; unit = 0; opcode = 0x02; told = None } ∷ [];
   watch = Some (record { reference = 12; polled = 1; is_outstanding = false });
 }
-unfolding moment command_of command is_waiting waiting done passed_at passed figure figure_of outstanding
+unfolding answers_by
 kept_late = refl
 
 -- what is heard there is what the rules of a host say
 heard_late : IsHeard (accounts_at (settings 4 2) moving 12) (turns.Take First) (said moving 12)
     (accounts_at (settings 4 2) moving 13)
-unfolding moment command_of command is_waiting waiting done passed_at passed figure figure_of outstanding
+unfolding answers_by
 heard_late = (
   Some (record { items = end_bytes (answer 12 0) }),
   account_at (settings 4 2) First moving 13,
@@ -188,7 +187,7 @@ again =
 
 -- of the second nothing was told yet
 untold : last_answer (settings 4 2) First again 13 10 ≡ None
-unfolding moment command_of command is_waiting waiting done passed_at passed figure figure_of outstanding
+unfolding answers_by
 untold = refl
 
 -- though the figure is the one that was last told of the first
@@ -198,5 +197,5 @@ kept_again : account_at (settings 4 2) First again 13 ≡ record {
       ∷ record { reference = 12; unit = 0; opcode = 0x02; told = None } ∷ [];
   watch = Some (record { reference = 12; polled = 1; is_outstanding = true });
 }
-unfolding moment command_of command is_waiting waiting done passed_at passed figure figure_of outstanding
+unfolding answers_by
 kept_again = refl

@@ -8,26 +8,23 @@ use Rattle.mscp_packet.specs.declared.command.Order.TheVariants as orders
 use Rattle.mscp_packet.specs.declared.end.End.{End}
 use Rattle.mscp_packet.specs.declared.end.EndBody.{EndBody}
 use Rattle.mscp_packet.specs.declared.end.EndBody.TheVariants as bodies
-use Rattle.mscp_packet.specs.Commands.{command_of}
 use Rattle.mscp_events.specs.declared.connection.Connection.{Connection}
 use Rattle.mscp_events.specs.declared.connection.Connection.TheVariants.{First}
 use Rattle.mscp_events.specs.declared.block.Block.{Block}
 use Rattle.mscp_events.specs.declared.block.Block.TheVariants.{Good, Bad}
 use Rattle.mscp_controller.specs.declared.entry.SendFault.TheVariants as faults
 use Rattle.mscp_events.specs.Settings.{Settings}
-use Rattle.mscp_controller.specs.History.{Trace, Moment, moment, collect, Service}
-use Rattle.mscp_controller.specs.Commands.{command, is_waiting, waiting, done, good}
-use Rattle.mscp_controller.specs.Passing.{passed_at, passed, is_free, is_startable, startable}
-use Rattle.mscp_controller.specs.Figures.{figure, figure_of}
-use Rattle.mscp_controller.specs.Units.{is_online, head_cylinder, head_up}
-use Rattle.mscp_controller.specs.Ends.{answer, outcome}
-use Rattle.mscp_controller.specs.Account.{ends, untaken, balance, outstanding}
-use Rattle.mscp_controller.specs.Credits.{arrival}
-use Rattle.mscp_controller.specs.Legal.{IsRight, IsServed, block_of}
+use Rattle.mscp_controller.specs.History.{Trace, Moment, Service}
+use Rattle.mscp_controller.specs.Commands.{command}
+use Rattle.mscp_controller.specs.Figures.{figure}
+use Rattle.mscp_controller.specs.Ends.{answer}
+use Rattle.mscp_controller.specs.Account.{ends}
+use Rattle.mscp_controller.specs.Legal.{IsRight, IsServed}
 use Rattle.mscp_controller.proofs.Promise.Waits.{waits_below}
 use Rattle.mscp_trials.proofs.Worked.Literals.{settings, came_online, read, queued, answered, refused, took, looked, served, moved, onlined, with_budget}
 use Rattle.mscp_trials.proofs.Worked.Credits.{last_credit}
 use Rattle.mscp_trials.proofs.Worked.Passing.{passed_once}
+use Rattle.mscp_controller.proofs.Bridge.Legals.{answers_by}
 
 -- this answer may not come after t
 abbrev pub IsWrong : Settings → Trace → Moment → Type 0
@@ -37,14 +34,12 @@ IsWrong c t m = IsRight c t m.0 m.1 → ⊥
 
 -- The last credit isn't for a read.
 last_credit_taken : IsWrong (settings 2 2) (take 1 last_credit) (queued 2 0 (read 512 0))
-unfolding moment collect command_of command is_waiting waiting done good passed_at passed is_free is_startable startable
-    figure figure_of is_online head_cylinder head_up answer outcome ends untaken balance outstanding arrival block_of
+unfolding answers_by
 last_credit_taken h = true≢false (ap is_ok h.1)
 
 -- Where a credit is free a poll isn't refused.
 refused_always : IsWrong (settings 2 2) [] (refused 1 0 (orders.Status 1) faults.NoCredit)
-unfolding moment collect command_of command is_waiting waiting done good passed_at passed is_free is_startable startable
-    figure figure_of is_online head_cylinder head_up answer outcome ends untaken balance outstanding arrival block_of
+unfolding answers_by
 refused_always h = false≢true (ap is_ok h.1)
 
 -- ---- steps of the one command that was queued
@@ -56,8 +51,7 @@ then_queued order = came_online ++ queued 1 0 order ∷ []
 -- a step there serves that command
 sole : (c : Settings) (order : Order) (k : Block) (s : Service) (y : ℕ) → IsServed c (then_queued order) k s y
     → IsServed c (then_queued order) k s 3
-unfolding moment collect command_of command is_waiting waiting done good passed_at passed is_free is_startable startable
-    figure figure_of is_online head_cylinder head_up answer outcome ends untaken balance outstanding arrival block_of
+unfolding answers_by
 sole c order k s zero v = absurd (false≢true v.waits)
 sole c order k s (suc zero) v = absurd (false≢true v.waits)
 sole c order k s (suc (suc zero)) v = absurd (false≢true v.waits)
@@ -79,9 +73,7 @@ status_of (Some end) = end.status
 
 -- A read that ends well has moved all of its bytes.
 short_count : IsWrong (settings 4 2) (then_queued (read 512 0)) (served Good 1 0 (Some 0) true 0 (moved 1 0 0 100))
-unfolding moment collect command_of command is_waiting waiting done good passed_at passed is_free is_startable startable
-    figure figure_of is_online head_cylinder head_up answer outcome ends untaken balance outstanding arrival block_of
-    count_of count_in
+unfolding answers_by count_of count_in
 short_count h =
     let v = sole (settings 4 2) (read 512 0) Good _ h.0 h.1 in
     let e : 100 ≡ 512 = ap count_of v.ended in
@@ -89,16 +81,14 @@ short_count h =
 
 -- A read of two blocks doesn't end after the first.
 early_end : IsWrong (settings 4 2) (then_queued (read 1024 0)) (served Good 1 0 (Some 0) true 0 (moved 1 0 0 1024))
-unfolding moment collect command_of command is_waiting waiting done good passed_at passed is_free is_startable startable
-    figure figure_of is_online head_cylinder head_up answer outcome ends untaken balance outstanding arrival block_of
+unfolding answers_by
 early_end h =
     let v = sole (settings 4 2) (read 1024 0) Good _ h.0 h.1 in
     true≢false (ap is_some v.ended)
 
 -- A head doesn't get to another cylinder by no way.
 no_way : IsWrong (settings 4 2) (then_queued (read 512 800)) (served Good 1 0 (Some 800) true 0 (moved 1 0 0 512))
-unfolding moment collect command_of command is_waiting waiting done good passed_at passed is_free is_startable startable
-    figure figure_of is_online head_cylinder head_up answer outcome ends untaken balance outstanding arrival block_of
+unfolding answers_by
 no_way h =
     let v = sole (settings 4 2) (read 512 800) Good _ h.0 h.1 in
     let e : 0 ≡ 40 = v.seek in
@@ -108,9 +98,7 @@ no_way h =
 
 -- The ONLINE of a unit that is online says so.
 online_anew : IsWrong (settings 4 2) (then_queued orders.Online) (served Good 1 0 None true 0 (onlined 1 0 0))
-unfolding moment collect command_of command is_waiting waiting done good passed_at passed is_free is_startable startable
-    figure figure_of is_online head_cylinder head_up answer outcome ends untaken balance outstanding arrival block_of
-    status_of
+unfolding answers_by status_of
 online_anew h =
     let v = sole (settings 4 2) orders.Online Good _ h.0 h.1 in
     let e : 0 ≡ 256 = ap status_of v.ended in
@@ -125,8 +113,7 @@ first c t k s (suc y) one v = let below = waits_below t (suc y) v.waits in absur
 -- A transfer touches no block of a unit that is available.
 touched_available : IsWrong (settings 4 2) (queued 1 0 (read 512 0) ∷ [])
     (served Good 1 0 (Some 0) true 0 (moved 1 0 0 512))
-unfolding moment collect command_of command is_waiting waiting done good passed_at passed is_free is_startable startable
-    figure figure_of is_online head_cylinder head_up answer outcome ends untaken balance outstanding arrival block_of
+unfolding answers_by
 touched_available h =
     let v = first (settings 4 2) (queued 1 0 (read 512 0) ∷ []) Good _ h.0 refl h.1 in
     true≢false (ap is_some v.lbn)
@@ -134,9 +121,7 @@ touched_available h =
 -- Nor does it end with the status of a bad block there.
 bad_available : IsWrong (settings 4 2) (queued 1 0 (read 512 0) ∷ [])
     (served (Bad 0x000B) 1 0 None true 0 (moved 1 0 0x000B 0))
-unfolding moment collect command_of command is_waiting waiting done good passed_at passed is_free is_startable startable
-    figure figure_of is_online head_cylinder head_up answer outcome ends untaken balance outstanding arrival block_of
-    status_of
+unfolding answers_by status_of
 bad_available h =
     let v = first (settings 4 2) (queued 1 0 (read 512 0) ∷ []) (Bad 0x000B) _ h.0 refl h.1 in
     let e : 11 ≡ 4 = ap status_of v.ended in
@@ -156,9 +141,7 @@ third = record {
 }
 
 not_third : (y : ℕ) → IsServed (with_budget 5 1) (take 9 passed_once) Good third y → ⊥
-unfolding third moment collect command_of command is_waiting waiting done good passed_at passed is_free is_startable
-    startable figure figure_of is_online head_cylinder head_up answer outcome ends untaken balance outstanding arrival
-    block_of
+unfolding answers_by third
 not_third zero v = false≢true v.waits
 not_third (suc zero) v = false≢true v.waits
 not_third (suc (suc zero)) v = false≢true v.waits
@@ -185,9 +168,7 @@ taken_byte (Some b) = slice_index b.items 0
 -- Ends aren't taken newest first.
 newest_first : IsWrong (settings 4 2) (answered 2 0 (orders.Status 77) ∷ answered 3 0 (orders.Status 77) ∷ [])
     (took (3 ∷ 0 ∷ 0 ∷ 0 ∷ 0 ∷ 0 ∷ 0 ∷ 0 ∷ 0x82 ∷ 0 ∷ 0 ∷ 0 ∷ 77 ∷ 0 ∷ 0 ∷ 0 ∷ 0 ∷ 0 ∷ 0 ∷ 0 ∷ []))
-unfolding moment collect command_of command is_waiting waiting done good passed_at passed is_free is_startable startable
-    figure figure_of is_online head_cylinder head_up answer outcome ends untaken balance outstanding arrival block_of
-    taken_byte
+unfolding answers_by taken_byte
 newest_first h = let e : 3 ≡ 2 = ap taken_byte h.1 in omega (arith, e)
 
 first_figure : List (Connection × ℕ × ℕ) → ℕ
@@ -196,7 +177,5 @@ first_figure (p ∷ ps) = p.2
 
 -- A figure isn't the command's own blocks alone.
 own_blocks : IsWrong (with_budget 5 1) (take 6 passed_once) (looked ((1, 1) ∷ (2, 1) ∷ (3, 1) ∷ []))
-unfolding moment collect command_of command is_waiting waiting done good passed_at passed is_free is_startable startable
-    figure figure_of is_online head_cylinder head_up answer outcome ends untaken balance outstanding arrival block_of
-    first_figure
+unfolding answers_by first_figure
 own_blocks h = let e : 1 ≡ 2 = ap first_figure h in omega (arith, e)
