@@ -12,7 +12,6 @@ use crate::outs::{ReportOut, UpcomingOut};
 use crate::status::{BAD_CONNECTION, BAD_STATUS, NOT_MADE, STALE};
 use crate::telling::{block_of, tell_report, tell_upcoming};
 use crate::units::connection_of;
-use mscp_controller::Block;
 use mscp_memory::controller::{Handle, is_made, lend};
 
 /// What the next step serves.
@@ -66,17 +65,6 @@ pub extern "C" fn mscp_finish(
     }
 }
 
-/// Serves one block with this outcome, and tells what it did. It stands apart, since the report of a step that may be a
-/// command's first or last has room for an end.
-#[inline(never)]
-fn step_told(handle: &mut Handle, block: Block, out: &mut ReportOut) -> i32
-    requires { is_made handle.old ≡ true }
-    ensures { TellsStep block handle.old out.old result handle.new out.new }
-{
-    let report = lend(handle).step(block);
-    tell_report(out, &report)
-}
-
 /// Serves one block, which had this status.
 #[unsafe(no_mangle)]
 pub extern "C" fn mscp_step(handle: &mut Handle, status: u16, out: &mut ReportOut) -> i32
@@ -92,13 +80,9 @@ pub extern "C" fn mscp_step(handle: &mut Handle, status: u16, out: &mut ReportOu
     if !is_made(handle) {
         return NOT_MADE;
     }
-    if status == 0
-        && let Some(amid) = lend(handle).step_amid(&Block::Good)
-    {
-        return tell_report(out, &amid);
-    }
     let Some(block) = block_of(status) else {
         return BAD_STATUS;
     };
-    step_told(handle, block, out)
+    let report = lend(handle).step(block);
+    tell_report(out, &report)
 }

@@ -5,7 +5,7 @@ ghost use Rattle.mscp_packet.specs.Commands.{command_bytes};
 ghost use Rattle.mscp_events.specs.Settings.{bound, room};
 ghost use Rattle.mscp_controller.specs.Legal.{IsLegal};
 ghost use Rattle.mscp_control.specs.Longest.{WaitsTheBound, is_shown};
-ghost use Rattle.mscp_control.specs.Worst.{block_before, come_on, connection_at, handing, long_read, online_command, online_end, opened, pass_on, queueing, read_report, rest_on, runs_on, short_read, steps_on, worst_of};
+ghost use Rattle.mscp_control.specs.Worst.{block_before, come_on, handing, long_read, online_command, online_end, opened, pass_on, queueing, read_report, rest_on, runs_on, short_read, steps_on, worst_of};
 
 use arrayvec::ArrayVec;
 use mscp_controller::{Entry, Sent};

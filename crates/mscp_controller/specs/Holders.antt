@@ -6,11 +6,11 @@ use Rattle.mscp_queue.specs.Names.{same_name}
 use Rattle.mscp_events.specs.Settings.{Settings}
 use Rattle.mscp_controller.specs.History.{Trace}
 use Rattle.mscp_controller.specs.Commands.{connection, earlier, name, reference, waiting}
-use Rattle.mscp_controller.specs.Passing.{fences, passed, toll}
+use Rattle.mscp_controller.specs.Passing.{fences, passed, charge}
 
 -- z would be passed by more blocks than the budget, if y started (profile)
 abbrev pub is_overdrawn : Settings → Trace → ℕ → ℕ → Bool
-is_overdrawn c t y z = not (nat_le (passed t z + toll t y) c.budget)
+is_overdrawn c t y z = not (nat_le (passed t z + charge t y) c.budget)
 
 -- the earlier z keeps y back (manual, "Command Categories and Execution Order", the budget is the profile's)
 abbrev pub keeps_back : Settings → Trace → ℕ → ℕ → Bool

@@ -7,17 +7,17 @@ use Rattle.mscp_controller.specs.History.{Moment, Trace, moment, positions}
 use Rattle.mscp_controller.specs.Commands.{unit, order, name, is_waiting, waiting, weight, done, is_idle, earlier, later, starts_in}
 
 -- what the start of y costs each earlier command that waits: all the steps that y takes (profile)
-abbrev pub toll : Trace → ℕ → ℕ
-toll t y = weight t y
+abbrev pub charge : Trace → ℕ → ℕ
+charge t y = weight t y
 
 -- x waits after t and was never served (profile)
 abbrev pub is_unstarted : Trace → ℕ → Bool
 is_unstarted t x = nat_lt x (length t) && is_waiting t x && nat_eq (done t x) 0
 
--- by how many blocks x is passed at the moment m, which comes after t: the toll of the later command that starts
+-- by how many blocks x is passed at the moment m, which comes after t: the charge of the later command that starts
 -- (profile)
 unfoldable pub passed_at : Trace → Moment → ℕ → ℕ
-passed_at t m x = cond (is_unstarted t x) (sum_by (toll t) (filter (λ y. starts_in (name t y) m.1) (later t x))) 0
+passed_at t m x = cond (is_unstarted t x) (sum_by (charge t) (filter (λ y. starts_in (name t y) m.1) (later t x))) 0
 
 -- by how many blocks x was passed (profile)
 unfoldable pub passed : Trace → ℕ → ℕ
@@ -34,7 +34,7 @@ is_free t y = list_all (λ z. not (fences t y z)) (earlier t y)
 
 -- each command that came before y keeps within the budget if y starts (profile)
 abbrev pub is_affordable : Settings → Trace → ℕ → Bool
-is_affordable c t y = list_all (λ x. nat_le (passed t x + toll t y) c.budget) (earlier t y)
+is_affordable c t y = list_all (λ x. nat_le (passed t x + charge t y) c.budget) (earlier t y)
 
 -- y, which waits, may start (manual, "Command Categories and Execution Order", the budget is the profile's)
 unfoldable pub is_startable : Settings → Trace → ℕ → Bool

@@ -1,6 +1,6 @@
 // A controller: its queue, and the account of each connection's host.
 
-ghost use Rattle.std.specs.Prelude.{◌≡◌, ◌+◌, ◌≤◌, ◌^◌, true, false, slice_get, IfErr, IfNone, IfSome, None, Some};
+ghost use Rattle.std.specs.Prelude.{◌≡◌, ◌+◌, ◌≤◌, ◌^◌, true, false, slice_get, IfErr, IfSome, None, Some};
 ghost use Rattle.mscp_packet.specs.Ends.{IsEnd, IsOfKind};
 ghost use Rattle.mscp_queue.specs.Orders.{first_block, order_weight};
 ghost use Rattle.mscp_queue.specs.Names.{name_on};
@@ -326,54 +326,17 @@ impl<K: Picker> Controller<K> {
         }
     }
 
-    /// The body of `step`, where the step may be a command's first or last.
-    #[inline(never)]
-    fn step_apart(&mut self, block: Block) -> Report
+    /// Serves one block, with this outcome, if a command waits: to the command that was begun, or else to that in service,
+    /// or to one that the picker picks of those that may start. It is built into its caller, which reads the report where it is
+    /// made.
+    #[inline(always)]
+    pub fn step(&mut self, block: Block) -> Report
         ensures step { Steps (K.picks self.old.picker) block self.old result self.new }
         ensures account { IsBalanced self.new }
     {
         let report = self.queue.serve(block);
         keep_end(&mut self.accounts, &report);
         report
-    }
-
-    /// The same. It is built into its caller, so that room for its report is cleared only where it is called.
-    #[inline(always)]
-    fn step_rest(&mut self, block: Block) -> Report
-        ensures step { Steps (K.picks self.old.picker) block self.old result self.new }
-        ensures account { IsBalanced self.new }
-    {
-        self.step_apart(block)
-    }
-
-    /// The step, if this finds that it is neither a command's first nor its last: else nothing changes. No clause says when it
-    /// finds that, so None tells nothing, and `step` is to be asked.
-    #[inline(always)]
-    pub fn step_amid(&mut self, block: &Block) -> Option<Report>
-        ensures step { IfSome result (λ report. Steps (K.picks self.old.picker) block.now self.old report self.new) }
-        ensures account { IfSome result (λ report. IsBalanced self.new) }
-        ensures none { IfNone result (self.new ≡ self.old) }
-    {
-        if let Some(amid) = self.queue.serve_amid(block) {
-            keep_end(&mut self.accounts, &amid);
-            return Some(amid);
-        }
-        None
-    }
-
-    /// Serves one block, with this outcome, if a command waits: to the command that was begun, or else to that in service,
-    /// or to one that the picker picks of those that may start.
-    pub fn step(&mut self, block: Block) -> Report
-        ensures step { Steps (K.picks self.old.picker) block self.old result self.new }
-        ensures account { IsBalanced self.new }
-    {
-        if let Some(amid) = self.step_amid(&block) {
-            return amid;
-        }
-        if self.queue.is_idle() {
-            return Report::Idle;
-        }
-        self.step_rest(block)
     }
 
     /// What is answered to an event.

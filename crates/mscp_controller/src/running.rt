@@ -1,6 +1,6 @@
 // A whole run.
 
-ghost use Rattle.std.specs.Prelude.{◌≡◌, ◌≤◌, List, [], length, vec_capacity, zip, IfOk};
+ghost use Rattle.std.specs.Prelude.{◌≡◌, ◌≤◌, [], length, vec_capacity, zip, IfOk};
 ghost use Rattle.mscp_controller.specs.Holdings.{Answered};
 ghost use Rattle.mscp_controller.specs.Headline.{Headline};
 ghost use Rattle.mscp_controller.specs.Legal.{IsPicked};

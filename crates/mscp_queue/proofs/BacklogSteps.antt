@@ -9,22 +9,22 @@ use Rattle.std.proofs.lemmas.List.Sums.{sum_by-append, sum_by-cons}
 use Rattle.mscp_queue.specs.declared.slots.Slot.{Slot}
 use Rattle.mscp_queue.specs.Dues.{AreDue, AreTimed, started}
 use Rattle.mscp_queue.specs.Waiters.{Waiters}
-use Rattle.mscp_queue.specs.Records.{Record, advanced, is_in_service, is_unstarted, left_of, no_record, passed_by, record_at, step_toll}
-use Rattle.mscp_queue.specs.Slots.{aims, items, lowered_by, no_slot, slot_at, with_due, with_item}
+use Rattle.mscp_queue.specs.Records.{Record, advanced, is_in_service, is_unstarted, left_of, no_record, passed_by, record_at, step_charge}
+use Rattle.mscp_queue.specs.Slots.{targets, items, lowered_by, no_slot, slot_at, with_due, with_item}
 use Rattle.mscp_queue.proofs.Dues.{due_set_back, due_started, due_stepped, item_there, items_append, items_fallen, late}
 use Rattle.mscp_queue.proofs.Held.{AreIdle, passed_idle}
 use Rattle.mscp_queue.proofs.Lists.{every_weaker}
 use Rattle.mscp_queue.proofs.Placed.{at_place, map_map}
-use Rattle.mscp_queue.proofs.Untolled.{untolled}
+use Rattle.mscp_queue.proofs.Uncharged.{uncharged}
 use Rattle.mscp_queue.proofs.Backlogs.{back_of, cut, front_of, of_items}
 
 -- what a step of the command at a place makes of slots
 pub record IsStep (budget clock : ℕ) (ss new : List Slot) (place : ℕ) : Type 0 where
   pub dues : AreDue budget (clock + 1) 0 new
   pub left : sum_by left_of (items new) + 1 ≡ sum_by left_of (items ss)
-  pub waiting : items new ≡ map (passed_by (step_toll (slot_at ss place).item)) (items (take place ss))
+  pub waiting : items new ≡ map (passed_by (step_charge (slot_at ss place).item)) (items (take place ss))
       ++ advanced (slot_at ss place).item ∷ items (drop (place + 1) ss)
-  pub own : aims new ≡ aims ss
+  pub own : targets new ≡ targets ss
 
 -- the slots before it has its step
 abbrev pub stepped : ℕ → ℕ → List Slot → List Slot
@@ -36,8 +36,8 @@ set_mid : (A : List Slot) (y : Slot) (B : List Slot) (place : ℕ) → length A 
 set_mid A y B place l = set_at A y B (with_item advanced (slot_at (A ++ y ∷ B) place)) place l
     ∙ ap (λ (s : Slot). A ++ with_item advanced s ∷ B) (get_or_at A y B no_slot place l)
 
-own_append : (xs ys : List Slot) → aims (xs ++ ys) ≡ aims xs ++ aims ys
-own_append xs ys = map-append (λ (s : Slot). s.aim) xs ys
+own_append : (xs ys : List Slot) → targets (xs ++ ys) ≡ targets xs ++ targets ys
+own_append xs ys = map-append (λ (s : Slot). s.target) xs ys
 
 pub step_of : {budget clock : ℕ} {ss : List Slot} {place : ℕ} → AreDue budget clock 0 ss → place < length ss
     → (slot_at ss place).item.done < (slot_at ss place).item.weight
@@ -93,9 +93,9 @@ step_of {budget} {clock} {ss} {place} a l unfinished front back affordable =
     passed_items w [] = refl
     passed_items w (p ∷ ps) = ap (λ rs. passed_by w p.item ∷ rs) (passed_items w ps)
 
-    passed_own : (w : ℕ) (ps : List Slot) → aims (map (with_item (passed_by w)) ps) ≡ aims ps
+    passed_own : (w : ℕ) (ps : List Slot) → targets (map (with_item (passed_by w)) ps) ≡ targets ps
     passed_own w [] = refl
-    passed_own w (p ∷ ps) = ap (λ rs. p.aim ∷ rs) (passed_own w ps)
+    passed_own w (p ∷ ps) = ap (λ rs. p.target ∷ rs) (passed_own w ps)
 
     by : (b : Bool) → is_unstarted y.item ≡ b → IsStep budget clock ss (stepped clock place ss) place
     by true e =
@@ -110,7 +110,7 @@ step_of {budget} {clock} {ss} {place} a l unfinished front back affordable =
         ap (λ zs. set zs place (with_item advanced (slot_at zs place))) is ∙ set_mid F' y' B place long' in
         let weighs : left_of y.item ≡ w = omega (arith, zero_done) in
         let less : left_of z.item + 1 ≡ left_of y.item = omega (arith, unfinished) in
-        let toll : step_toll y.item ≡ w = ap (λ b. cond b w 0) e in
+        let charge : step_charge y.item ≡ w = ap (λ b. cond b w 0) e in
         record {
           dues = subst (AreDue budget (clock + 1) 0) (sym new)
               (due_started budget clock w y z B back zero_done weighs refl refl
@@ -133,9 +133,9 @@ step_of {budget} {clock} {ss} {place} a l unfinished front back affordable =
               );
           waiting = ap items new ∙ (items_append F' (z ∷ B)
               ∙ ap (λ rs. rs ++ advanced y.item ∷ items B) (passed_items w F
-              ∙ ap (λ n. map (passed_by n) (items F)) (sym toll)));
-          own = ap aims new ∙ (own_append F' (z ∷ B) ∙ (ap (λ rs. rs ++ y.aim ∷ aims B) (passed_own w F)
-              ∙ (sym (own_append F (y ∷ B)) ∙ ap aims (sym (cut ss place l)))));
+              ∙ ap (λ n. map (passed_by n) (items F)) (sym charge)));
+          own = ap targets new ∙ (own_append F' (z ∷ B) ∙ (ap (λ rs. rs ++ y.target ∷ targets B) (passed_own w F)
+              ∙ (sym (own_append F (y ∷ B)) ∙ ap targets (sym (cut ss place l)))));
         }
     by false e =
         let z = with_item advanced y in
@@ -146,15 +146,15 @@ step_of {budget} {clock} {ss} {place} a l unfinished front back affordable =
         ap (λ zs. set zs place (with_item advanced (slot_at zs place))) is ∙ set_mid F y B place long in
         let some : is_in_service y.item ≡ true = lt-ltb 0 y.item.done (positive y.item.done e) in
         let less : left_of z.item + 1 ≡ left_of y.item = omega (arith, unfinished) in
-        let toll : step_toll y.item ≡ 0 = ap (λ b. cond b y.item.weight 0) e in
+        let charge : step_charge y.item ≡ 0 = ap (λ b. cond b y.item.weight 0) e in
         record {
           dues = subst (AreDue budget (clock + 1) 0) (sym new)
               (due_stepped budget clock y z B back some unfinished refl refl 0 F due front);
           left = ap (λ zs. sum_by left_of (items zs) + 1) new ∙ sum_of F z refl less;
           waiting = ap items new ∙ (items_append F (z ∷ B)
-              ∙ ap (λ rs. rs ++ advanced y.item ∷ items B) (sym (untolled (items F))
-              ∙ ap (λ n. map (passed_by n) (items F)) (sym toll)));
-          own = ap aims new ∙ (own_append F (z ∷ B) ∙ (sym (own_append F (y ∷ B)) ∙ ap aims (sym (cut ss place l))));
+              ∙ ap (λ rs. rs ++ advanced y.item ∷ items B) (sym (uncharged (items F))
+              ∙ ap (λ n. map (passed_by n) (items F)) (sym charge)));
+          own = ap targets new ∙ (own_append F (z ∷ B) ∙ (sym (own_append F (y ∷ B)) ∙ ap targets (sym (cut ss place l))));
         }
       where
         positive : (n : ℕ) → nat_eq n 0 ≡ false → 0 < n
@@ -210,23 +210,23 @@ step_late {budget} {clock} {ss} {new} {place} step =
 pub seen_step : {budget clock : ℕ} {ss ss' new : List Slot} {place : ℕ} (now : ℕ) (rs : List Record)
     → IsStep budget clock ss ss' place
     → place < length ss → items ss ≡ rs → new ≡ map (lowered_by now) ss'
-    → items new ≡ map (passed_by (step_toll (record_at rs place))) (take place rs)
+    → items new ≡ map (passed_by (step_charge (record_at rs place))) (take place rs)
     ++ advanced (record_at rs place) ∷ drop (place + 1) rs
 seen_step {budget} {clock} {ss} {ss'} {new} {place} now rs step l w fell =
     let item = item_there ss place l ∙ ap (λ rs. record_at rs place) w in
     let front = sym (take-map (λ (s : Slot). s.item) place ss) ∙ ap (take place) w in
     let back = sym (drop-map (λ (s : Slot). s.item) (place + 1) ss) ∙ ap (drop (place + 1)) w in
     ap items fell ∙ (items_fallen now ss' ∙ (step.waiting
-    ∙ (λ i. map (passed_by (step_toll (item i))) (front i) ++ advanced (item i) ∷ back i)))
+    ∙ (λ i. map (passed_by (step_charge (item i))) (front i) ++ advanced (item i) ∷ back i)))
 
 pub seen_own : {budget clock : ℕ} {ss ss' new : List Slot} {place : ℕ} (now : ℕ) → IsStep budget clock ss ss' place
-    → new ≡ map (lowered_by now) ss' → aims new ≡ aims ss
+    → new ≡ map (lowered_by now) ss' → targets new ≡ targets ss
 seen_own {budget} {clock} {ss} {ss'} {new} {place} now step fell =
-    ap aims fell ∙ (map_map (lowered_by now) (λ (s : Slot). s.aim) ss' ∙ step.own)
+    ap targets fell ∙ (map_map (lowered_by now) (λ (s : Slot). s.target) ss' ∙ step.own)
 
 -- the same as it is found out, step by step, of what callers see
 module _ {budget clock total : ℕ} {ss : List Slot} {now : Waiters} {place : ℕ} (t : AreTimed budget clock total ss)
-    (view : record { budget = budget; waiting = items ss; aims = aims ss } ≡ now) (l : place < length ss) where
+    (view : record { budget = budget; waiting = items ss; targets = targets ss } ≡ now) (l : place < length ss) where
   seen : items ss ≡ now.waiting
   seen = ap (λ (w : Waiters). w.waiting) view
 

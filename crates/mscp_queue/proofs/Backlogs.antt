@@ -5,14 +5,14 @@ use Rattle.std.specs.List.{AllByRecursion, list_all}
 use Rattle.std.proofs.lemmas.List.{drop-map, get_or-map, length-take-le, map-append, take-map, take_more}
 use Rattle.std.proofs.lemmas.List.Elements.{All-from_recursion, recursion_from_All}
 use Rattle.std.proofs.lemmas.List.Sums.{sum_by-append, sum_by-cons}
-use Rattle.mscp_queue.specs.declared.aim.Aim.{Aim}
+use Rattle.mscp_queue.specs.declared.target.Target.{Target}
 use Rattle.mscp_queue.specs.declared.slots.Slot.{Slot}
 use Rattle.mscp_queue.specs.Dues.{AreDue, AreTimed}
 use Rattle.mscp_queue.specs.Waiters.{Waiters}
 use Rattle.mscp_queue.specs.Records.{Record, is_in_service, left_of}
 use Rattle.mscp_queue.specs.Masks.{keeps_back}
-use Rattle.mscp_queue.specs.Aims.{no_aim}
-use Rattle.mscp_queue.specs.Slots.{aims, is_unfenced, is_unfenced_at, items, kind_of, kinds_of, lowered_by, lowered_unless_serving, no_kind, no_slot, slot_at}
+use Rattle.mscp_queue.specs.Targets.{no_target}
+use Rattle.mscp_queue.specs.Slots.{targets, is_unfenced, is_unfenced_at, items, kind_of, kinds_of, lowered_by, lowered_unless_serving, no_kind, no_slot, slot_at}
 use Rattle.mscp_queue.proofs.Dues.{abort_enough, due_aborted, due_ended, end_enough, items_append, items_fallen, items_unless}
 use Rattle.mscp_queue.proofs.Held.{AreIdle}
 use Rattle.mscp_queue.proofs.Placed.{at_place, cut_at, map_map}
@@ -178,25 +178,25 @@ seen_behind {X} f n ss ss' new place xs same l view fell gone =
 
 -- ---- who keeps whom back
 
-kinds_are : (ss : List Slot) → kinds_of (items ss) (aims ss) ≡ map kind_of ss
+kinds_are : (ss : List Slot) → kinds_of (items ss) (targets ss) ≡ map kind_of ss
 kinds_are [] = refl
 kinds_are (s ∷ ss) = ap (λ ks. kind_of s ∷ ks) (kinds_are ss)
 
 pub unfenced_kinds : (ss : List Slot) (place : ℕ) (now : Waiters) (budget : ℕ)
-    → record { budget = budget; waiting = items ss; aims = aims ss } ≡ now → place < length ss
-    → is_unfenced (slot_at ss place) (take place ss) ≡ is_unfenced_at (kinds_of now.waiting now.aims) place
+    → record { budget = budget; waiting = items ss; targets = targets ss } ≡ now → place < length ss
+    → is_unfenced (slot_at ss place) (take place ss) ≡ is_unfenced_at (kinds_of now.waiting now.targets) place
 unfenced_kinds ss place now budget view l =
     let kind = get_or-map kind_of ss place no_slot no_kind l in
     sym (all_shown (λ z. not (keeps_back z (kind_of (slot_at ss place)))) kind_of (take place ss))
     ∙ ((λ i. list_all (λ z. not (keeps_back z (sym kind i))) (sym (take-map kind_of place ss) i))
     ∙ (ap (λ ks. is_unfenced_at ks place) (sym (kinds_are ss))
-    ∙ ap (λ (w : Waiters). is_unfenced_at (kinds_of w.waiting w.aims) place) view))
+    ∙ ap (λ (w : Waiters). is_unfenced_at (kinds_of w.waiting w.targets) place) view))
 
-pub own_there : (ss : List Slot) (k : ℕ) → k < length ss → (slot_at ss k).aim ≡ get_or (aims ss) k no_aim
+pub own_there : (ss : List Slot) (k : ℕ) → k < length ss → (slot_at ss k).target ≡ get_or (targets ss) k no_target
 own_there [] k l = absurd (omega (arith, l))
 own_there (s ∷ ss) zero l = refl
 own_there (s ∷ ss) (suc k) l = own_there ss k (omega (arith, l))
 
-pub of_aims : (P : Aim → Type 0) (ss : List Slot) → AllByRecursion (λ s. P s.aim) ss → AllByRecursion P (aims ss)
-of_aims P [] h = tt
-of_aims P (s ∷ ss) h = (h.0, of_aims P ss h.1)
+pub of_targets : (P : Target → Type 0) (ss : List Slot) → AllByRecursion (λ s. P s.target) ss → AllByRecursion P (targets ss)
+of_targets P [] h = tt
+of_targets P (s ∷ ss) h = (h.0, of_targets P ss h.1)

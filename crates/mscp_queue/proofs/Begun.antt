@@ -10,7 +10,7 @@ use Rattle.mscp_queue.specs.declared.drive.Drive.{Drive}
 use Rattle.mscp_queue.specs.declared.view.Choice.{Choice}
 use Rattle.mscp_queue.specs.Kept.{IsStillServable}
 use Rattle.mscp_queue.specs.declared.name.Name.{Name}
-use Rattle.mscp_queue.specs.Records.{Record, has_name, is_unstarted, name_of, no_record, record_at, toll, without}
+use Rattle.mscp_queue.specs.Records.{Record, has_name, is_unstarted, name_of, no_record, record_at, charge, without}
 use Rattle.mscp_queue.specs.Names.{same_name}
 use Rattle.mscp_queue.specs.Serving.{IsServable, begun_without}
 use Rattle.mscp_queue.specs.Views.{IsPick, fences, is_affordable, is_free, is_open, is_open_at, open_places}
@@ -98,7 +98,7 @@ open_left : (budget : ℕ) (r : Record) (keep : Record → Bool) (front : List R
 open_left budget r keep front h =
     let b = and_parts (is_free r front) (is_affordable budget r front) h in
     ap (λ q. q && is_affordable budget r (filter keep front)) (all_left (λ z. not (fences r z)) keep front b.0)
-    ∙ all_left (λ z. nat_le (z.passed + toll r) budget) keep front b.1
+    ∙ all_left (λ z. nat_le (z.passed + charge r) budget) keep front b.1
 
 pub still_aborted : (budget : ℕ) (gone : Name) (rs : List Record) (name : Name) → same_name name gone ≡ false
     → IsStillServable budget rs name → IsStillServable budget (without gone rs) name

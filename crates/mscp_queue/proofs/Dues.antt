@@ -3,11 +3,12 @@ use Rattle.std.proofs.Common.{◌≡◌, ◌<◌, ◌≤◌, ◌+◌, ◌-◌, �
 use Rattle.std.specs.Prelude.{filter, nat_lt, sum_by}
 use Rattle.std.specs.List.{AllByRecursion}
 use Rattle.std.proofs.lemmas.Bool.{lt-ltb}
+use Rattle.std.proofs.lemmas.List.{length-map}
 use Rattle.std.proofs.lemmas.List.Sums.{sum_by-cons}
 use Rattle.mscp_queue.specs.declared.slots.Slot.{Slot}
 use Rattle.mscp_queue.specs.Dues.{AreDue, figure_in}
 use Rattle.mscp_queue.specs.Figures.{figure_at}
-use Rattle.mscp_queue.specs.Records.{Record, advanced, is_in_service, left_if_serving, left_of, no_record, passed_by}
+use Rattle.mscp_queue.specs.Records.{Record, advanced, is_in_service, left_if_serving, left_of, no_record, passed_by, record_at}
 use Rattle.mscp_queue.specs.Slots.{items, lowered_by, lowered_unless_serving, slot_at, with_item}
 use Rattle.mscp_queue.proofs.Held.{AreIdle}
 
@@ -79,11 +80,19 @@ item_there [] k l = absurd (omega (arith, l))
 item_there (s ∷ ss) zero l = refl
 item_there (s ∷ ss) (suc k) l = item_there ss k (omega (arith, l))
 
+-- a place among waiting commands that stand in slots is a slot's, and the command stands there
+pub place_in : (ss : List Slot) {rs : List Record} {place : ℕ} → items ss ≡ rs → place < length rs → place < length ss
+place_in ss w l = omega (arith, l, ap length w, length-map ss (λ (s : Slot). s.item))
+
+pub item_at : (ss : List Slot) {rs : List Record} {place : ℕ} → items ss ≡ rs → place < length rs
+    → (slot_at ss place).item ≡ record_at rs place
+item_at ss {place = place} w l = item_there ss place (place_in ss w l) ∙ ap (λ rs. record_at rs place) w
+
 pub lowered_none : (n : ℕ) (ss : List Slot) → n ≡ 0 → ss ≡ map (lowered_by n) ss
 lowered_none n [] e = refl
 lowered_none n (s ∷ ss) e =
     let same : s.due ≡ s.due - n = omega (arith, e) in
-    (λ i. record { item = s.item; aim = s.aim; due = same i } ∷ lowered_none n ss e i)
+    (λ i. record { item = s.item; target = s.target; due = same i } ∷ lowered_none n ss e i)
 
 module _ (budget : ℕ) where
   fig_idle : (b a : ℕ) (r : Record) → is_in_service r ≡ false → figure_in budget b a r ≡ b + a + (budget - r.passed)

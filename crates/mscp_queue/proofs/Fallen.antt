@@ -6,13 +6,13 @@ use Rattle.std.specs.List.{AllByRecursion}
 use Rattle.std.proofs.lemmas.Bool.{eq-eqb, eqb-true, ne_eqb}
 use Rattle.std.proofs.lemmas.List.{drop-map, map-append, map-id, take-map, take_more}
 use Rattle.std.proofs.lemmas.List.Elements.{All-from_recursion, recursion_from_All}
-use Rattle.mscp_queue.specs.declared.aim.Aim.{Aim}
+use Rattle.mscp_queue.specs.declared.target.Target.{Target}
 use Rattle.mscp_queue.specs.declared.masks.Masks.{Masks}
 use Rattle.mscp_queue.specs.declared.slots.Slot.{Slot}
 use Rattle.mscp_queue.specs.Lanes.{lowered}
 use Rattle.mscp_queue.specs.Masks.{AreMasks, AreSlots, IsBehind, IsMaskOf, Kind, bit, has}
 use Rattle.mscp_queue.specs.Records.{Record, is_in_service, no_record}
-use Rattle.mscp_queue.specs.Aims.{no_aim}
+use Rattle.mscp_queue.specs.Targets.{no_target}
 use Rattle.mscp_queue.specs.Slots.{AreKept, held, kind_at, lowered_by, lowered_unless_serving, shown, slot_at}
 use Rattle.mscp_queue.proofs.Freed.{earlier_at}
 use Rattle.mscp_queue.proofs.Departed.{once_in}
@@ -20,19 +20,19 @@ use Rattle.mscp_queue.proofs.Masked.{one_bit, same_or}
 use Rattle.mscp_queue.proofs.Shown.{IsNumber, cut_order, slot_is}
 
 -- what a lowered due leaves of a slot
-module _ (rs : List Record) (own : List Aim) (ds ds' : List ℕ) (mask by : ℕ)
+module _ (rs : List Record) (own : List Target) (ds ds' : List ℕ) (mask by : ℕ)
     (fall : (k : ℕ) → k < 64 → get_or ds' k 0 ≡ lowered mask by k (get_or ds k 0)) where
   pub fell : (k : ℕ) → k < 64 → bit_at mask k ≡ 1 → held rs own ds' k ≡ lowered_by by (held rs own ds k)
   fell k l on = λ i. record {
     item = get_or rs k no_record;
-    aim = get_or own k no_aim;
+    target = get_or own k no_target;
     due = (fall k l ∙ ap (λ b. if b then get_or ds k 0 - by else get_or ds k 0) (eq-eqb (bit_at mask k) 1 on)) i;
   }
 
   pub stayed : (k : ℕ) → k < 64 → bit_at mask k ≡ 0 → held rs own ds' k ≡ held rs own ds k
   stayed k l off = λ i. record {
     item = get_or rs k no_record;
-    aim = get_or own k no_aim;
+    target = get_or own k no_target;
     due = (fall k l ∙ ap (λ b. if b then get_or ds k 0 - by else get_or ds k 0)
         (ne_eqb (bit_at mask k) 1 (λ e. omega (arith, e, off)))) i;
   }
@@ -63,7 +63,7 @@ waits_bit : (order : List ℕ) (waiting k : ℕ) → IsMaskOf waiting (λ k. has
     → has k order ≡ true
 waits_bit order waiting k is l on = one_bit (has k order) (sym (is k l) ∙ on)
 
-pub enough_all : {rs : List Record} {own : List Aim} {order : List ℕ} {m : Masks} (ds : List ℕ) (now : List Slot)
+pub enough_all : {rs : List Record} {own : List Target} {order : List ℕ} {m : Masks} (ds : List ℕ) (now : List Slot)
     (by : ℕ)
     → AreKept rs own order m → shown rs own ds order ≡ now → All (λ s. by ≤ s.due) now
     → (k : ℕ) → k < 64 → bit_at m.waiting k ≡ 1 → by ≤ get_or ds k 0
@@ -73,7 +73,7 @@ enough_all {rs} {own} {order} {m} ds now by kept view enough k l on =
     (recursion_from_All (λ (s : Slot). by ≤ s.due) now enough))
     (waits_bit order m.waiting k kept.masks.of_waiting l on)
 
-pub lowered_all : {rs : List Record} {own : List Aim} {order : List ℕ} {m : Masks} (ds ds' : List ℕ)
+pub lowered_all : {rs : List Record} {own : List Target} {order : List ℕ} {m : Masks} (ds ds' : List ℕ)
     (now : List Slot) (by : ℕ)
     → AreKept rs own order m → shown rs own ds order ≡ now
     → ((k : ℕ) → k < 64 → get_or ds' k 0 ≡ lowered m.waiting by k (get_or ds k 0))
@@ -204,7 +204,7 @@ module _ (kinds : ℕ → Kind) (front : List ℕ) (n : ℕ) (back : List ℕ) (
       some a b c s w e f = omega (arith, w, e, f)
 
 -- the dues behind a place, but for one in service
-module _ {rs : List Record} {own : List Aim} {order : List ℕ} {m : Masks} {place n : ℕ} (ds ds' : List ℕ)
+module _ {rs : List Record} {own : List Target} {order : List ℕ} {m : Masks} {place n : ℕ} (ds ds' : List ℕ)
     (now : List Slot) (by mask : ℕ)
     (kept : AreKept rs own order m) (view : shown rs own ds order ≡ now) (inside : place < length now)
     (h : IsNumber order place n) (is : IsBehind n m mask) where
@@ -295,21 +295,21 @@ module _ {rs : List Record} {own : List Aim} {order : List ℕ} {m : Masks} {pla
           ∙ (sym (take-map f (place + 1) order) ∙ ap (take (place + 1)) view))
 
 -- each behind a place is of the unit of the one there, where those that aren't earlier are
-pub of_unit_behind : {rs : List Record} {own : List Aim} {order : List ℕ} {m : Masks} {place n drive : ℕ}
+pub of_unit_behind : {rs : List Record} {own : List Target} {order : List ℕ} {m : Masks} {place n drive : ℕ}
     (ds : List ℕ) (now : List Slot)
     → AreKept rs own order m → shown rs own ds order ≡ now → place < length now → IsNumber order place n
-    → drive ≡ (get_or own n no_aim).drive
+    → drive ≡ (get_or own n no_target).drive
     → ((k : ℕ) → k < 64 → bit_at m.waiting k ≡ 1 → bit_at (get_or m.earlier n 0) k ≡ 0 → k ≢ n
     → bit_at (get_or m.units drive 0) k ≡ 1)
-    → All (λ s. s.aim.drive ≡ (slot_at now place).aim.drive) (drop (place + 1) now)
+    → All (λ s. s.target.drive ≡ (slot_at now place).target.drive) (drop (place + 1) now)
 of_unit_behind {rs} {own} {order} {m} {place} {n} {drive} ds now kept view inside h e units =
     let f = held rs own ds in
     let front = take place order in
     let back = drop (place + 1) order in
     let masks = subst (λ o. AreMasks (kind_at rs own) o m) (cut_order order place n h) kept.masks in
-    let d = (slot_at now place).aim.drive in
-    let P : Slot → Type 0 = λ s. s.aim.drive ≡ d in
-    let there : drive ≡ d = e ∙ ap (λ (s : Slot). s.aim.drive) (slot_is rs own ds order now place n view inside h.is) in
+    let d = (slot_at now place).target.drive in
+    let P : Slot → Type 0 = λ s. s.target.drive ≡ d in
+    let there : drive ≡ d = e ∙ ap (λ (s : Slot). s.target.drive) (slot_is rs own ds order now place n view inside h.is) in
     subst (All P) (sym (drop-map f (place + 1) order) ∙ ap (drop (place + 1)) view)
     (All-from_recursion P (map f back) (each back (slots_back front n back masks.apart) (λ k l in_back.
     let bits = later (kind_at rs own) front n back m masks k l in_back in
@@ -322,8 +322,8 @@ of_unit_behind {rs} {own} {order} {m} {place} {n} {drive} ds now kept view insid
     own_drive false same false e = absurd (omega (arith, e))
 
     each : (back : List ℕ) → AreSlots back
-        → ((k : ℕ) → k < 64 → has k back ≡ true → (held rs own ds k).aim.drive ≡ (slot_at now place).aim.drive)
-        → AllByRecursion (λ s. s.aim.drive ≡ (slot_at now place).aim.drive) (map (held rs own ds) back)
+        → ((k : ℕ) → k < 64 → has k back ≡ true → (held rs own ds k).target.drive ≡ (slot_at now place).target.drive)
+        → AllByRecursion (λ s. s.target.drive ≡ (slot_at now place).target.drive) (map (held rs own ds) back)
     each [] a e = tt
     each (s ∷ back) a e = (
       e s a.0 (ap (λ b. b || has s back) (eq-eqb s s refl)),

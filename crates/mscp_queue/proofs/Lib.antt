@@ -7,13 +7,12 @@ pub mod Sums
 pub mod Begun
 pub mod Held
 pub mod Turns
-pub mod Amid
-pub mod Aims
+pub mod Targets
 pub mod Passable
 pub mod Ordered
 pub mod Nexts
 pub mod Aborts
-pub mod Untolled
+pub mod Uncharged
 pub mod Whys
 pub mod Shaped
 pub mod Masked
@@ -24,7 +23,7 @@ pub mod Shown
 pub mod Fallen
 pub mod Counted
 pub mod Row
-pub mod Rolls
+pub mod CountedViews
 pub mod Recosted
 pub mod Dues
 pub mod BacklogSteps
@@ -36,5 +35,6 @@ pub mod LaneParts
 pub mod Drives
 pub mod Starting
 pub mod Ready
-pub mod Lineups
+pub mod CandidateLists
+pub mod Stepping
 pub mod Restored

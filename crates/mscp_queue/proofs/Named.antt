@@ -8,14 +8,13 @@ use Rattle.mscp_events.specs.declared.connection.Connection.TheVariants.{First, 
 use Rattle.mscp_queue.specs.declared.name.Name.{Name}
 use Rattle.mscp_queue.specs.Names.{name_on, same_connection, same_name}
 use Rattle.mscp_queue.specs.declared.view.Choice.{Choice}
-use Rattle.mscp_queue.specs.Lineups.{has_choice_name}
-use Rattle.mscp_queue.specs.Rolls.{has_byte, low_byte}
+use Rattle.mscp_queue.specs.Candidates.{has_choice_name}
+use Rattle.mscp_queue.specs.CountedViews.{has_byte, low_byte}
 
 pub one_side : (a b : Connection) → same_connection a b ≡ true → a ≡ b
 one_side First First h = refl
 one_side Second Second h = refl
-one_side First Second h = absurd (false≢true h)
-one_side Second First h = absurd (false≢true h)
+one_side _ _ h = absurd (false≢true h)
 
 pub same_is : (x y : Name) → same_name x y ≡ true → x ≡ y
 same_is x y h =

@@ -21,7 +21,7 @@ own_left ends r = cond ends [] (advanced r ∷ [])
 
 -- and of all
 abbrev all_left : ℕ → Bool → ℕ → List Record → List Record
-all_left toll ends place rs = map (passed_by toll) (take place rs)
+all_left charge ends place rs = map (passed_by charge) (take place rs)
     ++ (own_left ends (record_at rs place) ++ drop (place + 1) rs)
 
 passed_below : (n top : ℕ) (A : List Record) → AllByRecursion (λ z. z.passed ≤ top) A
@@ -48,8 +48,8 @@ order_left n ends (q ∷ qs) r B h =
       order_left n ends qs r B h.1,
     )
 
-pub passed_left : (rs new : List Record) (place toll : ℕ) (ends : Bool) → place < length rs
-    → new ≡ all_left toll ends place rs → ArePassedInOrder rs → ArePassedInOrder new
-passed_left rs new place toll ends l is h =
-    subst ArePassedInOrder (sym is) (order_left toll ends (take place rs) (record_at rs place) (drop (place + 1) rs)
+pub passed_left : (rs new : List Record) (place charge : ℕ) (ends : Bool) → place < length rs
+    → new ≡ all_left charge ends place rs → ArePassedInOrder rs → ArePassedInOrder new
+passed_left rs new place charge ends l is h =
+    subst ArePassedInOrder (sym is) (order_left charge ends (take place rs) (record_at rs place) (drop (place + 1) rs)
     (subst ArePassedInOrder (cut_at no_record rs place l) h))

@@ -19,14 +19,7 @@ use Rattle.mscp_queue.proofs.Lists.{every_of, every_weaker, filter_all, range_be
 
 not_sequential : (o : Order) → is_move o ≡ true → is_sequential o ≡ false
 not_sequential (orders.Move kind count block) m = refl
-not_sequential (orders.Abort other) m = absurd (false≢true m)
-not_sequential (orders.Status other) m = absurd (false≢true m)
-not_sequential orders.UnitStatus m = absurd (false≢true m)
-not_sequential (orders.SetController version) m = absurd (false≢true m)
-not_sequential orders.Available m = absurd (false≢true m)
-not_sequential orders.Online m = absurd (false≢true m)
-not_sequential orders.SetUnit m = absurd (false≢true m)
-not_sequential (orders.Invalid opcode status) m = absurd (false≢true m)
+not_sequential _ m = absurd (false≢true m)
 
 abbrev ArePassable : ℕ → ℕ → List Record → Type 0
 ArePassable budget longest rs = AllByRecursion (λ z. is_passable budget longest z ≡ true) rs

@@ -1,5 +1,5 @@
--- What a queue knows stays true: where each command aims, in which order they were passed, and which places are known.
-use Rattle.std.proofs.Common.{◌≡◌, ℕ, suc, ◌+◌, ◌<◌, ◌≤◌, Bool, true, false, cond, List, [], ◌∷◌, ◌++◌, map, take, drop, get_or, length, refl, ap, sym, ◌∙◌, subst, arith}
+-- What a queue knows stays true: the target of each command, in which order they were passed, and which places are known.
+use Rattle.std.proofs.Common.{◌≡◌, ℕ, suc, ◌+◌, ◌<◌, ◌≤◌, Bool, true, false, cond, not, List, [], ◌∷◌, ◌++◌, map, take, drop, get_or, length, refl, ap, sym, ◌∙◌, subst, arith}
 use Rattle.std.specs.Prelude.{All, filter, is_some, unwrap_or, Option, Some, None}
 use Rattle.std.specs.List.{AllByRecursion, list_any}
 use Rattle.std.proofs.lemmas.Bool.{false≢true, lt-ltb, ltb-true}
@@ -7,28 +7,28 @@ use Rattle.std.proofs.lemmas.List.{get_or-map, get_or_append_left, get_or_at, le
 use Rattle.std.proofs.lemmas.List.Elements.{All-from_recursion}
 use Rattle.mscp_packet.specs.declared.command.Command.{Command}
 use Rattle.mscp_packet.specs.declared.end.End.{End}
-use Rattle.mscp_queue.specs.declared.aim.Aim.{Aim}
+use Rattle.mscp_queue.specs.declared.target.Target.{Target}
 use Rattle.mscp_drive.specs.Shape.{Shape}
 use Rattle.mscp_events.specs.declared.block.Block.{Block}
 use Rattle.mscp_queue.specs.declared.drive.Drive.{Drive}
 use Rattle.mscp_events.specs.declared.connection.Connection.{Connection}
 use Rattle.mscp_queue.specs.declared.name.Name.{Name}
-use Rattle.mscp_queue.specs.Aims.{aim_of, aims_of, no_aim}
+use Rattle.mscp_queue.specs.Targets.{target_of, targets_of, no_target}
 use Rattle.mscp_queue.specs.Waiters.{Waiters}
-use Rattle.mscp_queue.specs.Kept.{ArePassedInOrder, IsHeld, IsReady, IsWaitable, begun_name, place_served, place_without, units_of}
+use Rattle.mscp_queue.specs.Kept.{ArePassedInOrder, CanBeShown, IsHeld, IsReady, IsWaitable, begun_name, place_served, place_without, units_of}
 use Rattle.mscp_queue.specs.Names.{name_on}
-use Rattle.mscp_queue.specs.Records.{Record, advanced, drive_at, fresh_record, has_name, is_in_service, is_unstarted, name_of, no_record, passed_by, record_at, remains, step_toll}
+use Rattle.mscp_queue.specs.Records.{Record, advanced, drive_at, fresh_record, has_name, is_in_service, is_unstarted, name_of, no_record, passed_by, record_at, remains, step_charge}
 use Rattle.mscp_queue.specs.Serving.{IsServable, end_given, waiting_after}
-use Rattle.mscp_queue.proofs.Aims.{aims_cut, aims_ended, aims_kept, aims_pushed, place_same}
+use Rattle.mscp_queue.proofs.Targets.{targets_cut, targets_ended, targets_kept, targets_pushed, place_same}
 use Rattle.mscp_queue.proofs.Drives.{drive_place, known_at}
 use Rattle.mscp_queue.proofs.Held.{held_pushed, others_idle}
 use Rattle.mscp_queue.proofs.Lists.{every_from, pairs_append, pairs_cut}
 use Rattle.mscp_queue.proofs.Nexts.{held_left, served_without, waits_without}
 use Rattle.mscp_queue.proofs.Ordered.{passed_left}
 use Rattle.mscp_queue.proofs.Placed.{cut_at}
-use Rattle.mscp_queue.proofs.Turns.{StepTaken, held_step, next_turn}
+use Rattle.mscp_queue.proofs.Turns.{StepMade, held_step, next_turn, units_step}
 
--- ---- where a command aims
+-- ---- the target of a command
 
 -- the drive at a place is that of the unit of the command at another
 pub record IsDriveOf (ds : List Drive) (rs : List Record) (place at : ℕ) : Type 0 where
@@ -37,18 +37,38 @@ pub record IsDriveOf (ds : List Drive) (rs : List Record) (place at : ℕ) : Typ
   pub placed : at ≡ drive_place ds (record_at rs place).command.unit
 
 pub drive_found : {room budget longest : ℕ} {rs : List Record} {ds : List Drive} {begun : Option Name} {serving : Bool}
-    (own : List Aim) (place at : ℕ) → IsHeld room budget longest rs ds begun serving → own ≡ aims_of (units_of ds) rs
-    → place < length rs → at ≡ (get_or own place no_aim).drive → IsDriveOf ds rs place at
-drive_found {room} {budget} {longest} {rs} {ds} own place at h aimed l e =
-    let of : Record → Aim = λ r. aim_of (units_of ds) r.command in
+    (own : List Target) (place at : ℕ) → IsHeld room budget longest rs ds begun serving → own ≡ targets_of (units_of ds) rs
+    → place < length rs → at ≡ (get_or own place no_target).drive → IsDriveOf ds rs place at
+drive_found {room} {budget} {longest} {rs} {ds} own place at h targeted l e =
+    let of : Record → Target = λ r. target_of (units_of ds) r.command in
     let n = (record_at rs place).command.unit in
     let known = (h.each place no_record l).waitable.known in
-    let is : at ≡ drive_place ds n = e ∙ (ap (λ xs. (get_or xs place no_aim).drive) aimed
-    ∙ (ap (λ (a : Aim). a.drive) (get_or-map of rs place no_record no_aim l) ∙ sym (place_same ds n))) in
+    let is : at ≡ drive_place ds n = e ∙ (ap (λ xs. (get_or xs place no_target).drive) targeted
+    ∙ (ap (λ (a : Target). a.drive) (get_or-map of rs place no_record no_target l) ∙ sym (place_same ds n))) in
     record {
       inside = subst (λ k. k < length ds) (sym is) (known_at ds n (drive_at ds rs place) known).inside;
       is = λ other. ap (λ k. get_or ds k other) is ∙ (known_at ds n other known).drive;
       placed = is;
+    }
+
+-- what waits can be shown
+pub can_be_shown : {room longest : ℕ} {w : Waiters} {ds : List Drive} {begun serving : Option ℕ}
+    → IsReady room longest w ds begun serving → CanBeShown ds w.waiting w.targets
+can_be_shown {ds = ds} q =
+    let own = q.held in
+    let few = own.units.few in
+    let some = own.units.some in
+    let same = length-map ds (λ (d : Drive). d.unit) in
+    record {
+      few = omega (arith, own.fits, own.few);
+      drives = omega (arith, few, same);
+      some_drive = omega (arith, some, same);
+      heads = own.heads;
+      waitable = λ i other l. (own.each i other l).waitable.order;
+      weighs = λ i other l. let k = own.each i other l in
+          (omega (arith, k.unfinished), omega (arith, k.weight, k.waitable.short, own.short));
+      inside = λ i other l. let k = own.each i other l in (k.waitable.known, k.waitable.inside);
+      targeted = q.targeted;
     }
 
 -- ---- a command comes
@@ -60,21 +80,21 @@ begun_more rs x (Some place) h = ap (λ (r : Record). Some (name_of r))
     (sym (get_or_append_left rs (x ∷ []) no_record place (h place refl)))
 
 pub ready_pushed : {room longest : ℕ} {w new : Waiters} {ds : List Drive} {begun serving : Option ℕ}
-    (by : Connection) (c : Command) (aim : Aim)
+    (by : Connection) (c : Command) (target : Target)
     → IsReady room longest w ds begun serving → length w.waiting < room → IsWaitable longest (units_of ds) c
-    → list_any (has_name (name_on by c.reference)) w.waiting ≡ false → aim ≡ aim_of (units_of ds) c
-    → new ≡ record { budget = w.budget; waiting = w.waiting ++ fresh_record by c ∷ []; aims = w.aims ++ aim ∷ [] }
+    → list_any (has_name (name_on by c.reference)) w.waiting ≡ false → target ≡ target_of (units_of ds) c
+    → new ≡ record { budget = w.budget; waiting = w.waiting ++ fresh_record by c ∷ []; targets = w.targets ++ target ∷ [] }
     → IsReady room longest new ds begun serving
-ready_pushed {room} {longest} {w} {new} {ds} {begun} {serving} by c aim q l waitable apart aims e =
+ready_pushed {room} {longest} {w} {new} {ds} {begun} {serving} by c target q l waitable apart targets e =
     let r = fresh_record by c in
     let rs = w.waiting ++ r ∷ [] in
     let held = held_pushed room w.budget longest w.waiting rs ds (begun_name w.waiting begun)
     (is_some serving) by c q.held l waitable apart refl in
-    let all : IsReady room longest (record { budget = w.budget; waiting = rs; aims = w.aims ++ aim ∷ [] }) ds begun
+    let all : IsReady room longest (record { budget = w.budget; waiting = rs; targets = w.targets ++ target ∷ [] }) ds begun
     serving = record {
       held = subst (λ (o : Option Name). IsHeld room w.budget longest rs ds o (is_some serving))
           (begun_more w.waiting r begun q.waits) held;
-      aimed = aims_pushed (units_of ds) w.waiting rs w.aims (w.aims ++ aim ∷ []) by c aim q.aimed aims refl refl;
+      targeted = targets_pushed (units_of ds) w.waiting rs w.targets (w.targets ++ target ∷ []) by c target q.targeted targets refl refl;
       order = pairs_append _ w.waiting r q.order (every_from (λ z. r.passed ≤ z.passed) (λ z. omega arith) w.waiting);
       served = λ place s. let was = q.served place s in (
         omega (arith, was.0, length-append w.waiting (r ∷ [])),
@@ -110,7 +130,7 @@ pub ready_left : {room longest : ℕ} {w new : Waiters} {ds : List Drive} {begun
     (gone : ℕ)
     → IsReady room longest w ds begun serving → gone < length w.waiting
     → new.budget ≡ w.budget → new.waiting ≡ take gone w.waiting ++ drop (gone + 1) w.waiting
-    → new.aims ≡ take gone w.aims ++ drop (gone + 1) w.aims
+    → new.targets ≡ take gone w.targets ++ drop (gone + 1) w.targets
     → begun' ≡ place_without begun gone → serving' ≡ place_without serving gone
     → IsReady room longest new ds begun' serving'
 ready_left {room} {longest} {w} {new} {ds} {begun} {serving} {begun'} {serving'} gone q l b e a f g =
@@ -119,8 +139,8 @@ ready_left {room} {longest} {w} {new} {ds} {begun} {serving} {begun'} {serving'}
     let all : IsReady room longest new ds (place_without begun gone) (place_without serving gone) = record {
       held = subst (λ k. IsHeld room k longest new.waiting ds (begun_name new.waiting (place_without begun gone))
           (is_some (place_without serving gone))) (sym b) held;
-      aimed = a ∙ ((λ i. take gone (q.aimed i) ++ drop (gone + 1) (q.aimed i))
-          ∙ (aims_cut (units_of ds) rs gone ∙ ap (aims_of (units_of ds)) (sym e)));
+      targeted = a ∙ ((λ i. take gone (q.targeted i) ++ drop (gone + 1) (q.targeted i))
+          ∙ (targets_cut (units_of ds) rs gone ∙ ap (targets_of (units_of ds)) (sym e)));
       order = subst ArePassedInOrder (sym e) (order_left rs gone l q.order);
       served = served_without rs new.waiting serving gone l e q.served;
       waits = waits_without rs new.waiting begun gone l e q.waits;
@@ -159,26 +179,26 @@ can_serve {room} {budget} {longest} {place} {rs} {ds} {begun} {serving} k h n =
           (ap (λ b. cond b r.weight 0) e) turn.affordable);
     }
 
-aims_served : (us : List Shape) (rs new : List Record) (place toll : ℕ) (ends : Bool) → place < length rs
-    → new ≡ map (passed_by toll) (take place rs)
+targets_served : (us : List Shape) (rs new : List Record) (place charge : ℕ) (ends : Bool) → place < length rs
+    → new ≡ map (passed_by charge) (take place rs)
     ++ (cond ends [] (advanced (record_at rs place) ∷ []) ++ drop (place + 1) rs)
-    → cond ends (take place (aims_of us rs) ++ drop (place + 1) (aims_of us rs)) (aims_of us rs) ≡ aims_of us new
-aims_served us rs new place toll true l e =
+    → cond ends (take place (targets_of us rs) ++ drop (place + 1) (targets_of us rs)) (targets_of us rs) ≡ targets_of us new
+targets_served us rs new place charge true l e =
     let next : place + 1 ≡ suc place = omega arith in
-    ap (λ k. take place (aims_of us rs) ++ drop k (aims_of us rs)) next ∙ aims_ended us rs new place toll e
-aims_served us rs new place toll false l e = aims_kept us rs new place toll l e
+    ap (λ k. take place (targets_of us rs) ++ drop k (targets_of us rs)) next ∙ targets_ended us rs new place charge e
+targets_served us rs new place charge false l e = targets_kept us rs new place charge l e
 
-serving_served : (rs new : List Record) (place toll : ℕ) (ends : Bool) → place < length rs
-    → new ≡ map (passed_by toll) (take place rs)
+serving_served : (rs new : List Record) (place charge : ℕ) (ends : Bool) → place < length rs
+    → new ≡ map (passed_by charge) (take place rs)
     ++ (cond ends [] (advanced (record_at rs place) ∷ []) ++ drop (place + 1) rs)
     → (k : ℕ) → place_served ends place ≡ Some k → (k < length new) × (is_in_service (record_at new k) ≡ true)
-serving_served rs new place toll true l e k s = absurd (false≢true (ap is_some s))
-serving_served rs new place toll false l e k s =
-    let A = map (passed_by toll) (take place rs) in
+serving_served rs new place charge true l e k s = absurd (false≢true (ap is_some s))
+serving_served rs new place charge false l e k s =
+    let A = map (passed_by charge) (take place rs) in
     let r = advanced (record_at rs place) in
     let B = drop (place + 1) rs in
     let is : place ≡ k = ap (λ o. unwrap_or o k) s in
-    let long : length A ≡ k = length-map (take place rs) (passed_by toll)
+    let long : length A ≡ k = length-map (take place rs) (passed_by charge)
     ∙ length-take-le place rs (omega (arith, l)) ∙ is in (
       omega (arith, ap length e, length-append A (r ∷ B), long),
       ap (λ zs. is_in_service (record_at zs k)) e
@@ -187,25 +207,28 @@ serving_served rs new place toll false l e k s =
     )
 
 pub ready_step : {room longest place : ℕ} {w new : Waiters} {ds ds' : List Drive} {begun serving serving' : Option ℕ}
-    {k : Block}
+    {k : Block} {ends : Bool}
     → IsReady room longest w ds begun serving → IsServable w.budget w.waiting place
-    → (t : StepTaken k place w.waiting new.waiting ds ds' (is_some serving')) → new.budget ≡ w.budget
-    → new.aims ≡ cond t.ends (take place w.aims ++ drop (place + 1) w.aims) w.aims
-    → serving' ≡ place_served t.ends place → units_of ds' ≡ units_of ds → IsReady room longest new ds' None serving'
-ready_step {room} {longest} {place} {w} {new} {ds} {ds'} {begun} {serving} {serving'} {k} q n t b a s u =
+    → StepMade k place w.waiting new.waiting ds ds' ends → new.budget ≡ w.budget
+    → new.targets ≡ cond ends (take place w.targets ++ drop (place + 1) w.targets) w.targets
+    → serving' ≡ place_served ends place → IsReady room longest new ds' None serving'
+ready_step {room} {longest} {place} {w} {new} {ds} {ds'} {begun} {serving} {serving'} {k} {ends} q n m b a s =
     let rs = w.waiting in
-    record {
-      held = subst (λ k. IsHeld room k longest new.waiting ds' None (is_some serving')) (sym b)
-          (held_step {k = k} q.held n t);
-      aimed = a ∙ ((λ i. cond t.ends (take place (q.aimed i) ++ drop (place + 1) (q.aimed i)) (q.aimed i))
-          ∙ (aims_served (units_of ds) rs new.waiting place t.toll t.ends n.inside t.records
-          ∙ ap (λ us. aims_of us new.waiting) (sym u)));
-      order = passed_left rs new.waiting place t.toll t.ends n.inside t.records q.order;
-      served = subst (λ (o : Option ℕ). (k : ℕ) → o ≡ Some k → (k < length new.waiting)
-          × (is_in_service (record_at new.waiting k) ≡ true))
-          (sym s) (serving_served rs new.waiting place t.toll t.ends n.inside t.records);
+    let charge = step_charge (record_at rs place) in
+    subst (λ (o : Option ℕ). IsReady room longest new ds' None o) (sym s) (record {
+      held = subst (λ b. IsHeld room b longest new.waiting ds' None (is_some (place_served ends place))) (sym b)
+          (subst (λ s. IsHeld room w.budget longest new.waiting ds' None s) (served_if ends) (held_step m q.held n));
+      targeted = a ∙ ((λ i. cond ends (take place (q.targeted i) ++ drop (place + 1) (q.targeted i)) (q.targeted i))
+          ∙ (targets_served (units_of ds) rs new.waiting place charge ends n.inside m.records
+          ∙ ap (λ us. targets_of us new.waiting) (sym (units_step m q.held.units))));
+      order = passed_left rs new.waiting place charge ends n.inside m.records q.order;
+      served = serving_served rs new.waiting place charge ends n.inside m.records;
       waits = λ k e. absurd (false≢true (ap is_some e));
-    }
+    })
+  where
+    served_if : (ends : Bool) → not ends ≡ is_some (place_served ends place)
+    served_if true = refl
+    served_if false = refl
 
 remains_if : (r : Record) (o : Option End) → cond (is_some o) [] (advanced r ∷ []) ≡ remains r o
 remains_if r None = refl
@@ -214,10 +237,10 @@ remains_if r (Some end) = refl
 -- what a step leaves of those that wait
 pub left_is : (k : Block) (place : ℕ) (rs : List Record) (d : Drive) (ends : Bool)
     → ends ≡ is_some (end_given k d (record_at rs place))
-    → map (passed_by (step_toll (record_at rs place))) (take place rs)
+    → map (passed_by (step_charge (record_at rs place))) (take place rs)
     ++ (cond ends [] (advanced (record_at rs place) ∷ []) ++ drop (place + 1) rs)
     ≡ waiting_after k d rs place
 left_is k place rs d ends e =
     let r = record_at rs place in
-    ap (λ zs. map (passed_by (step_toll r)) (take place rs) ++ (zs ++ drop (place + 1) rs))
+    ap (λ zs. map (passed_by (step_charge r)) (take place rs) ++ (zs ++ drop (place + 1) rs))
     (ap (λ b. cond b [] (advanced r ∷ [])) e ∙ remains_if r (end_given k d r))

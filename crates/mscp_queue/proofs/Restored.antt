@@ -14,10 +14,10 @@ use Rattle.mscp_queue.proofs.Named.{same_is}
 use Rattle.mscp_queue.proofs.Placed.{position_any}
 use Rattle.mscp_queue.specs.declared.slots.Slot.{Slot}
 use Rattle.mscp_drive.specs.Shape.{Shape}
-use Rattle.mscp_queue.specs.Aims.{aim_of, aims_of}
+use Rattle.mscp_queue.specs.Targets.{target_of, targets_of}
 use Rattle.mscp_queue.specs.Dues.{AreDue, AreTimed, figure_in}
 use Rattle.mscp_queue.specs.Records.{Record, has_name, is_in_service, left_if_serving, left_of, name_of, no_record, record_at}
-use Rattle.mscp_queue.specs.Slots.{aims, items}
+use Rattle.mscp_queue.specs.Slots.{targets, items}
 
 -- ---- lists
 
@@ -47,7 +47,7 @@ some_same {x = x} e = ap (λ o. unwrap_or o x) e
 -- the slot of a record, where so many steps are left before it, and of one in service behind it
 abbrev pub slot_of : ℕ → List Shape → ℕ → ℕ → Record → Slot
 slot_of budget us before behind r =
-    record { item = r; aim = aim_of us r.command; due = figure_in budget before behind r }
+    record { item = r; target = target_of us r.command; due = figure_in budget before behind r }
 
 -- the slots of records
 abbrev pub slots_of : ℕ → List Shape → ℕ → List Record → List Slot
@@ -60,9 +60,9 @@ module _ (budget : ℕ) (us : List Shape) where
   items_of before [] = refl
   items_of before (r ∷ rs) = ap (λ xs. r ∷ xs) (items_of (before + left_of r) rs)
 
-  pub aims_are : (before : ℕ) (rs : List Record) → aims (slots_of budget us before rs) ≡ aims_of us rs
-  aims_are before [] = refl
-  aims_are before (r ∷ rs) = ap (λ xs. aim_of us r.command ∷ xs) (aims_are (before + left_of r) rs)
+  pub targets_are : (before : ℕ) (rs : List Record) → targets (slots_of budget us before rs) ≡ targets_of us rs
+  targets_are before [] = refl
+  targets_are before (r ∷ rs) = ap (λ xs. target_of us r.command ∷ xs) (targets_are (before + left_of r) rs)
 
   pub are_due : (before : ℕ) (rs : List Record) → AreDue budget 0 before (slots_of budget us before rs)
   are_due before [] = tt
@@ -100,12 +100,12 @@ module _ (budget : ℕ) (us : List Shape) where
   }
 
   pub shown : (ss : List Slot) (rs : List Record) → ss ≡ slots_of budget us 0 rs
-      → ◌≡◌ {A = Waiters} (record { budget = budget; waiting = items ss; aims = aims ss })
-      (record { budget = budget; waiting = rs; aims = aims_of us rs })
+      → ◌≡◌ {A = Waiters} (record { budget = budget; waiting = items ss; targets = targets ss })
+      (record { budget = budget; waiting = rs; targets = targets_of us rs })
   shown ss rs e = λ i. record {
     budget = budget;
     waiting = (ap items e ∙ items_of 0 rs) i;
-    aims = (ap aims e ∙ aims_are 0 rs) i;
+    targets = (ap targets e ∙ targets_are 0 rs) i;
   }
 
 -- ---- what a queue knows
@@ -142,12 +142,12 @@ idle_where rs e = All-from_get_or (λ (r : Record). r.done ≡ 0) rs no_record (
 pub ready_restored : {room budget longest : ℕ} {w : Waiters} {rs : List Record} {ds : List Drive}
     {begun : Option Name} {place serving : Option ℕ}
     → IsHeld room budget longest rs ds begun true → ArePassedInOrder rs
-    → w ≡ record { budget = budget; waiting = rs; aims = aims_of (units_of ds) rs }
+    → w ≡ record { budget = budget; waiting = rs; targets = targets_of (units_of ds) rs }
     → (begun_name rs place ≡ begun) × ((k : ℕ) → place ≡ Some k → k < length rs)
     → serving ≡ position is_in_service rs
     → IsReady room longest w ds place serving
 ready_restored {room} {budget} {longest} {w} {rs} {ds} {begun} {place} {serving} h o e b s =
-    let all : IsReady room longest (record { budget = budget; waiting = rs; aims = aims_of (units_of ds) rs }) ds
+    let all : IsReady room longest (record { budget = budget; waiting = rs; targets = targets_of (units_of ds) rs }) ds
     place serving = record {
       held = record {
         some_room = h.some_room;
@@ -164,7 +164,7 @@ ready_restored {room} {budget} {longest} {w} {rs} {ds} {begun} {place} {serving}
         heads = h.heads;
         still = λ name is. h.still name (sym b.0 ∙ is);
       };
-      aimed = refl;
+      targeted = refl;
       order = o;
       served = λ k is. let found = position-Some is_in_service rs k no_record (sym s ∙ is) in (found.0, found.1);
       waits = b.1;

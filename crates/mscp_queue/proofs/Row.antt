@@ -8,7 +8,7 @@ use Rattle.std.proofs.lemmas.Nat.Bits.{bit_at-zero, bit_at_ones, bit_at_ones_abo
 use Rattle.std.proofs.lemmas.List.{get_or-append_right, get_or-drop, get_or-map, get_or-set_other, get_or-set_same, get_or-take, get_or_append_left, length-append, length-drop, length-map, length-set, length-take-le, get_or_default, map-append}
 use Rattle.mscp_queue.specs.declared.view.Choice.{Choice}
 use Rattle.mscp_queue.specs.Lanes.{IsLeast}
-use Rattle.mscp_queue.specs.Lineups.{costing, no_choice}
+use Rattle.mscp_queue.specs.Candidates.{costing, no_choice}
 use Rattle.mscp_queue.specs.Pickers.{IsRow, IsSweep, costs}
 
 cost_of : Choice → ℕ

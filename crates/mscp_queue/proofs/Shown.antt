@@ -5,27 +5,27 @@ use Rattle.std.specs.List.{list_all}
 use Rattle.std.specs.Int.{bit_at}
 use Rattle.std.proofs.lemmas.Bool.{eq-eqb, eqb-false, le-ltb, lt-ltb, ne_eqb}
 use Rattle.std.proofs.lemmas.List.{drop-map, get_or_default, get_or-map, get_or-set_same, get_or-set_other, length-map, length-set, map-append, take-map}
-use Rattle.mscp_queue.specs.declared.aim.Aim.{Aim}
+use Rattle.mscp_queue.specs.declared.target.Target.{Target}
 use Rattle.mscp_queue.specs.declared.slots.Slot.{Slot}
 use Rattle.mscp_queue.specs.declared.masks.Masks.{Masks}
 use Rattle.mscp_queue.specs.Masks.{AreMasks, AreSlots, HasCome, HasLeft, IsLowestFree, IsSet, Kind, bit, fences, has, keeps_back}
 use Rattle.mscp_queue.specs.Orders.{is_sequential}
 use Rattle.mscp_queue.specs.Records.{Record, advanced, is_in_service, is_unstarted, no_record, passed_by}
-use Rattle.mscp_queue.specs.Aims.{no_aim}
+use Rattle.mscp_queue.specs.Targets.{no_target}
 use Rattle.mscp_queue.specs.Slots.{AreKept, held, is_unfenced, kind_at, kind_of, no_slot, shown, slot_at, with_due, with_item}
 use Rattle.mscp_queue.proofs.Freed.{free_tells}
 use Rattle.mscp_queue.proofs.Departed.{masks_left}
 use Rattle.mscp_queue.proofs.Masked.{has_other, masks_pushed, masks_same, masks_served, not_behind, not_here, off_bit, same_or, slot_has, slot_low}
 use Rattle.mscp_queue.proofs.Placed.{cut_at}
 
-module _ (rs : List Record) (own : List Aim) (ds : List ℕ) (n : ℕ) (r : Record) (a : Aim) (d : ℕ) where
+module _ (rs : List Record) (own : List Target) (ds : List ℕ) (n : ℕ) (r : Record) (a : Target) (d : ℕ) where
   abbrev held_then : ℕ → Slot
   held_then = held (set rs n r) (set own n a) (set ds n d)
 
   pub held_other : (k : ℕ) → k ≢ n → held_then k ≡ held rs own ds k
   held_other k e = λ i. record {
     item = get_or-set_other rs n k r no_record e i;
-    aim = get_or-set_other own n k a no_aim e i;
+    target = get_or-set_other own n k a no_target e i;
     due = get_or-set_other ds n k d 0 e i;
   }
 
@@ -34,10 +34,10 @@ module _ (rs : List Record) (own : List Aim) (ds : List ℕ) (n : ℕ) (r : Reco
   shown_other (s ∷ order) e =
       (λ i. held_other s (not_here n s order e) i ∷ shown_other order (not_behind n s order e) i)
 
-  pub held_same : n < length rs → n < length own → n < length ds → held_then n ≡ record { item = r; aim = a; due = d }
+  pub held_same : n < length rs → n < length own → n < length ds → held_then n ≡ record { item = r; target = a; due = d }
   held_same l m k = λ i. record {
     item = get_or-set_same rs n r no_record l i;
-    aim = get_or-set_same own n a no_aim m i;
+    target = get_or-set_same own n a no_target m i;
     due = get_or-set_same ds n d 0 k i;
   }
 
@@ -51,19 +51,19 @@ pub record IsNumber (order : List ℕ) (place n : ℕ) : Type 0 where
   pub is : n ≡ get_or order place 0
 
 -- as many are shown as there are
-pub long_shown : (rs : List Record) (own : List Aim) (ds order : List ℕ) (now : List Slot) → shown rs own ds order ≡ now
+pub long_shown : (rs : List Record) (own : List Target) (ds order : List ℕ) (now : List Slot) → shown rs own ds order ≡ now
     → length order ≡ length now
 long_shown rs own ds order now view = sym (length-map order (held rs own ds)) ∙ ap length view
 
 -- what a slot holds is what is shown at its place
-pub slot_is : (rs : List Record) (own : List Aim) (ds order : List ℕ) (now : List Slot) (place n : ℕ)
+pub slot_is : (rs : List Record) (own : List Target) (ds order : List ℕ) (now : List Slot) (place n : ℕ)
     → shown rs own ds order ≡ now → place < length now → n ≡ get_or order place 0 → held rs own ds n ≡ slot_at now place
 slot_is rs own ds order now place n view l is =
     ap (held rs own ds) is
     ∙ (sym (get_or-map (held rs own ds) order place 0 no_slot (omega (arith, long_shown rs own ds order now view, l)))
     ∙ ap (λ ss. slot_at ss place) view)
 
-pub number_of : {rs : List Record} {own : List Aim} {order seen : List ℕ} {m : Masks} {place n : ℕ} (ds : List ℕ)
+pub number_of : {rs : List Record} {own : List Target} {order seen : List ℕ} {m : Masks} {place n : ℕ} (ds : List ℕ)
     (now : List Slot)
     → AreKept rs own order m → shown rs own ds order ≡ now → place < length now → n ≡ get_or seen place 0 → seen ≡ order
     → IsNumber order place n
@@ -78,7 +78,7 @@ number_of {rs} {own} {order} {seen} {m} {place} {n} ds now kept view inside e sa
     }
 
 -- the record in it
-pub item_at : {rs : List Record} {own : List Aim} {order : List ℕ} {m : Masks} {place n : ℕ} (ds : List ℕ)
+pub item_at : {rs : List Record} {own : List Target} {order : List ℕ} {m : Masks} {place n : ℕ} (ds : List ℕ)
     (now : List Slot)
     (other : Record) → AreKept rs own order m → shown rs own ds order ≡ now → place < length now
     → IsNumber order place n
@@ -100,7 +100,7 @@ all_shown p f [] = refl
 all_shown p f (x ∷ xs) = ap (λ b. p (f x) && b) (all_shown p f xs)
 
 -- no slot in front keeps one back
-pub unfenced_at : {rs : List Record} {own : List Aim} {order : List ℕ} {m : Masks} {place n : ℕ} (ds : List ℕ)
+pub unfenced_at : {rs : List Record} {own : List Target} {order : List ℕ} {m : Masks} {place n : ℕ} (ds : List ℕ)
     (now : List Slot)
     → AreKept rs own order m → shown rs own ds order ≡ now → place < length now → IsNumber order place n
     → slice_index_or m.earlier n 0 < 2 ^ 64
@@ -132,7 +132,7 @@ has_middle k n (x ∷ front) back e = by (nat_eq k x) (has_middle k n front back
     by true h e = refl
     by false h e = h e
 
-pub kept_left : {rs : List Record} {own : List Aim} {order new : List ℕ} {m m' : Masks} {place n : ℕ}
+pub kept_left : {rs : List Record} {own : List Target} {order new : List ℕ} {m m' : Masks} {place n : ℕ}
     → AreKept rs own order m → IsNumber order place n → HasLeft n (kind_at rs own n).drive m m'
     → new ≡ remove order place
     → AreKept rs own new m'
@@ -145,7 +145,7 @@ kept_left {rs} {own} {order} {new} {m} {m'} {place} {n} kept h left e =
     subst (λ o. AreKept rs own o m') (sym is)
     (record {
       records_64 = kept.records_64;
-      aims_64 = kept.aims_64;
+      targets_64 = kept.targets_64;
       drives = λ k there. kept.drives k (ap (has k) cut ∙ has_middle k n front back there);
       masks = masks_left (kind_at rs own) front back m m' n
           (subst (λ o. AreMasks (kind_at rs own) o m) cut kept.masks) h.low left;
@@ -171,9 +171,9 @@ serves_if n = by (pos_or n)
     by (inl e) = ap not (eq-eqb n 0 e) ∙ sym (le-ltb 0 n (omega (arith, e)))
     by (inr l) = ap not (ne_eqb n 0 (λ e. omega (arith, e, l))) ∙ sym (lt-ltb 0 n l)
 
-pub kept_pushed : {rs : List Record} {own : List Aim} {order new : List ℕ} {m m' : Masks} {n drive : ℕ}
+pub kept_pushed : {rs : List Record} {own : List Target} {order new : List ℕ} {m m' : Masks} {n drive : ℕ}
     {sequential serving : Bool}
-    (r : Record) (a : Aim) → AreKept rs own order m → IsLowestFree m.waiting n → a.drive < 16 → drive ≡ a.drive
+    (r : Record) (a : Target) → AreKept rs own order m → IsLowestFree m.waiting n → a.drive < 16 → drive ≡ a.drive
     → sequential ≡ is_sequential r.command.order → serving ≡ is_in_service r
     → HasCome n drive sequential serving m m' → new ≡ order ++ n ∷ [] → AreKept (set rs n r) (set own n a) new m'
 kept_pushed {rs} {own} {order} {new} {m} {m'} {n} {drive} {sequential}
@@ -184,16 +184,16 @@ kept_pushed {rs} {own} {order} {new} {m} {m'} {n} {drive} {sequential}
     let kinds' = kind_at rs' own' in
     let low = free.low in
     let item : get_or rs' n no_record ≡ r = get_or-set_same rs n r no_record (omega (arith, low, kept.records_64)) in
-    let aim : get_or own' n no_aim ≡ a = get_or-set_same own n a no_aim (omega (arith, low, kept.aims_64)) in
+    let target : get_or own' n no_target ≡ a = get_or-set_same own n a no_target (omega (arith, low, kept.targets_64)) in
     let none : has n order ≡ false = off_bit (has n order) (sym (kept.masks.of_waiting n low) ∙ free.free) in
     let others : (k : ℕ) → k ≢ n → kinds' k ≡ kinds k = λ k d. λ i. record {
-      drive = (get_or-set_other own n k a no_aim d i).drive;
+      drive = (get_or-set_other own n k a no_target d i).drive;
       sequential = is_sequential (get_or-set_other rs n k r no_record d i).command.order;
       serving = is_in_service (get_or-set_other rs n k r no_record d i);
     } in
     let came : HasCome n (kinds' n).drive (kinds' n).sequential (kinds' n).serving m m' =
     subst (λ d. HasCome n d (kinds' n).sequential (kinds' n).serving m m') (is_drive
-    ∙ ap (λ (q : Aim). q.drive) (sym aim))
+    ∙ ap (λ (q : Target). q.drive) (sym target))
     (subst (λ b. HasCome n drive b (kinds' n).serving m m') (ordered
     ∙ ap (λ (q : Record). is_sequential q.command.order) (sym item))
     (subst (λ b. HasCome n drive sequential b m m') (served
@@ -201,28 +201,28 @@ kept_pushed {rs} {own} {order} {new} {m} {m'} {n} {drive} {sequential}
     subst (λ o. AreKept rs' own' o m') (sym e)
     (record {
       records_64 = length-set rs n r ∙ kept.records_64;
-      aims_64 = length-set own n a ∙ kept.aims_64;
-      drives = λ k there. by k (subst (λ (q : Aim). q.drive < 16) (sym aim) few) (same_or k n) there;
+      targets_64 = length-set own n a ∙ kept.targets_64;
+      drives = λ k there. by k (subst (λ (q : Target). q.drive < 16) (sym target) few) (same_or k n) there;
       masks = masks_pushed kinds kinds' order m m' n kept.masks (record { low = low; free = none; same = others }) came;
     })
   where
-    by : (k : ℕ) → (get_or (set own n a) n no_aim).drive < 16 → (k ≡ n) ⊎ (k ≢ n) → has k (order ++ n ∷ []) ≡ true
-        → (get_or (set own n a) k no_aim).drive < 16
-    by k l (inl s) there = subst (λ k. (get_or (set own n a) k no_aim).drive < 16) (sym s) l
-    by k l (inr d) there = subst (λ (q : Aim). q.drive < 16) (sym (get_or-set_other own n k a no_aim d))
+    by : (k : ℕ) → (get_or (set own n a) n no_target).drive < 16 → (k ≡ n) ⊎ (k ≢ n) → has k (order ++ n ∷ []) ≡ true
+        → (get_or (set own n a) k no_target).drive < 16
+    by k l (inl s) there = subst (λ k. (get_or (set own n a) k no_target).drive < 16) (sym s) l
+    by k l (inr d) there = subst (λ (q : Target). q.drive < 16) (sym (get_or-set_other own n k a no_target d))
         (kept.drives k (sym (has_other k n order d) ∙ there))
 
-pub shown_pushed : {rs : List Record} {own : List Aim} {order new : List ℕ} {m : Masks} {n : ℕ} (ds : List ℕ)
+pub shown_pushed : {rs : List Record} {own : List Target} {order new : List ℕ} {m : Masks} {n : ℕ} (ds : List ℕ)
     (now : List Slot)
     (s : Slot) → AreKept rs own order m → length ds ≡ 64 → IsLowestFree m.waiting n → shown rs own ds order ≡ now
-    → new ≡ order ++ n ∷ [] → shown (set rs n s.item) (set own n s.aim) (set ds n s.due) new ≡ now ++ s ∷ []
+    → new ≡ order ++ n ∷ [] → shown (set rs n s.item) (set own n s.target) (set ds n s.due) new ≡ now ++ s ∷ []
 shown_pushed {rs} {own} {order} {new} {m} {n} ds now s kept long free view e =
     let low = free.low in
     let none : has n order ≡ false = off_bit (has n order) (sym (kept.masks.of_waiting n low) ∙ free.free) in
-    let f = held (set rs n s.item) (set own n s.aim) (set ds n s.due) in
+    let f = held (set rs n s.item) (set own n s.target) (set ds n s.due) in
     ap (map f) e ∙ (map-append f order (n ∷ [])
-    ∙ ((λ i. shown_other rs own ds n s.item s.aim s.due order none i
-    ++ held_same rs own ds n s.item s.aim s.due (omega (arith, low, kept.records_64)) (omega (arith, low, kept.aims_64))
+    ∙ ((λ i. shown_other rs own ds n s.item s.target s.due order none i
+    ++ held_same rs own ds n s.item s.target s.due (omega (arith, low, kept.records_64)) (omega (arith, low, kept.targets_64))
     (omega (arith, low, long)) i ∷ []) ∙ ap (λ zs. zs ++ s ∷ []) view))
 
 -- ---- one slot changes
@@ -247,7 +247,7 @@ set_at_number f f' (s ∷ order) (suc place) a l same =
     true_false e = let bad = ap bit e in omega (arith, bad)
 
 -- a record is changed in its slot
-pub item_set : {rs : List Record} {own : List Aim} {order : List ℕ} {m : Masks} {place n : ℕ} {r : Record} (ds : List ℕ)
+pub item_set : {rs : List Record} {own : List Target} {order : List ℕ} {m : Masks} {place n : ℕ} {r : Record} (ds : List ℕ)
     (now : List Slot) (f : Record → Record) (other : Record) → AreKept rs own order m → shown rs own ds order ≡ now
     → place < length now → IsNumber order place n → r ≡ f (get_or rs n other)
     → shown (set rs n r) own ds order ≡ set now place (with_item f (slot_at now place))
@@ -255,20 +255,20 @@ item_set {rs} {own} {order} {m} {place} {n} {r} ds now f other kept view inside 
     let g = held (set rs n r) own ds in
     let same : (k : ℕ) → k ≢ get_or order place 0 → g k ≡ held rs own ds k = λ k d. λ i. record {
       item = get_or-set_other rs n k r no_record (λ s. d (s ∙ h.is)) i;
-      aim = get_or own k no_aim;
+      target = get_or own k no_target;
       due = get_or ds k 0;
     } in
     let there : g n ≡ with_item f (held rs own ds n) = λ i. record {
       item = (get_or-set_same rs n r no_record (omega (arith, h.low, kept.records_64)) ∙ e
           ∙ ap f (get_or_default rs n other no_record (omega (arith, h.low, kept.records_64)))) i;
-      aim = get_or own n no_aim;
+      target = get_or own n no_target;
       due = get_or ds n 0;
     } in
     set_at_number (held rs own ds) g order place kept.masks.apart h.inside same
     ∙ ((λ i. set (view i) place (g (sym h.is i)))
     ∙ ap (λ s. set now place s) (there ∙ ap (with_item f) (slot_is rs own ds order now place n view inside h.is)))
 
-pub due_set : {rs : List Record} {own : List Aim} {order : List ℕ} {m : Masks} {place n : ℕ} (ds : List ℕ)
+pub due_set : {rs : List Record} {own : List Target} {order : List ℕ} {m : Masks} {place n : ℕ} (ds : List ℕ)
     (now : List Slot) (due : ℕ) → AreKept rs own order m → length ds ≡ 64 → shown rs own ds order ≡ now
     → place < length now → IsNumber order place n
     → shown rs own (set ds n due) order ≡ set now place (with_due due (slot_at now place))
@@ -276,12 +276,12 @@ due_set {rs} {own} {order} {m} {place} {n} ds now due kept long view inside h =
     let g = held rs own (set ds n due) in
     let same : (k : ℕ) → k ≢ get_or order place 0 → g k ≡ held rs own ds k = λ k d. λ i. record {
       item = get_or rs k no_record;
-      aim = get_or own k no_aim;
+      target = get_or own k no_target;
       due = get_or-set_other ds n k due 0 (λ s. d (s ∙ h.is)) i;
     } in
     let there : g n ≡ with_due due (held rs own ds n) = λ i. record {
       item = get_or rs n no_record;
-      aim = get_or own n no_aim;
+      target = get_or own n no_target;
       due = get_or-set_same ds n due 0 (omega (arith, h.low, long)) i;
     } in
     set_at_number (held rs own ds) g order place kept.masks.apart h.inside same
@@ -289,31 +289,31 @@ due_set {rs} {own} {order} {m} {place} {n} ds now due kept long view inside h =
     ∙ ap (λ s. set now place s) (there ∙ ap (with_due due) (slot_is rs own ds order now place n view inside h.is)))
 
 -- the masks stay those of the slots where a record keeps its kind, and where its command is in service from now on
-pub kept_passed : {rs : List Record} {own : List Aim} {order : List ℕ} {m : Masks} {n : ℕ} {r : Record} (toll : ℕ)
+pub kept_passed : {rs : List Record} {own : List Target} {order : List ℕ} {m : Masks} {n : ℕ} {r : Record} (charge : ℕ)
     (other : Record)
-    → AreKept rs own order m → n < 64 → r ≡ passed_by toll (get_or rs n other) → AreKept (set rs n r) own order m
-kept_passed {rs} {own} {order} {m} {n} {r} toll other kept low e =
-    let is : get_or (set rs n r) n no_record ≡ passed_by toll (get_or rs n no_record) =
+    → AreKept rs own order m → n < 64 → r ≡ passed_by charge (get_or rs n other) → AreKept (set rs n r) own order m
+kept_passed {rs} {own} {order} {m} {n} {r} charge other kept low e =
+    let is : get_or (set rs n r) n no_record ≡ passed_by charge (get_or rs n no_record) =
     get_or-set_same rs n r no_record (omega (arith, low, kept.records_64)) ∙ e
-    ∙ ap (passed_by toll) (get_or_default rs n other no_record (omega (arith, low, kept.records_64))) in
+    ∙ ap (passed_by charge) (get_or_default rs n other no_record (omega (arith, low, kept.records_64))) in
     record {
       records_64 = length-set rs n r ∙ kept.records_64;
-      aims_64 = kept.aims_64;
+      targets_64 = kept.targets_64;
       drives = kept.drives;
       masks = masks_same (kind_at rs own) (kind_at (set rs n r) own) order m (λ k. by k is (same_or k n)) kept.masks;
     }
   where
-    kind : Aim → Record → Kind
+    kind : Target → Record → Kind
     kind a q = record { drive = a.drive; sequential = is_sequential q.command.order; serving = is_in_service q }
 
-    by : (k : ℕ) → get_or (set rs n r) n no_record ≡ passed_by toll (get_or rs n no_record) → (k ≡ n) ⊎ (k ≢ n)
+    by : (k : ℕ) → get_or (set rs n r) n no_record ≡ passed_by charge (get_or rs n no_record) → (k ≡ n) ⊎ (k ≢ n)
         → kind_at (set rs n r) own k ≡ kind_at rs own k
     by k is (inl s) = subst (λ k. kind_at (set rs n r) own k ≡ kind_at rs own k) (sym s)
-        (ap (kind (get_or own n no_aim)) is)
-    by k is (inr d) = ap (kind (get_or own k no_aim)) (get_or-set_other rs n k r no_record d)
+        (ap (kind (get_or own n no_target)) is)
+    by k is (inr d) = ap (kind (get_or own k no_target)) (get_or-set_other rs n k r no_record d)
 
 -- the bit of a command that was served before is set
-pub serves_since : {rs : List Record} {own : List Aim} {order : List ℕ} {m : Masks} {n : ℕ} (other : Record)
+pub serves_since : {rs : List Record} {own : List Target} {order : List ℕ} {m : Masks} {n : ℕ} (other : Record)
     → AreKept rs own order m → n < 64 → has n order ≡ true → is_unstarted (get_or rs n other) ≡ false
     → bit_at m.serving n ≡ 1
 serves_since {rs} {own} {order} {m} {n} other kept low there since =
@@ -324,7 +324,7 @@ serves_since {rs} {own} {order} {m} {n} other kept low there since =
     let serves : is_in_service (get_or rs n no_record) ≡ true = lt-ltb 0 (get_or rs n no_record).done some in
     kept.masks.of_serving n low ∙ (λ i. bit (there i && serves i))
 
-pub kept_advanced : {rs : List Record} {own : List Aim} {order : List ℕ} {m m' : Masks} {n : ℕ} {r : Record}
+pub kept_advanced : {rs : List Record} {own : List Target} {order : List ℕ} {m m' : Masks} {n : ℕ} {r : Record}
     (other : Record)
     → AreKept rs own order m → n < 64 → has n order ≡ true → r ≡ advanced (get_or rs n other)
     → m' ≡ record m { serving = m'.serving } → IsSet true n m.serving m'.serving → AreKept (set rs n r) own order m'
@@ -337,11 +337,11 @@ kept_advanced {rs} {own} {order} {m} {m'} {n} {r} other kept low there e same se
     subst (λ q. AreKept (set rs n r) own order q) (sym same)
     (record {
       records_64 = length-set rs n r ∙ kept.records_64;
-      aims_64 = kept.aims_64;
+      targets_64 = kept.targets_64;
       drives = kept.drives;
       masks = masks_served (kind_at rs own) (kind_at (set rs n r) own) order m m'.serving n kept.masks there
           (λ k d. λ i. record {
-            drive = (get_or own k no_aim).drive;
+            drive = (get_or own k no_target).drive;
             sequential = is_sequential (get_or-set_other rs n k r no_record d i).command.order;
             serving = is_in_service (get_or-set_other rs n k r no_record d i);
           }) refl (ap (λ (q : Record). is_sequential q.command.order) is)

@@ -6,10 +6,10 @@ use Rattle.std.proofs.lemmas.Bool.{eq-eqb, le-leb, leb-true, lt-leb, true≢fals
 use Rattle.std.proofs.lemmas.List.{get_or-map, get_or-drop, get_or-take, length-append, length-drop, length-map, length-take-le, map-append, take-map}
 use Rattle.std.proofs.lemmas.List.Elements.{All-from_recursion, All-take, filter-append, recursion_from_All}
 use Rattle.mscp_drive.specs.Shape.{Shape, one_block}
-use Rattle.mscp_queue.specs.declared.aim.Aim.{Aim}
+use Rattle.mscp_queue.specs.declared.target.Target.{Target}
 use Rattle.mscp_queue.specs.declared.drive.Drive.{Drive}
 use Rattle.mscp_queue.specs.declared.view.Choice.{Choice}
-use Rattle.mscp_queue.specs.Aims.{aim_of, aims_of, no_aim, unit_place}
+use Rattle.mscp_queue.specs.Targets.{target_of, targets_of, no_target, unit_place}
 use Rattle.mscp_queue.specs.Drives.{fresh_drive}
 use Rattle.mscp_queue.specs.Kept.{ArePassedInOrder, CanBeShown, IsShut, is_known, units_of}
 use Rattle.mscp_queue.specs.Masks.{Kind, keeps_back}
@@ -17,7 +17,7 @@ use Rattle.mscp_queue.specs.Orders.{is_sequential}
 use Rattle.mscp_queue.specs.Records.{Record, drive_at, is_in_service, no_record, record_at}
 use Rattle.mscp_queue.specs.Slots.{is_unfenced_at, kinds_of, no_kind}
 use Rattle.mscp_queue.specs.Views.{choice_of, choices_at, fences, is_affordable, is_free, is_open_at, open_places}
-use Rattle.mscp_queue.proofs.Aims.{place_same}
+use Rattle.mscp_queue.proofs.Targets.{place_same}
 use Rattle.mscp_queue.proofs.Drives.{apart_by_place}
 use Rattle.mscp_queue.proofs.Lists.{every_kept, every_weaker, range_below, range_more}
 use Rattle.mscp_queue.proofs.Shown.{all_shown}
@@ -37,9 +37,9 @@ kind_in us r = record {
   serving = is_in_service r;
 }
 
-kinds_aimed : (us : List Shape) (rs : List Record) → kinds_of rs (aims_of us rs) ≡ map (kind_in us) rs
-kinds_aimed us [] = refl
-kinds_aimed us (r ∷ rs) = ap (λ ks. kind_in us r ∷ ks) (kinds_aimed us rs)
+kinds_targeted : (us : List Shape) (rs : List Record) → kinds_of rs (targets_of us rs) ≡ map (kind_in us) rs
+kinds_targeted us [] = refl
+kinds_targeted us (r ∷ rs) = ap (λ ks. kind_in us r ∷ ks) (kinds_targeted us rs)
 
 same_unit : (ds : List Drive) (a b : ℕ) → is_known (units_of ds) a ≡ true → is_known (units_of ds) b ≡ true
     → nat_eq (unit_place (units_of ds) a) (unit_place (units_of ds) b) ≡ nat_eq a b
@@ -47,14 +47,14 @@ same_unit ds a b h k =
     (λ i. nat_eq (sym (place_same ds a) i) (sym (place_same ds b) i))
     ∙ apart_by_place ds (fresh_drive one_block) a b h k
 
-pub free_is : (ds : List Drive) (rs : List Record) (own : List Aim) (place : ℕ) → CanBeShown ds rs own
+pub free_is : (ds : List Drive) (rs : List Record) (own : List Target) (place : ℕ) → CanBeShown ds rs own
     → place < length rs
     → is_unfenced_at (kinds_of rs own) place ≡ is_free (record_at rs place) (take place rs)
 free_is ds rs own place h l =
     let us = units_of ds in
     let k = kind_in us in
     let r = record_at rs place in
-    let kinds = ap (kinds_of rs) h.aimed ∙ kinds_aimed us rs in
+    let kinds = ap (kinds_of rs) h.targeted ∙ kinds_targeted us rs in
     let Known : Record → Type 0 = λ z. is_known us z.command.unit ≡ true in
     let known : All Known rs = λ i other m. (h.inside i other m).0 in
     let same : (z : Record) → Known z → not (keeps_back (k z) (k r)) ≡ not (fences r z) = λ z e.
@@ -172,7 +172,7 @@ one_shut p (x ∷ xs) (suc k) d l e = ap (λ b. p x && b) (one_shut p xs k d (om
     and_false true = refl
     and_false false = refl
 
-pub shut_is : (budget unspent : ℕ) (ds : List Drive) (rs : List Record) (own : List Aim) (place : ℕ)
+pub shut_is : (budget unspent : ℕ) (ds : List Drive) (rs : List Record) (own : List Target) (place : ℕ)
     → CanBeShown ds rs own
     → ArePassedInOrder rs → unspent + (record_at rs 0).passed ≡ budget → place < length rs → IsShut rs own place unspent
     → (q : ℕ) → place < q → q < length rs → is_open_at budget rs q ≡ false
@@ -191,17 +191,17 @@ shut_is budget unspent ds rs own place h o e l (inr fence) q p m =
     let us = units_of ds in
     let r = record_at rs q in
     let z = record_at rs place in
-    let of : Record → Aim = λ r. aim_of us r.command in
-    let aimed : (k : ℕ) → k < length rs → get_or own k no_aim ≡ of (record_at rs k) = λ k n.
-    ap (λ xs. get_or xs k no_aim) h.aimed ∙ get_or-map of rs k no_record no_aim n in
-    let long : length own ≡ length rs = ap length h.aimed ∙ length-map rs of in
+    let of : Record → Target = λ r. target_of us r.command in
+    let targeted : (k : ℕ) → k < length rs → get_or own k no_target ≡ of (record_at rs k) = λ k n.
+    ap (λ xs. get_or xs k no_target) h.targeted ∙ get_or-map of rs k no_record no_target n in
+    let long : length own ≡ length rs = ap length h.targeted ∙ length-map rs of in
     let k = q - (place + 1) in
     let at : place + 1 + k ≡ q = omega (arith, p) in
-    let behind = fence.1 k no_aim (omega (arith, length-drop (place + 1) own, long, m, p)) in
+    let behind = fence.1 k no_target (omega (arith, length-drop (place + 1) own, long, m, p)) in
     let drives : unit_place us r.command.unit ≡ unit_place us z.command.unit =
-    sym (ap (λ (a : Aim). a.drive) (aimed q m)) ∙ ap (λ n. (get_or own n no_aim).drive) (sym at)
-    ∙ ap (λ (a : Aim). a.drive) (sym (get_or-drop (place + 1) own k no_aim)) ∙ behind
-    ∙ ap (λ (a : Aim). a.drive) (aimed place l) in
+    sym (ap (λ (a : Target). a.drive) (targeted q m)) ∙ ap (λ n. (get_or own n no_target).drive) (sym at)
+    ∙ ap (λ (a : Target). a.drive) (sym (get_or-drop (place + 1) own k no_target)) ∙ behind
+    ∙ ap (λ (a : Target). a.drive) (targeted place l) in
     let units : nat_eq z.command.unit r.command.unit ≡ true =
     sym (same_unit ds z.command.unit r.command.unit (h.inside place no_record l).0 (h.inside q no_record m).0)
     ∙ eq-eqb (unit_place us z.command.unit) (unit_place us r.command.unit) (sym drives) in

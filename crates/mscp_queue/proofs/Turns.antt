@@ -17,7 +17,7 @@ use Rattle.mscp_queue.specs.declared.name.Name.{Name}
 use Rattle.mscp_queue.specs.Orders.{first_block, is_move, order_weight}
 use Rattle.mscp_queue.specs.Drives.{IsOnUnit, drive_of, fresh_drive, has_number, replaced}
 use Rattle.mscp_queue.specs.Kept.{IsHeld, IsInside, IsKept, units_of}
-use Rattle.mscp_queue.specs.Records.{Record, advanced, step_toll, is_in_service, is_unstarted, left_of, no_record, passed_by, record_at}
+use Rattle.mscp_queue.specs.Records.{Record, advanced, drive_at, step_charge, is_in_service, is_unstarted, left_of, no_record, passed_by, record_at}
 use Rattle.mscp_queue.specs.Serving.{IsServable, drive_after, end_given, touched}
 use Rattle.mscp_queue.specs.Views.{is_affordable, is_free, is_open_at}
 use Rattle.mscp_queue.specs.Pairs.{Pairs}
@@ -39,9 +39,7 @@ front_affordable budget rs place h =
 
 last_of : (a b c : Bool) → (a && b && c) ≡ true → c ≡ true
 last_of true true true h = refl
-last_of true true false h = absurd (false≢true h)
-last_of true false c h = absurd (false≢true h)
-last_of false b c h = absurd (false≢true h)
+last_of _ _ _ h = absurd (false≢true h)
 
 more_left : (k : Block) (d : Drive) (r : Record) (e : Option End) → end_given k d r ≡ e
     → IsLeft r (cond (is_some e) [] (advanced r ∷ []))
@@ -59,7 +57,7 @@ more_left k d r None h =
 pub next_turn : (room budget longest place : ℕ) (rs : List Record) (ds : List Drive) (begun : Option Name)
     (serving : Bool) (k : Block) (d : Drive) → IsHeld room budget longest rs ds begun serving
     → IsServable budget rs place
-    → IsTurn budget (step_toll (record_at rs place)) (take place rs) (record_at rs place) (drop (place + 1) rs)
+    → IsTurn budget (step_charge (record_at rs place)) (take place rs) (record_at rs place) (drop (place + 1) rs)
     (cond (is_some (end_given k d (record_at rs place))) [] (advanced (record_at rs place) ∷ []))
 next_turn room budget longest place rs ds begun serving k d h n =
     let r = record_at rs place in
@@ -163,14 +161,7 @@ when_some false n lbn h = absurd (false≢true (ap is_some h))
 pub inside_of : (us : List Shape) (n : ℕ) (o : Order) → is_move o ≡ true → IsInside us n o
     → first_block o + order_weight o ≤ (unwrap_or (unit_found us n) one_block).size
 inside_of us n (orders.Move kind count block) m h = h
-inside_of us n (orders.Abort other) m h = absurd (false≢true m)
-inside_of us n (orders.Status other) m h = absurd (false≢true m)
-inside_of us n orders.UnitStatus m h = absurd (false≢true m)
-inside_of us n (orders.SetController version) m h = absurd (false≢true m)
-inside_of us n orders.Available m h = absurd (false≢true m)
-inside_of us n orders.Online m h = absurd (false≢true m)
-inside_of us n orders.SetUnit m h = absurd (false≢true m)
-inside_of us n (orders.Invalid opcode status) m h = absurd (false≢true m)
+inside_of us n _ m h = absurd (false≢true m)
 
 -- a block that is touched is one of the unit
 pub touched_inside : (budget longest : ℕ) (ds : List Drive) (r : Record) (d : Drive) → d ≡ drive_of ds r.command.unit
@@ -192,45 +183,50 @@ ended_if : (b : Bool) → not b ≡ false → b ≡ true
 ended_if true e = refl
 ended_if false e = absurd (true≢false e)
 
--- a step of the record at a place, with the drive of its unit before and after it: what it makes of records and drives
-pub record StepMade (k : Block) (place : ℕ) (rs new : List Record) (ds ds' : List Drive) (serves : Bool) : Type 0 where
-  pub d : Drive
+-- a step of the record at a place, with the drive of its unit after it: what it makes of records and drives
+pub record StepMade (k : Block) (place : ℕ) (rs new : List Record) (ds ds' : List Drive) (ends : Bool) : Type 0 where
   pub d' : Drive
-  pub drive : d ≡ drive_of ds (record_at rs place).command.unit
-  pub drive_after : d' ≡ drive_after k d (record_at rs place)
+  pub after : d' ≡ drive_after k (drive_at ds rs place) (record_at rs place)
   pub on : IsOnUnit d'
-  pub records : new ≡ map (passed_by (step_toll (record_at rs place))) (take place rs)
-      ++ (cond (is_some (end_given k d (record_at rs place))) [] (advanced (record_at rs place) ∷ [])
-      ++ drop (place + 1) rs)
-  pub serves_on : serves ≡ not (is_some (end_given k d (record_at rs place)))
+  pub ended : ends ≡ is_some (end_given k (drive_at ds rs place) (record_at rs place))
+  pub records : new ≡ map (passed_by (step_charge (record_at rs place))) (take place rs)
+      ++ (cond ends [] (advanced (record_at rs place) ∷ []) ++ drop (place + 1) rs)
   pub drives : ds' ≡ replaced (record_at rs place).command.unit d' ds
 
-held_served : {room budget longest place : ℕ} {rs new : List Record} {ds ds' : List Drive} {begun : Option Name}
-    {serving serves : Bool} {k : Block} → IsHeld room budget longest rs ds begun serving
-    → IsServable budget rs place → StepMade k place rs new ds ds' serves
-    → IsHeld room budget longest new ds' None serves
-held_served {room} {budget} {longest} {place} {rs} {new} {ds} {ds'} {begun} {serving} {serves} {k} h n m =
-    let r = record_at rs place in
-    let number = r.command.unit in
-    let d = m.d in
-    let d' = m.d' in
-    let cut = cut_at no_record rs place n.inside in
-    let unit : d'.unit ≡ (drive_of ds number).unit =
-    ap (λ (q : Drive). q.unit) m.drive_after ∙ ap (λ (q : Drive). q.unit) m.drive in
-    let same = every_weaker (λ q. has_number number q ≡ true → q.unit ≡ (drive_of ds number).unit)
-    (λ q. has_number number q ≡ true → q.unit ≡ d'.unit) (λ q g b. g b ∙ sym unit) ds
-    (units_same number ds h.units) in
-    let heads = All-from_recursion IsOnUnit (replaced number d' ds)
-    (heads_replaced number d' ds m.on (recursion_from_All IsOnUnit ds h.heads)) in
-    let turn = next_turn room budget longest place rs ds begun serving k d h n in
-    let ended : serves ≡ false → cond (is_some (end_given k d r)) [] (advanced r ∷ []) ≡ [] =
-    λ e. ap (λ b. cond b [] (advanced r ∷ [])) (ended_if (is_some (end_given k d r)) (sym m.serves_on ∙ e)) in
-    subst (λ zs. IsHeld room budget longest new zs None serves) (sym m.drives)
-    (subst (λ zs. IsHeld room budget longest zs (replaced number d' ds) None serves) (sym m.records)
-    (held_turn room budget longest (step_toll r) (take place rs) r (drop (place + 1) rs)
-    (cond (is_some (end_given k d r)) [] (advanced r ∷ [])) ds (replaced number d' ds) begun serving serves
-    (subst (λ zs. IsHeld room budget longest zs ds begun serving) cut h) turn ended (units_replaced number d' ds same)
-    heads))
+module _ {k : Block} {place : ℕ} {rs new : List Record} {ds ds' : List Drive} {ends : Bool}
+    (m : StepMade k place rs new ds ds' ends) where
+  -- each drive of its number has its unit
+  own_unit : IsUnitList (units_of ds)
+      → AllByRecursion (λ q. has_number (record_at rs place).command.unit q ≡ true → q.unit ≡ m.d'.unit) ds
+  own_unit l =
+      let number = (record_at rs place).command.unit in
+      every_weaker (λ q. has_number number q ≡ true → q.unit ≡ (drive_of ds number).unit)
+      (λ q. has_number number q ≡ true → q.unit ≡ m.d'.unit)
+      (λ q g b. g b ∙ sym (ap (λ (q : Drive). q.unit) m.after)) ds (units_same number ds l)
+
+  -- a step changes no unit
+  pub units_step : IsUnitList (units_of ds) → units_of ds' ≡ units_of ds
+  units_step l = ap units_of m.drives ∙ units_replaced (record_at rs place).command.unit m.d' ds (own_unit l)
+
+  pub held_step : {room budget longest : ℕ} {begun : Option Name} {serving : Bool}
+      → IsHeld room budget longest rs ds begun serving → IsServable budget rs place
+      → IsHeld room budget longest new ds' None (not ends)
+  held_step {room} {budget} {longest} {begun} {serving} h n =
+      let r = record_at rs place in
+      let d = drive_at ds rs place in
+      let heads = All-from_recursion IsOnUnit (replaced r.command.unit m.d' ds)
+      (heads_replaced r.command.unit m.d' ds m.on (recursion_from_All IsOnUnit ds h.heads)) in
+      let turn = subst (λ b. IsTurn budget (step_charge r) (take place rs) r (drop (place + 1) rs)
+      (cond b [] (advanced r ∷ []))) (sym m.ended)
+      (next_turn room budget longest place rs ds begun serving k d h n) in
+      let ended : not ends ≡ false → cond ends [] (advanced r ∷ []) ≡ [] =
+      λ e. ap (λ b. cond b [] (advanced r ∷ [])) (ended_if ends e) in
+      subst (λ zs. IsHeld room budget longest new zs None (not ends)) (sym m.drives)
+      (subst (λ zs. IsHeld room budget longest zs (replaced r.command.unit m.d' ds) None (not ends)) (sym m.records)
+      (held_turn room budget longest (step_charge r) (take place rs) r (drop (place + 1) rs)
+      (cond ends [] (advanced r ∷ [])) ds (replaced r.command.unit m.d' ds) begun serving (not ends)
+      (subst (λ zs. IsHeld room budget longest zs ds begun serving) (cut_at no_record rs place n.inside) h) turn ended
+      (units_replaced r.command.unit m.d' ds (own_unit h.units)) heads))
 
 head_found : (n : ℕ) (ds : List Drive) → AllByRecursion IsOnUnit ds → IsOnUnit (drive_of ds n)
 head_found n [] h = omega arith
@@ -243,65 +239,3 @@ head_found n (d ∷ ds) h =
 pub head_kept : (room budget longest n : ℕ) (rs : List Record) (ds : List Drive) (begun : Option Name) (serving : Bool)
     → IsHeld room budget longest rs ds begun serving → IsOnUnit (drive_of ds n)
 head_kept room budget longest n rs ds begun serving h = head_found n ds (recursion_from_All IsOnUnit ds h.heads)
-
--- the same as it is found out, step by step
--- the same step as the code takes it: what it reads of the record and of the drive, and what it leaves
-pub record StepTaken (k : Block) (place : ℕ) (rs new : List Record) (ds ds' : List Drive) (serves : Bool) : Type 0 where
-  pub r : Record
-  pub command : Command
-  pub d : Drive
-  pub d' : Drive
-  pub e : Option End
-  pub ends : Bool
-  pub toll : ℕ
-  pub is : r ≡ record_at rs place
-  pub of : command ≡ r.command
-  pub drive : d ≡ drive_of ds command.unit
-  pub ended : e ≡ end_given k d r
-  pub some : ends ≡ is_some e
-  pub after : d' ≡ drive_after k d r
-  pub cost : toll ≡ step_toll r
-  pub on : ((lbn : ℕ) → touched d r ≡ Some lbn → lbn < d.unit.size) → IsOnUnit d → IsOnUnit d'
-  pub records : new ≡ map (passed_by toll) (take place rs) ++ (cond ends [] (advanced (record_at rs place) ∷ [])
-      ++ drop (place + 1) rs)
-  pub serves_on : serves ≡ not ends
-  pub drives : ds' ≡ replaced command.unit d' ds
-
-pub held_step : {room budget longest place : ℕ} {rs new : List Record} {ds ds' : List Drive} {begun : Option Name}
-    {serving serves : Bool} {k : Block} → IsHeld room budget longest rs ds begun serving
-    → IsServable budget rs place → StepTaken k place rs new ds ds' serves
-    → IsHeld room budget longest new ds' None serves
-held_step {room} {budget} {longest} {place} {rs} {new} {ds} {ds'} {begun} {serving} {serves} {k} h n t =
-    let own = advanced (record_at rs place) ∷ [] in
-    let unit : t.command.unit ≡ (record_at rs place).command.unit =
-    ap (λ (c : Command). c.unit) t.of ∙ ap (λ (r : Record). r.command.unit) t.is in
-    let found = t.drive ∙ ap (drive_of ds) (ap (λ (c : Command). c.unit) t.of) in
-    let kept : IsKept budget longest (units_of ds) t.r =
-    subst (IsKept budget longest (units_of ds)) (sym t.is) (h.each place no_record n.inside) in
-    let head : IsOnUnit t.d = subst IsOnUnit (sym t.drive)
-    (head_kept room budget longest t.command.unit rs ds begun serving h) in
-    let same : t.ends ≡ is_some (end_given k t.d (record_at rs place)) =
-    t.some ∙ (ap is_some t.ended ∙ ap (λ r. is_some (end_given k t.d r)) t.is) in
-    held_served {k = k} h n (record {
-      d = t.d;
-      d' = t.d';
-      drive = t.drive ∙ ap (drive_of ds) unit;
-      drive_after = t.after ∙ ap (drive_after k t.d) t.is;
-      on = t.on (touched_inside budget longest ds t.r t.d found kept) head;
-      records = t.records ∙ (ap (λ n. map (passed_by n) (take place rs) ++ (cond t.ends [] own ++ drop (place + 1) rs))
-          (t.cost ∙ ap step_toll t.is)
-          ∙ ap (λ b. map (passed_by (step_toll (record_at rs place))) (take place rs)
-          ++ (cond b [] own ++ drop (place + 1) rs)) same);
-      serves_on = t.serves_on ∙ ap not same;
-      drives = t.drives ∙ ap (λ u. replaced u t.d' ds) unit;
-    })
-
--- a step changes no unit
-pub units_step : (number : ℕ) (d d' : Drive) (ds ds' : List Drive) (k : Block) (r : Record) → IsUnitList (units_of ds)
-    → d ≡ drive_of ds number → d' ≡ drive_after k d r → ds' ≡ replaced number d' ds
-    → units_of ds' ≡ units_of ds
-units_step number d d' ds ds' k r l e f v =
-    let unit : d'.unit ≡ (drive_of ds number).unit = ap (λ (q : Drive). q.unit) f ∙ ap (λ (q : Drive). q.unit) e in
-    ap units_of v
-    ∙ units_replaced number d' ds (every_weaker (λ q. has_number number q ≡ true → q.unit ≡ (drive_of ds number).unit)
-    (λ q. has_number number q ≡ true → q.unit ≡ d'.unit) (λ q g b. g b ∙ sym unit) ds (units_same number ds l))

@@ -6,7 +6,7 @@ use Rattle.std.proofs.lemmas.List.{length-append, map-append}
 use Rattle.std.proofs.lemmas.List.Elements.{filter-append}
 use Rattle.std.proofs.lemmas.List.Folds.{list_all_more}
 use Rattle.mscp_queue.specs.declared.why.Holder.{Holder}
-use Rattle.mscp_queue.specs.Records.{Record, no_record, record_at, toll}
+use Rattle.mscp_queue.specs.Records.{Record, no_record, record_at, charge}
 use Rattle.mscp_queue.specs.Views.{fences, is_open}
 use Rattle.mscp_queue.specs.Why.{holder_of, holders_among, is_nobody, keeps_back}
 use Rattle.mscp_queue.proofs.Lists.{range_more}
@@ -79,7 +79,7 @@ none_keeps_back budget rs place (suc count) l =
     let r = record_at rs place in
     let z = record_at rs count in
     let free : Record → Bool = λ z. not (fences r z) in
-    let affords : Record → Bool = λ z. nat_le (z.passed + toll r) budget in
+    let affords : Record → Bool = λ z. nat_le (z.passed + charge r) budget in
     let front = take count rs in
     let e : count + 1 ≡ suc count = omega arith in
     subst (λ n. is_nobody (holders_among budget rs place n) ≡ is_open budget r (take n rs)) e

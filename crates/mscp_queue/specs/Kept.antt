@@ -6,16 +6,15 @@ use Rattle.mscp_packet.specs.declared.command.Order.{Order}
 use Rattle.mscp_packet.specs.declared.command.Order.TheVariants as orders
 use Rattle.mscp_drive.specs.Shape.{Shape, one_block}
 use Rattle.mscp_drive.specs.UnitList.{IsUnitList, unit_found}
-use Rattle.mscp_queue.specs.declared.aim.Aim.{Aim}
+use Rattle.mscp_queue.specs.declared.target.Target.{Target}
 use Rattle.mscp_events.specs.declared.block.Block.{Block}
 use Rattle.mscp_queue.specs.declared.drive.Drive.{Drive}
 use Rattle.mscp_queue.specs.declared.name.Name.{Name}
-use Rattle.mscp_queue.specs.Aims.{aims_of, no_aim}
+use Rattle.mscp_queue.specs.Targets.{targets_of, no_target}
 use Rattle.mscp_queue.specs.Orders.{first_block, is_move, is_sequential, order_weight}
 use Rattle.mscp_queue.specs.Drives.{IsOnUnit}
 use Rattle.mscp_queue.specs.Pairs.{Pairs}
-use Rattle.mscp_queue.specs.Records.{Record, drive_at, has_name, is_in_service, left_of, name_of, record_at}
-use Rattle.mscp_queue.specs.Outcomes.{goes_on}
+use Rattle.mscp_queue.specs.Records.{Record, has_name, is_in_service, name_of, record_at}
 use Rattle.mscp_queue.specs.Serving.{IsServable}
 use Rattle.mscp_queue.specs.Waiters.{Waiters}
 
@@ -114,11 +113,11 @@ place_without (Some place) gone =
 abbrev pub place_served : Bool → ℕ → Option ℕ
 place_served ends place = if ends then None else Some place
 
--- the same, and what a queue knows so that a step costs less: where each waiting command aims, in which order they were
+-- the same, and what a queue knows so that a step costs less: the target of each waiting command, in which order they were
 -- passed, and the places of the command in service and of what was begun
 pub record IsReady (room longest : ℕ) (w : Waiters) (ds : List Drive) (begun serving : Option ℕ) : Type 0 where
   pub held : IsHeld room w.budget longest w.waiting ds (begun_name w.waiting begun) (is_some serving)
-  pub aimed : w.aims ≡ aims_of (units_of ds) w.waiting
+  pub targeted : w.targets ≡ targets_of (units_of ds) w.waiting
   pub order : ArePassedInOrder w.waiting
   pub served : (place : ℕ) → serving ≡ Some place
       → (place < length w.waiting) × (is_in_service (record_at w.waiting place) ≡ true)
@@ -126,8 +125,8 @@ pub record IsReady (room longest : ℕ) (w : Waiters) (ds : List Drive) (begun s
 
 -- ---- what a view is made of
 
--- waiting commands, where each of them aims, and the drives
-pub record CanBeShown (ds : List Drive) (rs : List Record) (aims : List Aim) : Type 0 where
+-- waiting commands, the target of each of them, and the drives
+pub record CanBeShown (ds : List Drive) (rs : List Record) (targets : List Target) : Type 0 where
   pub few : length rs ≤ 64
   pub drives : length ds ≤ 16
   pub some_drive : 0 < length ds
@@ -136,19 +135,12 @@ pub record CanBeShown (ds : List Drive) (rs : List Record) (aims : List Aim) : T
   pub waitable : All (λ r. (is_sequential r.command.order || is_move r.command.order) ≡ true) rs
   pub weighs : All (λ r. (1 ≤ r.weight) × (r.weight < 2 ^ 32)) rs
   pub inside : All (λ r. HasBlocks (units_of ds) r.command) rs
-  pub aimed : aims ≡ aims_of (units_of ds) rs
+  pub targeted : targets ≡ targets_of (units_of ds) rs
 
 -- nobody behind a place may start, where the oldest has so much left of the budget: nothing, or all those behind are
 -- of the
 -- unit of a sequential command, which stands there
-abbrev pub IsShut : List Record → List Aim → ℕ → ℕ → Type 0
+abbrev pub IsShut : List Record → List Target → ℕ → ℕ → Type 0
 IsShut rs own place unspent = (unspent ≡ 0)
     ⊎ ((is_sequential (record_at rs place).command.order ≡ true)
-    × All (λ a. a.drive ≡ (slice_index_or own place no_aim).drive) (drop (place + 1) own))
-
--- ---- what a step does
-
--- the command at a place waits on after a step with this block
-abbrev pub goes_on_at : Block → List Drive → List Record → ℕ → Bool
-goes_on_at k ds rs place =
-    goes_on (drive_at ds rs place).online (record_at rs place).command.order k (left_of (record_at rs place))
+    × All (λ a. a.drive ≡ (slice_index_or own place no_target).drive) (drop (place + 1) own))

@@ -10,10 +10,10 @@ pub mod Pickers
 pub mod Serving
 pub mod Figures
 pub mod Lines
-pub mod Lineups
-pub mod Rolls
+pub mod Candidates
+pub mod CountedViews
 pub mod Kept
-pub mod Aims
+pub mod Targets
 pub mod Lanes
 pub mod Masks
 pub mod Slots

@@ -93,14 +93,14 @@ abbrev pub is_unstarted : Record → Bool
 is_unstarted r = nat_eq r.done 0
 
 -- what the start of a record's command costs each earlier command that waits: all the steps that it takes (profile)
-abbrev pub toll : Record → ℕ
-toll r = r.weight
+abbrev pub charge : Record → ℕ
+charge r = r.weight
 
--- what a step of a record costs each earlier command: the toll of a start (profile)
-abbrev pub step_toll : Record → ℕ
-step_toll r = cond (is_unstarted r) (toll r) 0
+-- what a step of a record costs each earlier command: the charge of a start (profile)
+abbrev pub step_charge : Record → ℕ
+step_charge r = cond (is_unstarted r) (charge r) 0
 
--- the record once its command was passed at this toll
+-- the record once its command was passed at this charge
 abbrev pub passed_by : ℕ → Record → Record
 passed_by n r = record r { passed = r.passed + n }
 

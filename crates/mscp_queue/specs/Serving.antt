@@ -1,20 +1,22 @@
 -- One step: what it does with a record and its drive, what is told of it before, and which record it may serve.
-use Rattle.std.specs.Prelude.{◌≡◌, ℕ, ◌+◌, ◌<◌, Bool, true, false, if◌then◌else◌, not, ◌&&◌, List, ◌++◌, length, map, take, drop, All, Option, Some, None, option_map}
+use Rattle.std.specs.Prelude.{◌≡◌, ℕ, ◌+◌, ◌<◌, Bool, true, false, if◌then◌else◌, List, ◌++◌, length, map, take, drop, All, Option, Some, None, option_map}
 use Rattle.mscp_packet.specs.declared.command.Order.{Order}
 use Rattle.mscp_packet.specs.declared.end.End.{End}
 use Rattle.mscp_drive.specs.Shape.{cylinder_of}
 use Rattle.mscp_drive.specs.Heads.{distance}
+use Rattle.mscp_drive.specs.declared.head.Head.{Head}
 use Rattle.mscp_events.specs.declared.block.Block.{Block}
 use Rattle.mscp_queue.specs.declared.report.Report.{Report}
 use Rattle.mscp_queue.specs.declared.report.Report.TheVariants.{Idle, Served}
 use Rattle.mscp_queue.specs.declared.drive.Drive.{Drive}
+use Rattle.mscp_queue.specs.declared.plan.Plan.{Plan}
 use Rattle.mscp_queue.specs.declared.upcoming.Upcoming.{Upcoming}
 use Rattle.mscp_queue.specs.declared.view.Choice.{Choice}
 use Rattle.mscp_queue.specs.declared.name.Name.{Name}
 use Rattle.mscp_queue.specs.Names.{same_name}
 use Rattle.mscp_queue.specs.Outcomes.{block_touched, goes_on, head_after, outcome_at, state_after}
 use Rattle.mscp_queue.specs.Drives.{replaced}
-use Rattle.mscp_queue.specs.Records.{Record, drive_at, has_name, step_toll, is_unstarted, left_of, passed_by, record_at, remains}
+use Rattle.mscp_queue.specs.Records.{Record, drive_at, has_name, step_charge, is_unstarted, left_of, passed_by, record_at, remains}
 use Rattle.mscp_queue.specs.Views.{IsPick, is_open_at}
 
 -- ---- a record on its drive
@@ -34,21 +36,31 @@ end_given k d r =
     if goes_on d.online r.command.order k (left_of r) then None
     else Some (outcome_at d.unit d.online r.command r.good k)
 
--- a step with this block is neither the first of a record's command nor the last
-abbrev pub is_amid : Block → Drive → Record → Bool
-is_amid k d r = not (is_unstarted r) && goes_on d.online r.command.order k (left_of r)
-
 -- the state that a step leaves its unit in, which ended the order so or not (manual)
 abbrev pub state_left : Bool → Order → Option End → Bool
 state_left online order None = online
 state_left online order (Some e) = state_after online order e.status
+
+-- the head after a step of a record's command (profile)
+abbrev pub head_left : Drive → Record → Head
+head_left d r = head_after (is_unstarted r) (option_map (cylinder_of d.unit) (touched d r)) d.head
+
+-- what a step with this block does: the block that it touches, how far the head goes and where it is then, and the end
+-- of the command
+abbrev pub plan_of : Block → Drive → Record → Plan
+plan_of k d r = record {
+  lbn = touched d r;
+  seek = seek_from d (touched d r);
+  head = head_left d r;
+  ended = end_given k d r;
+}
 
 -- the drive after a step of a record's command (manual, the head is the profile's)
 abbrev pub drive_after : Block → Drive → Record → Drive
 drive_after k d r = record {
   unit = d.unit;
   online = state_left d.online r.command.order (end_given k d r);
-  head = head_after (is_unstarted r) (option_map (cylinder_of d.unit) (touched d r)) d.head;
+  head = head_left d r;
 }
 
 -- what a step with this block reports of a record (manual)
@@ -73,7 +85,7 @@ upcoming_of d r =
 -- the waiting commands after a step of the record at a place: each one in front of a start was passed (profile)
 abbrev pub waiting_after : Block → Drive → List Record → ℕ → List Record
 waiting_after k d rs place =
-    map (passed_by (step_toll (record_at rs place))) (take place rs)
+    map (passed_by (step_charge (record_at rs place))) (take place rs)
     ++ (remains (record_at rs place) (end_given k d (record_at rs place)) ++ drop (place + 1) rs)
 
 -- the record at a place may be served: it is in service, or nothing is and it may start (manual, the budget is

@@ -1,42 +1,42 @@
 -- What the slots show: the waiting commands in order of arrival.
 use Rattle.std.specs.Prelude.{◌≡◌, ℕ, ◌<◌, ◌-◌, Bool, true, not, if◌then◌else◌, List, [], ◌∷◌, length, map, take, slice_index_or}
 use Rattle.std.specs.List.{list_all}
-use Rattle.mscp_queue.specs.declared.aim.Aim.{Aim}
+use Rattle.mscp_queue.specs.declared.target.Target.{Target}
 use Rattle.mscp_queue.specs.declared.masks.Masks.{Masks}
 use Rattle.mscp_queue.specs.declared.slots.Slot.{Slot}
-use Rattle.mscp_queue.specs.Aims.{no_aim}
+use Rattle.mscp_queue.specs.Targets.{no_target}
 use Rattle.mscp_queue.specs.Masks.{AreMasks, Kind, has, keeps_back}
 use Rattle.mscp_queue.specs.Orders.{is_sequential}
 use Rattle.mscp_queue.specs.Records.{Record, is_in_service, no_record}
 
 -- a slot of nothing, which stands past the end of a list
 abbrev pub no_slot : Slot
-no_slot = record { item = no_record; aim = no_aim; due = 0 }
+no_slot = record { item = no_record; target = no_target; due = 0 }
 
 -- what the slot of this number holds
-abbrev pub held : List Record → List Aim → List ℕ → ℕ → Slot
-held records aims dues k =
+abbrev pub held : List Record → List Target → List ℕ → ℕ → Slot
+held records targets dues k =
     record {
       item = slice_index_or records k no_record;
-      aim = slice_index_or aims k no_aim;
+      target = slice_index_or targets k no_target;
       due =
           slice_index_or dues k 0;
     }
 
 -- what the slots of these numbers hold
-abbrev pub shown : List Record → List Aim → List ℕ → List ℕ → List Slot
-shown records aims dues order = map (held records aims dues) order
+abbrev pub shown : List Record → List Target → List ℕ → List ℕ → List Slot
+shown records targets dues order = map (held records targets dues) order
 
 -- the slot at a place of the order of arrival: past the end, one of nothing
 abbrev pub slot_at : List Slot → ℕ → Slot
 slot_at slots place = slice_index_or slots place no_slot
 
--- the records, the aims and the dues of slots
+-- the records, the targets and the dues of slots
 abbrev pub items : List Slot → List Record
 items slots = map (λ s. s.item) slots
 
-abbrev pub aims : List Slot → List Aim
-aims slots = map (λ s. s.aim) slots
+abbrev pub targets : List Slot → List Target
+targets slots = map (λ s. s.target) slots
 
 abbrev pub dues : List Slot → List ℕ
 dues slots = map (λ s. s.due) slots
@@ -44,7 +44,7 @@ dues slots = map (λ s. s.due) slots
 -- what the masks tell of a slot
 abbrev pub kind_of : Slot → Kind
 kind_of s = record {
-  drive = s.aim.drive;
+  drive = s.target.drive;
   sequential = is_sequential s.item.command.order;
   serving = is_in_service s.item;
 }
@@ -53,8 +53,8 @@ kind_of s = record {
 abbrev pub is_unfenced : Slot → List Slot → Bool
 is_unfenced s front = list_all (λ z. not (keeps_back (kind_of z) (kind_of s))) front
 
--- what the masks tell of records that aim so
-abbrev pub kinds_of : List Record → List Aim → List Kind
+-- what the masks tell of records with these targets
+abbrev pub kinds_of : List Record → List Target → List Kind
 kinds_of [] own = []
 kinds_of (r ∷ rs) [] = []
 kinds_of (r ∷ rs) (a ∷ own) = record {
@@ -73,7 +73,7 @@ is_unfenced_at ks place = list_all (λ z. not (keeps_back z (slice_index_or ks p
 
 -- a slot whose due is so much less
 abbrev pub lowered_by : ℕ → Slot → Slot
-lowered_by by s = record { item = s.item; aim = s.aim; due = s.due - by }
+lowered_by by s = record { item = s.item; target = s.target; due = s.due - by }
 
 -- the same, but for a command in service
 abbrev pub lowered_unless_serving : ℕ → Slot → Slot
@@ -81,24 +81,24 @@ lowered_unless_serving by s = if is_in_service s.item then s else lowered_by by 
 
 -- the same with another record
 abbrev pub with_item : (Record → Record) → Slot → Slot
-with_item f s = record { item = f s.item; aim = s.aim; due = s.due }
+with_item f s = record { item = f s.item; target = s.target; due = s.due }
 
 -- the same with another due
 abbrev pub with_due : ℕ → Slot → Slot
-with_due due s = record { item = s.item; aim = s.aim; due = due }
+with_due due s = record { item = s.item; target = s.target; due = due }
 
 -- what the masks tell of the slot of this number
-abbrev pub kind_at : List Record → List Aim → ℕ → Kind
+abbrev pub kind_at : List Record → List Target → ℕ → Kind
 kind_at records own k = record {
-  drive = (slice_index_or own k no_aim).drive;
+  drive = (slice_index_or own k no_target).drive;
   sequential = is_sequential (slice_index_or records k no_record).command.order;
   serving = is_in_service (slice_index_or records k no_record);
 }
 
 -- there are 64 slots, and the masks are theirs
-pub record AreKept (records : List Record) (own : List Aim) (order : List ℕ) (m : Masks) : Type 0 where
+pub record AreKept (records : List Record) (own : List Target) (order : List ℕ) (m : Masks) : Type 0 where
   pub records_64 : length records ≡ 64
-  pub aims_64 : length own ≡ 64
-  -- each waiting command aims at one of 16 drives
-  pub drives : (k : ℕ) → has k order ≡ true → (slice_index_or own k no_aim).drive < 16
+  pub targets_64 : length own ≡ 64
+  -- the target of each waiting command is one of 16 drives
+  pub drives : (k : ℕ) → has k order ≡ true → (slice_index_or own k no_target).drive < 16
   pub masks : AreMasks (kind_at records own) order m

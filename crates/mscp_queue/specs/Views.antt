@@ -6,7 +6,7 @@ use Rattle.mscp_queue.specs.declared.view.Choice.{Choice}
 use Rattle.mscp_queue.specs.declared.name.Name.{Name}
 use Rattle.mscp_queue.specs.Names.{name_on}
 use Rattle.mscp_queue.specs.Orders.{is_move, is_sequential, order_class, order_cost}
-use Rattle.mscp_queue.specs.Records.{Record, drive_at, record_at, toll}
+use Rattle.mscp_queue.specs.Records.{Record, drive_at, record_at, charge}
 
 -- r has to stay behind z: both are of one unit, and one of them is sequential (manual, "Command Categories and
 -- Execution Order")
@@ -19,7 +19,7 @@ is_free r front = list_all (λ z. not (fences r z)) front
 
 -- each of those in front of the record keeps within the budget if it starts (profile)
 abbrev pub is_affordable : ℕ → Record → List Record → Bool
-is_affordable budget r front = list_all (λ z. nat_le (z.passed + toll r) budget) front
+is_affordable budget r front = list_all (λ z. nat_le (z.passed + charge r) budget) front
 
 -- where nothing is in service, the record behind those in front of it may start (manual, the budget is the profile's)
 abbrev pub is_open : ℕ → Record → List Record → Bool

@@ -3,12 +3,12 @@ use Rattle.std.specs.Prelude.{ℕ, ◌+◌, Bool, true, false, not, ◌||◌, na
 use Rattle.std.specs.List.{position, range_with_len}
 use Rattle.mscp_queue.specs.declared.name.Name.{Name}
 use Rattle.mscp_queue.specs.declared.why.Holder.{Holder}
-use Rattle.mscp_queue.specs.Records.{Record, has_name, record_at, toll}
+use Rattle.mscp_queue.specs.Records.{Record, has_name, record_at, charge}
 use Rattle.mscp_queue.specs.Views.{fences}
 
 -- z would be passed by more blocks than the budget, if r started (profile)
 abbrev pub is_overdrawn : ℕ → Record → Record → Bool
-is_overdrawn budget r z = not (nat_le (z.passed + toll r) budget)
+is_overdrawn budget r z = not (nat_le (z.passed + charge r) budget)
 
 -- the earlier z keeps r back
 abbrev pub keeps_back : ℕ → Record → Record → Bool

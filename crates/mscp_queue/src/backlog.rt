@@ -1,24 +1,24 @@
 // The waiting commands, and how long each may still wait.
 
-ghost use Rattle.std.specs.Prelude.{◌≡◌, ◌+◌, ◌-◌, ◌<◌, ◌≤◌, ◌^◌, ◌++◌, ◌∷◌, [], true, false, List, ℕ, cond, length, map, not, take, drop, slice_index_or, sum_by, All};
+ghost use Rattle.std.specs.Prelude.{◌≡◌, ◌+◌, ◌-◌, ◌<◌, ◌≤◌, ◌^◌, ◌++◌, ◌∷◌, [], true, false, cond, length, map, not, take, drop, slice_index_or, sum_by, All};
 ghost use Rattle.mscp_queue.specs.Dues.{clock_end, started};
-ghost use Rattle.std.specs.List.{list_all, list_any, position};
+ghost use Rattle.std.specs.List.{list_all};
 ghost use Rattle.mscp_queue.specs.Figures.{figure_at, figures};
 ghost use Rattle.mscp_queue.specs.Orders.{is_sequential};
-ghost use Rattle.mscp_queue.specs.Records.{advanced, has_name, is_in_service, is_unstarted, left_of, passed_by, record_at, step_toll};
-ghost use Rattle.mscp_queue.specs.Aims.{no_aim};
+ghost use Rattle.mscp_queue.specs.Records.{advanced, is_in_service, is_unstarted, left_of, passed_by, record_at, step_charge};
+ghost use Rattle.mscp_queue.specs.Targets.{no_target};
 ghost use Rattle.mscp_queue.specs.Drives.{IsOnUnit};
-ghost use Rattle.mscp_queue.specs.Lineups.{AreOnDrive, IsRecosted};
+ghost use Rattle.mscp_queue.specs.Candidates.{AreOnDrive, IsRecosted};
 ghost use Rattle.mscp_queue.specs.Slots.{is_unfenced_at, kinds_of, lowered_by, slot_at};
 
 mod restoring;
 
-use crate::aim::Aim;
+use crate::counted_view::CountedView;
 use crate::drive::Drive;
 use crate::name::Name;
 use crate::record::Record;
-use crate::roll::Roll;
 use crate::slots::{Slot, Slots};
+use crate::target::Target;
 use arrayvec::ArrayVec;
 use mscp_events::Connection;
 use std::marker::Model;
@@ -38,11 +38,11 @@ pub(crate) struct Backlog {
     total: u64,
 }
 
-// A clause sees the budget, the waiting commands in order of arrival, and where each aims.
+// A clause sees the budget, the waiting commands in order of arrival, and the target of each.
 impl Model for Backlog {
     ghost use Rattle.mscp_queue.specs.Dues.{AreTimed};
     ghost use Rattle.mscp_queue.specs.Waiters.{Waiters};
-    ghost use Rattle.mscp_queue.specs.Slots.{aims, items};
+    ghost use Rattle.mscp_queue.specs.Slots.{targets, items};
 
     ghost Value = { Waiters };
 
@@ -50,7 +50,7 @@ impl Model for Backlog {
         record {
           budget = b.budget;
           waiting = items b.slots;
-          aims = aims b.slots;
+          targets = targets b.slots;
         } };
 
     ghost invariant = { λ b. AreTimed b.budget b.clock b.total b.slots };
@@ -90,7 +90,7 @@ fn set_back(slots: &mut Slots, clock: u64) -> u64
 impl Backlog {
     /// No command waits. Each that comes may be passed by `budget` blocks.
     pub fn new(budget: u32) -> Backlog
-        ensures { result ≡ record { budget = budget; waiting = []; aims = [] } }
+        ensures { result ≡ record { budget = budget; waiting = []; targets = [] } }
     {
         Backlog {
             slots: Slots::new(),
@@ -104,7 +104,7 @@ impl Backlog {
     #[cfg(test)]
     pub fn at_clock(budget: u32, clock: u64) -> Backlog
         requires early { clock < clock_end }
-        ensures { result ≡ record { budget = budget; waiting = []; aims = [] } }
+        ensures { result ≡ record { budget = budget; waiting = []; targets = [] } }
     {
         Backlog {
             slots: Slots::new(),
@@ -116,7 +116,7 @@ impl Backlog {
 
     /// No command waits any more.
     pub fn clear(&mut self)
-        ensures { self.new ≡ record { budget = self.old.budget; waiting = []; aims = [] } }
+        ensures { self.new ≡ record { budget = self.old.budget; waiting = []; targets = [] } }
     {
         self.slots.clear();
         self.total = 0;
@@ -125,7 +125,7 @@ impl Backlog {
     /// How many commands wait.
     pub fn len(&self) -> usize
         ensures waiting { result ≡ length self.now.waiting }
-        ensures aims { result ≡ length self.now.aims }
+        ensures targets { result ≡ length self.now.targets }
     {
         self.slots.len()
     }
@@ -145,12 +145,12 @@ impl Backlog {
         self.slots.item(place)
     }
 
-    /// Where the command at the place aims.
-    pub fn aim(&self, place: usize) -> Aim
+    /// The target of the command at the place.
+    pub fn target(&self, place: usize) -> Target
         requires { place < length self.now.waiting }
-        ensures { result ≡ slice_index_or self.now.aims place no_aim }
+        ensures { result ≡ slice_index_or self.now.targets place no_target }
     {
-        self.slots.aim(place)
+        self.slots.target(place)
     }
 
     /// The figure of the command at the place.
@@ -171,21 +171,21 @@ impl Backlog {
         self.budget.saturating_sub(self.slots.item(0).passed())
     }
 
-    /// Finds anew what the starts on the drive at a place cost, in a roll of the commands.
-    pub fn renew(&self, roll: &mut Roll, drive: &Drive, at: usize)
+    /// Finds anew what the starts on the drive at a place cost, in a list of the commands.
+    pub fn renew(&self, view: &mut CountedView, drive: &Drive, at: usize)
         requires drive { at < 16 }
-        requires long { length roll.old ≡ length self.now.waiting }
+        requires long { length view.old ≡ length self.now.waiting }
         requires head { IsOnUnit drive.now }
-        requires to { AreOnDrive at drive.now self.now.aims }
-        ensures { IsRecosted at drive.now self.now.aims roll.old roll.new }
+        requires to { AreOnDrive at drive.now self.now.targets }
+        ensures { IsRecosted at drive.now self.now.targets view.old view.new }
     {
-        self.slots.renew(roll, drive, at);
+        self.slots.renew(view, drive, at);
     }
 
     /// Whether no command that came earlier keeps the one at the place back.
     pub fn is_free(&self, place: usize) -> bool
         requires { place < length self.now.waiting }
-        ensures { result ≡ is_unfenced_at (kinds_of self.now.waiting self.now.aims) place }
+        ensures { result ≡ is_unfenced_at (kinds_of self.now.waiting self.now.targets) place }
     {
         self.slots.is_free(place)
     }
@@ -213,7 +213,7 @@ impl Backlog {
     pub fn are_of_its_unit(&self, place: usize) -> bool
         requires { place < length self.now.waiting }
         ensures { result ≡ true
-            → All (λ a. a.drive ≡ (slice_index_or self.now.aims place no_aim).drive) (drop (place + 1) self.now.aims) }
+            → All (λ a. a.drive ≡ (slice_index_or self.now.targets place no_target).drive) (drop (place + 1) self.now.targets) }
     {
         self.slots.are_of_its_unit(place)
     }
@@ -239,21 +239,21 @@ impl Backlog {
     }
 
     /// Lets a command wait, behind all that wait.
-    pub fn push(&mut self, new: Record, aim: Aim)
+    pub fn push(&mut self, new: Record, target: Target)
         requires room { length self.old.waiting < 64 }
-        requires drive { aim.drive < 16 }
+        requires drive { target.drive < 16 }
         requires fresh { new.done ≡ 0 }
         requires unpassed { new.passed ≡ 0 }
         requires small { sum_by left_of self.old.waiting + self.old.budget < 2 ^ 32 }
         ensures waiting { self.new.waiting ≡ self.old.waiting ++ new ∷ [] }
-        ensures aims { self.new.aims ≡ self.old.aims ++ aim ∷ [] }
+        ensures targets { self.new.targets ≡ self.old.targets ++ target ∷ [] }
         ensures budget { self.new.budget ≡ self.old.budget }
     {
         let left = u64::from(new.left());
         let due = self.clock + self.total + u64::from(self.budget) + left;
         self.slots.push(Slot {
             item: new,
-            aim,
+            target,
             due,
         });
         self.total += left;
@@ -270,9 +270,9 @@ impl Backlog {
         requires affordable { is_unstarted (record_at self.old.waiting place) ≡ true → All
             (λ r. r.passed + (record_at self.old.waiting place).weight ≤ self.old.budget) (take place self.old.waiting) }
         ensures waiting { self.new.waiting
-            ≡ map (passed_by (step_toll (record_at self.old.waiting place))) (take place self.old.waiting)
+            ≡ map (passed_by (step_charge (record_at self.old.waiting place))) (take place self.old.waiting)
             ++ advanced (record_at self.old.waiting place) ∷ drop (place + 1) self.old.waiting }
-        ensures aims { self.new.aims ≡ self.old.aims }
+        ensures targets { self.new.targets ≡ self.old.targets }
         ensures budget { self.new.budget ≡ self.old.budget }
     {
         start(&mut self.slots, place, self.clock);
@@ -290,7 +290,7 @@ impl Backlog {
         requires front { All (λ r. r.done ≡ 0) (take place self.old.waiting) }
         requires back { All (λ r. r.done ≡ 0) (drop (place + 1) self.old.waiting) }
         ensures waiting { self.new.waiting ≡ take place self.old.waiting ++ drop (place + 1) self.old.waiting }
-        ensures aims { self.new.aims ≡ take place self.old.aims ++ drop (place + 1) self.old.aims }
+        ensures targets { self.new.targets ≡ take place self.old.targets ++ drop (place + 1) self.old.targets }
         ensures budget { self.new.budget ≡ self.old.budget }
     {
         let left = u64::from(self.slots.item(place).left());
@@ -304,7 +304,7 @@ impl Backlog {
         requires place { place < length self.old.waiting }
         requires unstarted { is_in_service (record_at self.old.waiting place) ≡ false }
         ensures waiting { self.new.waiting ≡ take place self.old.waiting ++ drop (place + 1) self.old.waiting }
-        ensures aims { self.new.aims ≡ take place self.old.aims ++ drop (place + 1) self.old.aims }
+        ensures targets { self.new.targets ≡ take place self.old.targets ++ drop (place + 1) self.old.targets }
         ensures budget { self.new.budget ≡ self.old.budget }
     {
         let left = u64::from(self.slots.item(place).left());
@@ -324,10 +324,10 @@ impl Backlog {
         requires affordable { is_unstarted (record_at self.old.waiting place) ≡ true → All
             (λ r. r.passed + (record_at self.old.waiting place).weight ≤ self.old.budget) (take place self.old.waiting) }
         ensures waiting { self.new.waiting
-            ≡ map (passed_by (step_toll (record_at self.old.waiting place))) (take place self.old.waiting)
+            ≡ map (passed_by (step_charge (record_at self.old.waiting place))) (take place self.old.waiting)
             ++ (cond ends [] (advanced (record_at self.old.waiting place) ∷ []) ++ drop (place + 1) self.old.waiting) }
-        ensures aims { self.new.aims
-            ≡ cond ends (take place self.old.aims ++ drop (place + 1) self.old.aims) self.old.aims }
+        ensures targets { self.new.targets
+            ≡ cond ends (take place self.old.targets ++ drop (place + 1) self.old.targets) self.old.targets }
         ensures budget { self.new.budget ≡ self.old.budget }
     {
         self.advance(place);
@@ -344,7 +344,7 @@ impl Backlog {
         requires back { is_in_service (record_at self.old.waiting place) ≡ true
             → All (λ r. r.done ≡ 0) (drop (place + 1) self.old.waiting) }
         ensures waiting { self.new.waiting ≡ take place self.old.waiting ++ drop (place + 1) self.old.waiting }
-        ensures aims { self.new.aims ≡ take place self.old.aims ++ drop (place + 1) self.old.aims }
+        ensures targets { self.new.targets ≡ take place self.old.targets ++ drop (place + 1) self.old.targets }
         ensures budget { self.new.budget ≡ self.old.budget }
     {
         if self.record(place).is_unstarted() {

@@ -4,9 +4,14 @@ ghost use Rattle.std.specs.Prelude.{◌≡◌, ◌≤◌, find, length, map};
 ghost use Rattle.std.specs.Option.{option_copied};
 ghost use Rattle.mscp_drive.specs.Shape.{one_block};
 ghost use Rattle.mscp_queue.specs.Drives.{drive_of, fresh_drive, has_number};
+ghost use Rattle.mscp_queue.specs.Outcomes.{state_after};
+ghost use Rattle.mscp_queue.specs.Serving.{state_left};
 
+use crate::outcome::is_success;
+use crate::plan::Plan;
 use arrayvec::ArrayVec;
 use mscp_drive::{Head, Unit};
+use mscp_packet::Order;
 
 /// A unit, whether it is online, and where its head is.
 #[derive(Clone, Copy, Debug, PartialEq, Eq)]
@@ -31,30 +36,31 @@ impl Drive {
         }
     }
 
-    /// Goes over to another state and another head of the same unit, which isn't written anew: a step does this.
+    /// Has the step of a command of this order, as it is planned: the head goes over, and an end may change the state. The
+    /// unit isn't written anew.
     #[inline(always)]
-    pub(crate) fn follow(&mut self, after: &Drive)
-        requires { after.now.unit ≡ self.old.unit }
-        ensures { self.new ≡ after.now }
+    pub(crate) fn follow(&mut self, order: &Order, plan: &Plan)
+        ensures { self.new ≡ record {
+          unit = self.old.unit;
+          online = state_left self.old.online order.now plan.now.ended;
+          head = plan.now.head;
+        } }
     {
-        self.online = after.online;
-        self.head = after.head;
+        if let Some(end) = &plan.ended {
+            self.online = state_after(self.online, order, end.status);
+        }
+        self.head = plan.head;
     }
+}
 
-    /// The head goes over to another place, and nothing else is written.
-    #[inline(always)]
-    pub(crate) fn move_head(&mut self, head: Head)
-        ensures { self.new ≡ record self.old { head = head } }
-    {
-        self.head = head;
-    }
-
-    /// The head goes on to another cylinder, and nothing else is written.
-    #[inline(always)]
-    pub(crate) fn carry_head(&mut self, to: u32)
-        ensures { self.new ≡ record self.old { head = record { cylinder = to; up = self.old.head.up } } }
-    {
-        self.head.cylinder = to;
+/// The state that an end of the order with this status leaves its unit in.
+fn state_after(online: bool, order: &Order, status: u16) -> bool
+    ensures { result ≡ state_after online order.now status }
+{
+    match order {
+        Order::Online if is_success(status) => true,
+        Order::Available if is_success(status) => false,
+        _ => online,
     }
 }
 

@@ -2,7 +2,7 @@
 
 ghost use Rattle.std.specs.Prelude.{◌^◌, min, ◌≡◌, ◌≢◌, ◌≤◌, ◌<◌, ◌+◌, ◌-◌, ◌*◌, ◌==◌, ℕ, if◌then◌else◌, length, slice_index, IfSome, IfNone};
 ghost use Rattle.std.specs.Int.{bit_at};
-ghost use Rattle.mscp_queue.specs.Lanes.{HasLanes, IsCost, IsFirst, IsLane, IsLeast, IsLow, lowered};
+ghost use Rattle.mscp_queue.specs.Lanes.{HasLanes, IsCost, IsFirst, IsLane, IsLeast, lowered};
 
 use std::simd::prelude::*;
 

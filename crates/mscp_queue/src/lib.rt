@@ -1,22 +1,22 @@
 //! The waiting commands of a disk controller: who may be served next, and what each may still have to wait.
 #![tactic(auto)]
 
-mod aim;
 mod backlog;
+mod candidates;
+mod counted_view;
 mod drive;
 pub mod lanes;
-mod lineup;
 mod masks;
 mod name;
 mod outcome;
 mod picker;
+mod plan;
 mod queue;
 mod record;
 mod report;
-mod roll;
-mod service;
 mod slots;
 mod start;
+mod target;
 mod upcoming;
 mod view;
 mod why;

@@ -1,6 +1,6 @@
 // The ends that commands get.
 
-ghost use Rattle.std.specs.Prelude.{◌≡◌, ◌+◌, ◌<◌, ◌^◌, cond};
+ghost use Rattle.std.specs.Prelude.{◌≡◌, ◌+◌, ◌<◌, ◌^◌};
 ghost use Rattle.mscp_queue.specs.Orders.{endcode};
 ghost use Rattle.mscp_queue.specs.Outcomes.{aborted_end, bad_status, end_with, good_status, is_success, moved_body, online_body, outcome_at, outcome_body, outcome_status, touches};
 
@@ -127,8 +127,9 @@ fn outcome_status(online: bool, order: &Order, block: &Block) -> u16
     }
 }
 
-#[inline(never)]
-/// The end of a command to this unit that a step with this block ends, when so many of its blocks were good before.
+/// The end of a command to this unit that a step with this block ends, when so many of its blocks were good before. It is
+/// built into the step, which makes no room for an end where there is none.
+#[inline(always)]
 pub(crate) fn outcome(unit: &Unit, online: bool, command: &Command, good: u32, block: &Block) -> End
     requires { good + 1 < 2 ^ 32 }
     ensures { result ≡ outcome_at unit.now online command.now good block.now }

@@ -17,15 +17,15 @@ ghost use Rattle.mscp_queue.specs.Why.{holders_of_name, is_nobody};
 mod restoring;
 mod stepping;
 
-use crate::aim::Aim;
 use crate::backlog::Backlog;
+use crate::candidates::Candidates;
 use crate::drive::{Drive, drive_of, drives_of, renew_drives};
-use crate::lineup::Lineup;
 use crate::name::Name;
 use crate::outcome::aborted_end;
 use crate::picker::Picker;
 use crate::record::Record;
 use crate::start::choice_in;
+use crate::target::Target;
 use crate::view::View;
 use crate::why::{Holder, holders_at};
 use arrayvec::ArrayVec;
@@ -61,7 +61,7 @@ pub struct Queue<K> {
     begun: Option<usize>,
     serving: Option<usize>,
     picker: K,
-    lineup: Lineup,
+    candidates: Candidates,
     // What the picker saw last, where some may not start. It is kept for its room alone, since a new one would have to be
     // cleared at each start.
     view: View,
@@ -72,7 +72,7 @@ pub struct Queue<K> {
 impl<K> Model for Queue<K> {
     ghost use Rattle.mscp_queue.specs.Lines.{Line};
     ghost use Rattle.mscp_queue.specs.Kept.{begun_name};
-    ghost use Rattle.mscp_queue.specs.Lineups.{IsPrepared};
+    ghost use Rattle.mscp_queue.specs.Candidates.{IsPrepared};
 
     ghost Value = { Line K };
 
@@ -88,7 +88,7 @@ impl<K> Model for Queue<K> {
         } };
 
     ghost invariant = { λ q.
-        IsPrepared q.room q.longest q.backlog q.drives.items q.begun q.serving q.lineup.stale q.lineup.view };
+        IsPrepared q.room q.longest q.backlog q.drives.items q.begun q.serving q.candidates.dirty q.candidates.view };
 }
 
 /// A place that is known, once the command at the place `gone` left: none where it was that.
@@ -124,7 +124,7 @@ impl<K: Picker> Queue<K> {
             begun: None,
             serving: None,
             picker,
-            lineup: Lineup::new(),
+            candidates: Candidates::new(),
             view: View::empty(),
         }
     }
@@ -135,7 +135,7 @@ impl<K: Picker> Queue<K> {
             ≡ fresh (units_of self.old.drives) self.old.room self.old.budget self.old.longest self.old.picker }
     {
         self.backlog.clear();
-        self.lineup.clear();
+        self.candidates.clear();
         renew_drives(self.drives.as_mut_slice());
         self.begun = None;
         self.serving = None;
@@ -164,7 +164,7 @@ impl<K: Picker> Queue<K> {
             connection,
             reference,
         };
-        self.lineup.has_any(name)
+        self.candidates.has_any(name)
     }
 
     /// Whether the unit of this number is online: false where it isn't configured.
@@ -189,11 +189,11 @@ impl<K: Picker> Queue<K> {
             unit: new.unit,
             order: new.order,
         };
-        let aim = Aim::of(&command, self.drives.as_slice());
+        let target = Target::of(&command, self.drives.as_slice());
         let record = Record::new(new.connection, command, new.weight);
-        self.lineup
-            .come(choice_in(self.drives.as_slice(), &record, aim));
-        self.backlog.push(record, aim);
+        self.candidates
+            .come(choice_in(self.drives.as_slice(), &record, target));
+        self.backlog.push(record, target);
     }
 
     /// The figure of the waiting command of the connection with the reference number, 0 if there is none: how many steps it
@@ -205,7 +205,7 @@ impl<K: Picker> Queue<K> {
             connection,
             reference,
         };
-        match self.lineup.place_of(name) {
+        match self.candidates.place_of(name) {
             Some(place) => self.backlog.figure(place),
             None => 0,
         }
@@ -230,7 +230,7 @@ impl<K: Picker> Queue<K> {
             connection,
             reference,
         };
-        let place = self.lineup.place_of(name);
+        let place = self.candidates.place_of(name);
         match place {
             Some(place) => holders_at(&self.backlog, self.backlog.budget(), place),
             None => ArrayVec::new(),
@@ -272,7 +272,7 @@ impl<K: Picker> Queue<K> {
             connection,
             reference,
         };
-        let place = self.lineup.place_of(name)?;
+        let place = self.candidates.place_of(name)?;
         Some(self.abort_at(place))
     }
 
@@ -286,7 +286,7 @@ impl<K: Picker> Queue<K> {
     {
         let record = *self.backlog.record(place);
         self.backlog.take_out(place);
-        self.lineup.remove(place);
+        self.candidates.remove(place);
         self.begun = without_place(self.begun, place);
         self.serving = without_place(self.serving, place);
         aborted_end(&record.command(), record.done())

@@ -1,8 +1,8 @@
 // A waiting command.
 
-ghost use Rattle.std.specs.Prelude.{◌≡◌, ◌+◌, ◌-◌, ◌<◌, ◌≤◌, ◌^◌, cond, nat_eq};
+ghost use Rattle.std.specs.Prelude.{◌≡◌, ◌+◌, ◌<◌, ◌^◌, nat_eq};
 ghost use Rattle.mscp_queue.specs.Orders.{is_sequential, order_weight};
-ghost use Rattle.mscp_queue.specs.Records.{advanced, step_toll, fresh_record, has_name, left_of, name_of, no_record, passed_by};
+ghost use Rattle.mscp_queue.specs.Records.{advanced, fresh_record, has_name, left_of, name_of, no_record, passed_by};
 
 use crate::name::Name;
 use mscp_events::Connection;
@@ -162,28 +162,6 @@ impl Record {
         self.done == 0
     }
 
-    /// The record after a step that doesn't end the command.
-    pub fn advanced(&self) -> Record
-        requires { self.now.done + 1 < 2 ^ 32 }
-        ensures { result ≡ advanced self.now }
-    {
-        Record {
-            done: self.done + 1,
-            ..*self
-        }
-    }
-
-    /// The record once its command was passed at this toll.
-    pub fn passed_by(&self, toll: u32) -> Record
-        requires { self.now.passed + toll < 2 ^ 32 }
-        ensures { result ≡ passed_by toll self.now }
-    {
-        Record {
-            passed: self.passed + toll,
-            ..*self
-        }
-    }
-
     /// The command has a step that doesn't end it. Nothing else of the record is written.
     #[inline(always)]
     pub(crate) fn advance(&mut self)
@@ -193,25 +171,13 @@ impl Record {
         self.done += 1;
     }
 
-    /// The command was passed at this toll. Nothing else of the record is written.
+    /// The command was passed at this charge. Nothing else of the record is written.
     #[inline(always)]
-    pub(crate) fn pass(&mut self, toll: u32)
-        requires { self.old.passed + toll < 2 ^ 32 }
-        ensures { self.new ≡ passed_by toll self.old }
+    pub(crate) fn pass(&mut self, charge: u32)
+        requires { self.old.passed + charge < 2 ^ 32 }
+        ensures { self.new ≡ passed_by charge self.old }
     {
-        self.passed += toll;
-    }
-
-    /// How many blocks of its budget a step of the command costs each earlier one: all of its own where it starts.
-    pub fn step_toll(&self) -> u32
-        ensures value { result ≡ step_toll self.now }
-        ensures small { result < 2 ^ 32 }
-    {
-        if self.is_unstarted() {
-            self.weight()
-        } else {
-            0
-        }
+        self.passed += charge;
     }
 }
 

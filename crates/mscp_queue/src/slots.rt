@@ -1,28 +1,28 @@
 // The slots of the waiting commands. A command keeps its slot as long as it waits, and masks of slots tell at once who
 // keeps whom back.
 
-ghost use Rattle.std.specs.Prelude.{◌≡◌, ◌≢◌, true, false, ◌+◌, ◌<◌, ◌≤◌, ◌^◌, ◌++◌, ◌∷◌, [], List, ℕ, length, map, not, take, drop, slice_set, All};
-ghost use Rattle.std.specs.List.{list_all, list_any};
+ghost use Rattle.std.specs.Prelude.{◌≡◌, true, false, ◌+◌, ◌<◌, ◌≤◌, ◌^◌, ◌++◌, ◌∷◌, [], List, length, map, not, take, drop, slice_set, All};
+ghost use Rattle.std.specs.List.{list_all};
 ghost use Rattle.mscp_queue.specs.Orders.{is_sequential};
-ghost use Rattle.mscp_queue.specs.Records.{Record as Told, advanced, is_in_service, passed_by};
+ghost use Rattle.mscp_queue.specs.Records.{advanced, is_in_service, passed_by};
 ghost use Rattle.mscp_queue.specs.Drives.{IsOnUnit};
-ghost use Rattle.mscp_queue.specs.Lineups.{AreOnDrive, IsRecosted};
-ghost use Rattle.mscp_queue.specs.Slots.{aims, dues, held, is_unfenced, items, lowered_by, lowered_unless_serving, no_slot, shown, slot_at, with_due, with_item};
+ghost use Rattle.mscp_queue.specs.Candidates.{AreOnDrive, IsRecosted};
+ghost use Rattle.mscp_queue.specs.Slots.{targets, dues, is_unfenced, items, lowered_by, lowered_unless_serving, shown, slot_at, with_due, with_item};
 
-use crate::aim::Aim;
+use crate::counted_view::CountedView;
 use crate::drive::Drive;
 use crate::lanes::lower;
 use crate::masks::{Masks, lowest_free, lowest_set, with_bit};
 use crate::record::Record;
-use crate::roll::Roll;
+use crate::target::Target;
 use arrayvec::ArrayVec;
 use std::marker::Model;
 
-/// What a slot holds: the record of a waiting command, where it aims, and its due.
+/// What a slot holds: the record of a waiting command, its target, and its due.
 #[derive(Clone, Copy)]
 pub(crate) struct Slot {
     pub item: Record,
-    pub aim: Aim,
+    pub target: Target,
     pub due: u64,
 }
 
@@ -30,7 +30,7 @@ pub(crate) struct Slot {
 #[derive(Drop)]
 pub(crate) struct Slots {
     records: [Record; 64],
-    aims: [Aim; 64],
+    targets: [Target; 64],
     dues: [u64; 64],
     // The slots that are taken, in order of arrival.
     order: ArrayVec<u8, 64>,
@@ -45,9 +45,9 @@ impl Model for Slots {
 
     ghost Value = { List Shown };
 
-    ghost view = { λ s. shown s.records s.aims s.dues s.order.items };
+    ghost view = { λ s. shown s.records s.targets s.dues s.order.items };
 
-    ghost invariant = { λ s. AreKept s.records s.aims s.order.items s.masks };
+    ghost invariant = { λ s. AreKept s.records s.targets s.order.items s.masks };
 }
 
 impl Slots {
@@ -57,7 +57,7 @@ impl Slots {
     {
         Slots {
             records: [Record::default(); 64],
-            aims: [Aim::default(); 64],
+            targets: [Target::default(); 64],
             dues: [0; 64],
             order: ArrayVec::new(),
             masks: Masks::new(),
@@ -82,16 +82,16 @@ impl Slots {
     /// Takes the lowest free slot for a command that came last.
     pub fn push(&mut self, new: Slot)
         requires room { length self.old < 64 }
-        requires drive { new.aim.drive < 16 }
+        requires drive { new.target.drive < 16 }
         ensures { self.new ≡ self.old ++ new ∷ [] }
     {
         let slot = lowest_free(self.masks.waiting);
         self.records[slot] = new.item;
-        self.aims[slot] = new.aim;
+        self.targets[slot] = new.target;
         self.dues[slot] = new.due;
         self.masks.come(
             slot,
-            usize::from(new.aim.drive),
+            usize::from(new.target.drive),
             new.item.is_sequential(),
             !new.item.is_unstarted(),
         );
@@ -105,27 +105,28 @@ impl Slots {
     {
         let slot = usize::from(self.order[place]);
         self.order.remove(place);
-        self.masks.leave(slot, usize::from(self.aims[slot].drive));
+        self.masks
+            .leave(slot, usize::from(self.targets[slot].drive));
     }
 
-    /// The command at the place was passed at this toll.
-    fn pass(&mut self, place: usize, toll: u32)
+    /// The command at the place was passed at this charge.
+    fn pass(&mut self, place: usize, charge: u32)
         requires place { place < length self.old }
-        requires small { (slot_at self.old place).item.passed + toll < 2 ^ 32 }
-        ensures { self.new ≡ slice_set self.old place (with_item (passed_by toll) (slot_at self.old place)) }
+        requires small { (slot_at self.old place).item.passed + charge < 2 ^ 32 }
+        ensures { self.new ≡ slice_set self.old place (with_item (passed_by charge) (slot_at self.old place)) }
     {
         let slot = usize::from(self.order[place]);
-        self.records[slot].pass(toll);
+        self.records[slot].pass(charge);
     }
 
-    /// Each command in front of the place was passed at this toll.
-    pub fn pass_front(&mut self, place: usize, toll: u32)
+    /// Each command in front of the place was passed at this charge.
+    pub fn pass_front(&mut self, place: usize, charge: u32)
         requires place { place ≤ length self.old }
-        requires small { All (λ s. s.item.passed + toll < 2 ^ 32) (take place self.old) }
-        ensures { self.new ≡ map (with_item (passed_by toll)) (take place self.old) ++ drop place self.old }
+        requires small { All (λ s. s.item.passed + charge < 2 ^ 32) (take place self.old) }
+        ensures { self.new ≡ map (with_item (passed_by charge)) (take place self.old) ++ drop place self.old }
     {
         for i in 0..place {
-            self.pass(i, toll);
+            self.pass(i, charge);
         }
     }
 
@@ -177,12 +178,12 @@ impl Slots {
         &self.records[usize::from(self.order[place])]
     }
 
-    /// Where the command at the place aims.
-    pub fn aim(&self, place: usize) -> Aim
+    /// The target of the command at the place.
+    pub fn target(&self, place: usize) -> Target
         requires { place < length self.now }
-        ensures { result ≡ (slot_at self.now place).aim }
+        ensures { result ≡ (slot_at self.now place).target }
     {
-        self.aims[usize::from(self.order[place])]
+        self.targets[usize::from(self.order[place])]
     }
 
     /// The due of the command at the place.
@@ -193,21 +194,21 @@ impl Slots {
         self.dues[usize::from(self.order[place])]
     }
 
-    /// Finds anew what the starts on the drive at a place cost, in a roll of the commands. It looks at no command that aims
+    /// Finds anew what the starts on the drive at a place cost, in a list of the commands. It looks at no command whose target is
     /// elsewhere.
-    pub fn renew(&self, roll: &mut Roll, drive: &Drive, at: usize)
+    pub fn renew(&self, view: &mut CountedView, drive: &Drive, at: usize)
         requires drive { at < 16 }
-        requires long { length roll.old ≡ length self.now }
+        requires long { length view.old ≡ length self.now }
         requires head { IsOnUnit drive.now }
-        requires to { AreOnDrive at drive.now (aims self.now) }
-        ensures { IsRecosted at drive.now (aims self.now) roll.old roll.new }
+        requires to { AreOnDrive at drive.now (targets self.now) }
+        ensures { IsRecosted at drive.now (targets self.now) view.old view.new }
     {
         let drive = *drive;
         let mut left = self.masks.units[at];
         while let Some(slot) = lowest_set(left, 64) {
             left = with_bit(left, slot, false);
-            let to = self.aims[slot].cylinder;
-            roll.set_cost(self.masks.place(slot), drive.head.cost(&drive.unit, to));
+            let to = self.targets[slot].cylinder;
+            view.set_cost(self.masks.place(slot), drive.head.cost(&drive.unit, to));
         }
     }
 
@@ -217,7 +218,7 @@ impl Slots {
         ensures { result ≡ is_unfenced (slot_at self.now place) (take place self.now) }
     {
         let slot = usize::from(self.order[place]);
-        let drive = usize::from(self.aims[slot].drive);
+        let drive = usize::from(self.targets[slot].drive);
         self.masks
             .is_free(slot, drive, self.records[slot].is_sequential())
     }
@@ -233,10 +234,10 @@ impl Slots {
     pub fn are_of_its_unit(&self, place: usize) -> bool
         requires { place < length self.now }
         ensures { result ≡ true
-            → All (λ s. s.aim.drive ≡ (slot_at self.now place).aim.drive) (drop (place + 1) self.now) }
+            → All (λ s. s.target.drive ≡ (slot_at self.now place).target.drive) (drop (place + 1) self.now) }
     {
         let slot = usize::from(self.order[place]);
-        let drive = usize::from(self.aims[slot].drive);
+        let drive = usize::from(self.targets[slot].drive);
         self.masks.is_last_unit(slot, drive)
     }
 }

@@ -1,22 +1,21 @@
 // Which command starts, where nothing is in service.
 
 ghost use Rattle.std.specs.Prelude.{◌≡◌, ◌++◌, ◌||◌, ◌+◌, [], ◌∷◌, ◌<◌, ◌≤◌, true, cond, length, All};
-ghost use Rattle.std.specs.List.{list_all, range_with_len};
 ghost use Rattle.mscp_drive.specs.UnitList.{IsUnitList};
-ghost use Rattle.mscp_queue.specs.Aims.{IsAimed, aim_of};
+ghost use Rattle.mscp_queue.specs.Targets.{IsTargeted, target_of};
 ghost use Rattle.mscp_queue.specs.Drives.{IsOnUnit};
 ghost use Rattle.mscp_queue.specs.Kept.{ArePassedInOrder, CanBeShown, HasBlocks, IsShut, units_of};
-ghost use Rattle.mscp_queue.specs.Lineups.{IsLineup, choice_in};
+ghost use Rattle.mscp_queue.specs.Candidates.{AreCandidates, choice_in};
 ghost use Rattle.mscp_queue.specs.Orders.{is_move, is_sequential};
 ghost use Rattle.mscp_queue.specs.Records.{drive_at, record_at};
-ghost use Rattle.mscp_queue.specs.Views.{AllMayStart, IsPick, choice_of, choices_at, is_open_at, open_places, view_of};
+ghost use Rattle.mscp_queue.specs.Views.{AllMayStart, IsPick, choice_of, is_open_at, open_places, view_of};
 
-use crate::aim::Aim;
 use crate::backlog::Backlog;
+use crate::candidates::Candidates;
 use crate::drive::Drive;
-use crate::lineup::Lineup;
 use crate::picker::Picker;
 use crate::record::Record;
+use crate::target::Target;
 use crate::view::{Choice, View};
 use arrayvec::ArrayVec;
 use mscp_packet::{Class, Order};
@@ -29,10 +28,10 @@ fn is_transfer(order: &Order) -> bool
 }
 
 /// What a picker sees of a record of a transfer, whose unit's drive is this, and whose first block is on this cylinder.
-#[tactic(auto, using(crate::proofs::Aims::cylinder_within))]
+#[tactic(auto, using(crate::proofs::Targets::cylinder_within))]
 fn transfer_choice(record: &Record, drive: &Drive, cylinder: u32) -> Choice
     requires transfer { is_move «record».now.command.order ≡ true }
-    requires aimed { IsAimed drive.now cylinder «record».now }
+    requires targeted { IsTargeted drive.now cylinder «record».now }
     ensures { result ≡ choice_of drive.now «record».now }
 {
     let command = record.command();
@@ -49,7 +48,7 @@ fn transfer_choice(record: &Record, drive: &Drive, cylinder: u32) -> Choice
 /// no transfer's costs nothing.
 fn choice_of(record: &Record, drive: &Drive, cylinder: u32) -> Choice
     requires waitable { (is_sequential «record».now.command.order || is_move «record».now.command.order) ≡ true }
-    requires aimed { IsAimed drive.now cylinder «record».now }
+    requires targeted { IsTargeted drive.now cylinder «record».now }
     ensures { result ≡ choice_of drive.now «record».now }
 {
     let command = record.command();
@@ -65,40 +64,40 @@ fn choice_of(record: &Record, drive: &Drive, cylinder: u32) -> Choice
     }
 }
 
-/// What a picker sees of a record that aims there.
-pub(crate) fn choice_in(drives: &[Drive], record: &Record, aim: Aim) -> Choice
+/// What a picker sees of a record with that target.
+pub(crate) fn choice_in(drives: &[Drive], record: &Record, target: Target) -> Choice
     requires waitable { (is_sequential «record».now.command.order || is_move «record».now.command.order) ≡ true }
     requires blocks { HasBlocks (units_of drives.now) «record».now.command }
     requires heads { All IsOnUnit drives.now }
-    requires aim { aim ≡ aim_of (units_of drives.now) «record».now.command }
+    requires target { target ≡ target_of (units_of drives.now) «record».now.command }
     ensures { result ≡ choice_in drives.now «record».now }
 {
-    choice_of(record, &drives[usize::from(aim.drive)], aim.cylinder)
+    choice_of(record, &drives[usize::from(target.drive)], target.cylinder)
 }
 
 /// The record at a place, the drive of its unit, and the cylinder of its first block.
-fn aimed_at<'a>(
+fn targeted_at<'a>(
     backlog: &'a Backlog,
     drives: &'a [Drive],
     place: usize,
 ) -> (&'a Record, &'a Drive, u32)
-    requires waiting { CanBeShown drives.now backlog.now.waiting backlog.now.aims }
+    requires waiting { CanBeShown drives.now backlog.now.waiting backlog.now.targets }
     requires place { place < length backlog.now.waiting }
     ensures record { result.0.now ≡ record_at backlog.now.waiting place }
     ensures drive { result.1.now ≡ drive_at drives.now backlog.now.waiting place }
-    ensures aimed { IsAimed result.1.now result.2 result.0.now }
+    ensures targeted { IsTargeted result.1.now result.2 result.0.now }
 {
-    let aim = backlog.aim(place);
+    let target = backlog.target(place);
     (
         backlog.record(place),
-        &drives[usize::from(aim.drive)],
-        aim.cylinder,
+        &drives[usize::from(target.drive)],
+        target.cylinder,
     )
 }
 
 /// Whether the record at a place may start, where the oldest has so much left of the budget.
 fn may_start(backlog: &Backlog, drives: &[Drive], place: usize, unspent: u32) -> bool
-    requires waiting { CanBeShown drives.now backlog.now.waiting backlog.now.aims }
+    requires waiting { CanBeShown drives.now backlog.now.waiting backlog.now.targets }
     requires place { place < length backlog.now.waiting }
     requires order { ArePassedInOrder backlog.now.waiting }
     requires unspent { unspent + (record_at backlog.now.waiting 0).passed ≡ backlog.now.budget }
@@ -111,7 +110,7 @@ fn may_start(backlog: &Backlog, drives: &[Drive], place: usize, unspent: u32) ->
 /// sequential command, which stands there.
 fn is_shut(backlog: &Backlog, place: usize, unspent: u32) -> bool
     requires place { place < length backlog.now.waiting }
-    ensures { result ≡ true → IsShut backlog.now.waiting backlog.now.aims place unspent }
+    ensures { result ≡ true → IsShut backlog.now.waiting backlog.now.targets place unspent }
 {
     unspent == 0 || (backlog.record(place).is_sequential() && backlog.are_of_its_unit(place))
 }
@@ -128,14 +127,14 @@ fn show_if(
     requires few { length view.old < 64 }
     requires room { length places.old.items < 64 }
     requires low { place < 64 }
-    requires waiting { CanBeShown drives.now backlog.now.waiting backlog.now.aims }
+    requires waiting { CanBeShown drives.now backlog.now.waiting backlog.now.targets }
     requires place { place < length backlog.now.waiting }
     ensures shown { view.new ≡ view.old ++ cond may_start
         (choice_of (drive_at drives.now backlog.now.waiting place) (record_at backlog.now.waiting place) ∷ []) [] }
     ensures kept { places.new.items ≡ places.old.items ++ cond may_start (place ∷ []) [] }
 {
     if may_start {
-        let (record, drive, cylinder) = aimed_at(backlog, drives, place);
+        let (record, drive, cylinder) = targeted_at(backlog, drives, place);
         view.push(choice_of(record, drive, cylinder));
         places.push(place as u8);
     }
@@ -146,7 +145,7 @@ fn show_if(
 fn show_each(view: &mut View, backlog: &Backlog, drives: &[Drive]) -> ArrayVec<u8, 64>
     requires view { view.old ≡ [] }
     requires some { 0 < length backlog.now.waiting }
-    requires waiting { CanBeShown drives.now backlog.now.waiting backlog.now.aims }
+    requires waiting { CanBeShown drives.now backlog.now.waiting backlog.now.targets }
     requires order { ArePassedInOrder backlog.now.waiting }
     requires passed { (record_at backlog.now.waiting 0).passed ≤ backlog.now.budget }
     ensures view { view.new ≡ view_of backlog.now.budget drives.now backlog.now.waiting }
@@ -168,13 +167,13 @@ fn show_each(view: &mut View, backlog: &Backlog, drives: &[Drive]) -> ArrayVec<u
 fn show_oldest(view: &mut View, backlog: &Backlog, drives: &[Drive])
     requires view { view.old ≡ [] }
     requires some { 0 < length backlog.now.waiting }
-    requires waiting { CanBeShown drives.now backlog.now.waiting backlog.now.aims }
+    requires waiting { CanBeShown drives.now backlog.now.waiting backlog.now.targets }
     requires order { ArePassedInOrder backlog.now.waiting }
     requires spent { (record_at backlog.now.waiting 0).passed ≡ backlog.now.budget }
     ensures view { view.new ≡ view_of backlog.now.budget drives.now backlog.now.waiting }
     ensures places { open_places backlog.now.budget backlog.now.waiting ≡ 0 ∷ [] }
 {
-    let (record, drive, cylinder) = aimed_at(backlog, drives, 0);
+    let (record, drive, cylinder) = targeted_at(backlog, drives, 0);
     view.push(choice_of(record, drive, cylinder));
 }
 
@@ -193,29 +192,30 @@ fn may_all_start(backlog: &Backlog, longest: u32) -> bool
 }
 
 /// The place of the record that the picker picks, of those that may start: the view is made anew, and shows these. Where
-/// all may start it is the lineup, in which a record has its place.
+/// all may start it is the candidates, in which a record has its place.
+#[inline(never)]
 pub(crate) fn picked_place<K: Picker>(
     backlog: &Backlog,
     drives: &[Drive],
     longest: u32,
     picker: &K,
-    lineup: &mut Lineup,
+    candidates: &mut Candidates,
     view: &mut View,
 ) -> usize
     requires some { 0 < length backlog.now.waiting }
-    requires waiting { CanBeShown drives.now backlog.now.waiting backlog.now.aims }
+    requires waiting { CanBeShown drives.now backlog.now.waiting backlog.now.targets }
     requires order { ArePassedInOrder backlog.now.waiting }
     requires passed { (record_at backlog.now.waiting 0).passed ≤ backlog.now.budget }
     requires short { All (λ r. r.weight ≤ longest) backlog.now.waiting }
     requires units { IsUnitList (units_of drives.now) }
-    requires lined { IsLineup lineup.old.stale drives.now backlog.now.waiting lineup.old.view }
+    requires listed { AreCandidates candidates.old.dirty drives.now backlog.now.waiting candidates.old.view }
     ensures inside { result < length backlog.now.waiting }
     ensures picked { IsPick (K.picks picker.now) backlog.now.budget drives.now backlog.now.waiting result }
-    ensures lined { IsLineup lineup.new.stale drives.now backlog.now.waiting lineup.new.view }
+    ensures listed { AreCandidates candidates.new.dirty drives.now backlog.now.waiting candidates.new.view }
 {
     if may_all_start(backlog, longest) {
-        lineup.renew_all(backlog, drives);
-        return picker.pick(lineup.view.shown());
+        candidates.renew_all(backlog, drives);
+        return picker.pick(candidates.view.shown());
     }
     view.clear();
     if backlog.unspent() == 0 {

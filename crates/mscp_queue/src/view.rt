@@ -1,7 +1,7 @@
 // What a picker sees.
 
 ghost use Rattle.std.specs.Prelude.{◌≡◌, ◌↔◌, ◌<◌, ◌≤◌, ◌+◌, [], ◌∷◌, ◌++◌, length, take, drop, slice_index_or, slice_set, IsSome, IfSome};
-ghost use Rattle.mscp_queue.specs.Lineups.{costing, no_choice};
+ghost use Rattle.mscp_queue.specs.Candidates.{costing, no_choice};
 ghost use Rattle.mscp_queue.specs.Pickers.{IsRow};
 ghost use Rattle.mscp_queue.specs.Views.{choice_name};
 

@@ -1,7 +1,6 @@
 // Why a command may not start.
 
 ghost use Rattle.std.specs.Prelude.{◌≡◌, ◌<◌, ◌≤◌, ◌||◌, ◌++◌, ◌∷◌, [], cond, length};
-ghost use Rattle.mscp_queue.specs.Records.{record_at};
 ghost use Rattle.mscp_queue.specs.Views.{fences, is_open_at};
 ghost use Rattle.mscp_queue.specs.Why.{holder_of, holders_at, is_nobody, is_overdrawn};
 

@@ -18,7 +18,7 @@ use Rattle.mscp_queue.specs.declared.name.Name.{Name}
 use Rattle.mscp_queue.specs.declared.view.Choice.{Choice}
 use Rattle.mscp_queue.specs.Drives.{drive_of, fresh_drive, has_number, replaced}
 use Rattle.mscp_queue.specs.Lines.{ServesAt}
-use Rattle.mscp_queue.specs.Records.{Record, fresh_record, has_name, name_of, no_record, passed_by, record_at, remains, step_toll}
+use Rattle.mscp_queue.specs.Records.{Record, fresh_record, has_name, name_of, no_record, passed_by, record_at, remains, step_charge}
 use Rattle.mscp_queue.specs.Serving.{IsServable, drive_after, drives_after, end_given, report_of, waiting_after}
 use Rattle.mscp_queue.proofs.Named.{is_same}
 use Rattle.mscp_queue.proofs.Placed.{at_place}
@@ -213,7 +213,7 @@ pub holds_stepped : (c : Settings) (s : Shape) (t : Trace) (A : List Record) (r 
     (us : Both (List End)) (d : Drive) → IsUnit c s → r.command.unit ≡ s.number → d.unit.number ≡ s.number
     → IsServable c.budget (A ++ r ∷ B) (length A) → Holds c s t (A ++ r ∷ B) us d
     → Holds c s (t ++ stepped d r ∷ [])
-    (map (passed_by (step_toll r)) A ++ (remains r (end_given Good d r) ++ B))
+    (map (passed_by (step_charge r)) A ++ (remains r (end_given Good d r) ++ B))
     (ends_after us (report_of Good d r)) (drive_after Good d r)
 holds_stepped c s t A r B us d w unit own can h =
     let rs = A ++ r ∷ B in
@@ -247,8 +247,8 @@ holds_stepped c s t A r B us d w unit own can h =
     (record { follows = h.follows; driven = h.driven }) serves refl in
     let all = turn.sends in
     let m = stepped d r in
-    let wait : new.waiting ≡ map (passed_by (step_toll r)) A ++ (remains r (end_given Good d r) ++ B) =
-    λ i. map (passed_by (step_toll (at.item i))) (at.before i)
+    let wait : new.waiting ≡ map (passed_by (step_charge r)) A ++ (remains r (end_given Good d r) ++ B) =
+    λ i. map (passed_by (step_charge (at.item i))) (at.before i)
     ++ (remains (at.item i) (end_given Good (drive i) (at.item i)) ++ at.behind i) in
     let changed : new.drives ≡ replaced s.number (drive_after Good d r) ds =
     (λ i. replaced (at.item i).command.unit (drive_after Good (drive i) (at.item i)) ds)

@@ -22,7 +22,7 @@ use Rattle.mscp_events.specs.declared.connection.Connection.TheVariants.{First, 
 use Rattle.mscp_queue.specs.declared.report.Report.{Report}
 use Rattle.mscp_queue.specs.declared.report.Report.TheVariants.{Served}
 use Rattle.mscp_queue.specs.Outcomes.{end_with, head_after, outcome_at}
-use Rattle.mscp_queue.specs.Records.{Record, fresh_record, no_record, passed_by, remains, step_toll}
+use Rattle.mscp_queue.specs.Records.{Record, fresh_record, no_record, passed_by, remains, step_charge}
 use Rattle.mscp_queue.specs.Serving.{IsServable, drive_after, end_given, report_of, state_left}
 use Rattle.mscp_queue.specs.Views.{is_affordable, is_free, is_open}
 use Rattle.mscp_queue.proofs.Lists.{every_append}
@@ -118,7 +118,7 @@ pub stands_stepped : (c : Settings) (s : Shape) (t : Trace) (A : List Record) (x
     → IsServable c.budget (A ++ record_of s x j p ∷ B) (length A)
     → Stands c s t (A ++ record_of s x j p ∷ B) us (block_before x from j)
     → Stands c s (t ++ stepping s x from j ∷ [])
-    (map (passed_by (step_toll (record_of s x j p))) A ++ (remains (record_of s x j p) (ended s x j) ++ B))
+    (map (passed_by (step_charge (record_of s x j p))) A ++ (remains (record_of s x j p) (ended s x j) ++ B))
     (ends_after us (read_report s x from j)) (x.first + j)
 stands_stepped c s t A x from j p B us w r l can h =
     let k = record_of s x j p in
@@ -128,7 +128,7 @@ stands_stepped c s t A x from j p B us w r l can h =
     let first = holds_stepped c s t A k B us d w refl refl can h.holds in
     let report = report_is c s x from j p h.up r l in
     let end = ended_is c s x j p (block_before x from j) h.up r l in
-    let left : Option End → List Record = λ o. map (passed_by (step_toll k)) A ++ (remains k o ++ B) in
+    let left : Option End → List Record = λ o. map (passed_by (step_charge k)) A ++ (remains k o ++ B) in
     let t' = t ++ stepping s x from j ∷ [] in
     record {
       up = up;
@@ -204,13 +204,13 @@ stands_ended : (c : Settings) (s : Shape) (t : Trace) (A : List Record) (x : Tra
     (B : List Record) → IsUnit c s → IsRead c s x → suc j ≡ x.blocks
     → IsServable c.budget (A ++ record_of s x j p ∷ B) (length A)
     → Stands c s (steps_on s x from t j) (A ++ record_of s x j p ∷ B) nothing (block_before x from j)
-    → Stands c s (runs_on s x from t) (map (passed_by (step_toll (record_of s x j p))) A ++ B) nothing (x.first + j)
+    → Stands c s (runs_on s x from t) (map (passed_by (step_charge (record_of s x j p))) A ++ B) nothing (x.first + j)
 stands_ended c s t A x from j p B w r last can h =
     let k = record_of s x j p in
     let u = steps_on s x from t j in
     let end = read_end s x in
     let via = x.connection in
-    let front = map (passed_by (step_toll k)) A in
+    let front = map (passed_by (step_charge k)) A in
     let seek = distance (cylinder_of s (block_before x from j)) (cylinder_of s (x.first + j)) in
     let report : Report = Served via x.reference s.number (Some (x.first + j)) (nat_eq j 0) seek (Some end) in
     let next = stands_stepped c s u A x from j p B nothing w r (omega (arith, last)) can h in

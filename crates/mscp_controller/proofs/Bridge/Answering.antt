@@ -13,8 +13,7 @@ answered_push : {K : Type 0} (picks : List Choice → ℕ → Type 0) (h m h' : 
     → Answered picks h (es ++ e ∷ []) (ns ++ n ∷ []) h'
 answered_push {K} picks h m h' [] [] e n r a = (h', subst (λ (x : Holdings K). Answers picks x e n h') r a, refl)
 answered_push picks h m h' (e' ∷ es) (n' ∷ ns) e n r a = (r.0, r.1, answered_push picks r.0 m h' es ns e n r.2 a)
-answered_push picks h m h' [] (n' ∷ ns) e n r a = absurd r
-answered_push picks h m h' (e' ∷ es) [] e n r a = absurd r
+answered_push picks h m h' _ _ e n r a = absurd r
 
 -- what a controller has answered so far
 pub record Goes {K : Type 0} (picks : List Choice → ℕ → Type 0) (start now : Holdings K) (events : List Event) (i : ℕ)

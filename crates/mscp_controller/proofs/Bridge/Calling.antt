@@ -244,18 +244,7 @@ plain {K} picks calls events.Look (entries.Looked list) h h' v a legal b r =
     (turns picks h h' (history calls) events.Look (entries.Looked list) v a r) legal refl refl
     (λ n y e w own. ap (λ (x : Holdings K). x.begun) r.1 ∙ e)
     (λ n. unbegun_kept picks h h' events.Look (entries.Looked list) n r) b
-plain picks calls (events.Send via message) (entries.Taken other end) h h' v a legal b r = absurd r
-plain picks calls (events.Send via message) (entries.Stepped report) h h' v a legal b r = absurd r
-plain picks calls (events.Send via message) (entries.Looked list) h h' v a legal b r = absurd r
-plain picks calls (events.Take via) (entries.Sent other sent) h h' v a legal b r = absurd r
-plain picks calls (events.Take via) (entries.Stepped report) h h' v a legal b r = absurd r
-plain picks calls (events.Take via) (entries.Looked list) h h' v a legal b r = absurd r
-plain picks calls (events.Step k) (entries.Sent other sent) h h' v a legal b r = absurd r
-plain picks calls (events.Step k) (entries.Taken other end) h h' v a legal b r = absurd r
-plain picks calls (events.Step k) (entries.Looked list) h h' v a legal b r = absurd r
-plain picks calls events.Look (entries.Sent other sent) h h' v a legal b r = absurd r
-plain picks calls events.Look (entries.Taken other end) h h' v a legal b r = absurd r
-plain picks calls events.Look (entries.Stepped report) h h' v a legal b r = absurd r
+plain picks calls _ _ h h' v a legal b r = absurd r
 
 -- ---- a finish
 

@@ -15,7 +15,7 @@ use Rattle.mscp_queue.specs.declared.report.Report.TheVariants as reports
 use Rattle.mscp_queue.specs.declared.view.Choice.{Choice}
 use Rattle.mscp_queue.specs.Lines.{Line, Serves}
 use Rattle.mscp_queue.specs.Names.{name_on, same_connection}
-use Rattle.mscp_queue.specs.Records.{Record, advanced, drive_at, fresh_record, has_name, no_record, step_toll, passed_by, record_at, remains, without}
+use Rattle.mscp_queue.specs.Records.{Record, advanced, drive_at, fresh_record, has_name, no_record, step_charge, passed_by, record_at, remains, without}
 use Rattle.mscp_queue.specs.Serving.{end_given}
 use Rattle.mscp_queue.proofs.Lists.{every_from, filter_filter, filter_on}
 use Rattle.mscp_queue.proofs.Named.{one_side, other_side}
@@ -94,7 +94,7 @@ count_stepped {K} via picks k old (reports.Served connection reference unit lbn 
       arith,
       ap (λ (l : Line K). length (waiting_on via l.waiting)) s.left,
       ap length ends,
-      count_after via (step_toll r) place old.waiting e s.next.servable.inside,
+      count_after via (step_charge r) place old.waiting e s.next.servable.inside,
     )
 
 -- ---- a command comes

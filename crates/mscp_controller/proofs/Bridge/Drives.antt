@@ -79,10 +79,7 @@ order_found c u orders.Available i h = fault_found (unit_found c u) h
 order_found c u orders.Online i h = fault_found (unit_found c u) h
 order_found c u orders.SetUnit i h = fault_found (unit_found c u) h
 order_found c u (orders.Invalid opcode status) i h = absurd (true≢false (ap is_some h))
-order_found c u (orders.Abort other) i h = absurd (true≢false i)
-order_found c u (orders.Status other) i h = absurd (true≢false i)
-order_found c u orders.UnitStatus i h = absurd (true≢false i)
-order_found c u (orders.SetController version) i h = absurd (true≢false i)
+order_found c u _ i h = absurd (true≢false i)
 
 queued_configured : (c : Settings) (k : Command) → is_queued c k ≡ true → IsConfigured c k
 queued_configured c k q = let o = queued_open c k q in order_found c k.unit k.order o.waits o.sound

@@ -153,18 +153,7 @@ turns picks h h' t (events.Step k) (entries.Stepped report) v a r = steps picks 
 turns {K} picks h h' t events.Look (entries.Looked list) v a r =
     subst (λ (x : Holdings K). Turns h.settings picks t (events.Look, entries.Looked list) h.begun x) (sym r.1)
     (record { sends = looks h t list v.some_blocks a r.0; same = λ n b. tt; picked = λ b. tt })
-turns picks h h' t (events.Send via message) (entries.Taken other end) v a r = absurd r
-turns picks h h' t (events.Send via message) (entries.Stepped report) v a r = absurd r
-turns picks h h' t (events.Send via message) (entries.Looked list) v a r = absurd r
-turns picks h h' t (events.Take via) (entries.Sent other sent) v a r = absurd r
-turns picks h h' t (events.Take via) (entries.Stepped report) v a r = absurd r
-turns picks h h' t (events.Take via) (entries.Looked list) v a r = absurd r
-turns picks h h' t (events.Step k) (entries.Sent other sent) v a r = absurd r
-turns picks h h' t (events.Step k) (entries.Taken other end) v a r = absurd r
-turns picks h h' t (events.Step k) (entries.Looked list) v a r = absurd r
-turns picks h h' t events.Look (entries.Sent other sent) v a r = absurd r
-turns picks h h' t events.Look (entries.Taken other end) v a r = absurd r
-turns picks h h' t events.Look (entries.Stepped report) v a r = absurd r
+turns picks h h' t _ _ v a r = absurd r
 
 -- ---- a whole history
 
@@ -203,8 +192,7 @@ comes_after {K} c picks t h h' (e ∷ es) (n ∷ ns) v r k =
     let next = r.0 in
     subst (λ u. Comes c picks u h') (append_assoc t ((e, n) ∷ []) (zip es ns))
     (comes_after c picks (t ++ (e, n) ∷ []) next h' es ns v r.2 (comes_more c picks t h next e n v r.1 k))
-comes_after c picks t h h' [] (n ∷ ns) v r k = absurd r
-comes_after c picks t h h' (e ∷ es) [] v r k = absurd r
+comes_after c picks t h h' _ _ v r k = absurd r
 
 none_untaken : (c : Settings) (via : Connection) → of via (record { first = []; second = [] }) ≡ untaken c via []
 unfolding untaken ends collect
@@ -239,5 +227,4 @@ pub as_many : {K : Type 0} (picks : List Choice → ℕ → Type 0) (h h' : Hold
     → Answered picks h es ns h' → length ns ≡ length es
 as_many picks h h' [] [] r = refl
 as_many picks h h' (e ∷ es) (n ∷ ns) r = ap (λ k. suc k) (as_many picks r.0 h' es ns r.2)
-as_many picks h h' [] (n ∷ ns) r = absurd r
-as_many picks h h' (e ∷ es) [] r = absurd r
+as_many picks h h' _ _ r = absurd r

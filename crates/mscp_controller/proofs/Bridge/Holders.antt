@@ -16,7 +16,7 @@ use Rattle.mscp_events.specs.Settings.{Settings}
 use Rattle.mscp_controller.specs.History.{Trace}
 use Rattle.mscp_controller.specs.Commands.{earlier, is_idle, name, waiting}
 use Rattle.mscp_controller.specs.Holders.{holder, holders, holders_found, holders_of, keeps_back}
-use Rattle.mscp_controller.specs.Passing.{fences, is_free, is_startable, passed, toll}
+use Rattle.mscp_controller.specs.Passing.{fences, is_free, is_startable, passed, charge}
 use Rattle.mscp_controller.proofs.Bridge.Held.{has_held, held_of}
 use Rattle.mscp_controller.proofs.Bridge.Viewed.{filter_places, front_held, record_held, waiting_at}
 
@@ -118,6 +118,6 @@ pub startable_unheld : (c : Settings) (t : Trace) (y : ℕ) → is_idle t ≡ tr
     → is_startable c t y ≡ is_nobody (holders c t y)
 unfolding is_startable is_free holders
 startable_unheld c t y idle =
-    let affords : ℕ → Bool = λ z. nat_le (passed t z + toll t y) c.budget in
+    let affords : ℕ → Bool = λ z. nat_le (passed t z + charge t y) c.budget in
     ap (λ b. b && list_all (λ z. not (fences t y z)) (earlier t y) && list_all affords (earlier t y)) idle
     ∙ sym (none_keeps (holder c t y) (fences t y) affords (earlier t y))

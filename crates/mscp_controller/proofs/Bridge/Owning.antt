@@ -65,18 +65,7 @@ owner_kept picks h h' (events.Step k) (entries.Stepped report) r =
     (r.settings, (stays picks k (line_of h) report (line_of h') r.serves).3)
 owner_kept {K} picks h h' events.Look (entries.Looked list) r =
     subst (λ (x : Holdings K). IsSameOwner h x) (sym r.1) (refl, refl)
-owner_kept picks h h' (events.Send via message) (entries.Taken other end) r = absurd r
-owner_kept picks h h' (events.Send via message) (entries.Stepped report) r = absurd r
-owner_kept picks h h' (events.Send via message) (entries.Looked list) r = absurd r
-owner_kept picks h h' (events.Take via) (entries.Sent other sent) r = absurd r
-owner_kept picks h h' (events.Take via) (entries.Stepped report) r = absurd r
-owner_kept picks h h' (events.Take via) (entries.Looked list) r = absurd r
-owner_kept picks h h' (events.Step k) (entries.Sent other sent) r = absurd r
-owner_kept picks h h' (events.Step k) (entries.Taken other end) r = absurd r
-owner_kept picks h h' (events.Step k) (entries.Looked list) r = absurd r
-owner_kept picks h h' events.Look (entries.Sent other sent) r = absurd r
-owner_kept picks h h' events.Look (entries.Taken other end) r = absurd r
-owner_kept picks h h' events.Look (entries.Stepped report) r = absurd r
+owner_kept picks h h' _ _ r = absurd r
 
 -- ---- nothing is begun
 
@@ -116,15 +105,4 @@ unbegun_kept {K} picks h h' (events.Take via) (entries.Taken other end) n r =
 unbegun_kept picks h h' (events.Step k) (entries.Stepped report) n r =
     unbegun_stepped picks k (line_of h) report (line_of h') n r.serves
 unbegun_kept {K} picks h h' events.Look (entries.Looked list) n r = ap (λ (x : Holdings K). x.begun) r.1 ∙ n
-unbegun_kept picks h h' (events.Send via message) (entries.Taken other end) n r = absurd r
-unbegun_kept picks h h' (events.Send via message) (entries.Stepped report) n r = absurd r
-unbegun_kept picks h h' (events.Send via message) (entries.Looked list) n r = absurd r
-unbegun_kept picks h h' (events.Take via) (entries.Sent other sent) n r = absurd r
-unbegun_kept picks h h' (events.Take via) (entries.Stepped report) n r = absurd r
-unbegun_kept picks h h' (events.Take via) (entries.Looked list) n r = absurd r
-unbegun_kept picks h h' (events.Step k) (entries.Sent other sent) n r = absurd r
-unbegun_kept picks h h' (events.Step k) (entries.Taken other end) n r = absurd r
-unbegun_kept picks h h' (events.Step k) (entries.Looked list) n r = absurd r
-unbegun_kept picks h h' events.Look (entries.Sent other sent) n r = absurd r
-unbegun_kept picks h h' events.Look (entries.Taken other end) n r = absurd r
-unbegun_kept picks h h' events.Look (entries.Stepped report) n r = absurd r
+unbegun_kept picks h h' _ _ n r = absurd r

@@ -22,7 +22,7 @@ use Rattle.mscp_events.specs.declared.connection.Connection.TheVariants.{First, 
 use Rattle.mscp_queue.specs.Names.{same_connection, same_name}
 use Rattle.mscp_queue.specs.Orders.{order_weight}
 use Rattle.mscp_queue.specs.Outcomes.{goes_on, is_good_block, touches}
-use Rattle.mscp_queue.specs.Records.{Record, advanced, step_toll, passed_by, record_at, remains}
+use Rattle.mscp_queue.specs.Records.{Record, advanced, step_charge, passed_by, record_at, remains}
 use Rattle.mscp_queue.specs.Records as recorded
 use Rattle.mscp_queue.specs.Serving.{IsNext, drive_after, end_given, report_of, waiting_after}
 use Rattle.mscp_events.specs.declared.event.Event.TheVariants as events
@@ -157,21 +157,21 @@ held_passed t m x n l d g p = λ i.
     }
 
 cost_held : (t : Trace) (y : ℕ) (b : Bool) → nat_eq (done t y) 0 ≡ b
-    → step_toll (held_of t y) ≡ cond b (weight t y) 0
+    → step_charge (held_of t y) ≡ cond b (weight t y) 0
 cost_held t y b e = ap (λ b. cond b (weight t y) 0) e
 
 -- by how much a command in front was passed then
-front_tolled : (c : Settings) (t : Trace) (k : Block) (y : ℕ) (A B : List ℕ)
+front_charged : (c : Settings) (t : Trace) (k : Block) (y : ℕ) (A B : List ℕ)
     → Step c t (serving c t k y) (service_by c t k y) k y A B
     → (nat_eq (done t y) 0 ≡ true → AllByRecursion (λ x. passings.is_unstarted t x ≡ true) A)
-    → AllByRecursion (λ x. passed (t ++ serving c t k y ∷ []) x ≡ passed t x + step_toll (held_of t y)) A
-front_tolled c t k y A B st idle =
+    → AllByRecursion (λ x. passed (t ++ serving c t k y ∷ []) x ≡ passed t x + step_charge (held_of t y)) A
+front_charged c t k y A B st idle =
     let m = serving c t k y in
     let s = service_by c t k y in
     let at = st.serves.among.at in
     let Q : ℕ → ℕ → Type 0 = λ n x. passed (t ++ m ∷ []) x ≡ passed t x + n in
-    let both : (b : Bool) → nat_eq (done t y) 0 ≡ b → AllByRecursion (Q (step_toll (held_of t y))) A =
-    λ b. elim b as (λ b. nat_eq (done t y) 0 ≡ b → AllByRecursion (Q (step_toll (held_of t y))) A) [
+    let both : (b : Bool) → nat_eq (done t y) 0 ≡ b → AllByRecursion (Q (step_charge (held_of t y))) A =
+    λ b. elim b as (λ b. nat_eq (done t y) 0 ≡ b → AllByRecursion (Q (step_charge (held_of t y))) A) [
       | true ↦ λ e. subst (λ n. AllByRecursion (Q n) A) (sym (cost_held t y true e))
           (every_weaker (λ x. (x < y) × (passings.is_unstarted t x ≡ true)) (Q (weight t y))
           (λ x h. passed_front c t m s k y A B st e x h.0 h.1) A
@@ -186,11 +186,11 @@ front_tolled c t k y A B st idle =
 front_passed : (c : Settings) (t : Trace) (k : Block) (y : ℕ) (A B : List ℕ)
     → Step c t (serving c t k y) (service_by c t k y) k y A B
     → (nat_eq (done t y) 0 ≡ true → AllByRecursion (λ x. passings.is_unstarted t x ≡ true) A)
-    → map (passed_by (step_toll (held_of t y))) (map (held_of t) A) ≡ map (held_of (t ++ serving c t k y ∷ [])) A
+    → map (passed_by (step_charge (held_of t y))) (map (held_of t) A) ≡ map (held_of (t ++ serving c t k y ∷ [])) A
 front_passed c t k y A B st idle =
     let m = serving c t k y in
     let t' = t ++ m ∷ [] in
-    let n = step_toll (held_of t y) in
+    let n = step_charge (held_of t y) in
     let at = st.serves.among.at in
     let D : ℕ → Type 0 = λ x. (x < length t) × (done t' x ≡ done t x) in
     let P : ℕ → Type 0 = λ x. passed t' x ≡ passed t x + n in
@@ -199,7 +199,7 @@ front_passed c t k y A B st idle =
     (every_weaker (λ x. D x × P x) (λ x. passed_by n (held_of t x) ≡ held_of t' x)
     (λ x h. sym (held_passed t m x n h.0.0 h.0.1 (good_same t m x h.0.0 h.0.1) h.1)) A
     (every_both D P A (every_both (λ x. x < length t) (λ x. done t' x ≡ done t x) A (below_parts t y A B at).0
-    st.changes.front_done) (front_tolled c t k y A B st idle)))
+    st.changes.front_done) (front_charged c t k y A B st idle)))
 
 -- ---- the command itself, where it goes on
 
@@ -277,14 +277,14 @@ waiting_served c t k place d apart n e idle =
     let st = step_at c t k place apart n in
     let gone = cond (is_some o) [] (y ∷ []) in
     let leaves : Drive → Record → List Record → List Record → List Record =
-    λ d r front back. map (passed_by (step_toll r)) front ++ (remains r (end_given k d r) ++ back) in
+    λ d r front back. map (passed_by (step_charge r)) front ++ (remains r (end_given k d r) ++ back) in
     ap (λ r. leaves d r (take place rs) (drop (place + 1) rs)) (record_held t place n.inside)
     ∙ (ap (λ d. leaves d (held_of t y) (take place rs) (drop (place + 1) rs)) e
     ∙ (ap (λ a. leaves (drive_by c t (unit t y)) (held_of t y) a (drop (place + 1) rs))
     (take-map (held_of t) place (waiting t))
     ∙ (ap (λ b. leaves (drive_by c t (unit t y)) (held_of t y) (map (held_of t) A) b)
     (drop-map (held_of t) (place + 1) (waiting t))
-    ∙ (ap (λ x. map (passed_by (step_toll (held_of t y))) (map (held_of t) A)
+    ∙ (ap (λ x. map (passed_by (step_charge (held_of t y))) (map (held_of t) A)
     ++ (remains (held_of t y) x ++ map (held_of t) B)) (end_held c t k y)
     ∙ (ap (λ a. a ++ (remains (held_of t y) o ++ map (held_of t) B)) (front_passed c t k y A B st idle)
     ∙ (ap (λ r. map h' A ++ (r ++ map (held_of t) B)) (own_remains c t k y A B st o refl)

@@ -7,7 +7,7 @@ use Rattle.mscp_queue.proofs.Lists.{every_weaker, filter_none}
 use Rattle.mscp_events.specs.Settings.{Settings}
 use Rattle.mscp_controller.specs.History.{Trace}
 use Rattle.mscp_controller.specs.Commands.{done, earlier, in_service, is_idle, waiting}
-use Rattle.mscp_controller.specs.Passing.{fences, is_free, is_startable, passed, toll}
+use Rattle.mscp_controller.specs.Passing.{fences, is_free, is_startable, passed, charge}
 use Rattle.mscp_controller.proofs.Promise.Steady.{Single}
 use Rattle.mscp_controller.proofs.Promise.Waits.{cut_of, earlier_is}
 
@@ -38,7 +38,7 @@ unfolding is_startable is_free
 first_starts c t x rest e idle =
     let none : earlier t x ≡ [] = earlier_is t x [] rest (cut_of t [] x rest e) in
     let Starts : List ℕ → Type 0 = λ zs. (is_idle t && list_all (λ z. not (fences t x z)) zs
-    && list_all (λ z. nat_le (passed t z + toll t x) c.budget) zs) ≡ true in
+    && list_all (λ z. nat_le (passed t z + charge t x) c.budget) zs) ≡ true in
     subst Starts (sym none) (ap (λ b. b && true && true) idle)
 
 first_of : (x : ℕ) (ws : List ℕ) → slice_get ws 0 ≡ Some x → (rest : List ℕ) × (ws ≡ x ∷ rest)

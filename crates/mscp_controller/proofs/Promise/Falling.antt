@@ -35,9 +35,7 @@ idle_right c t (events.Step k) (entries.Stepped (reports.Served n a b d f g h)) 
 idle_right c t (events.Step k) (entries.Sent to sent) s e r = absurd r
 idle_right c t (events.Step k) (entries.Taken to taken) s e r = absurd r
 idle_right c t (events.Step k) (entries.Looked list) s e r = absurd r
-idle_right c t (events.Take from) entry s e r = absurd (false≢true s)
-idle_right c t events.Look entry s e r = absurd (false≢true s)
-idle_right c t (events.Send from b) entry s e r = absurd (false≢true s)
+idle_right c t _ entry s e r = absurd (false≢true s)
 
 pub falling : (c : Settings) (t : Trace) (m : Moment) → IsRight c t m.0 m.1 → Steady c t
     → Falling c t m

@@ -9,13 +9,13 @@ use Rattle.std.proofs.lemmas.Bool.{lt-ltb, le-ltb, and_right, eqb-true, eqb-fals
 use Rattle.mscp_events.specs.Settings.{Settings}
 use Rattle.mscp_controller.specs.History.{Trace, Moment, Service, service_in}
 use Rattle.mscp_controller.specs.Commands.{name, weight, is_waiting, waiting, done, left, in_service, earlier, later, ends_in, service_name}
-use Rattle.mscp_controller.specs.Passing.{toll, passed}
+use Rattle.mscp_controller.specs.Passing.{charge, passed}
 use Rattle.mscp_controller.specs.Figures.{figure}
 use Rattle.mscp_queue.proofs.Lists.{every_weaker, every_append, every_parts, filter_none, sum_on}
 use Rattle.mscp_controller.proofs.Promise.Grows.{is_waiting_before}
 use Rattle.mscp_controller.proofs.Promise.Waits.{waiting_waits, waiting_below, cut_of, earlier_is, later_is}
 use Rattle.mscp_controller.proofs.Promise.Served.{kept_own}
-use Rattle.mscp_controller.proofs.Promise.Figured.{Figured, record_of, tolled, step_toll, served, record_left, Marks}
+use Rattle.mscp_controller.proofs.Promise.Figured.{Figured, record_of, charged, step_charge, served, record_left, Marks}
 
 -- the blocks left of those in service
 abbrev pub working : Trace → List ℕ → ℕ
@@ -78,7 +78,7 @@ pub record Fit (c : Settings) (t : Trace) (m : Moment) (s : Service) (front : Li
   pub unfinished : done t y < weight t y
   pub idle_front : AllByRecursion (λ x. done t x ≡ 0) front
   pub idle_back : AllByRecursion (λ x. done t x ≡ 0) back
-  pub affordable : s.started ≡ true → AllByRecursion (λ x. passed t x + toll t y ≤ c.budget) front
+  pub affordable : s.started ≡ true → AllByRecursion (λ x. passed t x + charge t y ≤ c.budget) front
 
 left_own : (t t' : Trace) (y : ℕ) → record_of t' y ≡ served (record_of t y) → left t' y ≡ left t y - 1
 left_own t t' y e = ap record_left e ∙ omega arith
@@ -146,7 +146,7 @@ working_after t t' s y back B e b k =
     )
 
 pub idle_stays : (t t' : Trace) (n : ℕ) (xs : List ℕ)
-    → AllByRecursion (λ x. record_of t' x ≡ tolled n (record_of t x)) xs → AllByRecursion (λ x. done t x ≡ 0) xs
+    → AllByRecursion (λ x. record_of t' x ≡ charged n (record_of t x)) xs → AllByRecursion (λ x. done t x ≡ 0) xs
     → AllByRecursion (λ x. done t' x ≡ 0) xs
 idle_stays t t' n [] h k = tt
 idle_stays t t' n (x ∷ xs) h k = (ap (λ (r : Figured). r.done) h.0 ∙ k.0, idle_stays t t' n xs h.1 k.1)
@@ -156,10 +156,10 @@ pub idle_same : (t t' : Trace) (xs : List ℕ) → AllByRecursion (λ x. record_
 idle_same t t' [] h k = tt
 idle_same t t' (x ∷ xs) h k = (ap (λ (r : Figured). r.done) h.0 ∙ k.0, idle_same t t' xs h.1 k.1)
 
-left_all : (t t' : Trace) (n : ℕ) (xs : List ℕ) → AllByRecursion (λ x. record_of t' x ≡ tolled n (record_of t x)) xs
+left_all : (t t' : Trace) (n : ℕ) (xs : List ℕ) → AllByRecursion (λ x. record_of t' x ≡ charged n (record_of t x)) xs
     → sum_by (left t') xs ≡ sum_by (left t) xs
 left_all t t' n xs h = sum_on (left t') (left t) xs
-    (every_weaker (λ x. record_of t' x ≡ tolled n (record_of t x)) (λ x. left t' x ≡ left t x) (λ x e. ap record_left e)
+    (every_weaker (λ x. record_of t' x ≡ charged n (record_of t x)) (λ x. left t' x ≡ left t x) (λ x e. ap record_left e)
     xs h)
 
 pub left_same : (t t' : Trace) (xs : List ℕ) → AllByRecursion (λ x. record_of t' x ≡ record_of t x) xs
@@ -180,7 +180,7 @@ falls_front c t m s front y back f A x B q =
     let t' = t ++ m ∷ [] in
     let ch = f.marks in
     let own : List ℕ = cond (is_some s.ended) [] (y ∷ []) in
-    let Same : ℕ → Type 0 = λ z. record_of t' z ≡ tolled (step_toll t s y) (record_of t z) in
+    let Same : ℕ → Type 0 = λ z. record_of t' z ≡ charged (step_charge t s y) (record_of t z) in
     let new = every_parts Same A (x ∷ B) (subst (λ l. AllByRecursion Same l) q ch.at_front) in
     let idle = every_parts (λ z. done t z ≡ 0) A (x ∷ B)
     (subst (λ l. AllByRecursion (λ z. done t z ≡ 0) l) q f.idle_front) in
@@ -190,16 +190,16 @@ falls_front c t m s front y back f A x B q =
     f.after ∙ (ap (λ l. l ++ (own ++ back)) q ∙ append_assoc A (x ∷ B) (own ++ back)) in
     let old = figure_idle c t A x (B ++ y ∷ back) e idle.1.0 in
     let now = figure_idle c t' A x (B ++ (own ++ back)) e' (ap (λ (r : Figured). r.done) new.1.0 ∙ idle.1.0) in
-    let sA = left_all t t' (step_toll t s y) A new.0 in
+    let sA = left_all t t' (step_charge t s y) A new.0 in
     let lx : left t' x ≡ left t x = ap record_left new.1.0 in
     let w = working_before c t m s front y back B f idle.1.1 in
-    let w' = working_after t t' s y back B ch.at_own (idle_stays t t' (step_toll t s y) B new.1.1 idle.1.1)
+    let w' = working_after t t' s y back B ch.at_own (idle_stays t t' (step_charge t s y) B new.1.1 idle.1.1)
     (idle_same t t' back ch.at_back f.idle_back) in
     let o = own_left t t' s y ch.at_own f.more f.unfinished in
-    let affordable : s.started ≡ true → passed t x + toll t y ≤ c.budget =
-    λ h. (every_parts (λ z. passed t z + toll t y ≤ c.budget) A (x ∷ B)
-    (subst (λ l. AllByRecursion (λ z. passed t z + toll t y ≤ c.budget) l) q (f.affordable h))).1.0 in
-    let pays = front_pays s.started (sum_by (left t) A) (left t x) (left t y) (sum_by (left t') own) (toll t y) c.budget
+    let affordable : s.started ≡ true → passed t x + charge t y ≤ c.budget =
+    λ h. (every_parts (λ z. passed t z + charge t y ≤ c.budget) A (x ∷ B)
+    (subst (λ l. AllByRecursion (λ z. passed t z + charge t y ≤ c.budget) l) q (f.affordable h))).1.0 in
+    let pays = front_pays s.started (sum_by (left t) A) (left t x) (left t y) (sum_by (left t') own) (charge t y) c.budget
     (passed t x) (passed t' x) (ap (λ (r : Figured). r.passed) new.1.0) affordable o (omega arith) in
     omega (arith, old, now, sA, lx, w, w', pays)
 
@@ -221,7 +221,7 @@ falls_back c t m s front y back f A x B q =
     ∙ (ap (λ l. front ++ l) (sym (append_assoc own A (x ∷ B))) ∙ sym (append_assoc front (own ++ A) (x ∷ B)))) in
     let old = figure_idle c t (front ++ y ∷ A) x B e idle.1.0 in
     let now = figure_idle c t' (front ++ (own ++ A)) x B e' (ap (λ (r : Figured). r.done) new.1.0 ∙ idle.1.0) in
-    let sF = left_all t t' (step_toll t s y) front ch.at_front in
+    let sF = left_all t t' (step_charge t s y) front ch.at_front in
     let sA = left_same t t' A new.0 in
     let s1 = sum_by-append (left t) front (y ∷ A) in
     let s2 = sum_by-cons (left t) y A in

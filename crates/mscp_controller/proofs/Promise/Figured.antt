@@ -7,7 +7,7 @@ use Rattle.mscp_events.specs.declared.block.Block.{Block}
 use Rattle.mscp_events.specs.Settings.{Settings}
 use Rattle.mscp_controller.specs.History.{Trace, Moment, Service}
 use Rattle.mscp_controller.specs.Commands.{weight, is_waiting, done, service_name, service_starts}
-use Rattle.mscp_controller.specs.Passing.{toll, passed}
+use Rattle.mscp_controller.specs.Passing.{charge, passed}
 use Rattle.mscp_queue.specs.Names.{same_name}
 use Rattle.mscp_queue.proofs.Lists.{every_weaker, every_both, every_parts}
 use Rattle.mscp_controller.proofs.Promise.Waits.{waiting_waits}
@@ -24,9 +24,9 @@ pub record Figured : Type 0 where
 abbrev pub record_of : Trace → ℕ → Figured
 record_of t x = record { weight = weight t x; done = done t x; passed = passed t x }
 
--- passed, at this toll
-abbrev pub tolled : ℕ → Figured → Figured
-tolled n r = record { weight = r.weight; done = r.done; passed = r.passed + n }
+-- passed, at this charge
+abbrev pub charged : ℕ → Figured → Figured
+charged n r = record { weight = r.weight; done = r.done; passed = r.passed + n }
 
 abbrev pub served : Figured → Figured
 served r = record { weight = r.weight; done = r.done + 1; passed = r.passed }
@@ -35,8 +35,8 @@ abbrev pub record_left : Figured → ℕ
 record_left r = r.weight - r.done
 
 -- what a step of y costs each earlier command
-abbrev pub step_toll : Trace → Service → ℕ → ℕ
-step_toll t s y = cond s.started (toll t y) 0
+abbrev pub step_charge : Trace → Service → ℕ → ℕ
+step_charge t s y = cond s.started (charge t y) 0
 
 abbrev pub made : ℕ → ℕ → ℕ → Figured
 made w d p = record { weight = w; done = d; passed = p }
@@ -46,17 +46,17 @@ made_is w d p w' d' p' e f g = ap (λ w. made w d p) e ∙ (ap (λ d. made w' d 
 
 -- how a step of y changes what figures read
 pub record Marks (t t' : Trace) (s : Service) (front : List ℕ) (y : ℕ) (back : List ℕ) : Type 0 where
-  pub at_front : AllByRecursion (λ x. record_of t' x ≡ tolled (step_toll t s y) (record_of t x)) front
+  pub at_front : AllByRecursion (λ x. record_of t' x ≡ charged (step_charge t s y) (record_of t x)) front
   pub at_own : record_of t' y ≡ served (record_of t y)
   pub at_back : AllByRecursion (λ x. record_of t' x ≡ record_of t x) back
 
 front_passed : (c : Settings) (t : Trace) (m : Moment) (s : Service) (k : Block) (y : ℕ) (front back : List ℕ)
     → Step c t m s k y front back → (x : ℕ) → x < length t → is_waiting t x ≡ true → done t x ≡ 0 → x < y
-    → passed (t ++ m ∷ []) x ≡ passed t x + step_toll t s y
+    → passed (t ++ m ∷ []) x ≡ passed t x + step_charge t s y
 front_passed c t m s k y front back st x l w d h =
     let t' = t ++ m ∷ [] in
-    let both : (b : Bool) → s.started ≡ b → passed t' x ≡ passed t x + cond b (toll t y) 0 =
-    λ b. elim b as (λ b. s.started ≡ b → passed t' x ≡ passed t x + cond b (toll t y) 0) [
+    let both : (b : Bool) → s.started ≡ b → passed t' x ≡ passed t x + cond b (charge t y) 0 =
+    λ b. elim b as (λ b. s.started ≡ b → passed t' x ≡ passed t x + cond b (charge t y) 0) [
       | true ↦ λ e.
           passed_front c t m s k y front back st e x h
           (ap (λ b. b && is_waiting t x && nat_eq (done t x) 0) (lt-ltb x (length t) l)
@@ -79,8 +79,8 @@ marks c t m s k y front back st idle =
     let C : ℕ → Type 0 = λ x. B x × (x < y) in
     let D : ℕ → Type 0 = λ x. done t' x ≡ done t x in
     record {
-      at_front = every_weaker (λ x. C x × D x) (λ x. record_of t' x ≡ tolled (step_toll t s y) (record_of t x))
-          (λ x h. made_is (weight t' x) (done t' x) (passed t' x) (weight t x) (done t x) (passed t x + step_toll t s y)
+      at_front = every_weaker (λ x. C x × D x) (λ x. record_of t' x ≡ charged (step_charge t s y) (record_of t x))
+          (λ x h. made_is (weight t' x) (done t' x) (passed t' x) (weight t x) (done t x) (passed t x + step_charge t s y)
           (weight_before t m x h.0.0.0.0) h.1 (front_passed c t m s k y front back st x h.0.0.0.0 h.0.0.0.1 h.0.0.1
           h.0.1)) front
           (every_both C D front (every_both B (λ x. x < y) front

@@ -6,7 +6,7 @@ use Rattle.mscp_events.specs.declared.block.Block.{Block}
 use Rattle.mscp_events.specs.Settings.{Settings}
 use Rattle.mscp_controller.specs.History.{Trace, Moment, Service, service_in}
 use Rattle.mscp_controller.specs.Commands.{weight, waiting, done, service_starts}
-use Rattle.mscp_controller.specs.Passing.{toll, passed}
+use Rattle.mscp_controller.specs.Passing.{charge, passed}
 use Rattle.mscp_queue.proofs.Lists.{every_weaker, every_parts}
 use Rattle.mscp_controller.proofs.Promise.Waits.{waiting_below, earlier_is}
 use Rattle.mscp_controller.proofs.Promise.Served.{Step}
@@ -35,7 +35,7 @@ fit_of c t m s k y front back st steady =
       unfinished = unfinished.1.0;
       idle_front = idle.0;
       idle_back = idle.1;
-      affordable = λ b. subst (AllByRecursion (λ x. passed t x + toll t y ≤ c.budget))
+      affordable = λ b. subst (AllByRecursion (λ x. passed t x + charge t y ≤ c.budget))
           (earlier_is t y front back st.serves.among.at)
           (startable_parts c t y (startable_of c t k s y st.served b)).affordable;
     }

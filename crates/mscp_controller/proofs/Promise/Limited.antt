@@ -5,14 +5,14 @@ use Rattle.std.specs.List.{AllByRecursion}
 use Rattle.mscp_events.specs.Settings.{Settings}
 use Rattle.mscp_controller.specs.History.{Trace, Moment, queues, Service, service_in}
 use Rattle.mscp_controller.specs.Commands.{name, waiting, ends_in}
-use Rattle.mscp_controller.specs.Passing.{toll, passed}
+use Rattle.mscp_controller.specs.Passing.{charge, passed}
 use Rattle.mscp_controller.specs.Legal.{IsRight}
 use Rattle.mscp_queue.proofs.Lists.{every_weaker, every_kept, every_append, every_parts, every_both}
 use Rattle.mscp_controller.proofs.Promise.Grows.{waiting_more}
 use Rattle.mscp_controller.proofs.Promise.Waits.{passed_last}
 use Rattle.mscp_controller.proofs.Promise.Served.{step_right}
 use Rattle.mscp_controller.proofs.Promise.Steady.{Steady}
-use Rattle.mscp_controller.proofs.Promise.Figured.{Figured, record_of, tolled, step_toll}
+use Rattle.mscp_controller.proofs.Promise.Figured.{Figured, record_of, charged, step_charge}
 use Rattle.mscp_controller.proofs.Promise.Falls.{Fit}
 use Rattle.mscp_controller.proofs.Promise.Fitted.{fit_of, leaves_of}
 
@@ -22,10 +22,10 @@ Limited c t xs = AllByRecursion (λ x. passed t x ≤ c.budget) xs
 -- what a step costs those in front is there
 paid : (c : Settings) (t : Trace) (m : Moment) (s : Service) (front : List ℕ) (y : ℕ) (back : List ℕ)
     → Fit c t m s front y back → Limited c t front
-    → AllByRecursion (λ x. passed t x + step_toll t s y ≤ c.budget) front
+    → AllByRecursion (λ x. passed t x + step_charge t s y ≤ c.budget) front
 paid c t m s front y back f h =
-    let both : (b : Bool) → s.started ≡ b → AllByRecursion (λ x. passed t x + cond b (toll t y) 0 ≤ c.budget) front =
-    λ b. elim b as (λ b. s.started ≡ b → AllByRecursion (λ x. passed t x + cond b (toll t y) 0 ≤ c.budget) front) [
+    let both : (b : Bool) → s.started ≡ b → AllByRecursion (λ x. passed t x + cond b (charge t y) 0 ≤ c.budget) front =
+    λ b. elim b as (λ b. s.started ≡ b → AllByRecursion (λ x. passed t x + cond b (charge t y) 0 ≤ c.budget) front) [
       | true ↦ λ e. f.affordable e
       | false ↦ λ e. every_weaker (λ x. passed t x ≤ c.budget) (λ x. passed t x + 0 ≤ c.budget)
           (λ x p. omega (arith, p)) front h
@@ -36,14 +36,14 @@ limited_step : (c : Settings) (t : Trace) (m : Moment) (s : Service) (front : Li
     → Fit c t m s front y back → Limited c t (waiting t) → Limited c (t ++ m ∷ []) (waiting (t ++ m ∷ []))
 limited_step c t m s front y back f h =
     let t' = t ++ m ∷ [] in
-    let n = step_toll t s y in
+    let n = step_charge t s y in
     let Old : ℕ → Type 0 = λ x. passed t x ≤ c.budget in
     let New : ℕ → Type 0 = λ x. passed t' x ≤ c.budget in
     let parts = every_parts Old front (y ∷ back) (subst (AllByRecursion Old) f.is h) in
     let fronts : AllByRecursion New front =
-    every_weaker (λ x. (record_of t' x ≡ tolled n (record_of t x)) × (passed t x + n ≤ c.budget)) New
+    every_weaker (λ x. (record_of t' x ≡ charged n (record_of t x)) × (passed t x + n ≤ c.budget)) New
     (λ x p. let e = ap (λ (r : Figured). r.passed) p.0 in omega (arith, e, p.1)) front
-    (every_both (λ x. record_of t' x ≡ tolled n (record_of t x)) (λ x. passed t x + n ≤ c.budget) front
+    (every_both (λ x. record_of t' x ≡ charged n (record_of t x)) (λ x. passed t x + n ≤ c.budget) front
     f.marks.at_front (paid c t m s front y back f parts.0)) in
     let own : New y = let e = ap (λ (r : Figured). r.passed) f.marks.at_own in omega (arith, e, parts.1.0) in
     let backs : AllByRecursion New back =

@@ -95,8 +95,7 @@ foreign_sent c own via t (events.Take from) (entries.Sent to sent) f e r = absur
 foreign_sent c own via t (events.Take from) (entries.Stepped reports.Idle) f e r = absurd r
 foreign_sent c own via t (events.Take from) (entries.Stepped (reports.Served o x u l s k z)) f e r = absurd r
 foreign_sent c own via t (events.Take from) (entries.Looked list) f e r = absurd r
-foreign_sent c own via t (events.Step k) entry f e r = absurd (true≢false (ap is_some (sym f)))
-foreign_sent c own via t events.Look entry f e r = absurd (true≢false (ap is_some (sym f)))
+foreign_sent c own via t _ entry f e r = absurd (true≢false (ap is_some (sym f)))
 
 same_waits : (c : Settings) (via : Connection) (t : Trace) (m : Moment) → IsForeign c via t m
     → waiting_by via (t ++ m ∷ []) ≡ waiting_by via t

@@ -8,7 +8,7 @@ use Rattle.mscp_events.specs.declared.block.Block.{Block}
 use Rattle.mscp_events.specs.Settings.{Settings}
 use Rattle.mscp_controller.specs.History.{Trace, Moment, Service, service_in}
 use Rattle.mscp_controller.specs.Commands.{name, waiting, later, starts_in, service_name, service_starts}
-use Rattle.mscp_controller.specs.Passing.{toll, is_unstarted, passed_at, passed}
+use Rattle.mscp_controller.specs.Passing.{charge, is_unstarted, passed_at, passed}
 use Rattle.mscp_queue.specs.declared.name.Name.{Name}
 use Rattle.mscp_queue.proofs.Named.{is_differ, is_same}
 use Rattle.mscp_queue.proofs.Lists.{every_weaker, every_append, every_from, filter_filter, filter_none, filter_one}
@@ -26,10 +26,10 @@ starters_at : (t : Trace) (m : Moment) (x : ℕ) → starters t m x ≡ filter (
 starters_at t m x = filter_filter (λ z. starts_in (name t z) m.1) (λ z. nat_lt x z) (waiting t)
 
 passed_by_starters : (t : Trace) (m : Moment) (x : ℕ) (ys : List ℕ) → starters t m x ≡ ys
-    → passed (t ++ m ∷ []) x ≡ passed t x + cond (is_unstarted t x) (sum_by (toll t) ys) 0
+    → passed (t ++ m ∷ []) x ≡ passed t x + cond (is_unstarted t x) (sum_by (charge t) ys) 0
 unfolding passed_at
 passed_by_starters t m x ys e =
-    passed_more t m x ∙ ap (λ l. passed t x + cond (is_unstarted t x) (sum_by (toll t) l) 0) e
+    passed_more t m x ∙ ap (λ l. passed t x + cond (is_unstarted t x) (sum_by (charge t) l) 0) e
 
 unpassed : (t : Trace) (m : Moment) (x : ℕ) → starters t m x ≡ [] → passed (t ++ m ∷ []) x ≡ passed t x
 unpassed t m x e =
@@ -76,10 +76,10 @@ passed_behind c t m s k y front back st x h =
     unpassed t m x (starters_at t m x ∙ filter_none (starts_behind t m x) (waiting t)
     (subst (AllByRecursion P) (sym a.at.is) all))
 
--- An earlier one that was never served is passed by a start of y, at its toll.
+-- An earlier one that was never served is passed by a start of y, at its charge.
 pub passed_front : (c : Settings) (t : Trace) (m : Moment) (s : Service) (k : Block) (y : ℕ) (front back : List ℕ)
     → Step c t m s k y front back → s.started ≡ true → (x : ℕ) → x < y → is_unstarted t x ≡ true
-    → passed (t ++ m ∷ []) x ≡ passed t x + toll t y
+    → passed (t ++ m ∷ []) x ≡ passed t x + charge t y
 passed_front c t m s k y front back st e x h u =
     let a = st.serves.among in
     let own : starts_behind t m x y ≡ true = ap (λ b. b && starts_in (name t y) m.1) (lt-ltb x y h)
@@ -89,5 +89,5 @@ passed_front c t m s k y front back st e x h u =
     ∙ filter_one (starts_behind t m x) front y back (behind_other t m s x y st.serves.is st.serves.same front a.before)
     own (behind_other t m s x y st.serves.is st.serves.same back a.behind)) in
     passed_by_starters t m x (y ∷ []) one
-    ∙ (ap (λ b. passed t x + cond b (sum_by (toll t) (y ∷ [])) 0) u
-    ∙ ap (λ n. passed t x + n) (sum_by-cons (toll t) y [] ∙ omega arith))
+    ∙ (ap (λ b. passed t x + cond b (sum_by (charge t) (y ∷ [])) 0) u
+    ∙ ap (λ n. passed t x + n) (sum_by-cons (charge t) y [] ∙ omega arith))

@@ -150,11 +150,7 @@ ends_answered : (c : Settings) (via : Connection) (t : Trace) (event : Event) (e
 ends_answered c via t event (entries.Sent other (Ok (sents.Answered r aborted))) h =
     let own = answer c via t (sent_bytes event) in
     ap (λ b. (if b then own else []) ++ []) h ∙ append-nil own
-ends_answered c via t event (entries.Sent other (Ok (sents.Queued r))) h = absurd (false≢true h)
-ends_answered c via t event (entries.Sent other (Err fault)) h = absurd (false≢true h)
-ends_answered c via t event (entries.Taken other end) h = absurd (false≢true h)
-ends_answered c via t event (entries.Stepped report) h = absurd (false≢true h)
-ends_answered c via t event (entries.Looked list) h = absurd (false≢true h)
+ends_answered c via t event _ h = absurd (false≢true h)
 
 told : (c : Settings) (t : Trace) (m : Moment) → TellsFigure c t m (t ++ m ∷ [])
 unfolding answer

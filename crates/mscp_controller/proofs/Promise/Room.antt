@@ -323,9 +323,7 @@ fits c via t event (entries.Sent other (Err fault)) h st r =
 fits c via t (events.Send own b) (entries.Sent other (Ok sent)) h st r =
     subst (λ s. Fits c via t (events.Send own b, entries.Sent s (Ok sent))) (sym r.0)
     (sent_fits c via own t b sent h r.1 (same_connection own via) refl)
-fits c via t (events.Step k) (entries.Sent other (Ok sent)) h st r = absurd r
-fits c via t (events.Take own) (entries.Sent other (Ok sent)) h st r = absurd r
-fits c via t events.Look (entries.Sent other (Ok sent)) h st r = absurd r
+fits c via t _ _ h st r = absurd r
 
 -- ---- the ends that were taken
 

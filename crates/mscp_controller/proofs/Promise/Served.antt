@@ -28,15 +28,11 @@ use Rattle.mscp_controller.proofs.Promise.Among.{Alone, alone}
 pub ends_served : (r : Name) (entry : Entry) (s : Service) → service_in entry ≡ Some s
     → ends_in r entry ≡ service_ends r (Some s)
 ends_served r (entries.Stepped report) s e = ap (service_ends r) e
-ends_served r (entries.Sent to sent) s e = absurd (false≢true (ap is_some e))
-ends_served r (entries.Taken to taken) s e = absurd (false≢true (ap is_some e))
-ends_served r (entries.Looked list) s e = absurd (false≢true (ap is_some e))
+ends_served r _ s e = absurd (false≢true (ap is_some e))
 
 pub queues_served : (entry : Entry) (s : Service) → service_in entry ≡ Some s → queues entry ≡ false
 queues_served (entries.Stepped report) s e = refl
-queues_served (entries.Sent to sent) s e = absurd (false≢true (ap is_some e))
-queues_served (entries.Taken to taken) s e = absurd (false≢true (ap is_some e))
-queues_served (entries.Looked list) s e = absurd (false≢true (ap is_some e))
+queues_served _ s e = absurd (false≢true (ap is_some e))
 
 some_value : {X : Type 0} → X → Option X → X
 some_value d None = d

@@ -153,8 +153,7 @@ moment_kinds c via t (events.Step k, entries.Stepped (reports.Served other refer
     (subst (λ e. AllByRecursion IsOfKind (option_to_list e)) (sym s.ended) (end_kinds c t k y))
 moment_kinds c via t (events.Send o b, entries.Stepped (reports.Served other r unit lbn started seek ended)) h =
     absurd h
-moment_kinds c via t (events.Take o, entries.Stepped (reports.Served other r unit lbn started seek ended)) h = absurd h
-moment_kinds c via t (events.Look, entries.Stepped (reports.Served other r unit lbn started seek ended)) h = absurd h
+moment_kinds c via t _ h = absurd h
 
 -- ---- all ends
 

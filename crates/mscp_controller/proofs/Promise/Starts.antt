@@ -7,20 +7,18 @@ use Rattle.mscp_events.specs.declared.block.Block.{Block}
 use Rattle.mscp_events.specs.Settings.{Settings}
 use Rattle.mscp_controller.specs.History.{Trace, Service}
 use Rattle.mscp_controller.specs.Commands.{waiting, done, in_service, is_idle, earlier}
-use Rattle.mscp_controller.specs.Passing.{toll, passed, is_free, is_affordable, is_startable}
+use Rattle.mscp_controller.specs.Passing.{charge, passed, is_free, is_affordable, is_startable}
 use Rattle.mscp_controller.specs.Legal.{IsServed}
 use Rattle.mscp_queue.proofs.Lists.{every_weaker}
 
 pub record Startable (c : Settings) (t : Trace) (y : ℕ) : Type 0 where
   pub idle : AllByRecursion (λ x. done t x ≡ 0) (waiting t)
   pub free : is_free t y ≡ true
-  pub affordable : AllByRecursion (λ x. passed t x + toll t y ≤ c.budget) (earlier t y)
+  pub affordable : AllByRecursion (λ x. passed t x + charge t y ≤ c.budget) (earlier t y)
 
 three_parts : (a b c : Bool) → (a && b && c) ≡ true → (a ≡ true) × (b ≡ true) × (c ≡ true)
 three_parts true true true h = (refl, refl, refl)
-three_parts true true false h = absurd (false≢true h)
-three_parts true false c h = absurd (false≢true h)
-three_parts false b c h = absurd (false≢true h)
+three_parts _ _ _ h = absurd (false≢true h)
 
 every_of : {X : Type 0} (p : X → Bool) (xs : List X) → list_all p xs ≡ true → AllByRecursion (λ x. p x ≡ true) xs
 every_of p [] h = tt
@@ -34,9 +32,9 @@ startable_parts c t y h =
       idle = every_weaker (λ x. nat_eq (done t x) 0 ≡ true) (λ x. done t x ≡ 0) (λ x e. eqb-true (done t x) 0 e)
           (waiting t) (every_of (λ x. nat_eq (done t x) 0) (waiting t) p.0);
       free = p.1;
-      affordable = every_weaker (λ x. nat_le (passed t x + toll t y) c.budget ≡ true)
-          (λ x. passed t x + toll t y ≤ c.budget) (λ x e. leb-true (passed t x + toll t y) c.budget e) (earlier t y)
-          (every_of (λ x. nat_le (passed t x + toll t y) c.budget) (earlier t y) p.2);
+      affordable = every_weaker (λ x. nat_le (passed t x + charge t y) c.budget ≡ true)
+          (λ x. passed t x + charge t y ≤ c.budget) (λ x e. leb-true (passed t x + charge t y) c.budget e) (earlier t y)
+          (every_of (λ x. nat_le (passed t x + charge t y) c.budget) (earlier t y) p.2);
     }
 
 -- A command that starts may start.

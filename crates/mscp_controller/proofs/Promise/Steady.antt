@@ -135,8 +135,7 @@ idle_where t y xs h s = every_weaker (λ x. (done t x ≡ 0) ⊎ (done t y ≡ 0
 
 last_and : (a b c : Bool) → (a && b && c) ≡ true → c ≡ true
 last_and true true c h = h
-last_and true false c h = absurd (false≢true h)
-last_and false b c h = absurd (false≢true h)
+last_and _ _ c h = absurd (false≢true h)
 
 -- where y is served, no other is in service
 pub idle_others : (c : Settings) (t : Trace) (y : ℕ) (front back : List ℕ) → waiting t ≡ front ++ y ∷ back

@@ -10,7 +10,7 @@ use Rattle.mscp_controller.specs.declared.entry.Entry.TheVariants as entries
 use Rattle.mscp_events.specs.declared.connection.Connection.TheVariants.{First}
 use Rattle.mscp_controller.specs.History.{Trace, Moment, moment, positions, queues}
 use Rattle.mscp_controller.specs.Commands.{name, is_waiting, waiting, done, starts_in, ends_in, earlier, later}
-use Rattle.mscp_controller.specs.Passing.{toll, passed_at, passed}
+use Rattle.mscp_controller.specs.Passing.{charge, passed_at, passed}
 use Rattle.mscp_queue.specs.Pairs.{Pairs}
 use Rattle.mscp_queue.proofs.Lists.{filter_all, filter_none, pairs_middle, sum_none, every_weaker, every_kept, every_filter, range_below, pairs_range, pairs_filter}
 use Rattle.mscp_controller.proofs.Promise.Grows.{passed_more}
@@ -34,7 +34,7 @@ waiting_rises t = pairs_filter ◌<◌ (is_waiting t) (positions t) (pairs_range
 passed_at_past : (t : Trace) (m : Moment) (x : ℕ) → length t ≤ x → passed_at t m x ≡ 0
 unfolding passed_at
 passed_at_past t m x h = ap (λ b. cond (b && is_waiting t x && nat_eq (done t x) 0)
-    (sum_by (toll t) (filter (λ y. starts_in (name t y) m.1) (later t x))) 0) (le-ltb x (length t) h)
+    (sum_by (charge t) (filter (λ y. starts_in (name t y) m.1) (later t x))) 0) (le-ltb x (length t) h)
 
 pub passed_past : (t : Trace) (x : ℕ) → length t ≤ x → passed t x ≡ 0
 unfolding passed

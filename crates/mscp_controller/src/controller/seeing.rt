@@ -1,6 +1,6 @@
 // What callers see of a controller.
 
-ghost use Rattle.std.specs.Prelude.{All, ◌≡◌, ◌+◌, ◌≤◌, false, length, IfNone, IfSome};
+ghost use Rattle.std.specs.Prelude.{All, ◌≡◌, ◌+◌, ◌≤◌, length, IfNone, IfSome};
 ghost use Rattle.mscp_queue.specs.Drives.{is_online_in};
 ghost use Rattle.mscp_queue.specs.Figures.{figure_of_name, figures};
 ghost use Rattle.mscp_queue.specs.Names.{name_on};
@@ -8,7 +8,6 @@ ghost use Rattle.mscp_queue.specs.Records.{IsServing, has_name, record_at};
 ghost use Rattle.mscp_queue.specs.Views.{is_open_at};
 ghost use Rattle.mscp_queue.specs.Why.{holders_of_name, is_nobody};
 ghost use Rattle.std.specs.List.{position};
-ghost use Rattle.mscp_controller.specs.Arrival.{holds};
 ghost use Rattle.mscp_events.specs.Both.{of};
 ghost use Rattle.mscp_events.specs.Settings.{credits_of};
 ghost use Rattle.mscp_controller.specs.Holdings.{IsBalanced, balance_of, waiting_on};

@@ -1,16 +1,16 @@
 // Waiting commands as they were, and how long each may still wait.
 
-ghost use Rattle.std.specs.Prelude.{◌≡◌, ◌+◌, ◌*◌, ◌<◌, ◌≤◌, ◌^◌, true, All, drop, length, sum_by};
-ghost use Rattle.mscp_queue.specs.Aims.{aims_of};
+ghost use Rattle.std.specs.Prelude.{◌≡◌, ◌+◌, ◌*◌, ◌<◌, ◌≤◌, ◌^◌, true, All, length, sum_by};
+ghost use Rattle.mscp_queue.specs.Targets.{targets_of};
 ghost use Rattle.mscp_queue.specs.Dues.{figure_in};
 ghost use Rattle.mscp_queue.specs.Kept.{is_known, units_of};
-ghost use Rattle.mscp_queue.specs.Records.{left_if_serving, left_of};
+ghost use Rattle.mscp_queue.specs.Records.{left_if_serving};
 
-use crate::aim::Aim;
 use crate::backlog::Backlog;
 use crate::drive::Drive;
 use crate::record::Record;
 use crate::slots::{Slot, Slots};
+use crate::target::Target;
 
 /// How many steps are left of the record, if it is in service.
 fn left_if_serving(record: &Record) -> u64
@@ -60,7 +60,7 @@ impl Backlog {
         ensures { result ≡ record {
           budget = budget;
           waiting = records.now;
-          aims = aims_of (units_of drives.now) records.now;
+          targets = targets_of (units_of drives.now) records.now;
         } }
     {
         let mut slots = Slots::new();
@@ -71,7 +71,7 @@ impl Backlog {
             behind -= left_if_serving(&item);
             slots.push(Slot {
                 item,
-                aim: Aim::of(&item.command(), drives),
+                target: Target::of(&item.command(), drives),
                 due: figure_in(budget, before, behind, &item),
             });
             before += u64::from(item.left());

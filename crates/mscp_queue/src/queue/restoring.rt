@@ -4,23 +4,23 @@ ghost use Rattle.std.specs.Prelude.{◌≡◌, ◌<◌, ◌≤◌, true, ◌||�
 ghost use Rattle.std.specs.List.{position};
 ghost use Rattle.mscp_queue.specs.Kept.{ArePassedInOrder, HasBlocks, IsHeld, units_of};
 ghost use Rattle.mscp_queue.specs.Drives.{IsOnUnit};
-ghost use Rattle.mscp_queue.specs.Lineups.{choice_in, has_choice_name};
+ghost use Rattle.mscp_queue.specs.Candidates.{choice_in, has_choice_name};
 ghost use Rattle.mscp_queue.specs.Orders.{is_move, is_sequential};
 ghost use Rattle.mscp_queue.specs.Records.{is_in_service, record_at};
 
-use crate::aim::Aim;
 use crate::backlog::Backlog;
+use crate::candidates::Candidates;
 use crate::drive::Drive;
-use crate::lineup::Lineup;
 use crate::name::Name;
 use crate::picker::Picker;
 use crate::queue::Queue;
 use crate::record::Record;
 use crate::start::choice_in;
+use crate::target::Target;
 use arrayvec::ArrayVec;
 
 /// What a picker would see of each of the records, if each might start.
-fn lineup_of(drives: &[Drive], records: &[Record]) -> Lineup
+fn candidates_of(drives: &[Drive], records: &[Record]) -> Candidates
     requires few { length records.now ≤ 64 }
     requires drives { length drives.now ≤ 16 }
     requires waitable { All (λ r. (is_sequential r.command.order || is_move r.command.order) ≡ true) records.now }
@@ -28,13 +28,13 @@ fn lineup_of(drives: &[Drive], records: &[Record]) -> Lineup
     requires heads { All IsOnUnit drives.now }
     ensures { result.view ≡ map (choice_in drives.now) records.now }
 {
-    let mut lineup = Lineup::new();
+    let mut candidates = Candidates::new();
     for place in 0..records.len() {
         let record = &records[place];
-        let aim = Aim::of(&record.command(), drives);
-        lineup.come(choice_in(drives, record, aim));
+        let target = Target::of(&record.command(), drives);
+        candidates.come(choice_in(drives, record, target));
     }
-    lineup
+    candidates
 }
 
 /// The place of the command in service, if one is.
@@ -45,11 +45,11 @@ fn place_served(records: &[Record]) -> Option<usize>
 }
 
 /// The place of what was begun, if something was.
-fn place_begun(lineup: &Lineup, begun: Option<Name>) -> Option<usize>
-    ensures some { IfSome begun (λ name. result ≡ position (has_choice_name name) lineup.now.view) }
+fn place_begun(candidates: &Candidates, begun: Option<Name>) -> Option<usize>
+    ensures some { IfSome begun (λ name. result ≡ position (has_choice_name name) candidates.now.view) }
     ensures none { IfNone begun (result ≡ None) }
 {
-    lineup.place_of(begun?)
+    candidates.place_of(begun?)
 }
 
 impl<K: Picker> Queue<K> {
@@ -65,11 +65,11 @@ impl<K: Picker> Queue<K> {
           begun = begun;
         } }
     {
-        let lineup = lineup_of(drives.as_slice(), records);
-        self.begun = place_begun(&lineup, begun);
+        let candidates = candidates_of(drives.as_slice(), records);
+        self.begun = place_begun(&candidates, begun);
         self.serving = place_served(records);
         self.backlog = Backlog::restored(self.backlog.budget(), records, drives.as_slice());
-        self.lineup = lineup;
+        self.candidates = candidates;
         self.drives = drives;
     }
 

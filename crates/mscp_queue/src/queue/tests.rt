@@ -36,7 +36,7 @@ fn queue(rt: &impl Abort, budget: u32, clock: u64) -> Queue<Sweep>
         begun: None,
         serving: None,
         picker: Sweep,
-        lineup: Lineup::new(),
+        candidates: Candidates::new(),
         view: View::empty(),
     }
 }

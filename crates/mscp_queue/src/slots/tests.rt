@@ -6,7 +6,7 @@ use mscp_packet::{Command, MoveKind, Order};
 
 /// A READ of a block with this reference number.
 fn slot(reference: u32) -> Slot
-    ensures { result.aim.drive < 16 }
+    ensures { result.target.drive < 16 }
 {
     let command = Command {
         reference,
@@ -15,7 +15,7 @@ fn slot(reference: u32) -> Slot
     };
     Slot {
         item: Record::new(Connection::First, command, 1),
-        aim: Aim {
+        target: Target {
             drive: 0,
             cylinder: 0,
         },

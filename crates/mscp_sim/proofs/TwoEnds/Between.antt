@@ -229,9 +229,7 @@ most_same c via talk m i g s b most = subst (λ t. AtMost c t (own_name via talk
 step_moment : (talk : Talk) (m : ℕ) (a a' : Both Account) (t : Turn) → IsStepTurn t → IsHeard a t (said talk m) a'
     → (n : Moment) × ((said talk m).moment ≡ Some n) × (is_step n.0 ≡ true)
 step_moment talk m a a' (turns.Step k) w r = ((events.Step k, entries.Stepped r.0), r.2, refl)
-step_moment talk m a a' (turns.Submit via command) w r = absurd w
-step_moment talk m a a' (turns.Poll via n) w r = absurd w
-step_moment talk m a a' (turns.Take via) w r = absurd w
+step_moment talk m a a' _ w r = absurd w
 
 -- a step lowers it
 most_step : (c : Settings) (via : Connection) (talk : Talk) (m i g : ℕ) → Standing c via talk m i → i < m

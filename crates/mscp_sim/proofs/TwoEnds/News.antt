@@ -109,11 +109,7 @@ news_or (Err fault) other = other
 
 pub reset_is : (n : News) → is_reset n ≡ true → n ≡ news.Reset
 reset_is news.Reset e = refl
-reset_is (news.Ended e) h = absurd (false≢true h)
-reset_is (news.Progress f) h = absurd (false≢true h)
-reset_is (news.First f) h = absurd (false≢true h)
-reset_is news.Late h = absurd (false≢true h)
-reset_is news.Lost h = absurd (false≢true h)
+reset_is _ h = absurd (false≢true h)
 
 pub stands_it : (via : Connection) (talk : Talk) (j x : ℕ) (o : Option ℕ) → is_it x o ≡ true
     → is_outstanding via talk j x ≡ true → polled_is_outstanding via talk j o ≡ true

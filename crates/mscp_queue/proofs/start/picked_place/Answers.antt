@@ -6,7 +6,7 @@ use Rattle.mscp_queue.specs.declared.drive.Drive.{Drive}
 use Rattle.mscp_queue.specs.declared.view.Choice.{Choice}
 use Rattle.mscp_queue.specs.Records.{Record, drive_at, record_at}
 use Rattle.mscp_queue.specs.Views.{AllMayStart, choice_of, choices_at, open_places, view_of}
-use Rattle.mscp_queue.proofs.Lineups.{all_choices, lineup_of}
+use Rattle.mscp_queue.proofs.CandidateLists.{all_choices, candidates_of}
 use Rattle.mscp_queue.proofs.Starting.{places_inside, some_place}
 use Rattle.mscp_queue.proofs.start.picked_place.Goals as goal
 
@@ -43,8 +43,8 @@ returns-then-may_all_start-clause-inside g
     ∙ (c.renew_all.ensures ∙ all_choices c.args.drives.now c.args.backlog.now.waiting))).inside c.pick.result
     c.pick.ensures.place
 
-pub returns-then-may_all_start-clause-lined : goal.returns-then-may_all_start-clause-lined
-returns-then-may_all_start-clause-lined g c = lineup_of c.renew_all.new.self.stale c.renew_all.ensures
+pub returns-then-may_all_start-clause-listed : goal.returns-then-may_all_start-clause-listed
+returns-then-may_all_start-clause-listed g c = candidates_of c.renew_all.new.self.dirty c.renew_all.ensures
 
 -- and then the place in the view is the record's
 pub returns-then-may_all_start-clause-picked : goal.returns-then-may_all_start-clause-picked

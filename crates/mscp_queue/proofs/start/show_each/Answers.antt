@@ -13,7 +13,7 @@ returns-then-is_shut-clause-places c =
     omega (arith, c.unspent-unspent.ensures, c.requires.passed) in
     found_all (looks_more c.may_start-starts.result c.may_start-starts.ensures c.show_if.ensures.kept
     c.show_if.ensures.shown c.loop-place.invariant) l
-    (shut_is b.budget c.unspent-unspent.result c.args.drives.now b.waiting b.aims c.loop-place.place
+    (shut_is b.budget c.unspent-unspent.result c.args.drives.now b.waiting b.targets c.loop-place.place
     c.requires.waiting c.requires.order rest l (c.is_shut.ensures c.if-is_shut.true))
 
 pub returns-then-is_shut-clause-view : goal.returns-then-is_shut-clause-view

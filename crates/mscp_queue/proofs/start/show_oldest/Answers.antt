@@ -9,12 +9,12 @@ returns-clause-places c =
     let ds = c.args.drives.now in
     sym (found_all (looks_more {choices = []} true refl refl refl (looks_none b.budget ds b.waiting [] [] refl refl))
     c.requires.some
-    (shut_is b.budget 0 ds b.waiting b.aims 0 c.requires.waiting c.requires.order
+    (shut_is b.budget 0 ds b.waiting b.targets 0 c.requires.waiting c.requires.order
     (omega (arith, c.requires.spent)) c.requires.some (inl refl)))
 
 pub returns-clause-view : goal.returns-clause-view
 returns-clause-view c =
-    let at = c.aimed_at-cylinder.ensures in
+    let at = c.targeted_at-cylinder.ensures in
     let own = c.choice_of.ensures ∙ (λ i. choice_of (at.drive i) (at.«record» i)) in
     c.push.ensures ∙ ((λ i. c.requires.view i ++ own i ∷ [])
     ∙ ap (choices_at c.args.drives.now c.args.backlog.now.waiting) (sym (returns-clause-places c)))

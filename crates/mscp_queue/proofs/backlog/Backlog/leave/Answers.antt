@@ -1,25 +1,18 @@
-use Rattle.std.proofs.Common.{◌≡◌, ◌<◌, ◌+◌, length, refl, ap, ◌∙◌, arith}
-use Rattle.std.proofs.lemmas.List.{length-map}
+use Rattle.std.proofs.Common.{◌≡◌, ◌+◌, refl, ap, ◌∙◌}
 use Rattle.mscp_queue.specs.declared.slots.Slot.{Slot}
 use Rattle.mscp_queue.specs.Waiters.{Waiters}
-use Rattle.mscp_queue.specs.Records.{Record, is_in_service, left_of, record_at}
+use Rattle.mscp_queue.specs.Records.{Record, is_in_service, left_of}
 use Rattle.mscp_queue.proofs.Backlogs.{back_of, front_of, leave_enough, leave_timed, seen_left}
-use Rattle.mscp_queue.proofs.Dues.{item_there}
+use Rattle.mscp_queue.proofs.Dues.{item_at, place_in}
 use Rattle.mscp_queue.proofs.backlog.Backlog.leave.Goals as goal
 
 pub lower_all-requires : goal.lower_all-requires
 lower_all-requires c =
-    let b = c.self.inside in
-    let ss = b.slots in
     let place = c.args.place in
+    let ss = c.self.inside.slots in
     let w = ap (λ (w : Waiters). w.waiting) c.self.view_is in
-    let inside : place < length ss = omega (
-      arith,
-      c.requires.place,
-      ap length w,
-      length-map ss (λ (s : Slot). s.item),
-    ) in
-    let item = item_there ss place inside ∙ ap (λ rs. record_at rs place) w in
+    let inside = place_in c.self.inside.slots w c.requires.place in
+    let item = item_at c.self.inside.slots w c.requires.place in
     leave_enough c.self.invariant inside (ap is_in_service item ∙ c.requires.serving)
     (front_of (λ (r : Record). r.done ≡ 0) ss _ place w c.requires.front)
     (back_of (λ (r : Record). r.done ≡ 0) ss _ (place + 1) w c.requires.back)
@@ -27,17 +20,11 @@ lower_all-requires c =
 
 pub invariant_of-self : goal.invariant_of-self
 invariant_of-self c =
-    let b = c.self.inside in
-    let ss = b.slots in
     let place = c.args.place in
+    let ss = c.self.inside.slots in
     let w = ap (λ (w : Waiters). w.waiting) c.self.view_is in
-    let inside : place < length ss = omega (
-      arith,
-      c.requires.place,
-      ap length w,
-      length-map ss (λ (s : Slot). s.item),
-    ) in
-    let item = item_there ss place inside ∙ ap (λ rs. record_at rs place) w in
+    let inside = place_in c.self.inside.slots w c.requires.place in
+    let item = item_at c.self.inside.slots w c.requires.place in
     leave_timed c.self.invariant inside (ap is_in_service item ∙ c.requires.serving)
     (front_of (λ (r : Record). r.done ≡ 0) ss _ place w c.requires.front)
     (back_of (λ (r : Record). r.done ≡ 0) ss _ (place + 1) w c.requires.back)
@@ -48,7 +35,7 @@ returns-clause-waiting c = seen_left (λ (s : Slot). s.item) c.from-left.result 
     (λ s. refl)
     (ap (λ (w : Waiters). w.waiting) c.self.view_is) c.remove.ensures c.lower_all.ensures
 
-pub returns-clause-aims : goal.returns-clause-aims
-returns-clause-aims c = seen_left (λ (s : Slot). s.aim) c.from-left.result c.self.inside.slots _ _ c.args.place _
+pub returns-clause-targets : goal.returns-clause-targets
+returns-clause-targets c = seen_left (λ (s : Slot). s.target) c.from-left.result c.self.inside.slots _ _ c.args.place _
     (λ s. refl)
-    (ap (λ (w : Waiters). w.aims) c.self.view_is) c.remove.ensures c.lower_all.ensures
+    (ap (λ (w : Waiters). w.targets) c.self.view_is) c.remove.ensures c.lower_all.ensures

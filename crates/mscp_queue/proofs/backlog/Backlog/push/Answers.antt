@@ -15,7 +15,7 @@ invariant_of-self c =
     let left = c.from-left.ensures ∙ c.left.ensures.value in
     let slot : Slot = record {
       item = new;
-      aim = c.args.aim;
+      target = c.args.target;
       due = b.clock + b.total + c.from.result
           + c.from-left.result;
     } in

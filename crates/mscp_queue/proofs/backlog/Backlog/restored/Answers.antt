@@ -1,11 +1,11 @@
 use Rattle.std.proofs.Common.{◌≡◌, true, ap, subst, ◌∙◌, sym, arith}
 use Rattle.std.specs.Prelude.{sum_by}
 use Rattle.std.proofs.lemmas.List.{take_all}
-use Rattle.mscp_queue.specs.declared.aim.Aim.{Aim}
-use Rattle.mscp_queue.specs.Aims.{aim_of}
+use Rattle.mscp_queue.specs.declared.target.Target.{Target}
+use Rattle.mscp_queue.specs.Targets.{target_of}
 use Rattle.mscp_queue.specs.Kept.{is_known, units_of}
 use Rattle.mscp_queue.specs.Records.{Record, left_of}
-use Rattle.mscp_queue.proofs.Aims.{place_inside}
+use Rattle.mscp_queue.proofs.Targets.{place_inside}
 use Rattle.mscp_queue.proofs.Restored.{shown, slots_all, timed}
 use Rattle.mscp_queue.proofs.backlog.Backlog.restored.Goals as goal
 
@@ -17,7 +17,7 @@ push-requires-clause-drive c =
     (c.requires.known c.loop-place.place r c.loop-place-test.true) in
     omega (
       arith,
-      ap (λ (a : Aim). a.drive) (c.of.ensures ∙ ap (aim_of (units_of ds)) c.command.ensures),
+      ap (λ (a : Target). a.drive) (c.of.ensures ∙ ap (target_of (units_of ds)) c.command.ensures),
       place_inside ds r.command.unit known,
       c.requires.drives,
     )

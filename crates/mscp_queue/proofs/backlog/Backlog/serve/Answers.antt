@@ -1,5 +1,5 @@
 use Rattle.std.proofs.Common.{◌++◌, ◌∷◌, [], ◌+◌, cond, map, take, drop, ap, sym, ◌∙◌}
-use Rattle.mscp_queue.specs.Records.{advanced, passed_by, record_at, step_toll}
+use Rattle.mscp_queue.specs.Records.{advanced, passed_by, record_at, step_charge}
 use Rattle.mscp_queue.proofs.BacklogSteps.{back_idle, ended_at, front_idle}
 use Rattle.mscp_queue.proofs.backlog.Backlog.serve.Goals as goal
 
@@ -17,5 +17,5 @@ returns-then-ends-clause-waiting c =
     let place = c.args.place in
     let r = record_at rs place in
     ended_at _ place rs _ _ _ c.requires.place c.advance.ensures.waiting c.leave.ensures.waiting
-    ∙ ap (λ b. map (passed_by (step_toll r)) (take place rs)
+    ∙ ap (λ b. map (passed_by (step_charge r)) (take place rs)
     ++ (cond b [] (advanced r ∷ []) ++ drop (place + 1) rs)) (sym c.if-ends.true)

@@ -5,7 +5,7 @@ use Rattle.mscp_queue.specs.Lines.{Line, aborting}
 use Rattle.mscp_queue.specs.Names.{name_on}
 use Rattle.mscp_queue.specs.Records.{aborted_record, has_name, name_of, record_at}
 use Rattle.mscp_queue.proofs.Aborts.{aborts_at, aborts_none, none_aborted}
-use Rattle.mscp_queue.proofs.Lineups.{place_of}
+use Rattle.mscp_queue.proofs.CandidateLists.{place_of}
 use Rattle.mscp_queue.proofs.Nexts.{named_at}
 use Rattle.mscp_queue.proofs.queue.Queue.abort.Goals as goal
 
@@ -14,7 +14,7 @@ returns-in_err-place-clause-end g c =
     let K = g.row.K.Denot in
     let name = name_on c.args.connection c.args.reference in
     let none = aborts_none name c.self.inside.backlog.waiting (sym (c.place_of.ensures
-    ∙ place_of name c.self.invariant.lined) ∙ c.in_err-place.was) in
+    ∙ place_of name c.self.invariant.listed) ∙ c.in_err-place.was) in
     c.from_residual.ensures ∙ (ap (option_map aborted_record) (sym none.found)
     ∙ ap (λ (l : Line K). option_map aborted_record (find (has_name name) l.waiting)) c.self.view_is)
 
@@ -24,7 +24,7 @@ returns-in_err-place-clause-after g c =
     let q = c.self.inside in
     let rs = q.backlog.waiting in
     let name = name_on c.args.connection c.args.reference in
-    let none = aborts_none name rs (sym (c.place_of.ensures ∙ place_of name c.self.invariant.lined)
+    let none = aborts_none name rs (sym (c.place_of.ensures ∙ place_of name c.self.invariant.listed)
     ∙ c.in_err-place.was) in
     let stays = none_aborted q.backlog.budget name rs (begun_name rs q.begun) c.self.invariant.ready.held.still
     none.found in
@@ -45,7 +45,7 @@ abort_at-requires g c =
     let K = g.row.K.Denot in
     let at = aborts_at (name_on c.args.connection c.args.reference) c.self.inside.backlog.waiting c.in_ok-place.place
     c.self.invariant.ready.held.apart (sym (c.place_of.ensures
-    ∙ place_of (name_on c.args.connection c.args.reference) c.self.invariant.lined) ∙ c.in_ok-place.was) in
+    ∙ place_of (name_on c.args.connection c.args.reference) c.self.invariant.listed) ∙ c.in_ok-place.was) in
     subst (λ (l : Line K). c.in_ok-place.place < length l.waiting) c.self.view_is at.inside
 
 pub returns-clause-end : goal.returns-clause-end
@@ -54,7 +54,7 @@ returns-clause-end g c =
     let place = c.in_ok-place.place in
     let name = name_on c.args.connection c.args.reference in
     let at = aborts_at name c.self.inside.backlog.waiting place c.self.invariant.ready.held.apart
-    (sym (c.place_of.ensures ∙ place_of name c.self.invariant.lined) ∙ c.in_ok-place.was) in
+    (sym (c.place_of.ensures ∙ place_of name c.self.invariant.listed) ∙ c.in_ok-place.was) in
     ap Some c.abort_at.ensures.end
     ∙ subst (λ (l : Line K). Some (aborted_record (record_at l.waiting place))
     ≡ option_map aborted_record (find (has_name name) l.waiting)) c.self.view_is
@@ -66,7 +66,7 @@ returns-clause-after g c =
     let place = c.in_ok-place.place in
     let name = name_on c.args.connection c.args.reference in
     let own = named_at name c.self.inside.backlog.waiting place
-    (sym (c.place_of.ensures ∙ place_of name c.self.invariant.lined) ∙ c.in_ok-place.was) in
+    (sym (c.place_of.ensures ∙ place_of name c.self.invariant.listed) ∙ c.in_ok-place.was) in
     c.abort_at.ensures.after
     ∙ ap (λ n. aborting n c.args.self.now)
     (subst (λ (l : Line K). name_of (record_at l.waiting place) ≡ name) c.self.view_is own)

@@ -4,7 +4,7 @@ use Rattle.mscp_queue.specs.Kept.{begun_name}
 use Rattle.mscp_queue.specs.Lines.{Line, aborting}
 use Rattle.mscp_queue.specs.Records.{has_name, name_of, record_at}
 use Rattle.mscp_queue.proofs.Aborts.{aborts_at}
-use Rattle.mscp_queue.proofs.Lineups.{line_without}
+use Rattle.mscp_queue.proofs.CandidateLists.{line_without}
 use Rattle.mscp_queue.proofs.Nexts.{begun_left, name_found}
 use Rattle.mscp_queue.proofs.Ready.{others_at, ready_left}
 use Rattle.mscp_queue.proofs.queue.Queue.abort_at.Goals as goal
@@ -27,9 +27,9 @@ invariant_of-self g c =
     let inside = subst (λ (l : Line K). c.args.place < length l.waiting) (sym c.self.view_is) c.requires in
     let e = c.take_out.ensures in
     record {
-      ready = ready_left c.args.place c.self.invariant.ready inside e.budget e.waiting e.aims
+      ready = ready_left c.args.place c.self.invariant.ready inside e.budget e.waiting e.targets
           c.without_place-self-inside.ensures c.without_place-self-inside-2.ensures;
-      lined = line_without c.args.place c.self.invariant.lined c.remove.ensures.view c.remove.ensures.stale
+      listed = line_without c.args.place c.self.invariant.listed c.remove.ensures.view c.remove.ensures.dirty
           e.waiting;
     }
 

@@ -1,5 +1,5 @@
 use Rattle.std.proofs.Common.{◌≡◌, ◌<◌, length, get_or, ap, subst, sym, ◌∙◌}
-use Rattle.mscp_queue.specs.declared.aim.Aim.{Aim}
+use Rattle.mscp_queue.specs.declared.target.Target.{Target}
 use Rattle.mscp_queue.specs.Kept.{begun_name}
 use Rattle.mscp_queue.specs.Lines.{Line, begun_at}
 use Rattle.mscp_queue.specs.Records.{drive_at, record_at}
@@ -18,9 +18,9 @@ bounds-deref-drive g c =
     subst (λ (l : Line K). IsNext (g.K.Picker.picks l.picker) l.budget l.drives l.waiting l.begun place)
     (sym c.self.view_is)
     c.requires in
-    let at = drive_found q.backlog.aims place _ c.self.invariant.ready.held c.self.invariant.ready.aimed
+    let at = drive_found q.backlog.targets place _ c.self.invariant.ready.held c.self.invariant.ready.targeted
     next.servable.inside
-    (c.from-drive.ensures ∙ ap (λ (a : Aim). a.drive) c.aim.ensures) in
+    (c.from-drive.ensures ∙ ap (λ (a : Target). a.drive) c.target.ensures) in
     subst (λ l. c.from-drive.result < length l) (sym c.deref.ensures.0) at.inside
 
 pub returns : goal.returns
@@ -34,15 +34,15 @@ returns g c =
     subst (λ (l : Line K). IsNext (g.K.Picker.picks l.picker) l.budget l.drives l.waiting l.begun place)
     (sym c.self.view_is)
     c.requires in
-    let at = drive_found q.backlog.aims place _ c.self.invariant.ready.held c.self.invariant.ready.aimed
+    let at = drive_found q.backlog.targets place _ c.self.invariant.ready.held c.self.invariant.ready.targeted
     next.servable.inside
-    (c.from-drive.ensures ∙ ap (λ (a : Aim). a.drive) c.aim.ensures) in
+    (c.from-drive.ensures ∙ ap (λ (a : Target). a.drive) c.target.ensures) in
     let d = c.index-deref-drive.result in
     let drive : d ≡ drive_at ds rs place = c.index-deref-drive.is
     ∙ ap (λ l. get_or l c.from-drive.result d) c.deref.ensures.0 ∙ at.is d in
     record {
       next = c.requires;
-      told = c.upcoming.ensures ∙ (λ i. upcoming_of (drive i) (c.record-record.ensures i))
+      told = c.of.ensures ∙ (λ i. upcoming_of (drive i) (c.record-record.ensures i))
           ∙ ap (λ (l : Line K). upcoming_of (drive_at l.drives l.waiting place) (record_at l.waiting place))
           c.self.view_is;
       left = ap (λ (l : Line K). begun_at l place) c.self.view_is;

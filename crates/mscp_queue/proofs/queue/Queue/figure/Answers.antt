@@ -2,7 +2,7 @@ use Rattle.std.proofs.Common.{ap, sym, ◌∙◌}
 use Rattle.mscp_queue.specs.Figures.{figure_at_place, figure_of_name}
 use Rattle.mscp_queue.specs.Lines.{Line}
 use Rattle.mscp_queue.specs.Names.{name_on}
-use Rattle.mscp_queue.proofs.Lineups.{place_of}
+use Rattle.mscp_queue.proofs.CandidateLists.{place_of}
 use Rattle.mscp_queue.proofs.Sums.{held_small}
 use Rattle.mscp_queue.proofs.queue.Queue.figure.Goals as goal
 
@@ -17,7 +17,7 @@ returns-in-Some g c =
     let name = name_on c.args.connection c.args.reference in
     c.figure.ensures
     ∙ (ap (figure_at_place q.backlog.budget rs) (sym c.in-Some.is ∙ (c.place_of.ensures
-    ∙ place_of name c.self.invariant.lined))
+    ∙ place_of name c.self.invariant.listed))
     ∙ ap (λ (l : Line K). figure_of_name l.budget l.waiting name) c.self.view_is)
 
 pub returns-in-None : goal.returns-in-None
@@ -27,5 +27,5 @@ returns-in-None g c =
     let rs = q.backlog.waiting in
     let name = name_on c.args.connection c.args.reference in
     ap (figure_at_place q.backlog.budget rs) (sym c.in-None.is ∙ (c.place_of.ensures
-    ∙ place_of name c.self.invariant.lined))
+    ∙ place_of name c.self.invariant.listed))
     ∙ ap (λ (l : Line K). figure_of_name l.budget l.waiting name) c.self.view_is

@@ -4,7 +4,7 @@ use Rattle.std.proofs.lemmas.Bool.{false≢true}
 use Rattle.mscp_queue.specs.Drives.{fresh_drive}
 use Rattle.mscp_queue.specs.Waiters.{Waiters}
 use Rattle.mscp_queue.specs.Kept.{IsReady}
-use Rattle.mscp_queue.proofs.Lineups.{none_lined}
+use Rattle.mscp_queue.proofs.CandidateLists.{none_listed}
 use Rattle.mscp_queue.proofs.Held.{held_fresh}
 use Rattle.mscp_queue.proofs.queue.Queue.new.Goals as goal
 
@@ -17,12 +17,12 @@ invariant_of-result g c =
           held_fresh c.args.room c.args.budget c.args.longest c.args.units _ ds c.requires.some_room c.requires.few
           c.requires.some_blocks c.requires.short c.requires.small
           c.list.ensures.valid refl (c.drives_of-drives.ensures ∙ ap (map fresh_drive) c.list.ensures.value);
-      aimed = refl;
+      targeted = refl;
       order = tt;
       served = λ place e. absurd (false≢true (ap is_some e));
       waits = λ place e. absurd (false≢true (ap is_some e));
     }) in
     record {
       ready = ready;
-      lined = none_lined (ap (λ (w : Waiters). w.waiting) c.new.ensures) c.new-2.ensures;
+      listed = none_listed (ap (λ (w : Waiters). w.waiting) c.new.ensures) c.new-2.ensures;
     }

@@ -2,16 +2,16 @@ use Rattle.std.proofs.Common.{◌≡◌, ◌<◌, ◌++◌, ◌∷◌, [], false
 use Rattle.std.specs.List.{list_any}
 use Rattle.std.proofs.lemmas.List.{length-map}
 use Rattle.mscp_packet.specs.declared.command.Command.{Command}
-use Rattle.mscp_queue.specs.declared.aim.Aim.{Aim}
+use Rattle.mscp_queue.specs.declared.target.Target.{Target}
 use Rattle.mscp_queue.specs.declared.drive.Drive.{Drive}
-use Rattle.mscp_queue.specs.Aims.{aim_of}
+use Rattle.mscp_queue.specs.Targets.{target_of}
 use Rattle.mscp_queue.specs.Kept.{IsWaitable, units_of}
 use Rattle.mscp_queue.specs.Lines.{Line}
 use Rattle.mscp_queue.specs.Names.{name_on}
 use Rattle.mscp_queue.specs.Records.{Record, has_name}
-use Rattle.mscp_queue.proofs.Aims.{place_inside}
-use Rattle.mscp_queue.specs.Lineups.{choice_in}
-use Rattle.mscp_queue.proofs.Lineups.{line_with}
+use Rattle.mscp_queue.proofs.Targets.{place_inside}
+use Rattle.mscp_queue.specs.Candidates.{choice_in}
+use Rattle.mscp_queue.proofs.CandidateLists.{line_with}
 use Rattle.mscp_queue.proofs.Ready.{ready_pushed}
 use Rattle.mscp_queue.proofs.Sums.{held_small}
 use Rattle.mscp_queue.proofs.queue.Queue.push.Goals as goal
@@ -31,7 +31,7 @@ push-requires-clause-drive g c =
     let few = c.self.invariant.ready.held.units.few in
     omega (
       arith,
-      ap (λ (a : Aim). a.drive) (c.of-aim.ensures ∙ ap (λ ds. aim_of (units_of ds) command) c.as_slice.ensures.value),
+      ap (λ (a : Target). a.drive) (c.of-target.ensures ∙ ap (λ ds. target_of (units_of ds) command) c.as_slice.ensures.value),
       place_inside ds c.args.new.unit waitable.known,
       few,
       length-map ds (λ (d : Drive). d.unit),
@@ -53,19 +53,19 @@ invariant_of-self g c =
     let name = name_on c.args.new.connection c.args.new.reference in
     let q = c.self.inside in
     let e = c.push.ensures in
-    let ready = ready_pushed c.args.new.connection command c.of-aim.result c.self.invariant.ready
+    let ready = ready_pushed c.args.new.connection command c.of-target.result c.self.invariant.ready
     (subst (λ (l : Line K). length l.waiting < l.room) seen c.requires.room)
     (subst (λ (l : Line K). IsWaitable l.longest (units_of l.drives) command) seen c.requires.waitable)
     (subst (λ (l : Line K). list_any (has_name name) l.waiting ≡ false) seen c.requires.apart)
-    (c.of-aim.ensures ∙ ap (λ ds. aim_of (units_of ds) command) c.as_slice.ensures.value)
+    (c.of-target.ensures ∙ ap (λ ds. target_of (units_of ds) command) c.as_slice.ensures.value)
     (λ i. record {
       budget = e.budget i;
       waiting = (e.waiting ∙ ap (λ (r : Record). q.backlog.waiting ++ r ∷ []) c.new-record.ensures) i;
-      aims = e.aims i;
+      targets = e.targets i;
     }) in
     record {
       ready = ready;
-      lined = line_with c.new-record.result c.choice_in.result c.self.invariant.lined
+      listed = line_with c.new-record.result c.choice_in.result c.self.invariant.listed
           (c.choice_in.ensures ∙ ap (λ ds. choice_in ds c.new-record.result) c.as_slice-2.ensures.value)
-          c.come.ensures.view c.come.ensures.stale e.waiting;
+          c.come.ensures.view c.come.ensures.dirty e.waiting;
     }

@@ -7,7 +7,7 @@ use Rattle.mscp_queue.specs.Drives.{fresh_drive}
 use Rattle.mscp_queue.specs.Waiters.{Waiters}
 use Rattle.mscp_queue.specs.Kept.{IsReady, begun_name, units_of}
 use Rattle.mscp_queue.specs.Lines.{Line, fresh}
-use Rattle.mscp_queue.proofs.Lineups.{none_lined}
+use Rattle.mscp_queue.proofs.CandidateLists.{none_listed}
 use Rattle.mscp_queue.proofs.Held.{held_renewed, renewed}
 use Rattle.mscp_queue.proofs.queue.Queue.reset.Goals as goal
 
@@ -22,14 +22,14 @@ invariant_of-self g c =
       held = held_renewed q.room q.backlog.budget q.longest q.backlog.waiting _ q.drives.items _
           (begun_name q.backlog.waiting q.begun)
           (is_some q.serving) c.self.invariant.ready.held refl drives;
-      aimed = refl;
+      targeted = refl;
       order = tt;
       served = λ place e. absurd (false≢true (ap is_some e));
       waits = λ place e. absurd (false≢true (ap is_some e));
     }) in
     record {
       ready = ready;
-      lined = none_lined (ap (λ (w : Waiters). w.waiting) c.clear.ensures) c.clear-2.ensures;
+      listed = none_listed (ap (λ (w : Waiters). w.waiting) c.clear.ensures) c.clear-2.ensures;
     }
 
 pub returns : goal.returns

@@ -2,27 +2,27 @@ use Rattle.std.proofs.Common.{◌≡◌, ℕ, List, ap, subst, sym, true, ◌∙
 use Rattle.std.specs.Prelude.{map, Option, Some, None, IfSome}
 use Rattle.std.specs.List.{position}
 use Rattle.mscp_queue.specs.declared.name.Name.{Name}
-use Rattle.mscp_queue.specs.Aims.{aims_of}
+use Rattle.mscp_queue.specs.Targets.{targets_of}
 use Rattle.mscp_queue.specs.Kept.{IsHeld, begun_name, units_of}
-use Rattle.mscp_queue.specs.Lineups.{IsLineup, choice_in, has_choice_name}
+use Rattle.mscp_queue.specs.Candidates.{AreCandidates, choice_in, has_choice_name}
 use Rattle.mscp_queue.specs.Lines.{Line}
 use Rattle.mscp_queue.specs.Records.{Record, has_name}
 use Rattle.mscp_queue.specs.Waiters.{Waiters}
 use Rattle.mscp_queue.specs.declared.drive.Drive.{Drive}
 use Rattle.mscp_queue.specs.declared.view.Choice.{Choice}
-use Rattle.mscp_queue.proofs.Lineups.{lineup_of, place_of}
+use Rattle.mscp_queue.proofs.CandidateLists.{candidates_of, place_of}
 use Rattle.mscp_queue.proofs.Restored.{begun_back, ready_restored}
 use Rattle.mscp_queue.proofs.queue.Queue.restore.Goals as goal
 
 -- the waiting commands as the backlog shows them
 waiters : {w : Waiters} {budget budget' : ℕ} {rs : List Record} {ds ds' : List Drive} → ds' ≡ ds → budget' ≡ budget
-    → w ≡ record { budget = budget'; waiting = rs; aims = aims_of (units_of ds') rs }
-    → w ≡ record { budget = budget; waiting = rs; aims = aims_of (units_of ds) rs }
-waiters {rs = rs} e b f = f ∙ λ i. record { budget = b i; waiting = rs; aims = aims_of (units_of (e i)) rs }
+    → w ≡ record { budget = budget'; waiting = rs; targets = targets_of (units_of ds') rs }
+    → w ≡ record { budget = budget; waiting = rs; targets = targets_of (units_of ds) rs }
+waiters {rs = rs} e b f = f ∙ λ i. record { budget = b i; waiting = rs; targets = targets_of (units_of (e i)) rs }
 
 -- the place of what was begun, by the names of the records
-by_names : {stale : ℕ} {ds : List Drive} {rs : List Record} {cs : List Choice} (begun : Option Name)
-    (place : Option ℕ) → IsLineup stale ds rs cs → IfSome begun (λ name. place ≡ position (has_choice_name name) cs)
+by_names : {dirty : ℕ} {ds : List Drive} {rs : List Record} {cs : List Choice} (begun : Option Name)
+    (place : Option ℕ) → AreCandidates dirty ds rs cs → IfSome begun (λ name. place ≡ position (has_choice_name name) cs)
     → IfSome begun (λ name. place ≡ position (has_name name) rs)
 by_names None place h some = some
 by_names (Some name) place h some = some ∙ place_of name h
@@ -35,16 +35,16 @@ invariant_of-self g c =
     let held = subst (λ (l : Line K). IsHeld l.room l.budget l.longest rs ds c.args.begun true) (sym c.self.view_is)
     c.requires.held in
     let w = waiters c.as_slice-2.ensures.value c.budget.ensures c.restored-self-inside.ensures in
-    let lined : IsLineup c.lineup_of-lineup.result.stale ds rs c.lineup_of-lineup.result.view =
-    lineup_of c.lineup_of-lineup.result.stale
-    (c.lineup_of-lineup.ensures ∙ ap (λ ds. map (choice_in ds) rs) c.as_slice.ensures.value) in
+    let listed : AreCandidates c.candidates_of-candidates.result.dirty ds rs c.candidates_of-candidates.result.view =
+    candidates_of c.candidates_of-candidates.result.dirty
+    (c.candidates_of-candidates.ensures ∙ ap (λ ds. map (choice_in ds) rs) c.as_slice.ensures.value) in
     let begun = begun_back c.self.inside.backlog.budget rs c.args.begun c.place_begun-self-inside.result held.still
-    (by_names c.args.begun c.place_begun-self-inside.result lined c.place_begun-self-inside.ensures.some)
+    (by_names c.args.begun c.place_begun-self-inside.result listed c.place_begun-self-inside.ensures.some)
     c.place_begun-self-inside.ensures.none in
     record {
       ready = ready_restored held c.requires.order w begun c.place_served-self-inside.ensures;
-      lined = subst (λ (v : Waiters). IsLineup c.lineup_of-lineup.result.stale ds v.waiting
-          c.lineup_of-lineup.result.view) (sym w) lined;
+      listed = subst (λ (v : Waiters). AreCandidates c.candidates_of-candidates.result.dirty ds v.waiting
+          c.candidates_of-candidates.result.view) (sym w) listed;
     }
 
 pub returns : goal.returns
@@ -55,11 +55,11 @@ returns g c =
     let held = subst (λ (l : Line K). IsHeld l.room l.budget l.longest rs ds c.args.begun true) (sym c.self.view_is)
     c.requires.held in
     let w = waiters c.as_slice-2.ensures.value c.budget.ensures c.restored-self-inside.ensures in
-    let lined : IsLineup c.lineup_of-lineup.result.stale ds rs c.lineup_of-lineup.result.view =
-    lineup_of c.lineup_of-lineup.result.stale
-    (c.lineup_of-lineup.ensures ∙ ap (λ ds. map (choice_in ds) rs) c.as_slice.ensures.value) in
+    let listed : AreCandidates c.candidates_of-candidates.result.dirty ds rs c.candidates_of-candidates.result.view =
+    candidates_of c.candidates_of-candidates.result.dirty
+    (c.candidates_of-candidates.ensures ∙ ap (λ ds. map (choice_in ds) rs) c.as_slice.ensures.value) in
     let begun = begun_back c.self.inside.backlog.budget rs c.args.begun c.place_begun-self-inside.result held.still
-    (by_names c.args.begun c.place_begun-self-inside.result lined c.place_begun-self-inside.ensures.some)
+    (by_names c.args.begun c.place_begun-self-inside.result listed c.place_begun-self-inside.ensures.some)
     c.place_begun-self-inside.ensures.none in
     let L = c.self.view_is in
     (λ i. record {

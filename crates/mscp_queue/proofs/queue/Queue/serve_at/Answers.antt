@@ -1,72 +1,155 @@
-use Rattle.std.proofs.Common.{◌≡◌, ◌<◌, length, get_or, ap, subst, sym, ◌∙◌}
-use Rattle.std.specs.Prelude.{true, false}
-use Rattle.mscp_queue.specs.declared.aim.Aim.{Aim}
-use Rattle.mscp_queue.specs.Kept.{begun_name, goes_on_at}
-use Rattle.mscp_queue.specs.Lines.{Line}
-use Rattle.mscp_queue.specs.Outcomes.{goes_on}
-use Rattle.mscp_queue.specs.Records.{drive_at, left_of}
-use Rattle.mscp_queue.specs.Serving.{IsNext}
-use Rattle.mscp_queue.proofs.Ready.{drive_found}
+use Rattle.std.proofs.Common.{arith, ◌≡◌, ◌<◌, length, get_or, ap, subst, sym, ◌∙◌}
+use Rattle.std.specs.Prelude.{◌||◌, true, IfSome, None}
+use Rattle.std.proofs.lemmas.List.{length-map}
+use Rattle.mscp_packet.specs.declared.command.Command.{Command}
+use Rattle.mscp_packet.specs.Ends.{IsOfKind}
+use Rattle.mscp_queue.specs.declared.target.Target.{Target}
+use Rattle.mscp_queue.specs.declared.drive.Drive.{Drive}
+use Rattle.mscp_queue.specs.declared.plan.Plan.{Plan}
+use Rattle.mscp_queue.specs.declared.report.Report.TheVariants.{Served}
+use Rattle.mscp_queue.specs.Drives.{replaced}
+use Rattle.mscp_queue.specs.Kept.{units_of}
+use Rattle.mscp_queue.specs.Lines.{Line, served}
+use Rattle.mscp_queue.specs.Orders.{is_move, is_sequential}
+use Rattle.mscp_queue.specs.Records.{Record, drive_at, is_unstarted, no_record, record_at}
+use Rattle.mscp_queue.specs.Serving.{end_in, plan_of, report_of}
+use Rattle.mscp_queue.proofs.CandidateLists.{as_many}
+use Rattle.mscp_queue.proofs.Ready.{can_serve, drive_found, left_is, ready_step}
+use Rattle.mscp_queue.proofs.Shaped.{given_kind}
+use Rattle.mscp_queue.proofs.Stepping.{listed_step, next_in, step_made}
+use Rattle.mscp_queue.proofs.Turns.{units_step}
 use Rattle.mscp_queue.proofs.queue.Queue.serve_at.Goals as goal
 
 pub bounds-deref-at : goal.bounds-deref-at
 bounds-deref-at g c =
-    let K = g.row.K.Denot in
-    let q = c.self.inside in
-    let rs = q.backlog.waiting in
-    let ds = q.drives.items in
-    let place = c.args.place in
-    let next : IsNext (g.K.Picker.picks q.picker) q.backlog.budget ds rs (begun_name rs q.begun) place =
-    subst (λ (l : Line K). IsNext (g.K.Picker.picks l.picker) l.budget l.drives l.waiting l.begun place)
-    (sym c.self.view_is)
-    c.requires in
-    let at = drive_found q.backlog.aims place _ c.self.invariant.ready.held c.self.invariant.ready.aimed
-    next.servable.inside
-    (c.from-at.ensures ∙ ap (λ (a : Aim). a.drive) c.aim.ensures) in
-    subst (λ l. c.from-at.result < length l) (sym c.deref.ensures.0) at.inside
+    let ready = c.self.invariant.ready in
+    let servable = (next_in g.K.Picker.picks c.self.view_is c.requires).servable in
+    let found = drive_found c.self.inside.backlog.targets c.args.place _ ready.held ready.targeted servable.inside
+    (c.from-at.ensures ∙ ap (λ (a : Target). a.drive) c.target.ensures) in
+    subst (λ l. c.from-at.result < length l) (sym c.deref.ensures.0) found.inside
 
-pub serve_on-requires-clause-on : goal.serve_on-requires-clause-on
-serve_on-requires-clause-on g c =
-    let K = g.row.K.Denot in
-    let q = c.self.inside in
-    let rs = q.backlog.waiting in
-    let ds = q.drives.items in
-    let place = c.args.place in
-    let next : IsNext (g.K.Picker.picks q.picker) q.backlog.budget ds rs (begun_name rs q.begun) place =
-    subst (λ (l : Line K). IsNext (g.K.Picker.picks l.picker) l.budget l.drives l.waiting l.begun place)
-    (sym c.self.view_is)
-    c.requires in
-    let at = drive_found q.backlog.aims place _ c.self.invariant.ready.held c.self.invariant.ready.aimed
-    next.servable.inside
-    (c.from-at.ensures ∙ ap (λ (a : Aim). a.drive) c.aim.ensures) in
+pub bounds-deref_mut-at : goal.bounds-deref_mut-at
+bounds-deref_mut-at g c =
+    let ready = c.self.invariant.ready in
+    let servable = (next_in g.K.Picker.picks c.self.view_is c.requires).servable in
+    let found = drive_found c.self.inside.backlog.targets c.args.place _ ready.held ready.targeted servable.inside
+    (c.from-at.ensures ∙ ap (λ (a : Target). a.drive) c.target.ensures) in
+    subst (λ l. c.from-at.result < length l) (sym c.deref_mut.ensures.value) found.inside
+
+pub serve-requires-clause-front : goal.serve-requires-clause-front
+serve-requires-clause-front g c =
+    let ready = c.self.invariant.ready in
+    let servable = (next_in g.K.Picker.picks c.self.view_is c.requires).servable in
+    (can_serve c.args.block.now ready.held servable).front
+
+pub serve-requires-clause-back : goal.serve-requires-clause-back
+serve-requires-clause-back g c =
+    let ready = c.self.invariant.ready in
+    let servable = (next_in g.K.Picker.picks c.self.view_is c.requires).servable in
+    (can_serve c.args.block.now ready.held servable).back
+
+pub serve-requires-clause-affordable : goal.serve-requires-clause-affordable
+serve-requires-clause-affordable g c =
+    let ready = c.self.invariant.ready in
+    let servable = (next_in g.K.Picker.picks c.self.view_is c.requires).servable in
+    (can_serve c.args.block.now ready.held servable).affordable
+
+pub serve-requires-2-clause-place : goal.serve-requires-2-clause-place
+serve-requires-2-clause-place g c =
+    let ready = c.self.invariant.ready in
+    let servable = (next_in g.K.Picker.picks c.self.view_is c.requires).servable in
+    omega (arith, servable.inside, as_many c.self.invariant.listed)
+
+pub serve-requires-2-clause-drive : goal.serve-requires-2-clause-drive
+serve-requires-2-clause-drive g c =
+    let ready = c.self.invariant.ready in
+    let servable = (next_in g.K.Picker.picks c.self.view_is c.requires).servable in
+    let found = drive_found c.self.inside.backlog.targets c.args.place _ ready.held ready.targeted servable.inside
+    (c.from-at.ensures ∙ ap (λ (a : Target). a.drive) c.target.ensures) in
+    let few = ready.held.units.few in
+    omega (arith, found.inside, few, length-map c.self.inside.drives.items (λ (d : Drive). d.unit))
+
+pub invariant_of-self : goal.invariant_of-self
+invariant_of-self g c =
+    let ready = c.self.invariant.ready in
+    let servable = (next_in g.K.Picker.picks c.self.view_is c.requires).servable in
+    let found = drive_found c.self.inside.backlog.targets c.args.place _ ready.held ready.targeted servable.inside
+    (c.from-at.ensures ∙ ap (λ (a : Target). a.drive) c.target.ensures) in
     let d = c.index-deref-at.result in
     let own = c.record.ensures in
-    let drive : d ≡ drive_at ds rs place = c.index-deref-at.is
-    ∙ ap (λ l. get_or l c.from-at.result d) c.deref.ensures.0 ∙ at.is d in
-    let k = c.args.block.now in
-    subst (λ (l : Line K). goes_on_at k l.drives l.waiting place ≡ true) c.self.view_is
-    (sym (λ i. goes_on (drive i).online (own i).command.order k (left_of (own i)))
-    ∙ (sym c.goes_on.ensures.value ∙ c.if-goes_on.true))
+    let drive = c.index-deref-at.is ∙ (ap (λ l. get_or l c.from-at.result d) c.deref.ensures.0 ∙ found.is d) in
+    let planned = c.of-plan.ensures ∙ (λ i. plan_of c.args.block.now (drive i) (own i)) in
+    let made = step_made c.args.block.now c.index-deref_mut-at.result ready.held servable found planned
+    c.deref_mut.ensures.value c.follow.ensures
+    (ap (λ (w : Command). w.order) c.command.ensures ∙ ap (λ (r : Record). r.command.order) own)
+    c.is_some-ends.ensures c.serve.ensures.waiting in
+    record {
+      ready = ready_step {new = c.serve.new.self} ready servable made c.serve.ensures.budget c.serve.ensures.targets
+          c.place_served-self-inside.ensures;
+      listed = listed_step ready.held servable found made c.self.invariant.listed c.serve-2.ensures.dirty
+          c.serve-2.ensures.view;
+    }
 
-pub serve_last-requires-clause-last : goal.serve_last-requires-clause-last
-serve_last-requires-clause-last g c =
-    let K = g.row.K.Denot in
+pub returns-clause-units : goal.returns-clause-units
+returns-clause-units g c =
+    let ready = c.self.invariant.ready in
+    let servable = (next_in g.K.Picker.picks c.self.view_is c.requires).servable in
+    let found = drive_found c.self.inside.backlog.targets c.args.place _ ready.held ready.targeted servable.inside
+    (c.from-at.ensures ∙ ap (λ (a : Target). a.drive) c.target.ensures) in
+    let d = c.index-deref-at.result in
+    let own = c.record.ensures in
+    let drive = c.index-deref-at.is ∙ (ap (λ l. get_or l c.from-at.result d) c.deref.ensures.0 ∙ found.is d) in
+    let planned = c.of-plan.ensures ∙ (λ i. plan_of c.args.block.now (drive i) (own i)) in
+    let made = step_made c.args.block.now c.index-deref_mut-at.result ready.held servable found planned
+    c.deref_mut.ensures.value c.follow.ensures
+    (ap (λ (w : Command). w.order) c.command.ensures ∙ ap (λ (r : Record). r.command.order) own)
+    c.is_some-ends.ensures c.serve.ensures.waiting in
+    units_step made ready.held.units ∙ ap (λ (l : Line g.row.K.Denot). units_of l.drives) c.self.view_is
+
+pub returns-clause-shaped : goal.returns-clause-shaped
+returns-clause-shaped g c =
+    let ready = c.self.invariant.ready in
+    let servable = (next_in g.K.Picker.picks c.self.view_is c.requires).servable in
+    let CanWait : Record → Type 0 = λ r. (is_sequential r.command.order || is_move r.command.order) ≡ true in
+    subst (λ e. IfSome e IsOfKind)
+    (sym (ap end_in c.report.ensures ∙ ap (λ (p : Plan). p.ended) c.of-plan.ensures))
+    (given_kind c.args.block.now c.index-deref-at.result c.record.result.now
+    (subst CanWait (sym c.record.ensures) (ready.held.each c.args.place no_record servable.inside).waitable.order))
+
+pub returns-clause-served : goal.returns-clause-served
+returns-clause-served g c =
+    let ready = c.self.invariant.ready in
+    let servable = (next_in g.K.Picker.picks c.self.view_is c.requires).servable in
+    let found = drive_found c.self.inside.backlog.targets c.args.place _ ready.held ready.targeted servable.inside
+    (c.from-at.ensures ∙ ap (λ (a : Target). a.drive) c.target.ensures) in
+    let d = c.index-deref-at.result in
+    let own = c.record.ensures in
+    let drive = c.index-deref-at.is ∙ (ap (λ l. get_or l c.from-at.result d) c.deref.ensures.0 ∙ found.is d) in
+    let planned = c.of-plan.ensures ∙ (λ i. plan_of c.args.block.now (drive i) (own i)) in
+    let made = step_made c.args.block.now c.index-deref_mut-at.result ready.held servable found planned
+    c.deref_mut.ensures.value c.follow.ensures
+    (ap (λ (w : Command). w.order) c.command.ensures ∙ ap (λ (r : Record). r.command.order) own)
+    c.is_some-ends.ensures c.serve.ensures.waiting in
+    let place = c.args.place in
     let q = c.self.inside in
     let rs = q.backlog.waiting in
     let ds = q.drives.items in
-    let place = c.args.place in
-    let next : IsNext (g.K.Picker.picks q.picker) q.backlog.budget ds rs (begun_name rs q.begun) place =
-    subst (λ (l : Line K). IsNext (g.K.Picker.picks l.picker) l.budget l.drives l.waiting l.begun place)
-    (sym c.self.view_is)
-    c.requires in
-    let at = drive_found q.backlog.aims place _ c.self.invariant.ready.held c.self.invariant.ready.aimed
-    next.servable.inside
-    (c.from-at.ensures ∙ ap (λ (a : Aim). a.drive) c.aim.ensures) in
-    let d = c.index-deref-at.result in
-    let own = c.record.ensures in
-    let drive : d ≡ drive_at ds rs place = c.index-deref-at.is
-    ∙ ap (λ l. get_or l c.from-at.result d) c.deref.ensures.0 ∙ at.is d in
     let k = c.args.block.now in
-    subst (λ (l : Line K). goes_on_at k l.drives l.waiting place ≡ false) c.self.view_is
-    (sym (λ i. goes_on (drive i).online (own i).command.order k (left_of (own i)))
-    ∙ (sym c.goes_on.ensures.value ∙ c.if-goes_on.false))
+    record {
+      next = c.requires;
+      told = c.report.ensures
+          ∙ ((λ i. Served (own i).connection (own i).command.reference (own i).command.unit (planned i).lbn
+          (is_unstarted (own i)) (planned i).seek (planned i).ended)
+          ∙ ap (λ (l : Line g.row.K.Denot). report_of k (drive_at l.drives l.waiting place) (record_at l.waiting place))
+          c.self.view_is);
+      left = (λ i. record {
+        room = q.room;
+        budget = c.serve.ensures.budget i;
+        longest = q.longest;
+        waiting = (c.serve.ensures.waiting ∙ left_is k place rs (drive_at ds rs place) _ made.ended) i;
+        drives = (made.drives ∙ ap (λ w. replaced (record_at rs place).command.unit w ds) made.after) i;
+        begun = None;
+        picker = q.picker;
+      })
+          ∙ ap (λ (l : Line g.row.K.Denot). served k l place) c.self.view_is;
+    }

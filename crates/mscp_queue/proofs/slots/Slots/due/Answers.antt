@@ -13,6 +13,6 @@ returns c =
     let s = c.self.inside in
     let n = number_of c.self.inside.dues c.args.self.now c.self.invariant c.self.view_is c.requires c.from.ensures
     c.deref.ensures.0 in
-    ap (λ (q : Slot). q.due) (slot_is s.records s.aims s.dues s.order.items c.args.self.now c.args.place _
+    ap (λ (q : Slot). q.due) (slot_is s.records s.targets s.dues s.order.items c.args.self.now c.args.place _
     c.self.view_is
     c.requires n.is)

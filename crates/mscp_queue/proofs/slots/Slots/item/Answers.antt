@@ -23,6 +23,6 @@ returns c =
     c.deref.ensures.0 in
     get_or_default s.records c.from.result c.index-self-from.result no_record
     (omega (arith, n.low, c.self.invariant.records_64))
-    ∙ ap (λ (q : Slot). q.item) (slot_is s.records s.aims s.dues s.order.items c.args.self.now c.args.place _
+    ∙ ap (λ (q : Slot). q.item) (slot_is s.records s.targets s.dues s.order.items c.args.self.now c.args.place _
     c.self.view_is
     c.requires n.is)

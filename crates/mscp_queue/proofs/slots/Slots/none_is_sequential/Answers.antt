@@ -13,5 +13,5 @@ returns c =
     c.none_is_sequential.ensures.value
     ∙ (none_tells _ s.order.items s.masks c.self.invariant.masks c.none_is_sequential.ensures.small
     ∙ (sym (all_shown (λ (s : Slot). not (is_sequential s.item.command.order))
-    (held s.records s.aims s.dues) s.order.items)
+    (held s.records s.targets s.dues) s.order.items)
     ∙ ap (list_all (λ (s : Slot). not (is_sequential s.item.command.order))) c.self.view_is))

@@ -31,7 +31,7 @@ invariant_of-self c =
     let n = number_of c.self.inside.dues c.args.self.now c.self.invariant c.self.view_is c.requires.place
     c.from-slot.ensures
     c.deref.ensures.0 in
-    kept_passed c.args.toll c.index-self-slot.result c.self.invariant n.low
+    kept_passed c.args.charge c.index-self-slot.result c.self.invariant n.low
     c.pass.ensures
 
 pub returns : goal.returns
@@ -40,5 +40,5 @@ returns c =
     c.from-slot.ensures
     c.deref.ensures.0 in
     item_set c.self.inside.dues c.args.self.now
-    (passed_by c.args.toll) c.index-self-slot.result c.self.invariant c.self.view_is
+    (passed_by c.args.charge) c.index-self-slot.result c.self.invariant c.self.view_is
     c.requires.place n c.pass.ensures

@@ -8,7 +8,7 @@ use Rattle.mscp_queue.proofs.slots.Slots.pass_front.Goals as goal
 pub loop-i-preserved : goal.loop-i-preserved
 loop-i-preserved c =
     let inv = c.loop-i.invariant in
-    let f = with_item (passed_by c.args.toll) in
+    let f = with_item (passed_by c.args.charge) in
     let i = c.loop-i.i in
     record {
       passed = c.pass.ensures ∙ mapped_more f c.args.self.now c.loop-i.self i no_slot

@@ -7,11 +7,11 @@ pub lowest_free-slot-requires : goal.lowest_free-slot-requires
 lowest_free-slot-requires c =
     let s = c.self.inside in
     some_free s.masks.waiting s.order.items c.self.invariant.masks.of_waiting
-    (omega (arith, c.requires.room, long_shown s.records s.aims s.dues s.order.items c.args.self.now c.self.view_is))
+    (omega (arith, c.requires.room, long_shown s.records s.targets s.dues s.order.items c.args.self.now c.self.view_is))
 
 pub invariant_of-self : goal.invariant_of-self
 invariant_of-self c =
-    kept_pushed c.args.new.item c.args.new.aim c.self.invariant c.lowest_free-slot.ensures c.requires.drive
+    kept_pushed c.args.new.item c.args.new.target c.self.invariant c.lowest_free-slot.ensures c.requires.drive
     c.from.ensures
     c.is_sequential.ensures (ap not c.is_unstarted.ensures
     ∙ serves_if c.args.new.item.done) c.come.ensures c.push.ensures.items

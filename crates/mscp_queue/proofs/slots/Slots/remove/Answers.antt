@@ -31,5 +31,5 @@ invariant_of-self c =
 pub returns : goal.returns
 returns c =
     let s = c.self.inside in
-    shown_left (held s.records s.aims s.dues) s.order.items _ c.args.self.now c.args.place c.self.view_is
+    shown_left (held s.records s.targets s.dues) s.order.items _ c.args.self.now c.args.place c.self.view_is
     c.remove.ensures.items

@@ -1,8 +1,8 @@
 use Rattle.std.proofs.Common.{arith, ◌≤◌, get_or, set, ◌∙◌, ap, refl, sym, subst}
 use Rattle.mscp_drive.specs.Shape.{last_cylinder}
-use Rattle.mscp_queue.specs.declared.aim.Aim.{Aim}
-use Rattle.mscp_queue.specs.Aims.{no_aim}
-use Rattle.mscp_queue.specs.Lineups.{cost_on, costing, no_choice}
+use Rattle.mscp_queue.specs.declared.target.Target.{Target}
+use Rattle.mscp_queue.specs.Targets.{no_target}
+use Rattle.mscp_queue.specs.Candidates.{cost_on, costing, no_choice}
 use Rattle.mscp_queue.proofs.Counted.{one_place, place_counted}
 use Rattle.mscp_queue.proofs.Masked.{slot_low}
 use Rattle.mscp_queue.proofs.Recosted.{all_left, less_left, next_slot, none_left, recost_more, there}
@@ -11,7 +11,7 @@ use Rattle.mscp_queue.proofs.slots.Slots.renew.Goals as goal
 
 pub loop-slot-init : goal.loop-slot-init
 loop-slot-init c =
-    all_left c.args.at c.args.drive.now c.self.inside.dues c.args.self.now c.args.roll.now c.self.invariant
+    all_left c.args.at c.args.drive.now c.self.inside.dues c.args.self.now c.args.view.now c.self.invariant
     c.self.view_is c.requires.long
 
 pub cost-requires-clause-target : goal.cost-requires-clause-target
@@ -19,8 +19,8 @@ cost-requires-clause-target c =
     let h = c.loop-slot.invariant in
     let next = next_slot h c.in-Some.ensures.some in
     let t = there c.self.inside.dues c.args.self.now c.self.invariant c.self.view_is c.requires.long h next in
-    subst (λ (a : Aim). a.cylinder ≤ last_cylinder c.args.drive.now.unit) (sym t.aim)
-    (c.requires.to next.place no_aim t.inside t.drive)
+    subst (λ (a : Target). a.cylinder ≤ last_cylinder c.args.drive.now.unit) (sym t.target)
+    (c.requires.to next.place no_target t.inside t.drive)
 
 pub set_cost-requires : goal.set_cost-requires
 set_cost-requires c =
@@ -36,7 +36,7 @@ set_cost-requires c =
       inside,
       long,
       c.requires.long,
-      long_shown s.records s.aims s.dues s.order.items c.args.self.now c.self.view_is,
+      long_shown s.records s.targets s.dues s.order.items c.args.self.now c.self.view_is,
     )
 
 pub loop-slot-smaller : goal.loop-slot-smaller
@@ -54,19 +54,19 @@ loop-slot-preserved c =
     let next = next_slot h c.in-Some.ensures.some in
     let t = there s.dues now c.self.invariant c.self.view_is c.requires.long h next in
     let place = c.place.ensures.value ∙ place_counted c.self.invariant.masks next.number c.place.ensures.small in
-    let many = c.requires.long ∙ sym (long_shown s.records s.aims s.dues order now c.self.view_is) in
+    let many = c.requires.long ∙ sym (long_shown s.records s.targets s.dues order now c.self.view_is) in
     let apart = c.self.invariant.masks.apart in
     recost_more c.cost.result h next many c.with_bit-left.ensures.set (λ p q l b e. one_place order p q apart l b e)
     (λ k l. slot_low order k apart l)
-    (c.cost.ensures ∙ ap (λ (a : Aim). cost_on c.args.drive.now a.cylinder) t.aim)
+    (c.cost.ensures ∙ ap (λ (a : Target). cost_on c.args.drive.now a.cylinder) t.target)
     (c.set_cost.ensures
-    ∙ ap (λ k. set c.loop-slot.roll k (costing c.cost.result (get_or c.loop-slot.roll k no_choice))) place)
+    ∙ ap (λ k. set c.loop-slot.view k (costing c.cost.result (get_or c.loop-slot.view k no_choice))) place)
 
 pub returns : goal.returns
 returns c =
     let s = c.self.inside in
     let order = s.order.items in
-    let many = long_shown s.records s.aims s.dues order c.args.self.now c.self.view_is in
+    let many = long_shown s.records s.targets s.dues order c.args.self.now c.self.view_is in
     none_left c.loop-slot.invariant
     (λ k l. slot_low order k c.self.invariant.masks.apart (omega (arith, l, many, c.requires.long)))
     c.in_default.ensures.none

@@ -1,0 +1,99 @@
+-- A step of the record at a place, as it is planned and written.
+use Rattle.std.proofs.Common.{◌≡◌, ℕ, ◌+◌, ◌<◌, ◌≤◌, Bool, true, false, cond, List, [], ◌∷◌, ◌++◌, map, take, drop, set, get_or, length, refl, ap, sym, ◌∙◌, subst, arith}
+use Rattle.std.specs.Prelude.{is_some, option_map, Option, Some, None}
+use Rattle.std.specs.List.{refill}
+use Rattle.std.proofs.lemmas.List.{length-set}
+use Rattle.mscp_packet.specs.declared.command.Order.{Order}
+use Rattle.mscp_drive.specs.Shape.{cylinder_of, last_cylinder}
+use Rattle.mscp_events.specs.declared.block.Block.{Block}
+use Rattle.mscp_queue.specs.declared.drive.Drive.{Drive}
+use Rattle.mscp_queue.specs.declared.name.Name.{Name}
+use Rattle.mscp_queue.specs.declared.plan.Plan.{Plan}
+use Rattle.mscp_queue.specs.declared.view.Choice.{Choice}
+use Rattle.mscp_queue.specs.Drives.{IsOnUnit, replaced}
+use Rattle.mscp_queue.specs.Kept.{IsHeld}
+use Rattle.mscp_queue.specs.Candidates.{AreCandidates}
+use Rattle.mscp_queue.specs.Lines.{Line}
+use Rattle.mscp_queue.specs.Masks.{IsSet}
+use Rattle.mscp_queue.specs.Outcomes.{head_after}
+use Rattle.mscp_queue.specs.Records.{Record, advanced, drive_at, is_unstarted, no_record, passed_by, record_at, step_charge}
+use Rattle.mscp_queue.specs.Serving.{IsNext, IsServable, drive_after, plan_of, state_left, touched}
+use Rattle.mscp_queue.proofs.Targets.{cylinder_within, place_same}
+use Rattle.mscp_queue.proofs.Drives.{known_at, set_replaced}
+use Rattle.mscp_queue.proofs.CandidateLists.{candidates_served}
+use Rattle.mscp_queue.proofs.Mapped.{refilled}
+use Rattle.mscp_queue.proofs.Ready.{IsDriveOf}
+use Rattle.mscp_queue.proofs.Turns.{StepMade, head_kept, touched_inside, units_step}
+
+-- the record at a place may be served next
+abbrev pub NextIn : {K : Type 0} → (K → List Choice → ℕ → Type 0) → Line K → ℕ → Type 0
+NextIn picks l place = IsNext (picks l.picker) l.budget l.drives l.waiting l.begun place
+
+-- what a queue holds is what callers see of it
+pub next_in : {K : Type 0} {place : ℕ} {inside seen : Line K} (picks : K → List Choice → ℕ → Type 0) → inside ≡ seen
+    → NextIn picks seen place → NextIn picks inside place
+next_in {K} {place} picks e n = subst (λ l. NextIn picks l place) (sym e) n
+
+-- the head of a drive stays on its unit
+planned_on : (k : Block) (d : Drive) (r : Record) → ((lbn : ℕ) → touched d r ≡ Some lbn → lbn < d.unit.size)
+    → IsOnUnit d → IsOnUnit (drive_after k d r)
+planned_on k d r inside on = at (touched d r) refl (is_unstarted r)
+  where
+    at : (o : Option ℕ) → touched d r ≡ o → (starts : Bool)
+        → (head_after starts (option_map (cylinder_of d.unit) o) d.head).cylinder ≤ last_cylinder d.unit
+    at None e starts = on
+    at (Some lbn) e true = cylinder_within d.unit lbn (inside lbn e)
+    at (Some lbn) e false = cylinder_within d.unit lbn (inside lbn e)
+
+-- what is planned of the record at a place, and then written to the drive that is found, is its step
+pub step_made : {room budget longest place at : ℕ} {rs new : List Record} {ds ls : List Drive} {begun : Option Name}
+    {serving ends : Bool} {order : Order} {p : Plan} {d' : Drive} (k : Block) (other : Drive)
+    → IsHeld room budget longest rs ds begun serving → IsServable budget rs place → IsDriveOf ds rs place at
+    → p ≡ plan_of k (drive_at ds rs place) (record_at rs place) → ls ≡ ds
+    → d' ≡ record {
+      unit = (get_or ls at other).unit;
+      online = state_left (get_or ls at other).online order p.ended;
+      head = p.head;
+    }
+    → order ≡ (record_at rs place).command.order → ends ≡ is_some p.ended
+    → new ≡ map (passed_by (step_charge (record_at rs place))) (take place rs)
+    ++ (cond ends [] (advanced (record_at rs place) ∷ []) ++ drop (place + 1) rs)
+    → StepMade k place rs new ds (refill (length ds) ds (set ls at d')) ends
+step_made {room} {budget} {longest} {place} {at} {rs} {new} {ds} {ls} {begun} {serving} {ends} {order} {p} {d'} k other
+    held servable found planned lent written of some records =
+    let r = record_at rs place in
+    let d = drive_at ds rs place in
+    let kept = held.each place no_record servable.inside in
+    let there : get_or ls at other ≡ d = ap (λ l. get_or l at other) lent ∙ found.is other in
+    let after : d' ≡ drive_after k d r = written ∙ (λ i. record {
+      unit = (there i).unit;
+      online = state_left (there i).online (of i) (planned i).ended;
+      head = (planned i).head;
+    }) in
+    record {
+      d' = d';
+      after = after;
+      on = subst IsOnUnit (sym after) (planned_on k d r (touched_inside budget longest ds r d refl kept)
+          (head_kept room budget longest r.command.unit rs ds begun serving held));
+      ended = some ∙ ap (λ (q : Plan). is_some q.ended) planned;
+      records = records;
+      drives = refilled ds (set ls at d') (length-set ls at d' ∙ ap length lent)
+          ∙ (ap (λ l. set l at d') lent
+          ∙ set_replaced ds at r.command.unit d' d held.units kept.waitable.known found.placed);
+    }
+
+-- and what a picker would see is kept
+pub listed_step : {room budget longest place at dirty dirty' : ℕ} {rs new : List Record} {ds ds' : List Drive}
+    {begun : Option Name} {serving ends : Bool} {k : Block} {cs cs' : List Choice}
+    → IsHeld room budget longest rs ds begun serving → IsServable budget rs place → IsDriveOf ds rs place at
+    → StepMade k place rs new ds ds' ends → AreCandidates dirty ds rs cs → IsSet true at dirty dirty'
+    → cs' ≡ cond ends (take place cs ++ drop (place + 1) cs) cs → AreCandidates dirty' ds' new cs'
+listed_step {place = place} {at = at} {rs = rs} {ds = ds} {ends = ends} held servable found m listed dirty view =
+    let number = (record_at rs place).command.unit in
+    let d = drive_at ds rs place in
+    let there = known_at ds number d (held.each place no_record servable.inside).waitable.known in
+    candidates_served at number (step_charge (record_at rs place)) m.d' ends listed held.units.few dirty
+    (found.placed ∙ place_same ds number)
+    (ap (λ (z : Drive). z.unit.number) m.after
+    ∙ (ap (λ (z : Drive). z.unit.number) (sym there.drive) ∙ there.number))
+    m.drives (units_step m held.units) servable.inside m.records view

@@ -1,0 +1,10 @@
+use Rattle.std.proofs.Common.{◌≡◌, map, take, length}
+use Rattle.mscp_queue.specs.Candidates.{choice_in}
+use Rattle.mscp_queue.proofs.queue.restoring.candidates_of.Given as goal
+
+abbrev pub invariant-loop-place : goal.invariant-loop-place
+invariant-loop-place l =
+    record {
+      each : l.candidates.view ≡ map (choice_in l.drives) (take l.place l.records);
+      same : length l.candidates.view ≡ l.place;
+    }
