@@ -143,7 +143,7 @@ enum mscp_status {
     MSCP_SAVED_BEGUN = -52,   /* that a command is begun which doesn't wait, or may not be served */
     MSCP_SAVED_PICKER = -53,  /* no enum mscp_picker */
     MSCP_SAVED_FORM = -54,    /* they say what may be, but not as it is saved */
-    MSCP_SAVED_POLL = -55,    /* a poll in flight that isn't outstanding, or that is about nobody */
+    MSCP_SAVED_POLL = -55,    /* a poll in flight, or a figure that a poll told, which no host has */
     MSCP_SAVED_SIZE = -56,    /* what a port has in hand has a size that nothing in hand has */
 
     MSCP_SCRIPT_SIZE = -60,   /* mscp_run_script: the script has over 16777216 bytes */
@@ -836,7 +836,7 @@ MSCP_INLINE const char *mscp_status_text(int64_t status)
     case MSCP_SAVED_BEGUN: return "a saved command that may not be begun";
     case MSCP_SAVED_PICKER: return "no picker of the saved number";
     case MSCP_SAVED_FORM: return "bytes that nothing is saved as";
-    case MSCP_SAVED_POLL: return "a saved poll about nobody";
+    case MSCP_SAVED_POLL: return "a saved poll that no host has";
     case MSCP_SAVED_SIZE: return "a saved port with a size that none has";
     case MSCP_SCRIPT_SIZE: return "a script of over 16777216 bytes";
     case MSCP_SCRIPT_LINES: return "over 1000000 lines";

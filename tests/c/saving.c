@@ -211,21 +211,27 @@ static void doubled_submissions(void)
     bytes[26 + 12] = 1;
     is("two of one number", mscp_host_restore(there, bytes, length), MSCP_SAVED_DOUBLED);
     bytes[26 + 12] = 2;
+    bytes[12] = 2;
+    is("no credit is kept", mscp_host_restore(there, bytes, length), MSCP_SAVED_CREDITS);
+    bytes[12] = 4;
     is("of two", mscp_host_restore(there, bytes, length), MSCP_DONE);
     free(memory);
     free(to);
 }
 
-/* Polls in flight that no host has. */
-static void polls_about_nobody(void)
+/* Polls, and figures that they told, which no host has. */
+static void polls_of_no_host(void)
 {
     static const struct {
         size_t place;
         uint8_t byte, was;
     } cases[] = {
-        {18, 11, 10},       /* the poll's number isn't outstanding */
-        {22, 2, 1},         /* the polled one isn't the oldest */
-        {26 + 12 + 6, 3, 2} /* no GET COMMAND STATUS has the poll's number */
+        {18, 11, 10},        /* the poll's number isn't outstanding */
+        {22, 2, 1},          /* the polled one isn't the oldest */
+        {26 + 12 + 6, 3, 2}, /* no GET COMMAND STATUS has the poll's number */
+        {26 + 4, 1, 0},      /* the polled one is to another unit */
+        {26 + 12 + 4, 1, 0}, /* the poll is to another unit */
+        {26 + 12 + 7, 1, 0}  /* a figure was told of the poll */
     };
     uint8_t bytes[MSCP_HOST_SAVED_MAX];
     size_t size = MSCP_HEAD + mscp_host_size(), length = 0;
@@ -238,7 +244,7 @@ static void polls_about_nobody(void)
     is("save", mscp_host_save(host, bytes, sizeof bytes, &length), MSCP_DONE);
     for (size_t i = 0; i < sizeof cases / sizeof cases[0]; i++) {
         bytes[cases[i].place] = cases[i].byte;
-        is("a poll about nobody", mscp_host_restore(there, bytes, length), MSCP_SAVED_POLL);
+        is("a poll of no host", mscp_host_restore(there, bytes, length), MSCP_SAVED_POLL);
         bytes[cases[i].place] = cases[i].was;
     }
     is("a poll", mscp_host_restore(there, bytes, length), MSCP_DONE);
@@ -336,7 +342,7 @@ int main(void)
     polls();
     nothing_is_there();
     doubled_submissions();
-    polls_about_nobody();
+    polls_of_no_host();
     other_bytes();
     flipped_bits();
     return wrong;

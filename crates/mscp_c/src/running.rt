@@ -3,7 +3,7 @@
 
 ghost use Rattle.std.specs.Prelude.{◌≡◌, ◌≢◌, ◌⊎◌, ◌≤◌, length, take, Err, IfOk, IfSome};
 ghost use Rattle.mscp_reader.specs.Grammar.{IsFault};
-ghost use Rattle.mscp_text.specs.Shown.{shown, Shows};
+ghost use Rattle.mscp_text.specs.Shown.{shown};
 ghost use Rattle.mscp_c.specs.Running.{HasLine, HasReport, IsNoPacket, TellsFault};
 
 use crate::status::{DONE, SMALL, cause_code, show_code};

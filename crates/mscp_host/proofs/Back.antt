@@ -1,6 +1,6 @@
 -- The bytes that a host is saved as say that host.
-use Rattle.std.proofs.Common.{All, ◌≡◌, ℕ, ◌+◌, ◌*◌, ◌<◌, ◌≤◌, ◌^◌, Bool, true, false, List, [], ◌∷◌, ◌++◌, drop, length, refl, ap, sym, ◌∙◌, arith}
-use Rattle.std.proofs.lemmas.Bool.{le-leb, le-ltb, eq-eqb}
+use Rattle.std.proofs.Common.{All, ◌≡◌, ℕ, ◌+◌, ◌*◌, ◌<◌, ◌≤◌, ◌^◌, ◌&&◌, Bool, true, false, List, [], ◌∷◌, ◌++◌, drop, length, refl, ap, sym, ◌∙◌, arith}
+use Rattle.std.proofs.lemmas.Bool.{le-leb, le-ltb, lt-ltb, eq-eqb}
 use Rattle.std.proofs.lemmas.List.{length-append}
 use Rattle.std.proofs.lemmas.Slice.Eq.{bytes_eq-Decides}
 use Rattle.std.specs.Prelude.{not, flat_map, Option, Some, None, IfSome, Ok, Err, slice_index, if◌then◌else◌}
@@ -15,9 +15,8 @@ use Rattle.mscp_host.specs.declared.watch.Watch.{Watch}
 use Rattle.mscp_host.specs.declared.restoring.RestoreFault.{RestoreFault}
 use Rattle.mscp_host.specs.declared.restoring.RestoreFault.TheVariants as faults
 use Rattle.mscp_host.specs.Accounts.{Account}
-use Rattle.mscp_host.specs.Apart.{are_apart}
-use Rattle.mscp_host.specs.Watched.{is_watched}
-use Rattle.mscp_host.specs.Restored.{account_in, apart_whose, head_fault, restored, restored_unless, submission_in, told_in, watch_in, watched_whose, whose}
+use Rattle.mscp_host.specs.Sound.{IsSound, waiting}
+use Rattle.mscp_host.specs.Restored.{account_in, apart_whose, head_fault, restored, restored_unless, spare_whose, submission_in, told_in, watch_in, watched_whose, whose}
 use Rattle.mscp_host.specs.Saved.{HasRange, HasSubmissionRange, frame_bytes, saved_bytes, submission_bytes, told_bytes, watch_byte, watch_bytes}
 
 -- ---- a submission
@@ -119,13 +118,13 @@ head_back a some few covered =
 same_bytes : (b : List ℕ) → bytes_eq b b ≡ true
 same_bytes b = (bytes_eq-Decides b b).1 refl
 
-pub restored_back : (a : Account) → 2 ≤ a.credits → a.credits ≤ 64 → length a.outstanding ≤ a.credits
-    → are_apart a.outstanding ≡ true → is_watched a.outstanding a.watch ≡ true → HasRange a
-    → restored (saved_bytes a) ≡ Ok a
-restored_back a some few covered apart watched range =
+pub restored_back : (a : Account) → IsSound a → HasRange a → restored (saved_bytes a) ≡ Ok a
+restored_back a sound range =
     let b = saved_bytes a in
-    ap (λ (f : Option RestoreFault). restored_unless f b) (head_back a some few covered)
-    ∙ (ap (apart_whose b) (account_back a.credits a.outstanding a.watch few range)
-    ∙ (ap (λ (yes : Bool). if not yes then Err faults.Doubled else watched_whose b a) apart
-    ∙ (ap (λ (yes : Bool). if not yes then Err faults.Poll else whose b a) watched
-    ∙ ap (λ (yes : Bool). if yes then Ok a else Err faults.Form) (same_bytes b))))
+    ap (λ (f : Option RestoreFault). restored_unless f b) (head_back a sound.some sound.few sound.covered)
+    ∙ (ap (spare_whose b) (account_back a.credits a.outstanding a.watch sound.few range)
+    ∙ (ap (λ (yes : Bool). if not yes then Err faults.Outstanding else apart_whose b a)
+    (lt-ltb (length (waiting a.outstanding)) a.credits sound.spare)
+    ∙ (ap (λ (yes : Bool). if not yes then Err faults.Doubled else watched_whose b a) sound.apart
+    ∙ (ap (λ (yes : Bool). if not yes then Err faults.Poll else whose b a) (λ i. sound.watched i && sound.told i)
+    ∙ ap (λ (yes : Bool). if yes then Ok a else Err faults.Form) (same_bytes b)))))

@@ -2,84 +2,140 @@
 use Rattle.std.proofs.Common.{◌≡◌, ℕ, Bool, true, false, ◌&&◌, ◌||◌, List, [], ◌∷◌, ◌++◌, nat_eq, refl, ap, sym, ◌∙◌, arith}
 use Rattle.std.specs.Prelude.{not, find, if◌then◌else◌, Option, Some, None, Result, Ok, is_ok}
 use Rattle.std.specs.List.{list_any}
-use Rattle.std.proofs.lemmas.Bool.{and_parts, true≢false}
+use Rattle.std.proofs.lemmas.Bool.{and_parts, or_left, or_right, true≢false}
+use Rattle.std.proofs.lemmas.List.Folds.{list_any-append}
 use Rattle.arrayvec.specs.ArrayVec.{ArrayVec}
 use Rattle.mscp_packet.specs.declared.command.Command.{Command}
 use Rattle.mscp_host.specs.declared.news.HostFault.{HostFault}
 use Rattle.mscp_host.specs.declared.submission.Submission.{Submission}
 use Rattle.mscp_host.specs.declared.watch.Watch.{Watch}
 use Rattle.mscp_host.specs.Accounts.{Account, has_reference, is_immediate, poll_of, submission_of, submits_unless, submitted, watch_after, with_told, without}
-use Rattle.mscp_host.specs.Watched.{is_about_somebody, is_numbered, is_oldest, is_status, is_watched}
+use Rattle.mscp_host.specs.Watched.{is_about_somebody, is_numbered, is_oldest, is_poll, is_polled, is_status, is_watched, oldest_of}
 
--- ---- a figure is told
+-- ---- one of the submissions passes a test
 
-module _ (r f : ℕ) where
-  status_told : (n : ℕ) (xs : List Submission)
-      → list_any (is_status n) (with_told r f xs) ≡ list_any (is_status n) xs
-  status_told n [] = refl
-  status_told n (s ∷ rest) = by (has_reference r s) refl (status_told n rest)
+module _ (p : Submission → Bool) where
+  -- which asks for no figure
+  any_told : (r f : ℕ) → ((s : Submission) → p (record s { told = Some f }) ≡ p s) → (xs : List Submission)
+      → list_any p (with_told r f xs) ≡ list_any p xs
+  any_told r f same [] = refl
+  any_told r f same (s ∷ rest) = by (has_reference r s) refl (any_told r f same rest)
     where
-      by : (b : Bool) → has_reference r s ≡ b
-          → list_any (is_status n) (with_told r f rest) ≡ list_any (is_status n) rest
-          → list_any (is_status n) (with_told r f (s ∷ rest)) ≡ list_any (is_status n) (s ∷ rest)
-      by true e h = rw e refl
-      by false e h = rw e (ap (λ b. is_status n s || b) h)
+      by : (b : Bool) → has_reference r s ≡ b → list_any p (with_told r f rest) ≡ list_any p rest
+          → list_any p (with_told r f (s ∷ rest)) ≡ list_any p (s ∷ rest)
+      by true e h = rw e (ap (λ b. b || list_any p rest) (same s))
+      by false e h = rw e (ap (λ b. p s || b) h)
 
-  oldest_told : (n : ℕ) (xs : List Submission) → is_oldest n (with_told r f xs) ≡ is_oldest n xs
-  oldest_told n [] = refl
-  oldest_told n (s ∷ rest) = by (has_reference r s) (not (is_immediate s.opcode)) refl refl (oldest_told n rest)
+  -- and isn't the one that leaves
+  any_without : (r : ℕ) → ((s : Submission) → p s ≡ true → has_reference r s ≡ false) → (xs : List Submission)
+      → list_any p xs ≡ true → list_any p (without r xs) ≡ true
+  any_without r other [] e = e
+  any_without r other (s ∷ rest) e = by (has_reference r s) (p s) refl refl (any_without r other rest) e
     where
-      by : (b d : Bool) → has_reference r s ≡ b → not (is_immediate s.opcode) ≡ d
-          → is_oldest n (with_told r f rest) ≡ is_oldest n rest
-          → is_oldest n (with_told r f (s ∷ rest)) ≡ is_oldest n (s ∷ rest)
-      by true true e d h = rw (e, d) refl
-      by true false e d h = rw (e, d) refl
-      by false true e d h = rw (e, d) refl
-      by false false e d h = rw (e, d) h
-
-  pub watched_told : (xs : List Submission) (watch : Option Watch)
-      → is_watched (with_told r f xs) watch ≡ is_watched xs watch
-  watched_told xs None = refl
-  watched_told xs (Some w) = λ i. status_told w.reference xs i
-      && (if w.is_outstanding then oldest_told w.polled xs i else not (nat_eq w.polled w.reference))
-
--- ---- one leaves
-
-module _ (r : ℕ) where
-  status_without : (n : ℕ) (xs : List Submission) → nat_eq n r ≡ false → list_any (is_status n) xs ≡ true
-      → list_any (is_status n) (without r xs) ≡ true
-  status_without n [] other e = e
-  status_without n (s ∷ rest) other e =
-      by (has_reference r s) (is_status n s) refl refl (status_without n rest other) e
-    where
-      apart : has_reference r s ≡ true → is_status n s ≡ false
-      apart h = let differ : nat_eq s.reference n ≡ false = grind arith in rw differ refl
-
-      by : (b d : Bool) → has_reference r s ≡ b → is_status n s ≡ d
-          → (list_any (is_status n) rest ≡ true → list_any (is_status n) (without r rest) ≡ true)
-          → list_any (is_status n) (s ∷ rest) ≡ true
-          → list_any (is_status n) (without r (s ∷ rest)) ≡ true
-      by true true is so h all = absurd (true≢false (sym so ∙ apart is))
+      by : (b d : Bool) → has_reference r s ≡ b → p s ≡ d
+          → (list_any p rest ≡ true → list_any p (without r rest) ≡ true) → list_any p (s ∷ rest) ≡ true
+          → list_any p (without r (s ∷ rest)) ≡ true
+      by true true is so h all = absurd (true≢false (sym is ∙ other s so))
       by true false is so h all = rw is (rw so at all)
       by false true is so h all = rw (is, so) refl
       by false false is so h all = rw (is, so) (h (rw so at all))
 
-  oldest_without : (n : ℕ) (xs : List Submission) → nat_eq n r ≡ false → is_oldest n xs ≡ true
-      → is_oldest n (without r xs) ≡ true
-  oldest_without n [] other e = e
-  oldest_without n (s ∷ rest) other e =
-      by (has_reference r s) (not (is_immediate s.opcode)) refl refl (oldest_without n rest other) e
+  any_more : (s : Submission) (xs : List Submission) → list_any p xs ≡ true → list_any p (xs ++ s ∷ []) ≡ true
+  any_more s xs e = list_any-append p xs (s ∷ []) ∙ or_left (list_any p xs) (list_any p (s ∷ [])) e
+
+  any_last : (s : Submission) (xs : List Submission) → p s ≡ true → list_any p (xs ++ s ∷ []) ≡ true
+  any_last s xs e =
+      list_any-append p xs (s ∷ [])
+      ∙ or_right (list_any p xs) (list_any p (s ∷ [])) (or_left (p s) false e)
+
+-- another number isn't that of the one that leaves
+other_status : (n r : ℕ) (s : Submission) → nat_eq n r ≡ false → is_status n s ≡ true → has_reference r s ≡ false
+other_status n r s other e =
+    let p = and_parts (has_reference n s) _ e in
+    let mine = p.0 in
+    grind (arith, mine, other)
+
+other_poll : (n u r : ℕ) (s : Submission) → nat_eq n r ≡ false → is_poll n u s ≡ true → has_reference r s ≡ false
+other_poll n u r s other e = other_status n r s other (and_parts (is_status n s) (nat_eq s.unit u) e).0
+
+-- ---- the oldest
+
+-- the unit of the command, if there is one
+is_polled_to : (n : ℕ) (xs ys : List Submission) (o : Option Submission)
+    → ((u : ℕ) → list_any (is_poll n u) xs ≡ list_any (is_poll n u) ys) → is_polled n xs o ≡ is_polled n ys o
+is_polled_to n xs ys None same = refl
+is_polled_to n xs ys (Some s) same = same s.unit
+
+module _ (r f : ℕ) where
+  -- a figure is told
+  oldest_told : (P : Option Submission → Bool) → ((s : Submission) → P (Some (record s { told = Some f })) ≡ P (Some s))
+      → (xs : List Submission) → P (oldest_of (with_told r f xs)) ≡ P (oldest_of xs)
+  oldest_told P same [] = refl
+  oldest_told P same (s ∷ rest) =
+      by (has_reference r s) (not (is_immediate s.opcode)) refl refl (oldest_told P same rest)
     where
       by : (b d : Bool) → has_reference r s ≡ b → not (is_immediate s.opcode) ≡ d
-          → (is_oldest n rest ≡ true → is_oldest n (without r rest) ≡ true)
-          → is_oldest n (s ∷ rest) ≡ true → is_oldest n (without r (s ∷ rest)) ≡ true
-      by true true is so h all =
-          let mine : has_reference n s ≡ true = rw so at all in
-          let differ : has_reference n s ≡ false = grind arith in
-          absurd (true≢false (sym mine ∙ differ))
-      by true false is so h all = rw is (rw so at all)
-      by false true is so h all = rw (is, so) (rw so at all)
-      by false false is so h all = rw (is, so) (h (rw so at all))
+          → P (oldest_of (with_told r f rest)) ≡ P (oldest_of rest)
+          → P (oldest_of (with_told r f (s ∷ rest))) ≡ P (oldest_of (s ∷ rest))
+      by true true e d h = rw (e, d) (same s)
+      by true false e d h = rw (e, d) refl
+      by false true e d h = rw (e, d) refl
+      by false false e d h = rw (e, d) h
+
+  pub is_oldest_told : (n : ℕ) (xs : List Submission) → is_oldest n (with_told r f xs) ≡ is_oldest n xs
+  is_oldest_told n xs = oldest_told (is_numbered n) (λ s. refl) xs
+
+  polled_told : (n : ℕ) (xs : List Submission)
+      → is_polled n (with_told r f xs) (oldest_of (with_told r f xs)) ≡ is_polled n xs (oldest_of xs)
+  polled_told n xs =
+      is_polled_to n (with_told r f xs) xs (oldest_of (with_told r f xs))
+      (λ u. any_told (is_poll n u) r f (λ s. refl) xs)
+      ∙ oldest_told (is_polled n xs) (λ s. refl) xs
+
+  pub watched_told : (xs : List Submission) (watch : Option Watch)
+      → is_watched (with_told r f xs) watch ≡ is_watched xs watch
+  watched_told xs None = refl
+  watched_told xs (Some w) = λ i. any_told (is_status w.reference) r f (λ s. refl) xs i
+      && (if w.is_outstanding then is_oldest_told w.polled xs i && polled_told w.reference xs i
+      else not (nat_eq w.polled w.reference))
+
+-- one that leaves is another
+pub oldest_without : (r n : ℕ) (xs : List Submission) → nat_eq n r ≡ false → is_oldest n xs ≡ true
+    → oldest_of (without r xs) ≡ oldest_of xs
+oldest_without r n [] other e = refl
+oldest_without r n (s ∷ rest) other e =
+    by (has_reference r s) (not (is_immediate s.opcode)) refl refl (oldest_without r n rest other) e
+  where
+    by : (b d : Bool) → has_reference r s ≡ b → not (is_immediate s.opcode) ≡ d
+        → (is_oldest n rest ≡ true → oldest_of (without r rest) ≡ oldest_of rest)
+        → is_oldest n (s ∷ rest) ≡ true → oldest_of (without r (s ∷ rest)) ≡ oldest_of (s ∷ rest)
+    by true true is so h all =
+        let mine : has_reference n s ≡ true = rw so at all in
+        let differ : has_reference n s ≡ false = grind arith in
+        absurd (true≢false (sym mine ∙ differ))
+    by true false is so h all = rw (is, so) refl
+    by false true is so h all = rw (is, so) refl
+    by false false is so h all = rw (is, so) (h (rw so at all))
+
+-- one comes behind it
+pub oldest_more : (s : Submission) (n : ℕ) (xs : List Submission) → is_oldest n xs ≡ true
+    → oldest_of (xs ++ s ∷ []) ≡ oldest_of xs
+oldest_more s n [] e = absurd (true≢false (sym e))
+oldest_more s n (x ∷ rest) e = by (not (is_immediate x.opcode)) refl (oldest_more s n rest) e
+  where
+    by : (b : Bool) → not (is_immediate x.opcode) ≡ b
+        → (is_oldest n rest ≡ true → oldest_of (rest ++ s ∷ []) ≡ oldest_of rest)
+        → is_oldest n (x ∷ rest) ≡ true → oldest_of (x ∷ rest ++ s ∷ []) ≡ oldest_of (x ∷ rest)
+    by true is h all = rw is refl
+    by false is h all = rw is (h (rw is at all))
+
+-- ---- one leaves
+
+polled_without : (r n : ℕ) (xs : List Submission) (o : Option Submission) → nat_eq n r ≡ false
+    → is_polled n xs o ≡ true → is_polled n (without r xs) o ≡ true
+polled_without r n xs None other e = e
+polled_without r n xs (Some s) other e =
+    any_without (is_poll n s.unit) r (λ x. other_poll n s.unit r x other) xs e
 
 -- once the end of this number was received, it stays so
 pub watched_without : (r : ℕ) (xs : List Submission) (watch : Option Watch) → is_watched xs watch ≡ true
@@ -92,79 +148,71 @@ watched_without r xs (Some w) e =
     apart : nat_eq w.reference r ≡ false → nat_eq w.polled r ≡ true → nat_eq w.polled w.reference ≡ false
     apart a b = grind arith
 
-    by : (own its so : Bool) → nat_eq w.reference r ≡ own → nat_eq w.polled r ≡ its → w.is_outstanding ≡ so
+    own : nat_eq w.reference r ≡ false → list_any (is_status w.reference) xs ≡ true
+        → list_any (is_status w.reference) (without r xs) ≡ true
+    own a any = any_without (is_status w.reference) r (λ s. other_status w.reference r s a) xs any
+
+    about : nat_eq w.reference r ≡ false → nat_eq w.polled r ≡ false
+        → (is_oldest w.polled xs && is_polled w.reference xs (oldest_of xs)) ≡ true
+        → (is_oldest w.polled (without r xs) && is_polled w.reference (without r xs) (oldest_of (without r xs))) ≡ true
+    about a b both =
+        let p = and_parts (is_oldest w.polled xs) (is_polled w.reference xs (oldest_of xs)) both in
+        let same = oldest_without r w.polled xs b p.0 in
+        ap (λ o. is_numbered w.polled o && is_polled w.reference (without r xs) o) same
+        ∙ (λ i. p.0 i && polled_without r w.reference xs (oldest_of xs) a p.1 i)
+
+    by : (own_end its so : Bool) → nat_eq w.reference r ≡ own_end → nat_eq w.polled r ≡ its → w.is_outstanding ≡ so
         → list_any (is_status w.reference) xs ≡ true → is_about_somebody xs w ≡ true
         → is_watched (without r xs) (watch_after (Some w) r) ≡ true
-    by true its so a b c any about = rw a refl
-    by false true so a b c any about =
-        rw (a, b) (λ i. status_without r w.reference xs a any i && not (apart a b i))
-    by false false true a b c any about =
-        rw (a, b, c) (λ i. status_without r w.reference xs a any i
-        && oldest_without r w.polled xs b (rw c at about) i)
-    by false false false a b c any about =
-        rw (a, b, c) (λ i. status_without r w.reference xs a any i && (rw c at about) i)
+    by true its so a b c any some = rw a refl
+    by false true so a b c any some = rw (a, b) (λ i. own a any i && not (apart a b i))
+    by false false true a b c any some = rw (a, b, c) (λ i. own a any i && about a b (rw c at some) i)
+    by false false false a b c any some = rw (a, b, c) (λ i. own a any i && (rw c at some) i)
 
 -- ---- one comes
 
-module _ (s : Submission) where
-  status_more : (n : ℕ) (xs : List Submission) → list_any (is_status n) xs ≡ true
-      → list_any (is_status n) (xs ++ s ∷ []) ≡ true
-  status_more n [] e = absurd (true≢false (sym e))
-  status_more n (x ∷ rest) e = by (is_status n x) refl (status_more n rest) e
-    where
-      by : (b : Bool) → is_status n x ≡ b
-          → (list_any (is_status n) rest ≡ true → list_any (is_status n) (rest ++ s ∷ []) ≡ true)
-          → list_any (is_status n) (x ∷ rest) ≡ true → list_any (is_status n) (x ∷ rest ++ s ∷ []) ≡ true
-      by true is h all = rw is refl
-      by false is h all = rw is (h (rw is at all))
+polled_more : (s : Submission) (n : ℕ) (xs : List Submission) (o : Option Submission) → is_polled n xs o ≡ true
+    → is_polled n (xs ++ s ∷ []) o ≡ true
+polled_more s n xs None e = e
+polled_more s n xs (Some x) e = any_more (is_poll n x.unit) s xs e
 
-  oldest_more : (n : ℕ) (xs : List Submission) → is_oldest n xs ≡ true → is_oldest n (xs ++ s ∷ []) ≡ true
-  oldest_more n [] e = absurd (true≢false (sym e))
-  oldest_more n (x ∷ rest) e = by (not (is_immediate x.opcode)) refl (oldest_more n rest) e
-    where
-      by : (b : Bool) → not (is_immediate x.opcode) ≡ b
-          → (is_oldest n rest ≡ true → is_oldest n (rest ++ s ∷ []) ≡ true)
-          → is_oldest n (x ∷ rest) ≡ true → is_oldest n (x ∷ rest ++ s ∷ []) ≡ true
-      by true is h all = rw is (rw is at all)
-      by false is h all = rw is (h (rw is at all))
+pub watched_more : (s : Submission) (xs : List Submission) (watch : Option Watch) → is_watched xs watch ≡ true
+    → is_watched (xs ++ s ∷ []) watch ≡ true
+watched_more s xs None e = refl
+watched_more s xs (Some w) e =
+    let p = and_parts (list_any (is_status w.reference) xs) (is_about_somebody xs w) e in
+    by w.is_outstanding refl p.0 p.1
+  where
+    about : (is_oldest w.polled xs && is_polled w.reference xs (oldest_of xs)) ≡ true
+        → (is_oldest w.polled (xs ++ s ∷ []) && is_polled w.reference (xs ++ s ∷ []) (oldest_of (xs ++ s ∷ []))) ≡ true
+    about both =
+        let p = and_parts (is_oldest w.polled xs) (is_polled w.reference xs (oldest_of xs)) both in
+        ap (λ o. is_numbered w.polled o && is_polled w.reference (xs ++ s ∷ []) o) (oldest_more s w.polled xs p.0)
+        ∙ (λ i. p.0 i && polled_more s w.reference xs (oldest_of xs) p.1 i)
 
-  pub watched_more : (xs : List Submission) (watch : Option Watch) → is_watched xs watch ≡ true
-      → is_watched (xs ++ s ∷ []) watch ≡ true
-  watched_more xs None e = refl
-  watched_more xs (Some w) e =
-      let p = and_parts (list_any (is_status w.reference) xs) (is_about_somebody xs w) e in
-      by w.is_outstanding refl p.0 p.1
-    where
-      by : (so : Bool) → w.is_outstanding ≡ so → list_any (is_status w.reference) xs ≡ true
-          → is_about_somebody xs w ≡ true → is_watched (xs ++ s ∷ []) (Some w) ≡ true
-      by true c any about =
-          rw c (λ i. status_more w.reference xs any i && oldest_more w.polled xs (rw c at about) i)
-      by false c any about = rw c (λ i. status_more w.reference xs any i && (rw c at about) i)
+    by : (so : Bool) → w.is_outstanding ≡ so → list_any (is_status w.reference) xs ≡ true
+        → is_about_somebody xs w ≡ true → is_watched (xs ++ s ∷ []) (Some w) ≡ true
+    by true c any some = rw c (λ i. any_more (is_status w.reference) s xs any i && about (rw c at some) i)
+    by false c any some = rw c (λ i. any_more (is_status w.reference) s xs any i && (rw c at some) i)
 
 -- ---- a poll comes
-
-status_last : (n : ℕ) (s : Submission) (xs : List Submission) → is_status n s ≡ true
-    → list_any (is_status n) (xs ++ s ∷ []) ≡ true
-status_last n s [] e = rw e refl
-status_last n s (x ∷ rest) e = by (is_status n x) refl (status_last n s rest e)
-  where
-    by : (b : Bool) → is_status n x ≡ b → list_any (is_status n) (rest ++ s ∷ []) ≡ true
-        → list_any (is_status n) (x ∷ rest ++ s ∷ []) ≡ true
-    by true is h = rw is refl
-    by false is h = rw is h
 
 same_number : (n : ℕ) → nat_eq n n ≡ true
 same_number n = grind arith
 
-pub watched_poll : (r : ℕ) (p : Submission) (xs : List Submission)
-    → find (λ s. not (is_immediate s.opcode)) xs ≡ Some p
+pub watched_poll : (r : ℕ) (p : Submission) (xs : List Submission) → oldest_of xs ≡ Some p
     → is_watched (xs ++ submission_of (poll_of r p) ∷ [])
     (Some (record { reference = r; polled = p.reference; is_outstanding = true })) ≡ true
 watched_poll r p xs e =
     let s = submission_of (poll_of r p) in
     let own : is_status r s ≡ true = ap (λ b. b && true) (same_number r) in
+    let poll : is_poll r p.unit s ≡ true = λ i. own i && same_number p.unit i in
     let first : is_oldest p.reference xs ≡ true = ap (is_numbered p.reference) e ∙ same_number p.reference in
-    λ i. status_last r s xs own i && oldest_more s p.reference xs first i
+    let same = oldest_more s p.reference xs first ∙ e in
+    let about : (is_oldest p.reference (xs ++ s ∷ []) && is_polled r (xs ++ s ∷ []) (oldest_of (xs ++ s ∷ []))) ≡ true =
+    ap (λ o. is_numbered p.reference o && is_polled r (xs ++ s ∷ []) o) same
+    ∙ (λ i. same_number p.reference i && any_last (is_poll r p.unit) s xs poll i) in
+    λ i. any_last (is_status r) s xs own i && about i
 
 -- a command was sent
 pub was_submitted : (a after : Account) (command : Command) (fault : Option HostFault) (message : ArrayVec ℕ)

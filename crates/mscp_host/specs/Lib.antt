@@ -2,4 +2,5 @@ pub mod Accounts
 pub mod Restored
 pub mod Saved
 pub mod Apart
+pub mod Sound
 pub mod Watched

@@ -1,9 +1,9 @@
 // A host: what it sent and hasn't heard of.
 
-ghost use Rattle.std.specs.Prelude.{◌≡◌, ◌↔◌, ◌≤◌, false, length, find, IsOk, IfErr, IfOk};
+ghost use Rattle.std.specs.Prelude.{◌≡◌, ◌↔◌, ◌≤◌, true, false, find, IsOk, IfErr, IfOk};
 ghost use Rattle.std.specs.List.{list_any};
-ghost use Rattle.mscp_packet.specs.Commands.{command_bytes};
-ghost use Rattle.mscp_host.specs.Accounts.{answered, balance, end_in, fresh, has_reference, heard, news_with, oldest, or_unreadable, outstanding_with, polls_oldest, received, refusal, submits, submitted};
+ghost use Rattle.mscp_packet.specs.Commands.{command_bytes, opcode_byte};
+ghost use Rattle.mscp_host.specs.Accounts.{answered, balance, end_in, fresh, has_reference, heard, is_about_polled as about_polled, is_immediate as immediate, news_with, oldest, or_unreadable, outstanding_with, polls_oldest, received, refusal, submits, submitted};
 
 use crate::news::{HostFault, News, Poll, is_code_of, news_of_figure};
 use crate::outstanding::{find_oldest, find_reference, has_any, last_told, remove, set_told};
@@ -24,17 +24,15 @@ pub struct Host {
 
 // A clause sees the credits, the outstanding submissions, oldest first, and the poll in flight.
 impl Model for Host {
-    ghost use Rattle.std.specs.Prelude.{◌≡◌, ◌≤◌, true, length};
     ghost use Rattle.mscp_host.specs.Accounts.{Account};
-    ghost use Rattle.mscp_host.specs.Apart.{are_apart};
-    ghost use Rattle.mscp_host.specs.Watched.{is_watched};
+    ghost use Rattle.mscp_host.specs.Sound.{IsSound};
 
     ghost Value = { Account };
 
     ghost view = { λ h. record { credits = h.credits; outstanding = h.outstanding.items; watch = h.watch } };
 
-    ghost invariant = { λ h. (2 ≤ h.credits) × (h.credits ≤ 64) × (length h.outstanding.items ≤ h.credits)
-        × (are_apart h.outstanding.items ≡ true) × (is_watched h.outstanding.items h.watch ≡ true) };
+    ghost invariant = { λ h.
+        IsSound (record { credits = h.credits; outstanding = h.outstanding.items; watch = h.watch }) };
 }
 
 impl Host {
@@ -94,6 +92,7 @@ impl Host {
     /// Makes a command outstanding, and gives its message.
     fn send(&mut self, command: &Command) -> ArrayVec<u8, 48>
         requires free { 1 ≤ balance self.old }
+        requires spare { immediate (opcode_byte command.now.order) ≡ false → 2 ≤ balance self.old }
         requires new { list_any (has_reference command.now.reference) self.old.outstanding ≡ false }
         ensures bytes { result.items ≡ command_bytes command.now }
         ensures after { self.new ≡ submitted self.old command.now }
@@ -163,7 +162,8 @@ impl Host {
 
     /// What an end says that may be that of an outstanding command, and tells this of the polled one.
     fn hear(&mut self, end: &End, answer: &Option<(u32, u32)>) -> News
-        requires { answer.now ≡ answered self.old.watch end.now }
+        requires answer { answer.now ≡ answered self.old.watch end.now }
+        requires about { about_polled self.old.watch answer.now ≡ true }
         ensures news { result ≡ news_with self.old end.now (answered self.old.watch end.now) }
         ensures after { self.new ≡ received self.old end.now }
     {
@@ -189,6 +189,7 @@ impl Host {
 
     /// Keeps what was told of the polled command, if that is still outstanding.
     fn keep_told(&mut self, answer: &Option<(u32, u32)>)
+        requires { about_polled self.old.watch answer.now ≡ true }
         ensures { self.new ≡ record self.old { outstanding = outstanding_with self.old answer.now } }
     {
         if let Some((number, figure)) = answer

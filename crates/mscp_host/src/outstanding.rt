@@ -1,10 +1,11 @@
 // The list of the outstanding submissions.
 
-ghost use Rattle.std.specs.Prelude.{◌≡◌, ◌≤◌, length, find, not, option_copied};
+ghost use Rattle.std.specs.Prelude.{◌≡◌, ◌≤◌, length, find, option_copied};
 ghost use Rattle.std.specs.List.{list_any, position};
 ghost use Rattle.mscp_host.specs.Apart.{are_apart};
-ghost use Rattle.mscp_host.specs.Accounts.{has_reference, is_immediate, last_told, with_told, without};
-ghost use Rattle.mscp_host.specs.Watched.{is_oldest, is_status};
+ghost use Rattle.mscp_host.specs.Accounts.{has_reference, last_told, with_told, without};
+ghost use Rattle.mscp_host.specs.Sound.{waiting};
+ghost use Rattle.mscp_host.specs.Watched.{are_told, is_oldest, is_poll, is_status, oldest_of};
 
 use crate::submission::{STATUS, Submission, is_immediate};
 use arrayvec::ArrayVec;
@@ -41,7 +42,7 @@ pub fn find_reference(submissions: &[Submission], reference: u32) -> Option<&Sub
 
 /// The first submission that isn't answered when it arrives.
 pub fn find_oldest(submissions: &[Submission]) -> Option<&Submission>
-    ensures { option_copied result ≡ find (λ s. not (is_immediate s.opcode)) submissions.now }
+    ensures { option_copied result ≡ oldest_of submissions.now }
 {
     submissions
         .iter()
@@ -56,6 +57,33 @@ pub fn is_oldest(submissions: &[Submission], reference: u32) -> bool
         Some(submission) => submission.reference == reference,
         None => false,
     }
+}
+
+/// How many of the submissions aren't answered when they arrive.
+pub fn waiting(submissions: &[Submission]) -> usize
+    ensures { result ≡ length (waiting submissions.now) }
+{
+    submissions
+        .iter()
+        .filter(|submission| !is_immediate(submission.opcode))
+        .count()
+}
+
+/// Whether a figure was told of no other command than the oldest of those that aren't answered when they arrive.
+pub fn are_told(submissions: &[Submission]) -> bool
+    ensures { result ≡ are_told submissions.now }
+{
+    submissions.iter().all(|submission| submission.told.is_none()
+        || is_oldest(submissions, submission.reference))
+}
+
+/// Whether one of the submissions is a GET COMMAND STATUS of this number to this unit.
+pub fn has_poll(submissions: &[Submission], reference: u32, unit: u16) -> bool
+    ensures { result ≡ list_any (is_poll reference unit) submissions.now }
+{
+    submissions.iter().any(|submission| submission.reference == reference
+        && submission.opcode == STATUS
+        && submission.unit == unit)
 }
 
 /// Whether one of the submissions is the GET COMMAND STATUS of this number.

@@ -1,14 +1,16 @@
 // Bytes to a host.
 
-ghost use Rattle.std.specs.Prelude.{◌≡◌, ◌+◌, ◌*◌, ◌≤◌, true, length, IfOk, None};
+ghost use Rattle.std.specs.Prelude.{◌≡◌, ◌+◌, ◌*◌, ◌≤◌, ◌<◌, true, length, IfOk, None};
+ghost use Rattle.mscp_packet.specs.Number.{num};
 ghost use Rattle.mscp_packet.specs.Parts.{parts_in};
 ghost use Rattle.mscp_host.specs.Apart.{are_apart};
 ghost use Rattle.mscp_host.specs.Restored.{account_in, count_in, is_framed, head_fault, outstanding_in, restored, submission_in, told_in, watch_in};
 ghost use Rattle.mscp_host.specs.Saved.{saved_bytes};
-ghost use Rattle.mscp_host.specs.Watched.{is_watched};
+ghost use Rattle.mscp_host.specs.Sound.{waiting};
+ghost use Rattle.mscp_host.specs.Watched.{are_told, is_watched};
 
 use crate::host::Host;
-use crate::outstanding::are_apart;
+use crate::outstanding::{are_apart, are_told, waiting};
 use crate::saving::{MAGIC, VERSION};
 use crate::submission::Submission;
 use crate::watch::{Watch, is_watched};
@@ -31,14 +33,15 @@ pub enum RestoreFault {
     /// The credits aren't 2 to 64.
     #[error("credits")]
     Credits,
-    /// More outstanding submissions than credits.
+    /// More outstanding submissions than credits, or no credit kept for commands that are answered when they arrive.
     #[error("outstanding")]
     Outstanding,
     /// Two outstanding submissions of one reference number.
     #[error("doubled")]
     Doubled,
-    /// A poll in flight whose own GET COMMAND STATUS isn't outstanding, or that is about nobody: about a command that is said
-    /// to be outstanding, and isn't the oldest that isn't answered when it arrives, or about itself.
+    /// A poll in flight whose own GET COMMAND STATUS isn't outstanding, or isn't to the unit of the polled command; or that is
+    /// about nobody: about a command that is said to be outstanding, and isn't the oldest that isn't answered when it arrives, or
+    /// about itself. Or a figure that was told of another command than the oldest.
     #[error("poll")]
     Poll,
     /// The bytes say a host, and aren't those that it is saved as.
@@ -146,9 +149,11 @@ fn host_in(b: &[u8], outstanding: ArrayVec<Submission, 64>, watch: Option<Watch>
     requires head { head_fault b.now ≡ None }
     requires said { outstanding.items ≡ outstanding_in b.now }
     requires len { length outstanding.items ≡ count_in b.now }
+    requires spare { length (waiting outstanding.items) < num b.now 12 4 }
     requires apart { are_apart outstanding.items ≡ true }
     requires poll { watch ≡ (account_in b.now).watch }
     requires watched { is_watched outstanding.items watch ≡ true }
+    requires told { are_told outstanding.items ≡ true }
     ensures { result ≡ account_in b.now }
 {
     Host {
@@ -169,11 +174,14 @@ impl Host {
             return Err(fault);
         }
         let outstanding = outstanding_in(b);
+        if waiting(outstanding.as_slice()) >= four_at(b, 12) as usize {
+            return Err(RestoreFault::Outstanding);
+        }
         if !are_apart(outstanding.as_slice()) {
             return Err(RestoreFault::Doubled);
         }
         let watch = poll_in(b);
-        if !is_watched(outstanding.as_slice(), &watch) {
+        if !is_watched(outstanding.as_slice(), &watch) || !are_told(outstanding.as_slice()) {
             return Err(RestoreFault::Poll);
         }
         let host = host_in(b, outstanding, watch);

@@ -2,9 +2,9 @@
 
 ghost use Rattle.std.specs.Prelude.{◌≡◌};
 ghost use Rattle.mscp_host.specs.Accounts.{answered, is_about_polled, polled_is_outstanding, told_in, watch_after};
-ghost use Rattle.mscp_host.specs.Watched.{is_about_somebody, is_watched};
+ghost use Rattle.mscp_host.specs.Watched.{is_about_somebody, is_polled, is_watched, oldest_of};
 
-use crate::outstanding::{has_status, is_oldest};
+use crate::outstanding::{find_oldest, has_poll, has_status, is_oldest};
 use crate::submission::Submission;
 use mscp_packet::{End, EndBody};
 
@@ -79,12 +79,23 @@ pub fn watch_after(watch: Option<Watch>, reference: u32) -> Option<Watch>
     }
 }
 
-/// Whether a poll is about the oldest command, or about one that is outstanding no more, and that isn't the poll itself.
+/// Whether a poll of this number, to the unit of the oldest command, is outstanding.
+fn is_polled(submissions: &[Submission], reference: u32) -> bool
+    ensures { result ≡ is_polled reference submissions.now (oldest_of submissions.now) }
+{
+    match find_oldest(submissions).copied() {
+        Some(oldest) => has_poll(submissions, reference, oldest.unit),
+        None => false,
+    }
+}
+
+/// Whether a poll is about the oldest command, and to its unit; or about one that is outstanding no more, and that isn't the
+/// poll itself.
 fn is_about_somebody(submissions: &[Submission], watch: &Watch) -> bool
     ensures { result ≡ is_about_somebody submissions.now watch.now }
 {
     if watch.is_outstanding {
-        is_oldest(submissions, watch.polled)
+        is_oldest(submissions, watch.polled) && is_polled(submissions, watch.reference)
     } else {
         watch.polled != watch.reference
     }

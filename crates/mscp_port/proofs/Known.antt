@@ -1,9 +1,9 @@
 -- What a port knows stays among what it knew.
-use Rattle.std.proofs.Common.{◌≡◌, ◌⊎◌, ◌∙◌, ℕ, List, Option, None, Some, IfSome, inl, inr, ap, refl, sym, subst, get_or}
-use Rattle.std.proofs.lemmas.Bool.{eqb-true}
+use Rattle.std.proofs.Common.{◌≡◌, ◌⊎◌, ◌∙◌, ℕ, true, List, Option, None, Some, IfSome, inl, inr, ap, refl, sym, subst, get_or}
 use Rattle.std.proofs.lemmas.Option.{none-some}
 use Rattle.std.specs.List.{position}
 use Rattle.std.proofs.lemmas.List.Quantifiers.{position-Some}
+use Rattle.mscp_events.specs.declared.connection.Connection.{Connection}
 use Rattle.mscp_port.specs.declared.buffers.Buffer.{Buffer}
 use Rattle.mscp_port.specs.declared.port.Port.{Port}
 use Rattle.mscp_port.specs.declared.rings.Side.{Side}
@@ -13,7 +13,7 @@ use Rattle.mscp_port.specs.declared.task.Task.TheVariants as tasks
 use Rattle.mscp_port.specs.Outgoings.{KeepsSaying, Says, TakesEnd, TellsNews}
 use Rattle.mscp_port.specs.Ports.{in_hand}
 use Rattle.mscp_port.specs.Calls.{ChangesByActing, StaysInStage}
-use Rattle.mscp_port.specs.Buffers.{has_reference}
+use Rattle.mscp_port.specs.Buffers.{is_of}
 
 -- a descriptor that is in hand after is the one that was in hand before
 pub held_on : (o before : Option ℕ) (w : ℕ) (Q : ℕ → Type 0) → before ≡ Some w → IfSome o (λ word. word ≡ w)
@@ -66,8 +66,7 @@ keeps_the_same old new e = subst (λ (p : Port _). KeepsSaying old p) (sym e)
 pub none_returned : (t : Task) (side : Side) (slot : Descriptor) → in_hand t ≡ None → t ≡ tasks.Return side slot → ⊥
 none_returned t side slot none e = none-some slot.word (sym none ∙ ap in_hand e)
 
--- the one at the place of a reference number has it
-pub of_reference : (bs : List Buffer) (reference place : ℕ) (d : Buffer)
-    → position (has_reference reference) bs ≡ Some place → (get_or bs place d).reference ≡ reference
-of_reference bs reference place d e =
-    eqb-true (get_or bs place d).reference reference (position-Some (has_reference reference) bs place d e).1
+-- what is at the place of what is kept of a command is that
+pub of_command : (via : Connection) (reference : ℕ) (bs : List Buffer) (place : ℕ) (d : Buffer)
+    → position (is_of via reference) bs ≡ Some place → is_of via reference (get_or bs place d) ≡ true
+of_command via reference bs place d e = (position-Some (is_of via reference) bs place d e).1

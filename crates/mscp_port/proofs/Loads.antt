@@ -9,6 +9,7 @@ use Rattle.mscp_queue.proofs.Masked.{eq_false, eq_true}
 use Rattle.mscp_drive.specs.Shape.{Shape, one_block}
 use Rattle.mscp_packet.specs.declared.end.End.{End}
 use Rattle.mscp_packet.specs.declared.command.MoveKind.{MoveKind}
+use Rattle.mscp_events.specs.declared.connection.Connection.{Connection}
 use Rattle.mscp_controller.specs.Holdings.{Holdings}
 use Rattle.mscp_port.specs.declared.action.Action.TheVariants as actions
 use Rattle.mscp_port.specs.declared.buffers.Buffer.{Buffer}
@@ -24,7 +25,7 @@ use Rattle.mscp_port.specs.Blocks.{kept_of, writes}
 use Rattle.mscp_port.specs.Calls.{Changes, IsMadeOf}
 use Rattle.mscp_port.specs.Histories.{Answered, Becomes, Call, WriteIp, ReadIp, WriteSa, Next, WasRead, Went, LookAgain, Tick, Change}
 use Rattle.mscp_port.specs.Loaded.{is_loaded, is_locked}
-use Rattle.mscp_port.specs.Moved.{GoesOnWithBlock, place_heeded, volumes_after}
+use Rattle.mscp_port.specs.Moved.{GoesOnWithBlock, end_brought, place_heeded, volumes_after}
 use Rattle.mscp_port.specs.Outgoings.{IsNews, LooksForOut, Says, news_place}
 use Rattle.mscp_port.specs.Ports.{IsAsNew}
 use Rattle.mscp_port.specs.Volumes.{no_volume, place_in, protected_by, volume_at, volume_changed, volume_heeded, volumes_changed, volumes_heeded}
@@ -93,16 +94,18 @@ heeded_at code kept None vs = the_same vs vs refl
 heeded_at code kept (Some q) vs =
     set_one vs q (volume_heeded code kept (volume_at vs q)) (heeded_way code kept (volume_at vs q))
 
-after_end : (units : List Shape) (bs : List Buffer) (ended : Option End) (vs : List Volume)
-    → AreAsBefore vs (volumes_after units bs ended vs)
-after_end units bs None vs = the_same vs vs refl
-after_end units bs (Some e) vs = heeded_at e.code (kept_of e.reference bs) (place_heeded units e) vs
+after_end : (units : List Shape) (bs : List Buffer) (via : Connection) (ended : Option End) (vs : List Volume)
+    → AreAsBefore vs (volumes_after units bs via ended vs)
+after_end units bs via None vs = the_same vs vs refl
+after_end units bs via (Some e) vs = heeded_at e.code (kept_of via e.reference bs) (place_heeded units e) vs
 
 with_block : {K : Type 0} (old new : Port K) → GoesOnWithBlock old new → AreAsBefore old.volumes new.volumes
 with_block old new either = elim either [
   | inl e ↦ the_same old.volumes new.volumes (ap (λ p. p.volumes) e)
-  | inr heeds ↦ subst (AreAsBefore old.volumes) (sym (ap (λ p. p.volumes) heeds.1.frame))
-      (after_end old.controller.settings.units old.buffers.items heeds.0 old.volumes)
+  | inr taken ↦
+      let t = taken.3.finished in
+      subst (AreAsBefore old.volumes) (sym (ap (λ p. p.volumes) t.2.frame))
+      (after_end old.controller.settings.units old.buffers.items taken.0 (end_brought t.0) old.volumes)
 ]
 
 -- ---- news
@@ -268,8 +271,8 @@ agree_after unit (WasRead bytes result) calls old new r a =
       | inr dead ↦ as_new (stages.Dead dead.0) old new dead.1
     ]) a
 agree_after unit (Went outcome result) calls old new r a =
-    agree_still unit calls old new (settings_stay (Went outcome result) old new r) (elim r.volumes [
-      | inl e ↦ the_same old.volumes new.volumes e
+    agree_still unit calls old new (settings_stay (Went outcome result) old new r) (elim r.commands [
+      | inl e ↦ the_same old.volumes new.volumes e.volumes
       | inr more ↦ elim more
           [ inl block ↦ with_block old new block | inr dead ↦ as_new (stages.Dead dead.0) old new dead.1 ]
     ]) a

@@ -6,6 +6,7 @@ use Rattle.std.proofs.lemmas.List.{get_or-set_other, get_or-set_same, get_or_pas
 use Rattle.mscp_drive.specs.Shape.{Shape}
 use Rattle.mscp_packet.specs.declared.end.End.{End}
 use Rattle.mscp_packet.specs.declared.command.MoveKind.{MoveKind}
+use Rattle.mscp_events.specs.declared.connection.Connection.{Connection}
 use Rattle.mscp_controller.specs.Holdings.{Holdings}
 use Rattle.mscp_port.specs.declared.action.Action.TheVariants as actions
 use Rattle.mscp_port.specs.declared.buffers.Buffer.{Buffer}
@@ -18,7 +19,7 @@ use Rattle.mscp_port.specs.Calls.{IsMadeOf}
 use Rattle.mscp_port.specs.Departures.{IsForgotten}
 use Rattle.mscp_port.specs.Histories.{Answered, Becomes, Call, WriteIp, ReadIp, WriteSa, Next, WasRead, Went, LookAgain, Tick, Change}
 use Rattle.mscp_port.specs.Mounted.{Ends, IsChangeAt, IsMounted, IsRemounted, Mount, flagged, mount_after, offline}
-use Rattle.mscp_port.specs.Moved.{GoesOnWithBlock, place_heeded}
+use Rattle.mscp_port.specs.Moved.{GoesOnWithBlock, HeedsStep, end_brought, place_heeded}
 use Rattle.mscp_port.specs.Outgoings.{IsNews, Says, news_place}
 use Rattle.mscp_port.specs.Volumes.{MayMove, no_volume, place_in, protected_by, volume_at, volume_changed, volume_heeded, volumes_changed, volumes_heeded}
 use Rattle.mscp_port.proofs.Loads.{looks_or_not}
@@ -103,13 +104,13 @@ ended vs place code kept m holds = elim holds [
   | inr e ↦ set_here vs place _ _ (heeded_of code kept (volume_at vs place) ∙ ap (mount_after code kept) e)
 ]
 
-ends : {K : Type 0} (place : ℕ) (old new : Port K) (e : End) (m : Mount) → Ends place old new e
+ends : {K : Type 0} (place : ℕ) (old new : Port K) (via : Connection) (e : End) (m : Mount) → Ends place old new via e
     → Holds place old.volumes m
-    → Holds place new.volumes (mount_after e.code (kept_of e.reference old.buffers.items) m)
-ends place old new e m end holds =
-    let kept = kept_of e.reference old.buffers.items in
-    subst (λ vs. Holds place vs (mount_after e.code kept m)) (sym (ap (λ p. p.volumes) end.0.frame))
-    (subst (λ o. Holds place (volumes_heeded e.code kept o old.volumes) (mount_after e.code kept m)) (sym end.1)
+    → Holds place new.volumes (mount_after e.code (kept_of via e.reference old.buffers.items) m)
+ends place old new via e m end holds =
+    let kept = kept_of via e.reference old.buffers.items in
+    subst (λ vs. Holds place vs (mount_after e.code kept m)) (sym (ap (λ p. p.volumes) end.heeds.frame))
+    (subst (λ o. Holds place (volumes_heeded e.code kept o old.volumes) (mount_after e.code kept m)) (sym end.unit)
     (ended old.volumes place e.code kept m holds))
 
 -- an end of another unit
@@ -119,15 +120,33 @@ heeded_elsewhere vs place code kept None m ne holds = holds
 heeded_elsewhere vs place code kept (Some q) m ne holds =
     set_elsewhere vs place q _ m (λ e. ne (ap Some (sym e))) holds
 
-with_block : {K : Type 0} (place : ℕ) (m : Mount) (old new : Port K) → GoesOnWithBlock old new
-    → (((e : End) × Ends place old new e) → ⊥) → Holds place old.volumes m → Holds place new.volumes m
-with_block place m old new (inl e) other holds = the_same place m old new (ap (λ p. p.volumes) e) holds
-with_block place m old new (inr (None, heeds)) other holds =
+heeded : {K : Type 0} (place : ℕ) (m : Mount) (old new : Port K) (via : Connection) (ended : Option End)
+    → HeedsStep via ended old new
+    → ((e : End) → ended ≡ Some e → place_heeded old.controller.settings.units e ≢ Some place)
+    → Holds place old.volumes m → Holds place new.volumes m
+heeded place m old new via None heeds other holds =
     the_same place m old new (ap (λ p. p.volumes) heeds.frame) holds
-with_block place m old new (inr (Some e, heeds)) other holds =
+heeded place m old new via (Some e) heeds other holds =
     subst (λ vs. Holds place vs m) (sym (ap (λ p. p.volumes) heeds.frame))
-    (heeded_elsewhere old.volumes place e.code (kept_of e.reference old.buffers.items)
-    (place_heeded old.controller.settings.units e) m (λ here. other (e, (heeds, here))) holds)
+    (heeded_elsewhere old.volumes place e.code (kept_of via e.reference old.buffers.items)
+    (place_heeded old.controller.settings.units e) m (other e refl) holds)
+
+with_block : {K : Type 0} (place : ℕ) (m : Mount) (old new : Port K) → GoesOnWithBlock old new
+    → (((via : Connection) × (e : End) × Ends place old new via e) → ⊥) → Holds place old.volumes m
+    → Holds place new.volumes m
+with_block place m old new (inl e) other holds = the_same place m old new (ap (λ p. p.volumes) e) holds
+with_block place m old new (inr taken) other holds =
+    let via = taken.0 in
+    let t = taken.3.finished in
+    heeded place m old new via (end_brought t.0) t.2 (λ e brought here. other (
+      via,
+      e,
+      record {
+        step = (taken.1, taken.2, t.0, t.1, brought);
+        heeds = subst (λ o. HeedsStep via o old new) brought t.2;
+        unit = here;
+      },
+    )) holds
 
 -- a volume that comes or goes
 changed : (units : List Shape) (vs : List Volume) (there protected : Bool) (place : ℕ) (m : Mount) → Holds place vs m
@@ -191,8 +210,8 @@ stays place m (WasRead bytes result) old new r other holds = elim r.frame [
   | inl e ↦ the_same place m old new (ap (λ p. p.volumes) e) holds
   | inr dead ↦ absurd (other (inl (stages.Dead dead.0, dead.1)))
 ]
-stays place m (Went outcome result) old new r other holds = elim r.volumes [
-  | inl e ↦ the_same place m old new e holds
+stays place m (Went outcome result) old new r other holds = elim r.commands [
+  | inl e ↦ the_same place m old new e.volumes holds
   | inr more ↦ elim more [
     | inl block ↦ with_block place m old new block (λ end. other (inr (inl end))) holds
     | inr dead ↦ absurd (other (inl (stages.Dead dead.0, dead.1)))
@@ -221,8 +240,8 @@ held hardware credits controller place low start p (call ∷ calls) m made a is 
     elim is [
       | inl f ↦ subst (Holds place p.volumes) (sym f.1) (forgotten place a.0 p low f.0)
       | inr more ↦ elim more [
-        | inl end ↦ subst (Holds place p.volumes) (sym end.4)
-            (ends place a.0 p end.0 end.2 end.1 (before end.2 made a.1 end.3))
+        | inl end ↦ subst (Holds place p.volumes) (sym end.5)
+            (ends place a.0 p end.0 end.1 end.3 end.2 (before end.3 made a.1 end.4))
         | inr rest ↦ elim rest [
           | inl change ↦ subst (Holds place p.volumes) (sym change.3)
               (changes place call a.0 p change.1 change.0 a.2 (before change.1 made a.1 change.2))

@@ -7,6 +7,7 @@ use Rattle.mscp_packet.specs.declared.command.Order.{Order}
 use Rattle.mscp_packet.specs.declared.command.Order.TheVariants as orders
 use Rattle.mscp_events.specs.declared.block.Block.{Block}
 use Rattle.mscp_events.specs.declared.block.Block.TheVariants as blocks
+use Rattle.mscp_events.specs.declared.connection.Connection.{Connection}
 use Rattle.mscp_queue.specs.declared.upcoming.Upcoming.{Upcoming}
 use Rattle.mscp_port.specs.declared.action.Outcome.{Outcome}
 use Rattle.mscp_port.specs.declared.action.Outcome.TheVariants as outcomes
@@ -15,7 +16,7 @@ use Rattle.mscp_port.specs.declared.buffers.Job.{Job}
 use Rattle.mscp_port.specs.declared.task.Task.{Task}
 use Rattle.mscp_port.specs.declared.task.Task.TheVariants as tasks
 use Rattle.mscp_port.specs.declared.volumes.Volume.{Volume}
-use Rattle.mscp_port.specs.Buffers.{has_reference, part_of}
+use Rattle.mscp_port.specs.Buffers.{is_of, part_of}
 
 -- ---- transfers
 
@@ -77,9 +78,9 @@ abbrev pub kept_at : Option ℕ → List Buffer → Option Buffer
 kept_at None buffers = None
 kept_at (Some place) buffers = slice_get buffers place
 
--- what is kept of the first command of a reference number
-abbrev pub kept_of : ℕ → List Buffer → Option Buffer
-kept_of reference buffers = kept_at (position (has_reference reference) buffers) buffers
+-- what is kept of the command of a connection and reference number
+abbrev pub kept_of : Connection → ℕ → List Buffer → Option Buffer
+kept_of via reference buffers = kept_at (position (is_of via reference) buffers) buffers
 
 -- the step is taken with this outcome, and moves no block
 abbrev pub step_with : Upcoming → Block → Task

@@ -1,7 +1,8 @@
 -- Where the data of a transfer are in host memory (port).
-use Rattle.std.specs.Prelude.{ℕ, ◌+◌, ◌-◌, ◌*◌, ◌≤◌, ◌||◌, ◌++◌, ◌∷◌, [], min, nat_eq, nat_lt, Bool, List, length, remove, if◌then◌else◌, Option, None, Some}
-use Rattle.std.specs.List.{position}
+use Rattle.std.specs.Prelude.{ℕ, ◌+◌, ◌-◌, ◌*◌, ◌≤◌, ◌||◌, ◌++◌, ◌∷◌, [], min, nat_eq, nat_lt, not, Bool, false, List, length, filter, if◌then◌else◌, Option, None, Some}
 use Rattle.mscp_packet.specs.Number.{num}
+use Rattle.mscp_events.specs.declared.connection.Connection.{Connection}
+use Rattle.mscp_events.specs.declared.connection.Connection.TheVariants.{First, Second}
 use Rattle.mscp_port.specs.declared.buffers.Buffer.{Buffer}
 
 -- the number in so many bytes from a place on, or 0 where the message is shorter
@@ -27,22 +28,19 @@ buffer_in b changes = record {
   changes = changes;
 }
 
-abbrev pub has_reference : ℕ → Buffer → Bool
-has_reference reference b = nat_eq b.reference reference
+-- it is kept of the command of this connection and reference number. A host talks by the first connection
+abbrev pub is_of : Connection → ℕ → Buffer → Bool
+is_of First reference b = nat_eq b.reference reference
+is_of Second reference b = false
 
--- all but the one at a place, if there is one
-abbrev pub without_place : Option ℕ → List Buffer → List Buffer
-without_place None bs = bs
-without_place (Some place) bs = remove bs place
+-- all but what is kept of a command
+abbrev pub without : Connection → ℕ → List Buffer → List Buffer
+without via reference bs = filter (λ b. not (is_of via reference b)) bs
 
--- all but the first of this command, if there is one
-abbrev pub without : ℕ → List Buffer → List Buffer
-without reference bs = without_place (position (has_reference reference) bs) bs
-
--- all but the one of a command that was aborted, if one was
+-- all but what is kept of a command that was aborted, if one was
 abbrev pub without_aborted : Option ℕ → List Buffer → List Buffer
 without_aborted None bs = bs
-without_aborted (Some reference) bs = without reference bs
+without_aborted (Some reference) bs = without First reference bs
 
 -- one more is kept, behind the others. There is room for 64 commands
 abbrev pub kept_beside : Buffer → List Buffer → List Buffer

@@ -251,6 +251,12 @@ ChangesByActing old new = (new ≡ record old {
 abbrev pub StaysInStage : {K : Type 0} → Port K → Port K → Type 0
 StaysInStage old new = (new.stage ≡ old.stage) ⊎ (new.stage ≡ stages.Last) ⊎ Dies old new
 
+-- the volumes stay, and the commands that wait, with what is kept of them
+pub record KeepsCommands {K : Type 0} (old new : Port K) : Type 0 where
+  pub volumes : new.volumes ≡ old.volumes
+  pub controller : new.controller ≡ old.controller
+  pub buffers : new.buffers ≡ old.buffers
+
 -- a packet is in hand
 abbrev pub HoldsPacket : Task → Type 0
 HoldsPacket (tasks.Packet slot) = Unit {0}
@@ -269,7 +275,7 @@ pub record Goes {K : Type 0} (outcome : Outcome) (old : Port K) (result : Result
   pub steps : IsOk result → IfSome (step_answered old.task old.written) (λ word. TakesStep word old new)
   pub settings : new.controller.settings ≡ old.controller.settings
   pub still : step_answered old.task old.written ≡ None → ChangesByActing old new × StaysInStage old new
-  pub volumes : (new.volumes ≡ old.volumes) ⊎ GoesOnWithBlock old new ⊎ Dies old new
+  pub commands : KeepsCommands old new ⊎ GoesOnWithBlock old new ⊎ Dies old new
   -- its credits are told by a packet alone
   pub credits : HoldsPacket old.task ⊎ ((new.untold ≡ old.untold) × (new.more ≡ old.more)) ⊎ Dies old new
   -- of its host's memory the port learns nothing but the area

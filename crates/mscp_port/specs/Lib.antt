@@ -6,6 +6,7 @@ pub mod Calls
 pub mod Codes
 pub mod Departures
 pub mod Histories
+pub mod Kept
 pub mod Leaving
 pub mod Loaded
 pub mod Messages

@@ -1,8 +1,13 @@
 -- With which volume a unit is online, and what its host protects, as the history of a port tells.
-use Rattle.std.specs.Prelude.{◌≡◌, ◌⊎◌, ◌%◌, ◌/◌, ◌==◌, ℕ, Bool, true, false, if◌then◌else◌, List, [], ◌∷◌, Option, None, Some}
+use Rattle.std.specs.Prelude.{◌≡◌, ◌⊎◌, ◌%◌, ◌/◌, ◌==◌, ℕ, Bool, true, false, if◌then◌else◌, List, [], ◌∷◌, Option, None, Some, Result}
 use Rattle.mscp_packet.specs.declared.command.MoveKind.{MoveKind}
 use Rattle.mscp_packet.specs.declared.end.End.{End}
-use Rattle.mscp_controller.specs.Holdings.{Holdings}
+use Rattle.mscp_events.specs.declared.block.Block.{Block}
+use Rattle.mscp_events.specs.declared.connection.Connection.{Connection}
+use Rattle.mscp_queue.specs.declared.report.Report.{Report}
+use Rattle.mscp_queue.specs.Names.{name_on}
+use Rattle.mscp_controller.specs.declared.entry.Stale.{Stale}
+use Rattle.mscp_controller.specs.Holdings.{Finishes, Holdings}
 use Rattle.mscp_port.specs.declared.action.Action.TheVariants as actions
 use Rattle.mscp_port.specs.declared.buffers.Buffer.{Buffer}
 use Rattle.mscp_port.specs.declared.hardware.Hardware.{Hardware}
@@ -11,7 +16,7 @@ use Rattle.mscp_port.specs.Blocks.{kept_of, writes}
 use Rattle.mscp_port.specs.Calls.{IsMadeOf}
 use Rattle.mscp_port.specs.Departures.{IsForgotten}
 use Rattle.mscp_port.specs.Histories.{Answered, Call, Change, Next}
-use Rattle.mscp_port.specs.Moved.{HeedsStep, place_heeded}
+use Rattle.mscp_port.specs.Moved.{HeedsStep, anyhow, end_brought, place_heeded}
 use Rattle.mscp_port.specs.Volumes.{place_in, volume_at}
 
 -- what a host has made of a unit: it is online with the volume that was there when so many had come or gone, if it is
@@ -41,9 +46,14 @@ mount_after code (Some b) m =
 
 -- ---- over a history
 
--- by a call an end of Success came, of the unit at this place
-abbrev pub Ends : {K : Type 0} → ℕ → Port K → Port K → End → Type 0
-Ends place old new e = HeedsStep (Some e) old new × (place_heeded old.controller.settings.units e ≡ Some place)
+-- by a call this end of Success came, of a command of this connection, to the unit at this place: the controller took
+-- the step that brought it
+pub record Ends {K : Type 0} (place : ℕ) (old new : Port K) (via : Connection) (e : End) : Type 0 where
+  pub step : (reference : ℕ) × (block : Block) × (result : Result Report Stale)
+      × Finishes anyhow (name_on via reference) block old.controller result new.controller
+      × (end_brought result ≡ Some e)
+  pub heeds : HeedsStep via (Some e) old new
+  pub unit : place_heeded old.controller.settings.units e ≡ Some place
 
 -- it says that a volume came into that unit, or went
 abbrev pub IsChangeAt : {K : Type 0} → ℕ → Call → Port K → Type 0
@@ -52,7 +62,8 @@ IsChangeAt place call old = ⊥
 
 -- all is forgotten, or the unit is mounted anew, or has another volume
 abbrev pub IsRemounted : {K : Type 0} → ℕ → Call → Port K → Port K → Type 0
-IsRemounted place call old new = IsForgotten old new ⊎ ((e : End) × Ends place old new e) ⊎ IsChangeAt place call old
+IsRemounted place call old new =
+    IsForgotten old new ⊎ ((via : Connection) × (e : End) × Ends place old new via e) ⊎ IsChangeAt place call old
 
 -- what the host has made of the unit at a place: it begins offline, and is so again once all is forgotten. Each end of
 -- Success makes of it what its endcode says, by what is kept of its command, and another volume isn't protected
@@ -61,8 +72,9 @@ abbrev pub IsMounted : {K : Type 0} (place : ℕ) (start p : Port K) (calls : Li
 IsMounted place start p [] a m = m ≡ offline
 IsMounted place start p (call ∷ earlier) a m =
     (IsForgotten a.0 p × (m ≡ offline))
-    ⊎ ((e : End) × Ends place a.0 p e × (before : Mount) × IsMounted place start a.0 earlier a.1 before
-    × (m ≡ mount_after e.code (kept_of e.reference a.0.buffers.items) before))
+    ⊎ ((via : Connection) × (e : End) × Ends place a.0 p via e
+    × (before : Mount) × IsMounted place start a.0 earlier a.1 before
+    × (m ≡ mount_after e.code (kept_of via e.reference a.0.buffers.items) before))
     ⊎ (IsChangeAt place call a.0 × (before : Mount) × IsMounted place start a.0 earlier a.1 before
     × (m ≡ record before { is_protected = false }))
     ⊎ ((IsRemounted place call a.0 p → ⊥) × IsMounted place start a.0 earlier a.1 m)

@@ -41,7 +41,7 @@ known_task u place kept volumes = step_with u (blocks.Bad 0x000B)
 abbrev pub begun_task : List Shape → List Buffer → List Volume → Option Upcoming → Task
 begun_task units buffers volumes None = tasks.Free
 begun_task units buffers volumes (Some u) =
-    known_task u (place_in units u.command.unit) (kept_of u.command.reference buffers) volumes
+    known_task u (place_in units u.command.unit) (kept_of u.connection u.command.reference buffers) volumes
 
 -- the controller has begun a step, by this picker's word, and that is taken in hand; before it an end may have been
 -- taken
@@ -67,13 +67,16 @@ is_block_of (Some unit) block = nat_lt block unit.size
 abbrev pub has_block : List Shape → ℕ → ℕ → Bool
 has_block units unit block = is_block_of (unit_found units unit) block
 
+-- what is kept of the command of a step in hand
+abbrev pub job_kept : {K : Type 0} → Port K → Job → Option Buffer
+job_kept p job = kept_of job.connection job.reference p.buffers.items
+
 -- why a step in hand may not go on, if it may not: its volume may have changed since. Only restored bytes say a block
 -- that its unit hasn't
 abbrev pub fault_now : {K : Type 0} → Port K → Job → Option ℕ
 fault_now p job =
     if has_block p.controller.settings.units job.unit job.block
-    then fault_at (place_in p.controller.settings.units job.unit) (kept_of job.reference p.buffers.items) job.kind
-    p.volumes
+    then fault_at (place_in p.controller.settings.units job.unit) (job_kept p job) job.kind p.volumes
     else Some 0x000B
 
 abbrev pub part_kept : Option Buffer → ℕ → Option (ℕ × ℕ)
@@ -88,8 +91,7 @@ is_storing task = false
 -- volume has gone since
 abbrev pub part_now : {K : Type 0} → Port K → Job → Option (ℕ × ℕ)
 part_now p job =
-    if is_storing p.task || is_none (fault_now p job) then part_kept (kept_of job.reference p.buffers.items) job.done
-    else None
+    if is_storing p.task || is_none (fault_now p job) then part_kept (job_kept p job) job.done else None
 
 -- this block of this unit may be moved so: there is such a block, and it is on the volume that is in the unit
 abbrev pub MayMoveOn : {K : Type 0} → MoveKind → ℕ → ℕ → Port K → Type 0
@@ -123,37 +125,38 @@ abbrev pub end_brought : Result Report Stale → Option End
 end_brought (Ok (reports.Served via reference unit lbn started seek ended)) = ended
 end_brought result = None
 
--- what is kept of the commands that wait, once a step brought this end
-abbrev pub kept_after : Option End → List Buffer → List Buffer
-kept_after None buffers = buffers
-kept_after (Some e) buffers = without e.reference buffers
+-- what is kept of the commands that wait, once a step of one of a connection brought this end
+abbrev pub kept_after : Connection → Option End → List Buffer → List Buffer
+kept_after via None buffers = buffers
+kept_after via (Some e) buffers = without via e.reference buffers
 
 -- only Success is heeded
 abbrev pub place_heeded : List Shape → End → Option ℕ
 place_heeded units e = if e.status % 32 == 0 then place_in units e.unit else None
 
 -- and the volumes
-abbrev pub volumes_after : List Shape → List Buffer → Option End → List Volume → List Volume
-volumes_after units buffers None volumes = volumes
-volumes_after units buffers (Some e) volumes =
-    volumes_heeded e.code (kept_of e.reference buffers) (place_heeded units e) volumes
+abbrev pub volumes_after : List Shape → List Buffer → Connection → Option End → List Volume → List Volume
+volumes_after units buffers via None volumes = volumes
+volumes_after units buffers via (Some e) volumes =
+    volumes_heeded e.code (kept_of via e.reference buffers) (place_heeded units e) volumes
 
--- the controller has taken a step, which brought this end, if it brought one: nothing is in hand, and the end is heeded
-pub record HeedsStep {K : Type 0} (ended : Option End) (old new : Port K) : Type 0 where
+-- the controller has taken a step of a command of a connection, which brought this end, if it brought one: nothing is
+-- in hand, and the end is heeded
+pub record HeedsStep {K : Type 0} (via : Connection) (ended : Option End) (old new : Port K) : Type 0 where
   pub frame : new ≡ record old {
     controller = new.controller;
     task = tasks.Free;
     buffers = new.buffers;
-    volumes = volumes_after old.controller.settings.units old.buffers.items ended old.volumes;
+    volumes = volumes_after old.controller.settings.units old.buffers.items via ended old.volumes;
   }
-  pub buffers : new.buffers.items ≡ kept_after ended old.buffers.items
+  pub buffers : new.buffers.items ≡ kept_after via ended old.buffers.items
 
 -- the controller is told of a step whose block had this outcome, and nothing is in hand
 pub record TakesBlock {K : Type 0} (picks : List Choice → ℕ → Type 0) (via : Connection) (reference : ℕ) (block : Block)
     (old new : Port K) : Type 0 where
   pub finished : (result : Result Report Stale)
       × Finishes picks (name_on via reference) block old.controller result new.controller
-      × HeedsStep (end_brought result) old new
+      × HeedsStep via (end_brought result) old new
 
 abbrev pub lost_with : Option ℕ → Block
 lost_with None = blocks.Bad 0x000B
@@ -185,6 +188,12 @@ IsStepping (tasks.Transfer job) = Unit {0}
 IsStepping (tasks.Store job) = Unit {0}
 IsStepping task = ⊥
 
+-- whatever a picker picks
+abbrev pub anyhow : List Choice → ℕ → Type 0
+anyhow choices place = Unit {0}
+
 -- the next part of the step is taken in hand, or the controller has taken the step
 abbrev pub GoesOnWithBlock : {K : Type 0} → Port K → Port K → Type 0
-GoesOnWithBlock old new = (new ≡ record old { task = new.task }) ⊎ ((ended : Option End) × HeedsStep ended old new)
+GoesOnWithBlock old new =
+    (new ≡ record old { task = new.task })
+    ⊎ ((via : Connection) × (reference : ℕ) × (block : Block) × TakesBlock anyhow via reference block old new)

@@ -1,10 +1,10 @@
 // What is kept of the commands that wait: where their data are in host memory.
 
-ghost use Rattle.std.specs.Prelude.{◌≡◌, ◌<◌, ◌⊎◌, ◌++◌, ◌∷◌, [], Contains, IfSome, None, length};
-ghost use Rattle.mscp_port.specs.declared.buffers.Buffer.{Buffer as Kept};
+ghost use Rattle.std.specs.Prelude.{◌≡◌, ◌<◌, ◌⊎◌, ◌++◌, ◌∷◌, [], true, Contains, IfSome, None, length};
 ghost use Rattle.std.specs.List.{position};
+ghost use Rattle.mscp_port.specs.declared.buffers.Buffer.{Buffer as Kept};
 ghost use Rattle.mscp_port.specs.Blocks.{kept_of};
-ghost use Rattle.mscp_port.specs.Buffers.{IsInBuffer, buffer_in, four_or_zero as four_of, has_reference, kept_beside, part_of, two_or_zero as two_of, without, without_aborted};
+ghost use Rattle.mscp_port.specs.Buffers.{IsInBuffer, buffer_in, four_or_zero as four_of, is_of, kept_beside, part_of, two_or_zero as two_of, without, without_aborted};
 
 use arrayvec::ArrayVec;
 use mscp_packet::MoveKind;
@@ -74,6 +74,16 @@ impl Buffer {
         }
     }
 
+    /// Whether it is kept of the command of this connection and reference number. A host talks by the first connection.
+    fn is_of(&self, connection: Connection, reference: u32) -> bool
+        ensures { result ≡ is_of connection reference self.now }
+    {
+        match connection {
+            Connection::First => self.reference == reference,
+            Connection::Second => false,
+        }
+    }
+
     /// Where the data of the step that comes after so many others are in host memory, and how many bytes they have. None
     /// past the end of the buffer, or where they reach the end of 32 bits.
     pub fn part(&self, done: u32) -> Option<(u32, u32)>
@@ -90,34 +100,36 @@ impl Buffer {
     }
 }
 
-/// What is kept of the first command of a reference number, if there is one.
-#[tactic(auto, using(crate::proofs::Known::of_reference))]
-pub(crate) fn find_buffer(buffers: &[Buffer], reference: u32) -> Option<Buffer>
-    ensures value { result ≡ kept_of reference buffers.now }
+/// What is kept of a command, if something is.
+#[tactic(auto, using(crate::proofs::Known::of_command))]
+pub(crate) fn find_buffer(
+    buffers: &[Buffer],
+    connection: Connection,
+    reference: u32,
+) -> Option<Buffer>
+    ensures value { result ≡ kept_of connection reference buffers.now }
     ensures among { IfSome result (λ b. Contains buffers.now b) }
-    ensures reference { IfSome result (λ b. b.reference ≡ reference) }
+    ensures command { IfSome result (λ b. is_of connection reference b ≡ true) }
 {
-    let place = place_of(buffers, reference)?;
+    let place = place_of(buffers, connection, reference)?;
     Some(buffers[place])
 }
 
-/// The place of the first command of a reference number, if there is one.
-fn place_of(buffers: &[Buffer], reference: u32) -> Option<usize>
-    ensures { result ≡ position (has_reference reference) buffers.now }
+/// The place of what is kept of a command, if something is.
+fn place_of(buffers: &[Buffer], connection: Connection, reference: u32) -> Option<usize>
+    ensures { result ≡ position (is_of connection reference) buffers.now }
 {
     buffers
         .iter()
-        .position(|buffer| buffer.reference == reference)
+        .position(|buffer| buffer.is_of(connection, reference))
 }
 
-/// Forgets the first command of a reference number, if there is one.
-pub(crate) fn forget(buffers: &mut ArrayVec<Buffer, 64>, reference: u32)
-    ensures after { buffers.new.items ≡ without reference buffers.old.items }
+/// Forgets what is kept of a command.
+pub(crate) fn forget(buffers: &mut ArrayVec<Buffer, 64>, connection: Connection, reference: u32)
+    ensures after { buffers.new.items ≡ without connection reference buffers.old.items }
     ensures left { (b : Kept) → Contains buffers.new.items b → Contains buffers.old.items b }
 {
-    if let Some(place) = place_of(buffers.as_slice(), reference) {
-        buffers.remove(place);
-    }
+    buffers.retain(|buffer| !buffer.is_of(connection, reference));
 }
 
 /// Keeps what a message says. There is room for 64 commands.
@@ -136,6 +148,6 @@ pub(crate) fn forget_aborted(buffers: &mut ArrayVec<Buffer, 64>, aborted: Option
     ensures left { (b : Kept) → Contains buffers.new.items b → Contains buffers.old.items b }
 {
     if let Some(reference) = aborted {
-        forget(buffers, reference);
+        forget(buffers, Connection::First, reference);
     }
 }

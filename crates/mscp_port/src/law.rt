@@ -2,6 +2,7 @@
 
 ghost use Rattle.mscp_port.specs.Departures.{PortsFillTheirSlots, PortsSpeakInOrder, PortsTellTheirCredits};
 ghost use Rattle.mscp_port.specs.Histories.{PortsHaveCredit, PortsTouchWhatIsNamed};
+ghost use Rattle.mscp_port.specs.Kept.{PortsKeepWhatWasSaid};
 ghost use Rattle.mscp_port.specs.Loaded.{PortsMoveOnVolumes};
 ghost use Rattle.mscp_port.specs.Mounted.{PortsMoveAsMounted};
 ghost use Rattle.mscp_port.specs.Places.{PortsTouchWhatWasPut};
@@ -39,10 +40,12 @@ pub fn ports_have_credit<K: Picker>(picker: &K)
 /// Whoever calls a port that was made over a controller: a block is moved only where a volume is in its unit, and one that is
 /// written or erased only where that volume isn't protected, as was told last of it. So say the calls alone. And that volume is
 /// the one that its unit was brought online with, and is written on only where its host doesn't protect it: so say the ends that
-/// were heeded, with what was kept of their commands.
+/// were heeded, with what was kept of their commands. And that was said by a message of the command's number, to the unit that its
+/// end names.
 pub fn ports_move_on_volumes<K: Picker>(picker: &K)
     ensures volumes { PortsMoveOnVolumes K }
     ensures mounts { PortsMoveAsMounted K }
+    ensures kept { PortsKeepWhatWasSaid K }
 {
     let _ = picker;
 }

@@ -15,6 +15,7 @@ ghost use Rattle.mscp_port.specs.Wanted.{vector_of};
 
 mod checking;
 mod delivering;
+mod going;
 mod hearing;
 mod restoring;
 mod saving;

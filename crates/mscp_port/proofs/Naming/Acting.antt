@@ -98,8 +98,10 @@ no_step ws bs old new outcome result k r none =
         | inl block ↦ elim block [
           | inl e ↦ acted ws bs old new outcome result k r (ap (λ p. p.words) e) (ap (λ p. p.written) e)
               (ap (λ p. p.rings) e) still.1
-          | inr heeds ↦ acted ws bs old new outcome result k r (ap (λ p. p.words) heeds.1.frame)
-              (ap (λ p. p.written) heeds.1.frame) (ap (λ p. p.rings) heeds.1.frame) still.1
+          | inr taken ↦
+              let frame = taken.3.finished.2.frame in
+              acted ws bs old new outcome result k r (ap (λ p. p.words) frame) (ap (λ p. p.written) frame)
+              (ap (λ p. p.rings) frame) still.1
         ]
         | inr dead ↦ dead_knows ws bs old new dead
       ]

@@ -47,7 +47,7 @@ impl<K: Picker> Port<K> {
         if !self.has_block(job.unit, job.block) {
             return Some(DRIVE_ERROR);
         }
-        let buffer = find_buffer(self.buffers.as_slice(), job.reference);
+        let buffer = find_buffer(self.buffers.as_slice(), job.connection, job.reference);
         match (self.place_of(job.unit), buffer) {
             (Some(place), Some(buffer)) => fault_with(job, &buffer, &self.volumes[place]),
             _ => Some(DRIVE_ERROR),

@@ -201,28 +201,28 @@ impl<K: Picker> Port<K> {
     }
 
     /// A step brought the end of a command: what is kept of it is heeded if it had Success, and forgotten.
-    pub(crate) fn command_ended(&mut self, end: &End)
+    pub(crate) fn command_ended(&mut self, connection: Connection, end: &End)
         ensures frame { self.new ≡ record self.old {
           buffers = self.new.buffers;
-          volumes = volumes_after self.old.controller.settings.units self.old.buffers.items (Some end.now)
-              self.old.volumes;
+          volumes = volumes_after self.old.controller.settings.units self.old.buffers.items connection
+              (Some end.now) self.old.volumes;
         } }
-        ensures buffers { self.new.buffers.items ≡ without end.now.reference self.old.buffers.items }
+        ensures buffers { self.new.buffers.items ≡ without connection end.now.reference self.old.buffers.items }
         ensures among { (b : Kept) → Contains self.new.buffers.items b → Contains self.old.buffers.items b }
     {
-        self.heed_end(end);
-        forget(&mut self.buffers, end.reference);
+        self.heed_end(connection, end);
+        forget(&mut self.buffers, connection, end.reference);
     }
 
     /// Heeds what is kept of a command that ended, if it had Success.
-    fn heed_end(&mut self, end: &End)
+    fn heed_end(&mut self, connection: Connection, end: &End)
         ensures { self.new ≡ record self.old {
-          volumes = volumes_after self.old.controller.settings.units self.old.buffers.items (Some end.now)
-              self.old.volumes;
+          volumes = volumes_after self.old.controller.settings.units self.old.buffers.items connection
+              (Some end.now) self.old.volumes;
         } }
     {
         if let (Some(place), 0) = (self.place_of(end.unit), end.status % 32) {
-            let buffer = find_buffer(self.buffers.as_slice(), end.reference);
+            let buffer = find_buffer(self.buffers.as_slice(), connection, end.reference);
             heed_unit(&mut self.volumes[place], end.code, buffer);
         }
     }

@@ -5,8 +5,7 @@ ghost use Rattle.mscp_port.specs.declared.buffers.Buffer.{Buffer as Kept};
 ghost use Rattle.mscp_port.specs.Blocks.{block_of as block_after, first_of, has_host_bytes as has_bytes, refusal_of, task_of, writes as writes_to};
 ghost use Rattle.mscp_queue.specs.declared.upcoming.Upcoming.{Upcoming as Foretold};
 ghost use Rattle.mscp_controller.specs.Holdings.{Foretells};
-ghost use Rattle.mscp_packet.specs.declared.end.End.{End as Ended};
-ghost use Rattle.mscp_port.specs.Moved.{GoesOnWithBlock, HeedsStep, TakesBlock, begun_task, fault_now, lost_with, next_part};
+ghost use Rattle.mscp_port.specs.Moved.{GoesOnWithBlock, TakesBlock, anyhow, begun_task, fault_now, lost_with, next_part};
 ghost use Rattle.mscp_port.specs.Outgoings.{MayBegin};
 ghost use Rattle.mscp_port.specs.Ports.{IsMoving, IsOfBlock, in_hand};
 ghost use Rattle.mscp_port.specs.Volumes.{IsOnVolume, MayMove};
@@ -173,7 +172,11 @@ impl<K: Picker> Port<K> {
             return Task::Free;
         };
         let command = upcoming.command;
-        let buffer = find_buffer(self.buffers.as_slice(), command.reference);
+        let buffer = find_buffer(
+            self.buffers.as_slice(),
+            upcoming.connection,
+            command.reference,
+        );
         match (self.place_of(command.unit), buffer) {
             (Some(place), Some(buffer)) => task_for(&upcoming, &buffer, &self.volumes[place]),
             _ => Task::Step(upcoming.connection, command.reference, bad(DRIVE_ERROR)),
@@ -183,7 +186,7 @@ impl<K: Picker> Port<K> {
     /// The step of a command is taken, whose block had this outcome.
     pub(crate) fn finish(&mut self, connection: Connection, reference: u32, block: Block)
         ensures takes { TakesBlock (K.picks self.old.controller.picker) connection reference block self.old self.new }
-        ensures heeds { (ended : Option Ended) × HeedsStep ended self.old self.new }
+        ensures whoever { TakesBlock anyhow connection reference block self.old self.new }
         ensures frame { self.new ≡ record self.old {
           controller = self.new.controller;
           task = self.new.task;
@@ -202,7 +205,7 @@ impl<K: Picker> Port<K> {
             },
         ) = self.controller.finish(connection, reference, block)
         {
-            self.command_ended(&end);
+            self.command_ended(connection, &end);
         }
     }
 
@@ -210,7 +213,7 @@ impl<K: Picker> Port<K> {
     pub(crate) fn lost(&mut self, job: Job)
         ensures takes { TakesBlock (K.picks self.old.controller.picker) job.connection job.reference
             (lost_with (fault_now self.old job)) self.old self.new }
-        ensures heeds { (ended : Option Ended) × HeedsStep ended self.old self.new }
+        ensures blocks { GoesOnWithBlock self.old self.new }
         ensures frame { self.new ≡ record self.old {
           controller = self.new.controller;
           task = self.new.task;

@@ -1,28 +1,26 @@
 // What the port wants done.
 
-ghost use Rattle.std.specs.Prelude.{◌≡◌, ◌≢◌, ◌≤◌, ◌<◌, ◌⊎◌, ◌↔◌, ◌+◌, ◌-◌, ◌*◌, ◌^◌, ◌%◌, ℕ, true, false, length, Contains, IfSome, IsErr, IsOk, IsSome, IsTrue, IsSomeAnd, MatchOption, min, replicate, OnErr, if◌then◌else◌, ◌==◌, None, Some};
+ghost use Rattle.std.specs.Prelude.{◌≡◌, ◌≢◌, ◌≤◌, ◌<◌, ◌⊎◌, ◌+◌, ◌-◌, ◌*◌, ◌^◌, ℕ, true, false, length, Contains, IfSome, IsSome, min, replicate, if◌then◌else◌, None, Some};
 ghost use Rattle.byteorder.specs.Endian.{little_bytes};
-ghost use Rattle.arrayvec.specs.ArrayVec.{ArrayVec as Written, array_vec_len};
+ghost use Rattle.arrayvec.specs.ArrayVec.{ArrayVec as Written};
 ghost use Rattle.mscp_port.specs.declared.action.Action.TheVariants as actions;
-ghost use Rattle.mscp_port.specs.declared.action.Outcome.TheVariants as outcomes;
 ghost use Rattle.mscp_port.specs.declared.buffers.Buffer.{Buffer as Kept};
 ghost use Rattle.mscp_port.specs.declared.rings.Side.TheVariants.{Responses, Commands};
 ghost use Rattle.mscp_port.specs.declared.stage.Stage.TheVariants as stages;
 ghost use Rattle.mscp_port.specs.declared.task.Task.TheVariants as tasks;
-ghost use Rattle.mscp_port.specs.Acted.{Acts, Clears, GivesBack, counted, vector_in};
 ghost use Rattle.mscp_port.specs.Areas.{IsInArea, end_of, slot_in, slots_of};
 ghost use Rattle.mscp_port.specs.Blocks.{kept_of};
 ghost use Rattle.mscp_port.specs.Buffers.{IsInBuffer};
-ghost use Rattle.mscp_port.specs.Calls.{Dies, Goes, TakesStep, Wants};
-ghost use Rattle.mscp_port.specs.Ports.{HasNothingToHear, HasNothingToSay, IsAlive, IsAsNew, IsDue, IsIdleUp, IsOfBlock, IsOutcomeOf, IsInSomeBuffer, IsWithin, in_hand};
+ghost use Rattle.mscp_port.specs.Calls.{Wants};
+ghost use Rattle.mscp_port.specs.Ports.{HasNothingToHear, HasNothingToSay, IsAlive, IsDue, IsIdleUp, IsOfBlock, IsInSomeBuffer, IsWithin, in_hand};
 ghost use Rattle.mscp_packet.specs.declared.command.MoveKind.{MoveKind as Kind};
-ghost use Rattle.mscp_port.specs.Moved.{BeginsBlock, GoesOnWithBlock, MayMoveOn, Moves, MovesOn, is_storing, move_wanted, part_kept, part_now};
-ghost use Rattle.mscp_port.specs.Outgoings.{HasSaid, KeepsSaying, Says, TakesEnd, TellsNews};
+ghost use Rattle.mscp_port.specs.Moved.{BeginsBlock, MayMoveOn, is_storing, move_wanted, part_kept, part_now};
+ghost use Rattle.mscp_port.specs.Outgoings.{KeepsSaying, Says, TakesEnd, TellsNews};
 ghost use Rattle.mscp_port.specs.Packets.{credits_told, packet_of};
 ghost use Rattle.mscp_port.specs.Slots.{given_back, text_of};
 ghost use Rattle.mscp_port.specs.Wanted.{IsWanted, Writes, clear_from, given_in};
 
-use crate::action::{Action, Outcome, Unasked};
+use crate::action::Action;
 use crate::buffers::{Buffer, Job, find_buffer};
 use crate::port::Port;
 use crate::rings::{Rings, Side};
@@ -91,10 +89,10 @@ fn number_before(rings: &Rings, side: Side, number: u32) -> u32
 
 /// The part of the buffer that is kept of a step's command.
 fn part_in(buffers: &[Buffer], job: &Job) -> Option<(u32, u32)>
-    ensures value { result ≡ part_kept (kept_of job.now.reference buffers.now) job.now.done }
+    ensures value { result ≡ part_kept (kept_of job.now.connection job.now.reference buffers.now) job.now.done }
     ensures inside { IfSome result (λ part. (b : Kept) × Contains buffers.now b × IsInBuffer b part.0 part.1) }
 {
-    find_buffer(buffers, job.reference)?.part(job.done)
+    find_buffer(buffers, job.connection, job.reference)?.part(job.done)
 }
 
 impl<K: Picker> Port<K> {
@@ -286,7 +284,7 @@ impl<K: Picker> Port<K> {
     }
 
     /// The part of a command's buffer that a step is about, if the step may go on.
-    fn part(&self, job: &Job) -> Option<(u32, u32)>
+    pub(crate) fn part(&self, job: &Job) -> Option<(u32, u32)>
         ensures value { result ≡ part_now self.now job.now }
         ensures inside { IfSome result (λ part. IsInSomeBuffer self.now part.0 part.1) }
         ensures moves { IsSome result → is_storing self.now.task ≡ false
@@ -297,173 +295,5 @@ impl<K: Picker> Port<K> {
             return None;
         }
         part_in(self.buffers.as_slice(), job)
-    }
-
-    /// An action that isn't a read went so; or a read failed so. An error where nothing was wanted, or where a read is told
-    /// to be done without its bytes.
-    pub fn went(&mut self, outcome: Outcome) -> Result<(), Unasked>
-        ensures goes { Goes outcome self.old result self.new }
-        ensures moves { IsOk result → Moves (K.picks self.old.controller.picker) outcome self.old self.new }
-    {
-        if self.is_dead() || !self.may_go(&outcome) {
-            return Err(Unasked);
-        }
-        let task = self.task;
-        match task {
-            Task::Free => {}
-            Task::Slot(_) | Task::Neighbour(_) => self.die(6),
-            Task::Header(_) | Task::Text { .. } => self.die(1),
-            Task::Settle => self.settled(),
-            Task::Clear(done) => self.cleared(done, outcome),
-            Task::Packet(slot) => self.written_out(slot, outcome),
-            Task::Return(side, slot) => self.returned(side, slot, outcome),
-            // A fault at the interrupt word is ignored.
-            Task::Word(_) => self.interrupt(),
-            Task::Interrupt => self.task = Task::Free,
-            Task::Step(connection, reference, block) => {
-                self.finish(connection, reference, block);
-            }
-            Task::Fetch(job) | Task::Transfer(job) | Task::Store(job) => {
-                self.move_on(job, outcome);
-            }
-        }
-        Ok(())
-    }
-
-    /// Whether what is in hand may have gone so. A read that was done is told by its bytes.
-    fn may_go(&self, outcome: &Outcome) -> bool
-        ensures { IsTrue result ↔ IsOutcomeOf self.now.task outcome.now }
-    {
-        match self.task {
-            Task::Free => false,
-            Task::Slot(_) | Task::Header(_) | Task::Text { .. } | Task::Neighbour(_) => {
-                *outcome != Outcome::Done
-            }
-            _ => true,
-        }
-    }
-
-    /// A part of a step was done, if what is kept of its command says what part.
-    fn move_on(&mut self, job: Job, outcome: Outcome)
-        ensures moves { MovesOn (K.picks self.old.controller.picker) outcome job self.old self.new }
-        ensures blocks { GoesOnWithBlock self.old self.new }
-        ensures frame { self.new ≡ record self.old {
-          controller = self.new.controller;
-          task = self.new.task;
-          buffers = self.new.buffers;
-          volumes = self.new.volumes;
-        } }
-        ensures settings { self.new.controller.settings ≡ self.old.controller.settings }
-        ensures buffers { (b : Kept) → Contains self.new.buffers.items b → Contains self.old.buffers.items b }
-        ensures packet { in_hand self.new.task ≡ None }
-    {
-        match self.part(&job) {
-            Some(_) => self.moved(job, outcome),
-            None => self.lost(job),
-        }
-    }
-
-    /// The machine went on a little since the host answered a step.
-    fn settled(&mut self)
-        ensures steps { IfSome self.old.written (λ word. TakesStep word self.old self.new) }
-        ensures none { self.old.written ≡ None → self.new ≡ record self.old { task = tasks.Free } }
-        ensures settings { self.new.controller.settings ≡ self.old.controller.settings }
-        ensures frame { (self.new ≡ record self.old {
-          stage = self.new.stage;
-          words = self.new.words;
-          written = self.new.written;
-          rings = self.new.rings;
-          task = self.new.task;
-        }) ⊎ Dies self.old self.new }
-        ensures buffers { (b : Kept) → Contains self.new.buffers.items b → Contains self.old.buffers.items b }
-        ensures packet { in_hand self.new.task ≡ None }
-    {
-        self.task = Task::Free;
-        if let Some(word) = self.written.take() {
-            self.take_step(word);
-        }
-    }
-
-    /// A part of the communication area was cleared, behind so many bytes.
-    fn cleared(&mut self, done: ClearSize, outcome: Outcome)
-        ensures clears { MatchOption self.old.rings (IsAsNew (stages.Dead 7) self.old self.new)
-            (λ r. Clears outcome r done self.old self.new) }
-        ensures frame { (self.new ≡ record self.old { stage = self.new.stage; task = self.new.task })
-            ⊎ Dies self.old self.new }
-        ensures stage { (self.new.stage ≡ self.old.stage) ⊎ (self.new.stage ≡ stages.Last) ⊎ Dies self.old self.new }
-        ensures packet { in_hand self.new.task ≡ None }
-    {
-        let Some(rings) = self.rings else {
-            return self.die(7);
-        };
-        if outcome != Outcome::Done {
-            return self.die(7);
-        }
-        if rings.start(self.has_purge_word()) + done.get() + CLEARED < rings.end() {
-            self.task = Task::Clear(done.next());
-        } else {
-            self.task = Task::Free;
-            self.enter(Stage::Last);
-        }
-    }
-
-    /// The next slot of a ring was given back.
-    fn returned(&mut self, side: Side, slot: Descriptor, outcome: Outcome)
-        ensures gives_back { MatchOption self.old.rings (IsAsNew (stages.Dead 7) self.old self.new)
-            (λ r. GivesBack outcome r side slot self.old self.new) }
-        ensures frame { (self.new ≡ record self.old {
-          responses = self.new.responses;
-          commands = self.new.commands;
-          task = self.new.task;
-          outgoing = self.new.outgoing;
-          is_stalled = self.new.is_stalled;
-        }) ⊎ Dies self.old self.new }
-        ensures packet { in_hand self.new.task ≡ None }
-        ensures out { (self.new.outgoing ≡ self.old.outgoing) ⊎ Dies self.old self.new
-            ⊎ ((side ≡ Responses) × (outcome ≡ outcomes.Done) × (self.new.outgoing ≡ None)
-            × (self.new.responses ≡ (self.old.responses + 1) % 256)) }
-    {
-        let Some(rings) = self.rings else {
-            return self.die(7);
-        };
-        if outcome != Outcome::Done {
-            return self.die(7);
-        }
-        self.count(side);
-        self.task = if !slot.is_flagged() {
-            Task::Free
-        } else if rings.slots(side) == 1 {
-            Task::Word(side)
-        } else {
-            Task::Neighbour(side)
-        };
-    }
-
-    /// Counts a slot of a ring that was given back. What went out is gone.
-    fn count(&mut self, side: Side)
-        ensures { self.new ≡ counted side self.old }
-    {
-        match side {
-            Side::Responses => {
-                self.responses = self.responses.wrapping_add(1);
-                self.outgoing = None;
-                self.is_stalled = false;
-            }
-            Side::Commands => self.commands = self.commands.wrapping_add(1),
-        }
-    }
-
-    /// The interrupt word was written: the host is interrupted, if it wants that.
-    fn interrupt(&mut self)
-        ensures value { self.new ≡ record self.old {
-          task = if vector_in self.old.words.first == 0 then tasks.Free else tasks.Interrupt;
-        } }
-        ensures packet { in_hand self.new.task ≡ None }
-    {
-        self.task = if self.vector() == 0 {
-            Task::Free
-        } else {
-            Task::Interrupt
-        };
     }
 }

@@ -6,13 +6,17 @@ pub invariant_of-result : goal.invariant_of-result
 invariant_of-result c =
     let h = head_tells c.args.b.now c.requires.head in
     let credits = c.four_at.ensures in
-    let len = c.requires.len in (
-      omega (arith, h.some, credits),
-      omega (arith, h.few, credits),
-      omega (arith, h.covered, credits, len),
-      c.requires.apart,
-      c.requires.watched,
-    )
+    let len = c.requires.len in
+    let spare = c.requires.spare in
+    record {
+      some = omega (arith, h.some, credits);
+      few = omega (arith, h.few, credits);
+      covered = omega (arith, h.covered, credits, len);
+      spare = omega (arith, spare, credits);
+      apart = c.requires.apart;
+      watched = c.requires.watched;
+      told = c.requires.told;
+    }
 
 pub returns : goal.returns
 returns c = λ i. record {

@@ -70,6 +70,9 @@ fn other_bytes_are_refused(rt: HostRuntime) {
     has_fault(&rt, 22, 2, RestoreFault::Poll);
     has_fault(&rt, 32, 3, RestoreFault::Poll);
     has_fault(&rt, 44, 3, RestoreFault::Poll);
+    has_fault(&rt, 30, 1, RestoreFault::Poll);
+    has_fault(&rt, 42, 1, RestoreFault::Poll);
+    has_fault(&rt, 45, 1, RestoreFault::Poll);
     has_fault(&rt, 17, 0, RestoreFault::Form);
     has_fault(&rt, 17, 3, RestoreFault::Form);
     has_fault(&rt, 33, 0, RestoreFault::Form);
@@ -93,6 +96,11 @@ fn more_submissions_than_credits_are_refused(rt: HostRuntime) {
     bytes[..50].copy_from_slice(&with(with(POLLED_TWICE, 8, 62), 16, 3));
     holds(&rt, Host::restore(&bytes).is_ok());
     bytes[12] = 2;
+    is_refused(&rt, &bytes, RestoreFault::Outstanding);
+    // No credit is kept for commands that are answered when they arrive.
+    bytes[12] = 3;
+    holds(&rt, Host::restore(&bytes).is_ok());
+    bytes[44] = 0x21;
     is_refused(&rt, &bytes, RestoreFault::Outstanding);
 }
 
@@ -119,7 +127,7 @@ fn what_a_flipped_bit_says_is_saved_as_it_stands(rt: HostRuntime) {
             }
         }
     }
-    // Credits of 5, 6, 12, 20 and 36; each bit of the two units; of the READ each bit of its opcode byte but the one that
-    // makes an ABORT of it, and of its figure; and of the poll that 0 was told of it.
-    same(&rt, restored, 5 + 2 * 16 + 7 + 32 + 1);
+    // Credits of 5, 6, 12, 20 and 36; and of the READ each bit of its opcode byte but the one that makes an ABORT of it, and
+    // of its figure.
+    same(&rt, restored, 5 + 7 + 32);
 }

@@ -95,16 +95,26 @@ fn unit(rt: &impl Abort, number: u16) -> Unit {
     .expect(rt, "no size is zero")
 }
 
+/// A controller of four units, whose second connection has so many credits.
+pub(crate) fn controller(rt: &impl Abort, second: u32) -> Controller<Sweep> {
+    let list = [unit(rt, 0), unit(rt, 1), unit(rt, 2), unit(rt, 3)];
+    let units = Units::new(&list).ok().expect(rt, "numbers rise");
+    let config = Config::new(17, second, 512, 128, 120, 0x0113_0000_0000_0000, units)
+        .ok()
+        .expect(rt, "limits that a controller can keep");
+    Controller::new(config, Sweep)
+}
+
 impl Machine {
-    /// A machine with an RQDX3 of four units, of which the first and the third have a volume. A host may have 16 commands
-    /// outstanding. Byte k of block n of the disk is k + n.
+    /// A machine with an RQDX3 over that controller, without a second connection.
     pub fn new(rt: &impl Abort) -> Machine {
-        let list = [unit(rt, 0), unit(rt, 1), unit(rt, 2), unit(rt, 3)];
-        let units = Units::new(&list).ok().expect(rt, "numbers rise");
-        let config = Config::new(17, 0, 512, 128, 120, 0x0113_0000_0000_0000, units)
-            .ok()
-            .expect(rt, "limits that a controller can keep");
-        let mut port = Port::new(Hardware::RQDX3, 16, Controller::new(config, Sweep))
+        Machine::over(rt, controller(rt, 0))
+    }
+
+    /// A machine with an RQDX3 over such a controller, of whose units the first and the third have a volume. A host may have 16
+    /// commands outstanding. Byte k of block n of the disk is k + n.
+    pub fn over(rt: &impl Abort, controller: Controller<Sweep>) -> Machine {
+        let mut port = Port::new(Hardware::RQDX3, 16, controller)
             .ok()
             .expect(rt, "a credit more than the host's");
         holds(rt, port.volume_came(0, false).is_ok());

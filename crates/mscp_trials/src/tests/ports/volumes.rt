@@ -1,7 +1,8 @@
 // Volumes that go and come, write protection, and buffers that aren't there.
 
-use super::machine::{Machine, SLOTS};
+use super::machine::{Machine, SLOTS, controller};
 use crate::tests::checks::holds;
+use mscp_controller::Connection;
 use mscp_port::Action;
 use std::process::Abort;
 
@@ -86,4 +87,20 @@ fn refused_transfers_say_why(rt: HostRuntime) {
     ends_with(&rt, &mut machine, (2, 0x10), 2, 0, 0x0000);
     ends_with(&rt, &mut machine, (1, 0x22), 2, 0, 0x0023);
     ends_with(&rt, &mut machine, (0, 0x22), 2, 1, 0x0029);
+}
+
+/// An ONLINE of unit 0 waits on the second connection before the port is made, under the number that the host gives to its
+/// ONLINE of unit 2. What the port keeps of the host's command is the host's alone.
+#[test]
+fn the_other_connection_takes_nothing_that_is_kept(rt: HostRuntime) {
+    let mut controller = controller(&rt, 2);
+    let other = [1, 0, 0, 0, 0, 0, 0, 0, 9, 0, 0, 0];
+    holds(&rt, controller.send(Connection::Second, &other).is_ok());
+    let mut machine = Machine::over(&rt, controller);
+    machine.answer(&rt, 0x0B40, 0x8000);
+    machine.answer(&rt, 0x1080, 0x0E84);
+    machine.answer(&rt, 0x2000, 0x0000);
+    machine.port.write_sa(0x0001);
+    SLOTS.send(&rt, &mut machine, 12, &[1, 0, 0, 0, 2, 0, 0, 0, 9]);
+    machine.shows(&rt, 0x0E0C, &[0x89, 0, 0, 0]);
 }

@@ -19,4 +19,12 @@ invariant_of-self c =
     let items = ap (λ (a : Account). a.outstanding) (c.self-2.view_is ∙ after) in
     let found = sym c.oldest.ensures ∙ c.in-Some.is in
     let watch = Some (record { reference = r; polled = s.reference; is_outstanding = true }) in
-    (inv.0, inv.1, inv.2, inv.3, ap (λ (xs : List Submission). is_watched xs watch) items ∙ watched_poll r s _ found)
+    record {
+      some = inv.some;
+      few = inv.few;
+      covered = inv.covered;
+      spare = inv.spare;
+      apart = inv.apart;
+      watched = ap (λ (xs : List Submission). is_watched xs watch) items ∙ watched_poll r s _ found;
+      told = inv.told;
+    }

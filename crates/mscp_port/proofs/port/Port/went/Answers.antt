@@ -19,8 +19,14 @@ returns-in-Settle-clause-goes g c =
       blocks = λ done stepping. absurd (subst IsStepping c.in-Settle.is stepping);
       steps = λ done. subst (λ o. IfSome o (λ word. TakesStep word old new)) (sym word_is) c.settled.ensures.steps;
       still = λ none. unsettled old new (c.settled.ensures.none (sym word_is ∙ none));
-      volumes = elim c.settled.ensures.frame
-          [ inl e ↦ inl (ap (λ p. p.volumes) e) | inr dead ↦ inr (inr dead) ];
+      commands = elim c.settled.ensures.frame [
+        | inl e ↦ inl (record {
+          volumes = ap (λ p. p.volumes) e;
+          controller = ap (λ p. p.controller) e;
+          buffers = ap (λ p. p.buffers) e;
+        })
+        | inr dead ↦ inr (inr dead)
+      ];
       credits = elim c.settled.ensures.frame
           [ inl e ↦ inr (inl (ap (λ p. p.untold) e, ap (λ p. p.more) e)) | inr dead ↦ inr (inr dead) ];
       settings = c.settled.ensures.settings;

@@ -1,0 +1,217 @@
+-- A figure is told of the oldest command alone, and a credit is kept for those that are answered when they arrive.
+use Rattle.std.proofs.Common.{◌≡◌, ◌≤◌, ◌<◌, ◌+◌, ◌-◌, ℕ, suc, Bool, true, false, ◌&&◌, ◌||◌, List, [], ◌∷◌, ◌++◌, length, nat_eq, refl, ap, sym, subst, ◌∙◌, arith}
+use Rattle.std.specs.Prelude.{not, cond, Option, Some, None, is_none}
+use Rattle.std.specs.List.{list_all, list_any}
+use Rattle.std.proofs.lemmas.Bool.{and_parts, eqb-true, not-true, or_left, or_parts, false≢true}
+use Rattle.std.proofs.lemmas.List.{length-append}
+use Rattle.std.proofs.lemmas.List.Elements.{filter-append}
+use Rattle.std.proofs.lemmas.List.Folds.{list_all-append}
+use Rattle.std.proofs.lemmas.List.Sums.{count_by-le-length, length-filter}
+use Rattle.mscp_host.specs.declared.news.HostFault.{HostFault}
+use Rattle.mscp_host.specs.declared.news.HostFault.TheVariants as faults
+use Rattle.mscp_host.specs.declared.submission.Submission.{Submission}
+use Rattle.mscp_host.specs.declared.watch.Watch.{Watch}
+use Rattle.mscp_host.specs.Accounts.{Account, balance, has_reference, is_about_polled, is_immediate, polled_is_outstanding, refusal, with_told, without}
+use Rattle.mscp_host.specs.Apart.{are_apart}
+use Rattle.mscp_host.specs.Sound.{waiting}
+use Rattle.mscp_host.specs.Watched.{are_told, is_about_somebody, is_numbered, is_oldest, is_polled, is_status, is_watched, oldest_of}
+use Rattle.mscp_host.proofs.Watched.{is_oldest_told, oldest_more, oldest_without}
+
+-- ---- all pass a test
+
+all_weaker : (p q : Submission → Bool) → ((s : Submission) → p s ≡ true → q s ≡ true) → (xs : List Submission)
+    → list_all p xs ≡ true → list_all q xs ≡ true
+all_weaker p q f [] e = refl
+all_weaker p q f (s ∷ rest) e =
+    let both = and_parts (p s) (list_all p rest) e in
+    λ i. f s both.0 i && all_weaker p q f rest both.1 i
+
+all_without : (p : Submission → Bool) (r : ℕ) (xs : List Submission) → list_all p xs ≡ true
+    → list_all p (without r xs) ≡ true
+all_without p r [] e = refl
+all_without p r (s ∷ rest) e =
+    let both = and_parts (p s) (list_all p rest) e in
+    by (has_reference r s) refl both.0 both.1 (all_without p r rest both.1)
+  where
+    by : (b : Bool) → has_reference r s ≡ b → p s ≡ true → list_all p rest ≡ true
+        → list_all p (without r rest) ≡ true → list_all p (without r (s ∷ rest)) ≡ true
+    by true is one all h = rw is all
+    by false is one all h = rw is (λ i. one i && h i)
+
+all_told : (p q : Submission → Bool) (r f : ℕ) → ((s : Submission) → p s ≡ true → q s ≡ true)
+    → ((s : Submission) → has_reference r s ≡ true → q (record s { told = Some f }) ≡ true) → (xs : List Submission)
+    → list_all p xs ≡ true → list_all q (with_told r f xs) ≡ true
+all_told p q r f weaker told [] e = refl
+all_told p q r f weaker told (s ∷ rest) e =
+    let both = and_parts (p s) (list_all p rest) e in
+    by (has_reference r s) refl both.0 both.1 (all_told p q r f weaker told rest both.1)
+  where
+    by : (b : Bool) → has_reference r s ≡ b → p s ≡ true → list_all p rest ≡ true
+        → list_all q (with_told r f rest) ≡ true → list_all q (with_told r f (s ∷ rest)) ≡ true
+    by true is one all h = rw is (λ i. told s is i && all_weaker p q weaker rest all i)
+    by false is one all h = rw is (λ i. weaker s one i && h i)
+
+-- of the others none has the number of the one that left
+none_left : (r : ℕ) (xs : List Submission) → are_apart xs ≡ true
+    → list_all (λ s. not (has_reference r s)) (without r xs) ≡ true
+none_left r [] e = refl
+none_left r (s ∷ rest) e =
+    let both = and_parts (not (list_any (has_reference s.reference) rest)) (are_apart rest) e in
+    by (has_reference r s) refl (not-true (list_any (has_reference s.reference) rest) both.0) (none_left r rest both.1)
+  where
+    others : (xs : List Submission) → s.reference ≡ r → list_any (has_reference s.reference) xs ≡ false
+        → list_all (λ x. not (has_reference r x)) xs ≡ true
+    others [] same none = refl
+    others (x ∷ xs) same none =
+        let both = or_parts (has_reference s.reference x) (list_any (has_reference s.reference) xs) none in
+        λ i. not (subst (λ n. has_reference n x ≡ false) same both.0 i) && others xs same both.1 i
+
+    by : (b : Bool) → has_reference r s ≡ b → list_any (has_reference s.reference) rest ≡ false
+        → list_all (λ x. not (has_reference r x)) (without r rest) ≡ true
+        → list_all (λ x. not (has_reference r x)) (without r (s ∷ rest)) ≡ true
+    by true is none h = rw is (others rest (eqb-true s.reference r is) none)
+    by false is none h = rw is (λ i. not (is i) && h i)
+
+-- ---- figures
+
+abbrev may : List Submission → Submission → Bool
+may xs s = is_none s.told || is_oldest s.reference xs
+
+pub told_more : (s : Submission) (xs : List Submission) → s.told ≡ None → are_told xs ≡ true
+    → are_told (xs ++ s ∷ []) ≡ true
+told_more s xs none e =
+    list_all-append (may (xs ++ s ∷ [])) xs (s ∷ [])
+    ∙ (λ i. all_weaker (may xs) (may (xs ++ s ∷ [])) still xs e i
+    && (or_left (is_none s.told) (is_oldest s.reference (xs ++ s ∷ [])) (ap is_none none) i && true))
+  where
+    still : (x : Submission) → may xs x ≡ true → may (xs ++ s ∷ []) x ≡ true
+    still x h = by (is_none x.told) h
+      where
+        by : (b : Bool) → (b || is_oldest x.reference xs) ≡ true → (b || is_oldest x.reference (xs ++ s ∷ [])) ≡ true
+        by true h = refl
+        by false h = ap (is_numbered x.reference) (oldest_more s x.reference xs h) ∙ h
+
+pub told_without : (r : ℕ) (xs : List Submission) → are_apart xs ≡ true → are_told xs ≡ true
+    → are_told (without r xs) ≡ true
+told_without r xs apart e =
+    all_both (may xs) (λ s. not (has_reference r s)) (may (without r xs)) still (without r xs)
+    (all_without (may xs) r xs e) (none_left r xs apart)
+  where
+    still : (x : Submission) → may xs x ≡ true → not (has_reference r x) ≡ true → may (without r xs) x ≡ true
+    still x h other = by (is_none x.told) h
+      where
+        by : (b : Bool) → (b || is_oldest x.reference xs) ≡ true → (b || is_oldest x.reference (without r xs)) ≡ true
+        by true h = refl
+        by false h = ap (is_numbered x.reference)
+            (oldest_without r x.reference xs (not-true (has_reference r x) other) h) ∙ h
+
+    all_both : (p q t : Submission → Bool) → ((s : Submission) → p s ≡ true → q s ≡ true → t s ≡ true)
+        → (ys : List Submission) → list_all p ys ≡ true → list_all q ys ≡ true → list_all t ys ≡ true
+    all_both p q t f [] a b = refl
+    all_both p q t f (s ∷ rest) a b =
+        let one = and_parts (p s) (list_all p rest) a in
+        let two = and_parts (q s) (list_all q rest) b in
+        λ i. f s one.0 two.0 i && all_both p q t f rest one.1 two.1 i
+
+-- the figure of the command that is polled
+pub told_told : (r f : ℕ) (xs : List Submission) → is_oldest r xs ≡ true → are_told xs ≡ true
+    → are_told (with_told r f xs) ≡ true
+told_told r f xs oldest e =
+    all_told (may xs) (may (with_told r f xs)) r f
+    (λ s h. ap (λ b. is_none s.told || b) (is_oldest_told r f s.reference xs) ∙ h)
+    (λ s h. ap (λ n. is_oldest n (with_told r f xs)) (eqb-true s.reference r h) ∙ is_oldest_told r f r xs ∙ oldest)
+    xs e
+
+-- which is the oldest
+pub polled_oldest : (xs : List Submission) (watch : Option Watch) (number figure : ℕ) → is_watched xs watch ≡ true
+    → is_about_polled watch (Some (number, figure)) ≡ true → polled_is_outstanding watch ≡ true
+    → is_oldest number xs ≡ true
+polled_oldest xs None number figure watched about so = absurd (false≢true so)
+polled_oldest xs (Some w) number figure watched about so =
+    let some = (and_parts (list_any (is_status w.reference) xs) (is_about_somebody xs w) watched).1 in
+    let both : (is_oldest w.polled xs && is_polled w.reference xs (oldest_of xs)) ≡ true = rw so at some in
+    subst (λ n. is_oldest n xs ≡ true) (eqb-true w.polled number about)
+    (and_parts (is_oldest w.polled xs) (is_polled w.reference xs (oldest_of xs)) both).0
+
+-- ---- credits
+
+-- one more waits, or not
+more_waits : (b : Bool) (s : Submission) (xs ys : List Submission) → length xs ≡ length ys
+    → length (cond b (s ∷ xs) xs) ≡ length (cond b (s ∷ ys) ys)
+more_waits true s xs ys e = ap suc e
+more_waits false s xs ys e = e
+
+pub waiting_told : (r f : ℕ) (xs : List Submission) → length (waiting (with_told r f xs)) ≡ length (waiting xs)
+waiting_told r f [] = refl
+waiting_told r f (s ∷ rest) = by (has_reference r s) (waiting_told r f rest)
+  where
+    told : Submission
+    told = record s { told = Some f }
+
+    by : (b : Bool) → length (waiting (with_told r f rest)) ≡ length (waiting rest)
+        → length (waiting (cond b (told ∷ rest) (s ∷ with_told r f rest))) ≡ length (waiting (s ∷ rest))
+    by true h = either (not (is_immediate s.opcode))
+      where
+        either : (b : Bool) → length (cond b (told ∷ waiting rest) (waiting rest))
+            ≡ length (cond b (s ∷ waiting rest) (waiting rest))
+        either true = refl
+        either false = refl
+    by false h = more_waits (not (is_immediate s.opcode)) s (waiting (with_told r f rest)) (waiting rest) h
+
+no_more_wait : (b : Bool) (s : Submission) (xs ys : List Submission) → length xs ≤ length ys
+    → (length xs ≤ length (cond b (s ∷ ys) ys)) × (length (cond b (s ∷ xs) xs) ≤ length (cond b (s ∷ ys) ys))
+no_more_wait true s xs ys e = (omega (arith, e), omega (arith, e))
+no_more_wait false s xs ys e = (e, e)
+
+pub waiting_without : (r : ℕ) (xs : List Submission) → length (waiting (without r xs)) ≤ length (waiting xs)
+waiting_without r [] = let e : 0 ≤ 0 = omega arith in e
+waiting_without r (s ∷ rest) = by (has_reference r s) (waiting_without r rest)
+  where
+    waits : Bool
+    waits = not (is_immediate s.opcode)
+
+    by : (b : Bool) → length (waiting (without r rest)) ≤ length (waiting rest)
+        → length (waiting (cond b rest (s ∷ without r rest))) ≤ length (waiting (s ∷ rest))
+    by true h = (no_more_wait waits s (waiting rest) (waiting rest) (omega arith)).0
+    by false h = (no_more_wait waits s (waiting (without r rest)) (waiting rest) h).1
+
+-- no more wait than were sent
+waiting_few : (xs : List Submission) → length (waiting xs) ≤ length xs
+waiting_few xs = subst (λ n. n ≤ length xs) (sym (length-filter (λ s. not (is_immediate s.opcode)) xs))
+    (count_by-le-length (λ s. not (is_immediate s.opcode)) xs)
+
+-- one that waits leaves a credit
+pub spare_more : (s : Submission) (xs : List Submission) (credits : ℕ)
+    → (is_immediate s.opcode ≡ false → 2 ≤ credits - length xs) → length (waiting xs) < credits
+    → length (waiting (xs ++ s ∷ [])) < credits
+spare_more s xs credits spare less =
+    subst (λ (l : List Submission). length l < credits)
+    (sym (filter-append (λ s. not (is_immediate s.opcode)) xs (s ∷ [])))
+    (by (is_immediate s.opcode) refl)
+  where
+    by : (b : Bool) → is_immediate s.opcode ≡ b → length (waiting xs ++ cond (not b) (s ∷ []) []) < credits
+    by true e = let long = length-append (waiting xs) [] in omega (arith, less, long)
+    by false e =
+        let long = length-append (waiting xs) (s ∷ []) in
+        let few = waiting_few xs in
+        let free = spare e in
+        omega (arith, few, free, long)
+
+-- a command that isn't refused leaves one
+pub not_refused : (a : Account) (opcode reference : ℕ) → refusal a opcode reference ≡ None
+    → (1 ≤ balance a) × (is_immediate opcode ≡ false → 2 ≤ balance a)
+    × (list_any (has_reference reference) a.outstanding ≡ false)
+not_refused a opcode reference e =
+    by (nat_eq (balance a) 0) (nat_eq (balance a) 1) (is_immediate opcode)
+    (list_any (has_reference reference) a.outstanding) refl refl e
+  where
+    by : (none one now held : Bool) → nat_eq (balance a) 0 ≡ none → nat_eq (balance a) 1 ≡ one
+        → cond none (Some faults.NoCredit) (cond (one && not now) (Some faults.LastCredit)
+        (cond held (Some faults.Doubled) None)) ≡ None
+        → (1 ≤ balance a) × (now ≡ false → 2 ≤ balance a) × (held ≡ false)
+    by true one now held z o h = absurd (false≢true (ap is_none h))
+    by false true false held z o h = absurd (false≢true (ap is_none h))
+    by false true true true z o h = absurd (false≢true (ap is_none h))
+    by false false now true z o h = absurd (false≢true (ap is_none h))
+    by false true true false z o h = (grind arith, λ no. absurd (false≢true (sym no)), refl)
+    by false false now false z o h = (grind arith, λ no. grind arith, refl)

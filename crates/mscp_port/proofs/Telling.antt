@@ -1,0 +1,150 @@
+-- What is kept of a command whose end comes was said by a message to the unit that the end names.
+use Rattle.std.proofs.Common.{◌≡◌, ◌≢◌, ◌⊎◌, ◌∙◌, ℕ, Bool, true, List, [], ◌∷◌, Option, None, Some, Contains, IfSome, inl, inr, refl, ap, sym, subst}
+use Rattle.std.specs.Prelude.{Result, Ok, Err, OnErr}
+use Rattle.std.specs.List.{position}
+use Rattle.std.proofs.lemmas.List.Elements.{All-get_or}
+use Rattle.mscp_packet.specs.declared.end.End.{End}
+use Rattle.mscp_events.specs.declared.connection.Connection.{Connection}
+use Rattle.mscp_events.specs.declared.connection.Connection.TheVariants.{First}
+use Rattle.mscp_queue.specs.declared.name.Name.{Name}
+use Rattle.mscp_queue.specs.Names.{name_on}
+use Rattle.mscp_queue.specs.Records.{Record, name_of, no_record, record_at}
+use Rattle.mscp_queue.proofs.Named.{is_same}
+use Rattle.mscp_controller.specs.Holdings.{Holdings}
+use Rattle.mscp_port.specs.declared.action.Unasked.{Unasked}
+use Rattle.mscp_port.specs.declared.buffers.Buffer.{Buffer}
+use Rattle.mscp_port.specs.declared.hardware.Hardware.{Hardware}
+use Rattle.mscp_port.specs.declared.port.Port.{Port}
+use Rattle.mscp_port.specs.declared.task.Task.{Task}
+use Rattle.mscp_port.specs.declared.task.Task.TheVariants as tasks
+use Rattle.mscp_port.specs.Blocks.{kept_of}
+use Rattle.mscp_port.specs.Buffers.{is_of}
+use Rattle.mscp_port.specs.Calls.{Dies, Hears, IsMadeOf}
+use Rattle.mscp_port.specs.Histories.{Answered, Becomes, Call, WriteIp, ReadIp, WriteSa, Next, WasRead, Went, LookAgain, Tick, Change}
+use Rattle.mscp_port.specs.Kept.{WasSaid}
+use Rattle.mscp_port.specs.Mounted.{Ends}
+use Rattle.mscp_port.specs.Outgoings.{Says}
+use Rattle.mscp_port.specs.Ports.{IsReadingText}
+use Rattle.mscp_port.proofs.Kept.{IsTo, is_numbered}
+use Rattle.mscp_port.proofs.Loads.{looks_or_not}
+use Rattle.mscp_port.proofs.Said.{IsOf, Keeps, More, ended_of, goes_on_keeps, keeps_none, keeps_same, kept_found, more, of_first}
+use Rattle.mscp_port.proofs.Texts.{text_keeps}
+
+-- ---- calls
+
+still_waits : {K : Type 0} (old new : Port K) → Says old new → new.controller.waiting ≡ old.controller.waiting
+still_waits old new says = elim (looks_or_not old) [
+  | inr still ↦ ap (λ h. h.waiting) (says.keeps still).controller
+  | inl looks ↦ elim (says.looks looks) [
+    | inl takes ↦ ap (λ h. h.waiting) takes.controller
+    | inr tells ↦ ap (λ h. h.waiting) tells.controller
+  ]
+]
+
+module _ {K : Type 0} (said : ℕ → Buffer → Type 0) (old new : Port K) (k : Keeps said old) where
+  same : new ≡ old → Keeps said new
+  same e = keeps_same said old new (λ b there. subst (λ (p : Port K). Contains p.buffers.items b) e there)
+      (ap (λ (p : Port K). p.controller.waiting) e) k
+
+  dies : Dies old new → Keeps said new
+  dies d = keeps_none said new d.1.buffers
+
+  -- a frame in which neither changes
+  framed : new.buffers ≡ old.buffers → new.controller ≡ old.controller → Keeps said new
+  framed buffers controller =
+      keeps_same said old new (λ b there. subst (λ bs. Contains bs b) (ap (λ x. x.items) buffers) there)
+      (ap (λ (h : Holdings K). h.waiting) controller) k
+
+is_text : (t : Task) → (IsReadingText t → ⊥) ⊎ IsReadingText t
+is_text (tasks.Text slot size foreign) = inr tt
+is_text t = inl (λ h. h)
+
+text_heard : {K : Type 0} (said : ℕ → Buffer → Type 0) (bytes : List ℕ) (result : Result Unit Unasked)
+    (old new : Port K) (t : Task) → old.task ≡ t → Hears bytes old result new → Keeps said old
+    → Keeps (More (WasRead bytes result) old said) new
+text_heard said bytes (Err unasked) old new t at r k =
+    more said (WasRead bytes (Err unasked)) old new (same said old new k r.unasked)
+text_heard said bytes (Ok done) old new (tasks.Text slot size foreign) at r k =
+    text_keeps said bytes (Ok done) old new slot size foreign at r refl k
+text_heard said bytes (Ok done) old new t at r k =
+    let no : IsReadingText old.task → ⊥ = λ h. subst (λ x. IsReadingText x) at h in
+    more said (WasRead bytes (Ok done)) old new (elim (r.nothing_else no) [
+      | inl e ↦ keeps_same said old new (λ b there. elim (r.learns.buffers b there) [
+        | inl before ↦ before
+        | inr read ↦ absurd (no read.0)
+      ]) (ap (λ (h : Holdings _). h.waiting) e) k
+      | inr d ↦ dies said old new k d
+    ])
+
+keeps_after : {K : Type 0} (said : ℕ → Buffer → Type 0) (call : Call) (old new : Port K) → Becomes call old new
+    → Keeps said old → Keeps (More call old said) new
+keeps_after said WriteIp old new r k = more said WriteIp old new (keeps_none said new r.buffers)
+keeps_after said ReadIp old new r k = more said ReadIp old new (elim r.frame [
+  | inl e ↦ framed said old new k (ap (λ (p : Port _). p.buffers) e) (ap (λ (p : Port _). p.controller) e)
+  | inr d ↦ dies said old new k d
+])
+keeps_after said (WriteSa word) old new r k = more said (WriteSa word) old new (elim r.frame [
+  | inl e ↦ framed said old new k (ap (λ (p : Port _). p.buffers) e) (ap (λ (p : Port _). p.controller) e)
+  | inr d ↦ dies said old new k d
+])
+keeps_after said (Next action) old new r k = more said (Next action) old new
+    (keeps_same said old new
+    (λ b there. subst (λ bs. Contains bs b) (ap (λ (p : Port _). p.buffers.items) r.frame) there)
+    (still_waits old new r.says) k)
+keeps_after said (WasRead bytes result) old new r k = text_heard said bytes result old new old.task refl r k
+keeps_after said (Went outcome result) old new r k = more said (Went outcome result) old new (elim r.commands [
+  | inl e ↦ framed said old new k e.buffers e.controller
+  | inr rest ↦ elim rest [ inl goes ↦ goes_on_keeps said old new goes k | inr d ↦ dies said old new k d ]
+])
+keeps_after said LookAgain old new r k = more said LookAgain old new
+    (framed said old new k (ap (λ (p : Port _). p.buffers) r) (ap (λ (p : Port _). p.controller) r))
+keeps_after said Tick old new r k = more said Tick old new (elim r.either [
+  | inl e ↦ framed said old new k (ap (λ (p : Port _). p.buffers) e) (ap (λ (p : Port _). p.controller) e)
+  | inr new_is ↦ keeps_none said new new_is.buffers
+])
+keeps_after said (Change there protected unit result) old new r k =
+    more said (Change there protected unit result) old new
+    (framed said old new k (ap (λ (p : Port _). p.buffers) r.frame) (ap (λ (p : Port _). p.controller) r.frame))
+
+-- ---- the law
+
+kept_was_said : {K : Type 0} (hardware : Hardware) (credits : ℕ) (controller : Holdings K) (start p : Port K)
+    (calls : List Call) → IsMadeOf hardware credits controller start → (a : Answered start calls p)
+    → Keeps (λ unit b. WasSaid b.reference unit start p calls a b) p
+kept_was_said hardware credits controller start p [] made a =
+    keeps_none (λ unit b. WasSaid b.reference unit start p [] a b) p
+    (ap (λ (q : Port _). q.buffers.items) a ∙ made.buffers)
+kept_was_said hardware credits controller start p (call ∷ calls) made a =
+    keeps_after (λ unit b. WasSaid b.reference unit start a.0 calls a.1 b) call a.0 p a.2
+    (kept_was_said hardware credits controller start a.0 calls made a.1)
+
+pub keeps_what_was_said : {K : Type 0} (hardware : Hardware) (credits : ℕ) (controller : Holdings K) (start p : Port K)
+    (call : Call) (calls : List Call) (place : ℕ) (via : Connection) (e : End)
+    → IsMadeOf hardware credits controller start → (a : Answered start (call ∷ calls) p) → Ends place a.0 p via e
+    → IfSome (kept_of via e.reference a.0.buffers.items) (λ b. WasSaid e.reference e.unit start a.0 calls a.1 b)
+keeps_what_was_said {K} hardware credits controller start p call calls place via e made a end =
+    by (kept_of via e.reference a.0.buffers.items) refl
+  where
+    old : Port K
+    old = a.0
+
+    by : (o : Option Buffer) → kept_of via e.reference old.buffers.items ≡ o
+        → IfSome o (λ b. WasSaid e.reference e.unit start a.0 calls a.1 b)
+    by None h = tt
+    by (Some b) h =
+        let rs = old.controller.waiting in
+        let found = kept_found (is_of via e.reference) old.buffers.items b
+        (position (is_of via e.reference) old.buffers.items) refl h in
+        let first = of_first via e.reference b found.1 in
+        let is = kept_was_said hardware credits controller start a.0 calls made a.1 b found.0 in
+        let step = end.step in
+        let of_end = ended_of via step.0 step.1 old.controller p.controller step.2 e step.3 step.4 in
+        let r = record_at rs of_end.place in
+        let name : name_of r ≡ name_on First b.reference =
+        ap (λ c. name_on c r.command.reference) (of_end.connection ∙ first.0)
+        ∙ ap (name_on First) (sym of_end.reference ∙ sym first.1) in
+        let units : WasSaid b.reference r.command.unit start a.0 calls a.1 b =
+        All-get_or (IsTo (λ unit. WasSaid b.reference unit start a.0 calls a.1 b) b.reference) rs of_end.place no_record
+        of_end.inside is.units (is_same (name_of r) (name_on First b.reference) name) in
+        subst (λ n. WasSaid n e.unit start a.0 calls a.1 b) first.1
+        (subst (λ u. WasSaid b.reference u start a.0 calls a.1 b) (sym of_end.unit) units)
