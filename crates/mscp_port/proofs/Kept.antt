@@ -15,7 +15,7 @@ use Rattle.mscp_events.specs.declared.connection.Connection.TheVariants.{First, 
 use Rattle.mscp_queue.specs.declared.drive.Drive.{Drive}
 use Rattle.mscp_queue.specs.declared.name.Name.{Name}
 use Rattle.mscp_queue.specs.Names.{name_on, same_connection}
-use Rattle.mscp_queue.specs.Records.{Record, advanced, has_name, no_record, passed_by, record_at, remains, step_toll, without}
+use Rattle.mscp_queue.specs.Records.{Record, advanced, has_name, no_record, passed_by, record_at, remains, step_charge, without}
 use Rattle.mscp_queue.specs.Serving.{end_given, waiting_after}
 
 -- ---- the commands that wait
@@ -67,7 +67,7 @@ pub served_for : (P : ℕ → Type 0) (n : ℕ) (k : Block) (d : Drive) (rs : Li
 served_for P n k d rs place inside stays is =
     let r = record_at rs place in
     let o = end_given k d r in
-    let t = step_toll r in
+    let t = step_charge r in
     let f = is_numbered n in
     let split : list_any f rs ≡ (list_any f (take place rs) || (f r || list_any f (drop (place + 1) rs))) =
     ap (list_any f) (sym (take-append-drop place rs))

@@ -179,11 +179,11 @@ fn is_free(one: &Record, front: &[Record]) -> bool
 fn is_affordable(budget: u32, one: &Record, front: &[Record]) -> bool
     ensures { result ≡ is_affordable budget one.now front.now }
 {
-    let toll = u64::from(one.weight());
+    let charge = u64::from(one.weight());
     let budget = u64::from(budget);
     front
         .iter()
-        .all(|earlier| u64::from(earlier.passed()) + toll <= budget)
+        .all(|earlier| u64::from(earlier.passed()) + charge <= budget)
 }
 
 /// Whether the command behind those in front of it may start, where nothing is in service.

@@ -15,7 +15,7 @@ use Rattle.mscp_queue.specs.declared.drive.Drive.{Drive}
 use Rattle.mscp_queue.specs.declared.view.Choice.{Choice}
 use Rattle.mscp_queue.specs.Lines.{Line}
 use Rattle.mscp_queue.specs.Outcomes.{goes_on, outcome_at}
-use Rattle.mscp_queue.specs.Records.{Record, advanced, drive_at, left_of, no_record, passed_by, record_at, remains, step_toll}
+use Rattle.mscp_queue.specs.Records.{Record, advanced, drive_at, left_of, no_record, passed_by, record_at, remains, step_charge}
 use Rattle.mscp_queue.specs.Serving.{end_given, waiting_after}
 use Rattle.mscp_queue.proofs.Placed.{cut_at}
 use Rattle.mscp_controller.specs.Holdings.{Holdings, Steps, ends_after, ends_reported, waiting_on}
@@ -70,8 +70,8 @@ commands_after via k d rs place =
     let r = record_at rs place in
     let front = take place rs in
     let back = drop (place + 1) rs in
-    on_append via (map (passed_by (step_toll r)) front) (remains r (end_given k d r) ++ back)
-    ∙ (λ i. commands_passed via (step_toll r) front i ++ on_append via (remains r (end_given k d r)) back i)
+    on_append via (map (passed_by (step_charge r)) front) (remains r (end_given k d r) ++ back)
+    ∙ (λ i. commands_passed via (step_charge r) front i ++ on_append via (remains r (end_given k d r)) back i)
 
 -- a step serves the record at a place, which had this end, if it had one: what is left, and the ends then
 record Leaves {K : Type 0} (via : Connection) (h h' : Holdings K) (k : Block) (d : Drive) (place : ℕ) (o : Option End) :
