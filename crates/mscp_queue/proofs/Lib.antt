@@ -36,5 +36,6 @@ pub mod Drives
 pub mod Starting
 pub mod Ready
 pub mod CandidateLists
+pub mod CandidateCosts
 pub mod Stepping
 pub mod Restored

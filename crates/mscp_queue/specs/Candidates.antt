@@ -1,20 +1,5 @@
 -- What a queue keeps of its waiting commands for a picker, from start to start.
-use Rattle.std.specs.Prelude.{
-  ◌≡◌,
-  ℕ,
-  ◌<◌,
-  ◌≤◌,
-  ◌==◌,
-  Bool,
-  if◌then◌else◌,
-  List,
-  Option,
-  length,
-  map,
-  nat_eq,
-  slice_index_or,
-  All,
-}
+use Rattle.std.specs.Prelude.{◌≡◌, ℕ, ◌<◌, ◌≤◌, ◌==◌, Bool, if◌then◌else◌, List, Option, length, map, nat_eq, slice_index_or, All}
 use Rattle.std.specs.Int.{bit_at}
 use Rattle.mscp_packet.specs.declared.class.Class.TheVariants.{Unknown}
 use Rattle.mscp_drive.specs.Heads.{sweep_cost}

@@ -6,7 +6,7 @@ use Rattle.mscp_queue.specs.declared.drive.Drive.{Drive}
 use Rattle.mscp_queue.specs.declared.view.Choice.{Choice}
 use Rattle.mscp_queue.specs.Records.{Record, drive_at, record_at}
 use Rattle.mscp_queue.specs.Views.{AllMayStart, choice_of, choices_at, open_places, view_of}
-use Rattle.mscp_queue.proofs.CandidateLists.{all_choices, candidates_of}
+use Rattle.mscp_queue.proofs.CandidateCosts.{all_choices, candidates_of}
 use Rattle.mscp_queue.proofs.Starting.{places_inside, some_place}
 use Rattle.mscp_queue.proofs.start.picked_place.Goals as goal
 

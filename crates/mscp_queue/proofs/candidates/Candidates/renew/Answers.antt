@@ -1,4 +1,4 @@
-use Rattle.mscp_queue.proofs.CandidateLists.{all_on_drive, recosted_renewed}
+use Rattle.mscp_queue.proofs.CandidateCosts.{all_on_drive, recosted_renewed}
 use Rattle.mscp_queue.proofs.candidates.Candidates.renew.Goals as goal
 
 pub renew-requires-clause-to : goal.renew-requires-clause-to

@@ -10,7 +10,8 @@ use Rattle.mscp_queue.specs.Records.{Record, has_name}
 use Rattle.mscp_queue.specs.Waiters.{Waiters}
 use Rattle.mscp_queue.specs.declared.drive.Drive.{Drive}
 use Rattle.mscp_queue.specs.declared.view.Choice.{Choice}
-use Rattle.mscp_queue.proofs.CandidateLists.{candidates_of, place_of}
+use Rattle.mscp_queue.proofs.CandidateCosts.{candidates_of}
+use Rattle.mscp_queue.proofs.CandidateLists.{place_of}
 use Rattle.mscp_queue.proofs.Restored.{begun_back, ready_restored}
 use Rattle.mscp_queue.proofs.queue.Queue.restore.Goals as goal
 
