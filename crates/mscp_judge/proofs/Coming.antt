@@ -141,10 +141,10 @@ settled c log judge s q =
 pub asked_one : {A B : Type 0} (r : Result B OutOfMemory) (old new : Judge A) (name : Option Named) (event : Event)
     → is_step event ≡ false → IsSettled old → OnOk r (Came name old new event) → new.owed ≡ old.owed
     → OnOk r ((c : Settings) (log : Log) → Stands c log old
-    → Stands c (asking log (event ∷ []) (log.events ++ event ∷ [])) new)
+    → Stands c (asking log (event ∷ [])) new)
 asked_one {A} (Ok x) old new name event o q came w =
     λ c log s.
-    let marks = marked (asking log (event ∷ []) (log.events ++ event ∷ [])) in
+    let marks = marked (asking log (event ∷ [])) in
     let none : new.owed ≡ 0 = w ∙ q.answered in
     let totals = totals_of c new in
     let counted : Counted c marks new.controller (entry_lines came.entry) [] [] totals =
@@ -172,10 +172,10 @@ same_totals c old new r p = λ i. record {
 pub asked_steps : {A : Type 0} (old new : Judge A) (n : ℕ) (k : Block) → IsSettled old
     → new.controller ≡ old.controller → new.reporter ≡ old.reporter → new.peaks ≡ old.peaks → new.told ≡ old.told
     → new.owed ≡ n → new.block ≡ k → (c : Settings) (log : Log) → Stands c log old
-    → Stands c (asking log (replicate n (events.Step k)) (log.events ++ replicate n (events.Step k))) new
+    → Stands c (asking log (replicate n (events.Step k))) new
 asked_steps {A} old new n k q h r p t w b c log s =
     let es = replicate n (events.Step k) in
-    let marks = marked (asking log es (log.events ++ es)) in
+    let marks = marked (asking log es) in
     let none : due new ≡ [] = ap (λ (p : Reported). drop new.told p.lines) r
     ∙ (ap (λ i. drop i old.reporter.lines) t ∙ q.told) in
     let same : es ≡ owed new = λ i. replicate (sym w i) (events.Step (sym b i)) in
@@ -199,10 +199,10 @@ asked_steps {A} old new n k q h r p t w b c log s =
     }
 
 -- a line asks, and something is due or missing
-pub too_early : {A : Type 0} (c : Settings) (log : Log) (judge : Judge A) (es all : List Event) → Stands c log judge
-    → ¬ (IsSettled judge) → ¬ (MayGoOn c (asking log es all).marks)
-too_early {A} c log judge es all s not_it g =
-    let p = goes_on c (asking log es all).marks g in
+pub too_early : {A : Type 0} (c : Settings) (log : Log) (judge : Judge A) (es : List Event) → Stands c log judge
+    → ¬ (IsSettled judge) → ¬ (MayGoOn c (asking log es).marks)
+too_early {A} c log judge es s not_it g =
+    let p = goes_on c (asking log es).marks g in
     let more = Asked es ∷ p.0 in
     let e = sym (append_assoc (marked log) (Asked es ∷ []) p.0) ∙ p.3 in
     let none = all_told c (marked log) judge.controller (due judge) (owed judge) s.counted.stood p.1 more p.2 e refl in

@@ -6,10 +6,8 @@ use Rattle.mscp_events.specs.declared.event.Event.{Event}
 use Rattle.mscp_packet.specs.Steps.{◌>>=◌}
 use Rattle.mscp_text.specs.Lines.{line}
 use Rattle.mscp_reader.specs.Lexical.{lines}
-use Rattle.mscp_reader.specs.Requests.{events_of, request}
-use Rattle.mscp_reader.specs.Grammar.{Place, Begins, HasBudget, HasCredits, HasGone, HasLongest, HasPassing, HasTimeout, HasUnits, more_events, said_at}
+use Rattle.mscp_reader.specs.Grammar.{Place, Begins, HasBudget, HasCredits, HasGone, HasLongest, HasPassing, HasTimeout, HasUnits, asked_after, said_at}
 use Rattle.mscp_reader.specs.Outcome.{headed}
-use Rattle.mscp_reader.specs.declared.events.Request.{Request}
 use Rattle.mscp_reader.specs.declared.fault.Cause.{Cause}
 use Rattle.mscp_reader.specs.declared.fault.ScriptFault.{ScriptFault}
 use Rattle.mscp_reader.specs.declared.fault.ReadFault.{ReadFault}
@@ -26,15 +24,8 @@ abbrev Grown : Log → Result Log Cause → Type 0
 Grown log (Ok next) = (more : List Mark) × (next.marks ≡ log.marks ++ more)
 Grown log (Err cause) = Unit {0}
 
-grown_all : (log : Log) (asked : Request) (all : Result (List Event) Cause)
-    → Grown log (all >>= λ es. Ok (asking log (events_of asked) es))
-grown_all log asked (Ok es) = (Asked (events_of asked) ∷ [], refl)
-grown_all log asked (Err cause) = tt
-
-grown_request : (log : Log) (r : Result Request Cause)
-    → Grown log (r >>= λ asked. more_events log.events (events_of asked)
-    >>= λ all. Ok (asking log (events_of asked) all))
-grown_request log (Ok asked) = grown_all log asked (more_events log.events (events_of asked))
+grown_request : (log : Log) (r : Result (List Event) Cause) → Grown log (r >>= λ new. Ok (asking log new))
+grown_request log (Ok new) = (Asked new ∷ [], refl)
 grown_request log (Err cause) = tt
 
 grown_words : (log : Log) (bytes : List ℕ) (words : List (List ℕ)) → Grown log (after_words log bytes words)
@@ -43,7 +34,7 @@ grown_words log bytes (word ∷ rest) =
     elim (is_answer (word ∷ rest)) as (λ b. Grown log (if b then Ok (telling log (line bytes))
     else after_request log (word ∷ rest))) [
       | true ↦ (told (line bytes), refl)
-      | false ↦ grown_request log (request (word ∷ rest))
+      | false ↦ grown_request log (asked_after (length log.events) (word ∷ rest))
     ]
 
 grown_said : (log : Log) (bytes : List ℕ) (r : Result (List (List ℕ)) Cause) → Grown log (r >>= after_words log bytes)

@@ -1,13 +1,11 @@
 -- What comes of a line of a log, where hosts hear it.
-use Rattle.std.proofs.Common.{◌≡◌, ◌≢◌, ℕ, zero, suc, ◌+◌, ◌<◌, ◌≤◌, Bool, true, false, List, [], ◌∷◌, ◌++◌, length, refl, ap, sym, ◌∙◌, arith}
+use Rattle.std.proofs.Common.{◌≡◌, ◌≢◌, ℕ, zero, suc, ◌+◌, ◌<◌, ◌≤◌, Bool, true, false, List, [], ◌∷◌, length, refl, ap, sym, ◌∙◌, arith}
 use Rattle.std.specs.Result.{result_ok}
-use Rattle.std.specs.Prelude.{◌↔◌, nat_le, nat_lt, if◌then◌else◌, IfOk, Option, Some, None, Result, Ok, Err, replicate}
-use Rattle.std.proofs.lemmas.List.{append_cancel_left}
+use Rattle.std.specs.Prelude.{◌↔◌, nat_lt, if◌then◌else◌, IfOk, Option, Some, None, Result, Ok, Err, replicate}
 use Rattle.mscp_packet.specs.Commands.{IsCommand, command_of}
 use Rattle.mscp_packet.specs.declared.command.Command.{Command}
 use Rattle.mscp_packet.specs.declared.reading.PacketFault.{PacketFault}
 use Rattle.mscp_packet.specs.declared.reading.PacketFault.TheVariants as sizes
-use Rattle.mscp_events.specs.Settings.{Settings}
 use Rattle.mscp_events.specs.Both.{Both}
 use Rattle.mscp_events.specs.declared.event.Event.{Event}
 use Rattle.mscp_events.specs.declared.event.Event.TheVariants as events
@@ -16,17 +14,15 @@ use Rattle.mscp_host.specs.Accounts.{Account}
 use Rattle.mscp_packet.specs.Steps.{◌>>=◌}
 use Rattle.mscp_events.specs.declared.block.Block.{Block}
 use Rattle.mscp_reader.specs.Lexical.{lines}
-use Rattle.mscp_reader.specs.Requests.{events_of, request}
-use Rattle.mscp_reader.specs.Grammar.{Begins, HasGone, Place, more_events, next, said_at}
+use Rattle.mscp_reader.specs.Grammar.{Begins, Place, asked_after, said_at}
 use Rattle.mscp_reader.specs.Outcome.{Fails, headed, in_line}
-use Rattle.mscp_reader.specs.declared.events.Request.{Request}
-use Rattle.mscp_reader.specs.declared.fault.Cause.{Cause}
 use Rattle.mscp_reader.specs.declared.fault.Cause.TheVariants as causes
 use Rattle.mscp_reader.specs.declared.fault.ReadFault.{ReadFault}
 use Rattle.mscp_reader.specs.declared.fault.ReadFault.TheVariants as reads
 use Rattle.mscp_reader.specs.declared.fault.ScriptFault.{ScriptFault}
 use Rattle.mscp_judge.specs.Logs.{is_answer}
 use Rattle.mscp_judge.specs.Heard.{FailsLine, Heard, after_answer, after_line, after_lines, after_request, after_words, asking, command_in, heard_behind, heard_log, hosts_after_all}
+use Rattle.mscp_reader.proofs.Outcomes.{from_ok}
 use Rattle.mscp_judge.proofs.Reading.{in_err}
 
 -- ---- a message
@@ -61,25 +57,11 @@ steps_send hosts block (suc count) = steps_send hosts block count
 
 -- ---- a line
 
--- both steps gave a value
-bound : {A B E : Type 0} (r : Result A E) (f : A → Result B E) (y : B) → (r >>= f) ≡ Ok y
-    → (x : A) × (r ≡ Ok x) × (f x ≡ Ok y)
-bound (Ok x) f y e = (x, refl, e)
-bound (Err fault) f y e = cc
-
-events_at : List Event → Place → List Event
-events_at default (HasGone settings events) = events
-events_at default place = default
-
-in_ok : {A : Type 0} (n : ℕ) (r : Result A Cause) (x : A) → in_line n r ≡ Ok x → r ≡ Ok x
-in_ok n (Ok y) x e = cc
-in_ok n (Err cause) x e = cc
-
 -- a line that is skipped
 pub skipped : (n : ℕ) (h : Heard) (bytes : List ℕ) (ws : List (List ℕ)) → in_line n (said_at n bytes) ≡ Ok ws
     → ws ≡ [] → after_line n h bytes ≡ Ok h
 unfolding after_line
-skipped n h bytes ws e none = ap (λ r. r >>= after_words n h) (in_ok n (said_at n bytes) ws e ∙ ap Ok none)
+skipped n h bytes ws e none = ap (λ r. r >>= after_words n h) (from_ok n (said_at n bytes) ws e ∙ ap Ok none)
 
 -- a line that is wrong by itself
 pub wrong_words : (n : ℕ) (h : Heard) (bytes : List ℕ) (fault : ScriptFault) → in_line n (said_at n bytes) ≡ Err fault
@@ -99,70 +81,28 @@ pub answers : (n : ℕ) (h : Heard) (bytes : List ℕ) (ws : List (List ℕ)) �
     → ws ≢ [] → is_answer ws ≡ true → after_line n h bytes ≡ Ok (after_answer n h ws)
 unfolding after_line
 answers n h bytes ws e some a =
-    ap (λ r. r >>= after_words n h) (in_ok n (said_at n bytes) ws e) ∙ worded n h ws true a some
+    ap (λ r. r >>= after_words n h) (from_ok n (said_at n bytes) ws e) ∙ worded n h ws true a some
 
-more_is : (events new all : List Event) → more_events events new ≡ Ok all → all ≡ events ++ new
-more_is events new all e = at (nat_le (length events + length new) 1000000) e
-  where
-    at : (b : Bool) → (if b then Ok (events ++ new) else Err causes.Events) ≡ Ok all → all ≡ events ++ new
-    at true f = let same : events ++ new ≡ all = cc in sym same
-    at false f = cc
-
-asked_so : (h : Heard) (ws : List (List ℕ)) (s : Settings) (new : List Event)
-    → next (HasGone s h.events) ws ≡ Ok (HasGone s (h.events ++ new))
-    → after_request h ws ≡ Ok (asking h new (h.events ++ new))
-unfolding next bound events_at
-asked_so h ws s new e =
-    let k = bound (request ws)
-    (λ asked. more_events h.events (events_of asked) >>= λ all. Ok (HasGone s all))
-    (HasGone s (h.events ++ new)) e in
-    let asked = k.0 in
-    let j = bound (more_events h.events (events_of asked)) (λ all. Ok (HasGone s all))
-    (HasGone s (h.events ++ new)) k.2 in
-    let gone : HasGone s j.0 ≡ HasGone s (h.events ++ new) = cc in
-    let all : j.0 ≡ h.events ++ new = ap (events_at h.events) gone in
-    let same = append_cancel_left h.events (events_of asked) new
-    (sym (more_is h.events (events_of asked) j.0 j.1) ∙ all) in
-    ap (λ r. r >>= λ x. more_events h.events (events_of x) >>= λ all. Ok (asking h (events_of x) all)) k.1
-    ∙ (ap (λ r. r >>= λ all. Ok (asking h (events_of asked) all)) j.1
-    ∙ (λ i. Ok (asking h (same i) (all i))))
-
-more_wrong : {A B : Type 0} (r : Result (List Event) Cause) (f : List Event → A) (g : List Event → B) (cause : Cause)
-    → (r >>= λ all. Ok (f all)) ≡ Err cause → (r >>= λ all. Ok (g all)) ≡ Err cause
-more_wrong (Ok all) f g cause e = cc
-more_wrong (Err other) f g cause e = let same : other ≡ cause = cc in ap Err same
-
-asked_wrong : (h : Heard) (ws : List (List ℕ)) (s : Settings) (cause : Cause)
-    → next (HasGone s h.events) ws ≡ Err cause → after_request h ws ≡ Err cause
-unfolding next
-asked_wrong h ws s cause e = at (request ws) e
-  where
-    at : (r : Result Request Cause)
-        → (r >>= λ x. more_events h.events (events_of x) >>= λ all. Ok (HasGone s all)) ≡ Err cause
-        → (r >>= λ x. more_events h.events (events_of x) >>= λ all. Ok (asking h (events_of x) all)) ≡ Err cause
-    at (Ok x) f = more_wrong (more_events h.events (events_of x)) (λ all. HasGone s all)
-        (λ all. asking h (events_of x) all) cause f
-    at (Err other) f = let same : other ≡ cause = cc in ap Err same
-
--- a line that asks for events
-pub asks : (n : ℕ) (h : Heard) (bytes : List ℕ) (ws : List (List ℕ)) (s : Settings) (new : List Event)
-    → in_line n (said_at n bytes) ≡ Ok ws → ws ≢ [] → is_answer ws ≡ false
-    → in_line n (next (HasGone s h.events) ws) ≡ Ok (HasGone s (h.events ++ new))
-    → after_line n h bytes ≡ Ok (asking h new (h.events ++ new))
+-- a line that asks for events, where so many came before
+pub asks : (n count : ℕ) (h : Heard) (bytes : List ℕ) (ws : List (List ℕ)) (new : List Event)
+    → length h.events ≡ count → in_line n (said_at n bytes) ≡ Ok ws → ws ≢ [] → is_answer ws ≡ false
+    → in_line n (asked_after count ws) ≡ Ok new → after_line n h bytes ≡ Ok (asking h new)
 unfolding after_line
-asks n h bytes ws s new e some a f = ap (λ r. r >>= after_words n h) (in_ok n (said_at n bytes) ws e)
-    ∙ (worded n h ws false a some ∙ asked_so h ws s new (in_ok n (next (HasGone s h.events) ws) _ f))
+asks n count h bytes ws new c e some a f =
+    ap (λ r. r >>= after_words n h) (from_ok n (said_at n bytes) ws e)
+    ∙ (worded n h ws false a some
+    ∙ ap (λ r. r >>= λ x. Ok (asking h x)) (ap (λ k. asked_after k ws) c ∙ from_ok n (asked_after count ws) new f))
 
-pub asks_wrong : (n : ℕ) (h : Heard) (bytes : List ℕ) (ws : List (List ℕ)) (s : Settings) (fault : ScriptFault)
-    → in_line n (said_at n bytes) ≡ Ok ws → ws ≢ [] → is_answer ws ≡ false
-    → in_line n (next (HasGone s h.events) ws) ≡ Err fault
-    → (fault.line ≡ n) × (after_line n h bytes ≡ Err fault.cause)
+pub asks_wrong : (n count : ℕ) (h : Heard) (bytes : List ℕ) (ws : List (List ℕ)) (fault : ScriptFault)
+    → length h.events ≡ count → in_line n (said_at n bytes) ≡ Ok ws → ws ≢ [] → is_answer ws ≡ false
+    → in_line n (asked_after count ws) ≡ Err fault → (fault.line ≡ n) × (after_line n h bytes ≡ Err fault.cause)
 unfolding after_line
-asks_wrong n h bytes ws s fault e some a f =
-    let p = in_err n (next (HasGone s h.events) ws) fault f in (
+asks_wrong n count h bytes ws fault c e some a f =
+    let p = in_err n (asked_after count ws) fault f in (
       p.0,
-      ap (λ r. r >>= after_words n h) (in_ok n (said_at n bytes) ws e)
-          ∙ (worded n h ws false a some ∙ asked_wrong h ws s fault.cause p.1),
+      ap (λ r. r >>= after_words n h) (from_ok n (said_at n bytes) ws e)
+          ∙ (worded n h ws false a some
+          ∙ ap (λ r. r >>= λ x. Ok (asking h x)) (ap (λ k. asked_after k ws) c ∙ p.1)),
     )
 
 -- ---- lines
@@ -202,15 +142,3 @@ log_behind bytes read l e = at (nat_lt 16777216 (length bytes)) (grind arith)
         ≡ (read >>= heard_behind)
     at true f = cc
     at false f = ap (λ r. r >>= heard_behind) e
-
--- some settings
-abbrev pub some_settings : Settings
-some_settings = record {
-  credits = 0;
-  second = 0;
-  budget = 0;
-  longest = 0;
-  timeout = 0;
-  id = 0;
-  units = [];
-}

@@ -1,22 +1,19 @@
 -- Lines that are passed over.
 use Rattle.std.proofs.Common.{◌≡◌, ℕ, ◌+◌, ◌<◌, ◌≤◌, false, List, [], ◌∷◌, ◌++◌, length, refl, ap, sym, ◌∙◌, subst, arith, true, Bool}
 use Rattle.std.proofs.Common.{append_assoc, append-nil, length-append}
-use Rattle.std.specs.Prelude.{codes, nat_lt, OnOk, Result, Ok, Err}
+use Rattle.std.specs.Prelude.{codes, drop, nat_lt, OnOk, Some, Result, Ok, Err}
 use Rattle.std.specs.List.{AllByRecursion, flat_map}
 use Rattle.std.proofs.lemmas.Bool.{false≢true}
 use Rattle.std.proofs.lemmas.Bool.Decides.{nat_tests}
 use Rattle.mscp_events.specs.Settings.{Settings}
+use Rattle.mscp_events.specs.declared.event.Event.{Event}
 use Rattle.mscp_events.specs.declared.memory.OutOfMemory.{OutOfMemory}
 use Rattle.mscp_text.specs.Lines.{line}
 use Rattle.mscp_packet.specs.Steps.{◌>>=◌}
 use Rattle.mscp_reader.specs.Grammar.{said_at}
-use Rattle.mscp_reader.specs.Outcome.{in_line}
+use Rattle.mscp_reader.specs.Outcome.{asked_next, in_line}
 use Rattle.mscp_reader.proofs.PlainLines.{plain_lines}
 use Rattle.mscp_reader.specs.Lexical.{lines, words}
-use Rattle.mscp_reader.specs.Plain.{plain_request}
-use Rattle.mscp_reader.specs.Requests.{events_of, request}
-use Rattle.mscp_reader.specs.declared.events.Request.{Request}
-use Rattle.mscp_reader.specs.declared.plain.Plain.{Plain}
 use Rattle.mscp_judge.specs.declared.judge.Judge.{Judge}
 use Rattle.mscp_judge.specs.Judged.{Passed}
 use Rattle.mscp_judge.specs.Logs.{AreAnswers, IsAnswerLine, Log, after_line, after_lines, asking, is_answer, telling, told}
@@ -26,7 +23,7 @@ use Rattle.mscp_judge.proofs.Exactly.{lines_behind}
 use Rattle.mscp_judge.proofs.Marks.{told_append}
 use Rattle.mscp_judge.proofs.Reading.{lines_more, tells}
 use Rattle.mscp_judge.proofs.Telling.{told_all}
-use Rattle.mscp_judge.proofs.Wording.{plain_asks}
+use Rattle.mscp_judge.proofs.Wording.{asked_line, asked_reads}
 
 -- none
 pub passed_none : {A : Type 0} (c : Settings) (log : Log) (before : ℕ) (rest : List ℕ) (number : ℕ) (left : List ℕ)
@@ -45,29 +42,25 @@ none_read : (before : ℕ) (log : Log) → after_lines before log [] ≡ Ok log
 unfolding after_lines
 none_read before log = refl
 
--- a plain one
-pub passed_plain : {A : Type 0} (r : Result (Unit {0}) OutOfMemory) (old new : Judge A) (what : Request) (plain : Plain)
-    (before n : ℕ) (rest left line : List ℕ) → what ≡ plain_request plain
-    → OnOk r ((c : Settings) (log : Log) → Stands c log old
-    → Stands c (asking log (events_of what) (log.events ++ events_of what)) new)
-    → n ≡ before + 1 → lines rest ≡ line ∷ lines left → said_at n line ≡ Ok (words line)
-    → request (words line) ≡ Ok (plain_request plain)
-    → (old.reporter.count + old.owed) + length (events_of (plain_request plain)) ≤ 1000000
+-- one that asks for events
+pub passed_request : {A : Type 0} (r : Result (Unit {0}) OutOfMemory) (old new : Judge A) (what : List Event)
+    (before n count : ℕ) (rest left : List ℕ)
+    → OnOk r ((c : Settings) (log : Log) → Stands c log old → Stands c (asking log what) new) → n ≡ before + 1
+    → count ≡ old.reporter.count + old.owed → asked_next before count (lines rest) ≡ Ok (Some what)
+    → lines left ≡ drop 1 (lines rest) → 0 < length what
     → OnOk r ((c : Settings) (log : Log) → Stands c log old → Passed c before log rest n left new)
-passed_plain (Ok x) old new what plain before n rest left line same stands next whole said asks few = λ c log s.
-    let es = events_of (plain_request plain) in
-    let after = asking log es (log.events ++ es) in
-    let few_all : length log.events + length es ≤ 1000000 = omega (arith, few, s.count) in
-    let step = plain_asks n log line plain c said asks few_all in
+passed_request (Ok x) old new what before n count rest left stands next k asks whole some = λ c log s.
+    let p = asked_line before count (lines rest) what asks in
+    let step = asked_reads (before + 1) count log p.0 what (s.count ∙ sym k) p.2 some in
     record {
-      front = line ∷ [];
-      next = after;
-      whole = whole;
+      front = p.0 ∷ [];
+      next = asking log what;
+      whole = p.1 ∙ ap (λ ls. p.0 ∷ ls) (sym whole);
       count = omega (arith, next);
-      read = lines_more before log [] line log after n (none_read before log) (omega (arith, next)) step;
-      stands = subst (λ w. Stands c (asking log (events_of w) (log.events ++ events_of w)) new) same (stands c log s);
+      read = lines_more before log [] p.0 log (asking log what) (before + 1) (none_read before log) (omega arith) step;
+      stands = stands c log s;
     }
-passed_plain (Err x) old new what plain before n rest left line same stands next whole said asks few = tt
+passed_request (Err x) old new what before n count rest left stands next k asks whole some = tt
 
 -- one after the other
 pub passed_more : {A : Type 0} (c : Settings) (log : Log) (before n last : ℕ) (rest mid left : List ℕ)

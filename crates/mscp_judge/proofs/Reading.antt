@@ -1,29 +1,21 @@
 -- The lines of a log, read one by one.
 use Rattle.std.proofs.Common.{◌≡◌, ◌≢◌, ℕ, ◌+◌, Bool, true, false, List, [], ◌∷◌, ◌++◌, length, refl, ap, sym, ◌∙◌, arith}
-use Rattle.std.specs.Prelude.{nat_le, nat_lt, if◌then◌else◌, Result, Ok, Err}
+use Rattle.std.specs.Prelude.{nat_lt, if◌then◌else◌, Result, Ok, Err}
 use Rattle.std.specs.List.{list_all}
-use Rattle.std.proofs.lemmas.List.{append_cancel_left}
-use Rattle.mscp_events.specs.Settings.{Settings}
 use Rattle.mscp_events.specs.declared.event.Event.{Event}
 use Rattle.mscp_packet.specs.Steps.{◌>>=◌}
 use Rattle.mscp_reader.specs.Lexical.{is_comment, is_printed, said, words}
-use Rattle.mscp_reader.specs.Requests.{events_of, request}
-use Rattle.mscp_reader.specs.Grammar.{HasGone, Place, more_events, next, said_at}
+use Rattle.mscp_reader.specs.Grammar.{asked_after, said_at}
 use Rattle.mscp_reader.specs.Outcome.{in_line}
-use Rattle.mscp_reader.specs.declared.events.Request.{Request}
 use Rattle.mscp_reader.specs.declared.fault.Cause.{Cause}
 use Rattle.mscp_reader.specs.declared.fault.Cause.TheVariants as causes
 use Rattle.mscp_reader.specs.declared.fault.ScriptFault.{ScriptFault}
+use Rattle.mscp_reader.proofs.Outcomes.{from_ok}
 use Rattle.mscp_text.specs.Lines.{line}
 use Rattle.mscp_judge.specs.Logs.{Log, after_line, after_lines, after_request, after_words, asking, is_answer, telling}
 
--- the events of a place behind the header
-abbrev events_at : List Event → Place → List Event
-events_at default (HasGone settings events) = events
-events_at default place = default
-
 -- both steps gave a value
-bound : {A B E : Type 0} (r : Result A E) (f : A → Result B E) (y : B) → (r >>= f) ≡ Ok y
+pub bound : {A B E : Type 0} (r : Result A E) (f : A → Result B E) (y : B) → (r >>= f) ≡ Ok y
     → (x : A) × (r ≡ Ok x) × (f x ≡ Ok y)
 bound (Ok x) f y e = (x, refl, e)
 bound (Err fault) f y e = cc
@@ -67,10 +59,6 @@ said_words bytes ws e some =
     cases false p false q true r f = let same : words bytes ≡ ws = cc in (sym same, r)
     cases false p false q false r f = cc
 
-in_ok : {A : Type 0} (n : ℕ) (r : Result A Cause) (x : A) → in_line n r ≡ Ok x → r ≡ Ok x
-in_ok n (Ok y) x e = cc
-in_ok n (Err cause) x e = cc
-
 pub in_err : {A : Type 0} (n : ℕ) (r : Result A Cause) (fault : ScriptFault) → in_line n r ≡ Err fault
     → (fault.line ≡ n) × (r ≡ Err fault.cause)
 in_err n (Ok y) fault e = cc
@@ -81,7 +69,7 @@ in_err n (Err cause) fault e =
 
 pub says_words : (n : ℕ) (bytes : List ℕ) (ws : List (List ℕ)) → in_line n (said_at n bytes) ≡ Ok ws → ws ≢ []
     → (ws ≡ words bytes) × (list_all is_printed bytes ≡ true)
-says_words n bytes ws e some = at (nat_lt 1000000 n) (in_ok n (said_at n bytes) ws e)
+says_words n bytes ws e some = at (nat_lt 1000000 n) (from_ok n (said_at n bytes) ws e)
   where
     at : (b : Bool) → (if b then Err causes.Lines else said bytes) ≡ Ok ws
         → (ws ≡ words bytes) × (list_all is_printed bytes ≡ true)
@@ -92,7 +80,7 @@ says_words n bytes ws e some = at (nat_lt 1000000 n) (in_ok n (said_at n bytes) 
 pub skipped : (n : ℕ) (log : Log) (bytes : List ℕ) (ws : List (List ℕ)) → in_line n (said_at n bytes) ≡ Ok ws
     → ws ≡ [] → after_line n log bytes ≡ Ok log
 unfolding after_line
-skipped n log bytes ws e none = ap (λ r. r >>= after_words log bytes) (in_ok n (said_at n bytes) ws e ∙ ap Ok none)
+skipped n log bytes ws e none = ap (λ r. r >>= after_words log bytes) (from_ok n (said_at n bytes) ws e ∙ ap Ok none)
 
 -- a line that is wrong by itself
 pub wrong_words : (n : ℕ) (log : Log) (bytes : List ℕ) (fault : ScriptFault) → in_line n (said_at n bytes) ≡ Err fault
@@ -111,70 +99,28 @@ worded log bytes (w ∷ ws) b e some =
 pub tells : (n : ℕ) (log : Log) (bytes : List ℕ) (ws : List (List ℕ)) → in_line n (said_at n bytes) ≡ Ok ws → ws ≢ []
     → is_answer ws ≡ true → after_line n log bytes ≡ Ok (telling log (line bytes))
 unfolding after_line
-tells n log bytes ws e some a = ap (λ r. r >>= after_words log bytes) (in_ok n (said_at n bytes) ws e)
+tells n log bytes ws e some a = ap (λ r. r >>= after_words log bytes) (from_ok n (said_at n bytes) ws e)
     ∙ worded log bytes ws true a some
 
--- ---- a line that asks, as the reader of scripts has it
+-- ---- a line that asks, where so many events came before
 
-more_is : (events new all : List Event) → more_events events new ≡ Ok all → all ≡ events ++ new
-more_is events new all e = at (nat_le (length events + length new) 1000000) e
-  where
-    at : (b : Bool) → (if b then Ok (events ++ new) else Err causes.Events) ≡ Ok all → all ≡ events ++ new
-    at true f = let same : events ++ new ≡ all = cc in sym same
-    at false f = cc
-
-asked_so : (log : Log) (ws : List (List ℕ)) (s : Settings) (new : List Event)
-    → next (HasGone s log.events) ws ≡ Ok (HasGone s (log.events ++ new))
-    → after_request log ws ≡ Ok (asking log new (log.events ++ new))
-unfolding next
-asked_so log ws s new e =
-    let k = bound (request ws)
-    (λ asked. more_events log.events (events_of asked) >>= λ all. Ok (HasGone s all))
-    (HasGone s (log.events ++ new)) e in
-    let asked = k.0 in
-    let j = bound (more_events log.events (events_of asked)) (λ all. Ok (HasGone s all))
-    (HasGone s (log.events ++ new)) k.2 in
-    let gone : HasGone s j.0 ≡ HasGone s (log.events ++ new) = cc in
-    let all : j.0 ≡ log.events ++ new = ap (events_at log.events) gone in
-    let same = append_cancel_left log.events (events_of asked) new
-    (sym (more_is log.events (events_of asked) j.0 j.1) ∙ all) in
-    ap (λ r. r >>= λ x. more_events log.events (events_of x) >>= λ all. Ok (asking log (events_of x) all)) k.1
-    ∙ (ap (λ r. r >>= λ all. Ok (asking log (events_of asked) all)) j.1
-    ∙ (λ i. Ok (asking log (same i) (all i))))
-
-more_wrong : {A B : Type 0} (r : Result (List Event) Cause) (f : List Event → A) (g : List Event → B) (cause : Cause)
-    → (r >>= λ all. Ok (f all)) ≡ Err cause → (r >>= λ all. Ok (g all)) ≡ Err cause
-more_wrong (Ok all) f g cause e = cc
-more_wrong (Err other) f g cause e = let same : other ≡ cause = cc in ap Err same
-
-asked_wrong : (log : Log) (ws : List (List ℕ)) (s : Settings) (cause : Cause)
-    → next (HasGone s log.events) ws ≡ Err cause → after_request log ws ≡ Err cause
-unfolding next
-asked_wrong log ws s cause e = at (request ws) e
-  where
-    at : (r : Result Request Cause)
-        → (r >>= λ x. more_events log.events (events_of x) >>= λ all. Ok (HasGone s all)) ≡ Err cause
-        → (r >>= λ x. more_events log.events (events_of x) >>= λ all. Ok (asking log (events_of x) all)) ≡ Err cause
-    at (Ok x) f = more_wrong (more_events log.events (events_of x)) (λ all. HasGone s all)
-        (λ all. asking log (events_of x) all) cause f
-    at (Err other) f = let same : other ≡ cause = cc in ap Err same
-
-pub asks : (n : ℕ) (log : Log) (bytes : List ℕ) (ws : List (List ℕ)) (s : Settings) (new : List Event)
-    → in_line n (said_at n bytes) ≡ Ok ws → ws ≢ [] → is_answer ws ≡ false
-    → in_line n (next (HasGone s log.events) ws) ≡ Ok (HasGone s (log.events ++ new))
-    → after_line n log bytes ≡ Ok (asking log new (log.events ++ new))
+pub asks : (n count : ℕ) (log : Log) (bytes : List ℕ) (ws : List (List ℕ)) (new : List Event)
+    → length log.events ≡ count → in_line n (said_at n bytes) ≡ Ok ws → ws ≢ [] → is_answer ws ≡ false
+    → in_line n (asked_after count ws) ≡ Ok new → after_line n log bytes ≡ Ok (asking log new)
 unfolding after_line
-asks n log bytes ws s new e some a f = ap (λ r. r >>= after_words log bytes) (in_ok n (said_at n bytes) ws e)
-    ∙ (worded log bytes ws false a some ∙ asked_so log ws s new (in_ok n (next (HasGone s log.events) ws) _ f))
+asks n count log bytes ws new c e some a f =
+    ap (λ r. r >>= after_words log bytes) (from_ok n (said_at n bytes) ws e)
+    ∙ (worded log bytes ws false a some
+    ∙ ap (λ r. r >>= λ x. Ok (asking log x)) (ap (λ k. asked_after k ws) c ∙ from_ok n (asked_after count ws) new f))
 
-pub asks_wrong : (n : ℕ) (log : Log) (bytes : List ℕ) (ws : List (List ℕ)) (s : Settings) (fault : ScriptFault)
-    → in_line n (said_at n bytes) ≡ Ok ws → ws ≢ [] → is_answer ws ≡ false
-    → in_line n (next (HasGone s log.events) ws) ≡ Err fault
-    → (fault.line ≡ n) × (after_line n log bytes ≡ Err fault.cause)
+pub asks_wrong : (n count : ℕ) (log : Log) (bytes : List ℕ) (ws : List (List ℕ)) (fault : ScriptFault)
+    → length log.events ≡ count → in_line n (said_at n bytes) ≡ Ok ws → ws ≢ [] → is_answer ws ≡ false
+    → in_line n (asked_after count ws) ≡ Err fault → (fault.line ≡ n) × (after_line n log bytes ≡ Err fault.cause)
 unfolding after_line
-asks_wrong n log bytes ws s fault e some a f =
-    let p = in_err n (next (HasGone s log.events) ws) fault f in (
+asks_wrong n count log bytes ws fault c e some a f =
+    let p = in_err n (asked_after count ws) fault f in (
       p.0,
-      ap (λ r. r >>= after_words log bytes) (in_ok n (said_at n bytes) ws e)
-          ∙ (worded log bytes ws false a some ∙ asked_wrong log ws s fault.cause p.1),
+      ap (λ r. r >>= after_words log bytes) (from_ok n (said_at n bytes) ws e)
+          ∙ (worded log bytes ws false a some
+          ∙ ap (λ r. r >>= λ x. Ok (asking log x)) (ap (λ k. asked_after k ws) c ∙ p.1)),
     )

@@ -1,23 +1,21 @@
 -- A line that asks for events is no answer.
-use Rattle.std.proofs.Common.{◌≡◌, ◌≢◌, ◌||◌, ℕ, Bool, true, false, List, [], ◌∷◌, ◌++◌, ◌+◌, ◌≤◌, length, refl, ap, sym, ◌∙◌, subst}
-use Rattle.std.specs.Prelude.{codes, None, Ok}
+use Rattle.std.proofs.Common.{◌≡◌, ◌||◌, ◌+◌, ◌<◌, ◌∙◌, ℕ, Bool, true, false, List, [], ◌∷◌, drop, length, refl, ap, sym, subst, arith}
+use Rattle.std.specs.Prelude.{codes, nat_le, if◌then◌else◌, Some, None, Result, Ok, Err}
 use Rattle.std.specs.Str.{bytes_eq}
 use Rattle.std.proofs.lemmas.Bool.{false≢true}
 use Rattle.std.proofs.lemmas.Slice.Eq.{bytes_eq-Decides}
+use Rattle.mscp_packet.specs.Steps.{◌>>=◌}
 use Rattle.mscp_events.specs.declared.connection.Connection.{Connection}
 use Rattle.mscp_events.specs.declared.connection.Connection.TheVariants.{First, Second}
-use Rattle.mscp_events.specs.Settings.{Settings}
-use Rattle.mscp_reader.specs.Lexical.{words}
-use Rattle.mscp_reader.specs.Grammar.{said_at}
-use Rattle.mscp_reader.specs.Outcome.{in_line}
-use Rattle.mscp_reader.specs.Plain.{plain_request}
-use Rattle.mscp_reader.specs.Requests.{asked_if, event_form, events_of, form_of, message_form, plain_form, request, second_request}
-use Rattle.mscp_reader.specs.declared.events.Request.{Request}
-use Rattle.mscp_reader.specs.declared.plain.Plain.{Plain}
-use Rattle.mscp_reader.proofs.PlainLines.{plain_next}
-use Rattle.mscp_judge.specs.Logs.{Log, after_line, asking, is_answer, is_answer_word, is_second_answer}
+use Rattle.mscp_events.specs.declared.event.Event.{Event}
+use Rattle.mscp_reader.specs.Grammar.{asked_after, fitting, said_at}
+use Rattle.mscp_reader.specs.Outcome.{asked_at, asked_next, in_line}
+use Rattle.mscp_reader.specs.Requests.{asked_if, event_form, form_of, message_form, plain_form, request, second_request}
+use Rattle.mscp_reader.specs.declared.fault.Cause.{Cause}
+use Rattle.mscp_reader.specs.declared.fault.Cause.TheVariants as causes
+use Rattle.mscp_judge.specs.Logs.{Log, after_line, after_words, asking, is_answer, is_answer_word, is_second_answer}
 use Rattle.mscp_judge.specs.Naming.{name_in, served}
-use Rattle.mscp_judge.proofs.Reading.{asks}
+use Rattle.mscp_judge.proofs.Reading.{bound}
 
 -- a word of no line that asks
 abbrev NoForm : List ℕ → Type 0
@@ -55,7 +53,7 @@ no_form word h =
     (same_word word (codes "none") (refl, refl)))
     (same_word word (codes "figure") (refl, refl)) h
 
-first_no_answer : (word : List ℕ) (rest : List (List ℕ)) (what : Request) → bytes_eq word (codes "second") ≡ false
+first_no_answer : (word : List ℕ) (rest : List (List ℕ)) (what : List Event) → bytes_eq word (codes "second") ≡ false
     → request (word ∷ rest) ≡ Ok what → (b : Bool) → is_answer_word word ≡ b → b ≡ false
 unfolding request
 first_no_answer word rest what other h false e = refl
@@ -64,7 +62,7 @@ first_no_answer word rest what other h true e =
     let wrong = rw (n.0, other) at h in
     cc
 
-second_no_answer : (rest : List (List ℕ)) (what : Request) → second_request rest ≡ Ok what
+second_no_answer : (rest : List (List ℕ)) (what : List Event) → second_request rest ≡ Ok what
     → is_second_answer rest ≡ false
 unfolding second_request
 second_no_answer [] what h = refl
@@ -79,32 +77,48 @@ named_second : (word : List ℕ) (rest : List (List ℕ)) → word ≡ codes "se
 unfolding request form_of plain_form message_form event_form
 named_second word rest e = ap (λ w. asked_if (form_of w) w rest) e
 
-no_answer_words : (word : List ℕ) (rest : List (List ℕ)) (what : Request) → request (word ∷ rest) ≡ Ok what
+no_answer_words : (word : List ℕ) (rest : List (List ℕ)) (what : List Event) → request (word ∷ rest) ≡ Ok what
     → (b : Bool) → bytes_eq word (codes "second") ≡ b → is_answer (word ∷ rest) ≡ false
 no_answer_words word rest what h true e =
     let same = (bytes_eq-Decides word (codes "second")).0 e in
     rw e (second_no_answer rest what (sym (named_second word rest same) ∙ h))
 no_answer_words word rest what h false e = rw e (first_no_answer word rest what e h (is_answer_word word) refl)
 
-no_answer : (ws : List (List ℕ)) (what : Request) → request ws ≡ Ok what → is_answer ws ≡ false
+no_answer : (ws : List (List ℕ)) (what : List Event) → request ws ≡ Ok what → is_answer ws ≡ false
 no_answer [] what h = refl
 no_answer (word ∷ rest) what h = no_answer_words word rest what h (bytes_eq word (codes "second")) refl
 
-no_words : (ws : List (List ℕ)) (what : Request) → request ws ≡ Ok what → ws ≢ []
+-- a line that asks for events, where so many came before
+asked_words : (n count : ℕ) (log : Log) (line : List ℕ) (new : List Event) (r : Result (List (List ℕ)) Cause)
+    → length log.events ≡ count → (r >>= asked_after count) ≡ Ok new → 0 < length new
+    → (r >>= after_words log line) ≡ Ok (asking log new)
 unfolding request
-no_words [] what h = λ e. cc
-no_words (w ∷ ws) what h = λ e. cc
+asked_words n count log line new (Ok []) c e some = few (nat_le (count + 0) 1000000) e
+  where
+    few : (b : Bool) → (let r : Result (List Event) Cause = if b then Ok [] else Err causes.Events in r ≡ Ok new)
+        → (let r : Result Log Cause = Ok log in r ≡ Ok (asking log new))
+    few true f = let none : [] ≡ new = cc in absurd (omega (arith, some, ap length none))
+    few false f = cc
+asked_words n count log line new (Ok (w ∷ ws)) c e some =
+    let k = bound (request (w ∷ ws)) (fitting count) new e in
+    rw (no_answer (w ∷ ws) k.0 k.1) (ap (λ r. r >>= λ x. Ok (asking log x)) (ap (λ i. asked_after i (w ∷ ws)) c ∙ e))
+asked_words n count log line new (Err cause) c e some = cc
 
--- a plain line asks for its events
-pub plain_asks : (n : ℕ) (log : Log) (bytes : List ℕ) (plain : Plain) (s : Settings)
-    → said_at n bytes ≡ Ok (words bytes) → request (words bytes) ≡ Ok (plain_request plain)
-    → length log.events + length (events_of (plain_request plain)) ≤ 1000000
-    → after_line n log bytes ≡ Ok (asking log (events_of (plain_request plain))
-    (log.events ++ events_of (plain_request plain)))
-plain_asks n log bytes plain s said are few =
-    asks n log bytes (words bytes) s (events_of (plain_request plain)) (ap (in_line n) said)
-    (no_words (words bytes) (plain_request plain) are) (no_answer (words bytes) (plain_request plain) are)
-    (plain_next s log.events (words bytes) plain n are few)
+pub asked_reads : (n count : ℕ) (log : Log) (line : List ℕ) (new : List Event) → length log.events ≡ count
+    → asked_at n count line ≡ Ok new → 0 < length new → after_line n log line ≡ Ok (asking log new)
+unfolding after_line
+asked_reads n count log line new c e some = asked_words n count log line new (said_at n line) c e some
+
+asked_ok : (n : ℕ) (r : Result (List Event) Cause) (what : List Event)
+    → (in_line n r >>= λ new. Ok (Some new)) ≡ Ok (Some what) → r ≡ Ok what
+asked_ok n (Ok new) what e = let same : new ≡ what = cc in ap Ok same
+asked_ok n (Err cause) what e = cc
+
+-- the next line
+pub asked_line : (before count : ℕ) (all : List (List ℕ)) (what : List Event) → asked_next before count all ≡ Ok (Some what)
+    → (line : List ℕ) × (all ≡ line ∷ drop 1 all) × (asked_at (before + 1) count line ≡ Ok what)
+asked_line before count [] what e = cc
+asked_line before count (line ∷ rest) what e = (line, refl, asked_ok (before + 1) (asked_at (before + 1) count line) what e)
 
 -- ---- a line that is no answer names no command
 

@@ -1,10 +1,8 @@
 -- What the hosts of a log would have heard: they send what its lines send, and receive the ends that it tells.
-use Rattle.std.specs.Prelude.{◌≡◌, ℕ, ◌+◌, ◌/◌, nat_eq, nat_le, nat_lt, ◌&&◌, Bool, true, false, if◌then◌else◌, List, [], ◌∷◌, ◌++◌, length, codes, Option, Some, None, Result, Ok, Err}
+use Rattle.std.specs.Prelude.{◌≡◌, ℕ, ◌+◌, nat_eq, nat_le, nat_lt, ◌&&◌, Bool, true, false, if◌then◌else◌, List, [], ◌∷◌, ◌++◌, length, codes, Option, Some, None, Result, Ok, Err}
 use Rattle.std.specs.Fmt.{decimal}
 use Rattle.std.specs.Str.{bytes_eq}
 use Rattle.arrayvec.specs.ArrayVec.{ArrayVec}
-use Rattle.hex.specs.Hex.{decode_of}
-use Rattle.hex.specs.declared.error.FromHexError.{FromHexError}
 use Rattle.mscp_packet.specs.Commands.{command_of}
 use Rattle.mscp_packet.specs.declared.command.Command.{Command}
 use Rattle.mscp_packet.specs.declared.command.Order.{Order}
@@ -25,8 +23,8 @@ use Rattle.mscp_host.specs.declared.news.Poll.TheVariants as polls
 use Rattle.mscp_host.specs.declared.submission.Submission.{Submission}
 use Rattle.mscp_packet.specs.Steps.{◌>>=◌}
 use Rattle.mscp_reader.specs.Lexical.{lines}
-use Rattle.mscp_reader.specs.Requests.{events_of, request}
-use Rattle.mscp_reader.specs.Grammar.{Begins, HasGone, Place, more_events, said_at}
+use Rattle.mscp_reader.specs.Requests.{bytes_in}
+use Rattle.mscp_reader.specs.Grammar.{Begins, HasGone, Place, asked_after, said_at}
 use Rattle.mscp_reader.specs.Outcome.{Fails, headed, in_line}
 use Rattle.mscp_reader.specs.declared.fault.Cause.{Cause}
 use Rattle.mscp_reader.specs.declared.fault.Cause.TheVariants as causes
@@ -96,15 +94,7 @@ news_line number said = (codes "line " ++ decimal number) ++ codes ": " ++ news_
 
 -- ---- words
 
-abbrev pub or_nothing : Result (List ℕ) FromHexError → List ℕ
-or_nothing (Ok bytes) = bytes
-or_nothing (Err fault) = []
-
--- the bytes of a word, if it is hexadecimal digits of at most 64; else none
-abbrev pub bytes_in : List ℕ → List ℕ
-bytes_in word = if nat_le (length word / 2) 64 then or_nothing (decode_of word) else []
-
--- the bytes that stand first
+-- the bytes of the message that stands first, or none
 unfoldable pub first_bytes : List (List ℕ) → List ℕ
 first_bytes [] = []
 first_bytes (word ∷ rest) = bytes_in word
@@ -180,16 +170,15 @@ after_answer number h (word ∷ rest) =
     if bytes_eq word (codes "second") then told number h Second (end_bytes rest)
     else told number h First (end_bytes (word ∷ rest))
 
--- these events were asked for, and with them these are all
-abbrev pub asking : Heard → List Event → List Event → Heard
-asking h new all = record h { events = all; hosts = hosts_after_all h.hosts new }
+-- these events were asked for
+abbrev pub asking : Heard → List Event → Heard
+asking h new = record h { events = h.events ++ new; hosts = hosts_after_all h.hosts new }
 
 -- what comes of a line of these words that asks for events
 abbrev pub after_request : Heard → List (List ℕ) → Result Heard Cause
 after_request h words = do
-  asked ← request words
-  all ← more_events h.events (events_of asked)
-  Ok (asking h (events_of asked) all)
+  new ← asked_after (length h.events) words
+  Ok (asking h new)
 
 -- what comes of a line of these words
 abbrev pub after_words : ℕ → Heard → List (List ℕ) → Result Heard Cause

@@ -10,8 +10,7 @@ use Rattle.mscp_controller.specs.Legal.{IsLegal}
 use Rattle.mscp_packet.specs.Steps.{◌>>=◌}
 use Rattle.mscp_text.specs.Lines.{line}
 use Rattle.mscp_reader.specs.Lexical.{is_printed, said, words}
-use Rattle.mscp_reader.specs.Requests.{events_of, request}
-use Rattle.mscp_reader.specs.Grammar.{more_events, said_at}
+use Rattle.mscp_reader.specs.Grammar.{asked_after, said_at}
 use Rattle.mscp_reader.specs.declared.fault.Cause.{Cause}
 use Rattle.mscp_script.specs.Text.{entry_lines}
 
@@ -111,16 +110,15 @@ HasNoAnswer c log =
 abbrev pub IsRightThere : Settings → Log → List ℕ → Type 0
 IsRightThere c log text = ((text ≡ []) × HasNoAnswer c log) ⊎ MayGoOn c (telling log (line text)).marks
 
--- these events were asked for, and with them these are all
-abbrev pub asking : Log → List Event → List Event → Log
-asking log new all = record { events = all; marks = log.marks ++ Asked new ∷ [] }
+-- these events were asked for
+abbrev pub asking : Log → List Event → Log
+asking log new = record { events = log.events ++ new; marks = log.marks ++ Asked new ∷ [] }
 
 -- the line of these words asks for events
 abbrev pub after_request : Log → List (List ℕ) → Result Log Cause
 after_request log words = do
-  asked ← request words
-  all ← more_events log.events (events_of asked)
-  Ok (asking log (events_of asked) all)
+  new ← asked_after (length log.events) words
+  Ok (asking log new)
 
 -- what is said after this line, which has these words
 abbrev pub after_words : Log → List ℕ → List (List ℕ) → Result Log Cause

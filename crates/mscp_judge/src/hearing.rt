@@ -1,6 +1,6 @@
 // What the hosts of a log would have heard, line by line.
 
-ghost use Rattle.std.specs.Prelude.{◌≡◌, ◌≤◌, ◌<◌, ◌+◌, ◌++◌, IfOk, OnOk, Some, length};
+ghost use Rattle.std.specs.Prelude.{◌≡◌, ◌≤◌, ◌<◌, ◌+◌, IfOk, OnOk, Some, length};
 ghost use Rattle.mscp_events.specs.Both.{of, put};
 ghost use Rattle.mscp_reader.specs.Lexical as lexical;
 ghost use Rattle.mscp_reader.specs.Requests.{events_of};
@@ -14,7 +14,7 @@ use mscp_controller::{Config, Connection, OutOfMemory};
 use mscp_host::{Host, HostFault, News};
 use mscp_packet::write_command;
 use mscp_reader::{
-    Line, Lines, ReadFault, Request, Words, lines_of, read_header, request_after, words_of,
+    Line, Lines, ReadFault, Request, Words, bytes_in, lines_of, read_header, request_after, words_of,
 };
 use std::alloc::Allocator;
 
@@ -31,20 +31,6 @@ pub struct Hearing<A: Allocator> {
     pub resets: u32,
     /// A line for each.
     pub text: Vec<u8, A>,
-}
-
-/// How many events a line asks for.
-fn event_count(request: &Request) -> usize
-    ensures { result ≡ length (events_of request.now) }
-{
-    match request {
-        Request::Send(..)
-        | Request::Packet(..)
-        | Request::Take(_)
-        | Request::Look
-        | Request::Bad(_) => 1,
-        Request::Steps(count) => *count as usize,
-    }
 }
 
 impl<A: Allocator> Hearing<A> {
@@ -80,7 +66,7 @@ impl<A: Allocator> Hearing<A> {
     }
 
     /// The hosts send what a line asks for.
-    fn send_all(&mut self, request: &Request)
+    fn send_all(&mut self, request: &Request<'_>)
         ensures heard { (h : Heard) → IsHeard h self.old
             → IsHeard (record h { hosts = hosts_after_all h.hosts (events_of request.now) }) self.new }
         ensures count { self.new.count ≡ self.old.count }
@@ -91,23 +77,24 @@ impl<A: Allocator> Hearing<A> {
             Request::Send(connection, command) => {
                 self.send(*connection, write_command(command).as_slice());
             }
-            Request::Packet(connection, bytes) => self.send(*connection, bytes.as_slice()),
-            Request::Steps(_) => {}
-            Request::Take(_) | Request::Look | Request::Bad(_) => {}
+            Request::Packet(connection, digits) => {
+                self.send(*connection, bytes_in(digits).as_slice());
+            }
+            Request::Steps(..) => {}
+            Request::Take(_) | Request::Look => {}
         }
     }
 
     /// A line asks for events.
-    fn ask(&mut self, request: &Request)
+    fn ask(&mut self, request: &Request<'_>)
         requires { self.old.count + length (events_of request.now) ≤ MOST_EVENTS }
-        ensures heard { (h : Heard) → IsHeard h self.old
-            → IsHeard (asking h (events_of request.now) (h.events ++ events_of request.now)) self.new }
+        ensures heard { (h : Heard) → IsHeard h self.old → IsHeard (asking h (events_of request.now)) self.new }
         ensures count { self.new.count ≡ self.old.count + length (events_of request.now) }
         ensures ends { self.new.ends ≡ self.old.ends }
         ensures resets { self.new.resets ≡ self.old.resets }
     {
         self.send_all(request);
-        self.count += event_count(request);
+        self.count += request.event_count();
     }
 
     /// What the host of a connection says of bytes that it receives.
@@ -196,9 +183,13 @@ impl<A: Allocator> Hearing<A> {
         if is_answer(words) {
             return Ok(self.answer(number, words)?);
         }
-        let request = request_after(Line { number, words }, self.count)?;
-        self.ask(&request);
-        Ok(())
+        match request_after(Line { number, words }, self.count) {
+            Ok(request) => {
+                self.ask(&request);
+                Ok(())
+            }
+            Err(fault) => Err(ReadFault::Script(fault)),
+        }
     }
 }
 

@@ -3,7 +3,6 @@
 ghost use Rattle.std.specs.Prelude.{◌≡◌, ◌+◌, ◌-◌, ◌<◌, ◌^◌, ◌++◌, [], codes, length, true, false, OnOk, IfOk, None};
 ghost use Rattle.mscp_events.specs.Settings.{IsValid, Settings};
 ghost use Rattle.mscp_events.specs.declared.event.Event.TheVariants as events;
-ghost use Rattle.mscp_reader.specs.Plain.{plain_request};
 ghost use Rattle.mscp_reader.specs.Requests.{events_of};
 ghost use Rattle.mscp_judge.specs.Logs.{AreAnswers, Log, asking, nothing, telling};
 ghost use Rattle.mscp_judge.specs.Standing.{Came, HasShortLine, IsSettled, Stands, due, totals_of};
@@ -16,7 +15,7 @@ use crate::starting::Starts;
 use crate::totals::{Peaks, Totals, bound_of, figure_queued};
 use mscp_controller::{Block, Config, Connection, Controller, OutOfMemory};
 use mscp_packet::write_command;
-use mscp_reader::{Plain, Request};
+use mscp_reader::{Request, bytes_in};
 use mscp_script::Reporter;
 use std::alloc::Allocator;
 
@@ -245,11 +244,11 @@ impl<A: Allocator> Judge<A> {
     }
 
     /// A line asks for events. Told is how many lines are due then.
-    pub fn ask(&mut self, request: &Request) -> Result<u32, OutOfMemory>
+    pub fn ask(&mut self, request: &Request<'_>) -> Result<u32, OutOfMemory>
         requires settled { IsSettled self.old }
         requires count { self.old.reporter.count + length (events_of request.now) < 2 ^ 64 }
         ensures stands { OnOk result ((c : Settings) (log : Log) → Stands c log self.old
-            → Stands c (asking log (events_of request.now) (log.events ++ events_of request.now)) self.new) }
+            → Stands c (asking log (events_of request.now)) self.new) }
         ensures answers { IfOk result (λ count. AreAnswers (due self.new) count) }
         ensures count { OnOk result (self.new.reporter.count + self.new.owed
             ≡ self.old.reporter.count + length (events_of request.now)) }
@@ -258,41 +257,15 @@ impl<A: Allocator> Judge<A> {
             Request::Send(connection, command) => {
                 self.send(*connection, write_command(command).as_slice())
             }
-            Request::Packet(connection, bytes) => self.send(*connection, bytes.as_slice()),
+            Request::Packet(connection, digits) => {
+                self.send(*connection, bytes_in(digits).as_slice())
+            }
             Request::Take(connection) => self.take(*connection),
+            Request::Steps(count, block) => {
+                self.owe(*count, *block);
+                Ok(0)
+            }
             Request::Look => self.look(),
-            Request::Steps(count) => {
-                self.owe(*count, Block::Good);
-                Ok(0)
-            }
-            Request::Bad(code) => {
-                self.owe(1, Block::Bad(*code));
-                Ok(0)
-            }
-        }
-    }
-
-    /// A plain line asks for events. Told is how many lines are due then.
-    pub fn ask_plain(&mut self, plain: Plain) -> Result<u32, OutOfMemory>
-        requires settled { IsSettled self.old }
-        requires count { self.old.reporter.count + length (events_of (plain_request plain)) < 2 ^ 64 }
-        ensures stands { OnOk result ((c : Settings) (log : Log) → Stands c log self.old
-            → Stands c (asking log (events_of (plain_request plain)) (log.events ++ events_of (plain_request plain)))
-            self.new) }
-        ensures answers { IfOk result (λ count. AreAnswers (due self.new) count) }
-        ensures count { OnOk result (self.new.reporter.count + self.new.owed
-            ≡ self.old.reporter.count + length (events_of (plain_request plain))) }
-    {
-        match plain {
-            Plain::Send(command) => {
-                self.send(Connection::First, write_command(&command).as_slice())
-            }
-            Plain::Take => self.take(Connection::First),
-            Plain::Look => self.look(),
-            Plain::Steps(count) => {
-                self.owe(count, Block::Good);
-                Ok(0)
-            }
         }
     }
 

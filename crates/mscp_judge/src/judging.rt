@@ -1,8 +1,10 @@
 // A log, judged line by line.
 
-ghost use Rattle.std.specs.Prelude.{◌≡◌, ◌+◌, ◌<◌, ◌≤◌, ◌++◌, [], codes, true, false, IfOk, IfSome, OnOk, Ok, length};
+ghost use Rattle.std.specs.Prelude.{◌≡◌, ◌+◌, ◌<◌, ◌≤◌, ◌++◌, [], codes, true, false, IfOk, IfSome, IfNone, OnOk, Ok, Some, drop, length};
 ghost use Rattle.mscp_events.specs.Settings.{IsValid, Settings};
 ghost use Rattle.mscp_reader.specs.Lexical as lexical;
+ghost use Rattle.mscp_reader.specs.Outcome.{asked_next};
+ghost use Rattle.mscp_reader.specs.Requests.{events_of};
 ghost use Rattle.mscp_reader.specs.declared.events.TheConstants.{MOST_EVENTS};
 ghost use Rattle.mscp_judge.specs.Judged.{Breaks, Finds, Hears, Judges, Passed};
 ghost use Rattle.mscp_judge.specs.Logs.{AreAnswers, Log, nothing};
@@ -15,7 +17,7 @@ use crate::rules::Rule;
 use crate::starting::Starts;
 use crate::totals::Totals;
 use mscp_controller::{Config, OutOfMemory};
-use mscp_reader::{Line, Lines, MOST_EVENTS, MOST_LINES, ReadFault, request_after, words_of};
+use mscp_reader::{Line, Lines, MOST_LINES, ReadFault, Request, request_after, words_of};
 use std::alloc::Allocator;
 
 /// What is said of a log.
@@ -101,7 +103,7 @@ fn pass_lines<A: Allocator>(
     ensures count { OnOk result (judge.new.reporter.count + judge.new.owed ≤ MOST_EVENTS) }
     ensures left { OnOk result (length lines.new.rest.now ≤ length lines.old.rest.now) }
 {
-    while pass_plain(judge, lines)? {
+    while pass_request(judge, lines)? {
         if !pass_steps(judge, lines, is_rule_wanted)? {
             return Ok(false);
         }
@@ -181,9 +183,9 @@ fn behind_idle(bytes: &[u8]) -> Option<&[u8]>
     }
 }
 
-/// Where all is answered, passes over the next line, if that is found to be plain and its events aren't too many, and over
-/// its answers, as far as they are known and stand there. Any other line stays. Told is whether a line was passed over.
-fn pass_plain<A: Allocator>(
+/// Where all is answered, passes over the next line, if that asks for events, and over its answers, as far as they are known
+/// and stand there. Any other line stays. Told is whether a line was passed over.
+fn pass_request<A: Allocator>(
     judge: &mut Judge<A>,
     lines: &mut Lines<'_>,
 ) -> Result<bool, OutOfMemory>
@@ -197,17 +199,35 @@ fn pass_plain<A: Allocator>(
     if !judge.is_settled() {
         return Ok(false);
     }
-    let (rest, number) = (lines.rest, lines.number);
-    let Some(found) = lines.plain_line() else {
+    let Some(request) = cut_request(lines, judge.count() as usize) else {
         return Ok(false);
     };
-    if found.plain.event_count() > MOST_EVENTS - judge.count() as usize {
-        *lines = Lines { rest, number };
-        return Ok(false);
-    }
-    let count = judge.ask_plain(found.plain)?;
+    let count = judge.ask(&request)?;
     cut_due(judge, lines, count);
     Ok(true)
+}
+
+/// Cuts off the next line, if it asks for events, where so many came before. Any other line stays.
+fn cut_request<'a>(lines: &mut Lines<'a>, count: usize) -> Option<Request<'a>>
+    requires { count ≤ MOST_EVENTS }
+    ensures asks { IfSome result (λ request. asked_next lines.old.number count (lexical.lines lines.old.rest.now)
+        ≡ Ok (Some (events_of request))) }
+    ensures some { IfSome result (λ request. 0 < length (events_of request)) }
+    ensures few { IfSome result (λ request. count + length (events_of request) ≤ MOST_EVENTS) }
+    ensures rest { IfSome result (λ _. lexical.lines lines.new.rest.now
+        ≡ drop 1 (lexical.lines lines.old.rest.now)) }
+    ensures number { IfSome result (λ _. lines.new.number ≡ lines.old.number + 1) }
+    ensures shorter { IfSome result (λ _. length lines.new.rest.now < length lines.old.rest.now) }
+    ensures none { IfNone result ((lines.new.number ≡ lines.old.number) × (lines.new.rest.now ≡ lines.old.rest.now)) }
+{
+    let (rest, number) = (lines.rest, lines.number);
+    match lines.next_request(count) {
+        Ok(Some(request)) if request.event_count() > 0 => Some(request),
+        _ => {
+            *lines = Lines { rest, number };
+            None
+        }
+    }
 }
 
 /// Cuts off what is due, which is so many lines, and tells it, if the next lines are just that. Told is whether they are.
@@ -258,10 +278,12 @@ fn judge_line<A: Allocator>(
     if words.is_empty() {
         return Ok(None);
     }
-    let request = request_after(Line { number, words }, judge.count() as usize)?;
-    if !judge.is_settled() {
-        return Ok(Some(Rule::Missing));
+    match request_after(Line { number, words }, judge.count() as usize) {
+        Ok(_) if !judge.is_settled() => Ok(Some(Rule::Missing)),
+        Ok(request) => {
+            judge.ask(&request)?;
+            Ok(None)
+        }
+        Err(fault) => Err(ReadFault::Script(fault)),
     }
-    judge.ask(&request)?;
-    Ok(None)
 }

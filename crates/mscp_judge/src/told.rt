@@ -2,25 +2,11 @@
 
 ghost use Rattle.std.specs.Prelude.{◌≡◌};
 ghost use Rattle.mscp_reader.specs.Lexical as lexical;
-ghost use Rattle.mscp_judge.specs.Heard.{bytes_in, end_bytes, first_bytes, items_of};
+ghost use Rattle.mscp_judge.specs.Heard.{end_bytes, first_bytes, items_of};
 
 use crate::answers::is;
 use arrayvec::ArrayVec;
-use mscp_packet::{MOST_MESSAGE_BYTES, decode};
-use mscp_reader::Words;
-
-/// The bytes of a word, if it is hexadecimal digits of at most 64; else none.
-fn bytes_in(word: &[u8]) -> ArrayVec<u8, 64>
-    ensures { result.items ≡ bytes_in word.now }
-{
-    if word.len() / 2 > MOST_MESSAGE_BYTES {
-        return ArrayVec::new();
-    }
-    match decode(word) {
-        Ok(bytes) => bytes,
-        Err(_) => ArrayVec::new(),
-    }
-}
+use mscp_reader::{Words, bytes_in};
 
 /// The bytes that stand first.
 #[tactic(auto, unfolding(crate::specs::Heard::first_bytes))]

@@ -1,55 +1,25 @@
 -- What a line does to the outcome.
-use Rattle.std.proofs.Common.{◌≡◌, ◌+◌, ℕ, List, [], ◌∷◌, refl, ap, ◌∙◌}
-use Rattle.std.specs.Prelude.{codes, Result, Ok, Err}
+use Rattle.std.proofs.Common.{◌≡◌, ◌+◌, ◌≤◌, ◌++◌, ℕ, List, [], ◌∷◌, length, drop, refl, sym, ap, ◌∙◌, arith}
+use Rattle.std.specs.Prelude.{codes, Option, Some, None, Result, Ok, Err}
+use Rattle.std.proofs.lemmas.Bool.Decides.{nat_tests}
+use Rattle.std.proofs.lemmas.List.{append-nil}
 use Rattle.mscp_packet.specs.Steps.{◌>>=◌, Gives}
 use Rattle.mscp_reader.specs.declared.fault.Cause.{Cause}
 use Rattle.mscp_reader.specs.declared.fault.Cause.TheVariants as causes
 use Rattle.mscp_reader.specs.declared.fault.ScriptFault.{ScriptFault}
-use Rattle.mscp_reader.specs.declared.fault.ReadFault.{ReadFault}
-use Rattle.mscp_reader.specs.declared.fault.ReadFault.TheVariants as faults
 use Rattle.mscp_events.specs.Both.{Both}
 use Rattle.mscp_events.specs.Settings.{Settings}
 use Rattle.mscp_events.specs.declared.event.Event.{Event}
-use Rattle.mscp_reader.specs.Grammar.{Place, next_unless_skipped, Begins, HasBudget, HasCredits, HasPassing, HasLongest, HasTimeout, HasUnits, HasGone, IsInHeader, said_at, next, after_line, credits, limit, limits, first_units, unit_or_go}
-use Rattle.mscp_reader.specs.Outcome.{Fails, Sets, budget_of, in_line, limited, lines_outcome, onward, all_read}
+use Rattle.mscp_reader.specs.Lexical.{lines}
+use Rattle.mscp_reader.specs.Requests.{request}
+use Rattle.mscp_reader.specs.Grammar.{Place, next_unless_skipped, Begins, HasBudget, HasCredits, HasPassing, HasLongest, HasTimeout, HasUnits, HasGone, IsInHeader, asked_after, said_at, next, after_line, credits, limit, limits, first_units, unit_or_go}
+use Rattle.mscp_reader.specs.Outcome.{Sets, all_read, asked_next, budget_of, in_line, limited, lines_outcome, rest_outcome}
 use Rattle.mscp_reader.specs.declared.header.Limit.{Limit}
 use Rattle.mscp_reader.specs.declared.header.Limit.TheVariants as ways
 
 pub from_ok : {A : Type 0} (n : ℕ) (r : Result A Cause) (x : A) → in_line n r ≡ Ok x → r ≡ Ok x
 from_ok n (Ok y) x e = cc
 from_ok n (Err cause) x e = cc
-
--- a line that says nothing
-pub skips : (n : ℕ) (line : List ℕ) (rest : List (List ℕ)) (words : List (List ℕ))
-    → in_line (n + 1) (said_at (n + 1) line) ≡ Ok words → words ≡ [] → (p : Place)
-    → lines_outcome n p (line ∷ rest) ≡ lines_outcome (n + 1) p rest
-unfolding lines_outcome after_line
-skips n line rest words e none p = rw (from_ok (n + 1) (said_at (n + 1) line) words e, none) refl
-
--- a line that says something
-pub speaks : (n : ℕ) (line : List ℕ) (rest : List (List ℕ)) (words : List (List ℕ))
-    → in_line (n + 1) (said_at (n + 1) line) ≡ Ok words → ¬ (words ≡ []) → (p : Place)
-    → lines_outcome n p (line ∷ rest) ≡ onward (n + 1) p words rest
-unfolding lines_outcome after_line onward
-speaks n line rest [] e some p = absurd (some refl)
-speaks n line rest (w ∷ fields) e some p = rw (from_ok (n + 1) (said_at (n + 1) line) (w ∷ fields) e) refl
-
-wrong_step : (n : ℕ) (p : Place) (rest : List (List ℕ)) (r : Result (List (List ℕ)) Cause) (fault : ScriptFault)
-    → in_line n r ≡ Err fault
-    → (in_line n (r >>= next_unless_skipped p) >>= λ after. lines_outcome n after rest) ≡ Err fault
-wrong_step n p rest (Ok words) fault e = cc
-wrong_step n p rest (Err cause) fault e = let made : ScriptFault = record { line = n; cause = cause } in
-    let q : made ≡ fault = cc in ap Err q
-
--- a line that is wrong by itself
-pub wrong : (n : ℕ) (line : List ℕ) (rest : List (List ℕ)) (fault : ScriptFault)
-    → in_line (n + 1) (said_at (n + 1) line) ≡ Err fault → (p : Place) → lines_outcome n p (line ∷ rest) ≡ Err fault
-unfolding lines_outcome after_line
-wrong n line rest fault e p = wrong_step (n + 1) p rest (said_at (n + 1) line) fault e
-
-pub at_end : (n : ℕ) (p : Place) → lines_outcome n p [] ≡ all_read n p
-unfolding lines_outcome
-at_end n p = refl
 
 pub ended_early : (n : ℕ) (p : Place) → IsInHeader p
     → all_read n p ≡ Err (record { line = n + 1; cause = causes.Header })
@@ -62,29 +32,64 @@ ended_early n (HasTimeout settings) h = refl
 ended_early n (HasUnits settings) h = refl
 ended_early n (HasGone settings events) h = absurd h
 
--- ---- a line that says something
+-- ---- lines behind the header
 
-pub onward_ok : (n : ℕ) (p q : Place) (words rest : List (List ℕ)) → in_line n (next p words) ≡ Ok q
-    → onward n p words rest ≡ lines_outcome n q rest
-unfolding onward
-onward_ok n p q words rest e = rw e refl
+-- what becomes of lines, by what the next one asks for
+abbrev after_asked : ℕ → Settings → List Event → List (List ℕ) → Result (Option (List Event)) ScriptFault
+    → Result (Settings × List Event) ScriptFault
+after_asked n s es rest (Ok None) = Ok (s, es)
+after_asked n s es rest (Ok (Some new)) = lines_outcome (n + 1) (HasGone s (es ++ new)) rest
+after_asked n s es rest (Err fault) = Err fault
 
-pub onward_err : (n : ℕ) (p : Place) (words rest : List (List ℕ)) (fault : ScriptFault)
-    → in_line n (next p words) ≡ Err fault → onward n p words rest ≡ Err fault
-unfolding onward
-onward_err n p words rest fault e = rw e refl
+by_asked : (n : ℕ) (s : Settings) (es : List Event) (rest : List (List ℕ)) (r : Result (List Event) Cause)
+    → (in_line (n + 1) (r >>= λ new. Ok (HasGone s (es ++ new))) >>= λ after. lines_outcome (n + 1) after rest)
+    ≡ after_asked n s es rest (in_line (n + 1) r >>= λ new. Ok (Some new))
+by_asked n s es rest (Ok new) = refl
+by_asked n s es rest (Err cause) = refl
 
--- the same, where memory may have run out
-pub onward_fails : (n : ℕ) (p : Place) (words rest : List (List ℕ)) (o : Result (Settings × List Event) ScriptFault)
-    (fault : ReadFault)
-    → Fails fault (in_line n (next p words)) → o ≡ onward n p words rest → Fails fault o
-onward_fails n p words rest o (faults.Script fault) e h = h ∙ onward_err n p words rest fault e
-onward_fails n p words rest o faults.OutOfMemory e h = tt
+no_words : (count : ℕ) → count ≤ 1000000 → asked_after count [] ≡ Ok []
+unfolding request
+no_words count few = grind (arith, nat_tests)
 
--- a fault of what is the same
-pub fails_same : {Y : Type 0} (a b : Result Y ScriptFault) (fault : ReadFault) → a ≡ b → Fails fault b → Fails fault a
-fails_same a b (faults.Script fault) e h = e ∙ h
-fails_same a b faults.OutOfMemory e h = tt
+by_said : (n : ℕ) (s : Settings) (es : List Event) (rest : List (List ℕ)) (r : Result (List (List ℕ)) Cause)
+    → length es ≤ 1000000
+    → (in_line (n + 1) (r >>= next_unless_skipped (HasGone s es)) >>= λ after. lines_outcome (n + 1) after rest)
+    ≡ after_asked n s es rest (in_line (n + 1) (r >>= asked_after (length es)) >>= λ new. Ok (Some new))
+unfolding next
+by_said n s es rest (Ok []) few =
+    rw (no_words (length es) few) (ap (λ all. lines_outcome (n + 1) (HasGone s all) rest) (sym (append-nil es)))
+by_said n s es rest (Ok (w ∷ ws)) few = by_asked n s es rest (asked_after (length es) (w ∷ ws))
+by_said n s es rest (Err cause) few = refl
+
+lines_asked : (n : ℕ) (s : Settings) (es : List Event) (all : List (List ℕ)) → length es ≤ 1000000
+    → lines_outcome n (HasGone s es) all ≡ after_asked n s es (drop 1 all) (asked_next n (length es) all)
+unfolding lines_outcome after_line
+lines_asked n s es [] few = refl
+lines_asked n s es (line ∷ rest) few = by_said n s es rest (said_at (n + 1) line) few
+
+-- the same of what was read of the next line, where so many events came before
+read_asked : (n count : ℕ) (s : Settings) (es : List Event) (bytes : List ℕ)
+    (r : Result (Option (List Event)) ScriptFault) → length es ≡ count → count ≤ 1000000
+    → asked_next n count (lines bytes) ≡ r
+    → rest_outcome n (HasGone s es) bytes ≡ after_asked n s es (drop 1 (lines bytes)) r
+read_asked n count s es bytes r c few e = lines_asked n s es (lines bytes) (omega (arith, c, few))
+    ∙ ap (after_asked n s es (drop 1 (lines bytes))) (ap (λ k. asked_next n k (lines bytes)) c ∙ e)
+
+pub goes_on : (n count place : ℕ) (s : Settings) (es new : List Event) (bytes rest : List ℕ) → length es ≡ count
+    → count ≤ 1000000 → asked_next n count (lines bytes) ≡ Ok (Some new) → lines rest ≡ drop 1 (lines bytes)
+    → place ≡ n + 1 → rest_outcome n (HasGone s es) bytes ≡ rest_outcome place (HasGone s (es ++ new)) rest
+goes_on n count place s es new bytes rest c few e left at =
+    read_asked n count s es bytes (Ok (Some new)) c few e
+    ∙ (λ i. lines_outcome (sym at i) (HasGone s (es ++ new)) (sym left i))
+
+pub ends : (n count : ℕ) (s : Settings) (es : List Event) (bytes : List ℕ) → length es ≡ count → count ≤ 1000000
+    → asked_next n count (lines bytes) ≡ Ok None → rest_outcome n (HasGone s es) bytes ≡ Ok (s, es)
+ends n count s es bytes c few e = read_asked n count s es bytes (Ok None) c few e
+
+pub goes_wrong : (n count : ℕ) (s : Settings) (es : List Event) (bytes : List ℕ) (fault : ScriptFault)
+    → length es ≡ count → count ≤ 1000000 → asked_next n count (lines bytes) ≡ Err fault
+    → rest_outcome n (HasGone s es) bytes ≡ Err fault
+goes_wrong n count s es bytes fault c few e = read_asked n count s es bytes (Err fault) c few e
 
 -- ---- lines of the header
 

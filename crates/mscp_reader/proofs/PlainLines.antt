@@ -1,32 +1,28 @@
 -- Plain lines: what is cut off them, and what they say.
 use Rattle.std.proofs.Common.{◌≡◌, ◌<◌, ◌≤◌, ◌+◌, ◌-◌, ◌==◌, ◌&&◌, ◌∙◌, ℕ, Bool, true, false, not, suc, zero, subst, map, List, [], ◌∷◌, ◌++◌, length, take, drop, get_or, refl, sym, ap, arith, Ok, Err}
-use Rattle.std.specs.Prelude.{position, unwrap_or, nat_le, nat_lt, if◌then◌else◌, Some, Result}
+use Rattle.std.specs.Prelude.{position, unwrap_or, nat_le, nat_lt, if◌then◌else◌, replicate, Some, Result}
 use Rattle.std.specs.List.{filter, list_all, slice_split}
 use Rattle.std.specs.Str.Lines.{strip_carriage_return}
 use Rattle.std.proofs.lemmas.Bool.{and_parts, and_from}
 use Rattle.std.proofs.lemmas.Bool.Decides.{nat_tests}
 use Rattle.std.proofs.lemmas.List.{append_assoc, append-nil, length-append, length-drop, length-take-le, take-append-drop, take_all}
-use Rattle.std.proofs.Math.Seq.{take-append_seam}
 use Rattle.std.specs.Str.Parse.{digits_value}
 use Rattle.mscp_packet.specs.declared.command.Order.{Order}
 use Rattle.mscp_packet.specs.declared.command.Order.TheVariants as orders
 use Rattle.mscp_packet.specs.declared.command.MoveKind.{MoveKind}
 use Rattle.mscp_reader.specs.Lexical.{is_comment, is_digit, is_numeral, is_printed, is_some_word, lines, narrow, number, said, steps_in, wide, without_empty_last, words}
-use Rattle.mscp_reader.specs.Plain.{plain_request, Asks, Cuts, CutsWord, Ends, IsApart, IsNumeral, IsPlain, is_letter}
-use Rattle.mscp_reader.specs.Requests.{asked, event_form, events_of, form_of, message_form, plain_form, request, sent}
-use Rattle.mscp_reader.specs.Grammar.{HasGone, Place, next, said_at}
-use Rattle.mscp_reader.specs.Outcome.{in_line, onward, lines_outcome, rest_outcome}
+use Rattle.mscp_reader.specs.Plain.{Asks, Cuts, CutsWord, Ends, IsApart, IsNumeral, IsPlain, is_letter}
+use Rattle.mscp_reader.specs.Requests.{asked, event_form, form_of, message_form, plain_form, request, sent}
+use Rattle.mscp_reader.specs.Grammar.{fitting, said_at}
+use Rattle.mscp_reader.specs.Outcome.{asked_next}
 use Rattle.mscp_reader.specs.declared.events.Form.{Form}
 use Rattle.mscp_reader.specs.declared.events.Form.TheVariants as forms
-use Rattle.mscp_reader.specs.declared.events.Request.{Request}
-use Rattle.mscp_reader.specs.declared.events.Request.TheVariants as requests
 use Rattle.mscp_reader.specs.declared.fault.Cause.{Cause}
 use Rattle.mscp_reader.specs.declared.fault.Cause.TheVariants as causes
-use Rattle.mscp_reader.specs.declared.plain.Plain.{Plain}
+use Rattle.mscp_events.specs.declared.block.Block.TheVariants.{Good}
 use Rattle.mscp_events.specs.declared.connection.Connection.TheVariants.{First}
-use Rattle.mscp_events.specs.Settings.{Settings}
 use Rattle.mscp_events.specs.declared.event.Event.{Event}
-use Rattle.mscp_reader.proofs.Outcomes.{speaks}
+use Rattle.mscp_events.specs.declared.event.Event.TheVariants as events
 use Rattle.mscp_reader.proofs.Cuts.{front_len, front_len_is, parts_after, split_parts, words_none}
 
 -- ---- letters and digits
@@ -192,7 +188,7 @@ narrow_is word v h small = narrow_case (digits_value 10 word) v (is_numeral word
 
 pub transfer_asks : (kind : MoveKind) (xs ys zs us vs : List ℕ) (r u c b : ℕ) → CutsWord wide r xs ys
     → CutsWord narrow u ys zs → CutsWord wide c zs us → CutsWord wide b us vs
-    → Asks (forms.Transfer kind) (sent First r u (orders.Move kind c b)) xs vs
+    → Asks (forms.Transfer kind) (sent First (record { reference = r; unit = u; order = orders.Move kind c b })) xs vs
 unfolding asked
 transfer_asks kind xs ys zs us vs r u c b p q s t = (
   p.0 ∷ q.0 ∷ s.0 ∷ t.0 ∷ [],
@@ -201,7 +197,7 @@ transfer_asks kind xs ys zs us vs r u c b p q s t = (
 )
 
 pub other_asks : (order : Order) (xs ys zs : List ℕ) (r u : ℕ) → CutsWord wide r xs ys → CutsWord narrow u ys zs
-    → Asks (forms.Plain order) (sent First r u order) xs zs
+    → Asks (forms.Plain order) (sent First (record { reference = r; unit = u; order = order })) xs zs
 unfolding asked
 other_asks order xs ys zs r u p q = (
   p.0 ∷ q.0 ∷ [],
@@ -211,27 +207,27 @@ other_asks order xs ys zs r u p q = (
 )
 
 pub poll_asks : (xs ys zs : List ℕ) (r o : ℕ) → CutsWord wide r xs ys → CutsWord wide o ys zs
-    → Asks forms.Status (sent First r 0 (orders.Status o)) xs zs
+    → Asks forms.Status (sent First (record { reference = r; unit = 0; order = orders.Status o })) xs zs
 unfolding asked
 poll_asks xs ys zs r o p q = (p.0 ∷ q.0 ∷ [], rw (p.1, q.1) refl, λ more behind e. p.2 _ behind (q.2 more behind e))
 
 pub abort_asks : (xs ys zs : List ℕ) (r o : ℕ) → CutsWord wide r xs ys → CutsWord wide o ys zs
-    → Asks forms.Abort (sent First r 0 (orders.Abort o)) xs zs
+    → Asks forms.Abort (sent First (record { reference = r; unit = 0; order = orders.Abort o })) xs zs
 unfolding asked
 abort_asks xs ys zs r o p q = (p.0 ∷ q.0 ∷ [], rw (p.1, q.1) refl, λ more behind e. p.2 _ behind (q.2 more behind e))
 
 pub steps_asks : (xs ys : List ℕ) (n : ℕ) → CutsWord wide n xs ys → 1 ≤ n → n ≤ 1000
-    → Asks forms.Step (requests.Steps n) xs ys
+    → Asks forms.Step (replicate n (events.Step Good)) xs ys
 unfolding asked
 steps_asks xs ys n p low high =
     let fits : steps_in n ≡ Ok n = grind (arith, nat_tests) in
     (p.0 ∷ [], rw (p.1, fits) refl, λ more behind e. p.2 more behind e)
 
-pub take_asks : (xs : List ℕ) → Asks forms.Take (requests.Take First) xs xs
+pub take_asks : (xs : List ℕ) → Asks forms.Take (events.Take First ∷ []) xs xs
 unfolding asked
 take_asks xs = ([], refl, λ more behind e. e)
 
-pub look_asks : (xs : List ℕ) → Asks forms.Look requests.Look xs xs
+pub look_asks : (xs : List ℕ) → Asks forms.Look (events.Look ∷ []) xs xs
 unfolding asked
 look_asks xs = ([], refl, λ more behind e. e)
 
@@ -247,7 +243,7 @@ no_comment : (w line : List ℕ) → 0 < length w → list_all is_letter w ≡ t
 no_comment [] line some h = absurd (omega arith)
 no_comment (b ∷ w) line some h = letter_first b (and_parts (is_letter b) (list_all is_letter w) h).0
 
-pub plain_is : (bytes w rest new behind : List ℕ) (form : Form) (what : Request) → bytes ≡ w ++ rest
+pub plain_is : (bytes w rest new behind : List ℕ) (form : Form) (what : List Event) → bytes ≡ w ++ rest
     → list_all is_letter w ≡ true → form_of w ≡ Some form → Asks form what rest new → Ends new [] behind
     → IsPlain bytes what behind
 unfolding request
@@ -283,53 +279,19 @@ plain_lines line behind h =
     ∙ ap (λ l. l ∷ map strip_carriage_return (without_empty_last (slice_split (λ b. b == 10) behind)))
     (strip_printed line h)
 
-some_words : (ws : List (List ℕ)) (what : Request) → request ws ≡ Ok what → ¬ (ws ≡ [])
-unfolding request
-some_words [] what h = λ e. cc
-some_words (w ∷ ws) what h = λ e. cc
-
-said_by : (n : ℕ) (line : List ℕ) → n + 1 ≤ 1000000 → said line ≡ Ok (words line)
-    → in_line (n + 1) (said_at (n + 1) line) ≡ Ok (words line)
-said_by n line few h = let fits : nat_lt 1000000 (n + 1) ≡ false = grind (arith, nat_tests) in rw (fits, h) refl
-
--- what becomes of the lines of which the first is plain
-pub plain_onward : (n : ℕ) (bytes behind : List ℕ) (what : Request) (r : IsPlain bytes what behind) → n + 1 ≤ 1000000
-    → length r.line ≤ 200
-    → (p : Place) → rest_outcome n p bytes ≡ onward (n + 1) p (words r.line) (lines behind)
-plain_onward n bytes behind what r few short p =
-    ap (λ xs. rest_outcome n p xs) r.whole
-    ∙ ap (lines_outcome n p) (plain_lines r.line behind r.printed)
-    ∙ speaks n r.line (lines behind) (words r.line) (said_by n r.line few (said_plain r.line short r.said r.printed))
-    (some_words _ what r.asks) p
-
--- the lines of which the first is plain, and what it says
-pub plain_ahead : (bytes behind : List ℕ) (what : Request) (r : IsPlain bytes what behind)
-    → lines bytes ≡ r.line ∷ lines behind
-plain_ahead bytes behind what r = ap lines r.whole ∙ plain_lines r.line behind r.printed
-
-pub plain_says : (n : ℕ) (bytes behind : List ℕ) (what : Request) (r : IsPlain bytes what behind) → n + 1 ≤ 1000000
-    → length r.line ≤ 200 → said_at (n + 1) r.line ≡ Ok (words r.line)
-plain_says n bytes behind what r few short =
-    let fits : nat_lt 1000000 (n + 1) ≡ false = grind (arith, nat_tests) in
-    rw (fits, said_plain r.line short r.said r.printed) refl
-
 -- its length, and the line itself
-pub line_length : (bytes behind : List ℕ) (what : Request) (r : IsPlain bytes what behind)
+line_length : (bytes behind : List ℕ) (what : List Event) (r : IsPlain bytes what behind)
     → length bytes - length behind - 1 ≡ length r.line
 line_length bytes behind what r = omega (arith, ap length r.whole, length-append r.line (10 ∷ behind))
 
-pub line_of : (bytes behind : List ℕ) (what : Request) (r : IsPlain bytes what behind)
-    → take (length bytes - length behind - 1) bytes ≡ r.line
-line_of bytes behind what r = rw (line_length bytes behind what r)
-    (ap (take (length r.line)) r.whole ∙ take-append_seam r.line (10 ∷ behind))
-
--- what a plain line leads to, where its events aren't too many
-pub plain_next : (s : Settings) (es : List Event) (said : List (List ℕ)) (plain : Plain) (n : ℕ)
-    → request said ≡ Ok (plain_request plain)
-    → length es + length (events_of (plain_request plain)) ≤ 1000000
-    → in_line n (next (HasGone s es) said) ≡ Ok (HasGone s (es ++ events_of (plain_request plain)))
-unfolding next
-plain_next s es said plain n asks few =
-    let fits : nat_le (length es + length (events_of (plain_request plain))) 1000000 ≡ true =
-    grind (arith, nat_tests) in
-    rw (asks, fits) refl
+-- the next line asks for what a plain one does, if that isn't too long, and neither too late nor of too many events
+pub plain_next : (n count : ℕ) (bytes behind : List ℕ) (new : List Event) → IsPlain bytes new behind → n < 1000000
+    → length bytes - length behind - 1 ≤ 200 → count + length new ≤ 1000000
+    → (asked_next n count (lines bytes) ≡ Ok (Some new)) × (lines behind ≡ drop 1 (lines bytes))
+plain_next n count bytes behind new r few short fits =
+    let whole : lines bytes ≡ r.line ∷ lines behind = ap lines r.whole ∙ plain_lines r.line behind r.printed in
+    let counted : nat_lt 1000000 (n + 1) ≡ false = grind (arith, nat_tests) in
+    let says : said_at (n + 1) r.line ≡ Ok (words r.line) = rw counted (said_plain r.line
+    (omega (arith, short, line_length bytes behind new r)) r.said r.printed) in
+    let most : fitting count new ≡ Ok new = grind (arith, nat_tests) in
+    (rw (whole, says, r.asks, most) refl, rw whole refl)

@@ -9,7 +9,7 @@ use Rattle.mscp_events.specs.declared.config.ConfigFault.{ConfigFault}
 use Rattle.mscp_events.specs.declared.event.Event.{Event}
 use Rattle.mscp_packet.specs.Steps.{◌>>=◌}
 use Rattle.mscp_reader.specs.Lexical.{lines, said, number, wide, narrow}
-use Rattle.mscp_reader.specs.Requests.{none, one, five, request, events_of}
+use Rattle.mscp_reader.specs.Requests.{none, one, five, request}
 use Rattle.mscp_reader.specs.declared.fault.Cause.{Cause}
 use Rattle.mscp_reader.specs.declared.fault.Cause.TheVariants as causes
 use Rattle.mscp_reader.specs.declared.fault.ScriptFault.{ScriptFault}
@@ -135,9 +135,13 @@ unit_or_go settings (word ∷ fields) =
     if bytes_eq word (codes "unit") then with_unit settings fields else (
     if bytes_eq word (codes "go") then gone settings fields else Err causes.Word)
 
--- events after others: at most 1,000,000 (profile)
-abbrev pub more_events : List Event → List Event → Result (List Event) Cause
-more_events before new = if nat_le (length before + length new) 1000000 then Ok (before ++ new) else Err causes.Events
+-- events that so many others came before: at most 1,000,000 in all (profile)
+abbrev pub fitting : ℕ → List Event → Result (List Event) Cause
+fitting count new = if nat_le (count + length new) 1000000 then Ok new else Err causes.Events
+
+-- what the words of a line ask for, where so many events came before (profile)
+abbrev pub asked_after : ℕ → List (List ℕ) → Result (List Event) Cause
+asked_after count words = request words >>= fitting count
 
 -- the number that these fields are, of 32 bits
 abbrev pub only_number : List (List ℕ) → Result ℕ Cause
@@ -180,9 +184,8 @@ next (HasTimeout settings) words = do
   Ok (HasUnits (record settings { units = units }))
 next (HasUnits settings) words = unit_or_go settings words
 next (HasGone settings events) words = do
-  asked ← request words
-  all ← more_events events (events_of asked)
-  Ok (HasGone settings all)
+  new ← asked_after (length events) words
+  Ok (HasGone settings (events ++ new))
 
 -- a line without a word is skipped (profile)
 abbrev pub next_unless_skipped : Place → List (List ℕ) → Result Place Cause

@@ -6,7 +6,7 @@ use Rattle.mscp_events.specs.Settings.{Settings}
 use Rattle.mscp_events.specs.declared.event.Event.{Event}
 use Rattle.mscp_packet.specs.Steps.{◌>>=◌}
 use Rattle.mscp_reader.specs.Lexical.{lines}
-use Rattle.mscp_reader.specs.Grammar.{Place, Begins, HasBudget, HasPassing, HasUnits, HasGone, IsInHeader, setting, next, after_line}
+use Rattle.mscp_reader.specs.Grammar.{Place, Begins, HasBudget, HasPassing, HasUnits, HasGone, IsInHeader, setting, next, after_line, asked_after, said_at}
 use Rattle.mscp_reader.specs.declared.header.Credits.{Credits}
 use Rattle.mscp_reader.specs.declared.header.Limits.{Limits}
 use Rattle.mscp_reader.specs.declared.header.Limit.{Limit}
@@ -33,10 +33,15 @@ lines_outcome before place [] = all_read before place
 lines_outcome before place (line ∷ rest) =
     in_line (before + 1) (after_line before place line) >>= λ after. lines_outcome (before + 1) after rest
 
--- what becomes of a line of these words, the last of so many, and of those after it
-unfoldable pub onward : ℕ → Place → List (List ℕ) → List (List ℕ) → Result (Settings × List Event) ScriptFault
-onward number place words rest =
-    in_line number (next place words) >>= λ after. lines_outcome number after rest
+-- what the line of this number asks for, where so many events came before
+abbrev pub asked_at : ℕ → ℕ → List ℕ → Result (List Event) Cause
+asked_at number count line = said_at number line >>= asked_after count
+
+-- what the next line asks for, if one is left, where so many lines and so many events came before
+abbrev pub asked_next : ℕ → ℕ → List (List ℕ) → Result (Option (List Event)) ScriptFault
+asked_next before count [] = Ok None
+asked_next before count (line ∷ rest) =
+    in_line (before + 1) (asked_at (before + 1) count line) >>= λ new. Ok (Some new)
 
 -- a line of the header of this word and of a number makes a place
 abbrev pub Sets : Place → List ℕ → ℕ → (ℕ → Place) → Type 0

@@ -3,24 +3,14 @@ use Rattle.std.specs.Prelude.{◌≡◌, ℕ, ◌≤◌, ◌&&◌, nat_le, Bool,
 use Rattle.std.specs.List.{list_all}
 use Rattle.std.specs.Str.Parse.{digits_value}
 use Rattle.mscp_events.specs.declared.connection.Connection.TheVariants.{First}
+use Rattle.mscp_events.specs.declared.event.Event.{Event}
 use Rattle.mscp_reader.specs.Lexical.{is_comment, is_digit, is_printed, words}
 use Rattle.mscp_reader.specs.Requests.{asked, request}
 use Rattle.mscp_reader.specs.declared.fault.Cause.{Cause}
 use Rattle.mscp_reader.specs.declared.events.Form.{Form}
-use Rattle.mscp_reader.specs.declared.events.Request.{Request}
-use Rattle.mscp_reader.specs.declared.events.Request.TheVariants as requests
-use Rattle.mscp_reader.specs.declared.plain.Plain.{Plain}
-use Rattle.mscp_reader.specs.declared.plain.Plain.TheVariants as plains
 
 abbrev pub is_letter : ℕ → Bool
 is_letter b = nat_le 97 b && nat_le b 122
-
--- what a plain line asks for, as a request of any line: no plain line names the second connection
-abbrev pub plain_request : Plain → Request
-plain_request (plains.Send command) = requests.Send First command
-plain_request plains.Take = requests.Take First
-plain_request plains.Look = requests.Look
-plain_request (plains.Steps count) = requests.Steps count
 
 -- no line, or one that goes on with a space: a word ends before it
 abbrev pub IsApart : List ℕ → Type 0
@@ -44,8 +34,8 @@ abbrev pub CutsWord : {A : Type 0} → (List ℕ → Result A Cause) → A → L
 CutsWord meaning value old new = (word : List ℕ) × (meaning word ≡ Ok value) × Cuts old (word ∷ []) new
 
 -- fields were cut off by which a line of this form asks for this
-abbrev pub Asks : Form → Request → List ℕ → List ℕ → Type 0
-Asks form what old new = (fields : List (List ℕ)) × (asked First form fields ≡ Ok what) × Cuts old fields new
+abbrev pub Asks : Form → List Event → List ℕ → List ℕ → Type 0
+Asks form new old rest = (fields : List (List ℕ)) × (asked First form fields ≡ Ok new) × Cuts old fields rest
 
 -- bytes begin with this many digits, 10 at most, and this is their value
 pub record IsNumeral (number digits : ℕ) (bytes : List ℕ) : Type 0 where
@@ -55,9 +45,9 @@ pub record IsNumeral (number digits : ℕ) (bytes : List ℕ) : Type 0 where
   pub value : number ≡ digits_value 10 (take digits bytes)
 
 -- bytes are a plain line that asks for this, and others behind its line feed
-pub record IsPlain (bytes : List ℕ) (what : Request) (behind : List ℕ) : Type 0 where
+pub record IsPlain (bytes : List ℕ) (new : List Event) (behind : List ℕ) : Type 0 where
   pub line : List ℕ
   pub whole : bytes ≡ line ++ 10 ∷ behind
   pub printed : list_all is_printed line ≡ true
   pub said : is_comment line ≡ false
-  pub asks : request (words line) ≡ Ok what
+  pub asks : request (words line) ≡ Ok new

@@ -1,8 +1,8 @@
--- What a line after the header asks for.
+-- What a line after the header asks for: these events, one after the other.
 use Rattle.std.specs.Prelude.{ℕ, Bool, true, false, if◌then◌else◌, List, [], ◌∷◌, replicate, codes, Option, Some, None, Result, Ok, Err}
 use Rattle.std.specs.Str.{bytes_eq}
 use Rattle.mscp_packet.specs.Commands.{command_bytes}
-use Rattle.mscp_packet.specs.declared.command.Order.{Order}
+use Rattle.mscp_packet.specs.declared.command.Command.{Command}
 use Rattle.mscp_packet.specs.declared.command.Order.TheVariants as orders
 use Rattle.mscp_packet.specs.declared.command.MoveKind.TheVariants as moves
 use Rattle.mscp_events.specs.declared.block.Block.TheVariants.{Good, Bad}
@@ -16,8 +16,8 @@ use Rattle.mscp_reader.specs.declared.fault.Cause.{Cause}
 use Rattle.mscp_reader.specs.declared.fault.Cause.TheVariants as causes
 use Rattle.mscp_reader.specs.declared.events.Form.{Form}
 use Rattle.mscp_reader.specs.declared.events.Form.TheVariants as forms
-use Rattle.mscp_reader.specs.declared.events.Request.{Request}
-use Rattle.mscp_reader.specs.declared.events.Request.TheVariants as requests
+use Rattle.mscp_reader.specs.declared.request.Request.{Request}
+use Rattle.mscp_reader.specs.declared.request.Request.TheVariants as requests
 
 -- ---- so many fields and no others
 
@@ -78,61 +78,61 @@ form_of word =
 
 -- ---- the fields
 
--- a command that the host of a connection sends
-abbrev pub sent : Connection → ℕ → ℕ → Order → Request
-sent via reference unit order = requests.Send via (record { reference = reference; unit = unit; order = order })
+-- the host of a connection sends a command
+abbrev pub sent : Connection → Command → List Event
+sent via command = events.Send via (record { items = command_bytes command }) ∷ []
 
--- a request that has no fields
-abbrev pub alone : Request → List (List ℕ) → Result Request Cause
-alone request fields = do
+-- events for which no fields are needed
+abbrev pub alone : List Event → List (List ℕ) → Result (List Event) Cause
+alone new fields = do
   f ← none fields
-  Ok request
+  Ok new
 
 -- what a line of this form asks for by these fields. If the line is of a host, it is the host of this connection
 -- (profile)
-unfoldable pub asked : Connection → Form → List (List ℕ) → Result Request Cause
+unfoldable pub asked : Connection → Form → List (List ℕ) → Result (List Event) Cause
 asked via (forms.Transfer kind) fields = do
   f ← four fields
   reference ← wide f.0
   unit ← narrow f.1
   count ← wide f.2
   block ← wide f.3
-  Ok (sent via reference unit (orders.Move kind count block))
+  Ok (sent via (record { reference = reference; unit = unit; order = orders.Move kind count block }))
 asked via (forms.Plain order) fields = do
   f ← two fields
   reference ← wide f.0
   unit ← narrow f.1
-  Ok (sent via reference unit order)
+  Ok (sent via (record { reference = reference; unit = unit; order = order }))
 asked via forms.SetController fields = do
   f ← one fields
   reference ← wide f
-  Ok (sent via reference 0 (orders.SetController 0))
+  Ok (sent via (record { reference = reference; unit = 0; order = orders.SetController 0 }))
 asked via forms.Abort fields = do
   f ← two fields
   reference ← wide f.0
   other ← wide f.1
-  Ok (sent via reference 0 (orders.Abort other))
+  Ok (sent via (record { reference = reference; unit = 0; order = orders.Abort other }))
 asked via forms.Status fields = do
   f ← two fields
   reference ← wide f.0
   other ← wide f.1
-  Ok (sent via reference 0 (orders.Status other))
+  Ok (sent via (record { reference = reference; unit = 0; order = orders.Status other }))
 asked via forms.Packet fields = do
   f ← one fields
   bytes ← message f
-  Ok (requests.Packet via (record { items = bytes }))
+  Ok (events.Send via (record { items = bytes }) ∷ [])
 asked via forms.Step fields = do
   f ← one fields
   n ← wide f
   count ← steps_in n
-  Ok (requests.Steps count)
+  Ok (replicate count (events.Step Good))
 asked via forms.Bad fields = do
   f ← one fields
   n ← status f
   code ← bad_in n
-  Ok (requests.Bad code)
-asked via forms.Take fields = alone (requests.Take via) fields
-asked via forms.Look fields = alone requests.Look fields
+  Ok (events.Step (Bad code) ∷ [])
+asked via forms.Take fields = alone (events.Take via ∷ []) fields
+asked via forms.Look fields = alone (events.Look ∷ []) fields
 
 -- a line of this form is of a host: something is sent or taken (profile)
 abbrev pub is_of_host : Form → Bool
@@ -142,31 +142,39 @@ is_of_host forms.Look = false
 is_of_host form = true
 
 -- what a line of this form asks for behind the word `second`: it has to be of a host (profile)
-abbrev pub asked_of_second : Option Form → List (List ℕ) → Result Request Cause
+abbrev pub asked_of_second : Option Form → List (List ℕ) → Result (List Event) Cause
 asked_of_second None fields = Err causes.Word
 asked_of_second (Some form) fields = if is_of_host form then asked Second form fields else Err causes.Word
 
 -- what the words behind the word `second` ask for (profile)
-unfoldable pub second_request : List (List ℕ) → Result Request Cause
+unfoldable pub second_request : List (List ℕ) → Result (List Event) Cause
 second_request [] = Err causes.Count
 second_request (word ∷ fields) = asked_of_second (form_of word) fields
 
 -- what a line of this form asks for, or of no form, with this first word
-abbrev pub asked_if : Option Form → List ℕ → List (List ℕ) → Result Request Cause
+abbrev pub asked_if : Option Form → List ℕ → List (List ℕ) → Result (List Event) Cause
 asked_if (Some form) word fields = asked First form fields
 asked_if None word fields = if bytes_eq word (codes "second") then second_request fields else Err causes.Word
 
--- what the words of a line ask for. The first connection isn't named (profile)
-unfoldable pub request : List (List ℕ) → Result Request Cause
-request [] = Err causes.Word
+-- what the words of a line ask for. A line without a word asks for nothing, and the first connection isn't named (profile)
+unfoldable pub request : List (List ℕ) → Result (List Event) Cause
+request [] = Ok []
 request (word ∷ fields) = asked_if (form_of word) word fields
 
--- ---- its events
+-- ---- a request as it is read
 
+abbrev pub or_none : Result (List ℕ) Cause → List ℕ
+or_none (Ok bytes) = bytes
+or_none (Err cause) = []
+
+-- the bytes of a message of these digits, or none if it is no message
+abbrev pub bytes_in : List ℕ → List ℕ
+bytes_in digits = or_none (message digits)
+
+-- its events
 abbrev pub events_of : Request → List Event
-events_of (requests.Send via command) = events.Send via (record { items = command_bytes command }) ∷ []
-events_of (requests.Packet via bytes) = events.Send via bytes ∷ []
+events_of (requests.Send via command) = sent via command
+events_of (requests.Packet via digits) = events.Send via (record { items = bytes_in digits.now }) ∷ []
 events_of (requests.Take via) = events.Take via ∷ []
+events_of (requests.Steps count block) = replicate count (events.Step block)
 events_of requests.Look = events.Look ∷ []
-events_of (requests.Steps count) = replicate count (events.Step Good)
-events_of (requests.Bad code) = events.Step (Bad code) ∷ []

@@ -1,20 +1,19 @@
 // The lines after the header: what each asks for.
 
-ghost use Rattle.std.specs.Prelude.{◌≡◌, ◌+◌, ◌++◌, ◌≤◌, List, length, IfOk, IfErr};
-ghost use Rattle.mscp_events.specs.declared.event.Event.{Event};
-ghost use Rattle.mscp_events.specs.Settings.{Settings};
+ghost use Rattle.std.specs.Prelude.{◌≡◌, ◌+◌, ◌≤◌, length, IfOk, IfErr};
 ghost use Rattle.mscp_packet.specs.Steps.{Gives};
 ghost use Rattle.mscp_reader.specs.Lexical as lexical;
 ghost use Rattle.mscp_reader.specs.Requests as requests;
-ghost use Rattle.mscp_reader.specs.Grammar.{HasGone, next};
+ghost use Rattle.mscp_reader.specs.Requests.{events_of};
+ghost use Rattle.mscp_reader.specs.Grammar.{asked_after};
 ghost use Rattle.mscp_reader.specs.Outcome.{in_line};
 
 use crate::fault::{Cause, ScriptFault};
 use crate::lines::Line;
 use crate::numbers::{message, narrow, status, wide};
+use crate::request::Request;
 use crate::words::Words;
-use arrayvec::ArrayVec;
-use mscp_events::{Connection, FaultStatus};
+use mscp_events::{Block, Connection, FaultStatus};
 use mscp_packet::{Command, MoveKind, Order};
 
 /// The most events of a script.
@@ -57,60 +56,36 @@ impl Form {
     }
 }
 
-/// What a line asks for.
-#[derive(Drop)]
-pub enum Request {
-    /// The connection's host sends this command.
-    Send(Connection, Command),
-    /// The connection's host sends these bytes.
-    Packet(Connection, ArrayVec<u8, 64>),
-    /// The connection's host takes an end.
-    Take(Connection),
-    /// The drive serves so many good blocks.
-    Steps(u32),
-    /// The drive serves a bad block.
-    Bad(FaultStatus),
-    /// The figures of all waiting commands are asked for.
-    Look,
-}
-
-/// What a line asks for, after so many events.
-#[tactic(auto, unfolding(crate::specs::Grammar::next))]
-pub fn request_after(line: Line<'_>, count: usize) -> Result<Request, ScriptFault>
+/// What a line asks for, where so many events came before.
+pub fn request_after(line: Line<'_>, count: usize) -> Result<Request<'_>, ScriptFault>
     requires { count ≤ MOST_EVENTS }
+    ensures asks { Gives events_of result (in_line line.entry.number (asked_after count (lexical.words
+        line.entry.words.rest.now))) }
+    ensures few { IfOk result (λ request. count + length (events_of request) ≤ MOST_EVENTS) }
     ensures line { IfErr result (λ fault. 1 ≤ fault.line) }
-    ensures few { IfOk result (λ request. count + length (requests.events_of request) ≤ MOST_EVENTS) }
-    ensures next { (s : Settings) (es : List Event) → length es ≡ count
-        → Gives (λ request. HasGone s (es ++ requests.events_of request)) result
-        (in_line line.entry.number (next (HasGone s es) (lexical.words line.entry.words.rest.now))) }
 {
-    let request = request_of(line)?;
-    if event_count(&request) > MOST_EVENTS - count {
-        return Err(ScriptFault {
+    match read_request(line.words) {
+        Ok(request) if request.event_count() <= MOST_EVENTS - count => Ok(request),
+        Ok(_) => Err(ScriptFault {
             line: line.number,
             cause: Cause::Events,
-        });
+        }),
+        Err(cause) => Err(ScriptFault {
+            line: line.number,
+            cause,
+        }),
     }
-    Ok(request)
-}
-
-/// What a line asks for, with its number in its fault.
-fn request_of(line: Line<'_>) -> Result<Request, ScriptFault>
-    ensures line { IfErr result (λ fault. 1 ≤ fault.line) }
-    ensures request { result ≡ in_line line.entry.number (requests.request (lexical.words line.entry.words.rest.now)) }
-{
-    ScriptFault::at(line.number, read_request(line.words))
 }
 
 /// What the line of these words asks for. It isn't made part of its caller, where a request would be moved piece by piece
 /// from each way in which a line is read.
 #[inline(never)]
 #[tactic(auto, unfolding(crate::specs::Requests::request))]
-fn read_request(mut words: Words<'_>) -> Result<Request, Cause>
-    ensures { result ≡ requests.request (lexical.words words.entry.rest.now) }
+fn read_request(mut words: Words<'_>) -> Result<Request<'_>, Cause>
+    ensures { Gives events_of result (requests.request (lexical.words words.entry.rest.now)) }
 {
     let Some(word) = words.next_word() else {
-        return Err(Cause::Word);
+        return Ok(Request::Steps(0, Block::Good));
     };
     match form_of(word) {
         Some(form) => read_fields(Connection::First, form, words),
@@ -121,8 +96,8 @@ fn read_request(mut words: Words<'_>) -> Result<Request, Cause>
 
 /// What the line asks for in which these words stand behind the word `second`.
 #[tactic(auto, unfolding(crate::specs::Requests::second_request))]
-fn read_second(mut words: Words<'_>) -> Result<Request, Cause>
-    ensures { result ≡ requests.second_request (lexical.words words.entry.rest.now) }
+fn read_second(mut words: Words<'_>) -> Result<Request<'_>, Cause>
+    ensures { Gives events_of result (requests.second_request (lexical.words words.entry.rest.now)) }
 {
     let word = words.next_field()?;
     match form_of(word) {
@@ -211,8 +186,8 @@ fn plain_form(word: &[u8]) -> Option<Form>
 
 /// What a line of this form asks for by these fields. If it is of a host, it is the connection's.
 #[tactic(auto, unfolding(crate::specs::Requests::asked))]
-fn read_fields(connection: Connection, form: Form, words: Words<'_>) -> Result<Request, Cause>
-    ensures { result ≡ requests.asked connection form (lexical.words words.entry.rest.now) }
+fn read_fields(connection: Connection, form: Form, words: Words<'_>) -> Result<Request<'_>, Cause>
+    ensures { Gives events_of result (requests.asked connection form (lexical.words words.entry.rest.now)) }
 {
     match form {
         Form::Transfer(kind) => read_transfer(connection, kind, words),
@@ -223,23 +198,33 @@ fn read_fields(connection: Connection, form: Form, words: Words<'_>) -> Result<R
         Form::Packet => read_packet(connection, words),
         Form::Step => read_steps(words),
         Form::Bad => read_bad(words),
-        Form::Take => alone(Request::Take(connection), words),
-        Form::Look => alone(Request::Look, words),
+        Form::Take => read_take(connection, words),
+        Form::Look => read_look(words),
     }
 }
 
-/// A request that has no fields.
-fn alone(request: Request, words: Words<'_>) -> Result<Request, Cause>
-    ensures { result ≡ requests.alone request (lexical.words words.entry.rest.now) }
+/// A take, which has no fields.
+#[tactic(auto, unfolding(crate::specs::Requests::asked))]
+fn read_take(connection: Connection, words: Words<'_>) -> Result<Request<'_>, Cause>
+    ensures { Gives events_of result (requests.asked connection Form.Take (lexical.words words.entry.rest.now)) }
 {
     words.none()?;
-    Ok(request)
+    Ok(Request::Take(connection))
+}
+
+/// A look, which has no fields.
+#[tactic(auto, unfolding(crate::specs::Requests::asked))]
+fn read_look(words: Words<'_>) -> Result<Request<'_>, Cause>
+    ensures { Gives events_of result (requests.asked Connection.First Form.Look (lexical.words words.entry.rest.now)) }
+{
+    words.none()?;
+    Ok(Request::Look)
 }
 
 /// A transfer: its reference number, its unit, how many bytes, and the first block.
 #[tactic(auto, unfolding(crate::specs::Requests::asked))]
-fn read_transfer(connection: Connection, kind: MoveKind, words: Words<'_>) -> Result<Request, Cause>
-    ensures { result ≡ requests.asked connection (Form.Transfer kind) (lexical.words words.entry.rest.now) }
+fn read_transfer(connection: Connection, kind: MoveKind, words: Words<'_>) -> Result<Request<'_>, Cause>
+    ensures { Gives events_of result (requests.asked connection (Form.Transfer kind) (lexical.words words.entry.rest.now)) }
 {
     let (reference, unit, count, block) = words.four()?;
     let command = Command {
@@ -252,8 +237,8 @@ fn read_transfer(connection: Connection, kind: MoveKind, words: Words<'_>) -> Re
 
 /// Another command to a unit: its reference number, and its unit.
 #[tactic(auto, unfolding(crate::specs::Requests::asked))]
-fn read_plain(connection: Connection, order: Order, words: Words<'_>) -> Result<Request, Cause>
-    ensures { result ≡ requests.asked connection (Form.Plain order) (lexical.words words.entry.rest.now) }
+fn read_plain(connection: Connection, order: Order, words: Words<'_>) -> Result<Request<'_>, Cause>
+    ensures { Gives events_of result (requests.asked connection (Form.Plain order) (lexical.words words.entry.rest.now)) }
 {
     let (reference, unit) = words.two()?;
     let command = Command {
@@ -266,8 +251,8 @@ fn read_plain(connection: Connection, order: Order, words: Words<'_>) -> Result<
 
 /// A SET CONTROLLER CHARACTERISTICS: its reference number.
 #[tactic(auto, unfolding(crate::specs::Requests::asked))]
-fn read_controller(connection: Connection, words: Words<'_>) -> Result<Request, Cause>
-    ensures { result ≡ requests.asked connection Form.SetController (lexical.words words.entry.rest.now) }
+fn read_controller(connection: Connection, words: Words<'_>) -> Result<Request<'_>, Cause>
+    ensures { Gives events_of result (requests.asked connection Form.SetController (lexical.words words.entry.rest.now)) }
 {
     let reference = words.one()?;
     let command = Command {
@@ -280,8 +265,8 @@ fn read_controller(connection: Connection, words: Words<'_>) -> Result<Request, 
 
 /// An abort: its reference number, and that of the command to be aborted.
 #[tactic(auto, unfolding(crate::specs::Requests::asked))]
-fn read_abort(connection: Connection, words: Words<'_>) -> Result<Request, Cause>
-    ensures { result ≡ requests.asked connection Form.Abort (lexical.words words.entry.rest.now) }
+fn read_abort(connection: Connection, words: Words<'_>) -> Result<Request<'_>, Cause>
+    ensures { Gives events_of result (requests.asked connection Form.Abort (lexical.words words.entry.rest.now)) }
 {
     let (reference, other) = words.two()?;
     let command = Command {
@@ -294,8 +279,8 @@ fn read_abort(connection: Connection, words: Words<'_>) -> Result<Request, Cause
 
 /// A poll: its reference number, and that of the command that it is about.
 #[tactic(auto, unfolding(crate::specs::Requests::asked))]
-fn read_status(connection: Connection, words: Words<'_>) -> Result<Request, Cause>
-    ensures { result ≡ requests.asked connection Form.Status (lexical.words words.entry.rest.now) }
+fn read_status(connection: Connection, words: Words<'_>) -> Result<Request<'_>, Cause>
+    ensures { Gives events_of result (requests.asked connection Form.Status (lexical.words words.entry.rest.now)) }
 {
     let (reference, other) = words.two()?;
     let command = Command {
@@ -306,48 +291,36 @@ fn read_status(connection: Connection, words: Words<'_>) -> Result<Request, Caus
     Ok(Request::Send(connection, command))
 }
 
-/// A message as it is.
+/// A message as it is, of these digits.
 #[tactic(auto, unfolding(crate::specs::Requests::asked))]
-fn read_packet(connection: Connection, words: Words<'_>) -> Result<Request, Cause>
-    ensures { result ≡ requests.asked connection Form.Packet (lexical.words words.entry.rest.now) }
+fn read_packet(connection: Connection, words: Words<'_>) -> Result<Request<'_>, Cause>
+    ensures { Gives events_of result (requests.asked connection Form.Packet (lexical.words words.entry.rest.now)) }
 {
-    Ok(Request::Packet(connection, message(words.one()?)?))
+    let digits = words.one()?;
+    message(digits)?;
+    Ok(Request::Packet(connection, digits))
 }
 
 /// So many steps: at least one.
 #[tactic(auto, unfolding(crate::specs::Requests::asked))]
-fn read_steps(words: Words<'_>) -> Result<Request, Cause>
-    ensures { result ≡ requests.asked Connection.First Form.Step (lexical.words words.entry.rest.now) }
+fn read_steps(words: Words<'_>) -> Result<Request<'_>, Cause>
+    ensures { Gives events_of result (requests.asked Connection.First Form.Step (lexical.words words.entry.rest.now)) }
 {
     let count = wide(words.one()?)?;
     if !(1..=MOST_STEPS).contains(&count) {
         return Err(Cause::Number);
     }
-    Ok(Request::Steps(count))
+    Ok(Request::Steps(count, Block::Good))
 }
 
 /// A bad block of this status.
 #[tactic(auto, unfolding(crate::specs::Requests::asked))]
-fn read_bad(words: Words<'_>) -> Result<Request, Cause>
-    ensures { result ≡ requests.asked Connection.First Form.Bad (lexical.words words.entry.rest.now) }
+fn read_bad(words: Words<'_>) -> Result<Request<'_>, Cause>
+    ensures { Gives events_of result (requests.asked Connection.First Form.Bad (lexical.words words.entry.rest.now)) }
 {
     let code = status(words.one()?)?;
     match FaultStatus::new(code) {
-        Some(code) => Ok(Request::Bad(code)),
+        Some(code) => Ok(Request::Steps(1, Block::Bad(code))),
         None => Err(Cause::Status),
-    }
-}
-
-/// How many events a request is.
-fn event_count(request: &Request) -> usize
-    ensures { result ≡ length (requests.events_of request.now) }
-{
-    match request {
-        Request::Send(..)
-        | Request::Packet(..)
-        | Request::Take(_)
-        | Request::Look
-        | Request::Bad(_) => 1,
-        Request::Steps(count) => *count as usize,
     }
 }

@@ -1,20 +1,21 @@
 // The lines of a script.
 
-ghost use Rattle.std.specs.Prelude.{◌≡◌, ◌↔◌, ◌+◌, ◌<◌, ◌≤◌, [], ◌∷◌, length, IsTrue, IfSome, IfNone, IfOk, IfErr, drop, MatchOption, MatchResult, Ok, Err};
+ghost use Rattle.std.specs.Prelude.{◌≡◌, ◌+◌, ◌<◌, ◌≤◌, [], ◌∷◌, length, IfSome, IfNone, IfOk, IfErr, drop, MatchOption, Some, Ok, Err, option_map};
 ghost use Rattle.std.specs.List.{list_all};
 ghost use Rattle.std.specs.Str.Lines.{strip_carriage_return};
 ghost use Rattle.mscp_packet.specs.Steps.{Gives};
 ghost use Rattle.mscp_reader.specs.Lexical as lexical;
-ghost use Rattle.mscp_reader.specs.Plain.{plain_request};
-ghost use Rattle.mscp_reader.specs.Requests.{request};
-ghost use Rattle.mscp_reader.specs.Grammar.{Place, IsInHeader};
-ghost use Rattle.mscp_reader.specs.Grammar.{said_at};
-ghost use Rattle.mscp_reader.specs.Outcome.{headed_on, in_line, lines_outcome, rest_headed, rest_outcome, onward, all_read};
+ghost use Rattle.mscp_reader.specs.Requests.{events_of};
+ghost use Rattle.mscp_reader.specs.Grammar.{Place, IsInHeader, said_at};
+ghost use Rattle.mscp_reader.specs.Outcome.{asked_next, headed_on, in_line, rest_headed};
+ghost use Rattle.mscp_reader.specs.declared.events.TheConstants.{MOST_EVENTS};
 ghost use Rattle.mscp_reader.specs.declared.script.TheConstants.{MOST_BYTES};
 
+use crate::events::{MOST_EVENTS, MOST_STEPS, request_after};
 use crate::fault::{Cause, ScriptFault};
 use crate::pieces::feed_in;
-use crate::plain::{Plain, read_plain};
+use crate::plain::read_plain;
+use crate::request::Request;
 use crate::script::MOST_BYTES;
 use crate::words::Words;
 
@@ -24,20 +25,12 @@ pub const MOST_LINES: u32 = 1_000_000;
 /// The most bytes that a line has.
 pub const LONGEST_LINE: usize = 200;
 
-/// A line that has a word: its number, and its words.
+/// A line: its number, and its words.
 #[derive(Clone, Copy)]
 pub struct Line<'a> {
     pub number: u32,
     pub words: Words<'a>,
     pub ghost counted: { 1 ≤ number },
-}
-
-/// A plain line, and what it asks for.
-#[derive(Clone, Copy)]
-pub struct PlainLine<'a> {
-    pub line: Line<'a>,
-    pub plain: Plain,
-    pub ghost agrees: { request (lexical.words line.words.rest.now) ≡ Ok (plain_request plain) },
 }
 
 /// The lines of a script that are left, and how many were cut off.
@@ -60,41 +53,7 @@ impl<'a> Lines<'a> {
         }
     }
 
-    /// The next line that has a word, if one is left. Comments and lines without a word are skipped.
-    pub fn next_line(&mut self) -> Result<Option<Line<'a>>, ScriptFault>
-        ensures shorter { IfOk result (λ line. IfSome line (λ _. length self.new.rest.now < length self.old.rest.now)) }
-        ensures fault { IfErr result (λ fault. 1 ≤ fault.line) }
-        ensures number { IfOk result (λ found. IfSome found (λ line. line.number ≡ self.new.number)) }
-        ensures none { IfOk result (λ found. IfNone found ((p : Place) → rest_outcome self.old.number p
-            self.old.rest.now ≡ all_read self.new.number p)) }
-        ensures some { IfOk result (λ found. IfSome found (λ line. (p : Place) → rest_outcome self.old.number p
-            self.old.rest.now
-            ≡ onward self.new.number p (lexical.words line.words.rest.now) (lexical.lines self.new.rest.now))) }
-        ensures wrong { IfErr result (λ fault. (p : Place) → rest_outcome self.old.number p self.old.rest.now ≡ Err
-            fault) }
-        // The same of a header.
-        ensures head_none { IfOk result (λ found. IfNone found ((p : Place) → IsInHeader p
-            → rest_headed self.old.number p self.old.rest.now
-            ≡ Err (record { line = self.new.number + 1; cause = Cause.Header }))) }
-        ensures head_some { IfOk result (λ found. IfSome found (λ line. (p : Place) → IsInHeader p
-            → rest_headed self.old.number p self.old.rest.now
-            ≡ headed_on self.new.number p (lexical.words line.words.rest.now) (lexical.lines self.new.rest.now))) }
-        ensures head_wrong { IfErr result (λ fault. (p : Place) → IsInHeader p
-            → rest_headed self.old.number p self.old.rest.now ≡ Err fault) }
-    {
-        while let Some(bytes) = self.cut() {
-            let words = words_of(self.number, bytes)?;
-            if !words.is_empty() {
-                return Ok(Some(Line {
-                    number: self.number,
-                    words,
-                }));
-            }
-        }
-        Ok(None)
-    }
-
-    /// The next line that has a word, which the header still needs.
+    /// The next line that has a word, which the header still needs. Comments and lines without a word are skipped.
     pub fn header_line(&mut self) -> Result<Line<'a>, ScriptFault>
         ensures shorter { IfOk result (λ _. length self.new.rest.now < length self.old.rest.now) }
         ensures fault { IfErr result (λ fault. 1 ≤ fault.line) }
@@ -105,41 +64,104 @@ impl<'a> Lines<'a> {
         ensures wrong { IfErr result (λ fault. (p : Place) → IsInHeader p
             → rest_headed self.old.number p self.old.rest.now ≡ Err fault) }
     {
-        match self.next_line()? {
-            Some(line) => Ok(line),
-            None => Err(ScriptFault {
-                line: self.number + 1,
-                cause: Cause::Header,
-            }),
+        while let Some(bytes) = self.cut() {
+            let words = words_of(self.number, bytes)?;
+            if !words.is_empty() {
+                return Ok(Line {
+                    number: self.number,
+                    words,
+                });
+            }
+        }
+        Err(ScriptFault {
+            line: self.number + 1,
+            cause: Cause::Header,
+        })
+    }
+
+    /// What the next line asks for, if one is left, where so many events came before.
+    #[inline(always)]
+    pub fn next_request(&mut self, count: usize) -> Result<Option<Request<'a>>, ScriptFault>
+        requires { count ≤ MOST_EVENTS }
+        ensures asks { Gives (option_map events_of) result (asked_next self.old.number count (lexical.lines
+            self.old.rest.now)) }
+        ensures few { IfOk result (λ found. IfSome found (λ request. count + length (events_of request)
+            ≤ MOST_EVENTS)) }
+        ensures fault { IfErr result (λ fault. 1 ≤ fault.line) }
+        // That line is cut off.
+        ensures rest { lexical.lines self.new.rest.now ≡ drop 1 (lexical.lines self.old.rest.now) }
+        ensures number { IfOk result (λ found. IfSome found (λ _. self.new.number ≡ self.old.number + 1)) }
+        ensures shorter { IfOk result (λ found. IfSome found (λ _. length self.new.rest.now
+            < length self.old.rest.now)) }
+    {
+        match self.plain_request(count) {
+            Some(request) => Ok(Some(request)),
+            // A request that was written to memory is moved here, so that a plain one isn't.
+            None => match self.worded_request(count) {
+                Ok(Some(request)) => Ok(Some(request)),
+                Ok(None) => Ok(None),
+                Err(fault) => Err(fault),
+            },
         }
     }
 
-    /// The next line, if it is found to be plain. Any other line stays, and nothing is said of it.
-    pub fn plain_line(&mut self) -> Option<PlainLine<'a>>
-        ensures shorter { IfSome result (λ _. length self.new.rest.now < length self.old.rest.now) }
-        ensures number { IfSome result (λ found. found.line.number ≡ self.new.number) }
-        ensures none { IfNone result ((self.new.number ≡ self.old.number) × (self.new.rest.now ≡ self.old.rest.now)) }
-        ensures some { IfSome result (λ found. (p : Place) → rest_outcome self.old.number p self.old.rest.now
-            ≡ onward self.new.number p (lexical.words found.line.words.rest.now) (lexical.lines self.new.rest.now)) }
-        // The line is the first, and it says its words.
-        ensures next { IfSome result (λ found. self.new.number ≡ self.old.number + 1) }
-        ensures line { IfSome result (λ found. lexical.lines self.old.rest.now
-            ≡ found.line.words.rest.now ∷ lexical.lines self.new.rest.now) }
-        ensures said { IfSome result (λ found. said_at self.new.number found.line.words.rest.now
-            ≡ Ok (lexical.words found.line.words.rest.now)) }
+    /// The same, word by word. Few lines are read so: it isn't made part of the loops over all lines.
+    #[inline(never)]
+    fn worded_request(&mut self, count: usize) -> Result<Option<Request<'a>>, ScriptFault>
+        requires { count ≤ MOST_EVENTS }
+        ensures asks { Gives (option_map events_of) result (asked_next self.old.number count (lexical.lines
+            self.old.rest.now)) }
+        ensures few { IfOk result (λ found. IfSome found (λ request. count + length (events_of request)
+            ≤ MOST_EVENTS)) }
+        ensures fault { IfErr result (λ fault. 1 ≤ fault.line) }
+        ensures rest { lexical.lines self.new.rest.now ≡ drop 1 (lexical.lines self.old.rest.now) }
+        ensures number { IfOk result (λ found. IfSome found (λ _. self.new.number ≡ self.old.number + 1)) }
+        ensures shorter { IfOk result (λ found. IfSome found (λ _. length self.new.rest.now
+            < length self.old.rest.now)) }
     {
-        let (plain, behind) = read_plain(self.rest)?;
+        let Some(bytes) = self.cut() else {
+            return Ok(None);
+        };
+        let words = words_of(self.number, bytes)?;
+        let line = Line {
+            number: self.number,
+            words,
+        };
+        match request_after(line, count) {
+            Ok(request) => Ok(Some(request)),
+            Err(fault) => Err(fault),
+        }
+    }
+
+    /// The same of a line that is found to be plain, while there is room for the events of any. Any other line stays.
+    #[inline(always)]
+    fn plain_request(&mut self, count: usize) -> Option<Request<'a>>
+        requires { count ≤ MOST_EVENTS }
+        ensures asks { IfSome result (λ request. asked_next self.old.number count (lexical.lines self.old.rest.now)
+            ≡ Ok (Some (events_of request))) }
+        ensures few { IfSome result (λ request. count + length (events_of request) ≤ MOST_EVENTS) }
+        ensures rest { IfSome result (λ _. lexical.lines self.new.rest.now
+            ≡ drop 1 (lexical.lines self.old.rest.now)) }
+        ensures number { IfSome result (λ _. self.new.number ≡ self.old.number + 1) }
+        ensures shorter { IfSome result (λ _. length self.new.rest.now < length self.old.rest.now) }
+        ensures none { IfNone result ((self.new.number ≡ self.old.number) × (self.new.rest.now ≡ self.old.rest.now)) }
+    {
+        // Its events are few enough then, whatever it asks for.
+        if count > MOST_EVENTS - MOST_STEPS as usize {
+            return None;
+        }
+        let Some((request, behind)) = read_plain(self.rest) else {
+            return None;
+        };
         let length = self.rest.len() - behind.len() - 1;
         if length > LONGEST_LINE || self.number >= MOST_LINES {
             return None;
         }
-        let line = Line {
+        *self = Lines {
+            rest: behind,
             number: self.number + 1,
-            words: Words::new(&self.rest[..length]),
         };
-        self.number += 1;
-        self.rest = behind;
-        Some(PlainLine { line, plain })
+        Some(request)
     }
 
     /// Cuts off the next line: up to a line feed or the end, without a carriage return there.
@@ -150,6 +172,7 @@ impl<'a> Lines<'a> {
             ≡ self.old.number + 1) }
         ensures line { MatchOption result (lexical.lines self.old.rest.now ≡ []) (λ line. lexical.lines
             self.old.rest.now ≡ line.now ∷ lexical.lines self.new.rest.now) }
+        ensures none { IfNone result (self.new.rest.now ≡ self.old.rest.now) }
     {
         if self.rest.is_empty() {
             return None;

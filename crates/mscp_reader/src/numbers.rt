@@ -3,6 +3,7 @@
 ghost use Rattle.std.specs.Prelude.{◌≡◌, ◌≤◌, IfOk};
 ghost use Rattle.mscp_packet.specs.Steps.{Gives};
 ghost use Rattle.mscp_reader.specs.Lexical as lexical;
+ghost use Rattle.mscp_reader.specs.Requests.{bytes_in};
 
 use crate::fault::Cause;
 use arrayvec::ArrayVec;
@@ -60,6 +61,16 @@ pub fn message(word: &[u8]) -> Result<ArrayVec<u8, 64>, Cause>
     match decode(word) {
         Ok(message) => Ok(message),
         Err(_) => Err(Cause::Hex),
+    }
+}
+
+/// The bytes of the message of these digits, or none if they are those of no message.
+pub fn bytes_in(digits: &[u8]) -> ArrayVec<u8, 64>
+    ensures { result.items ≡ bytes_in digits.now }
+{
+    match message(digits) {
+        Ok(bytes) => bytes,
+        Err(_) => ArrayVec::new(),
     }
 }
 

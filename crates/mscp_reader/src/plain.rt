@@ -1,65 +1,38 @@
 // Plain lines: a word, and then numbers behind one space each, up to a line feed. Most lines are plain, and are read in
 // one pass over their bytes. Any other line is left to the reader of all lines, which finds the faults, too.
 
-ghost use Rattle.std.specs.Prelude.{◌≡◌, ◌≤◌, [], true, not, position, take, length, IfSome};
+ghost use Rattle.std.specs.Prelude.{◌≡◌, ◌≤◌, [], true, not, position, take, length, replicate, IfSome};
 ghost use Rattle.std.specs.List.{list_all};
+ghost use Rattle.mscp_events.specs.declared.block.Block.TheVariants.{Good};
 ghost use Rattle.mscp_events.specs.declared.connection.Connection.TheVariants.{First};
+ghost use Rattle.mscp_events.specs.declared.event.Event.TheVariants as events;
+ghost use Rattle.mscp_reader.specs.declared.events.TheConstants.{MOST_STEPS};
 ghost use Rattle.mscp_reader.specs.Lexical as lexical;
-ghost use Rattle.mscp_reader.specs.Requests as requests;
-ghost use Rattle.mscp_reader.specs.Plain.{Asks, CutsWord, Ends, IsNumeral, IsPlain, is_letter, plain_request};
+ghost use Rattle.mscp_reader.specs.Plain.{Asks, CutsWord, Ends, IsNumeral, IsPlain, is_letter};
+ghost use Rattle.mscp_reader.specs.Requests.{events_of, sent};
 
-use crate::events::{Form, MOST_STEPS, Request, form_of};
+use crate::events::{Form, MOST_STEPS, form_of};
 use crate::numbers::MOST_DIGITS;
-use mscp_events::Connection;
+use crate::request::Request;
+use mscp_events::{Block, Connection};
 use mscp_packet::{Command, MoveKind, Order};
-
-/// What a plain line asks for. It doesn't name the second connection.
-#[derive(Clone, Copy)]
-pub enum Plain {
-    /// The first connection's host sends this command.
-    Send(Command),
-    /// The first connection's host takes an end.
-    Take,
-    /// The figures of all waiting commands are asked for.
-    Look,
-    /// The drive serves so many good blocks.
-    Steps(u32),
-}
-
-impl Plain {
-    /// How many events it is.
-    pub fn event_count(self) -> usize
-        ensures { result ≡ length (requests.events_of (plain_request self)) }
-    {
-        match self {
-            Plain::Send(_) | Plain::Take | Plain::Look => 1,
-            Plain::Steps(count) => count as usize,
-        }
-    }
-
-    /// The same as a request of any line.
-    pub fn request(self) -> Request
-        ensures { result ≡ plain_request self }
-    {
-        match self {
-            Plain::Send(command) => Request::Send(Connection::First, command),
-            Plain::Take => Request::Take(Connection::First),
-            Plain::Look => Request::Look,
-            Plain::Steps(count) => Request::Steps(count),
-        }
-    }
-}
 
 /// What the first line of these bytes asks for, and what stands behind it, if that line is found to be plain. Nothing is
 /// said of any other: the reader of all lines reads those.
-pub fn read_plain(bytes: &[u8]) -> Option<(Plain, &[u8])>
-    ensures { IfSome result (λ read. IsPlain bytes.now (plain_request read.0) read.1.now) }
+pub fn read_plain(bytes: &[u8]) -> Option<(Request<'_>, &[u8])>
+    ensures plain { IfSome result (λ read. IsPlain bytes.now (events_of read.0) read.1.now) }
+    ensures few { IfSome result (λ read. length (events_of read.0) ≤ MOST_STEPS) }
 {
     let (word, rest) = bytes.split_at(letter_count(bytes));
     let form = form_of(word)?;
     let mut fields = Fields { rest };
-    let plain = fields.plain(form)?;
-    Some((plain, fields.behind()?))
+    match fields.request(form) {
+        Some(request) => match fields.behind() {
+            Some(behind) => Some((request, behind)),
+            None => None,
+        },
+        None => None,
+    }
 }
 
 /// How many lower case letters bytes begin with.
@@ -109,24 +82,25 @@ struct Fields<'a> {
 
 impl<'a> Fields<'a> {
     /// Cuts off what a line of this form asks for by its fields.
-    fn plain(&mut self, form: Form) -> Option<Plain>
-        ensures { IfSome result (λ plain. Asks form (plain_request plain) self.old.rest.now self.new.rest.now) }
+    fn request(&mut self, form: Form) -> Option<Request<'a>>
+        ensures asks { IfSome result (λ request. Asks form (events_of request) self.old.rest.now self.new.rest.now) }
+        ensures few { IfSome result (λ request. length (events_of request) ≤ MOST_STEPS) }
     {
         match form {
-            Form::Transfer(kind) => Some(Plain::Send(self.transfer(kind)?)),
-            Form::Plain(order) => Some(Plain::Send(self.other(order)?)),
-            Form::Status => Some(Plain::Send(self.poll()?)),
-            Form::Abort => Some(Plain::Send(self.abort()?)),
-            Form::Step => Some(Plain::Steps(self.steps()?)),
-            Form::Take => Some(Plain::Take),
-            Form::Look => Some(Plain::Look),
+            Form::Transfer(kind) => Some(Request::Send(Connection::First, self.transfer(kind)?)),
+            Form::Plain(order) => Some(Request::Send(Connection::First, self.other(order)?)),
+            Form::Status => Some(Request::Send(Connection::First, self.poll()?)),
+            Form::Abort => Some(Request::Send(Connection::First, self.abort()?)),
+            Form::Step => Some(Request::Steps(self.steps()?, Block::Good)),
+            Form::Take => Some(Request::Take(Connection::First)),
+            Form::Look => Some(Request::Look),
             _ => None,
         }
     }
 
     /// Cuts off the fields of a transfer.
     fn transfer(&mut self, kind: MoveKind) -> Option<Command>
-        ensures { IfSome result (λ command. Asks (Form.Transfer kind) (Request.Send First command) self.old.rest.now
+        ensures { IfSome result (λ command. Asks (Form.Transfer kind) (sent First command) self.old.rest.now
             self.new.rest.now) }
     {
         let reference = self.wide()?;
@@ -142,7 +116,7 @@ impl<'a> Fields<'a> {
 
     /// Cuts off the fields of another command to a unit.
     fn other(&mut self, order: Order) -> Option<Command>
-        ensures { IfSome result (λ command. Asks (Form.Plain order) (Request.Send First command) self.old.rest.now
+        ensures { IfSome result (λ command. Asks (Form.Plain order) (sent First command) self.old.rest.now
             self.new.rest.now) }
     {
         let reference = self.wide()?;
@@ -156,7 +130,7 @@ impl<'a> Fields<'a> {
 
     /// Cuts off the fields of a poll.
     fn poll(&mut self) -> Option<Command>
-        ensures { IfSome result (λ command. Asks Form.Status (Request.Send First command) self.old.rest.now
+        ensures { IfSome result (λ command. Asks Form.Status (sent First command) self.old.rest.now
             self.new.rest.now) }
     {
         let reference = self.wide()?;
@@ -170,7 +144,7 @@ impl<'a> Fields<'a> {
 
     /// Cuts off the fields of an abort.
     fn abort(&mut self) -> Option<Command>
-        ensures { IfSome result (λ command. Asks Form.Abort (Request.Send First command) self.old.rest.now
+        ensures { IfSome result (λ command. Asks Form.Abort (sent First command) self.old.rest.now
             self.new.rest.now) }
     {
         let reference = self.wide()?;
@@ -184,7 +158,9 @@ impl<'a> Fields<'a> {
 
     /// Cuts off how many steps there are.
     fn steps(&mut self) -> Option<u32>
-        ensures { IfSome result (λ count. Asks Form.Step (Request.Steps count) self.old.rest.now self.new.rest.now) }
+        ensures asks { IfSome result (λ count. Asks Form.Step (replicate count (events.Step Good)) self.old.rest.now
+            self.new.rest.now) }
+        ensures few { IfSome result (λ count. count ≤ MOST_STEPS) }
     {
         let count = self.wide()?;
         if !(1..=MOST_STEPS).contains(&count) {

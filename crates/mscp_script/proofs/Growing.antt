@@ -10,10 +10,7 @@ use Rattle.mscp_events.specs.declared.event.Event.{Event}
 use Rattle.mscp_controller.specs.declared.entry.Entry.{Entry}
 use Rattle.mscp_events.specs.Settings.{Settings}
 use Rattle.mscp_controller.specs.Holdings.{Answered, Answers, Holdings, fresh}
-use Rattle.mscp_reader.specs.Grammar.{HasGone}
-use Rattle.mscp_reader.specs.Outcome.{rest_outcome}
 use Rattle.mscp_script.specs.Running.{Meets, Ran, Runs}
-use Rattle.mscp_reader.specs.declared.fault.ScriptFault.{ScriptFault}
 use Rattle.mscp_script.specs.declared.running.Run.{Run}
 use Rattle.mscp_script.specs.Text.{Reported, ended_count, entry_lines, queued_count, reported, seek_of, step_count, with_entry}
 
@@ -89,8 +86,3 @@ meets_more a b d n e m ran = λ c es runs.
     let more : Runs c ((es ++ replicate n e) ++ e ∷ []) d = runs_more c (es ++ replicate n e) b d e (m c es runs) ran in
     subst (λ all. Runs c all d) (append_assoc es (replicate n e) (e ∷ []) ∙ ap (λ all. es ++ all) (replicate_more n e))
     more
-
--- so far these events came of lines of which this was to become, and so many bytes of them are left
-abbrev pub Going : {A : Type 0} → Settings → Result (Settings × List Event) ScriptFault → Run A → ℕ → List ℕ → Type 0
-Going c told run number rest = (events : List Event) × Runs c events run
-    × (told ≡ rest_outcome number (HasGone c events) rest)

@@ -7,8 +7,7 @@ use Rattle.mscp_events.specs.Settings.{Settings}
 use Rattle.mscp_controller.specs.Holdings.{Answered, Answers, fresh}
 use Rattle.mscp_script.specs.declared.running.Run.{Run}
 use Rattle.mscp_script.specs.Text.{reported, with_entry}
-use Rattle.mscp_reader.specs.Grammar.{HasGone}
-use Rattle.mscp_reader.specs.Outcome.{Fails, rest_outcome}
+use Rattle.mscp_reader.specs.Outcome.{Fails}
 use Rattle.mscp_script.specs.Simulated.{IsReportOf}
 use Rattle.mscp_reader.specs.declared.fault.ScriptFault.{ScriptFault}
 use Rattle.mscp_reader.specs.declared.fault.ReadFault.{ReadFault}
@@ -32,19 +31,11 @@ pub record Runs {A : Type 0} (c : Settings) (events : List Event) (run : Run A) 
 abbrev pub Meets : {A : Type 0} → Run A → Run A → List Event → Type 0
 Meets old new events = (c : Settings) (es : List Event) → Runs c es old → Runs c (es ++ events) new
 
--- what the definition says is made of the events that came, or is this fault, unless memory ran out
-abbrev pub RunsTo : {A Y : Type 0}
-    → (List Event → Y) → Settings → Result (Unit {0}) ReadFault → Run A → Result Y ScriptFault → Type 0
-RunsTo made c (Ok done) run told = (events : List Event) × Runs c events run × (told ≡ Ok (made events))
-RunsTo made c (Err fault) run told = Fails fault told
-
--- the events that came so far are of lines of which this was to become, and of what is left of them is to become the
--- same; or the lines have this fault, unless memory ran out
-abbrev pub GoesOn : {A : Type 0} → Settings → Result (Unit {0}) ReadFault → Run A → ℕ → List ℕ
-    → Result (Settings × List Event) ScriptFault → Type 0
-GoesOn c (Ok done) run number rest told =
-    (events : List Event) × Runs c events run × (told ≡ rest_outcome number (HasGone c events) rest)
-GoesOn c (Err fault) run number rest told = Fails fault told
+-- what the definition says is the events that came, or this fault, unless memory ran out
+abbrev pub RunsTo : {A : Type 0}
+    → Settings → Result (Unit {0}) ReadFault → Run A → Result (Settings × List Event) ScriptFault → Type 0
+RunsTo c (Ok done) run told = (events : List Event) × Runs c events run × (told ≡ Ok (c, events))
+RunsTo c (Err fault) run told = Fails fault told
 
 -- what was returned, seen by view, is the report of what the definition says, or this fault, unless memory ran out
 abbrev pub TellsReport : {X : Type 0}

@@ -4,8 +4,6 @@ ghost use Rattle.std.specs.Prelude.{◌≡◌, ◌+◌, ◌<◌, ◌^◌, [], le
 ghost use Rattle.mscp_controller.specs.Holdings.{fresh};
 ghost use Rattle.mscp_events.specs.Settings.{IsValid};
 ghost use Rattle.mscp_events.specs.declared.event.Event.TheVariants as events;
-ghost use Rattle.mscp_events.specs.declared.block.Block.TheVariants.{Good};
-ghost use Rattle.mscp_reader.specs.Plain.{plain_request};
 ghost use Rattle.mscp_reader.specs.Requests.{events_of};
 ghost use Rattle.mscp_script.specs.Running.{Meets, Ran};
 ghost use Rattle.mscp_script.specs.Text.{reported};
@@ -13,7 +11,7 @@ ghost use Rattle.mscp_script.specs.Text.{reported};
 use crate::reporting::Reporter;
 use mscp_controller::{Block, Config, Connection, Controller, OutOfMemory, Sweep};
 use mscp_packet::write_command;
-use mscp_reader::{Plain, Request};
+use mscp_reader::{Request, bytes_in};
 use mscp_text::Out;
 
 /// A controller whose picker sweeps, and the report of what it answered so far. No entry is kept.
@@ -53,7 +51,9 @@ impl<O: Out> Run<O> {
         self.reporter.sent(connection, &sent)
     }
 
-    /// The connection's host takes an end.
+    /// The connection's host takes an end. Neither this nor what steps do is made part of the loop over all lines, which
+    /// has fewer registers then.
+    #[inline(never)]
     fn take(&mut self, connection: Connection) -> Result<(), OutOfMemory>
         requires { self.old.reporter.count + 1 < 2 ^ 64 }
         ensures { OnOk result (Ran self.old self.new (events.Take connection)) }
@@ -80,20 +80,21 @@ impl<O: Out> Run<O> {
         self.reporter.looked(&shown)
     }
 
-    /// So many good blocks are served.
-    fn steps(&mut self, count: u32) -> Result<(), OutOfMemory>
+    /// The drive serves so many blocks, each with this outcome.
+    #[inline(never)]
+    fn steps(&mut self, count: u32, block: &Block) -> Result<(), OutOfMemory>
         requires { self.old.reporter.count + count < 2 ^ 64 }
-        ensures met { OnOk result (Meets self.old self.new (replicate count (events.Step Good))) }
+        ensures met { OnOk result (Meets self.old self.new (replicate count (events.Step block.now))) }
         ensures count { OnOk result (self.new.reporter.count ≡ self.old.reporter.count + count) }
     {
         for _step in 0..count {
-            self.step(Block::Good)?;
+            self.step(*block)?;
         }
         Ok(())
     }
 
     /// The events of a request come.
-    pub fn meet(&mut self, request: &Request) -> Result<(), OutOfMemory>
+    pub fn meet(&mut self, request: &Request<'_>) -> Result<(), OutOfMemory>
         requires { self.old.reporter.count + length (events_of request.now) < 2 ^ 64 }
         ensures met { OnOk result (Meets self.old self.new (events_of request.now)) }
         ensures count { OnOk result (self.new.reporter.count
@@ -103,28 +104,12 @@ impl<O: Out> Run<O> {
             Request::Send(connection, command) => {
                 self.send(*connection, write_command(command).as_slice())
             }
-            Request::Packet(connection, bytes) => self.send(*connection, bytes.as_slice()),
-            Request::Take(connection) => self.take(*connection),
-            Request::Look => self.look(),
-            Request::Steps(count) => self.steps(*count),
-            Request::Bad(code) => self.step(Block::Bad(*code)),
-        }
-    }
-
-    /// The events of a plain line come.
-    pub fn meet_plain(&mut self, plain: Plain) -> Result<(), OutOfMemory>
-        requires { self.old.reporter.count + length (events_of (plain_request plain)) < 2 ^ 64 }
-        ensures met { OnOk result (Meets self.old self.new (events_of (plain_request plain))) }
-        ensures count { OnOk result (self.new.reporter.count
-            ≡ self.old.reporter.count + length (events_of (plain_request plain))) }
-    {
-        match plain {
-            Plain::Send(command) => {
-                self.send(Connection::First, write_command(&command).as_slice())
+            Request::Packet(connection, digits) => {
+                self.send(*connection, bytes_in(digits).as_slice())
             }
-            Plain::Take => self.take(Connection::First),
-            Plain::Look => self.look(),
-            Plain::Steps(count) => self.steps(count),
+            Request::Take(connection) => self.take(*connection),
+            Request::Steps(count, block) => self.steps(*count, block),
+            Request::Look => self.look(),
         }
     }
 }

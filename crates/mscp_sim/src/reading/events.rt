@@ -2,19 +2,17 @@
 
 ghost use Rattle.std.specs.Prelude.{◌≡◌, ◌++◌, ◌≤◌, [], replicate, vec_len, IfOk, OnOk};
 ghost use Rattle.mscp_packet.specs.Commands.{command_bytes};
-ghost use Rattle.mscp_events.specs.declared.block.Block.TheVariants.{Good};
 ghost use Rattle.mscp_events.specs.declared.event.Event.TheVariants.{Step};
 ghost use Rattle.mscp_events.specs.Settings.{Settings};
-ghost use Rattle.mscp_reader.specs.Lexical as lexical;
-ghost use Rattle.mscp_reader.specs.Requests as requests;
-ghost use Rattle.mscp_reader.specs.Grammar.{HasGone, next};
-ghost use Rattle.mscp_reader.specs.Outcome.{Tells, in_line, rest_outcome};
+ghost use Rattle.mscp_reader.specs.Requests.{events_of};
+ghost use Rattle.mscp_reader.specs.Grammar.{HasGone};
+ghost use Rattle.mscp_reader.specs.Outcome.{Tells, rest_outcome};
 ghost use Rattle.mscp_reader.specs.declared.events.TheConstants.{MOST_EVENTS};
 
 use arrayvec::ArrayVec;
 use mscp_events::{Block, Event, OutOfMemory};
 use mscp_packet::{Command, write_command};
-use mscp_reader::{Line, Lines, MOST_EVENTS, ReadFault, Request, ScriptFault, request_after};
+use mscp_reader::{Lines, ReadFault, Request, ScriptFault, bytes_in};
 use std::alloc::Allocator;
 
 /// Reads all lines that are left.
@@ -28,47 +26,42 @@ pub fn read_events<A: Allocator>(
         (HasGone s []) lines.old.rest.now) }
 {
     let mut events = Vec::new(alloc);
-    while let Some(line) = lines.next_line()? {
-        read_line(&mut events, line)?;
+    loop {
+        match lines.next_request(events.len()) {
+            Ok(Some(request)) => add_events(&mut events, &request)?,
+            Ok(None) => return Ok(events),
+            Err(fault) => return Err(ReadFault::Script(fault)),
+        }
     }
-    Ok(events)
-}
-
-/// Reads a line, and appends its events.
-#[tactic(auto, unfolding(mscp_reader::specs::Grammar::next))]
-fn read_line<A: Allocator>(events: &mut Vec<Event, A>, line: Line<'_>) -> Result<(), ReadFault>
-    requires { vec_len events.old ≤ MOST_EVENTS }
-    ensures few { OnOk result (vec_len events.new ≤ MOST_EVENTS) }
-    ensures fault { (fault : ScriptFault) → result ≡ Err (ReadFault.Script fault) → 1 ≤ fault.line }
-    ensures next { (s : Settings) → Tells (λ done. HasGone s events.new.items) result
-        (in_line line.entry.number (next (HasGone s events.old.items) (lexical.words line.entry.words.rest.now))) }
-{
-    let request = request_after(line, events.len())?;
-    add_events(events, request)?;
-    Ok(())
 }
 
 /// Appends the events of a request.
-fn add_events<A: Allocator>(events: &mut Vec<Event, A>, request: Request) -> Result<(), OutOfMemory>
-    ensures { OnOk result (events.new.items ≡ events.old.items ++ requests.events_of request) }
+fn add_events<A: Allocator>(
+    events: &mut Vec<Event, A>,
+    request: &Request<'_>,
+) -> Result<(), OutOfMemory>
+    ensures { OnOk result (events.new.items ≡ events.old.items ++ events_of request.now) }
 {
     let event = match request {
-        Request::Send(connection, command) => { Event::Send(connection, command_message(&command)) }
-        Request::Packet(connection, bytes) => Event::Send(connection, bytes),
-        Request::Take(connection) => Event::Take(connection),
+        Request::Send(connection, command) => { Event::Send(*connection, command_message(command)) }
+        Request::Packet(connection, digits) => Event::Send(*connection, bytes_in(digits)),
+        Request::Take(connection) => Event::Take(*connection),
+        Request::Steps(count, block) => return add_steps(events, *count, block),
         Request::Look => Event::Look,
-        Request::Bad(code) => Event::Step(Block::Bad(code)),
-        Request::Steps(count) => return add_steps(events, count),
     };
     Ok(events.push(event)?)
 }
 
-/// Appends so many steps that serve a good block.
-fn add_steps<A: Allocator>(events: &mut Vec<Event, A>, count: u32) -> Result<(), OutOfMemory>
-    ensures { OnOk result (events.new.items ≡ events.old.items ++ replicate count (Step Good)) }
+/// Appends so many steps, each with this outcome.
+fn add_steps<A: Allocator>(
+    events: &mut Vec<Event, A>,
+    count: u32,
+    block: &Block,
+) -> Result<(), OutOfMemory>
+    ensures { OnOk result (events.new.items ≡ events.old.items ++ replicate count (Step block.now)) }
 {
     for _step in 0..count {
-        events.push(Event::Step(Block::Good))?;
+        events.push(Event::Step(*block))?;
     }
     Ok(())
 }

@@ -1,4 +1,4 @@
-use Rattle.std.proofs.Common.{◌++◌, ap, sym, ◌∙◌}
+use Rattle.std.proofs.Common.{ap, sym, ◌∙◌}
 use Rattle.std.proofs.lemmas.Bool.{true≢false}
 use Rattle.std.proofs.lemmas.Result.{err_from_is_err_and}
 use Rattle.mscp_reader.specs.Lexical.{words}
@@ -49,47 +49,43 @@ returns-then-is_answer-clause-hears g c = λ d log s. (
   c.in_ok-hear.ensures.tells d log s,
 )
 
-pub returns-in_err-request-clause-hears : goal.returns-in_err-request-clause-hears
-returns-in_err-request-clause-hears g c =
-    let p = err_from_is_err_and c.from_residual-in_err-request.result c.from_residual-in_err-request.ensures.1 in
-    rw (p.1, p.2) (λ d log s.
-    asks_wrong c.args.number log c.args.bytes.now _ d c.in_err-request.field-0.0 c.in_ok-words.ensures.words
+pub returns-in-Err-clause-hears : goal.returns-in-Err-clause-hears
+returns-in-Err-clause-hears g c =
+    λ d log s. asks_wrong c.args.number _ log c.args.bytes.now _ c.in-Err.fault (s.count ∙ sym c.count.ensures)
+    c.in_ok-words.ensures.words
     (λ e. true≢false (sym (c.is_empty.ensures.1 e) ∙ c.if-is_empty.false))
-    (sym c.is_answer.ensures ∙ c.if-is_answer.false)
-    (c.in_err-request.ensures.next d log.events (s.count ∙ sym c.count.ensures)))
+    (sym c.is_answer.ensures ∙ c.if-is_answer.false) c.in-Err.ensures.asks
 
-pub returns-then-not-is_settled-clause-hears : goal.returns-then-not-is_settled-clause-hears
-returns-then-not-is_settled-clause-hears g c = λ d log s.
-    let new = events_of c.in_ok-request.request in
+pub returns-in-Ok-clause-hears : goal.returns-in-Ok-clause-hears
+returns-in-Ok-clause-hears g c = λ d log s.
+    let new = events_of c.in-Ok.field-0 in
     let unasked = unnamed (words c.args.bytes.now) (ap is_answer
     (sym (says_words c.args.number c.args.bytes.now _ c.in_ok-words.ensures.words
     (λ e. true≢false (sym (c.is_empty.ensures.1 e) ∙ c.if-is_empty.false))).0)
     ∙ (sym c.is_answer.ensures ∙ c.if-is_answer.false)) in (
-      asking log new (log.events ++ new),
-      asks c.args.number log c.args.bytes.now _ d new c.in_ok-words.ensures.words
+      asking log new,
+      asks c.args.number _ log c.args.bytes.now _ new (s.count ∙ sym c.count.ensures) c.in_ok-words.ensures.words
           (λ e. true≢false (sym (c.is_empty.ensures.1 e) ∙ c.if-is_empty.false))
-          (sym c.is_answer.ensures ∙ c.if-is_answer.false)
-          (c.in_ok-request.ensures.next d log.events (s.count ∙ sym c.count.ensures)),
+          (sym c.is_answer.ensures ∙ c.if-is_answer.false) c.in-Ok.ensures.asks,
       (
-        too_early d log c.args.judge.now new (log.events ++ new) s (c.is_settled.ensures.no c.if-not-is_settled.true),
+        too_early d log c.args.judge.now new s (c.is_settled.ensures.no c.if-not-is_settled.true),
         stands_open_held d log (name_in (words c.args.bytes.now)) c.args.judge.now s (λ none some. unasked),
       ),
     )
 
-pub returns-then-not-is_settled-clause-breaks : goal.returns-then-not-is_settled-clause-breaks
-returns-then-not-is_settled-clause-breaks g c = λ wanted d log s.
+pub returns-in-Ok-clause-breaks : goal.returns-in-Ok-clause-breaks
+returns-in-Ok-clause-breaks g c = λ wanted d log s.
     broken_early d log c.args.bytes.now c.args.judge.now _ s
     (ap is_answer (sym (says_words c.args.number c.args.bytes.now _ c.in_ok-words.ensures.words
     (λ e. true≢false (sym (c.is_empty.ensures.1 e) ∙ c.if-is_empty.false))).0)
     ∙ (sym c.is_answer.ensures ∙ c.if-is_answer.false))
 
-pub returns-clause-hears : goal.returns-clause-hears
-returns-clause-hears g c = λ d log s.
-    let new = events_of c.in_ok-request.request in (
-      asking log new (log.events ++ new),
-      asks c.args.number log c.args.bytes.now _ d new c.in_ok-words.ensures.words
+pub returns-in_ok-ask-in-Ok-2-clause-hears : goal.returns-in_ok-ask-in-Ok-2-clause-hears
+returns-in_ok-ask-in-Ok-2-clause-hears g c = λ d log s.
+    let new = events_of c.in-Ok.field-0 in (
+      asking log new,
+      asks c.args.number _ log c.args.bytes.now _ new (s.count ∙ sym c.count.ensures) c.in_ok-words.ensures.words
           (λ e. true≢false (sym (c.is_empty.ensures.1 e) ∙ c.if-is_empty.false))
-          (sym c.is_answer.ensures ∙ c.if-is_answer.false)
-          (c.in_ok-request.ensures.next d log.events (s.count ∙ sym c.count.ensures)),
-      c.in_ok-ask.ensures.stands d log s,
+          (sym c.is_answer.ensures ∙ c.if-is_answer.false) c.in-Ok.ensures.asks,
+      c.in_ok-ask-in-Ok-2.ensures.stands d log s,
     )

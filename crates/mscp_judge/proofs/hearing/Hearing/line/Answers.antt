@@ -1,10 +1,10 @@
-use Rattle.std.proofs.Common.{◌++◌, sym, ◌∙◌}
+use Rattle.std.proofs.Common.{sym, ◌∙◌}
 use Rattle.std.proofs.lemmas.Bool.{true≢false}
 use Rattle.std.proofs.lemmas.Result.{err_from_is_err_and}
 use Rattle.mscp_reader.specs.Requests.{events_of}
 use Rattle.mscp_reader.specs.Lexical.{words}
 use Rattle.mscp_judge.specs.Heard.{after_answer, asking}
-use Rattle.mscp_judge.proofs.Listening.{answers, asks, asks_wrong, skipped, some_settings, wrong_words}
+use Rattle.mscp_judge.proofs.Listening.{answers, asks, asks_wrong, skipped, wrong_words}
 use Rattle.mscp_judge.proofs.hearing.Hearing.line.Goals as goal
 
 pub returns-in_err-words-clause-heard : goal.returns-in_err-words-clause-heard
@@ -29,22 +29,18 @@ returns-then-is_answer-clause-heard g c = λ h s. (
   c.in_ok-answer.ensures.heard h s,
 )
 
-pub returns-in_err-request-clause-heard : goal.returns-in_err-request-clause-heard
-returns-in_err-request-clause-heard g c =
-    let p = err_from_is_err_and c.from_residual-in_err-request.result c.from_residual-in_err-request.ensures.1 in
-    rw (p.1, p.2) (λ h s.
-    asks_wrong c.args.number h c.args.bytes.now _ some_settings c.in_err-request.field-0.0 c.in_ok-words.ensures.words
+pub returns-in-Err-clause-heard : goal.returns-in-Err-clause-heard
+returns-in-Err-clause-heard g c =
+    λ h s. asks_wrong c.args.number _ h c.args.bytes.now _ c.in-Err.fault (sym s.count) c.in_ok-words.ensures.words
     (λ e. true≢false (sym (c.is_empty.ensures.1 e) ∙ c.if-is_empty.false))
-    (sym c.is_answer.ensures ∙ c.if-is_answer.false)
-    (c.in_err-request.ensures.next some_settings h.events (sym s.count)))
+    (sym c.is_answer.ensures ∙ c.if-is_answer.false) c.in-Err.ensures.asks
 
-pub returns-clause-heard : goal.returns-clause-heard
-returns-clause-heard g c = λ h s.
-    let new = events_of c.in_ok-request.request in (
-      asking h new (h.events ++ new),
-      asks c.args.number h c.args.bytes.now _ some_settings new c.in_ok-words.ensures.words
+pub returns-in-Ok-clause-heard : goal.returns-in-Ok-clause-heard
+returns-in-Ok-clause-heard g c = λ h s.
+    let new = events_of c.in-Ok.request in (
+      asking h new,
+      asks c.args.number _ h c.args.bytes.now _ new (sym s.count) c.in_ok-words.ensures.words
           (λ e. true≢false (sym (c.is_empty.ensures.1 e) ∙ c.if-is_empty.false))
-          (sym c.is_answer.ensures ∙ c.if-is_answer.false)
-          (c.in_ok-request.ensures.next some_settings h.events (sym s.count)),
+          (sym c.is_answer.ensures ∙ c.if-is_answer.false) c.in-Ok.ensures.asks,
       c.ask.ensures.heard h s,
     )

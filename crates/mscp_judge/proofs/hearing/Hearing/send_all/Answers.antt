@@ -1,6 +1,5 @@
 use Rattle.std.proofs.Common.{◌∙◌, subst, sym}
 use Rattle.mscp_judge.specs.Heard.{IsHeard, sends_on}
-use Rattle.mscp_events.specs.declared.block.Block.TheVariants.{Good}
 use Rattle.mscp_judge.proofs.Listening.{steps_send}
 use Rattle.mscp_judge.proofs.hearing.Hearing.send_all.Goals as goal
 
@@ -12,4 +11,4 @@ returns-in-Send-clause-heard g c = λ h s.
 pub returns-in-Steps-clause-heard : goal.returns-in-Steps-clause-heard
 returns-in-Steps-clause-heard g c = λ h s.
     rw c.in-Steps.is (subst (λ hosts. IsHeard (record h { hosts = hosts }) c.args.self.now)
-    (sym (steps_send h.hosts Good c.in-Steps.field-0)) s)
+    (sym (steps_send h.hosts c.in-Steps.field-1 c.in-Steps.field-0)) s)

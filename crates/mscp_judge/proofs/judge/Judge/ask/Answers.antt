@@ -1,7 +1,6 @@
 use Rattle.std.proofs.Common.{refl, ◌∙◌, subst}
 use Rattle.std.specs.Prelude.{OnOk}
 use Rattle.mscp_events.specs.declared.event.Event.TheVariants as events
-use Rattle.mscp_events.specs.declared.block.Block.TheVariants.{Good, Bad}
 use Rattle.mscp_judge.specs.Standing.{Came}
 use Rattle.mscp_judge.proofs.Coming.{asked_one, asked_steps}
 use Rattle.mscp_judge.proofs.judge.Judge.ask.Goals as goal
@@ -24,7 +23,7 @@ returns-in-Packet-clause-stands g c =
     let new = c.send-in-Packet.new.self in
     let via = c.in-Packet.connection in
     let came = subst (λ b. OnOk c.send-in-Packet.result (Came old.controller.picker.named old new
-    (events.Send via (record { items = b })))) c.as_slice-in-Packet.ensures.value c.send-in-Packet.ensures.came in
+    (events.Send via (record { items = b })))) (c.as_slice-in-Packet.ensures.value ∙ c.bytes_in.ensures) c.send-in-Packet.ensures.came in
     rw c.in-Packet.is (asked_one c.send-in-Packet.result old new old.controller.picker.named _ refl c.requires.settled
     came c.send-in-Packet.ensures.owed)
 
@@ -40,12 +39,6 @@ returns-in-Look-clause-stands g c =
 
 pub returns-in-Steps-clause-stands : goal.returns-in-Steps-clause-stands
 returns-in-Steps-clause-stands g c =
-    rw c.in-Steps.is (asked_steps c.args.self.now c.owe.new.self c.in-Steps.count Good c.requires.settled
+    rw c.in-Steps.is (asked_steps c.args.self.now c.owe.new.self c.in-Steps.count c.in-Steps.block c.requires.settled
     c.owe.ensures.controller c.owe.ensures.reporter c.owe.ensures.peaks c.owe.ensures.told c.owe.ensures.owed
     c.owe.ensures.block)
-
-pub returns-in-Bad-clause-stands : goal.returns-in-Bad-clause-stands
-returns-in-Bad-clause-stands g c =
-    rw c.in-Bad.is (asked_steps c.args.self.now c.owe-in-Bad.new.self 1 (Bad c.in-Bad.code) c.requires.settled
-    c.owe-in-Bad.ensures.controller c.owe-in-Bad.ensures.reporter c.owe-in-Bad.ensures.peaks c.owe-in-Bad.ensures.told
-    c.owe-in-Bad.ensures.owed c.owe-in-Bad.ensures.block)

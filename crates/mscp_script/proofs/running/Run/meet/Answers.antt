@@ -15,7 +15,7 @@ pub returns-in-Packet-clause-met : goal.returns-in-Packet-clause-met
 returns-in-Packet-clause-met g c =
     let sent = subst (λ b. OnOk c.send-in-Packet.result
     (Ran c.args.self.now c.send-in-Packet.new.self (events.Send c.in-Packet.connection (record { items = b }))))
-    c.as_slice-in-Packet.ensures.value c.send-in-Packet.ensures in
+    (c.as_slice-in-Packet.ensures.value ∙ c.bytes_in.ensures) c.send-in-Packet.ensures in
     rw c.in-Packet.is (meets_ok c.send-in-Packet.result _ _ _ sent)
 
 pub returns-in-Take-clause-met : goal.returns-in-Take-clause-met
@@ -23,6 +23,3 @@ returns-in-Take-clause-met g c = rw c.in-Take.is (meets_ok c.take.result _ _ _ c
 
 pub returns-in-Look-clause-met : goal.returns-in-Look-clause-met
 returns-in-Look-clause-met g c = rw c.in-Look.is (meets_ok c.look.result _ _ _ c.look.ensures)
-
-pub returns-in-Bad-clause-met : goal.returns-in-Bad-clause-met
-returns-in-Bad-clause-met g c = rw c.in-Bad.is (meets_ok c.step.result _ _ _ c.step.ensures)

@@ -1,11 +1,10 @@
 use Rattle.std.proofs.Common.{◌≡◌, ◌+◌, replicate}
-use Rattle.mscp_events.specs.declared.block.Block.TheVariants.{Good}
 use Rattle.mscp_events.specs.declared.event.Event.TheVariants as events
 use Rattle.mscp_script.specs.Running.{Meets}
 use Rattle.mscp_script.proofs.running.Run.steps.Given as goal
 
 abbrev pub invariant-loop-step : goal.invariant-loop-step
 invariant-loop-step g l = record {
-  met : Meets l.initial.self l.self (replicate l._step (events.Step Good));
+  met : Meets l.initial.self l.self (replicate l._step (events.Step l.block));
   count : l.self.reporter.count ≡ l.initial.self.reporter.count + l._step;
 }

@@ -1,24 +1,28 @@
-use Rattle.std.proofs.Common.{◌∙◌}
-use Rattle.std.proofs.lemmas.Result.{err_from_is_err_and}
-use Rattle.mscp_reader.specs.Grammar.{HasGone}
-use Rattle.mscp_reader.proofs.Outcomes.{onward_ok, onward_fails}
+use Rattle.std.proofs.Common.{◌∙◌, ap, arith, length, length-append}
+use Rattle.mscp_reader.specs.Requests.{events_of}
+use Rattle.mscp_reader.proofs.Outcomes.{ends, goes_on, goes_wrong}
 use Rattle.mscp_sim.proofs.reading.events.read_events.Goals as goal
 
-pub loop-events-preserved : goal.loop-events-preserved
-loop-events-preserved g c =
-    let some = rw c.in-Some.is at (c.in_ok-line.ensures.some) in
-    let number = rw c.in-Some.is at (c.in_ok-line.ensures.number) in
+pub loop-request-preserved : goal.loop-request-preserved
+loop-request-preserved g c =
+    let asks = rw c.in-Ok-Some.field-0-is at (c.in-Ok-Some.ensures.asks) in
+    let few = rw c.in-Ok-Some.field-0-is at (c.in-Ok-Some.ensures.few) in
+    let number = rw c.in-Ok-Some.field-0-is at (c.in-Ok-Some.ensures.number) in
+    let more = c.in_ok-add_events-in-Ok-Some.ensures in
     record {
-      few = c.in_ok-read_line.ensures.few;
-      same = λ s. c.loop-events.invariant.same s ∙ (some (HasGone s c.loop-events.events.items)
-          ∙ onward_ok _ _ _ _ _ (rw number at (c.in_ok-read_line.ensures.next s)));
+      few = omega (arith, few, c.len.ensures, ap length more, length-append c.loop-request.events.items (events_of
+          c.in-Ok-Some.request));
+      same = λ s. c.loop-request.invariant.same s ∙ rw more (goes_on _ c.len.result _ s _ _ _ _
+          (omega (arith, c.len.ensures)) (omega (arith, c.len.ensures, c.loop-request.invariant.few)) asks
+          c.in-Ok-Some.ensures.rest number);
     }
 
-pub returns-in_err-read_line-clause-outcome : goal.returns-in_err-read_line-clause-outcome
-returns-in_err-read_line-clause-outcome g c =
-    let some = rw c.in-Some.is at (c.in_ok-line.ensures.some) in
-    let number = rw c.in-Some.is at (c.in_ok-line.ensures.number) in
-    let p = err_from_is_err_and c.from_residual-in_err-read_line.result c.from_residual-in_err-read_line.ensures.1 in
-    rw (p.1, p.2) (λ s. onward_fails _ _ _ _ _ c.in_err-read_line.field-0.0
-    (rw number at (c.in_err-read_line.ensures.next s))
-    (c.loop-events.invariant.same s ∙ some (HasGone s c.loop-events.events.items)))
+pub returns-in-Err-clause-outcome : goal.returns-in-Err-clause-outcome
+returns-in-Err-clause-outcome g c = λ s. c.loop-request.invariant.same s
+    ∙ goes_wrong _ c.len.result s _ _ _ (omega (arith, c.len.ensures)) (omega (arith, c.len.ensures,
+    c.loop-request.invariant.few)) c.in-Err.ensures.asks
+
+pub returns-in-Ok-None-clause-outcome : goal.returns-in-Ok-None-clause-outcome
+returns-in-Ok-None-clause-outcome g c = λ s. c.loop-request.invariant.same s
+    ∙ ends _ c.len.result s _ _ (omega (arith, c.len.ensures)) (omega (arith, c.len.ensures,
+    c.loop-request.invariant.few)) (rw c.in-Ok-None.field-0-is at (c.in-Ok-None.ensures.asks))

@@ -4,12 +4,12 @@ use Rattle.mscp_reader.specs.Grammar.{HasGone}
 use Rattle.mscp_reader.specs.Outcome.{rest_outcome}
 use Rattle.mscp_sim.proofs.reading.events.read_events.Given as goal
 
-abbrev pub invariant-loop-events : goal.invariant-loop-events
-invariant-loop-events g l = record {
+abbrev pub invariant-loop-request : goal.invariant-loop-request
+invariant-loop-request g l = record {
   few : vec_len l.events ≤ 1000000;
   same : (s : Settings) → rest_outcome l.initial.lines.number (HasGone s []) l.initial.lines.rest.now
       ≡ rest_outcome l.lines.number (HasGone s l.events.items) l.lines.rest.now;
 }
 
-abbrev pub decreases-loop-events : goal.decreases-loop-events
-decreases-loop-events g l = length l.lines.rest.now
+abbrev pub decreases-loop-request : goal.decreases-loop-request
+decreases-loop-request g l = length l.lines.rest.now

@@ -1,14 +1,12 @@
 use Rattle.std.proofs.Common.{◌≡◌, ◌≤◌, length}
 use Rattle.mscp_reader.specs.Grammar.{IsInHeader, Place}
-use Rattle.mscp_reader.specs.Outcome.{rest_headed, rest_outcome}
-use Rattle.mscp_reader.proofs.lines.Lines.next_line.Given as goal
+use Rattle.mscp_reader.specs.Outcome.{rest_headed}
+use Rattle.mscp_reader.proofs.lines.Lines.header_line.Given as goal
 
 abbrev pub invariant-loop-bytes : goal.invariant-loop-bytes
 invariant-loop-bytes l = record {
   shorter : length l.self.rest.now ≤ length l.initial.self.rest.now;
-  same : (p : Place) → rest_outcome l.initial.self.number p l.initial.self.rest.now
-      ≡ rest_outcome l.self.number p l.self.rest.now;
-  same_head : (p : Place) → IsInHeader p → rest_headed l.initial.self.number p l.initial.self.rest.now
+  same : (p : Place) → IsInHeader p → rest_headed l.initial.self.number p l.initial.self.rest.now
       ≡ rest_headed l.self.number p l.self.rest.now;
 }
 

@@ -1,0 +1,7 @@
+use Rattle.std.proofs.Common.{drop, ap, ◌∙◌, sym}
+use Rattle.mscp_reader.specs.Lexical.{lines}
+use Rattle.mscp_reader.proofs.lines.Lines.worded_request.Goals as goal
+
+pub returns-in_default-clause-rest : goal.returns-in_default-clause-rest
+returns-in_default-clause-rest c =
+    let none = c.in_default.ensures.line in ap lines c.in_default.ensures.none ∙ (none ∙ sym (ap (drop 1) none))

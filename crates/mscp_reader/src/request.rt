@@ -1,0 +1,35 @@
+// What a line asks for.
+
+ghost use Rattle.std.specs.Prelude.{◌≡◌, length};
+ghost use Rattle.mscp_reader.specs.Requests.{events_of};
+
+use mscp_events::{Block, Connection};
+use mscp_packet::Command;
+
+/// What a line asks for. The digits of a message are borrowed from the script: room for its bytes would be cleared and moved
+/// for each line.
+#[derive(Clone, Copy)]
+pub enum Request<'a> {
+    /// The connection's host sends this command.
+    Send(Connection, Command),
+    /// The connection's host sends the message of these digits, two for each byte.
+    Packet(Connection, &'a [u8]),
+    /// The connection's host takes an end.
+    Take(Connection),
+    /// The drive serves so many blocks, each with this outcome. A line that is skipped asks for none.
+    Steps(u32, Block),
+    /// The figures of all waiting commands are asked for.
+    Look,
+}
+
+impl Request<'_> {
+    /// How many events it is.
+    pub fn event_count(&self) -> usize
+        ensures { result ≡ length (events_of self.now) }
+    {
+        match self {
+            Request::Steps(count, _) => *count as usize,
+            _ => 1,
+        }
+    }
+}
