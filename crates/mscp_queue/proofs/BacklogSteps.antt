@@ -154,7 +154,8 @@ step_of {budget} {clock} {ss} {place} a l unfinished front back affordable =
           waiting = ap items new ∙ (items_append F (z ∷ B)
               ∙ ap (λ rs. rs ++ advanced y.item ∷ items B) (sym (uncharged (items F))
               ∙ ap (λ n. map (passed_by n) (items F)) (sym charge)));
-          own = ap targets new ∙ (own_append F (z ∷ B) ∙ (sym (own_append F (y ∷ B)) ∙ ap targets (sym (cut ss place l))));
+          own = ap targets new ∙ (own_append F (z ∷ B) ∙
+              (sym (own_append F (y ∷ B)) ∙ ap targets (sym (cut ss place l))));
         }
       where
         positive : (n : ℕ) → nat_eq n 0 ≡ false → 0 < n

@@ -197,6 +197,7 @@ own_there [] k l = absurd (omega (arith, l))
 own_there (s ∷ ss) zero l = refl
 own_there (s ∷ ss) (suc k) l = own_there ss k (omega (arith, l))
 
-pub of_targets : (P : Target → Type 0) (ss : List Slot) → AllByRecursion (λ s. P s.target) ss → AllByRecursion P (targets ss)
+pub of_targets : (P : Target → Type 0) (ss : List Slot) → AllByRecursion (λ s. P s.target) ss → AllByRecursion P
+    (targets ss)
 of_targets P [] h = tt
 of_targets P (s ∷ ss) h = (h.0, of_targets P ss h.1)

@@ -45,7 +45,8 @@ sure_all : (dirty : ℕ) (us : List Shape) (c : Choice) → bit_at dirty
     (unit_place us c.unit) ≡ 0 → sure_of dirty us c ≡ c
 sure_all dirty us c e = ap (λ b. cond (nat_eq b 1) (costing 0 c) c) e
 
-pub candidates_whole : {dirty : ℕ} {ds : List Drive} {rs : List Record} {cs : List Choice} → AreCandidates dirty ds rs cs
+pub candidates_whole : {dirty : ℕ} {ds : List Drive} {rs : List Record} {cs : List Choice}
+    → AreCandidates dirty ds rs cs
     → All (λ r. is_known (units_of ds) r.command.unit ≡ true) rs → ((k : ℕ) → k < length ds → bit_at dirty k ≡ 0)
     → cs ≡ map (choice_in ds) rs
 candidates_whole {dirty} {ds} {rs} {cs} h known off =
@@ -170,16 +171,19 @@ targets_there {at} {place} {ds} {rs} {targets} d a shown units inside l found ta
     ap (λ (a : Target). a.drive) is ∙ (sym (place_same ds r.command.unit) ∙ there)
 
 -- each whose target is there has its first block on it
-pub all_on_drive : {at : ℕ} {ds : List Drive} {rs : List Record} {targets : List Target} (d : Drive) → CanBeShown ds rs targets
+pub all_on_drive : {at : ℕ} {ds : List Drive} {rs : List Record} {targets : List Target} (d : Drive)
+    → CanBeShown ds rs targets
     → All (λ r. is_move r.command.order ≡ true) rs → d ≡ get_or ds at d → AreOnDrive at d targets
 all_on_drive {at} {ds} {rs} {targets} d shown moves found place other l =
-    let many : length targets ≡ length rs = ap length shown.targeted ∙ length-map rs (λ (r : Record). target_of (units_of ds)
+    let many : length targets ≡ length rs = ap length shown.targeted ∙ length-map rs
+    (λ (r : Record). target_of (units_of ds)
     r.command) in
     λ e. (on_drive d (get_or targets place other) shown moves (omega (arith, l, many)) found
     (get_or_default targets place other no_target l) e).within
 
 -- so the costs are found anew of those that are to its unit
-pub recosted_renewed : {dirty at : ℕ} {ds : List Drive} {rs : List Record} {targets : List Target} {old new : List Choice}
+pub recosted_renewed : {dirty at : ℕ} {ds : List Drive} {rs : List Record} {targets : List Target}
+    {old new : List Choice}
     (d : Drive) → CanBeShown ds rs targets → IsUnitList (units_of ds) → AreCandidates dirty ds rs old
     → All (λ r. is_move r.command.order ≡ true) rs → at < length ds → d ≡ get_or ds at d
     → IsRecosted at d targets old new → IsRenewed at ds rs old new

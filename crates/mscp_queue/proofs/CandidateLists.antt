@@ -223,7 +223,8 @@ pub candidates_served : {dirty dirty' place : ℕ} {ds ds' : List Drive} {rs rs'
     ++ (cond ends [] (advanced (record_at rs place) ∷ []) ++ drop (place + 1) rs)
     → cs' ≡ cond ends (take place cs ++ drop (place + 1) cs) cs
     → AreCandidates dirty' ds' rs' cs'
-candidates_served {dirty} {dirty'} {place} {ds} {ds'} {rs} {rs'} {cs} {cs'} at u charge new ends h few set is own now same
+candidates_served {dirty} {dirty'} {place} {ds} {ds'} {rs} {rs'} {cs} {cs'} at u charge new ends h few set is own now
+    same
     l e f =
     let us = units_of ds in
     let sure = sure_of dirty' us in

@@ -309,7 +309,8 @@ of_unit_behind {rs} {own} {order} {m} {place} {n} {drive} ds now kept view insid
     let masks = subst (λ o. AreMasks (kind_at rs own) o m) (cut_order order place n h) kept.masks in
     let d = (slot_at now place).target.drive in
     let P : Slot → Type 0 = λ s. s.target.drive ≡ d in
-    let there : drive ≡ d = e ∙ ap (λ (s : Slot). s.target.drive) (slot_is rs own ds order now place n view inside h.is) in
+    let there : drive ≡ d = e ∙ ap (λ (s : Slot). s.target.drive)
+    (slot_is rs own ds order now place n view inside h.is) in
     subst (All P) (sym (drop-map f (place + 1) order) ∙ ap (drop (place + 1)) view)
     (All-from_recursion P (map f back) (each back (slots_back front n back masks.apart) (λ k l in_back.
     let bits = later (kind_at rs own) front n back m masks k l in_back in

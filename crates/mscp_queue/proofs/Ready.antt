@@ -1,4 +1,5 @@
--- What a queue knows stays true: the target of each command, in which order they were passed, and which places are known.
+-- What a queue knows stays true: the target of each command, in which order they were passed, and which places are
+-- known.
 use Rattle.std.proofs.Common.{◌≡◌, ℕ, suc, ◌+◌, ◌<◌, ◌≤◌, Bool, true, false, cond, not, List, [], ◌∷◌, ◌++◌, map, take, drop, get_or, length, refl, ap, sym, ◌∙◌, subst, arith}
 use Rattle.std.specs.Prelude.{All, filter, is_some, unwrap_or, Option, Some, None}
 use Rattle.std.specs.List.{AllByRecursion, list_any}
@@ -37,7 +38,8 @@ pub record IsDriveOf (ds : List Drive) (rs : List Record) (place at : ℕ) : Typ
   pub placed : at ≡ drive_place ds (record_at rs place).command.unit
 
 pub drive_found : {room budget longest : ℕ} {rs : List Record} {ds : List Drive} {begun : Option Name} {serving : Bool}
-    (own : List Target) (place at : ℕ) → IsHeld room budget longest rs ds begun serving → own ≡ targets_of (units_of ds) rs
+    (own : List Target) (place at : ℕ) → IsHeld room budget longest rs ds begun serving → own ≡ targets_of
+    (units_of ds) rs
     → place < length rs → at ≡ (get_or own place no_target).drive → IsDriveOf ds rs place at
 drive_found {room} {budget} {longest} {rs} {ds} own place at h targeted l e =
     let of : Record → Target = λ r. target_of (units_of ds) r.command in
@@ -83,18 +85,25 @@ pub ready_pushed : {room longest : ℕ} {w new : Waiters} {ds : List Drive} {beg
     (by : Connection) (c : Command) (target : Target)
     → IsReady room longest w ds begun serving → length w.waiting < room → IsWaitable longest (units_of ds) c
     → list_any (has_name (name_on by c.reference)) w.waiting ≡ false → target ≡ target_of (units_of ds) c
-    → new ≡ record { budget = w.budget; waiting = w.waiting ++ fresh_record by c ∷ []; targets = w.targets ++ target ∷ [] }
+    → new ≡ record {
+      budget = w.budget;
+      waiting = w.waiting ++ fresh_record by c ∷ [];
+      targets = w.targets ++ target
+          ∷ [];
+    }
     → IsReady room longest new ds begun serving
 ready_pushed {room} {longest} {w} {new} {ds} {begun} {serving} by c target q l waitable apart targets e =
     let r = fresh_record by c in
     let rs = w.waiting ++ r ∷ [] in
     let held = held_pushed room w.budget longest w.waiting rs ds (begun_name w.waiting begun)
     (is_some serving) by c q.held l waitable apart refl in
-    let all : IsReady room longest (record { budget = w.budget; waiting = rs; targets = w.targets ++ target ∷ [] }) ds begun
+    let all : IsReady room longest (record { budget = w.budget; waiting = rs; targets = w.targets ++ target ∷ [] }) ds
+    begun
     serving = record {
       held = subst (λ (o : Option Name). IsHeld room w.budget longest rs ds o (is_some serving))
           (begun_more w.waiting r begun q.waits) held;
-      targeted = targets_pushed (units_of ds) w.waiting rs w.targets (w.targets ++ target ∷ []) by c target q.targeted targets refl refl;
+      targeted = targets_pushed (units_of ds) w.waiting rs w.targets
+          (w.targets ++ target ∷ []) by c target q.targeted targets refl refl;
       order = pairs_append _ w.waiting r q.order (every_from (λ z. r.passed ≤ z.passed) (λ z. omega arith) w.waiting);
       served = λ place s. let was = q.served place s in (
         omega (arith, was.0, length-append w.waiting (r ∷ [])),
@@ -182,7 +191,8 @@ can_serve {room} {budget} {longest} {place} {rs} {ds} {begun} {serving} k h n =
 targets_served : (us : List Shape) (rs new : List Record) (place charge : ℕ) (ends : Bool) → place < length rs
     → new ≡ map (passed_by charge) (take place rs)
     ++ (cond ends [] (advanced (record_at rs place) ∷ []) ++ drop (place + 1) rs)
-    → cond ends (take place (targets_of us rs) ++ drop (place + 1) (targets_of us rs)) (targets_of us rs) ≡ targets_of us new
+    → cond ends (take place (targets_of us rs) ++ drop (place + 1) (targets_of us rs)) (targets_of us rs)
+    ≡ targets_of us new
 targets_served us rs new place charge true l e =
     let next : place + 1 ≡ suc place = omega arith in
     ap (λ k. take place (targets_of us rs) ++ drop k (targets_of us rs)) next ∙ targets_ended us rs new place charge e

@@ -18,7 +18,8 @@ use Rattle.mscp_queue.proofs.Counted.{placed}
 use Rattle.mscp_queue.proofs.Masked.{one_bit, same_or, slot_has, slot_low}
 use Rattle.mscp_queue.proofs.Shown.{IsNumber, long_shown, slot_is}
 
--- the slots of a mask are left: what they show is as it was, and its target is the drive at a place; the others are done
+-- the slots of a mask are left: what they show is as it was, and its target is the drive at a place; the others are
+-- done
 pub record Recosting (at : ℕ) (d : Drive) (order : List ℕ) (own : List Target) (left : ℕ) (old new : List Choice) :
     Type 0 where
   pub long : length new ≡ length old
@@ -41,19 +42,22 @@ and_true : (a b : Bool) → a ≡ true → bit (a && b) ≡ bit b
 and_true a b e = ap (λ a. bit (a && b)) e
 
 -- at first all slots of the drive are left
-pub all_left : {rs : List Record} {targeted : List Target} {order : List ℕ} {m : Masks} (at : ℕ) (d : Drive) (ds : List ℕ)
+pub all_left : {rs : List Record} {targeted : List Target} {order : List ℕ} {m : Masks} (at : ℕ) (d : Drive)
+    (ds : List ℕ)
     (now : List Slot) (old : List Choice) → AreKept rs targeted order m → shown rs targeted ds order ≡ now
     → length old ≡ length now → Recosting at d order (targets now) (slice_index_or m.units at 0) old old
 all_left {rs} {targeted} {order} {m} at d ds now old kept view long =
     let left = slice_index_or m.units at 0 in
     let own = targets now in
-    let told : (k : ℕ) → k < length old → bit_at left (get_or order k 0) ≡ bit (nat_eq (get_or own k no_target).drive at) =
+    let told : (k : ℕ) → k < length old → bit_at left (get_or order k 0) ≡ bit
+    (nat_eq (get_or own k no_target).drive at) =
     λ k l.
     let inside : k < length order = omega (arith, l, long, long_shown rs targeted ds order now view) in
     kept.masks.of_units at (get_or order k 0) (slot_low order k kept.masks.apart inside)
     ∙ (and_true (has (get_or order k 0) order) (nat_eq (get_or targeted (get_or order k 0) no_target).drive at)
     (slot_has order k inside)
-    ∙ ap (λ (a : Target). bit (nat_eq a.drive at)) (target_at rs targeted ds order now k view (omega (arith, l, long)))) in
+    ∙ ap (λ (a : Target). bit (nat_eq a.drive at))
+    (target_at rs targeted ds order now k view (omega (arith, l, long)))) in
     record {
       long = refl;
       taken = λ n l e. and_left (has n order) (nat_eq (kind_at rs targeted n).drive at)
@@ -101,7 +105,8 @@ pub record IsThere (own targeted : List Target) (order : List ℕ) (at n place :
   pub drive : (get_or own place no_target).drive ≡ at
 
 pub there : {rs : List Record} {targeted : List Target} {order : List ℕ} {m : Masks} {at left n : ℕ} {d : Drive}
-    {old new : List Choice} (ds : List ℕ) (now : List Slot) → AreKept rs targeted order m → shown rs targeted ds order ≡ now
+    {old new : List Choice} (ds : List ℕ) (now : List Slot) → AreKept rs targeted order m → shown rs targeted ds order
+    ≡ now
     → length old ≡ length now → Recosting at d order (targets now) left old new → (next : IsNextSlot order left n)
     → IsThere (targets now) targeted order at n next.place
 there {rs} {targeted} {order} {m} {at} {left} {n} ds now kept view long h next =
@@ -200,7 +205,8 @@ recost_more {at} {left} {left'} {n} {d} {order} {own} {old} {new} {new'} cost h 
     done_by k l b rest other here (inl f) =
         let same : k ≡ next.place = one k next.place (omega (arith, l, many)) next.number.inside
         (f ∙ next.number.is) in
-        subst (λ q. get_or new' q no_choice ≡ recosted at d (get_or own q no_target) (get_or old q no_choice)) (sym same)
+        subst (λ q. get_or new' q no_choice ≡ recosted at d (get_or own q no_target) (get_or old q no_choice))
+        (sym same)
         here
     done_by k l b rest other here (inr f) =
         other k (apart k f) ∙ h.done k l (sym (rest (get_or order k 0) (slot_below k l) f) ∙ b)

@@ -34,7 +34,8 @@ module _ (rs : List Record) (own : List Target) (ds : List ℕ) (n : ℕ) (r : R
   shown_other (s ∷ order) e =
       (λ i. held_other s (not_here n s order e) i ∷ shown_other order (not_behind n s order e) i)
 
-  pub held_same : n < length rs → n < length own → n < length ds → held_then n ≡ record { item = r; target = a; due = d }
+  pub held_same : n < length rs → n < length own → n < length ds → held_then n
+      ≡ record { item = r; target = a; due = d }
   held_same l m k = λ i. record {
     item = get_or-set_same rs n r no_record l i;
     target = get_or-set_same own n a no_target m i;
@@ -51,7 +52,8 @@ pub record IsNumber (order : List ℕ) (place n : ℕ) : Type 0 where
   pub is : n ≡ get_or order place 0
 
 -- as many are shown as there are
-pub long_shown : (rs : List Record) (own : List Target) (ds order : List ℕ) (now : List Slot) → shown rs own ds order ≡ now
+pub long_shown : (rs : List Record) (own : List Target) (ds order : List ℕ) (now : List Slot) → shown rs own ds order
+    ≡ now
     → length order ≡ length now
 long_shown rs own ds order now view = sym (length-map order (held rs own ds)) ∙ ap length view
 
@@ -184,7 +186,8 @@ kept_pushed {rs} {own} {order} {new} {m} {m'} {n} {drive} {sequential}
     let kinds' = kind_at rs' own' in
     let low = free.low in
     let item : get_or rs' n no_record ≡ r = get_or-set_same rs n r no_record (omega (arith, low, kept.records_64)) in
-    let target : get_or own' n no_target ≡ a = get_or-set_same own n a no_target (omega (arith, low, kept.targets_64)) in
+    let target : get_or own' n no_target ≡ a = get_or-set_same own n a no_target
+    (omega (arith, low, kept.targets_64)) in
     let none : has n order ≡ false = off_bit (has n order) (sym (kept.masks.of_waiting n low) ∙ free.free) in
     let others : (k : ℕ) → k ≢ n → kinds' k ≡ kinds k = λ k d. λ i. record {
       drive = (get_or-set_other own n k a no_target d i).drive;
@@ -222,7 +225,8 @@ shown_pushed {rs} {own} {order} {new} {m} {n} ds now s kept long free view e =
     let f = held (set rs n s.item) (set own n s.target) (set ds n s.due) in
     ap (map f) e ∙ (map-append f order (n ∷ [])
     ∙ ((λ i. shown_other rs own ds n s.item s.target s.due order none i
-    ++ held_same rs own ds n s.item s.target s.due (omega (arith, low, kept.records_64)) (omega (arith, low, kept.targets_64))
+    ++ held_same rs own ds n s.item s.target s.due (omega (arith, low, kept.records_64))
+    (omega (arith, low, kept.targets_64))
     (omega (arith, low, long)) i ∷ []) ∙ ap (λ zs. zs ++ s ∷ []) view))
 
 -- ---- one slot changes
@@ -247,7 +251,8 @@ set_at_number f f' (s ∷ order) (suc place) a l same =
     true_false e = let bad = ap bit e in omega (arith, bad)
 
 -- a record is changed in its slot
-pub item_set : {rs : List Record} {own : List Target} {order : List ℕ} {m : Masks} {place n : ℕ} {r : Record} (ds : List ℕ)
+pub item_set : {rs : List Record} {own : List Target} {order : List ℕ} {m : Masks} {place n : ℕ} {r : Record}
+    (ds : List ℕ)
     (now : List Slot) (f : Record → Record) (other : Record) → AreKept rs own order m → shown rs own ds order ≡ now
     → place < length now → IsNumber order place n → r ≡ f (get_or rs n other)
     → shown (set rs n r) own ds order ≡ set now place (with_item f (slot_at now place))

@@ -75,7 +75,8 @@ first_inside ds r at d e found h m =
     ap (λ (s : Shape). s.size) (found_unit r.command.unit ds ∙ ap (λ (d : Drive). d.unit) (sym drive)) in
     omega (arith, inside, unit, some_steps r.command.order)
 
-pub own_blocks : (ds : List Drive) (rs : List Record) (targets : List Target) (place : ℕ) (r : Record) → CanBeShown ds rs targets
+pub own_blocks : (ds : List Drive) (rs : List Record) (targets : List Target) (place : ℕ) (r : Record)
+    → CanBeShown ds rs targets
     → place < length rs → r ≡ get_or rs place r → HasBlocks (units_of ds) r.command
 own_blocks ds rs targets place r h l own = subst (λ (q : Record). HasBlocks (units_of ds) q.command) (sym own)
     (h.inside place r l)
@@ -93,7 +94,8 @@ pub record IsLed (ds : List Drive) (r : Record) (at : ℕ) (d : Drive) (cylinder
   pub targeted : IsTargeted d cylinder r
 
 -- the place of its drive
-pub led_place : (ds : List Drive) (r : Record) (at : ℕ) (a : Target) → at ≡ a.drive → a ≡ target_of (units_of ds) r.command
+pub led_place : (ds : List Drive) (r : Record) (at : ℕ) (a : Target) → at ≡ a.drive → a ≡ target_of
+    (units_of ds) r.command
     → at ≡ drive_place ds r.command.unit
 led_place ds r at a is own = is ∙ (ap (λ (a : Target). a.drive) own ∙ sym (place_same ds r.command.unit))
 
@@ -127,7 +129,8 @@ pub record HasDrive (ds : List Drive) (r : Record) (at : ℕ) : Type 0 where
   pub few : at < 16
   pub place : at ≡ drive_place ds r.command.unit
 
-pub has_drive : (ds : List Drive) (rs : List Record) (targets : List Target) (place : ℕ) (r : Record) (at : ℕ) (other : Target)
+pub has_drive : (ds : List Drive) (rs : List Record) (targets : List Target) (place : ℕ) (r : Record) (at : ℕ)
+    (other : Target)
     → CanBeShown ds rs targets → place < length rs → r ≡ get_or rs place r → at ≡ (get_or targets place other).drive
     → HasDrive ds r at
 has_drive ds rs targets place r at other h l own is =
@@ -142,7 +145,8 @@ pub record LeadsTo (ds : List Drive) (rs : List Record) (place : ℕ) (r : Recor
   pub drive : d ≡ drive_at ds rs place
   pub targeted : IsTargeted d cylinder r
 
-pub leads_to : (ds : List Drive) (rs : List Record) (targets : List Target) (place : ℕ) (r : Record) (at : ℕ) (other : Target)
+pub leads_to : (ds : List Drive) (rs : List Record) (targets : List Target) (place : ℕ) (r : Record) (at : ℕ)
+    (other : Target)
     (d : Drive) → CanBeShown ds rs targets → place < length rs → r ≡ get_or rs place r
     → at ≡ (get_or targets place other).drive
     → d ≡ get_or ds at d → LeadsTo ds rs place r d (get_or targets place other).cylinder
@@ -167,7 +171,8 @@ target_removed us rs place =
 
 -- a step that ends the command of a record takes its target out
 pub targets_ended : (us : List Shape) (rs new : List Record) (place charge : ℕ)
-    → new ≡ map (passed_by charge) (take place rs) ++ drop (place + 1) rs → remove (targets_of us rs) place ≡ targets_of us new
+    → new ≡ map (passed_by charge) (take place rs) ++ drop (place + 1) rs → remove (targets_of us rs) place
+    ≡ targets_of us new
 targets_ended us rs new place charge e =
     let of : Record → Target = λ q. target_of us q.command in
     let A = take place rs in
@@ -192,7 +197,8 @@ targets_kept us rs new place charge l e =
     ∙ (sym (map-append of (map (passed_by charge) A) (advanced r ∷ B)) ∙ ap (targets_of us) (sym e))))
 
 -- a command comes
-pub targets_pushed : (us : List Shape) (rs new : List Record) (targets targets' : List Target) (by : Connection) (command : Command)
+pub targets_pushed : (us : List Shape) (rs new : List Record) (targets targets' : List Target) (by : Connection)
+    (command : Command)
     (target : Target) → targets ≡ targets_of us rs → target ≡ target_of us command → targets' ≡ targets ++ target ∷ []
     → new ≡ rs ++ fresh_record by command ∷ [] → targets' ≡ targets_of us new
 targets_pushed us rs new targets targets' by command target old own more e =
@@ -202,7 +208,8 @@ targets_pushed us rs new targets targets' by command target old own more e =
 
 -- a command leaves
 pub targets_cut : (us : List Shape) (rs : List Record) (place : ℕ)
-    → take place (targets_of us rs) ++ drop (place + 1) (targets_of us rs) ≡ targets_of us (take place rs ++ drop (place + 1) rs)
+    → take place (targets_of us rs) ++ drop (place + 1) (targets_of us rs) ≡ targets_of us
+    (take place rs ++ drop (place + 1) rs)
 targets_cut us rs place =
     let of : Record → Target = λ q. target_of us q.command in
     (λ i. take-map of place rs i ++ drop-map of (place + 1) rs i)

@@ -113,7 +113,8 @@ place_without (Some place) gone =
 abbrev pub place_served : Bool → ℕ → Option ℕ
 place_served ends place = if ends then None else Some place
 
--- the same, and what a queue knows so that a step costs less: the target of each waiting command, in which order they were
+-- the same, and what a queue knows so that a step costs less: the target of each waiting command, in which order they
+-- were
 -- passed, and the places of the command in service and of what was begun
 pub record IsReady (room longest : ℕ) (w : Waiters) (ds : List Drive) (begun serving : Option ℕ) : Type 0 where
   pub held : IsHeld room w.budget longest w.waiting ds (begun_name w.waiting begun) (is_some serving)

@@ -29,7 +29,8 @@ targets_of units rs = map (λ r. target_of units r.command) rs
 abbrev pub no_target : Target
 no_target = record { drive = 0; cylinder = 0 }
 
--- the target of a record's command on this drive: the head is on a cylinder of the unit, and the first block of a transfer
+-- the target of a record's command on this drive: the head is on a cylinder of the unit, and the first block of a
+-- transfer
 -- is one of the unit's, and on this cylinder
 pub record IsTargeted (d : Drive) (cylinder : ℕ) (r : Record) : Type 0 where
   pub head : IsOnUnit d

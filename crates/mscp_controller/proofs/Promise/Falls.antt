@@ -159,7 +159,8 @@ idle_same t t' (x ∷ xs) h k = (ap (λ (r : Figured). r.done) h.0 ∙ k.0, idle
 left_all : (t t' : Trace) (n : ℕ) (xs : List ℕ) → AllByRecursion (λ x. record_of t' x ≡ charged n (record_of t x)) xs
     → sum_by (left t') xs ≡ sum_by (left t) xs
 left_all t t' n xs h = sum_on (left t') (left t) xs
-    (every_weaker (λ x. record_of t' x ≡ charged n (record_of t x)) (λ x. left t' x ≡ left t x) (λ x e. ap record_left e)
+    (every_weaker (λ x. record_of t' x ≡ charged n (record_of t x)) (λ x. left t' x ≡ left t x)
+    (λ x e. ap record_left e)
     xs h)
 
 pub left_same : (t t' : Trace) (xs : List ℕ) → AllByRecursion (λ x. record_of t' x ≡ record_of t x) xs
@@ -199,7 +200,8 @@ falls_front c t m s front y back f A x B q =
     let affordable : s.started ≡ true → passed t x + charge t y ≤ c.budget =
     λ h. (every_parts (λ z. passed t z + charge t y ≤ c.budget) A (x ∷ B)
     (subst (λ l. AllByRecursion (λ z. passed t z + charge t y ≤ c.budget) l) q (f.affordable h))).1.0 in
-    let pays = front_pays s.started (sum_by (left t) A) (left t x) (left t y) (sum_by (left t') own) (charge t y) c.budget
+    let pays = front_pays s.started (sum_by (left t) A) (left t x) (left t y) (sum_by (left t') own)
+    (charge t y) c.budget
     (passed t x) (passed t' x) (ap (λ (r : Figured). r.passed) new.1.0) affordable o (omega arith) in
     omega (arith, old, now, sA, lx, w, w', pays)
 

@@ -80,7 +80,8 @@ marks c t m s k y front back st idle =
     let D : ℕ → Type 0 = λ x. done t' x ≡ done t x in
     record {
       at_front = every_weaker (λ x. C x × D x) (λ x. record_of t' x ≡ charged (step_charge t s y) (record_of t x))
-          (λ x h. made_is (weight t' x) (done t' x) (passed t' x) (weight t x) (done t x) (passed t x + step_charge t s y)
+          (λ x h. made_is (weight t' x) (done t' x) (passed t' x) (weight t x) (done t x)
+          (passed t x + step_charge t s y)
           (weight_before t m x h.0.0.0.0) h.1 (front_passed c t m s k y front back st x h.0.0.0.0 h.0.0.0.1 h.0.0.1
           h.0.1)) front
           (every_both C D front (every_both B (λ x. x < y) front

@@ -18,7 +18,8 @@ returns c = λ e.
     let long = ap (λ (w : Waiters). length w.waiting) c.self.view_is in
     let l : place < length ss = omega (arith, c.requires, long, length-map ss (λ (s : Slot). s.item)) in
     let d = (slot_at ss place).target.drive in
-    let own = ap (λ (a : Target). a.drive) (own_there ss place l ∙ ap (λ own. slice_index_or own place no_target) view) in
+    let own = ap (λ (a : Target). a.drive) (own_there ss place l ∙ ap
+    (λ own. slice_index_or own place no_target) view) in
     subst (λ n. All (λ (a : Target). a.drive ≡ n) (drop (place + 1) c.args.self.now.targets)) own
     (subst (All (λ (a : Target). a.drive ≡ d)) (sym (drop-map (λ (s : Slot). s.target) (place + 1) ss)
     ∙ ap (drop (place + 1)) view)

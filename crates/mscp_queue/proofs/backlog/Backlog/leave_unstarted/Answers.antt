@@ -8,7 +8,8 @@ use Rattle.mscp_queue.proofs.backlog.Backlog.leave_unstarted.Goals as goal
 
 pub lower_behind-requires-clause-enough : goal.lower_behind-requires-clause-enough
 lower_behind-requires-clause-enough c =
-    behind_enough_at c.self.invariant (place_in c.self.inside.slots (ap (λ (w : Waiters). w.waiting) c.self.view_is) c.requires.place)
+    behind_enough_at c.self.invariant (place_in c.self.inside.slots
+    (ap (λ (w : Waiters). w.waiting) c.self.view_is) c.requires.place)
     (c.from-left.ensures ∙ c.left.ensures.value ∙ ap left_of c.item.ensures)
 
 pub invariant_of-self : goal.invariant_of-self

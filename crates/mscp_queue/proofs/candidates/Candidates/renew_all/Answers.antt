@@ -7,7 +7,8 @@ use Rattle.mscp_queue.proofs.candidates.Candidates.renew_all.Goals as goal
 
 pub returns : goal.returns
 returns c =
-    candidates_whole c.loop-at.invariant (λ k other l. (c.requires.waiting.inside k other l).0) c.in_default.ensures.none
+    candidates_whole c.loop-at.invariant (λ k other l. (c.requires.waiting.inside k other l).0)
+    c.in_default.ensures.none
 
 pub loop-at-preserved : goal.loop-at-preserved
 loop-at-preserved c =

@@ -31,7 +31,8 @@ push-requires-clause-drive g c =
     let few = c.self.invariant.ready.held.units.few in
     omega (
       arith,
-      ap (λ (a : Target). a.drive) (c.of-target.ensures ∙ ap (λ ds. target_of (units_of ds) command) c.as_slice.ensures.value),
+      ap (λ (a : Target). a.drive) (c.of-target.ensures ∙ ap
+          (λ ds. target_of (units_of ds) command) c.as_slice.ensures.value),
       place_inside ds c.args.new.unit waitable.known,
       few,
       length-map ds (λ (d : Drive). d.unit),

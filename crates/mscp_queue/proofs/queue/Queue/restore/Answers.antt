@@ -23,7 +23,8 @@ waiters {rs = rs} e b f = f ∙ λ i. record { budget = b i; waiting = rs; targe
 
 -- the place of what was begun, by the names of the records
 by_names : {dirty : ℕ} {ds : List Drive} {rs : List Record} {cs : List Choice} (begun : Option Name)
-    (place : Option ℕ) → AreCandidates dirty ds rs cs → IfSome begun (λ name. place ≡ position (has_choice_name name) cs)
+    (place : Option ℕ) → AreCandidates dirty ds rs cs → IfSome begun
+    (λ name. place ≡ position (has_choice_name name) cs)
     → IfSome begun (λ name. place ≡ position (has_name name) rs)
 by_names None place h some = some
 by_names (Some name) place h some = some ∙ place_of name h
