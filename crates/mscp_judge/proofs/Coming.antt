@@ -237,9 +237,7 @@ ready_due c log line judge s some = record {
 step_lined : (name : Option Named) (h h' : Holdings Wanted) (k : Block) (entry : Entry)
     → Answers (IsNamed name) h (events.Step k) entry h' → entry_lines entry ≢ []
 step_lined name h h' k (entries.Stepped report) a e = let f = step_ends report in some_none f.0 10 [] (sym f.1 ∙ e)
-step_lined name h h' k (entries.Sent x y) a e = absurd a
-step_lined name h h' k (entries.Taken x y) a e = absurd a
-step_lined name h h' k (entries.Looked x) a e = absurd a
+step_lined name h h' k _ a e = absurd a
 
 pub ready_step : {A : Type 0} (c : Settings) (log : Log) (line : List ℕ) (ws : List (List ℕ)) (old new : Judge A)
     → ws ≡ words line → Stands c log old → due old ≡ [] → 0 < old.owed

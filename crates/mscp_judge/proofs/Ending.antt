@@ -26,9 +26,7 @@ step_told : (c : Settings) (t : Trace) (k : Block) (entry : Entry) → IsRight c
     → entry_lines entry ≢ []
 step_told c t k (entries.Stepped report) r e =
     let f = step_ends report in some_none f.0 10 [] (sym f.1 ∙ e)
-step_told c t k (entries.Sent x y) r e = absurd r
-step_told c t k (entries.Taken x y) r e = absurd r
-step_told c t k (entries.Looked x) r e = absurd r
+step_told c t k _ r e = absurd r
 
 first_none : (xs ys : List ℕ) → xs ++ ys ≡ [] → xs ≡ []
 first_none [] ys e = refl

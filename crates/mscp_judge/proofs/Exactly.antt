@@ -6,7 +6,7 @@ use Rattle.mscp_events.specs.declared.event.Event.{Event}
 use Rattle.mscp_packet.specs.Steps.{◌>>=◌}
 use Rattle.mscp_text.specs.Lines.{line}
 use Rattle.mscp_reader.specs.Lexical.{lines}
-use Rattle.mscp_reader.specs.Grammar.{Place, Begins, HasBudget, HasCredits, HasGone, HasLongest, HasPassing, HasTimeout, HasUnits, asked_after, said_at}
+use Rattle.mscp_reader.specs.Grammar.{Place, Begins, HasGone, asked_after, said_at}
 use Rattle.mscp_reader.specs.Outcome.{headed}
 use Rattle.mscp_reader.specs.declared.fault.Cause.{Cause}
 use Rattle.mscp_reader.specs.declared.fault.ScriptFault.{ScriptFault}
@@ -153,13 +153,7 @@ only_behind totals bytes small (Ok (HasGone c events, before, behind)) e j = rec
   read = j.read;
   legal = j.legal;
 }
-only_behind totals bytes small (Ok (Begins, before, behind)) e j = absurd j
-only_behind totals bytes small (Ok (HasCredits credits, before, behind)) e j = absurd j
-only_behind totals bytes small (Ok (HasBudget credits budget, before, behind)) e j = absurd j
-only_behind totals bytes small (Ok (HasPassing credits passing, before, behind)) e j = absurd j
-only_behind totals bytes small (Ok (HasLongest credits budget longest, before, behind)) e j = absurd j
-only_behind totals bytes small (Ok (HasTimeout settings, before, behind)) e j = absurd j
-only_behind totals bytes small (Ok (HasUnits settings, before, behind)) e j = absurd j
+only_behind totals bytes small _ e j = absurd j
 
 pub legal_alone : (bytes : List ℕ) (result : Result Verdict ReadFault) → length bytes ≤ 16777216
     → JudgesLog bytes result → (totals : Totals) → result ≡ Ok (verdicts.Legal totals) → HasLegalTrace bytes

@@ -3,7 +3,6 @@ use Rattle.std.proofs.Common.{◌≡◌, ℕ, ◌+◌, ◌<◌, ◌≤◌, false
 use Rattle.std.proofs.Common.{append_assoc, append-nil, length-append}
 use Rattle.std.specs.Prelude.{codes, drop, nat_lt, OnOk, Some, Result, Ok, Err}
 use Rattle.std.specs.List.{AllByRecursion, flat_map}
-use Rattle.std.proofs.lemmas.Bool.{false≢true}
 use Rattle.std.proofs.lemmas.Bool.Decides.{nat_tests}
 use Rattle.mscp_events.specs.Settings.{Settings}
 use Rattle.mscp_events.specs.declared.event.Event.{Event}
@@ -16,7 +15,7 @@ use Rattle.mscp_reader.proofs.PlainLines.{plain_lines}
 use Rattle.mscp_reader.specs.Lexical.{lines, words}
 use Rattle.mscp_judge.specs.declared.judge.Judge.{Judge}
 use Rattle.mscp_judge.specs.Judged.{Passed}
-use Rattle.mscp_judge.specs.Logs.{AreAnswers, IsAnswerLine, Log, after_line, after_lines, asking, is_answer, telling, told}
+use Rattle.mscp_judge.specs.Logs.{AreAnswers, IsAnswerLine, Log, after_line, after_lines, asking, telling, told}
 use Rattle.mscp_judge.specs.Standing.{Stands, due}
 use Rattle.mscp_judge.proofs.Answering.{idle_answers}
 use Rattle.mscp_judge.proofs.Exactly.{lines_behind}
@@ -84,8 +83,7 @@ answer_told : (n : ℕ) (log : Log) (bytes : List ℕ) → n ≤ 1000000 → IsA
 answer_told n log bytes few it =
     let fits : nat_lt 1000000 n ≡ false = grind (arith, nat_tests) in
     let says : said_at n bytes ≡ Ok (words bytes) = rw fits it.says in
-    tells n log bytes (words bytes) (ap (in_line n) says)
-    (λ e. false≢true (sym (ap is_answer e) ∙ it.answers)) it.answers
+    tells n log bytes (words bytes) (ap (in_line n) says) it.answers
 
 telling_more : (log : Log) (xs ys : List ℕ) → telling (telling log xs) ys ≡ telling log (xs ++ ys)
 telling_more log xs ys =

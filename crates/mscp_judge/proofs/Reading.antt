@@ -2,6 +2,7 @@
 use Rattle.std.proofs.Common.{◌≡◌, ◌≢◌, ℕ, ◌+◌, Bool, true, false, List, [], ◌∷◌, ◌++◌, length, refl, ap, sym, ◌∙◌, arith}
 use Rattle.std.specs.Prelude.{nat_lt, if◌then◌else◌, Result, Ok, Err}
 use Rattle.std.specs.List.{list_all}
+use Rattle.std.proofs.lemmas.Bool.{true≢false}
 use Rattle.mscp_events.specs.declared.event.Event.{Event}
 use Rattle.mscp_packet.specs.Steps.{◌>>=◌}
 use Rattle.mscp_reader.specs.Lexical.{is_comment, is_printed, said, words}
@@ -95,12 +96,20 @@ worded log bytes [] b e some = absurd (some refl)
 worded log bytes (w ∷ ws) b e some =
     ap (λ x. if x then Ok (telling log (line bytes)) else after_request log (w ∷ ws)) e
 
+-- what tells of this is false, so it isn't so
+pub unless : {P : Type 0} (b : Bool) → (P → b ≡ true) → b ≡ false → ¬ P
+unless b h e = λ p. true≢false (sym (h p) ∙ e)
+
+-- an answer has words
+pub answer_some : (ws : List (List ℕ)) → is_answer ws ≡ true → ws ≢ []
+answer_some ws a = λ e. true≢false (sym a ∙ ap is_answer e)
+
 -- a line that tells
-pub tells : (n : ℕ) (log : Log) (bytes : List ℕ) (ws : List (List ℕ)) → in_line n (said_at n bytes) ≡ Ok ws → ws ≢ []
+pub tells : (n : ℕ) (log : Log) (bytes : List ℕ) (ws : List (List ℕ)) → in_line n (said_at n bytes) ≡ Ok ws
     → is_answer ws ≡ true → after_line n log bytes ≡ Ok (telling log (line bytes))
 unfolding after_line
-tells n log bytes ws e some a = ap (λ r. r >>= after_words log bytes) (from_ok n (said_at n bytes) ws e)
-    ∙ worded log bytes ws true a some
+tells n log bytes ws e a = ap (λ r. r >>= after_words log bytes) (from_ok n (said_at n bytes) ws e)
+    ∙ worded log bytes ws true a (answer_some ws a)
 
 -- ---- a line that asks, where so many events came before
 

@@ -134,9 +134,7 @@ entry_line c t h h' wanted k (entries.Stepped report) begun text v led a l =
     let f = follow c begun t h v led in
     let turn = turn_of c t h h' wanted (events.Step k) (entries.Stepped report) v f a in
     report_line c t k wanted report text f.agrees.follows.known turn.sends.right (turn.picked f.unbegun) (sym l)
-entry_line c t h h' wanted k (entries.Sent x y) begun text v led a l = absurd a
-entry_line c t h h' wanted k (entries.Taken x y) begun text v led a l = absurd a
-entry_line c t h h' wanted k (entries.Looked x) begun text v led a l = absurd a
+entry_line c t h h' wanted k _ begun text v led a l = absurd a
 
 -- what begins with a short line, and is a line, is short
 short_text : (bytes text : List ℕ) → HasShortLine bytes → bytes ≡ line text → list_all is_printed text ≡ true

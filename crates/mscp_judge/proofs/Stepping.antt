@@ -40,9 +40,7 @@ step_is c marks h h' k owed line (entries.Stepped report) s a (entries.Stepped o
 step_is c marks h h' k owed line (entries.Stepped report) s a (entries.Sent x y) X Y r e = absurd r
 step_is c marks h h' k owed line (entries.Stepped report) s a (entries.Taken x y) X Y r e = absurd r
 step_is c marks h h' k owed line (entries.Stepped report) s a (entries.Looked x) X Y r e = absurd r
-step_is c marks h h' k owed line (entries.Sent x y) s a other X Y r e = absurd a
-step_is c marks h h' k owed line (entries.Taken x y) s a other X Y r e = absurd a
-step_is c marks h h' k owed line (entries.Looked x) s a other X Y r e = absurd a
+step_is c marks h h' k owed line _ s a other _ _ r e = absurd a
 
 -- what is said of an answer more
 pub said_more : (marks : List Mark) (P : List Mark) (now : Trace) (m : Moment) (owed : List Event)

@@ -1,6 +1,6 @@
 -- What one moment more adds to the totals of a run.
 use Rattle.std.proofs.Common.{◌≡◌, ◌≢◌, ◌⊎◌, inl, inr, ⊎_elim, ℕ, zero, suc, ◌+◌, ◌≤◌, Bool, true, false, cond, List, [], ◌∷◌, ◌++◌, map, take, get_or, length, refl, ap, sym, ◌∙◌, subst, arith, length-append}
-use Rattle.std.specs.Prelude.{Contains, filter, not, Ok, Err, Option}
+use Rattle.std.specs.Prelude.{Contains, filter, not, Ok, Option}
 use Rattle.std.specs.List.{AllByRecursion}
 use Rattle.std.proofs.lemmas.List.{take-append-le, take_all}
 use Rattle.std.proofs.lemmas.List.Elements.{All-contains, All-contains_itself, recursion_from_All, All-from_recursion}
@@ -134,20 +134,12 @@ queued_figure c t h (events.Send via b) (entries.Sent other (Ok (sents.Queued re
 queued_figure c t h (events.Step k) (entries.Sent other (Ok (sents.Queued reference))) r s w q = absurd r
 queued_figure c t h (events.Take via) (entries.Sent other (Ok (sents.Queued reference))) r s w q = absurd r
 queued_figure c t h events.Look (entries.Sent other (Ok (sents.Queued reference))) r s w q = absurd r
-queued_figure c t h event (entries.Sent other (Ok (sents.Answered reference aborted))) r s w q = absurd (false≢true q)
-queued_figure c t h event (entries.Sent other (Err fault)) r s w q = absurd (false≢true q)
-queued_figure c t h event (entries.Taken other end) r s w q = absurd (false≢true q)
-queued_figure c t h event (entries.Stepped report) r s w q = absurd (false≢true q)
-queued_figure c t h event (entries.Looked list) r s w q = absurd (false≢true q)
+queued_figure c t h event _ r s w q = absurd (false≢true q)
 
 -- of no other is one told
 none_queued : (h : Holdings Wanted) (entry : Entry) → figure_queued h entry ≢ 0 → queues entry ≡ true
 none_queued h (entries.Sent via (Ok (sents.Queued reference))) some = refl
-none_queued h (entries.Sent via (Ok (sents.Answered reference aborted))) some = absurd (some refl)
-none_queued h (entries.Sent via (Err fault)) some = absurd (some refl)
-none_queued h (entries.Taken via end) some = absurd (some refl)
-none_queued h (entries.Stepped report) some = absurd (some refl)
-none_queued h (entries.Looked list) some = absurd (some refl)
+none_queued h _ some = absurd (some refl)
 
 -- ---- the oldest
 
@@ -164,18 +156,7 @@ step_counts c t (events.Send via b) (entries.Sent other sent) r = refl
 step_counts c t (events.Take via) (entries.Taken other end) r = refl
 step_counts c t (events.Step k) (entries.Stepped report) r = refl
 step_counts c t events.Look (entries.Looked list) r = refl
-step_counts c t (events.Send via b) (entries.Taken other end) r = absurd r
-step_counts c t (events.Send via b) (entries.Stepped report) r = absurd r
-step_counts c t (events.Send via b) (entries.Looked list) r = absurd r
-step_counts c t (events.Take via) (entries.Sent other sent) r = absurd r
-step_counts c t (events.Take via) (entries.Stepped report) r = absurd r
-step_counts c t (events.Take via) (entries.Looked list) r = absurd r
-step_counts c t (events.Step k) (entries.Sent other sent) r = absurd r
-step_counts c t (events.Step k) (entries.Taken other end) r = absurd r
-step_counts c t (events.Step k) (entries.Looked list) r = absurd r
-step_counts c t events.Look (entries.Sent other sent) r = absurd r
-step_counts c t events.Look (entries.Taken other end) r = absurd r
-step_counts c t events.Look (entries.Stepped report) r = absurd r
+step_counts c t _ _ r = absurd r
 
 -- ---- all of them
 

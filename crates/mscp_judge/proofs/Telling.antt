@@ -95,9 +95,7 @@ idle_entry : (name : Option Named) (h h' : Holdings Wanted) (k : Block) (entry :
 idle_entry name h h' k (entries.Stepped Idle) none a = refl
 idle_entry name h h' k (entries.Stepped (Served via n unit lbn started seek ended)) none a =
     absurd (omega (arith, a.serves.1.next.servable.inside, ap length none))
-idle_entry name h h' k (entries.Sent x y) none a = absurd a
-idle_entry name h h' k (entries.Taken x y) none a = absurd a
-idle_entry name h h' k (entries.Looked x) none a = absurd a
+idle_entry name h h' k _ none a = absurd a
 
 idle_names : None ≡ name_in (words (codes "idle"))
 unfolding words name_in served

@@ -14,7 +14,8 @@ use mscp_controller::{Config, Connection, OutOfMemory};
 use mscp_host::{Host, HostFault, News};
 use mscp_packet::write_command;
 use mscp_reader::{
-    Line, Lines, ReadFault, Request, Words, bytes_in, lines_of, read_header, request_after, words_of,
+    Line, Lines, ReadFault, Request, Words, bytes_in, lines_of, read_header, request_after,
+    words_of,
 };
 use std::alloc::Allocator;
 

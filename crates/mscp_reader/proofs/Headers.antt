@@ -15,25 +15,13 @@ use Rattle.mscp_reader.proofs.Outcomes.{ended_early, from_ok}
 -- before the header's end
 open_header : (n : ℕ) (p : Place) (behind : List (List ℕ)) (other : Result (Place × ℕ × List (List ℕ)) ScriptFault)
     → IsInHeader p → gone_or n p behind other ≡ other
-open_header n Begins behind other h = refl
-open_header n (HasCredits credits) behind other h = refl
-open_header n (HasBudget credits budget) behind other h = refl
-open_header n (HasPassing credits passing) behind other h = refl
-open_header n (HasLongest credits budget longest) behind other h = refl
-open_header n (HasTimeout settings) behind other h = refl
-open_header n (HasUnits settings) behind other h = refl
 open_header n (HasGone settings events) behind other h = absurd h
+open_header n _ behind other h = refl
 
 -- a place is in the header, or behind it
 sides : (p : Place) → IsInHeader p ⊎ ((s : Settings) × (es : List Event) × (p ≡ HasGone s es))
-sides Begins = inl tt
-sides (HasCredits credits) = inl tt
-sides (HasBudget credits budget) = inl tt
-sides (HasPassing credits passing) = inl tt
-sides (HasLongest credits budget longest) = inl tt
-sides (HasTimeout settings) = inl tt
-sides (HasUnits settings) = inl tt
 sides (HasGone settings events) = inr (settings, events, refl)
+sides _ = inl tt
 
 -- behind its end nothing is read
 pub headed_gone : (n : ℕ) (s : Settings) (es : List Event) (all : List (List ℕ))

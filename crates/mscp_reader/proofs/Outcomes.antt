@@ -23,14 +23,8 @@ from_ok n (Err cause) x e = cc
 
 pub ended_early : (n : ℕ) (p : Place) → IsInHeader p
     → all_read n p ≡ Err (record { line = n + 1; cause = causes.Header })
-ended_early n Begins h = refl
-ended_early n (HasCredits credits) h = refl
-ended_early n (HasBudget credits budget) h = refl
-ended_early n (HasPassing credits passing) h = refl
-ended_early n (HasLongest credits budget longest) h = refl
-ended_early n (HasTimeout settings) h = refl
-ended_early n (HasUnits settings) h = refl
 ended_early n (HasGone settings events) h = absurd h
+ended_early n _ h = refl
 
 -- ---- lines behind the header
 

@@ -14,15 +14,9 @@ use Rattle.mscp_reader.specs.Outcome.{in_line, lines_outcome, all_read}
 -- ---- read
 
 ended_ok : (n : ℕ) (p : Place) (s : Settings) (es : List Event) → all_read n p ≡ Ok (s, es) → p ≡ HasGone s es
-ended_ok n Begins s es e = cc
-ended_ok n (HasCredits credits) s es e = cc
-ended_ok n (HasBudget credits budget) s es e = cc
-ended_ok n (HasPassing credits passing) s es e = cc
-ended_ok n (HasLongest credits budget longest) s es e = cc
-ended_ok n (HasTimeout settings) s es e = cc
-ended_ok n (HasUnits settings) s es e = cc
 ended_ok n (HasGone settings events) s es e = let pair : (settings, events) ≡ (s, es) = cc in
     ap (λ (x : Settings × List Event). HasGone x.0 x.1) pair
+ended_ok n _ s es e = cc
 
 ok_step : (n : ℕ) (rest : List (List ℕ)) (s : Settings) (es : List Event) (r : Result Place Cause)
     → ((q : Place) → lines_outcome (n + 1) q rest ≡ Ok (s, es) → after_lines (n + 1) q rest ≡ Ok (HasGone s es))
@@ -71,14 +65,8 @@ unfolding after_lines
 early n p fault h e = let q = made n fault e in record { place = p; right = refl; early = h; cause = q.0; number = q.1 }
 
 ended_err : (n : ℕ) (p : Place) (fault : ScriptFault) → all_read n p ≡ Err fault → NoGoFrom n p [] fault
-ended_err n Begins fault e = early n Begins fault tt cc
-ended_err n (HasCredits credits) fault e = early n _ fault tt cc
-ended_err n (HasBudget credits budget) fault e = early n _ fault tt cc
-ended_err n (HasPassing credits passing) fault e = early n _ fault tt cc
-ended_err n (HasLongest credits budget longest) fault e = early n _ fault tt cc
-ended_err n (HasTimeout settings) fault e = early n _ fault tt cc
-ended_err n (HasUnits settings) fault e = early n _ fault tt cc
 ended_err n (HasGone settings events) fault e = cc
+ended_err n p fault e = early n p fault tt cc
 
 -- the fault of the lines after one that is right
 later : (n : ℕ) (p q : Place) (line : List ℕ) (rest : List (List ℕ)) (fault : ScriptFault) → after_line n p line ≡ Ok q

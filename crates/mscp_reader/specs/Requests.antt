@@ -156,7 +156,8 @@ abbrev pub asked_if : Option Form → List ℕ → List (List ℕ) → Result (L
 asked_if (Some form) word fields = asked First form fields
 asked_if None word fields = if bytes_eq word (codes "second") then second_request fields else Err causes.Word
 
--- what the words of a line ask for. A line without a word asks for nothing, and the first connection isn't named (profile)
+-- what the words of a line ask for. A line without a word asks for nothing, and the first connection isn't named
+-- (profile)
 unfoldable pub request : List (List ℕ) → Result (List Event) Cause
 request [] = Ok []
 request (word ∷ fields) = asked_if (form_of word) word fields

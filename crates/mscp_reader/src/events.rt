@@ -223,7 +223,11 @@ fn read_look(words: Words<'_>) -> Result<Request<'_>, Cause>
 
 /// A transfer: its reference number, its unit, how many bytes, and the first block.
 #[tactic(auto, unfolding(crate::specs::Requests::asked))]
-fn read_transfer(connection: Connection, kind: MoveKind, words: Words<'_>) -> Result<Request<'_>, Cause>
+fn read_transfer(
+    connection: Connection,
+    kind: MoveKind,
+    words: Words<'_>,
+) -> Result<Request<'_>, Cause>
     ensures { Gives events_of result (requests.asked connection (Form.Transfer kind) (lexical.words words.entry.rest.now)) }
 {
     let (reference, unit, count, block) = words.four()?;

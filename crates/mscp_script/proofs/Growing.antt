@@ -31,8 +31,7 @@ answered_more : {K : Type 0} (picks : List Choice → ℕ → Type 0) (old mid n
     → Answered picks old (es ++ e ∷ []) (ns ++ n ∷ []) new
 answered_more {K} picks old mid new [] [] e n r a = (new, subst (λ (h : Holdings K). Answers picks h e n new) r a, refl)
 answered_more picks old mid new (f ∷ es) (m ∷ ns) e n r a = (r.0, r.1, answered_more picks r.0 mid new es ns e n r.2 a)
-answered_more picks old mid new [] (m ∷ ns) e n r a = absurd r
-answered_more picks old mid new (f ∷ es) [] e n r a = absurd r
+answered_more picks old mid new _ _ e n r a = absurd r
 
 -- a new run
 pub runs_none : {A : Type 0} (c : Settings) (run : Run A) → run.controller ≡ fresh c run.controller.picker

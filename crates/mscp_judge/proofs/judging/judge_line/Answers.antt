@@ -1,5 +1,4 @@
 use Rattle.std.proofs.Common.{ap, sym, ◌∙◌}
-use Rattle.std.proofs.lemmas.Bool.{true≢false}
 use Rattle.std.proofs.lemmas.Result.{err_from_is_err_and}
 use Rattle.mscp_reader.specs.Lexical.{words}
 use Rattle.mscp_reader.specs.Requests.{events_of}
@@ -10,7 +9,7 @@ use Rattle.mscp_judge.proofs.Breaking.{broken_early}
 use Rattle.mscp_judge.proofs.Coming.{too_early}
 use Rattle.mscp_judge.proofs.Righting.{stands_open_held}
 use Rattle.mscp_judge.proofs.Wording.{unnamed}
-use Rattle.mscp_judge.proofs.Reading.{asks, asks_wrong, says_words, skipped, tells, wrong_words}
+use Rattle.mscp_judge.proofs.Reading.{answer_some, asks, asks_wrong, says_words, skipped, tells, unless, wrong_words}
 use Rattle.mscp_judge.proofs.judging.judge_line.Goals as goal
 
 pub returns-in_err-words-clause-hears : goal.returns-in_err-words-clause-hears
@@ -29,7 +28,7 @@ returns-then-is_empty-clause-hears g c = λ d log s. (
 pub hear-requires-clause-words : goal.hear-requires-clause-words
 hear-requires-clause-words g c =
     (says_words c.args.number c.args.bytes.now _ c.in_ok-words.ensures.words
-    (λ e. true≢false (sym (sym c.is_answer.ensures ∙ c.if-is_answer.true) ∙ ap is_answer e))).0
+    (answer_some _ (sym c.is_answer.ensures ∙ c.if-is_answer.true))).0
 
 pub hear-requires-clause-answer : goal.hear-requires-clause-answer
 hear-requires-clause-answer g c =
@@ -38,13 +37,12 @@ hear-requires-clause-answer g c =
 pub hear-requires-clause-printed : goal.hear-requires-clause-printed
 hear-requires-clause-printed g c =
     (says_words c.args.number c.args.bytes.now _ c.in_ok-words.ensures.words
-    (λ e. true≢false (sym (sym c.is_answer.ensures ∙ c.if-is_answer.true) ∙ ap is_answer e))).1
+    (answer_some _ (sym c.is_answer.ensures ∙ c.if-is_answer.true))).1
 
 pub returns-then-is_answer-clause-hears : goal.returns-then-is_answer-clause-hears
 returns-then-is_answer-clause-hears g c = λ d log s. (
   telling log (line c.args.bytes.now),
   tells c.args.number log c.args.bytes.now _ c.in_ok-words.ensures.words
-      (λ e. true≢false (sym (sym c.is_answer.ensures ∙ c.if-is_answer.true) ∙ ap is_answer e))
       (sym c.is_answer.ensures ∙ c.if-is_answer.true),
   c.in_ok-hear.ensures.tells d log s,
 )
@@ -53,7 +51,7 @@ pub returns-in-Err-clause-hears : goal.returns-in-Err-clause-hears
 returns-in-Err-clause-hears g c =
     λ d log s. asks_wrong c.args.number _ log c.args.bytes.now _ c.in-Err.fault (s.count ∙ sym c.count.ensures)
     c.in_ok-words.ensures.words
-    (λ e. true≢false (sym (c.is_empty.ensures.1 e) ∙ c.if-is_empty.false))
+    (unless _ c.is_empty.ensures.1 c.if-is_empty.false)
     (sym c.is_answer.ensures ∙ c.if-is_answer.false) c.in-Err.ensures.asks
 
 pub returns-in-Ok-clause-hears : goal.returns-in-Ok-clause-hears
@@ -61,11 +59,11 @@ returns-in-Ok-clause-hears g c = λ d log s.
     let new = events_of c.in-Ok.field-0 in
     let unasked = unnamed (words c.args.bytes.now) (ap is_answer
     (sym (says_words c.args.number c.args.bytes.now _ c.in_ok-words.ensures.words
-    (λ e. true≢false (sym (c.is_empty.ensures.1 e) ∙ c.if-is_empty.false))).0)
+    (unless _ c.is_empty.ensures.1 c.if-is_empty.false)).0)
     ∙ (sym c.is_answer.ensures ∙ c.if-is_answer.false)) in (
       asking log new,
       asks c.args.number _ log c.args.bytes.now _ new (s.count ∙ sym c.count.ensures) c.in_ok-words.ensures.words
-          (λ e. true≢false (sym (c.is_empty.ensures.1 e) ∙ c.if-is_empty.false))
+          (unless _ c.is_empty.ensures.1 c.if-is_empty.false)
           (sym c.is_answer.ensures ∙ c.if-is_answer.false) c.in-Ok.ensures.asks,
       (
         too_early d log c.args.judge.now new s (c.is_settled.ensures.no c.if-not-is_settled.true),
@@ -77,7 +75,7 @@ pub returns-in-Ok-clause-breaks : goal.returns-in-Ok-clause-breaks
 returns-in-Ok-clause-breaks g c = λ wanted d log s.
     broken_early d log c.args.bytes.now c.args.judge.now _ s
     (ap is_answer (sym (says_words c.args.number c.args.bytes.now _ c.in_ok-words.ensures.words
-    (λ e. true≢false (sym (c.is_empty.ensures.1 e) ∙ c.if-is_empty.false))).0)
+    (unless _ c.is_empty.ensures.1 c.if-is_empty.false)).0)
     ∙ (sym c.is_answer.ensures ∙ c.if-is_answer.false))
 
 pub returns-in_ok-ask-in-Ok-2-clause-hears : goal.returns-in_ok-ask-in-Ok-2-clause-hears
@@ -85,7 +83,7 @@ returns-in_ok-ask-in-Ok-2-clause-hears g c = λ d log s.
     let new = events_of c.in-Ok.field-0 in (
       asking log new,
       asks c.args.number _ log c.args.bytes.now _ new (s.count ∙ sym c.count.ensures) c.in_ok-words.ensures.words
-          (λ e. true≢false (sym (c.is_empty.ensures.1 e) ∙ c.if-is_empty.false))
+          (unless _ c.is_empty.ensures.1 c.if-is_empty.false)
           (sym c.is_answer.ensures ∙ c.if-is_answer.false) c.in-Ok.ensures.asks,
       c.in_ok-ask-in-Ok-2.ensures.stands d log s,
     )

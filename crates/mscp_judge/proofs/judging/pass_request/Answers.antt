@@ -19,7 +19,8 @@ returns-clause-passed g c = λ d log s.
     let rest = c.args.lines.now.rest.now in
     let mid = c.cut_request.new.lines in
     let first = passed_request (Ok tt) c.args.judge.now c.ask.new.self (events_of c.in-Some.request) before mid.number
-    _ rest mid.rest.now c.in_ok-count.ensures.stands seen.number c.count.ensures seen.asks seen.rest seen.some d log s in
+    _ rest mid.rest.now c.in_ok-count.ensures.stands seen.number c.count.ensures seen.asks seen.rest seen.some d log s
+    in
     let new = c.cut_due.new in
     let cut = c.cut_due.ensures in
     passed_more d log before mid.number new.lines.number rest mid.rest.now new.lines.rest.now c.ask.new.self

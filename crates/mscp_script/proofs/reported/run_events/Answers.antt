@@ -35,5 +35,6 @@ returns-in-Ok-None g c = λ d begun.
       so_far.0,
       so_far.1,
       so_far.2 ∙ ends _ c.count.result d so_far.0 _ (omega (arith, so_far.1.count, c.count.ensures))
-          (omega (arith, c.loop-request.invariant.few, c.count.ensures)) (rw c.in-Ok-None.field-0-is at (c.in-Ok-None.ensures.asks)),
+          (omega (arith, c.loop-request.invariant.few, c.count.ensures))
+          (rw c.in-Ok-None.field-0-is at (c.in-Ok-None.ensures.asks)),
     )

@@ -23,7 +23,8 @@ returns-in-Packet-clause-stands g c =
     let new = c.send-in-Packet.new.self in
     let via = c.in-Packet.connection in
     let came = subst (λ b. OnOk c.send-in-Packet.result (Came old.controller.picker.named old new
-    (events.Send via (record { items = b })))) (c.as_slice-in-Packet.ensures.value ∙ c.bytes_in.ensures) c.send-in-Packet.ensures.came in
+    (events.Send via (record { items = b })))) (c.as_slice-in-Packet.ensures.value ∙ c.bytes_in.ensures)
+    c.send-in-Packet.ensures.came in
     rw c.in-Packet.is (asked_one c.send-in-Packet.result old new old.controller.picker.named _ refl c.requires.settled
     came c.send-in-Packet.ensures.owed)
 

@@ -10,8 +10,14 @@ loop-request-preserved g c =
     let number = rw c.in-Ok-Some.field-0-is at (c.in-Ok-Some.ensures.number) in
     let more = c.in_ok-add_events-in-Ok-Some.ensures in
     record {
-      few = omega (arith, few, c.len.ensures, ap length more, length-append c.loop-request.events.items (events_of
-          c.in-Ok-Some.request));
+      few = omega (
+        arith,
+        few,
+        c.len.ensures,
+        ap length more,
+        length-append c.loop-request.events.items (events_of
+            c.in-Ok-Some.request),
+      );
       same = λ s. c.loop-request.invariant.same s ∙ rw more (goes_on _ c.len.result _ s _ _ _ _
           (omega (arith, c.len.ensures)) (omega (arith, c.len.ensures, c.loop-request.invariant.few)) asks
           c.in-Ok-Some.ensures.rest number);
@@ -19,10 +25,16 @@ loop-request-preserved g c =
 
 pub returns-in-Err-clause-outcome : goal.returns-in-Err-clause-outcome
 returns-in-Err-clause-outcome g c = λ s. c.loop-request.invariant.same s
-    ∙ goes_wrong _ c.len.result s _ _ _ (omega (arith, c.len.ensures)) (omega (arith, c.len.ensures,
-    c.loop-request.invariant.few)) c.in-Err.ensures.asks
+    ∙ goes_wrong _ c.len.result s _ _ _ (omega (arith, c.len.ensures)) (omega (
+      arith,
+      c.len.ensures,
+      c.loop-request.invariant.few,
+    )) c.in-Err.ensures.asks
 
 pub returns-in-Ok-None-clause-outcome : goal.returns-in-Ok-None-clause-outcome
 returns-in-Ok-None-clause-outcome g c = λ s. c.loop-request.invariant.same s
-    ∙ ends _ c.len.result s _ _ (omega (arith, c.len.ensures)) (omega (arith, c.len.ensures,
-    c.loop-request.invariant.few)) (rw c.in-Ok-None.field-0-is at (c.in-Ok-None.ensures.asks))
+    ∙ ends _ c.len.result s _ _ (omega (arith, c.len.ensures)) (omega (
+      arith,
+      c.len.ensures,
+      c.loop-request.invariant.few,
+    )) (rw c.in-Ok-None.field-0-is at (c.in-Ok-None.ensures.asks))
