@@ -16,7 +16,7 @@ use Rattle.mscp_host.specs.declared.restoring.RestoreFault.{RestoreFault}
 use Rattle.mscp_host.specs.declared.restoring.RestoreFault.TheVariants as faults
 use Rattle.mscp_host.specs.Accounts.{Account}
 use Rattle.mscp_host.specs.Sound.{IsSound, waiting}
-use Rattle.mscp_host.specs.Restored.{account_in, apart_whose, head_fault, restored, restored_unless, spare_whose, submission_in, told_in, watch_in, watched_whose, whose}
+use Rattle.mscp_host.specs.Restored.{account_fault, account_in, head_fault, restored, restored_unless, submission_in, told_in, watch_in, whose_unless}
 use Rattle.mscp_host.specs.Saved.{HasRange, HasSubmissionRange, frame_bytes, saved_bytes, submission_bytes, told_bytes, watch_byte, watch_bytes}
 
 -- ---- a submission
@@ -118,13 +118,15 @@ head_back a some few covered =
 same_bytes : (b : List ℕ) → bytes_eq b b ≡ true
 same_bytes b = (bytes_eq-Decides b b).1 refl
 
+no_fault : (a : Account) → IsSound a → account_fault a ≡ None
+no_fault a sound = rw (lt-ltb (length (waiting a.outstanding)) a.credits sound.spare)
+    (rw (sound.apart, sound.watched, sound.told) refl)
+
 pub restored_back : (a : Account) → IsSound a → HasRange a → restored (saved_bytes a) ≡ Ok a
 restored_back a sound range =
     let b = saved_bytes a in
     ap (λ (f : Option RestoreFault). restored_unless f b) (head_back a sound.some sound.few sound.covered)
-    ∙ (ap (spare_whose b) (account_back a.credits a.outstanding a.watch sound.few range)
-    ∙ (ap (λ (yes : Bool). if not yes then Err faults.Outstanding else apart_whose b a)
-    (lt-ltb (length (waiting a.outstanding)) a.credits sound.spare)
-    ∙ (ap (λ (yes : Bool). if not yes then Err faults.Doubled else watched_whose b a) sound.apart
-    ∙ (ap (λ (yes : Bool). if not yes then Err faults.Poll else whose b a) (λ i. sound.watched i && sound.told i)
-    ∙ ap (λ (yes : Bool). if yes then Ok a else Err faults.Form) (same_bytes b)))))
+    ∙ (ap (λ (x : Account). whose_unless (account_fault x) b x)
+    (account_back a.credits a.outstanding a.watch sound.few range)
+    ∙ (ap (λ (f : Option RestoreFault). whose_unless f b a) (no_fault a sound)
+    ∙ ap (λ (yes : Bool). if yes then Ok a else Err faults.Form) (same_bytes b)))

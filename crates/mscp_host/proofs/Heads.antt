@@ -1,11 +1,15 @@
--- What a head without a fault tells.
-use Rattle.std.proofs.Common.{◌≡◌, ℕ, ◌+◌, ◌*◌, ◌≤◌, Bool, true, false, ◌&&◌, List, length, ap, refl}
+-- What a head and an account without a fault tell.
+use Rattle.std.proofs.Common.{◌≡◌, ℕ, ◌+◌, ◌*◌, ◌<◌, ◌≤◌, Bool, true, false, ◌&&◌, List, length, ap, refl}
 use Rattle.std.specs.Prelude.{not, nat_eq, nat_le, nat_lt, if◌then◌else◌, Option, Some, None, is_some}
-use Rattle.std.proofs.lemmas.Bool.{and_parts, eqb-true, leb-true, ltb-false, true≢false}
+use Rattle.std.proofs.lemmas.Bool.{and_parts, eqb-true, leb-true, ltb-false, ltb-true, true≢false}
 use Rattle.mscp_packet.specs.Number.{num}
 use Rattle.mscp_host.specs.declared.restoring.RestoreFault.{RestoreFault}
-use Rattle.mscp_host.specs.Restored.{count_in, head_fault, is_framed}
+use Rattle.mscp_host.specs.Accounts.{Account}
+use Rattle.mscp_host.specs.Apart.{are_apart}
+use Rattle.mscp_host.specs.Restored.{account_fault, count_in, head_fault, is_framed}
 use Rattle.mscp_host.specs.Saved.{magic, version}
+use Rattle.mscp_host.specs.Sound.{waiting}
+use Rattle.mscp_host.specs.Watched.{are_told, is_watched}
 
 -- what was tested first holds, and then no later fault does
 first : (t : Bool) (fault : RestoreFault) (rest : Option RestoreFault)
@@ -16,6 +20,26 @@ first false fault rest e = absurd (true≢false (ap is_some e))
 last : (t : Bool) (fault : RestoreFault) → (if t then Some fault else None) ≡ None → t ≡ false
 last true fault e = absurd (true≢false (ap is_some e))
 last false fault e = refl
+
+-- the same of what no host has
+pub record IsAccount (a : Account) : Type 0 where
+  pub spare : length (waiting a.outstanding) < a.credits
+  pub apart : are_apart a.outstanding ≡ true
+  pub watched : is_watched a.outstanding a.watch ≡ true
+  pub told : are_told a.outstanding ≡ true
+
+pub account_tells : (a : Account) → account_fault a ≡ None → IsAccount a
+account_tells a e =
+    let spare = first (nat_lt (length (waiting a.outstanding)) a.credits) _ _ e in
+    let apart = first (are_apart a.outstanding) _ _ spare.1 in
+    let both = first (is_watched a.outstanding a.watch && are_told a.outstanding) _ _ apart.1 in
+    let polls = and_parts (is_watched a.outstanding a.watch) (are_told a.outstanding) both.0 in
+    record {
+      spare = ltb-true (length (waiting a.outstanding)) a.credits spare.0;
+      apart = apart.0;
+      watched = polls.0;
+      told = polls.1;
+    }
 
 pub record IsHead (b : List ℕ) : Type 0 where
   pub long : 26 ≤ length b

@@ -71,23 +71,20 @@ head_fault b =
 abbrev pub whose : List ℕ → Account → Result Account RestoreFault
 whose b a = if bytes_eq (saved_bytes a) b then Ok a else Err faults.Form
 
--- this host, where its poll in flight, if there is one, is about somebody, and a figure was told of the oldest alone
-abbrev pub watched_whose : List ℕ → Account → Result Account RestoreFault
-watched_whose b a =
-    if not (is_watched a.outstanding a.watch && are_told a.outstanding) then Err faults.Poll else whose b a
+-- why no host has that: the first that holds
+abbrev pub account_fault : Account → Option RestoreFault
+account_fault a =
+    if not (nat_lt (length (waiting a.outstanding)) a.credits) then Some faults.Outstanding else (
+    if not (are_apart a.outstanding) then Some faults.Doubled else (
+    if not (is_watched a.outstanding a.watch && are_told a.outstanding) then Some faults.Poll else None))
 
--- this host, where no two of its submissions have one number
-abbrev pub apart_whose : List ℕ → Account → Result Account RestoreFault
-apart_whose b a = if not (are_apart a.outstanding) then Err faults.Doubled else watched_whose b a
-
--- this host, where a credit is kept for commands that are answered when they arrive
-abbrev pub spare_whose : List ℕ → Account → Result Account RestoreFault
-spare_whose b a =
-    if not (nat_lt (length (waiting a.outstanding)) a.credits) then Err faults.Outstanding else apart_whose b a
+abbrev pub whose_unless : Option RestoreFault → List ℕ → Account → Result Account RestoreFault
+whose_unless (Some fault) b a = Err fault
+whose_unless None b a = whose b a
 
 abbrev pub restored_unless : Option RestoreFault → List ℕ → Result Account RestoreFault
 restored_unless (Some fault) b = Err fault
-restored_unless None b = spare_whose b (account_in b)
+restored_unless None b = whose_unless (account_fault (account_in b)) b (account_in b)
 
 -- the host that bytes say, whose bytes they are, or why they are none's
 abbrev pub restored : List ℕ → Result Account RestoreFault

@@ -1,13 +1,9 @@
 // Bytes to a host.
 
-ghost use Rattle.std.specs.Prelude.{◌≡◌, ◌+◌, ◌*◌, ◌≤◌, ◌<◌, true, length, IfOk, None};
-ghost use Rattle.mscp_packet.specs.Number.{num};
+ghost use Rattle.std.specs.Prelude.{◌≡◌, ◌+◌, ◌*◌, ◌≤◌, length, IfOk, None};
 ghost use Rattle.mscp_packet.specs.Parts.{parts_in};
-ghost use Rattle.mscp_host.specs.Apart.{are_apart};
-ghost use Rattle.mscp_host.specs.Restored.{account_in, count_in, is_framed, head_fault, outstanding_in, restored, submission_in, told_in, watch_in};
+ghost use Rattle.mscp_host.specs.Restored.{account_fault, account_in, count_in, is_framed, head_fault, outstanding_in, restored, submission_in, told_in, watch_in};
 ghost use Rattle.mscp_host.specs.Saved.{saved_bytes};
-ghost use Rattle.mscp_host.specs.Sound.{waiting};
-ghost use Rattle.mscp_host.specs.Watched.{are_told, is_watched};
 
 use crate::host::Host;
 use crate::outstanding::{are_apart, are_told, waiting};
@@ -144,16 +140,35 @@ fn poll_in(b: &[u8]) -> Option<Watch>
     watch_in(b[17], four_at(b, 18), four_at(b, 22))
 }
 
+/// Why no host has these credits, outstanding submissions and poll in flight, if none has.
+#[inline(never)]
+fn account_fault(
+    credits: u32,
+    outstanding: &[Submission],
+    watch: &Option<Watch>,
+) -> Option<RestoreFault>
+    ensures { result
+        ≡ account_fault (record { credits = credits; outstanding = outstanding.now; watch = watch.now }) }
+{
+    if waiting(outstanding) >= credits as usize {
+        return Some(RestoreFault::Outstanding);
+    }
+    if !are_apart(outstanding) {
+        return Some(RestoreFault::Doubled);
+    }
+    if !is_watched(outstanding, watch) || !are_told(outstanding) {
+        return Some(RestoreFault::Poll);
+    }
+    None
+}
+
 /// The host that bytes with the head of one say, with these outstanding submissions and this poll in flight.
 fn host_in(b: &[u8], outstanding: ArrayVec<Submission, 64>, watch: Option<Watch>) -> Host
     requires head { head_fault b.now ≡ None }
     requires said { outstanding.items ≡ outstanding_in b.now }
     requires len { length outstanding.items ≡ count_in b.now }
-    requires spare { length (waiting outstanding.items) < num b.now 12 4 }
-    requires apart { are_apart outstanding.items ≡ true }
     requires poll { watch ≡ (account_in b.now).watch }
-    requires watched { is_watched outstanding.items watch ≡ true }
-    requires told { are_told outstanding.items ≡ true }
+    requires account { account_fault (account_in b.now) ≡ None }
     ensures { result ≡ account_in b.now }
 {
     Host {
@@ -174,15 +189,9 @@ impl Host {
             return Err(fault);
         }
         let outstanding = outstanding_in(b);
-        if waiting(outstanding.as_slice()) >= four_at(b, 12) as usize {
-            return Err(RestoreFault::Outstanding);
-        }
-        if !are_apart(outstanding.as_slice()) {
-            return Err(RestoreFault::Doubled);
-        }
         let watch = poll_in(b);
-        if !is_watched(outstanding.as_slice(), &watch) || !are_told(outstanding.as_slice()) {
-            return Err(RestoreFault::Poll);
+        if let Some(fault) = account_fault(four_at(b, 12), outstanding.as_slice(), &watch) {
+            return Err(fault);
         }
         let host = host_in(b, outstanding, watch);
         if host.save().as_slice() == b {

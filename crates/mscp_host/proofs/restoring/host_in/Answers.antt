@@ -1,22 +1,10 @@
-use Rattle.std.proofs.Common.{arith}
-use Rattle.mscp_host.proofs.Heads.{head_tells}
+use Rattle.std.proofs.Common.{◌≡◌, ◌<◌, List, true, length, ap, sym, subst, ◌∙◌, arith}
+use Rattle.mscp_host.specs.declared.submission.Submission.{Submission}
+use Rattle.mscp_host.specs.Accounts.{Account}
+use Rattle.mscp_host.specs.Restored.{account_fault, account_in}
+use Rattle.mscp_host.specs.Sound.{IsSound}
+use Rattle.mscp_host.proofs.Heads.{account_tells, head_tells}
 use Rattle.mscp_host.proofs.restoring.host_in.Goals as goal
-
-pub invariant_of-result : goal.invariant_of-result
-invariant_of-result c =
-    let h = head_tells c.args.b.now c.requires.head in
-    let credits = c.four_at.ensures in
-    let len = c.requires.len in
-    let spare = c.requires.spare in
-    record {
-      some = omega (arith, h.some, credits);
-      few = omega (arith, h.few, credits);
-      covered = omega (arith, h.covered, credits, len);
-      spare = omega (arith, spare, credits);
-      apart = c.requires.apart;
-      watched = c.requires.watched;
-      told = c.requires.told;
-    }
 
 pub returns : goal.returns
 returns c = λ i. record {
@@ -24,3 +12,21 @@ returns c = λ i. record {
   outstanding = c.requires.said i;
   watch = c.requires.poll i;
 }
+
+pub invariant_of-result : goal.invariant_of-result
+invariant_of-result c =
+    let b = c.args.b.now in
+    let h = head_tells b c.requires.head in
+    let a = account_tells (account_in b) c.requires.account in
+    let covered = h.covered in
+    let said = ap (λ (l : List Submission). length l) c.requires.said in
+    let len = c.requires.len in
+    subst IsSound (sym (returns c)) (record {
+      some = h.some;
+      few = h.few;
+      covered = omega (arith, covered, said, len);
+      spare = a.spare;
+      apart = a.apart;
+      watched = a.watched;
+      told = a.told;
+    })
