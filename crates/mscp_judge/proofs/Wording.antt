@@ -116,7 +116,8 @@ asked_ok n (Err cause) what e = cc
 
 -- the next line
 pub asked_line : (before count : ℕ) (all : List (List ℕ)) (what : List Event)
-    → asked_next before count all ≡ Ok (Some what) → (line : List ℕ) × (all ≡ line ∷ drop 1 all) × (asked_at (before + 1) count line ≡ Ok what)
+    → asked_next before count all ≡ Ok (Some what) → (line : List ℕ) × (all ≡ line ∷ drop 1 all) ×
+    (asked_at (before + 1) count line ≡ Ok what)
 asked_line before count [] what e = cc
 asked_line before count (line ∷ rest) what e =
     (line, refl, asked_ok (before + 1) (asked_at (before + 1) count line) what e)
