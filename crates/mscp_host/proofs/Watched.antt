@@ -1,6 +1,6 @@
 -- A poll in flight stays one that a host may have.
 use Rattle.std.proofs.Common.{◌≡◌, ℕ, Bool, true, false, ◌&&◌, ◌||◌, List, [], ◌∷◌, ◌++◌, nat_eq, refl, ap, sym, ◌∙◌, arith}
-use Rattle.std.specs.Prelude.{not, find, if◌then◌else◌, Option, Some, None, Result, Ok, is_ok}
+use Rattle.std.specs.Prelude.{not, if◌then◌else◌, Option, Some, None, Ok, is_ok}
 use Rattle.std.specs.List.{list_any}
 use Rattle.std.proofs.lemmas.Bool.{and_parts, or_left, or_right, true≢false}
 use Rattle.std.proofs.lemmas.List.Folds.{list_any-append}

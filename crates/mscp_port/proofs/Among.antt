@@ -1,5 +1,5 @@
 -- What is among the elements of a list that has grown or shrunk.
-use Rattle.std.proofs.Common.{◌≡◌, ℕ, Bool, List, [], Contains, filter, subst, arith, ◌<◌, length}
+use Rattle.std.proofs.Common.{◌≡◌, Bool, List, [], Contains, filter, subst, arith, ◌<◌, length}
 use Rattle.std.proofs.lemmas.List.Elements.{All-contains, All-contains_itself, All-filter}
 
 -- what is left of a list was there

@@ -1,5 +1,5 @@
 -- A message by which a command comes: its number is new, and the controller gets it as it was read.
-use Rattle.std.proofs.Common.{◌≡◌, ◌∙◌, ◌+◌, ◌%◌, ◌<◌, ◌≤◌, ◌&&◌, ◌||◌, ℕ, Bool, true, false, cond, not, List, [], ◌∷◌, ◌++◌, Option, None, Some, refl, ap, sym, length, map, take, drop, filter, arith}
+use Rattle.std.proofs.Common.{◌≡◌, ◌∙◌, ◌%◌, ◌≤◌, ◌&&◌, ◌||◌, ℕ, Bool, true, false, cond, not, List, [], ◌∷◌, ◌++◌, None, Some, refl, ap, sym, length, take, drop, arith}
 use Rattle.std.specs.Prelude.{if◌then◌else◌, nat_eq, nat_lt, slice_index}
 use Rattle.std.specs.List.{list_any}
 use Rattle.std.proofs.lemmas.Bool.{and_parts, eqb-true, false≢true, le-ltb, ltb-false, or_parts}
@@ -18,7 +18,6 @@ use Rattle.mscp_events.specs.Both.{of}
 use Rattle.mscp_events.specs.Settings.{Settings}
 use Rattle.mscp_queue.specs.Names.{same_connection}
 use Rattle.mscp_queue.specs.Records.{Record}
-use Rattle.mscp_controller.specs.declared.entry.SendFault.{SendFault}
 use Rattle.mscp_controller.specs.declared.entry.SendFault.TheVariants as faults
 use Rattle.mscp_controller.specs.Arrival.{holds, is_queued, refusal}
 use Rattle.mscp_controller.specs.Holdings.{Holdings, numbers, numbers_ended, outstanding_of, waiting_on}

@@ -1,19 +1,17 @@
 -- What a port keeps of a command was said by the message by which that command came.
-use Rattle.std.proofs.Common.{◌≡◌, ◌≢◌, ◌⊎◌, ◌∙◌, ◌<◌, ◌+◌, ◌&&◌, ◌||◌, ℕ, Bool, true, false, cond, not, List, [], ◌∷◌, ◌++◌, Option, None, Some, Contains, IfSome, inl, inr, refl, ap, sym, subst, length, map, take, drop, filter, get_or, arith}
-use Rattle.std.specs.Prelude.{All, Result, Ok, Err, find, nat_eq}
+use Rattle.std.proofs.Common.{◌≡◌, ◌≢◌, ◌∙◌, ◌<◌, ◌+◌, ◌||◌, ℕ, Bool, true, false, cond, not, List, [], ◌∷◌, ◌++◌, Option, None, Some, refl, ap, sym, subst, length, map, take, drop}
+use Rattle.std.specs.Prelude.{All, find, nat_eq}
 use Rattle.std.specs.List.{list_any}
-use Rattle.std.proofs.lemmas.Bool.{and_from, and_parts, eqb-true, eq-eqb, false≢true, or_left, or_parts, or_right, true≢false}
+use Rattle.std.proofs.lemmas.Bool.{and_parts, eqb-true, false≢true, or_left, or_parts, or_right}
 use Rattle.std.proofs.lemmas.List.{drop_more, take-append-drop}
-use Rattle.std.proofs.lemmas.List.Elements.{All-append, All-contains, All-cons, All-drop, All-filter, All-get_or, All-map, All-nil, All-push, All-take, All-weaker}
+use Rattle.std.proofs.lemmas.List.Elements.{All-append, All-cons, All-drop, All-filter, All-get_or, All-map, All-nil, All-push, All-take, All-weaker}
 use Rattle.std.proofs.lemmas.List.Folds.{list_any-append}
 use Rattle.std.proofs.lemmas.Map.Views.{any-filter_same}
 use Rattle.std.proofs.lemmas.Option.{none-some}
 use Rattle.mscp_packet.specs.declared.end.End.{End}
 use Rattle.mscp_events.specs.declared.block.Block.{Block}
-use Rattle.mscp_events.specs.declared.connection.Connection.{Connection}
-use Rattle.mscp_events.specs.declared.connection.Connection.TheVariants.{First, Second}
+use Rattle.mscp_events.specs.declared.connection.Connection.TheVariants.{First}
 use Rattle.mscp_queue.specs.declared.drive.Drive.{Drive}
-use Rattle.mscp_queue.specs.declared.name.Name.{Name}
 use Rattle.mscp_queue.specs.Names.{name_on, same_connection}
 use Rattle.mscp_queue.specs.Records.{Record, advanced, has_name, no_record, passed_by, record_at, remains, step_charge, without}
 use Rattle.mscp_queue.specs.Serving.{end_given, waiting_after}

@@ -1,15 +1,11 @@
 -- What a port keeps of a command was said by the message by which that command came, call by call.
-use Rattle.std.proofs.Common.{◌≡◌, ◌≢◌, ◌⊎◌, ◌∙◌, ◌<◌, ◌&&◌, ℕ, Bool, true, false, cond, not, List, [], ◌∷◌, ◌++◌, Option, None, Some, Contains, IfSome, inl, inr, refl, ap, sym, subst, length, filter, get_or}
-use Rattle.std.specs.Prelude.{Result, Ok, Err, IsOk, find, nat_eq, nat_lt, option_map}
-use Rattle.std.specs.List.{list_any, position}
-use Rattle.std.proofs.lemmas.Bool.{and_parts, eqb-true, eq-eqb, false≢true, true≢false}
-use Rattle.std.proofs.lemmas.List.Elements.{All-contains, All-filter, All-get_or, All-contains_itself, Contains-push_cases, filter_passes}
+use Rattle.std.proofs.Common.{◌≡◌, ◌⊎◌, ◌∙◌, ◌<◌, ℕ, Bool, true, false, cond, not, List, [], Option, None, Some, Contains, inl, inr, refl, ap, sym, subst, length, get_or}
+use Rattle.std.specs.Prelude.{Result, Ok, Err}
+use Rattle.std.specs.List.{position}
+use Rattle.std.proofs.lemmas.Bool.{eqb-true, eq-eqb, false≢true}
+use Rattle.std.proofs.lemmas.List.Elements.{All-contains, filter_passes}
 use Rattle.std.proofs.lemmas.List.Quantifiers.{position-Some}
 use Rattle.std.proofs.lemmas.Option.{get_or_from_slice_get, none-some, same_Some}
-use Rattle.mscp_packet.specs.Commands.{command_of}
-use Rattle.mscp_packet.specs.Number.{num}
-use Rattle.mscp_packet.specs.declared.command.Order.{Order}
-use Rattle.mscp_packet.specs.declared.command.Order.TheVariants as orders
 use Rattle.mscp_packet.specs.declared.end.End.{End}
 use Rattle.mscp_events.specs.declared.block.Block.{Block}
 use Rattle.mscp_events.specs.declared.connection.Connection.{Connection}
@@ -18,33 +14,22 @@ use Rattle.mscp_queue.specs.declared.drive.Drive.{Drive}
 use Rattle.mscp_queue.specs.declared.name.Name.{Name}
 use Rattle.mscp_queue.specs.declared.report.Report.{Report}
 use Rattle.mscp_queue.specs.declared.report.Report.TheVariants.{Idle, Served}
-use Rattle.mscp_queue.specs.Lines.{ServesAt}
 use Rattle.mscp_queue.specs.Names.{name_on}
 use Rattle.mscp_queue.specs.Outcomes.{goes_on, outcome_at}
-use Rattle.mscp_queue.specs.Records.{Record, drive_at, fresh_record, has_name, left_of, name_of, no_record, record_at}
-use Rattle.mscp_queue.specs.Serving.{end_given, is_begun, report_of, waiting_after}
-use Rattle.mscp_queue.proofs.Named.{is_same, same_is}
-use Rattle.mscp_controller.specs.declared.entry.SendFault.{SendFault}
-use Rattle.mscp_controller.specs.declared.entry.SendFault.TheVariants as faults
+use Rattle.mscp_queue.specs.Records.{Record, drive_at, has_name, left_of, name_of, record_at}
+use Rattle.mscp_queue.specs.Serving.{end_given, is_begun}
+use Rattle.mscp_queue.proofs.Named.{same_is}
 use Rattle.mscp_controller.specs.declared.entry.Stale.{Stale}
-use Rattle.mscp_controller.specs.Arrival.{is_queued, refusal}
-use Rattle.mscp_controller.specs.Holdings.{Finishes, Holdings, after_message, answer_to_message, arrives, balance_of, held_unless, line_of, outstanding_of, reference_aborted, sent_unless, taken_as, unaborted}
+use Rattle.mscp_controller.specs.Holdings.{Finishes, Holdings}
 use Rattle.mscp_port.specs.declared.buffers.Buffer.{Buffer}
 use Rattle.mscp_port.specs.declared.port.Port.{Port}
-use Rattle.mscp_port.specs.declared.task.Task.TheVariants as tasks
-use Rattle.mscp_port.specs.Blocks.{kept_at, kept_of}
-use Rattle.mscp_port.specs.Buffers.{buffer_in, is_of, kept_beside, without, without_aborted}
-use Rattle.mscp_port.specs.Calls.{Hears}
-use Rattle.mscp_port.specs.Histories.{Call, WasRead}
+use Rattle.mscp_port.specs.Blocks.{kept_at}
+use Rattle.mscp_port.specs.Buffers.{is_of, without}
+use Rattle.mscp_port.specs.Histories.{Call}
 use Rattle.mscp_port.specs.Kept.{IsSaidBy}
-use Rattle.mscp_port.specs.Messages.{handed, own_end}
 use Rattle.mscp_port.specs.Moved.{GoesOnWithBlock, HeedsStep, anyhow, end_brought, kept_after}
-use Rattle.mscp_port.specs.Ports.{IsReadingText}
-use Rattle.mscp_port.specs.Seen.{answered_to, changes_at, kept_of_sent}
-use Rattle.mscp_port.specs.Volumes.{place_in}
 use Rattle.mscp_port.proofs.Among.{among_left, none_among}
-use Rattle.mscp_port.proofs.Come.{handed_as_read, long_enough, none_waits, taken_number}
-use Rattle.mscp_port.proofs.Kept.{IsFor, IsTo, aborted_for, beside_for, come_for, found_numbered, is_numbered, served_for, weaker_for}
+use Rattle.mscp_port.proofs.Kept.{IsFor, is_numbered, served_for, weaker_for}
 
 -- each that is kept is of a command that waits, to a unit of which this holds
 abbrev pub Keeps : {K : Type 0} → (ℕ → Buffer → Type 0) → Port K → Type 0

@@ -1,14 +1,13 @@
 -- What is kept of a command whose end comes was said by a message to the unit that the end names.
-use Rattle.std.proofs.Common.{◌≡◌, ◌≢◌, ◌⊎◌, ◌∙◌, ℕ, Bool, true, List, [], ◌∷◌, Option, None, Some, Contains, IfSome, inl, inr, refl, ap, sym, subst}
-use Rattle.std.specs.Prelude.{Result, Ok, Err, OnErr}
+use Rattle.std.proofs.Common.{◌≡◌, ◌⊎◌, ◌∙◌, ℕ, List, [], ◌∷◌, Option, None, Some, Contains, IfSome, inl, inr, refl, ap, sym, subst}
+use Rattle.std.specs.Prelude.{Result, Ok, Err}
 use Rattle.std.specs.List.{position}
 use Rattle.std.proofs.lemmas.List.Elements.{All-get_or}
 use Rattle.mscp_packet.specs.declared.end.End.{End}
 use Rattle.mscp_events.specs.declared.connection.Connection.{Connection}
 use Rattle.mscp_events.specs.declared.connection.Connection.TheVariants.{First}
-use Rattle.mscp_queue.specs.declared.name.Name.{Name}
 use Rattle.mscp_queue.specs.Names.{name_on}
-use Rattle.mscp_queue.specs.Records.{Record, name_of, no_record, record_at}
+use Rattle.mscp_queue.specs.Records.{name_of, no_record, record_at}
 use Rattle.mscp_queue.proofs.Named.{is_same}
 use Rattle.mscp_controller.specs.Holdings.{Holdings}
 use Rattle.mscp_port.specs.declared.action.Unasked.{Unasked}
@@ -25,9 +24,9 @@ use Rattle.mscp_port.specs.Kept.{WasSaid}
 use Rattle.mscp_port.specs.Mounted.{Ends}
 use Rattle.mscp_port.specs.Outgoings.{Says}
 use Rattle.mscp_port.specs.Ports.{IsReadingText}
-use Rattle.mscp_port.proofs.Kept.{IsTo, is_numbered}
+use Rattle.mscp_port.proofs.Kept.{IsTo}
 use Rattle.mscp_port.proofs.Loads.{looks_or_not}
-use Rattle.mscp_port.proofs.Said.{IsOf, Keeps, More, ended_of, goes_on_keeps, keeps_none, keeps_same, kept_found, more, of_first}
+use Rattle.mscp_port.proofs.Said.{Keeps, More, ended_of, goes_on_keeps, keeps_none, keeps_same, kept_found, more, of_first}
 use Rattle.mscp_port.proofs.Texts.{text_keeps}
 
 -- ---- calls
