@@ -74,11 +74,11 @@ abbrev standing : Talk
 standing = opening ++ asks 11 ∷ hands (answer 11 18) news.Reset ∷ []
 
 first_told : figure_told (settings 4 2) First standing 4 ≡ 18
-unfolding answers_by
+unfolding answers_by outstanding
 first_told = refl
 
 it_stands : Stands (settings 4 2) First standing 7
-unfolding answers_by
+unfolding answers_by outstanding
 it_stands = record {
   poll = 6;
   command = 3;
@@ -98,7 +98,7 @@ kept : account_at (settings 4 2) First standing 7 ≡ record {
       ∷ record { reference = 11; unit = 0; opcode = 0x02; told = None } ∷ [];
   watch = Some (record { reference = 11; polled = 1; is_outstanding = true });
 }
-unfolding answers_by
+unfolding answers_by outstanding
 kept = refl
 
 -- ---- a step between the polls, and one that ends the command
@@ -116,20 +116,20 @@ moving =
     ∷ []
 
 second_told : figure_told (settings 4 2) First moving 7 ≡ 1
-unfolding answers_by
+unfolding answers_by outstanding
 second_told = refl
 
 third_told : figure_told (settings 4 2) First moving 10 ≡ 0
-unfolding answers_by
+unfolding answers_by outstanding
 third_told = refl
 
 last_before : last_answer (settings 4 2) First moving 8 3 ≡ Some 18
-unfolding answers_by
+unfolding answers_by outstanding
 last_before = refl
 
 -- the second answer doesn't stand: 1 is less than 18
 falls : Stands (settings 4 2) First moving 8 → ⊥
-unfolding answers_by
+unfolding answers_by outstanding
 falls st =
     let poll : st.poll ≡ 7 = sym (ap (λ o. unwrap_or o 0) st.handed) in
     let command : st.command ≡ 3 = sym (eqb-true 3 st.command
@@ -141,7 +141,7 @@ falls st =
 
 -- and the third neither, which comes after the command's end
 late : Stands (settings 4 2) First moving 12 → ⊥
-unfolding answers_by
+unfolding answers_by outstanding
 late st =
     let poll : st.poll ≡ 10 = sym (ap (λ o. unwrap_or o 0) st.handed) in
     let command : st.command ≡ 3 = sym (eqb-true 3 st.command
@@ -154,13 +154,13 @@ kept_late : account_at (settings 4 2) First moving 12 ≡ record {
   outstanding = record { reference = 12; unit = 0; opcode = 0x02; told = None } ∷ [];
   watch = Some (record { reference = 12; polled = 1; is_outstanding = false });
 }
-unfolding answers_by
+unfolding answers_by outstanding
 kept_late = refl
 
 -- what is heard there is what the rules of a host say
 heard_late : IsHeard (accounts_at (settings 4 2) moving 12) (turns.Take First) (said moving 12)
     (accounts_at (settings 4 2) moving 13)
-unfolding answers_by
+unfolding answers_by outstanding
 heard_late = (
   Some (record { items = end_bytes (answer 12 0) }),
   account_at (settings 4 2) First moving 13,
@@ -187,7 +187,7 @@ again =
 
 -- of the second nothing was told yet
 untold : last_answer (settings 4 2) First again 13 10 ≡ None
-unfolding answers_by
+unfolding answers_by outstanding
 untold = refl
 
 -- though the figure is the one that was last told of the first
@@ -197,5 +197,5 @@ kept_again : account_at (settings 4 2) First again 13 ≡ record {
       ∷ record { reference = 12; unit = 0; opcode = 0x02; told = None } ∷ [];
   watch = Some (record { reference = 12; polled = 1; is_outstanding = true });
 }
-unfolding answers_by
+unfolding answers_by outstanding
 kept_again = refl
