@@ -94,11 +94,11 @@ paired =
 
 -- each is told of its own command: the second's waits for the first's two steps too
 first_told : figure_told both First paired 5 ≡ 18
-unfolding answers_by
+unfolding answers_by outstanding
 first_told = refl
 
 second_told : figure_told both Second paired 6 ≡ 20
-unfolding answers_by
+unfolding answers_by outstanding
 second_told = refl
 
 -- the first end is that of the first host's poll, and none of the second's, though that has the same number
@@ -120,7 +120,7 @@ first_kept : account_at both First paired 8 ≡ record {
   outstanding = record { reference = 1; unit = 0; opcode = 0x21; told = Some 18 } ∷ [];
   watch = None;
 }
-unfolding answers_by
+unfolding answers_by outstanding
 first_kept = refl
 
 -- and the second still waits for its answer
@@ -130,7 +130,7 @@ second_kept : account_at both Second paired 8 ≡ record {
       ∷ record { reference = 10; unit = 0; opcode = 0x02; told = None } ∷ [];
   watch = Some (record { reference = 10; polled = 1; is_outstanding = true });
 }
-unfolding answers_by
+unfolding answers_by outstanding
 second_kept = refl
 
 -- where there is no second connection, nothing is kept for it

@@ -135,93 +135,98 @@ Faulty all n cause = IsFault (text all) (at_line n cause)
 -- a comment may be too long as well
 long_fault : Faulty (header ++ replicate 201 32 ∷ []) 7 causes.Long
 unfolding reading
-long_fault = is_fault _ _ (lit≤ tt) refl
+long_fault = is_fault (text (header ++ replicate 201 32 ∷ [])) (at_line 7 causes.Long) (lit≤ tt) refl
 
 -- `second` alone
 alone_fault : Faulty (header ++ codes "second" ∷ []) 7 causes.Count
 unfolding reading
-alone_fault = is_fault _ _ (lit≤ tt) refl
+alone_fault = is_fault (text (header ++ codes "second" ∷ [])) (at_line 7 causes.Count) (lit≤ tt) refl
 
 -- `second` before a line that is of no host, whatever its fields are
 hostless_fault : Faulty (header ++ codes "second look 1" ∷ []) 7 causes.Word
 unfolding reading
-hostless_fault = is_fault _ _ (lit≤ tt) refl
+hostless_fault = is_fault (text (header ++ codes "second look 1" ∷ [])) (at_line 7 causes.Word) (lit≤ tt) refl
 
 -- three numbers of credits
 three_fault : Faulty (codes "credits 4 4 4" ∷ []) 1 causes.Count
 unfolding reading
-three_fault = is_fault _ _ (lit≤ tt) refl
+three_fault = is_fault (text (codes "credits 4 4 4" ∷ [])) (at_line 1 causes.Count) (lit≤ tt) refl
 
 -- a tab
 byte_fault : Faulty (header ++ (9 ∷ codes "take") ∷ []) 7 causes.Byte
 unfolding reading
-byte_fault = is_fault _ _ (lit≤ tt) refl
+byte_fault = is_fault (text (header ++ (9 ∷ codes "take") ∷ [])) (at_line 7 causes.Byte) (lit≤ tt) refl
 
 -- a line of the header that comes again
 again_fault : Faulty (header ++ codes "credits 4" ∷ []) 7 causes.Word
 unfolding reading
-again_fault = is_fault _ _ (lit≤ tt) refl
+again_fault = is_fault (text (header ++ codes "credits 4" ∷ [])) (at_line 7 causes.Word) (lit≤ tt) refl
 
 -- another line of the header than is due
 word_first_fault : Faulty (codes "passing 0" ∷ []) 1 causes.Word
 unfolding reading
-word_first_fault = is_fault _ _ (lit≤ tt) refl
+word_first_fault = is_fault (text (codes "passing 0" ∷ [])) (at_line 1 causes.Word) (lit≤ tt) refl
 
 -- spaces before what would be a comment
 word_comment_fault : Faulty (header ++ codes " # no comment" ∷ []) 7 causes.Word
 unfolding reading
-word_comment_fault = is_fault _ _ (lit≤ tt) refl
+word_comment_fault = is_fault (text (header ++ codes " # no comment" ∷ [])) (at_line 7 causes.Word) (lit≤ tt) refl
 
 -- a word too many
 count_fault : Faulty (header ++ codes "take 1" ∷ []) 7 causes.Count
 unfolding reading
-count_fault = is_fault _ _ (lit≤ tt) refl
+count_fault = is_fault (text (header ++ codes "take 1" ∷ [])) (at_line 7 causes.Count) (lit≤ tt) refl
 
 -- too few words come before a wrong number
 count_first_fault : Faulty (header ++ codes "read 1 x" ∷ []) 7 causes.Count
 unfolding reading
-count_first_fault = is_fault _ _ (lit≤ tt) refl
+count_first_fault = is_fault (text (header ++ codes "read 1 x" ∷ [])) (at_line 7 causes.Count) (lit≤ tt) refl
 
 -- no step
 zero_steps_fault : Faulty (header ++ codes "step 0" ∷ []) 7 causes.Number
 unfolding reading
-zero_steps_fault = is_fault _ _ (lit≤ tt) refl
+zero_steps_fault = is_fault (text (header ++ codes "step 0" ∷ [])) (at_line 7 causes.Number) (lit≤ tt) refl
 
 -- an odd number of digits
 odd_digits_fault : Faulty (header ++ codes "packet abc" ∷ []) 7 causes.Hex
 unfolding reading
-odd_digits_fault = is_fault _ _ (lit≤ tt) refl
+odd_digits_fault = is_fault (text (header ++ codes "packet abc" ∷ [])) (at_line 7 causes.Hex) (lit≤ tt) refl
 
 -- too few digits of a status
 hex_four_fault : Faulty (header ++ codes "bad 0" ∷ []) 7 causes.Hex
 unfolding reading
-hex_four_fault = is_fault _ _ (lit≤ tt) refl
+hex_four_fault = is_fault (text (header ++ codes "bad 0" ∷ [])) (at_line 7 causes.Hex) (lit≤ tt) refl
 
 -- code 4
 code_four_fault : Faulty (header ++ codes "bad 0004" ∷ []) 7 causes.Status
 unfolding reading
-code_four_fault = is_fault _ _ (lit≤ tt) refl
+code_four_fault = is_fault (text (header ++ codes "bad 0004" ∷ [])) (at_line 7 causes.Status) (lit≤ tt) refl
 
 -- a size of zero
 no_size_fault : Faulty (limits_lines ++ codes "unit 0 0 2 1 1000" ∷ []) 5 causes.Unit
 unfolding reading
-no_size_fault = is_fault _ _ (lit≤ tt) refl
+no_size_fault = is_fault (text (limits_lines ++ codes "unit 0 0 2 1 1000" ∷ [])) (at_line 5 causes.Unit) (lit≤ tt) refl
 
 -- a number that doesn't rise
 unit_again_fault : Faulty (limits_lines ++ codes "unit 3 10 2 1 1000" ∷ codes "unit 3 10 2 1 1000" ∷ []) 6 causes.Unit
 unfolding reading
-unit_again_fault = is_fault _ _ (lit≤ tt) refl
+unit_again_fault =
+    is_fault (text (limits_lines ++ codes "unit 3 10 2 1 1000" ∷ codes "unit 3 10 2 1 1000" ∷ []))
+    (at_line 6 causes.Unit) (lit≤ tt) refl
 
 -- one credit: at go, before what comes later
 one_credit_fault : Faulty (codes "credits 1" ∷ codes "passing 0" ∷ codes "longest 8" ∷ codes "timeout 60"
     ∷ codes "unit 0 10 2 1 1000" ∷ codes "go" ∷ codes "wrong" ∷ []) 6 causes.Config
 unfolding reading
-one_credit_fault = is_fault _ _ (lit≤ tt) refl
+one_credit_fault =
+    is_fault (text (codes "credits 1" ∷ codes "passing 0" ∷ codes "longest 8" ∷ codes "timeout 60"
+    ∷ codes "unit 0 10 2 1 1000" ∷ codes "go" ∷ codes "wrong" ∷ []))
+    (at_line 6 causes.Config) (lit≤ tt) refl
 
 -- the script ends before go
 no_go_fault : Faulty (limits_lines ++ [] ∷ []) 6 causes.Header
 unfolding reading
-no_go_fault = is_fault _ _ (lit≤ tt) refl
+no_go_fault = is_fault (text (limits_lines ++ [] ∷ [])) (at_line 6 causes.Header) (lit≤ tt) refl
 
 -- line 1,000,001, whatever stands in it
 lines_fault : (p : Place) (line : List ℕ) → after_line 1000000 p line ≡ Err causes.Lines
